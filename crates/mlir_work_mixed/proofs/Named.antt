@@ -1,12 +1,10 @@
 -- Patterns that a list names, one after another.
-use Rattle.std.proofs.Common.{◌≡◌, ◌∙◌, refl, ap, sym, ℕ, List, [], ◌∷◌, ◌++◌, map, Bool, true, false, cond, if◌then◌else◌, ◌||◌, append-nil, append_assoc, Option, Some, None}
+use Rattle.std.proofs.Common.{◌≡◌, ◌∙◌, refl, ap, sym, ℕ, List, [], ◌∷◌, ◌++◌, map, Bool, true, false, if◌then◌else◌, ◌||◌, append-nil, append_assoc, Option}
 use Rattle.std.specs.List.{list_any}
 use Rattle.std.proofs.lemmas.List.{map-append}
 use Rattle.ir_event.specs.trees.Meaning.{Operation}
 use Rattle.mlir_work_script_base.specs.Items.{items_behind}
-use Rattle.mlir_work_script_base.specs.RuleNames.{name_or_none, rule_in}
-use Rattle.mlir_work_transforms.specs.rewriter.Commands.{RuleName}
-use Rattle.mlir_work_book.specs.Shelf.{Book, Kept}
+use Rattle.mlir_work_book.specs.Shelf.{Book}
 use Rattle.mlir_work_mixed.specs.Mixed.{own_named}
 use Rattle.mlir_work_mixed.specs.Unproved.{Noted, and_once, and_own, is_noted, noted_behind, proves, unproved_line, unproved_text}
 use Rattle.mlir_work_mixed.specs.Views.{noted_view, noted_views}

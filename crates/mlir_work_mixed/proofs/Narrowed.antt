@@ -1,13 +1,13 @@
 -- Types of contents and of numbers.
-use Rattle.std.proofs.Common.{◌≡◌, ◌∙◌, ℕ, ◌≤◌, List, [], ◌∷◌, length, get_or, map, refl, ap, sym, subst, Bool, true, false, ◌&&◌, arith, ◌↔◌, IsTrue}
+use Rattle.std.proofs.Common.{◌≡◌, ℕ, ◌≤◌, List, [], ◌∷◌, length, map, refl, ap, sym, Bool, false, ◌&&◌, arith, ◌↔◌, IsTrue}
 use Rattle.std.specs.List.{list_all}
 use Rattle.std.proofs.lemmas.List.{get_or_past}
 use Rattle.ir_event.specs.types.Things.{IsType, Things}
-use Rattle.ir_event.specs.types.Terms.{AttrTerm, Index, TypeTerm, attr_term, name_term, type_term, type_terms}
+use Rattle.ir_event.specs.types.Terms.{Index, TypeTerm, attr_term, name_term, type_term, type_terms}
 use Rattle.ir_event.specs.trees.Limits.{all_arguments_pass, arguments_pass, every}
-use Rattle.ir_event.specs.trees.Maps.{map_region, map_regions, map_tree}
+use Rattle.ir_event.specs.trees.Maps.{map_region, map_regions}
 use Rattle.ir_event.specs.trees.Meaning.{meaning}
-use Rattle.ir_event.specs.trees.Tree.{HeadOf, Op, OpOf, Region, RegionOf, Regions, RegionsOf, block, empty, no_regions, op, region}
+use Rattle.ir_event.specs.trees.Tree.{Op, Region, Regions, block, empty, no_regions, op, region}
 use Rattle.ir_event.proofs.of_trees.Mapped.{map_every}
 use Rattle.ir_event.proofs.of_types.Terms.{length-type_terms}
 use Rattle.mlir_work_mixed.specs.Unproved.{has_narrow_types, is_narrow_type, types_pass}

@@ -50,9 +50,9 @@ module _ (manner : Manner) where
   beside_some_room own full s c k x response e h = subst (λ (o : Option (Kept × ℕ)). BesideRoom full manner o s c response) (sym e) h
 
 -- a pattern that was applied, or not
-pub applies_own : (k : Kept) (x : ℕ) (s t : State) (response : Response) (reply : Reply) (unproved bytes : List ℕ) → response ≡ Replied reply → Goes s (call.Change (applying_own k.shape x)) reply Nothing t → unproved ≡ unproved_one k s.held.tree → bytes ≡ told_if (is_accepted response) unproved → AppliesOwn k x s response bytes t
+pub applies_own : (k : Kept) (x : ℕ) (s t : State) (response : Response) (reply : Reply) (unproved bytes : List ℕ) → response ≡ Replied reply → Goes s (call.Change (applying_own k.shape x)) reply Nothing t → unproved ≡ unproved_one k s.held.tree → bytes ≡ told_if (is_accepted (Replied reply)) unproved → AppliesOwn k x s response bytes t
 applies_own k x s t response reply unproved bytes is goes these shows =
-    (subst (λ (r : Response). Follows s (Ask (call.Change (applying_own k.shape x))) r Nothing t) (sym is) goes, shows ∙ ap (told_if (is_accepted response)) these)
+    (subst (λ (r : Response). Follows s (Ask (call.Change (applying_own k.shape x))) r Nothing t) (sym is) goes, rw is (shows ∙ ap (told_if (is_accepted (Replied reply))) these))
 
 pub own_room : (k : Kept) (x : ℕ) (s : State) (response : Response) (reply : Reply) (added full : Type 0) → (added → full) → response ≡ Replied reply → IsFullSo added s (applying_own k.shape x) reply → FullSo full s (applying_own k.shape x) response
 own_room k x s response reply added full more is so = replied full s (applying_own k.shape x) response reply is (λ e. widened more (so e))

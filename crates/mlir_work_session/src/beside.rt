@@ -2,18 +2,20 @@
 ghost use Rattle.std.specs.Prelude.{◌≡◌, option_map};
 ghost use Rattle.ir_text.specs.Public.{IsFull};
 ghost use Rattle.mlir_work_script.specs.Commands.{said_of};
-ghost use Rattle.mlir_work_mixed.specs.transforms.Applying.{applying_own};
+ghost use Rattle.mlir_work_mixed.specs.transforms.Applying.{applied_reply, applying_own};
 ghost use Rattle.mlir_work_mixed.specs.transforms.rewriter.Benched.{IsKept, state_of};
+ghost use Rattle.mlir_work_mixed.specs.transforms.rewriter.Commands.{Replied};
 ghost use Rattle.mlir_work_book.specs.Notices.{IsWithin, notice_of};
+ghost use Rattle.mlir_work_book.specs.Replies.{is_accepted};
 ghost use Rattle.mlir_work_book.specs.Shelf.{book_view, kept_view};
-ghost use Rattle.mlir_work_session.specs.Machine.{FullSo, response_of};
+ghost use Rattle.mlir_work_session.specs.Machine.{FullSo, response_of, told_if};
 ghost use Rattle.mlir_work_session.specs.Sittings.{AppliesOwn, BesideRoom, ByBench, ObeysBeside, own_of, sitting_of};
 
 use crate::commands::obey;
 use crate::manner::Manner;
 use crate::reply::Reply;
 use crate::replying::reply_applied;
-use crate::shows::{Answered, plain, shown_if_accepted};
+use crate::shows::{Answered, plain};
 use crate::unread::reply_within;
 use ir_event::analysis::Analysis;
 use ir_event::types::ids::OpId;
@@ -41,6 +43,20 @@ fn own_of<'a>(book: &'a Book, command: &Command<'_>) -> Option<(&'a Held, OpId)>
     }
 }
 
+/// The reply to an `apply` of a pattern, and below it the line of one that no check proves, unless it was refused.
+fn told_applied(alloc: Global, unproved: Vec<u8>, called: Result<bool, Refusal>) -> Answered
+    ensures reply { response_of result.reply ≡ Replied (applied_reply called) }
+    ensures shows { result.shows.items ≡ told_if (is_accepted (Replied (applied_reply called))) unproved.items }
+{
+    match called {
+        Ok(applied) => Answered {
+            reply: reply_applied(Ok(applied)),
+            shows: unproved,
+        },
+        Err(refusal) => plain(alloc, Reply::Refused(refusal)),
+    }
+}
+
 /// Applies a pattern that was found at the operation that is named, and says if no check proves it for the module.
 fn apply_own<L: Analysis>(alloc: Global, bench: &mut Bench<L>, found: (&Held, OpId)) -> Answered
     requires { IsKept L.meaning bench.old }
@@ -53,8 +69,8 @@ fn apply_own<L: Analysis>(alloc: Global, bench: &mut Bench<L>, found: (&Held, Op
     let Ok(unproved) = unproved_one(alloc, bench.world(), found.0) else {
         return plain(alloc, Reply::Refused(Refusal::Memory));
     };
-    let reply = reply_applied(own::apply(alloc, bench, &found.0.pattern, found.1));
-    shown_if_accepted(alloc, reply, unproved)
+    let called = own::apply(alloc, bench, &found.0.pattern, found.1);
+    told_applied(alloc, unproved, called)
 }
 
 /// Obeys a command of a script that is run so, beside a book, or leaves the module as it is.

@@ -6,8 +6,7 @@ ghost use Rattle.ir_text.specs.Printing.{text_of};
 ghost use Rattle.mlir_work_mixed.specs.transforms.rewriter.Commands.{Report, Print};
 ghost use Rattle.mlir_work_mixed.specs.transforms.rewriter.Benched.{IsKept, state_of};
 ghost use Rattle.mlir_work_session_base.specs.RowText.{rows_text};
-ghost use Rattle.mlir_work_book.specs.Replies.{is_accepted};
-ghost use Rattle.mlir_work_session.specs.Machine.{Obeys, response_of, told_if};
+ghost use Rattle.mlir_work_session.specs.Machine.{Obeys, response_of};
 ghost use Rattle.mlir_work_session.specs.Output.{Manner};
 ghost use Rattle.mlir_work_book.specs.declared.reply.Reply.TheVariants.{Refused};
 
@@ -123,15 +122,4 @@ pub(crate) fn plain(alloc: Global, reply: Reply) -> Answered
         reply,
         shows: Vec::new(alloc),
     }
-}
-
-/// A reply, and bytes that are shown below it if the command was accepted.
-pub(crate) fn shown_if_accepted(alloc: Global, reply: Reply, shows: Vec<u8>) -> Answered
-    ensures reply { result.reply ≡ reply }
-    ensures shows { result.shows.items ≡ told_if (is_accepted (response_of reply)) shows.items }
-{
-    if !reply.is_accepted() {
-        return plain(alloc, reply);
-    }
-    Answered { reply, shows }
 }

@@ -10,15 +10,3 @@ returns-in-Ok-None-clause-mixes g c =
 pub returns-in-Err-clause-mixes : goal.returns-in-Err-clause-mixes
 returns-in-Err-clause-mixes g c =
     rw (c.plain-in-Err.ensures.reply, c.plain-in-Err.ensures.shows) (mixes_forgot c.args.manner.now (book_view c.args.book.now) (mix_view c.args.mix.now) _ c.in-Err.refusal c.in-Err.ensures.want.0 c.in-Err.ensures.want.1)
-
-pub returns-then-mix-clause-mixes : goal.returns-then-mix-clause-mixes
-returns-then-mix-clause-mixes g c =
-    let m = rw c.in-Ok-Some.field-0-is at c.in-Ok-Some.ensures.mixed in
-    mixes_found c.args.manner.now (book_view c.args.book.now) (mix_view c.args.mix.now) _ _ _ _ m.0 _ _ m.1 m.2.attempts c.limit_of-limit.ensures (rw c.deref.ensures.value at c.rewrite_telling.ensures.follows)
-    (bytes_told c.args.manner.now (book_view c.args.book.now) (mix_view c.args.mix.now) _ _ _ _ m.0 _ _ _ (unproved_here c) c.if-mix.true m.1 m.2.attempts m.2.names c.limit_of-limit.ensures (rw c.deref.ensures.value at c.rewrite_telling.ensures.shows))
-
-pub returns-clause-mixes : goal.returns-clause-mixes
-returns-clause-mixes g c =
-    let m = rw c.in-Ok-Some.field-0-is at c.in-Ok-Some.ensures.mixed in
-    mixes_found c.args.manner.now (book_view c.args.book.now) (mix_view c.args.mix.now) _ _ _ _ m.0 _ _ m.1 m.2.attempts c.limit_of-limit.ensures (rw c.deref-else-mix.ensures.value at c.rewrite_plainly.ensures.follows)
-    (bytes_untold c.args.manner.now (book_view c.args.book.now) (mix_view c.args.mix.now) _ _ _ _ (unproved_here c) c.if-mix.false c.rewrite_plainly.ensures.shows)
