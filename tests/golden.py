@@ -166,8 +166,8 @@ class Collected:
         self.name = name
 
     def case(self, words, pieces, answer, is_cut=False, name=None):
-        """A case, and the status and the bytes that are to be written; a text stands for its only piece. One without a
-        name has its number."""
+        """A case, and the status and the bytes that are to be written; a text stands for its only piece. Without a name
+        its name is its number in the file."""
         pieces = [(1, pieces)] if isinstance(pieces, bytes) else pieces
         key = (*words, is_cut, *pieces)
         if key not in self.known:

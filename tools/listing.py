@@ -8,7 +8,7 @@ import functools
 import re
 
 from forms import PARTS, kinds
-from program import MOST_SCRIPT, answered
+from program import MOST_SCRIPT, answered, lines_of
 
 OPENED = re.compile(r"\((\{\}, )*\{$")
 NEXT_REGION = re.compile(r"\}, ((?:\{\}, )*)\{$")
@@ -102,7 +102,10 @@ class Run:
         """The listing below a reply. The number of the reply to the line before the numbers is given too; and another
         listing, of the same module, for numbers that this one hasn't."""
         text = self.written.reply(printed)[1]
-        return Listing(text, self.key, self.free(printed + 1), self.written.reply(typed)[0], more)
+        reply, below = self.written.reply(typed)
+        found = Listing(text, self.key, self.free(printed + 1), reply, more)
+        found.below = lines_of(below)
+        return found
 
 
 class Names:
@@ -159,13 +162,14 @@ class Around:
 
 class Listing:
     """The lines of a module as they were printed, `texts`, with a number in most; `count` is the next free number, or
-    None where that isn't told, and `reply` what was replied to the line behind which the module was.
+    None where that isn't told, `reply` what was replied to the line behind which the module was, and `below` what was
+    written below that reply.
 
     `keys` tells each line from all others: one that begins an operation by its number, another by the operation in
     whose regions it is, and which region. So two listings can be compared. `names` has what a script calls values."""
 
     def __init__(self, text, key, count, reply, more):
-        self.texts, self.count, self.reply = text.split("\n") if text else [], count, reply
+        self.texts, self.count, self.reply, self.below = text.split("\n") if text else [], count, reply, []
         self.begins = begins = f"{key} = "
         found = iter(re.findall(re.escape(begins) + "([0-9]+)", text))
         self.numbers = [next(found) if begins in line else UNKNOWN for line in self.texts]

@@ -91,6 +91,8 @@ class Data:
             told["part"] = step.part
         if step.is_refused:
             told["says"], told["column"], told["about"] = step.says()
+        if step.unproved:
+            told["unproved"] = [plain(line) for line in step.unproved]
         if not is_same:
             self.changes(step.state, told)
         return told

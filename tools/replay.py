@@ -41,11 +41,11 @@ class State:
 class Step:
     """A line of a script or a rewrite of it (`part`, as 2 of 14), what was replied, the comments above it, and the
     lines that are run for it, where it isn't the same module as before; of one that is refused what is told below the
-    reply."""
+    reply; and the lines that name patterns of a rewrite that no check proves."""
 
-    def __init__(self, line, reply, notes=(), run=(), part=None, told=()):
+    def __init__(self, line, reply, notes=(), run=(), part=None, told=(), unproved=()):
         self.line, self.reply, self.notes, self.run, self.part = line, reply, list(notes), list(run), part
-        self.marks, self.state, self.told = 0, None, told
+        self.marks, self.state, self.told, self.unproved = 0, None, told, list(unproved)
 
     @property
     def is_same(self):
@@ -89,11 +89,11 @@ def of_line(line, reply, told, notes, most):
     """The steps of a line of a script; `told` are the lines below its reply."""
     if reply.startswith("refused") or line.split()[0] in looks():
         return [Step(line, reply, notes, told=told)]
-    parts = rewrites(line, reply, told, most)
+    parts, unproved = rewrites(line, reply, told, most), [it for it in told if it.startswith("unproved ")]
     if len(parts) == 1:
-        return [Step(line, reply, notes, parts[0])]
+        return [Step(line, reply, notes, parts[0], unproved=unproved)]
     whole = int(REWRITES.fullmatch(reply).group(1))
-    steps = [Step(line, f"rewrite {at} of {whole}", notes if at == 1 else (), part, (at, whole))
+    steps = [Step(line, f"rewrite {at} of {whole}", notes if at == 1 else (), part, (at, whole), (), unproved)
              for at, part in enumerate(parts, 1)]
     if len(parts) < whole:
         steps[-1].reply, steps[-1].part = f"rewrites {len(parts)} to {whole}", (len(parts), whole)

@@ -161,7 +161,8 @@ class Session:
         return found
 
     def rewritten(self, line):
-        """Runs a line that has a difference behind it, and gives its reply, and that difference."""
+        """Runs a line that has a difference behind it, and gives its reply, what is written below that, and the
+        difference."""
         lines, bounds = self.kept(), (self.count, bound(line, self.count))
         reply, before, behind = self.way.rewritten(lines, line, bounds, self.listings.get(tuple(lines)))
         self.keep(lines, before)
@@ -170,7 +171,7 @@ class Session:
             return reply, []
         self.count = behind.count or self.count
         self.keep([*lines, line], behind)
-        return reply, cut_off(Changes(before, behind))
+        return reply, [*behind.below, *cut_off(Changes(before, behind))]
 
     # What a line comes to.
 

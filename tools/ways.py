@@ -171,5 +171,9 @@ class Live:
     def rewritten(self, kept, line, bounds, known):
         """The reply to a line, and the listings before it and behind it."""
         before = known or self.listed(kept, bounds[0])
-        reply, _, _ = self.answer(kept, line)
-        return reply, before, None if reply.startswith("refused") else self.listed([*kept, line], bounds[1])
+        reply, below, _ = self.answer(kept, line)
+        if reply.startswith("refused"):
+            return reply, before, None
+        behind = self.listed([*kept, line], bounds[1])
+        behind.below = below
+        return reply, before, behind

@@ -1301,7 +1301,7 @@ def main():
     analyses_cases.all_cases(analyses, GOLDEN.begin)
     about_cases.all_cases(analyses, GOLDEN.begin)
     conversion_cases.all_cases(analyses, GOLDEN.begin)
-    own_pattern_cases.all_cases(whole, GOLDEN.begin)
+    own_pattern_cases.all_cases(whole, GOLDEN.begin, GOLDEN.case)
     GOLDEN.begin("patterns/named")
     named_pattern_cases.all_cases(GOLDEN.case)
     trace_cases.all_cases(GOLDEN.case, GOLDEN.begin)

@@ -48,13 +48,14 @@ BACK_UNSIGNED = BOOK["index_castui_back"]
 CASES = {
     "truth-of-a-choice": (
         "A choice between `true` and `false` is its condition: both are literals of i1.", TRUTHS,
-        [("pattern same arith.select(%c, true, false) => %c", "ok"), ("check same", "holds 1"),
-         ("apply same #4", "applied 1"), ("apply same #5", "applied 0")]),
+        [("pattern same arith.select(%c, true, false) => %c", "ok"), ("check same", "unrefuted 1"),
+         ("apply same #4", "applied 1|unproved same unrefuted 1"),
+         ("apply same #5", "applied 0|unproved same unrefuted 1")]),
     "truth-on-the-right": (
         "`true` on the right makes a constant of i1.", TRUTHS,
-        [("pattern not arith.select(%c, false, true) => arith.xori(%c, true)", "ok"), ("check not", "holds 1"),
-         ("rewrite not trace", "converged 1|rewrote not #5 made #8,#9 erased #5"), ("report constants",
-         "ok|%v2.0 true|%v3.0 false|%v8.0 true")]),
+        [("pattern not arith.select(%c, false, true) => arith.xori(%c, true)", "ok"), ("check not", "unrefuted 1"),
+         ("rewrite not trace", "converged 1|unproved not unrefuted 1|rewrote not #5 made #8,#9 erased #5"),
+         ("report constants", "ok|%v2.0 true|%v3.0 false|%v8.0 true")]),
     "truth-in-a-number": (
         "`true` and `false` stand in numbers and conditions as well, which are of i1 by that.", "",
         [("pattern p arith.xori(c, true) => not(c) where ne(c, false)", "ok"), ("check p", "holds 1"),
@@ -130,7 +131,7 @@ CASES = {
            for width in ("", " width 3", " width 64")],
          ("patterns", "ok|s arith.select(%c, %a : i1, false) => arith.ori(%c, %a) // fails 1"),
          ("pattern t arith.select(%c, %a, true : i1) => arith.ori(arith.xori(%c, 1), %a)", "ok"),
-         ("check t width 3", "holds 1"), ("check t width 128 sampled", "unrefuted 1"), ("check s width 9 sampled",
+         ("check t width 3", "unrefuted 1"), ("check t width 128 sampled", "unrefuted 1"), ("check s width 9 sampled",
           "fails 1|%c true|%a false|old false|new true")]),
     "number-of-written-types": (
         "All values of written types are tried, so the number is theirs, and not the one that is asked.", "",
@@ -156,7 +157,7 @@ CASES = {
     "index-cast-back-of-the-book": (
         "The patterns of the book that cast to index and back apply at types of at most 64 bits.",
         THERE_AND_BACK.replace("iN", "i128"),
-        [(f"pattern {BACK}", "ok"), ("rewrite index_cast_back trace", "converged 0"),
+        [(f"pattern {BACK}", "ok"), ("rewrite index_cast_back trace", "converged 0|unproved index_cast_back unchecked"),
          ("check index_cast_back", "holds 8"),
          ("check index_cast_back width 128 sampled", "unrefuted 128"), (f"pattern {BACK_UNSIGNED}", "ok"),
          ("check index_castui_back width 128 sampled", "unrefuted 128"),
@@ -164,7 +165,8 @@ CASES = {
     "index-cast-back-at-64-bits": (
         "At 64 bits they apply.", THERE_AND_BACK.replace("iN", "i64"),
         [(f"pattern {BACK}", "ok"),
-         ("rewrite index_cast_back trace", "converged 1|rewrote index_cast_back #3 erased #3")]),
+         ("rewrite index_cast_back trace",
+          "converged 1|unproved index_cast_back unchecked|rewrote index_cast_back #3 erased #3")]),
     "index-cast-back-of-mlir": (
         "MLIR 22.1.8 folds a cast to index and back at any width; a sampled check refutes that from 65 bits on.", "",
         [(f"pattern {BACK_BY_MLIR}", "ok"), ("check mlir", "holds 8"), ("check mlir width 64 sampled", "unrefuted 64"),
@@ -180,14 +182,16 @@ CASES = {
         "The book has no pattern that joins the conditions of two choices: a poison second condition would count then.",
         CHOICES,
         [*((f"pattern {line}", "ok") for name, line in BOOK.items() if name.startswith("select_")),
-         (f"rewrite {','.join(name for name in BOOK if name.startswith('select_'))} trace", "converged 0"),
+         (f"rewrite {','.join(name for name in BOOK if name.startswith('select_'))} trace", "|".join(
+             ["converged 0", *(f"unproved {name} unchecked" for name in BOOK if name.startswith("select_"))])),
          ("rewrite select_and", "refused 26 NoSuchKey"), ("rewrite select_or_not", "refused 26 NoSuchKey")]),
     "values-alone": (
-        "A check tries values alone, so a pattern may hold that is wrong by a poison input, as the page says.", "",
-        [("pattern p1 arith.select(%c, %a : i1, 0) => arith.andi(%c, %a)", "ok"), ("check p1", "holds 1"),
-         ("pattern p2 arith.minui(%b, 1) => arith.divui(%b, arith.maxui(%b, 1))", "ok"), ("check p2", "holds 8"),
+        "A check tries no poison, so what matches a choice or makes a quotient is `unrefuted` at best, as the page says.",
+        "",
+        [("pattern p1 arith.select(%c, %a : i1, 0) => arith.andi(%c, %a)", "ok"), ("check p1", "unrefuted 1"),
+         ("pattern p2 arith.minui(%b, 1) => arith.divui(%b, arith.maxui(%b, 1))", "ok"), ("check p2", "unrefuted 8"),
          ("pattern p5 arith.select(%c, %a, %b) => arith.select(arith.xori(%c,1), %b, %a)", "ok"),
-         ("check p5", "holds 7")]),
+         ("check p5", "unrefuted 7")]),
     "narrow-types-alone": (
         "What is wrong at wider types alone holds up to 8 bits, and fails at the first width at which a value tells.",
         "",

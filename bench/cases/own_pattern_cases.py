@@ -5,9 +5,10 @@ import pathlib
 import random
 import re
 
+import named_inputs
 import worked_rows
 from compare import pattern_lines
-from reference import chance, patterns, script
+from reference import chance, json_lines, live, patterns, script
 from reference.module import text_of
 
 SEED = 61
@@ -237,8 +238,25 @@ EVERYWHERE = {
     # Each bit is right, and the sum of both kinds is neither.
     "arith.addi(arith.andi(%a, %b), arith.ori(%a, %b)) => arith.addi(%a, %b)": {"": "holds 8"},
     "arith.shli(%a, 0) => %a": {"": "holds 8"}, "arith.maxui(%a, %a) => %a": {"": "holds 8"},
-    "arith.remui(%a, 1) => 0": {"": "holds 8"}, "arith.select(%c, %a, %a) => %a": {"": "holds 8"},
+    "arith.remui(%a, 1) => 0": {"": "holds 8"}, "arith.select(%c, %a, %a) => %a": {"": "unrefuted 8"},
     "arith.cmpi<eq>(%a, %a) => 1": {"": "holds 8"}, "arith.extsi(%a : S) : T => arith.extsi(%a) : T": {"": "holds 8"},
+}
+# No poison is tried: of a pattern that matches a choice, or makes a quotient or a remainder, a check says no more than
+# that nothing refutes it; of one that makes a choice, or matches a quotient, it says more.
+UNTRIED = {
+    "arith.select(%c, %a : i1, 0) => arith.andi(%c, %a)": {"": "unrefuted 1", " width 3": "unrefuted 1"},
+    "arith.select(%c, 1, %a : i1) => arith.ori(%c, %a)": {"": "unrefuted 1"},
+    "arith.addi(arith.select(%c, %a, %b), 0) => arith.select(%c, %a, %b)": {"": "unrefuted 7"},
+    "arith.select(%c, %a, %b) => arith.select(%c, %b, %a)": {
+        "": "fails 1|%c false|%a false|%b true|old true|new false"},
+    "arith.select(%c, %a, 300) => %a": {"": "empty 8"},
+    "arith.minui(%b, 1) => arith.divui(%b, arith.maxui(%b, 1))": {"": "unrefuted 8"},
+    "arith.divsi(%a, 1) => arith.divsi(%a, 1)": {"": "unrefuted 8"},
+    "arith.divui(%a, 1) => arith.divui(%a, 1)": {"": "unrefuted 8", " width 2": "unrefuted 2"},
+    "arith.remsi(%a, 3) => arith.remsi(%a, 3)": {"": "unrefuted 8"},
+    "arith.remui(%a, 3) => arith.remui(%a, 3)": {"": "unrefuted 8"},
+    "arith.divui(%a, 2) => arith.shrui(%a, 1)": {"": "holds 8"},
+    "arith.andi(%a, 1) => arith.select(arith.cmpi<eq>(arith.andi(%a, 1), 0), 0, 1)": {"": "holds 8"},
 }
 # What is sampled.
 AGREE = "arith.select(arith.cmpi<eq>(arith.extsi(%a : A) : S, arith.extsi(%b : B)), "
@@ -361,7 +379,7 @@ def beginnings(whole):
 
 def checks(whole):
     """Each pattern checked up to each width."""
-    for text, those in [*CHECKED.items(), *EVERYWHERE.items(), *SAMPLED.items()]:
+    for text, those in [*CHECKED.items(), *EVERYWHERE.items(), *UNTRIED.items(), *SAMPLED.items()]:
         lines, wanted = [f"pattern p {text}"], ["1 ok"]
         for number, (behind, answer) in enumerate(those.items(), 2):
             lines.append(f"check p{behind}")
@@ -390,7 +408,7 @@ def listed(whole):
                                                                           part), "patterns")
         whole(text)
         _, out = script.run(text)
-        lines = [line for line in out.decode().split("\n") if " // holds" in line or " // empty" in line]
+        lines = [line for line in out.decode().split("\n") if re.search(" // (holds|empty|unrefuted)", line)]
         assert len(lines) == len(part), out
         whole(asked(*(f"pattern {line}" for line in lines), "patterns"))
         # (with two variables there are many values for the rules in Python)
@@ -545,11 +563,31 @@ def rewritten_by_chance(whole):
         whole(text + asked(*lines, "print", "report uses", "report dead"), maker.random() < 0.9)
 
 
+def answer(words, text):
+    """What a run gives for an input with these words of the command line."""
+    brief, strict = "--brief" in words, "--strict" in words
+    if "--interactive" in words:
+        return live.run(text, brief, strict=strict)
+    is_json = "json" in words
+    status, out = script.run(text, brief, explained=is_json, strict=strict)
+    return status, json_lines.json_of(out) if is_json else out
+
+
+def unproved(case):
+    """Rewrites by patterns that no check proves for the module. Each case has a name, and says what it is about in the
+    first line of its script."""
+    for name, words, text in named_inputs.UNPROVED:
+        case(words, text.encode(), answer(words, text.encode()), name=name)
+
+
 PARTS = (rows, texts, beginnings, checks, listed, applied, rewritten, by_chance, rewritten_by_chance)
 
 
-def all_cases(whole, begin):
-    """Hands each input on; `whole` takes a text and whether to be brief, `begin` the name of a file."""
+def all_cases(whole, begin, case):
+    """Hands each input on; `whole` takes a text and whether to be brief, `begin` the name of a file, and `case` the
+    words of the command line, a text, what is to be written, and a name."""
     for part in PARTS:
         begin(f"patterns/{part.__name__}")
         part(whole)
+    begin("patterns/unproved")
+    unproved(case)

@@ -6,6 +6,7 @@ python3 -m reference [--brief] [--limit N] [FLAG].. --interactive < INPUT
     --opaque          types and attributes that aren't known are kept as they are spelled, and aliases and locations are
                       read
     --explain         what a refusal is about stands behind it, as it does in JSON without the flag
+    --strict          the status is 1 where a command rewrites by a pattern that no check proves for the module
     --patterns FILE   patterns of one's own that are there from the start, a line each; it may stand more than once
 
 FORMAT is text or json. With --interactive each line is answered as soon as it is there."""
@@ -33,7 +34,7 @@ class Options:
 
     def after(self, word, *rest):
         """Takes an option, and gives the words behind it; raises `ValueError` where it is none."""
-        if word in ("--brief", "--opaque", "--explain", "--interactive") and word not in self.flags:
+        if word in ("--brief", "--opaque", "--explain", "--strict", "--interactive") and word not in self.flags:
             self.flags.add(word)
             return rest
         if word == "--format" and self.format is None and rest and rest[0] in ("text", "json"):
@@ -50,7 +51,7 @@ class Options:
 
     def run(self, given, out):
         """Runs an input, and gives the status. Nothing of it is read where a pattern is refused."""
-        how = self.brief, self.limit, own.book_of(self.files), self.reader, self.explained
+        how = self.brief, self.limit, own.book_of(self.files), self.reader, self.explained, "--strict" in self.flags
         if self.is_live:
             for status, told in own.answers(live.lines_of(given), *how):
                 out.write(told)

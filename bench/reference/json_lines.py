@@ -9,6 +9,7 @@ MOST = 2 ** 32
 # The words of a check, behind which a width stands, and what it says of a variable or a result, or how that begins.
 OF_WIDTH = (b"holds", b"empty", b"unrefuted", b"fails")
 OUTCOME = re.compile(rb"[-0-9].*|true|false|poison|undefined")
+VERDICTS = (*OF_WIDTH, b"unchecked")
 VALUE = re.compile(rb"%v(N)\.(N)|%a(N)\.(N)\.(N)".replace(b"N", rb"0|[1-9][0-9]*"))
 # A cell ends at a blank that stands in no quotes.
 CELL = re.compile(rb'(?:"[^"]*(?:"|\Z)|[^ "])*')
@@ -92,13 +93,29 @@ def row_of_check(line):
     return {"kind": "check", "name": shown(name), "outcome": shown(outcome)}
 
 
+def verdict(said):
+    """What a check said, with its width, if there is one."""
+    word, width = cut(said)
+    is_wide = isinstance(number(width), int)
+    return {"said": shown(word), "width": number(width)} if is_wide else {"said": shown(said)}
+
+
 def row_of_pattern(line):
     pattern, _, said = line.partition(b"/")
     told = {"kind": "patterns", "name": shown(cut(line)[0]), "pattern": shown(pattern[:-1])}
-    said = cut(said)[1]
-    word, width = cut(said)
-    return {**told, "said": shown(word), "width": number(width)} if isinstance(number(width), int) else {
-        **told, "said": shown(said)}
+    return {**told, **verdict(cut(said)[1])}
+
+
+def is_unproved(line):
+    """Whether a line names a pattern that no check proves: what a check says of it stands behind its name. A pattern
+    that is called so has its arrow, and a row of a number of this name no such word."""
+    word, rest = cut(line)
+    return word == b"unproved" and cut(cut(rest)[1])[0] in VERDICTS and b"=" not in line
+
+
+def row_of_unproved(line):
+    name, said = cut(cut(line)[1])
+    return {"kind": "unproved", "name": shown(name), **verdict(said)}
 
 
 def names_value(word):
@@ -193,6 +210,8 @@ def worded(line):
         return row_of_stay(line)
     if rest.startswith(b"#"):
         return row_of_symbols(line) if word in SYMBOLS else {"text": shown(line)}
+    if is_unproved(line):
+        return row_of_unproved(line)
     if OUTCOME.fullmatch(cut(rest)[0]):
         return row_of_check(line)
     if b"=" in line:

@@ -23,7 +23,7 @@ def lines_of(given):
 
 
 def answers(lines, brief=True, limit=script.LIMIT, boxes=script.BOXES, commands=script.ALL, make=script.Run,
-            reader=rules.Reader, explained=False):
+            reader=rules.Reader, explained=False, strict=False):
     """The answers to an input whose lines come one by one, each with its line feed, if it has one, and the exit status
     if the input ends behind it. A line that says nothing has no answer; one that is too long ends all."""
     lines = iter(lines)
@@ -36,7 +36,7 @@ def answers(lines, brief=True, limit=script.LIMIT, boxes=script.BOXES, commands=
         told = culprits.about_text(text, fault) if explained else ""
         yield 3, f"module refused {printing.refusal(fault)}{told}\n".encode()
         return
-    here.reader, here.explained = reader, explained
+    here.reader, here.explained, here.strict = reader, explained, strict
     status, count = 0, 0
     yield status, END
     for line in lines:
@@ -50,7 +50,8 @@ def answers(lines, brief=True, limit=script.LIMIT, boxes=script.BOXES, commands=
             yield status, told.encode() + END
 
 
-def run(text, brief=True, limit=script.LIMIT, reader=rules.Reader, explained=False):
+def run(text, brief=True, limit=script.LIMIT, reader=rules.Reader, explained=False, strict=False):
     """The status of a run over an input, and what it writes."""
-    statuses, told = zip(*answers(lines_of(io.BytesIO(text)), brief, limit, reader=reader, explained=explained))
+    statuses, told = zip(*answers(lines_of(io.BytesIO(text)), brief, limit, reader=reader, explained=explained,
+                                  strict=strict))
     return statuses[-1], b"".join(told)

@@ -53,17 +53,17 @@ class Run(script.Run):
         self.book = dict(book or {})
 
 
-def run(text, brief=True, limit=LIMIT, book=None, reader=rules.Reader, explained=False):
+def run(text, brief=True, limit=LIMIT, book=None, reader=rules.Reader, explained=False, strict=False):
     """The status of a run over an input, and what it writes."""
-    return script.run(text, brief, BOXES, ALL, limit, functools.partial(Run, book=book), reader, explained)
+    return script.run(text, brief, BOXES, ALL, limit, functools.partial(Run, book=book), reader, explained, strict)
 
 
-def answers(lines, brief=True, limit=LIMIT, book=None, reader=rules.Reader, explained=False):
+def answers(lines, brief=True, limit=LIMIT, book=None, reader=rules.Reader, explained=False, strict=False):
     """The answers to an input whose lines come one by one, each with the status if the input ends behind it."""
-    return live.answers(lines, brief, limit, BOXES, ALL, functools.partial(Run, book=book), reader, explained)
+    return live.answers(lines, brief, limit, BOXES, ALL, functools.partial(Run, book=book), reader, explained, strict)
 
 
-def run_live(text, brief=True, limit=LIMIT, book=None):
+def run_live(text, brief=True, limit=LIMIT, book=None, strict=False):
     """The status of a run that answers each line of an input as soon as it is there, and what it writes."""
-    statuses, told = zip(*answers(live.lines_of(io.BytesIO(text)), brief, limit, book))
+    statuses, told = zip(*answers(live.lines_of(io.BytesIO(text)), brief, limit, book, strict=strict))
     return statuses[-1], b"".join(told)

@@ -2,7 +2,8 @@
 import functools
 import re
 
-from . import aliases, conversion, edits, everywhere, mixed, pattern_uses, patterns, reasons, rewrites, sampling
+from . import (aliases, conversion, edits, everywhere, mixed, pattern_uses, patterns, reasons, rewrites, sampling,
+               unproved)
 from .analyses import ANALYSES, KINDS, is_about, rows_of, unreached_ops
 from .culprits import about, about_text
 from .module import ids_text, printing, read, read_attr, read_op, rules, text_of
@@ -54,7 +55,8 @@ def applied(module, rule, number):
 def checked(text, most, is_sampled):
     """What a check says of a pattern, by its text, so that it is tried once in all runs of a script."""
     found = patterns.read(text.encode())
-    return sampling.sample(found, most) if is_sampled else everywhere.check(found, most)
+    verdict, rows = sampling.sample(found, most) if is_sampled else everywhere.check(found, most)
+    return unproved.said(found, verdict), rows
 
 
 class Run:
@@ -64,6 +66,8 @@ class Run:
     reader = rules.Reader
     # Whether refusals are explained: behind each stands what it is about.
     explained = False
+    # Whether a command isn't right if its reply names a pattern that no check proves.
+    strict = False
 
     def __init__(self, module, boxes=BOXES, commands=ALL, limit=LIMIT):
         self.limit = limit
@@ -197,9 +201,14 @@ class Run:
         """Rewrites by some rules and patterns, and tells each rewrite, or how many there were alone."""
         edits.refuse(50, not 1 <= limit <= MOST_LIMIT)
         by = rewrites if all(isinstance(it, int) for it in asked) else mixed
+        named = self.unproved(asked)
         self.module, lines, is_done = by.traced(self.module, asked, limit)
         told = "".join(line + "\n" for line in lines) if is_traced else ""
-        return ("converged" if is_done else "limit") + f" {len(lines)}", told
+        return ("converged" if is_done else "limit") + f" {len(lines)}", named + told
+
+    def unproved(self, asked):
+        """A line for each pattern among rules and patterns that no check proves for the module."""
+        return unproved.lines([it for it in asked if not isinstance(it, int)], self.verdicts, self.module)
 
     def canon(self, text):
         words = re.split("[ \t]+", text) if text else []
@@ -278,10 +287,10 @@ class Run:
         rule = self.book[name] if name in self.book else rule_of(name)
         edits.refuse(26, rule is None)
         edits.refuse(20, op not in self.module.ops())
-        tried = self.module.copy()
+        tried, named = self.module.copy(), self.unproved([rule])
         is_done = applied(tried, rule, op)
         self.module = tried if is_done else self.module
-        return f"applied {int(is_done)}", ""
+        return f"applied {int(is_done)}", named
 
     def pattern(self, text):
         need(text != "")
@@ -370,7 +379,7 @@ def answer(here, count, line, brief):
     wanted, command = expected(line) if line is not None else (None, None)
     reply, is_listed = here.reply(command) if line is not None else (" refused 60 BadCommand\n", True)
     # (a check of a pattern of one's own fails)
-    is_right = not reply.startswith((" refused", " fails"))
+    is_right = not reply.startswith((" refused", " fails")) and not (here.strict and unproved.is_named(reply))
     if wanted is not None:
         is_right = reply.startswith(f" refused {wanted} ")
         first, below = reply.split("\n", 1)
@@ -386,14 +395,15 @@ def obey(here, script, brief):
     return int(not all(is_accepted for is_accepted, _ in answers)), "".join(told for _, told in answers).encode()
 
 
-def run(text, brief=True, boxes=BOXES, commands=ALL, limit=LIMIT, make=Run, reader=rules.Reader, explained=False):
+def run(text, brief=True, boxes=BOXES, commands=ALL, limit=LIMIT, make=Run, reader=rules.Reader, explained=False,
+        strict=False):
     """The status of a run over an input, and what it writes; `reader` reads the module and what a line has."""
     text, script = split(text)
     try:
         here = make(read(text, reader), boxes, commands, limit)
     except rules.Refused as fault:
         return 3, f"module refused {printing.refusal(fault)}{about_text(text, fault) if explained else ''}\n".encode()
-    here.reader, here.explained = reader, explained
+    here.reader, here.explained, here.strict = reader, explained, strict
     return obey(here, script, brief)
 
 

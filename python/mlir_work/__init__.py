@@ -12,7 +12,7 @@ from .library import Library
 from .operations import Operation
 from .patterns import Checked, Pattern
 from .process import Process
-from .reply import Reply
+from .reply import Reply, Unproved
 from .rewrites import Canonicalized, Reason, Rewrite, Traced
 from .rows import KINDS, Constant, Dead, Diagnostic, Effect, Row, Symbol, Unreached, Use
 from .session import Session
@@ -21,5 +21,5 @@ from .way import Way
 
 __all__ = ["KINDS", "Argument", "Canonicalized", "Checked", "Constant", "Dead", "Diagnostic", "Effect", "Error",
            "Library", "ModuleRefused", "Operation", "Pattern", "Process", "ProcessLost", "Refused", "Reply", "Result",
-           "Reason", "Rewrite", "Row", "Session", "SessionClosed", "Stays", "Symbol", "Traced", "Unreached", "Use",
-           "Value", "Way", "after", "before", "end", "quoted", "start"]
+           "Reason", "Rewrite", "Row", "Session", "SessionClosed", "Stays", "Symbol", "Traced", "Unproved",
+           "Unreached", "Use", "Value", "Way", "after", "before", "end", "quoted", "start"]

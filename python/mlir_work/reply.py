@@ -1,17 +1,26 @@
 """What a line comes to."""
 import re
-from typing import List, NamedTuple, Optional
+from typing import List, NamedTuple, Optional, Tuple
 
 from .errors import Refused, Stays
 
 _REFUSED = re.compile(r"refused (\d+) (\w+)(?: at (\d+))?(?: #(\d+))?.*", re.S)
 _NUMBER = re.compile(r"\w+ #?(\d+)")
+_UNPROVED = re.compile(r"^unproved (\S+) (.+)$", re.M)
 _STAYS = re.compile(r"^stays #(\d+) (?:(\d+) (\S+) )?(\S+)$", re.M)
 
 
 def lines_of(text: str) -> List[str]:
     """The lines of what is shown, each of which has its line feed."""
     return text.split("\n")[:-1]
+
+
+class Unproved(NamedTuple):
+    """A pattern by which a command rewrote and that no check proves for the module before: its name, and what the last
+    check said, as `holds 8`, or `unchecked`."""
+
+    name: str
+    said: str
 
 
 class Reply(NamedTuple):
@@ -32,6 +41,11 @@ class Reply(NamedTuple):
         a bare `ok`."""
         found = None if self.outcome == "refused" else _NUMBER.fullmatch(self.text)
         return int(found[1]) if found else None
+
+    @property
+    def unproved(self) -> Tuple[Unproved, ...]:
+        """The patterns that an `apply` or a `rewrite` names since no check proves them for the module."""
+        return tuple(Unproved(*found) for found in _UNPROVED.findall(self.shown))
 
     def refusal(self, line: str = "") -> Optional[Refused]:
         """Why it was refused, or None where it wasn't."""

@@ -56,7 +56,8 @@ def _rewrite(line: str) -> Rewrite:
 
 def traced_of(reply: Reply) -> Traced:
     """What the reply to a rewriting says, and what is told of it."""
-    return Traced([_rewrite(line) for line in lines_of(reply.shown)], reply.outcome == "converged")
+    told = lines_of(reply.shown)[len(reply.unproved):]
+    return Traced([_rewrite(line) for line in told], reply.outcome == "converged")
 
 
 def stood_of(reply: Reply) -> List[Rewrite]:

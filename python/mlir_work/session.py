@@ -4,7 +4,7 @@ import os
 import re
 import threading
 from types import TracebackType
-from typing import Iterable, Iterator, List, Literal, Optional, Sequence, SupportsIndex, Type, Union, overload
+from typing import Iterable, Iterator, List, Literal, Optional, Sequence, SupportsIndex, Tuple, Type, Union, overload
 
 from . import operations as listings
 from .errors import Error, Refused, SessionClosed
@@ -12,7 +12,7 @@ from .library import Library, is_preferred
 from .operations import Operation
 from .patterns import Checked, Pattern, checked_of, patterns_of
 from .process import DIVIDER, Process, Program
-from .reply import Reply
+from .reply import Reply, Unproved
 from .rewrites import Canonicalized, Reason, Rewrite, Traced, canonicalized_of, reasons_of, stood_of, traced_of
 from .rows import KINDS, Constant, Dead, Diagnostic, Effect, Row, Symbol, Unreached, Use, rows_of
 from .values import Value, key_text, op_text
@@ -124,6 +124,8 @@ class Session:
         """The program's status once it is closed: 0, or 1 where a command was refused."""
         self.unattached: List[str] = []
         """A line for each analysis for which there was no memory, as `attach uses refused 36 Memory`."""
+        self.unproved: Tuple[Unproved, ...] = ()
+        """The patterns of the last `rewrite`, `trace` or `apply` that no check proves for the module before it."""
         try:
             self.unattached = (
                 self._way.open(_bytes(text), limit, True) if opaque else self._way.open(_bytes(text), limit))
@@ -344,12 +346,12 @@ class Session:
     def rewrite(self, rules: Iterable[Union[int, str]], limit: Optional[int] = None) -> Canonicalized:
         """Rewrites by these rules of 1 to 24, by their numbers or words, and patterns of one's own, by their names,
         tried in this order at an operation."""
-        return canonicalized_of(self.command(f"rewrite {_ruled(rules)}{_limited(limit)}"))
+        return canonicalized_of(self._rewritten(f"rewrite {_ruled(rules)}{_limited(limit)}"))
 
     def trace(self, rules: Optional[Iterable[Union[int, str]]] = None, limit: Optional[int] = None) -> Traced:
         """Rewrites as `canon` does, or as `rewrite` does where there are rules, and tells each rewrite."""
         line = "canon" if rules is None else f"rewrite {_ruled(rules)}"
-        return traced_of(self.command(f"{line} trace{_limited(limit)}"))
+        return traced_of(self._rewritten(f"{line} trace{_limited(limit)}"))
 
     def convert(self, mode: str = "partial", *, legal: Iterable[str] = (), illegal: Iterable[str] = (),
                 dynamic: Iterable[str] = (), rules: Iterable[int] = (), depth: Optional[int] = None) -> int:
@@ -370,7 +372,13 @@ class Session:
     def apply(self, rule: Union[int, str], operation: SupportsIndex) -> bool:
         """Applies a rule of 1 to 30, by its number or its word, or a pattern, by its name, at an operation; whether it
         applied there."""
-        return bool(self.command(f"apply {rule} {op_text(operation)}").number)
+        return bool(self._rewritten(f"apply {rule} {op_text(operation)}").number)
+
+    def _rewritten(self, line: str) -> Reply:
+        """The reply to a line that may rewrite by patterns; those that it names are kept."""
+        reply = self.command(line)
+        self.unproved = reply.unproved
+        return reply
 
     # Patterns of one's own.
 

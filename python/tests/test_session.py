@@ -169,6 +169,14 @@ class Calls(Case):
             made = s.insert(after(2), '"arith.muli"(%v1.0, %v2.0) : (i32, i32) -> i32')
             self.assertTrue(s.apply("double", made))
             self.assertFalse(s.apply("double", 1))
+            self.assertEqual(s.unproved, ())
+            self.assertFalse(s.apply("half", 1))
+            self.assertEqual(s.unproved, (mlir_work.Unproved("half", "fails 8"),))
+            traced = s.trace(["never", "double", "twice", "never"])
+            self.assertEqual((traced.rewrites, s.unproved), ([], (("never", "empty 8"), ("twice", "unrefuted 64"))))
+            self.assertEqual((s.rewrite(["double"]).rewrites, s.unproved), (0, ()))
+            self.assertEqual(s.command("rewrite twice,half").unproved,
+                             (("twice", "unrefuted 64"), ("half", "fails 8")))
         self.assertTrue(any(line.startswith('%2 = "arith.addi"(%0, %0)') for line in lines(s)))
         for line, number, at in (("check nope", 26, None), ("apply nope #1", 26, None),
                                  ("check half width 0", 50, None), ("check half width 129 sampled", 50, None),

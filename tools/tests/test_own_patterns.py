@@ -97,7 +97,9 @@ ASKED = (b"patterns\ncheck double width 2\nbegin\nrewrite zero,double trace\nrol
 ANSWERED = (b"1 ok\nzero arith.addi(%a, 0) => %a // not checked\n"
             b"double arith.addi(%a, %a) => arith.shli(%a, 1) // not checked\n"
             b"2 fails 1\n%a false\nold false\nnew poison\n3 ok\n"
-            b"4 converged 2\nrewrote zero #3 erased #3\nrewrote double #4 made #6,#7 erased #4\n5 ok\n6 applied 1\n"
+            b"4 converged 2\nunproved zero unchecked\nunproved double fails 1\n"
+            b"rewrote zero #3 erased #3\nrewrote double #4 made #6,#7 erased #4\n5 ok\n"
+            b"6 applied 1\nunproved double fails 1\n"
             b"7 refused 4 Redefined at 0\n8 ok\nzero arith.addi(%a, 0) => %a // not checked\n"
             b"double arith.addi(%a, %a) => arith.shli(%a, 1) // fails 1\n")
 
@@ -267,7 +269,11 @@ class Patterns(Case):
             here.begin(b"")
             self.assertEqual(here.answer("patterns")[0], "ok")
             self.assertEqual([line.split()[0] for line in here.answer("patterns")[1:]], ["zero", "double"])
-            self.assertEqual(here.answer("apply zero #3")[0], "applied 1")
+            self.assertEqual(here.answer("apply zero #3")[:2], ["applied 1", "unproved zero unchecked"])
+            self.assertEqual(here.answer("apply zero #4")[:3],
+                             ["applied 0", "unproved zero unchecked", "nothing changed"])
+            self.assertEqual(here.answer("check zero"), ["holds"])
+            self.assertEqual(here.answer("apply zero #4"), ["applied 0", "nothing changed"])
             self.assertEqual(here.answer("pattern " + HALF.decode()), ["ok"])
             self.assertEqual(here.answer("rewrite double trace")[-1][:17], "rewrote double #4")
             typed = completion.Completion(here)

@@ -131,6 +131,17 @@ class Steps(unittest.TestCase):
                 self.assertEqual(steps[-1].reply, f"rewrite {count} of {count}: {reply}")
                 self.assertEqual(steps[-1].state.lines, replay.keyed(listing.listed(module, [line.decode()], 99)))
 
+    def test_unproved_patterns(self):
+        """A step that rewrites by a pattern that no check proves says so, and so does the page."""
+        module, _ = example("canon")
+        script = (b"pattern swap arith.addi(%x, %y) => arith.addi(%y, %x)\napply swap #6\nrewrite swap limit 2\n"
+                  b"rewrite 10 limit 1\npatterns")
+        steps = filled(module, script)
+        self.assertEqual([step.unproved for step in steps], [
+            [], [], ["unproved swap unchecked"], *[["unproved swap unchecked"]] * 2, [], []])
+        shown = [step.get("unproved") for step in page.Data().all("canon", steps)["steps"]]
+        self.assertEqual(shown, [step.unproved or None for step in steps])
+
     def test_conversions_that_are_told(self):
         module = (ROOT / "examples/index.mlir").read_bytes()
         named = "arith.constant,arith.addi,arith.muli,scf.for"

@@ -506,6 +506,7 @@ function tell(step) {
   const line = make("div", "line", make("pre", "", ...(step.line ? withRefs(step.line) : ["The module as it is read"])),
     make("span", `reply${step.says ? " refused" : ""}`, ...(step.line ? withRefs(step.reply) : [])));
   const found = [...(step.notes || []).map(note => make("div", "note", note)), line];
+  if (step.unproved) found.push(make("div", "says", step.unproved.join("; ")));
   if (step.says) {
     const caret = `${" ".repeat(Math.max(step.column || 0, 0))}^`;
     if (step.column !== null) found.push(make("pre", "caret", caret));

@@ -6,3 +6,4 @@ pub mod Shelves
 pub use Rattle.patterns_shelf.specs.Shelf
 pub use Rattle.patterns_shelf.specs.declared.book.Book
 pub use Rattle.patterns_judged.specs.declared.judgement.Said
+pub use Rattle.patterns_judged.specs.Rows

@@ -1,7 +1,9 @@
 -- What a line is told: as the bench replied, or what a check of a pattern says.
-use Rattle.std.specs.Prelude.{◌≡◌, ℕ, ◌≤◌, Bool, true, false, not, Option, Some, None}
+use Rattle.std.specs.Prelude.{◌≡◌, ℕ, ◌≤◌, List, Bool, true, false, not, ◌&&◌, codes, nat_eq, Option, Some, None}
+use Rattle.std.specs.List.{starts_with}
 use Rattle.ir_event.specs.types.declared.refusal.Refusal.{Refusal}
-use Rattle.rewriter_machine.specs.Commands.{Response, TextRefusedAt}
+use Rattle.rewriter_machine.specs.Commands.{Replied, Response, TextRefusedAt}
+use Rattle.rewriter_machine.specs.Machine.{DoneWith}
 use Rattle.patterns_judged.specs.declared.judgement.Said.{Said}
 use Rattle.patterns_judged.specs.declared.judgement.Said.TheVariants as said
 use Rattle.mlir_work_book.specs.Replies.{is_accepted, is_refused_for, response_of}
@@ -40,6 +42,16 @@ refuses_for wanted (Checked told) = false
 abbrev pub is_right : Option Refusal → Notice → Bool
 is_right None notice = is_well notice
 is_right (Some wanted) notice = refuses_for wanted notice
+
+-- whether the first line below the reply to a command that rewrites names a pattern that no check proves
+abbrev pub names_unproved : Notice → List ℕ → Bool
+names_unproved (Plain (Replied (DoneWith outcome))) shows = starts_with nat_eq shows (codes "unproved ")
+names_unproved _ shows = false
+
+-- whether a reply is right in a run that is strict or not: if it is, no line below the reply may name such a pattern
+abbrev pub is_right_under : Bool → Option Refusal → Notice → List ℕ → Bool
+is_right_under false expected notice shows = is_right expected notice
+is_right_under true expected notice shows = is_right expected notice && not (names_unproved notice shows)
 
 -- the byte at which a text is refused stands in the input, or right behind it
 abbrev pub IsWithin : ℕ → Notice → Type 0

@@ -1,5 +1,5 @@
 -- What an order makes of a book of patterns, and what it is told.
-use Rattle.std.specs.Prelude.{◌≡◌, ℕ, ◌-◌, List, [], ◌⊎◌, length, Option, Some, None, Ok, Err}
+use Rattle.std.specs.Prelude.{◌≡◌, ℕ, ◌-◌, List, [], ◌⊎◌, length, Option, Some, None, Ok, Err, if◌then◌else◌}
 use Rattle.ir_event.specs.types.declared.refusal.Refusal.{Refusal}
 use Rattle.ir_event.specs.types.declared.refusal.Refusal.TheVariants.{BadLimit, Memory, NoSuchKey}
 use Rattle.ir_text_tokens.specs.Refusals.{refusal_of}
@@ -7,12 +7,14 @@ use Rattle.rewriter_machine.specs.Commands.{Replied, TextRefusedAt}
 use Rattle.rewriter_machine.specs.Machine.{Done, Refused}
 use Rattle.mlir_work_script.specs.BookOrders.{BookOrder, Define, Patterns, Check, Sample}
 use Rattle.patterns_text.specs.Refusing.{Outcome}
+use Rattle.patterns_everywhere.specs.Passing.{is_passing}
 use Rattle.patterns_judged.specs.Judged.{IsJudgement, IsUntried, asked_width, said_of}
 use Rattle.patterns_judged.specs.Rows.{rows_text}
 use Rattle.patterns_judged.specs.Sampled.{IsSampled, IsUnsampled}
 use Rattle.patterns_judged.specs.declared.judgement.Judgement.{Judgement}
 use Rattle.patterns_judged.specs.declared.judgement.Judgement.TheVariants as judgement
 use Rattle.patterns_judged.specs.declared.judgement.Said.{Said}
+use Rattle.patterns_judged.specs.declared.judgement.Said.TheVariants as said
 use Rattle.patterns_shelf.specs.Shelf.{Book, Kept, defined, found, listing_text, noted}
 use Rattle.mlir_work_book.specs.Notices.{Notice, Plain, Checked}
 
@@ -34,9 +36,19 @@ judgement_rows k (judgement.Empty w) = []
 judgement_rows k (judgement.Fails counterexample) = rows_text k.variables counterexample
 judgement_rows k (judgement.Unrefuted w) = []
 
+-- what is said of a pattern by its judgement. All values were tried, but no poison: so where the pattern matches a choice,
+-- or makes a quotient or a remainder, no more is said than that nothing tells against it. (Of no such pattern is it judged
+-- that it is right at every width: one that is judged so has sums, differences, products and bits alone.)
+abbrev pub said_for : Kept → Judgement → Said
+said_for k (judgement.Holds w) = if is_passing k.shape then said.Holds w else said.Unrefuted w
+said_for k judgement.Everywhere = said_of judgement.Everywhere
+said_for k (judgement.Empty w) = said_of (judgement.Empty w)
+said_for k (judgement.Fails counterexample) = said_of (judgement.Fails counterexample)
+said_for k (judgement.Unrefuted w) = said_of (judgement.Unrefuted w)
+
 -- what is said of a pattern is one of the judgements that are true of it, and so are its rows
 abbrev pub IsSaid : (Judgement → Type 0) → Kept → Said → List ℕ → Type 0
-IsSaid is_true k said bytes = (j : Judgement) × is_true j × (said ≡ said_of j) × (bytes ≡ judgement_rows k j)
+IsSaid is_true k said bytes = (j : Judgement) × is_true j × (said ≡ said_for k j) × (bytes ≡ judgement_rows k j)
 
 -- what a check of a pattern up to a width says is true, and what is said of it where it is sampled
 abbrev pub IsChecked : Kept → Option ℕ → Said → List ℕ → Type 0

@@ -7,4 +7,5 @@ pub mod orders;
 pub mod putting;
 pub mod reply;
 
+pub use patterns_judged::{judgement, rows};
 pub use patterns_shelf::book;

@@ -1,6 +1,7 @@
 //! What a line is told.
 ghost use Rattle.std.specs.Prelude.{◌≡◌, []};
-ghost use Rattle.mlir_work_book.specs.Notices.{is_failure, is_right, is_well, notice_of, refuses_for};
+ghost use Rattle.mlir_work_book.specs.Notices.{is_failure, is_right, is_right_under, is_well, names_unproved, notice_of};
+ghost use Rattle.mlir_work_book.specs.Notices.{refuses_for};
 ghost use Rattle.mlir_work_book.specs.declared.notice.Notice.TheVariants.{Plain};
 
 use crate::reply::Reply;
@@ -77,5 +78,28 @@ pub fn is_right(expected: &Option<Refusal>, notice: &Notice) -> bool
     match expected {
         None => notice.is_well(),
         Some(refusal) => notice.is_refused_for(*refusal),
+    }
+}
+
+/// Whether the first line below the reply to a command that rewrites names a pattern that no check proves.
+fn names_unproved(noticed: &Noticed) -> bool
+    ensures { result ≡ names_unproved (notice_of noticed.now.notice) noticed.now.shows.items }
+{
+    match noticed.notice {
+        Notice::Plain(Reply::DoneWith(_)) => noticed.shows.starts_with(b"unproved "),
+        _ => false,
+    }
+}
+
+/// Whether a reply is right in a run that is strict or not: if it is strict, no line below the reply may name a pattern
+/// that no check proves.
+pub fn is_right_under(strict: bool, expected: &Option<Refusal>, noticed: &Noticed) -> bool
+    ensures { result ≡ is_right_under strict expected.now (notice_of noticed.now.notice) noticed.now.shows.items }
+{
+    let right = is_right(expected, &noticed.notice);
+    if strict {
+        right && !names_unproved(noticed)
+    } else {
+        right
     }
 }

@@ -10,13 +10,14 @@ ghost use Rattle.patterns_judged.specs.Sampled.{IsNotSampled};
 ghost use Rattle.patterns_shelf.specs.Shelf.{book_view, kept_view, noted};
 ghost use Rattle.mlir_work_book.specs.Notices.{Checked, IsWithin, Plain, notice_of};
 ghost use Rattle.mlir_work_book.specs.Replies.{IsBounded, response_of};
-ghost use Rattle.mlir_work_book.specs.Shelves.{IsChecked, IsSampledAs, Shelves, judgement_rows};
+ghost use Rattle.mlir_work_book.specs.Shelves.{IsChecked, IsSampledAs, Shelves, judgement_rows, said_for};
 
 use crate::notice::{Notice, Noticed, replied};
 use crate::reply::Reply;
 use ir_event::types::refusal::Refusal;
 use ir_text_tokens::fault::Fault;
 use mlir_work_script::book_order::BookOrder;
+use patterns_everywhere::passing::is_passing;
 use patterns_judged::judgement::{Judgement, Said};
 use patterns_judged::judging::judge;
 use patterns_judged::sampling::sample;
@@ -88,6 +89,23 @@ fn wide(width: Option<u32>) -> Option<u64>
     }
 }
 
+/// What is said of a pattern by its judgement. No poison was tried: so where the pattern matches a choice, or makes a
+/// quotient or a remainder, no more is said than that nothing tells against it.
+fn said_for(held: &Held, judgement: &Judgement) -> Said
+    ensures { result ≡ said_for (kept_view held.now) judgement.now }
+{
+    match judgement {
+        Judgement::Holds(width) => {
+            if is_passing(&held.pattern) {
+                Said::Holds(*width)
+            } else {
+                Said::Unrefuted(*width)
+            }
+        }
+        _ => judgement.said(),
+    }
+}
+
 /// What a check of a pattern says, and its rows.
 fn checked(alloc: Global, held: &Held, width: Option<u32>) -> Result<(Said, Vec<u8>), Refusal>
     ensures ok { IfOk result (λ x. IsChecked (kept_view held.now) width x.0 x.1.items) }
@@ -98,7 +116,7 @@ fn checked(alloc: Global, held: &Held, width: Option<u32>) -> Result<(Said, Vec<
         Err(refusal) => return Err(refusal),
     };
     match rows_of(alloc, held, &judgement) {
-        Ok(rows) => Ok((judgement.said(), rows)),
+        Ok(rows) => Ok((said_for(held, &judgement), rows)),
         Err(_) => Err(Refusal::Memory),
     }
 }
@@ -141,7 +159,7 @@ fn sampled(alloc: Global, held: &Held, width: u32) -> Result<(Said, Vec<u8>), Re
         Err(refusal) => return Err(refusal),
     };
     match rows_of(alloc, held, &judgement) {
-        Ok(rows) => Ok((judgement.said(), rows)),
+        Ok(rows) => Ok((said_for(held, &judgement), rows)),
         Err(_) => Err(Refusal::Memory),
     }
 }

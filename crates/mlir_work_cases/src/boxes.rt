@@ -27,6 +27,7 @@ pub fn options(brief: bool) -> Options {
         ends: false,
         opaque: false,
         explain: false,
+        strict: false,
     }
 }
 
@@ -38,6 +39,7 @@ pub fn live() -> Options {
         ends: true,
         opaque: false,
         explain: false,
+        strict: false,
     }
 }
 

@@ -63,6 +63,7 @@ fn run_limited(alloc: Global, names: &str, text: &str) -> Result<String, AllocEr
         ends: false,
         opaque: false,
         explain: false,
+        strict: false,
     };
     over(alloc, names, options, &mut reader)
 }

@@ -81,6 +81,7 @@ fn run_heard<L: Supplied>(
         ends: false,
         opaque: bench.world().ctx.is_opaque(),
         explain: false,
+        strict: false,
     };
     let mut book = Book::new(alloc);
     Ok(run_script(alloc, &manner, bench, &mut book, script, written).unwrap_or(4))

@@ -80,6 +80,14 @@ fn explain<'a>(alloc: Global) -> Arg<'a> {
         .action(ArgAction::SetTrue)
 }
 
+/// The option by which a rewrite by a pattern that no check proves isn't right.
+fn strict<'a>(alloc: Global) -> Arg<'a> {
+    Arg::new(alloc, "strict")
+        .long("strict")
+        .help(text::STRICT)
+        .action(ArgAction::SetTrue)
+}
+
 /// The option that says in which form the output is written.
 fn output_format<'a>(alloc: Global) -> Arg<'a> {
     Arg::new(alloc, "format")
@@ -173,6 +181,7 @@ fn command<'a>(alloc: Global) -> Result<Command<'a>, AllocError> {
         .arg(limit(alloc))?
         .arg(opaque(alloc))?
         .arg(explain(alloc))?
+        .arg(strict(alloc))?
         .arg(output_format(alloc))?
         .arg(split(alloc))?
         .arg(interactive(alloc)?)
@@ -213,6 +222,7 @@ pub fn options_of<'a>(alloc: Global, words: &'a [String]) -> Result<Given<'a>, E
             ends: matches.get_flag("interactive"),
             opaque: matches.get_flag("opaque"),
             explain: matches.get_flag("explain") || format == Format::Json,
+            strict: matches.get_flag("strict"),
         },
         module: matches.get_str("module"),
         scripts: values_of(alloc, &matches, "script")?,

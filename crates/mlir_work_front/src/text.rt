@@ -42,6 +42,9 @@ pub(crate) const OPAQUE: &str = "Keep unknown types and attributes, as their tex
 /// What `--explain` says.
 pub(crate) const EXPLAIN: &str = "Say behind each refusal what it is about";
 
+/// What `--strict` says.
+pub(crate) const STRICT: &str = "Status 1 if no check proves a pattern that rewrites";
+
 /// What `--format` says.
 pub(crate) const FORMAT: &str = "`text`, or `json`: an object a line";
 
@@ -198,6 +201,12 @@ which byte the ATTRIBUTE, the OPERATION or the PATTERN is wrong, and
 `1 refused 51 NotLegalised #3` for which operation a `convert` is. Where a line
 expects a refusal and something else comes, `1 expected 22 HasUses` stands below
 the reply.
+
+An `apply` or a `rewrite` by patterns names below its reply, and above a trace,
+each pattern that no check proves for the module: a check has to say `holds`, or
+`holds 8` where no value of the module has a type of more than 8 bits, or index.
+The line has what the last check said, as `unproved half unrefuted 8`, or
+`unproved half unchecked`. With `--strict` the status is 1 where one stands.
 
 With `--explain` the operations and values that a refusal is about stand behind
 it, as `1 refused 22 HasUses about #3 #5`, and what of MLIR stands where

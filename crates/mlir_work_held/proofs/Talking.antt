@@ -111,8 +111,8 @@ module _ (opaque : Bool) (limit : ℕ) where
     -- how a line is answered by a run that has read so much, with that limit
     wide : (spoken : Spoken) (st : ℕ) (o : List ℕ) → Line (Behind read lines) (way_of seven_supply (way s line)) n (sitting s) expected spoken st o → Line (Behind read lines) (way_at setting read) n (sitting s) expected spoken st o
     wide spoken st o h =
-        subst (λ (l : ℕ). Line (Behind read lines) (way_of seven_supply (record { brief = true; bytes = read; limit = l; ends = false; opaque = opaque; explain = false })) n (sitting s) expected spoken st o) same
-        (subst (λ (b : Bool). Line (Behind read lines) (way_of seven_supply (record { brief = true; bytes = read; limit = s.limit; ends = false; opaque = b; explain = false })) n (sitting s) expected spoken st o) mode
+        subst (λ (l : ℕ). Line (Behind read lines) (way_of seven_supply (record { brief = true; bytes = read; limit = l; ends = false; opaque = opaque; explain = false; strict = false })) n (sitting s) expected spoken st o) same
+        (subst (λ (b : Bool). Line (Behind read lines) (way_of seven_supply (record { brief = true; bytes = read; limit = s.limit; ends = false; opaque = b; explain = false; strict = false })) n (sitting s) expected spoken st o) mode
         (line_wider (way_of seven_supply (way s line)) read least (Behind read lines) (Behind read lines) (λ m u status out k. k) n (sitting s) expected spoken st o h))
 
     lived_line : (spoken : Spoken) → Said (way s line) s spoken a t → ((m : ℕ) → IsLived read m t lines rest) → IsLivedOn spoken

@@ -38,6 +38,7 @@ way s line = record {
   ends = false;
   opaque = is_opaque s;
   explain = false;
+  strict = false;
 }
 
 -- what is said is replied to as the machine does, and the answer tells that reply

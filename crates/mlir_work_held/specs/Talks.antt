@@ -52,7 +52,7 @@ AreWritten n (told ∷ more) status out =
 
 -- how a whole run of the same input goes: briefly, and no answer has an end
 abbrev pub briefly : Bool → ℕ → Options
-briefly opaque limit = record { brief = true; limit = limit; ends = false; opaque = opaque; explain = false }
+briefly opaque limit = record { brief = true; limit = limit; ends = false; opaque = opaque; explain = false; strict = false }
 
 -- what these answers are written as is an output of the input, with the seven analyses
 abbrev pub IsOutputOf : Bool → ℕ → List ℕ → List Told → Type 0

@@ -43,6 +43,7 @@ pub(crate) fn way(session: &Session, line: &[u8]) -> Manner
         ends: false,
         opaque: session.bench.world().ctx.is_opaque(),
         explain: false,
+        strict: false,
     }
 }
 

@@ -1,11 +1,12 @@
 -- What a line of an output is, told by how it begins.
-use Rattle.std.specs.Prelude.{ℕ, List, [], ◌∷◌, ◌==◌, ◌||◌, ◌&&◌, Bool, false, if◌then◌else◌, is_some, codes, position}
+use Rattle.std.specs.Prelude.{ℕ, List, [], ◌∷◌, ◌==◌, ◌||◌, ◌&&◌, not, Bool, false, if◌then◌else◌, is_some, codes, position}
 use Rattle.std.specs.Char.{is_ascii_digit}
 use Rattle.std.specs.Str.{bytes_eq}
 use Rattle.mlir_work_json.specs.Cuts.{behind, behind_second, cell, second}
 use Rattle.mlir_work_json.specs.Numbers.{number_of}
+use Rattle.mlir_work_json.specs.Replies.{says_width}
 use Rattle.mlir_work_json.specs.declared.form.Form.{Form}
-use Rattle.mlir_work_json.specs.declared.form.Form.TheVariants.{Reply, Heading, Unread, Unattached, Module, Use, Constant, Dead, Unreached, Diagnostic, Effect, Definition, Reference, Unresolved, Mismatch, Reason, Stayed, Rewritten, Applied, Pattern, Outcome, Other}
+use Rattle.mlir_work_json.specs.declared.form.Form.TheVariants.{Reply, Heading, Unread, Unattached, Module, Use, Constant, Dead, Unreached, Diagnostic, Effect, Definition, Reference, Unresolved, Mismatch, Reason, Stayed, Rewritten, Applied, Unproved, Pattern, Outcome, Other}
 use Rattle.mlir_work_script_base.specs.Cuts.{before, after}
 use Rattle.mlir_work_script_base.specs.Values.{is_dot}
 
@@ -70,6 +71,20 @@ tells_rewrite line = bytes_eq (cell line) (codes "rewrote") && begins_op (behind
 abbrev pub tells_pattern : List ℕ → Bool
 tells_pattern line = bytes_eq (cell line) (codes "rewrote") && begins_op (behind_second line)
 
+-- a pattern has `=>`
+abbrev pub has_arrow : List ℕ → Bool
+has_arrow line = is_some (position (λ b. b == 61) line)
+
+-- what a check says, or that there was none
+abbrev pub is_verdict : List ℕ → Bool
+is_verdict word = says_width word || bytes_eq word (codes "unchecked")
+
+-- a line that names a pattern that no check proves has what a check says of it behind its name; a pattern or a constant
+-- of a pattern that is called so hasn't
+abbrev pub tells_unproved : List ℕ → Bool
+tells_unproved line =
+    bytes_eq (cell line) (codes "unproved") && (is_verdict (cell (behind_second line)) && not (has_arrow line))
+
 -- a row of symbols, or a reason, in which an operation stands behind the word
 abbrev pub symbol_form : List ℕ → Form
 symbol_form word =
@@ -90,16 +105,13 @@ refusal_form word =
     else if bytes_eq word (codes "attach") then Unattached
     else Other
 
--- a pattern has `=>`
-abbrev pub has_arrow : List ℕ → Bool
-has_arrow line = is_some (position (λ b. b == 61) line)
-
 abbrev pub word_form : List ℕ → Form
 word_form line =
     if bytes_eq (cell line) (codes "--") then Heading
     else if begins_op (behind line) then symbol_form (cell line)
     else if tells_rewrite line then Rewritten
     else if tells_pattern line then Applied
+    else if tells_unproved line then Unproved
     else if is_outcome (second line) then Outcome
     else if has_arrow line then Pattern
     else refusal_form (cell line)

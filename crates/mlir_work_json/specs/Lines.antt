@@ -6,9 +6,9 @@ use Rattle.mlir_work_json.specs.Cuts.{parts}
 use Rattle.mlir_work_json.specs.Forms.{form_of}
 use Rattle.mlir_work_json.specs.Items.{Member, text, put_all}
 use Rattle.mlir_work_json.specs.Replies.{reply_members, heading_members, unread_members, unattached_members}
-use Rattle.mlir_work_json.specs.Rows.{use_members, constant_members, dead_members, unreached_members, diagnostic_members, effect_members, definition_members, reference_members, unresolved_members, mismatch_members, reason_members, stayed_members, rewritten_members, applied_members, pattern_members, outcome_members}
+use Rattle.mlir_work_json.specs.Rows.{use_members, constant_members, dead_members, unreached_members, diagnostic_members, effect_members, definition_members, reference_members, unresolved_members, mismatch_members, reason_members, stayed_members, rewritten_members, applied_members, unproved_members, pattern_members, outcome_members}
 use Rattle.mlir_work_json.specs.declared.form.Form.{Form}
-use Rattle.mlir_work_json.specs.declared.form.Form.TheVariants.{Reply, Heading, Unread, Unattached, Module, Use, Constant, Dead, Unreached, Diagnostic, Effect, Definition, Reference, Unresolved, Mismatch, Reason, Stayed, Rewritten, Applied, Pattern, Outcome, Other}
+use Rattle.mlir_work_json.specs.declared.form.Form.TheVariants.{Reply, Heading, Unread, Unattached, Module, Use, Constant, Dead, Unreached, Diagnostic, Effect, Definition, Reference, Unresolved, Mismatch, Reason, Stayed, Rewritten, Applied, Unproved, Pattern, Outcome, Other}
 use Rattle.mlir_work_script_base.specs.Lines.{is_newline}
 
 -- the members of a line of a form
@@ -32,6 +32,7 @@ form_members Reason line = reason_members line
 form_members Stayed line = stayed_members line
 form_members Rewritten line = rewritten_members line
 form_members Applied line = applied_members line
+form_members Unproved line = unproved_members line
 form_members Pattern line = pattern_members line
 form_members Outcome line = outcome_members line
 form_members Other line = text (codes "text") line ∷ []

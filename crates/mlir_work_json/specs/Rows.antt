@@ -123,6 +123,10 @@ said_members said =
     then text (codes "said") (cell said) ∷ numeral (codes "width") (behind said) ∷ []
     else text (codes "said") said ∷ []
 
+-- `unproved mask holds 8`, `unproved mask unchecked`
+abbrev pub unproved_members : List ℕ → List Member
+unproved_members line = kind (codes "unproved") ∷ text (codes "name") (second line) ∷ said_members (behind_second line)
+
 -- no pattern has a slash within, and a blank stands in front of the comment
 abbrev pub is_slash : ℕ → Bool
 is_slash b = b == 47

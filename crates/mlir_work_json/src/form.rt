@@ -1,11 +1,13 @@
 //! What a line of an output is.
 ghost use Rattle.std.specs.Prelude.{◌≡◌};
 ghost use Rattle.mlir_work_json.specs.Forms.{are_three, are_two, begins_module, begins_number, begins_op, form_of};
-ghost use Rattle.mlir_work_json.specs.Forms.{has_arrow, is_number, is_outcome, named_form, names_value, op_form};
-ghost use Rattle.mlir_work_json.specs.Forms.{refusal_form, symbol_form, tells_pattern, tells_rewrite, value_form, word_form};
+ghost use Rattle.mlir_work_json.specs.Forms.{has_arrow, is_number, is_outcome, is_verdict, named_form, names_value, op_form};
+ghost use Rattle.mlir_work_json.specs.Forms.{refusal_form, symbol_form, tells_pattern, tells_rewrite, tells_unproved, value_form};
+ghost use Rattle.mlir_work_json.specs.Forms.{word_form};
 
 use crate::cuts::{behind_cell, cut_cell, has_byte};
 use crate::numbers::number;
+use crate::replies::says_width;
 use mlir_work_script_base::cuts::cut_at;
 
 /// What a line of an output is, told by how it begins.
@@ -49,6 +51,8 @@ pub enum Form {
     Rewritten,
     /// A rewrite by a pattern of one's own that is told.
     Applied,
+    /// A pattern by which a command rewrites, and that no check proves for its module.
+    Unproved,
     /// A pattern, and what its last check said.
     Pattern,
     /// A row of a check: a variable, or a result, and what it is.
@@ -179,6 +183,29 @@ fn tells_pattern(line: &[u8]) -> bool
     word == b"rewrote".as_slice() && begins_op(behind_cell(behind))
 }
 
+/// Whether a line has the arrow of a pattern.
+fn has_arrow(line: &[u8]) -> bool
+    ensures { result ≡ has_arrow line.now }
+{
+    has_byte(line, b'=')
+}
+
+/// Whether a word is what a check says, or that there was none.
+fn is_verdict(word: &[u8]) -> bool
+    ensures { result ≡ is_verdict word.now }
+{
+    says_width(word) || word == b"unchecked".as_slice()
+}
+
+/// Whether a line names a pattern that no check proves.
+fn tells_unproved(line: &[u8]) -> bool
+    ensures { result ≡ tells_unproved line.now }
+{
+    let (word, behind) = cut_cell(line);
+    let said = behind_cell(behind);
+    word == b"unproved".as_slice() && is_verdict(cut_cell(said).0) && !has_arrow(line)
+}
+
 /// What a row is that begins with this word, behind which an operation stands.
 fn symbol_form(word: &[u8]) -> Form
     ensures { result ≡ symbol_form word.now }
@@ -217,13 +244,6 @@ fn refusal_form(word: &[u8]) -> Form
     Form::Other
 }
 
-/// Whether a line has the arrow of a pattern.
-fn has_arrow(line: &[u8]) -> bool
-    ensures { result ≡ has_arrow line.now }
-{
-    has_byte(line, b'=')
-}
-
 /// What a line is that begins with a word.
 fn word_form(line: &[u8]) -> Form
     ensures { result ≡ word_form line.now }
@@ -240,6 +260,9 @@ fn word_form(line: &[u8]) -> Form
     }
     if tells_pattern(line) {
         return Form::Applied;
+    }
+    if tells_unproved(line) {
+        return Form::Unproved;
     }
     if is_outcome(cut_cell(behind).0) {
         return Form::Outcome;

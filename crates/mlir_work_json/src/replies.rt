@@ -74,7 +74,7 @@ fn put_expected(object: &mut Object, alloc: Global, line: &[u8]) -> Result<(), A
 }
 
 /// Whether a width may stand behind a word, one of a check.
-fn says_width(word: &[u8]) -> bool
+pub(crate) fn says_width(word: &[u8]) -> bool
     ensures { result ≡ says_width word.now }
 {
     word == b"holds".as_slice()

@@ -4,7 +4,7 @@ ghost use Rattle.mlir_work_json.specs.Rows.{use_members, constant_members, dead_
 ghost use Rattle.mlir_work_json.specs.Rows.{diagnostic_members, effect_members, definition_members, reference_members};
 ghost use Rattle.mlir_work_json.specs.Rows.{unresolved_members, mismatch_members, said_members, pattern_members};
 ghost use Rattle.mlir_work_json.specs.Rows.{applied_members, change_members, erased_members, outcome_members, reason_members, rewritten_members};
-ghost use Rattle.mlir_work_json.specs.Rows.{stay_members, stayed_members};
+ghost use Rattle.mlir_work_json.specs.Rows.{stay_members, stayed_members, unproved_members};
 
 use crate::cuts::{BLANK, behind_cell, cut_cell, without_last};
 use crate::members::{Object, put_number, put_parts, put_text};
@@ -257,6 +257,21 @@ fn put_said(object: &mut Object, alloc: Global, said: &[u8]) -> Result<(), Alloc
     }
     put_text(object, alloc, "said", word)?;
     put_number(object, alloc, "width", width)
+}
+
+/// Puts that no check proves a pattern: `unproved mask holds 8`, `unproved mask unchecked`.
+pub(crate) fn put_unproved(
+    object: &mut Object,
+    alloc: Global,
+    line: &[u8],
+) -> Result<(), AllocError>
+    ensures { Puts result object.old object.new (unproved_members line.now) }
+{
+    let (_, rest) = cut_cell(line);
+    let (name, said) = cut_cell(rest);
+    put_text(object, alloc, "kind", b"unproved")?;
+    put_text(object, alloc, "name", name)?;
+    put_said(object, alloc, said)
 }
 
 /// Puts a pattern: `half arith.divui(%a, 2) => arith.shrui(%a, 1) // holds 8`.

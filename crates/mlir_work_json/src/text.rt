@@ -12,8 +12,8 @@ use crate::members::{Object, put_text};
 use crate::replies::{put_heading, put_reply, put_unattached, put_unread};
 use crate::rows::{
     put_applied, put_constant, put_dead, put_definition, put_diagnostic, put_effect, put_mismatch,
-    put_outcome, put_pattern, put_reason, put_reference, put_rewritten, put_stayed, put_unreached,
-    put_unresolved, put_use,
+    put_outcome, put_pattern, put_reason, put_reference, put_rewritten, put_stayed, put_unproved,
+    put_unreached, put_unresolved, put_use,
 };
 use mlir_work_script_base::cuts::cut_at;
 use serde_json::{Map, Value};
@@ -43,6 +43,7 @@ fn put_form(object: &mut Object, alloc: Global, form: &Form, line: &[u8]) -> Res
         Form::Stayed => put_stayed(object, alloc, line),
         Form::Rewritten => put_rewritten(object, alloc, line),
         Form::Applied => put_applied(object, alloc, line),
+        Form::Unproved => put_unproved(object, alloc, line),
         Form::Pattern => put_pattern(object, alloc, line),
         Form::Outcome => put_outcome(object, alloc, line),
         Form::Other => put_text(object, alloc, "text", line),

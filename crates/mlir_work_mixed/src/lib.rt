@@ -3,6 +3,8 @@
 
 pub mod listed;
 pub mod mixed;
+mod narrow;
 pub mod own;
+pub mod unproved;
 
 pub use mlir_work_transforms as transforms;

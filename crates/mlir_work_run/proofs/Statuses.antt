@@ -11,7 +11,8 @@ use Rattle.mlir_work_session.specs.Panels.{Shown}
 use Rattle.mlir_work_session.specs.Reads.{Intake}
 use Rattle.mlir_work_session.specs.Writes.{Stream}
 use Rattle.mlir_work_session.specs.Shelf.{Book}
-use Rattle.mlir_work_session.specs.Output.{Line, Runs, IsSession, Sitting, Way, opening, worse, is_right}
+use Rattle.mlir_work_session.specs.Notices.{is_right_under}
+use Rattle.mlir_work_session.specs.Output.{Line, Runs, IsSession, Sitting, Way, opening, worse}
 use Rattle.mlir_work_run.specs.Ends.{EndedSo, HasFailed, HasStatus, IsFinal, Leaves, LeavesAt, status_of}
 use Rattle.mlir_work_run.specs.Whole.{IsOutput, Setting, way_at}
 use Rattle.mlir_work_run.specs.declared.run.Fault.{Fault}
@@ -27,10 +28,10 @@ low_worse false later h = inr refl
 
 pub low_line : (Rest : ℕ → Sitting → ℕ → List ℕ → Type 0) (way : Way) (n : ℕ) (s : Sitting) (expected : Option Refusal) (spoken : Spoken) (status : ℕ) (out : List ℕ) → ((m : ℕ) (t : Sitting) (st : ℕ) (o : List ℕ) → Rest m t st o → IsLow st) → Line Rest way n s expected spoken status out → IsLow status
 low_line Rest way n s expected Nothing status out f h = f n s status out h
-low_line Rest way n s expected Bad status out f h = rw h.status_is (low_worse (is_right expected h.notice) h.later (f (n + 1) h.after h.later h.rest h.goes_on))
-low_line Rest way n s expected (Obey said) status out f h = rw h.status_is (low_worse (is_right expected h.notice) h.later (f (n + 1) h.after h.later h.rest h.goes_on))
-low_line Rest way n s expected (Ordered order) status out f h = rw h.status_is (low_worse (is_right expected h.notice) h.later (f (n + 1) h.after h.later h.rest h.goes_on))
-low_line Rest way n s expected (Booked order) status out f h = rw h.status_is (low_worse (is_right expected h.notice) h.later (f (n + 1) h.after h.later h.rest h.goes_on))
+low_line Rest way n s expected Bad status out f h = rw h.status_is (low_worse (is_right_under way.manner.strict expected h.notice h.shows) h.later (f (n + 1) h.after h.later h.rest h.goes_on))
+low_line Rest way n s expected (Obey said) status out f h = rw h.status_is (low_worse (is_right_under way.manner.strict expected h.notice h.shows) h.later (f (n + 1) h.after h.later h.rest h.goes_on))
+low_line Rest way n s expected (Ordered order) status out f h = rw h.status_is (low_worse (is_right_under way.manner.strict expected h.notice h.shows) h.later (f (n + 1) h.after h.later h.rest h.goes_on))
+low_line Rest way n s expected (Booked order) status out f h = rw h.status_is (low_worse (is_right_under way.manner.strict expected h.notice h.shows) h.later (f (n + 1) h.after h.later h.rest h.goes_on))
 
 low_runs : (way : Way) (lines : List (List ℕ)) (n : ℕ) (s : Sitting) (status : ℕ) (out : List ℕ) → Runs way n s lines status out → IsLow status
 low_runs way [] n s status out h = inl h.0

@@ -74,6 +74,7 @@ manner_of options bytes = record {
   ends = options.ends;
   opaque = options.opaque;
   explain = options.explain;
+  strict = options.strict;
 }
 
 -- what a run is told, what is seen of the analyses that it can make anew, and the patterns that are there from the start

@@ -61,6 +61,8 @@ pub struct Options {
     pub opaque: bool,
     /// What a refusal is about is told behind it.
     pub explain: bool,
+    /// A command isn't right if it rewrites by a pattern that no check proves for the module.
+    pub strict: bool,
 }
 
 /// Why a run has no status of its own.
@@ -301,6 +303,7 @@ pub(crate) fn manner_of(options: Options, bytes: usize) -> Manner
         ends: options.ends,
         opaque: options.opaque,
         explain: options.explain,
+        strict: options.strict,
     }
 }
 

@@ -1,5 +1,5 @@
 -- How orders are answered beside a book.
-use Rattle.std.proofs.Common.{◌≡◌, ◌∙◌, ap, sym, subst, refl, inl, inr, ℕ, List, [], ◌++◌, Bool, true, false, Option, Some, None, Result, Ok, Err}
+use Rattle.std.proofs.Common.{◌≡◌, ◌∙◌, ap, sym, subst, refl, inl, inr, ℕ, List, [], ◌++◌, append-nil, Bool, true, false, Option, Some, None, Result, Ok, Err}
 use Rattle.std.specs.Prelude.{is_some, option_map, OnOk}
 use Rattle.ir_event.specs.types.declared.refusal.Refusal.{Refusal}
 use Rattle.ir_event.specs.types.declared.refusal.Refusal.TheVariants.{Full, Memory, NoSuchKey}
@@ -16,9 +16,10 @@ use Rattle.mlir_work_script.specs.Orders.{Order}
 use Rattle.mlir_work_book.specs.Replies.{IsBounded, is_accepted}
 use Rattle.mlir_work_book.specs.Shelf.{Book}
 use Rattle.mlir_work_mixed.specs.Mixed.{Listed, all_listed, attempts_in, mixed_trace, mixing, names_in}
+use Rattle.mlir_work_mixed.specs.Unproved.{unproved_of}
 use Rattle.mlir_work_session.specs.declared.manner.Manner.{Manner}
 use Rattle.mlir_work_session.specs.Machine.{FullSo, Fulfils, Way, limit_or, told_if}
-use Rattle.mlir_work_session.specs.Mixing.{FulfilsBeside, Mix, MixRoom, Mixes, mix_bytes, mix_change}
+use Rattle.mlir_work_session.specs.Mixing.{FulfilsBeside, Mix, MixRoom, Mixes, mix_bytes, mix_change, mix_trace}
 use Rattle.mlir_work_session.proofs.Fulfilling.{SomeFulfilled, fulfils_bounded, some_fulfilled}
 use Rattle.mlir_work_session.proofs.Panels.{all_stay}
 use Rattle.mlir_work_session.proofs.Room.{other_room, replied, widened}
@@ -27,16 +28,19 @@ use Rattle.mlir_work_session.proofs.Room.{other_room, replied, widened}
 pub follows_called : (s t : State) (f : Transformation) (reply : Reply) (response : Response) → response ≡ Replied reply → Goes s (call.Change f) reply Nothing t → Follows s (Ask (call.Change f)) response Nothing t
 follows_called s t f reply response is goes = rw is goes
 
--- what is told of it, where no line was there before
-pub shows_told : (called : Result Ended Refusal) (response : Response) (before after trace bytes : List ℕ) → response ≡ Replied (canonical_reply called) → before ≡ [] → OnOk called (after ≡ before ++ trace)
-    → bytes ≡ told_if (is_accepted (Replied (canonical_reply called))) after → bytes ≡ told_if (is_accepted response) trace
-shows_told (Ok o) response before after trace bytes is none told shows = rw is (shows ∙ told ∙ ap (λ l. l ++ trace) none)
-shows_told (Err e) response before after trace bytes is none told shows = rw is shows
+-- what is told of it, behind the lines that were there before
+pub shows_told : (called : Result Ended Refusal) (response : Response) (before after trace bytes : List ℕ) → response ≡ Replied (canonical_reply called) → OnOk called (after ≡ before ++ trace)
+    → bytes ≡ told_if (is_accepted (Replied (canonical_reply called))) after → bytes ≡ told_if (is_accepted response) (before ++ trace)
+shows_told (Ok o) response before after trace bytes is told shows = rw is (shows ∙ told)
+shows_told (Err e) response before after trace bytes is told shows = rw is shows
+
+-- and where each isn't told, those lines alone
+pub shows_same : (response : Response) (reply : Reply) (lines bytes : List ℕ) → response ≡ Replied reply → bytes ≡ told_if (is_accepted (Replied reply)) lines → bytes ≡ told_if (is_accepted response) lines
+shows_same response reply lines bytes is shows = rw is shows
 
 -- what the reply's bytes are, where nothing is told for a refusal
-refused_bytes : (tells : Bool) (manner : Manner) (book : Book) (x : Mix) (m : Module) (refusal : Refusal) → [] ≡ mix_bytes tells manner book x m (Replied (Refused refusal))
-refused_bytes true manner book x m refusal = refl
-refused_bytes false manner book x m refusal = refl
+refused_bytes : (manner : Manner) (book : Book) (x : Mix) (m : Module) (refusal : Refusal) → [] ≡ mix_bytes manner book x m (Replied (Refused refusal))
+refused_bytes manner book x m refusal = refl
 
 module _ (manner : Manner) (book : Book) (x : Mix) where
   abbrev change : List Attempt → Transformation
@@ -48,7 +52,7 @@ module _ (manner : Manner) (book : Book) (x : Mix) where
     asked = Misplaced NoSuchKey;
     asks = subst (λ (o : Option Transformation). AppliesRule o (Misplaced NoSuchKey)) (sym (ap (option_map (λ ls. change (attempts_in ls))) e)) refl;
     follows = (refl, refl, refl);
-    text = refused_bytes x.tells manner book x s.held NoSuchKey;
+    text = refused_bytes manner book x s.held NoSuchKey;
   }
 
   asks_named : (ls : List Listed) → all_listed book x.names ≡ Some ls → AppliesRule (mix_change manner book x) (Ask (call.Change (change (attempts_in ls))))
@@ -56,7 +60,7 @@ module _ (manner : Manner) (book : Book) (x : Mix) where
 
   -- one of rules and patterns
   pub mixes_found : (s t : State) (response : Response) (bytes : List ℕ) (ls : List Listed) (tried : List Attempt) (n : ℕ) → all_listed book x.names ≡ Some ls → tried ≡ attempts_in ls → n ≡ limit_or manner.limit x.limit
-      → Follows s (Ask (call.Change (rewriting (by_attempts tried) n))) response Nothing t → bytes ≡ mix_bytes x.tells manner book x s.held response → Mixes manner book x s response bytes t
+      → Follows s (Ask (call.Change (rewriting (by_attempts tried) n))) response Nothing t → bytes ≡ mix_bytes manner book x s.held response → Mixes manner book x s response bytes t
   mixes_found s t response bytes ls tried n e is same follows text = record {
     asked = Ask (call.Change (change (attempts_in ls)));
     asks = asks_named ls e;
@@ -74,22 +78,30 @@ module _ (manner : Manner) (book : Book) (x : Mix) where
         asked = Ask (call.Change (change (attempts_in ls)));
         asks = asks_named ls e;
         follows = subst (λ (r : Refusal). Follows s (Ask (call.Change (change (attempts_in ls)))) (Replied (Refused r)) Nothing s) (sym is) (record { answer = inr (refl, inl refl); panel = all_stay s.panel });
-        text = refused_bytes x.tells manner book x s.held refusal;
+        text = refused_bytes manner book x s.held refusal;
       }
 
   -- what is told of it
-  pub bytes_told : (m : Module) (response : Response) (bytes : List ℕ) (ls : List Listed) (tried : List Attempt) (names : List (List ℕ)) (n : ℕ) → x.tells ≡ true → all_listed book x.names ≡ Some ls → tried ≡ attempts_in ls → names ≡ names_in ls → n ≡ limit_or manner.limit x.limit
-      → bytes ≡ told_if (is_accepted response) (trace_text names (trace_of (by_attempts tried) n m)) → bytes ≡ mix_bytes x.tells manner book x m response
-  bytes_told m response bytes ls tried names n tells e is named same told =
-      told
-      ∙ ap (λ ns. told_if (is_accepted response) (trace_text ns (trace_of (by_attempts tried) n m))) named
-      ∙ ap (λ bs. told_if (is_accepted response) (trace_text (names_in ls) (trace_of (by_attempts bs) n m))) is
-      ∙ ap (λ k. told_if (is_accepted response) (trace_text (names_in ls) (trace_of (by_attempts (attempts_in ls)) k m))) same
-      ∙ sym (ap (λ o. told_if (is_accepted response) (mixed_trace o (limit_or manner.limit x.limit) m)) e)
-      ∙ sym (ap (λ b. mix_bytes b manner book x m response) tells)
+  trace_told : (m : Module) (ls : List Listed) (tried : List Attempt) (names : List (List ℕ)) (n : ℕ) → x.tells ≡ true → all_listed book x.names ≡ Some ls → tried ≡ attempts_in ls → names ≡ names_in ls → n ≡ limit_or manner.limit x.limit
+      → trace_text names (trace_of (by_attempts tried) n m) ≡ mix_trace x.tells manner book x m
+  trace_told m ls tried names n tells e is named same =
+      ap (λ ns. trace_text ns (trace_of (by_attempts tried) n m)) named
+      ∙ ap (λ bs. trace_text (names_in ls) (trace_of (by_attempts bs) n m)) is
+      ∙ ap (λ k. trace_text (names_in ls) (trace_of (by_attempts (attempts_in ls)) k m)) same
+      ∙ sym (ap (λ o. mixed_trace o (limit_or manner.limit x.limit) m) e)
+      ∙ sym (ap (λ b. mix_trace b manner book x m) tells)
 
-  pub bytes_untold : (m : Module) (response : Response) (bytes : List ℕ) → x.tells ≡ false → bytes ≡ [] → bytes ≡ mix_bytes x.tells manner book x m response
-  bytes_untold m response bytes tells none = none ∙ sym (ap (λ b. mix_bytes b manner book x m response) tells)
+  -- behind the lines of patterns that no check proves
+  pub bytes_told : (m : Module) (response : Response) (bytes unproved : List ℕ) (ls : List Listed) (tried : List Attempt) (names : List (List ℕ)) (n : ℕ) → unproved ≡ unproved_of book x.names m.tree → x.tells ≡ true → all_listed book x.names ≡ Some ls → tried ≡ attempts_in ls → names ≡ names_in ls
+      → n ≡ limit_or manner.limit x.limit → bytes ≡ told_if (is_accepted response) (unproved ++ trace_text names (trace_of (by_attempts tried) n m)) → bytes ≡ mix_bytes manner book x m response
+  bytes_told m response bytes unproved ls tried names n these tells e is named same told =
+      told ∙ (λ i. told_if (is_accepted response) (these i ++ trace_told m ls tried names n tells e is named same i))
+
+  pub bytes_untold : (m : Module) (response : Response) (bytes unproved : List ℕ) → unproved ≡ unproved_of book x.names m.tree → x.tells ≡ false → bytes ≡ told_if (is_accepted response) unproved → bytes ≡ mix_bytes manner book x m response
+  bytes_untold m response bytes unproved these tells told =
+      told
+      ∙ ap (told_if (is_accepted response)) (these ∙ sym (append-nil (unproved_of book x.names m.tree)))
+      ∙ sym (ap (λ b. told_if (is_accepted response) (unproved_of book x.names m.tree ++ mix_trace b manner book x m)) tells)
 
   -- ---- room
   pub mix_unroomed : (full : Type 0) (s : State) (refusal : Refusal) → (refusal ≡ Full → ⊥) → MixRoom full manner book x s (Replied (Refused refusal))

@@ -5,14 +5,13 @@ use Rattle.ir_event.specs.types.declared.refusal.Refusal.TheVariants.{Memory}
 use Rattle.mlir_work_mixed.specs.transforms.Applying.{applying_own}
 use Rattle.mlir_work_mixed.specs.transforms.rewriter.Commands.{Ask, Command, Follows, Response, Replied, TextRefusedAt}
 use Rattle.mlir_work_mixed.specs.transforms.rewriter.Machine as call
-use Rattle.mlir_work_mixed.specs.transforms.rewriter.Machine.{Goes, IsFullSo, Nothing, Refused, Reply, State}
+use Rattle.mlir_work_mixed.specs.transforms.rewriter.Machine.{Nothing, Refused, State}
 use Rattle.mlir_work_book.specs.Shelf.{Kept}
 use Rattle.mlir_work_session.specs.declared.manner.Manner.{Manner}
 use Rattle.mlir_work_session.specs.Machine.{AsksRoom, FullSo, Obeys}
 use Rattle.mlir_work_session.specs.Sittings.{AppliesOwn, BesideRoom, ObeysBeside}
 use Rattle.mlir_work_session.proofs.Obeying.{SomeAnswer, obeys_within, some_answer}
 use Rattle.mlir_work_session.proofs.Panels.{all_stay}
-use Rattle.mlir_work_session.proofs.Room.{replied, widened}
 
 module _ (manner : Manner) where
   -- for want of memory nothing is applied
@@ -46,10 +45,3 @@ module _ (manner : Manner) where
 
   pub beside_some_room : (own : Option (Kept × ℕ)) (full : Type 0) (s : State) (c : Command) (k : Kept) (x : ℕ) (response : Response) → own ≡ Some (k, x) → FullSo full s (applying_own k.shape x) response → BesideRoom full manner own s c response
   beside_some_room own full s c k x response e h = subst (λ (o : Option (Kept × ℕ)). BesideRoom full manner o s c response) (sym e) h
-
--- a pattern that was applied, or not
-pub applies_own : (k : Kept) (x : ℕ) (s t : State) (response : Response) (reply : Reply) → response ≡ Replied reply → Goes s (call.Change (applying_own k.shape x)) reply Nothing t → AppliesOwn k x s response [] t
-applies_own k x s t response reply is goes = (subst (λ (r : Response). Follows s (Ask (call.Change (applying_own k.shape x))) r Nothing t) (sym is) goes, refl)
-
-pub own_room : (k : Kept) (x : ℕ) (s : State) (response : Response) (reply : Reply) (added full : Type 0) → (added → full) → response ≡ Replied reply → IsFullSo added s (applying_own k.shape x) reply → FullSo full s (applying_own k.shape x) response
-own_room k x s response reply added full more is so = replied full s (applying_own k.shape x) response reply is (λ e. widened more (so e))

@@ -19,7 +19,7 @@ use Rattle.mlir_work_script_base.specs.Lines.{lines_of}
 use Rattle.mlir_work_script_base.specs.Writes.{Stream}
 use Rattle.mlir_work_script_base.specs.Limits.{most_script_bytes}
 use Rattle.mlir_work_session.specs.Machine.{Obeys, response_of}
-use Rattle.mlir_work_book.specs.Notices.{IsWithin, Plain}
+use Rattle.mlir_work_book.specs.Notices.{IsWithin, Plain, is_right_under}
 use Rattle.mlir_work_book.specs.Replies.{is_accepted}
 use Rattle.mlir_work_book.specs.Shelf.{Book}
 use Rattle.mlir_work_book.specs.Told.{reply_line}
@@ -199,6 +199,12 @@ printed_bounded : (bytes : ℕ) (t : Operation) (reply : Reply) (shows : List �
 printed_bounded bytes t reply shows (inl h) = subst (λ (r : Reply). IsWithin bytes (Plain (response_of r))) (sym h.0) (λ why offset e. absurd (let f : Plain (Replied Done) ≡ Plain (TextRefusedAt why offset) = e in cc))
 printed_bounded bytes t reply shows (inr h) = subst (λ (r : Reply). IsWithin bytes (Plain (response_of r))) (sym h.0) (λ why offset e. absurd (let f : Plain (Replied (Refused Memory)) ≡ Plain (TextRefusedAt why offset) = e in cc))
 
+-- and is right where it is accepted, in a strict run too
+printed_right : (strict : Bool) (t : Operation) (reply : Reply) (shows : List ℕ) → IsPrinted t reply shows → is_right_under strict None (Plain (response_of reply)) shows ≡ is_accepted (response_of reply)
+printed_right false t reply shows p = refl
+printed_right true t reply shows (inl p) = subst (λ (r : Reply). is_right_under true None (Plain (response_of r)) shows ≡ is_accepted (response_of r)) (sym p.0) refl
+printed_right true t reply shows (inr p) = subst (λ (r : Reply). is_right_under true None (Plain (response_of r)) shows ≡ is_accepted (response_of r)) (sym p.0) refl
+
 none_is : (o : Option Refusal) → is_none o ≡ true → None ≡ o
 none_is None e = refl
 none_is (Some x) e = absurd (true≢false (sym e))
@@ -207,7 +213,8 @@ pub print_step : (way : Way) → way.manner.ends ≡ false → (n : ℕ) (s : Si
     (later : ℕ) (rest : List ℕ) → Runs way (n + 1) s (lines_of more) later rest → Runs way n s (lines_of text) (worse (is_accepted (response_of reply)) later) ((reply_line n (response_of reply) ++ shows) ++ rest)
 print_step way unend n s text line more reply shows e prints f p later rest h =
     let is = (and_parts _ _ prints).1 in
-    run_step way n s text line more None (line_says line) (Plain (response_of reply)) shows s (reply_line n (response_of reply) ++ shows) e (none_is _ (and_parts _ _ prints).0) refl f (printed way s (line_says line) reply shows is (sym f) p) (unended way.manner.ends (IsReplied way.manner.explain (line_says line) (not way.manner.brief && not (asks (line_says line))) s.state n None (Plain (response_of reply)) shows) (reply_line n (response_of reply) ++ shows) unend (unlisted way.manner.explain way.manner.brief s.state n (line_says line) reply shows is (sym f) p)) (printed_bounded way.manner.bytes s.state.held.tree reply shows p) later rest h
+    subst (λ (b : Bool). Runs way n s (lines_of text) (worse b later) ((reply_line n (response_of reply) ++ shows) ++ rest)) (printed_right way.manner.strict s.state.held.tree reply shows p)
+    (run_step way n s text line more None (line_says line) (Plain (response_of reply)) shows s (reply_line n (response_of reply) ++ shows) e (none_is _ (and_parts _ _ prints).0) refl f (printed way s (line_says line) reply shows is (sym f) p) (unended way.manner.ends (IsReplied way.manner.explain (line_says line) (not way.manner.brief && not (asks (line_says line))) s.state n None (Plain (response_of reply)) shows) (reply_line n (response_of reply) ++ shows) unend (unlisted way.manner.explain way.manner.brief s.state n (line_says line) reply shows is (sym f) p)) (printed_bounded way.manner.bytes s.state.held.tree reply shows p) later rest h)
 
 -- ---- sessions
 

@@ -13,6 +13,7 @@ use Rattle.ir_event.specs.types.declared.refusal.Refusal.TheVariants.{Memory, To
 use Rattle.ir_event.proofs.of_types.CallNumbers.{new_name, name_stands}
 use Rattle.ir_event.proofs.of_types.Growth.{grows_refl, grows_trans, front_length}
 use Rattle.ir_event.proofs.of_types.Terms.{attr_stays}
+use Rattle.ir_event.specs.trees.Meaning.{Operation}
 use Rattle.ir_event.specs.trees.declared.place.Place.{Place}
 use Rattle.ir_event.specs.store.Stored.{Stored}
 use Rattle.ir_event.specs.declared.world.World.{World}
@@ -45,6 +46,9 @@ held_text h w ctx store bytes is = is ∙ ap (λ m. text_of m.tree) (module_seen
 
 pub held_ids : (h : Held) (w : World) → w.ctx ≡ h.ctx → w.store ≡ h.store → (bytes : List ℕ) → bytes ≡ ids_text (module_in w).tree → bytes ≡ ids_text (module_held h).tree
 held_ids h w ctx store bytes is = is ∙ ap (λ m. ids_text m.tree) (module_seen h w ctx store)
+
+pub held_bytes : (h : Held) (w : World) → w.ctx ≡ h.ctx → w.store ≡ h.store → (f : Operation → List ℕ) (bytes : List ℕ) → bytes ≡ f (module_in w).tree → bytes ≡ f (module_held h).tree
+held_bytes h w ctx store f bytes is = is ∙ ap (λ m. f m.tree) (module_seen h w ctx store)
 
 pub sound_holds : (c d : Things) → d ≡ c → IsSound d → Holds c
 sound_holds c d same sound = subst Holds same sound.holds

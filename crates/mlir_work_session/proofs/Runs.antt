@@ -9,10 +9,10 @@ use Rattle.mlir_work_script.specs.Commands.{Spoken, Nothing, Bad, Obey, Ordered,
 use Rattle.mlir_work_script.specs.Expecting.{line_expects}
 use Rattle.mlir_work_script_base.specs.Lines.{lines_of}
 use Rattle.mlir_work_script_base.specs.Writes.{Stream}
-use Rattle.mlir_work_book.specs.Notices.{IsWithin, Notice, Plain}
+use Rattle.mlir_work_book.specs.Notices.{IsWithin, Notice, Plain, is_right_under}
 use Rattle.ir_event.specs.Modules.{Module}
 use Rattle.mlir_work_session.specs.Explained.{IsAbout, about_notice}
-use Rattle.mlir_work_session.specs.Output.{IsAnswered, IsEnded, IsToldOf, Line, Way, Replied, Replies, IsReplied, Runs, accepted_behind, end_of, number_behind, worse, says_nothing, asks, told_text, is_right}
+use Rattle.mlir_work_session.specs.Output.{IsAnswered, IsEnded, IsToldOf, Line, Way, Replied, Replies, IsReplied, Runs, accepted_behind, end_of, number_behind, worse, says_nothing, asks, told_text}
 use Rattle.mlir_work_session.specs.Sittings.{Sitting, own_of}
 use Rattle.mlir_work_session.specs.Ran.{RanOut}
 use Rattle.mlir_work_session.proofs.Listings.{some_listing_if}
@@ -49,7 +49,7 @@ runs_replied way n s text line more status out e f h = rw e (line_replied (λ m 
 -- a reply, and then what may follow, is what may be from here
 pub run_step : (way : Way) (n : ℕ) (s : Sitting) (text line more : List ℕ) (expected : Option Refusal) (spoken : Spoken) (reply : Notice) (shows : List ℕ) (t : Sitting) (told : List ℕ) →
     lines_of text ≡ line ∷ lines_of more → expected ≡ line_expects line → spoken ≡ line_says line → false ≡ says_nothing spoken → Replies way s spoken reply shows t → IsEnded way.manner.ends (IsReplied way.manner.explain spoken (not way.manner.brief && not (asks spoken)) t.state n expected reply shows) told → IsWithin way.manner.bytes reply →
-    (later : ℕ) (rest : List ℕ) → Runs way (n + 1) t (lines_of more) later rest → Runs way n s (lines_of text) (worse (is_right expected reply) later) (told ++ rest)
+    (later : ℕ) (rest : List ℕ) → Runs way (n + 1) t (lines_of more) later rest → Runs way n s (lines_of text) (worse (is_right_under way.manner.strict expected reply shows) later) (told ++ rest)
 run_step way n s text line more expected spoken reply shows t told e same is f r told_is full later rest h =
     rw e (line_replied (λ m t st o. Runs way m t (lines_of more) st o) way n s (line_expects line) (line_says line) _ _ (rw (← is) (sym f)) (record {
       notice = reply;
@@ -108,7 +108,7 @@ run_answered way n s text line more t told out e answered later rest h = rw e (l
 
 -- a reply, what it shows, a listing and the end of the answer
 pub told_of : (way : Way) (n : ℕ) (s : Sitting) (expected : Option Refusal) (spoken line_spoken : Spoken) (reply : Notice) (shows : List ℕ) (t : Sitting) (text : List ℕ) (accepted : Bool) →
-    spoken ≡ line_spoken → false ≡ says_nothing spoken → Replies way s spoken reply shows t → IsReplied way.manner.explain spoken (not way.manner.brief && not (asks spoken)) t.state n expected reply shows text → IsWithin way.manner.bytes reply → accepted ≡ is_right expected reply →
+    spoken ≡ line_spoken → false ≡ says_nothing spoken → Replies way s spoken reply shows t → IsReplied way.manner.explain spoken (not way.manner.brief && not (asks spoken)) t.state n expected reply shows text → IsWithin way.manner.bytes reply → accepted ≡ is_right_under way.manner.strict expected reply shows →
     IsToldOf way n s expected line_spoken t accepted (text ++ end_of way.manner.ends)
 told_of way n s expected spoken line_spoken reply shows t text accepted is f r told full well =
     rw (← is) (record {
@@ -133,7 +133,7 @@ some_replied Rest way n s expected spoken reply shows t r full some =
     let more = some_listing_if (not way.manner.brief && not (asks spoken)) t.state in
     let rest = some (n + 1) t in
     let told = (told_text n expected reply about.0 ++ (shows ++ more.0)) ++ end_of way.manner.ends in (
-      worse (is_right expected reply) rest.0,
+      worse (is_right_under way.manner.strict expected reply shows) rest.0,
       told ++ rest.1,
       record {
         notice = reply;

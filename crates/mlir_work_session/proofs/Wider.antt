@@ -1,5 +1,5 @@
 -- What is an answer in an input is one in a longer input.
-use Rattle.std.proofs.Common.{◌≡◌, ◌∙◌, refl, ◌+◌, ◌≤◌, inl, inr, ℕ, List, arith, Bool, true, false, Option, Some, None}
+use Rattle.std.proofs.Common.{◌≡◌, ◌∙◌, ap, refl, ◌+◌, ◌≤◌, inl, inr, ℕ, List, ◌++◌, arith, Bool, true, false, Option, Some, None}
 use Rattle.ir_event.specs.types.declared.refusal.Refusal.{Refusal}
 use Rattle.ir_event.specs.Modules.{Module}
 use Rattle.ir_text.specs.Public.{SpellsAttr}
@@ -11,8 +11,10 @@ use Rattle.mlir_work_script.specs.Commands.{Spoken, Nothing, Bad, Obey, Ordered,
 use Rattle.mlir_work_script.specs.Orders.{Attach, CanonAt, Order, PrintIds, Rewrite, Trace, TraceConvert, Why, ReportOf}
 use Rattle.mlir_work_book.specs.Notices.{Notice}
 use Rattle.mlir_work_book.specs.Shelf.{Book, Kept}
-use Rattle.mlir_work_session.specs.Machine.{AsksIn, Fulfils, OrdersIn, order_bytes}
-use Rattle.mlir_work_session.specs.Mixing.{FulfilsBeside, Mix, mix_bytes, mix_of}
+use Rattle.mlir_work_book.specs.Replies.{is_accepted}
+use Rattle.mlir_work_mixed.specs.Unproved.{unproved_of}
+use Rattle.mlir_work_session.specs.Machine.{AsksIn, Fulfils, OrdersIn, order_bytes, told_if}
+use Rattle.mlir_work_session.specs.Mixing.{FulfilsBeside, Mix, mix_bytes, mix_of, mix_trace}
 use Rattle.mlir_work_session.specs.Output.{Line, Way, way_of, Replied, Replies}
 use Rattle.mlir_work_session.specs.Sittings.{ObeysBeside, Sitting, own_of}
 
@@ -79,13 +81,16 @@ module _ (way : Way) (bytes : ℕ) (longer : way.manner.bytes ≤ bytes) where
   fulfils_wider : (s : State) (order : Order) (response : Response) (shows : List ℕ) (t : State) → Fulfils way s order response shows t → Fulfils wider s order response shows t
   fulfils_wider s order response shows t h = record { asked = h.asked; shows = h.shows; asks = orders_wider order s.held h.asked h.asks; follows = h.follows; text = h.text ∙ bytes_wider order s.held response h.shows }
 
-  mix_bytes_wider : (tells : Bool) (book : Book) (x : Mix) (m : Module) (response : Response) → mix_bytes tells way.manner book x m response ≡ mix_bytes tells wider.manner book x m response
-  mix_bytes_wider true book x m response = refl
-  mix_bytes_wider false book x m response = refl
+  mix_trace_wider : (tells : Bool) (book : Book) (x : Mix) (m : Module) → mix_trace tells way.manner book x m ≡ mix_trace tells wider.manner book x m
+  mix_trace_wider true book x m = refl
+  mix_trace_wider false book x m = refl
+
+  mix_bytes_wider : (book : Book) (x : Mix) (m : Module) (response : Response) → mix_bytes way.manner book x m response ≡ mix_bytes wider.manner book x m response
+  mix_bytes_wider book x m response = ap (λ (trace : List ℕ). told_if (is_accepted response) (unproved_of book x.names m.tree ++ trace)) (mix_trace_wider x.tells book x m)
 
   mixed_wider : (book : Book) (own : Option Mix) (s : State) (order : Order) (response : Response) (shows : List ℕ) (t : State) → FulfilsBeside way book own s order response shows t → FulfilsBeside wider book own s order response shows t
   mixed_wider book None s order response shows t h = fulfils_wider s order response shows t h
-  mixed_wider book (Some x) s order response shows t h = record { asked = h.asked; asks = h.asks; follows = h.follows; text = h.text ∙ mix_bytes_wider x.tells book x s.held response }
+  mixed_wider book (Some x) s order response shows t h = record { asked = h.asked; asks = h.asks; follows = h.follows; text = h.text ∙ mix_bytes_wider book x s.held response }
 
   replies_wider : (s : Sitting) (spoken : Spoken) (notice : Notice) (shows : List ℕ) (t : Sitting) → Replies way s spoken notice shows t → Replies wider s spoken notice shows t
   replies_wider s Nothing notice shows t h = absurd h

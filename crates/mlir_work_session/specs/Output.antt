@@ -17,7 +17,7 @@ use Rattle.mlir_work_script_base.specs.Limits.{most_script_bytes}
 use Rattle.mlir_work_script_base.specs.Lines.{lines_of}
 use Rattle.mlir_work_script.specs.Orders.{Order, PrintIds, ReportOf, Why}
 use Rattle.mlir_work_script.specs.Replies.{refused_line, attach_refused_line, kind_line, stale_line, kind_memory_line, module_memory_line}
-use Rattle.mlir_work_book.specs.Notices.{IsWithin, Notice, Plain}
+use Rattle.mlir_work_book.specs.Notices.{IsWithin, Notice, Plain, is_right_under}
 use Rattle.mlir_work_book.specs.Shelf.{Book}
 use Rattle.mlir_work_book.specs.Shelves.{Shelves}
 use Rattle.mlir_work_session_base.specs.RowText.{rows_text}
@@ -129,7 +129,7 @@ pub record Replied (Rest : ℕ → Sitting → ℕ → List ℕ → Type 0) (way
   pub replied : IsEnded way.manner.ends (IsReplied way.manner.explain spoken (not way.manner.brief && not (asks spoken)) after.state n expected notice shows) text
   pub full : IsWithin way.manner.bytes notice
   pub goes_on : Rest (n + 1) after later rest
-  pub status_is : status ≡ worse (is_right expected notice) later
+  pub status_is : status ≡ worse (is_right_under way.manner.strict expected notice shows) later
   pub out_is : out ≡ text ++ rest
 
 abbrev pub Line : (ℕ → Sitting → ℕ → List ℕ → Type 0) → Way → ℕ → Sitting → Option Refusal → Spoken → ℕ → List ℕ → Type 0
@@ -154,7 +154,7 @@ pub record IsToldOf (way : Way) (n : ℕ) (s : Sitting) (expected : Option Refus
   pub replies : Replies way s spoken notice shows t
   pub replied : IsEnded way.manner.ends (IsReplied way.manner.explain spoken (not way.manner.brief && not (asks spoken)) t.state n expected notice shows) out
   pub full : IsWithin way.manner.bytes notice
-  pub right_is : right ≡ is_right expected notice
+  pub right_is : right ≡ is_right_under way.manner.strict expected notice shows
 
 -- one step of the machine: a line says nothing, and nothing is written; or it is replied to, and what came is right or not
 abbrev pub IsAnswered : Way → ℕ → Sitting → Option Refusal → Spoken → Sitting → Option Bool → List ℕ → Type 0

@@ -1,5 +1,5 @@
 -- A session between lines: a bench, and a book of patterns of one's own.
-use Rattle.std.specs.Prelude.{◌≡◌, ℕ, List, [], Option, Some, None, option_map}
+use Rattle.std.specs.Prelude.{◌≡◌, ℕ, List, Option, Some, None, option_map}
 use Rattle.ir_event.specs.Listener.{Listener}
 use Rattle.mlir_work_mixed.specs.transforms.rewriter.Benched.{Benched, state_of}
 use Rattle.mlir_work_mixed.specs.transforms.rewriter.Commands.{Apply, Ask, Command, Follows, Response}
@@ -7,11 +7,13 @@ use Rattle.mlir_work_mixed.specs.transforms.rewriter.Machine as call
 use Rattle.mlir_work_mixed.specs.transforms.rewriter.Machine.{Nothing, State}
 use Rattle.mlir_work_mixed.specs.transforms.Applying.{applying_own}
 use Rattle.mlir_work_book.specs.Notices.{Notice, Plain}
+use Rattle.mlir_work_book.specs.Replies.{is_accepted}
 use Rattle.mlir_work_book.specs.Shelf.{Book, Kept, book_view}
 use Rattle.mlir_work_book.specs.Book.{Book as BookCode}
 use Rattle.mlir_work_mixed.specs.Mixed.{own_named}
+use Rattle.mlir_work_mixed.specs.Unproved.{unproved_one}
 use Rattle.mlir_work_session.specs.declared.manner.Manner.{Manner}
-use Rattle.mlir_work_session.specs.Machine.{AsksRoom, FullSo, Obeys}
+use Rattle.mlir_work_session.specs.Machine.{AsksRoom, FullSo, Obeys, told_if}
 
 pub record Sitting : Type 0 where
   pub state : State
@@ -30,9 +32,12 @@ abbrev pub own_of : Command → Book → Option (Kept × ℕ)
 own_of (Apply name x) book = option_map (λ k. (k, x)) (own_named name book)
 own_of _ book = None
 
--- a pattern is applied at an operation, as a rule is
+-- a pattern is applied at an operation, as a rule is. If that is accepted, and no check proves the pattern for the module
+-- before, a line below the reply says so
 abbrev pub AppliesOwn : Kept → ℕ → State → Response → List ℕ → State → Type 0
-AppliesOwn k x s response bytes t = Follows s (Ask (call.Change (applying_own k.shape x))) response Nothing t × (bytes ≡ [])
+AppliesOwn k x s response bytes t =
+    Follows s (Ask (call.Change (applying_own k.shape x))) response Nothing t
+    × (bytes ≡ told_if (is_accepted response) (unproved_one k s.held.tree))
 
 -- a command that names a pattern of the book applies it, and each other is obeyed as by a bench
 abbrev pub ObeysBeside : Manner → Option (Kept × ℕ) → State → Command → Response → List ℕ → State → Type 0

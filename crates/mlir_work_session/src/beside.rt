@@ -1,12 +1,14 @@
 //! Commands over a bench and a book beside it: one that names a pattern of the book applies it.
-ghost use Rattle.std.specs.Prelude.{◌≡◌, [], option_map};
+ghost use Rattle.std.specs.Prelude.{◌≡◌, option_map};
 ghost use Rattle.ir_text.specs.Public.{IsFull};
 ghost use Rattle.mlir_work_script.specs.Commands.{said_of};
-ghost use Rattle.mlir_work_mixed.specs.transforms.Applying.{applying_own};
+ghost use Rattle.mlir_work_mixed.specs.transforms.Applying.{applied_reply, applying_own};
 ghost use Rattle.mlir_work_mixed.specs.transforms.rewriter.Benched.{IsKept, state_of};
+ghost use Rattle.mlir_work_mixed.specs.transforms.rewriter.Commands.{Replied};
 ghost use Rattle.mlir_work_book.specs.Notices.{IsWithin, notice_of};
+ghost use Rattle.mlir_work_book.specs.Replies.{is_accepted};
 ghost use Rattle.mlir_work_book.specs.Shelf.{book_view, kept_view};
-ghost use Rattle.mlir_work_session.specs.Machine.{FullSo, response_of};
+ghost use Rattle.mlir_work_session.specs.Machine.{FullSo, response_of, told_if};
 ghost use Rattle.mlir_work_session.specs.Sittings.{AppliesOwn, BesideRoom, ByBench, ObeysBeside, own_of, sitting_of};
 
 use crate::commands::obey;
@@ -17,12 +19,14 @@ use crate::shows::{Answered, plain};
 use crate::unread::reply_within;
 use ir_event::analysis::Analysis;
 use ir_event::types::ids::OpId;
+use ir_event::types::refusal::Refusal;
 use mlir_work_book::book::{Book, Held};
 use mlir_work_book::notice::{Notice, Noticed};
 use mlir_work_mixed::own::own_named;
 use mlir_work_mixed::transforms::own;
 use mlir_work_mixed::transforms::rewriter::Bench;
 use mlir_work_mixed::transforms::rewriter::laws::led_benches_are_kept;
+use mlir_work_mixed::unproved::unproved_one;
 use mlir_work_script::command::Command;
 use std::alloc::Global;
 
@@ -39,16 +43,34 @@ fn own_of<'a>(book: &'a Book, command: &Command<'_>) -> Option<(&'a Held, OpId)>
     }
 }
 
-/// Applies a pattern that was found at the operation that is named.
-fn apply_own<L: Analysis>(alloc: Global, bench: &mut Bench<L>, found: (&Held, OpId)) -> Reply
+/// The reply to an `apply` of a pattern, and below it the line of one that no check proves, unless it was refused.
+fn told_applied(alloc: Global, unproved: Vec<u8>, called: Result<bool, Refusal>) -> Answered
+    ensures reply { response_of result.reply ≡ Replied (applied_reply called) }
+    ensures shows { result.shows.items ≡ told_if (is_accepted (Replied (applied_reply called))) unproved.items }
+{
+    match called {
+        Ok(applied) => Answered {
+            reply: reply_applied(Ok(applied)),
+            shows: unproved,
+        },
+        Err(refusal) => plain(alloc, Reply::Refused(refusal)),
+    }
+}
+
+/// Applies a pattern that was found at the operation that is named, and says if no check proves it for the module.
+fn apply_own<L: Analysis>(alloc: Global, bench: &mut Bench<L>, found: (&Held, OpId)) -> Answered
     requires { IsKept L.meaning bench.old }
-    ensures applies { AppliesOwn (kept_view found.entry.0.now) found.entry.1 (state_of L.meaning bench.old) (response_of result) [] (state_of L.meaning bench.new) }
-    ensures room { FullSo (IsFull bench.new.desk.ctx) (state_of L.meaning bench.old) (applying_own (kept_view found.entry.0.now).shape found.entry.1) (response_of result) }
+    ensures applies { AppliesOwn (kept_view found.entry.0.now) found.entry.1 (state_of L.meaning bench.old) (response_of result.reply) result.shows.items (state_of L.meaning bench.new) }
+    ensures room { FullSo (IsFull bench.new.desk.ctx) (state_of L.meaning bench.old) (applying_own (kept_view found.entry.0.now).shape found.entry.1) (response_of result.reply) }
     ensures kept { IsKept L.meaning bench.new }
     ensures mode { bench.new.desk.ctx.opaque ≡ bench.old.desk.ctx.opaque }
 {
     led_benches_are_kept::<L>();
-    reply_applied(own::apply(alloc, bench, &found.0.pattern, found.1))
+    let Ok(unproved) = unproved_one(alloc, bench.world(), found.0) else {
+        return plain(alloc, Reply::Refused(Refusal::Memory));
+    };
+    let called = own::apply(alloc, bench, &found.0.pattern, found.1);
+    told_applied(alloc, unproved, called)
 }
 
 /// Obeys a command of a script that is run so, beside a book, or leaves the module as it is.
@@ -67,7 +89,7 @@ pub fn obey_beside<L: Analysis>(
     ensures mode { bench.new.desk.ctx.opaque ≡ bench.old.desk.ctx.opaque }
 {
     match own_of(book, command) {
-        Some(found) => plain(alloc, apply_own(alloc, bench, found)),
+        Some(found) => apply_own(alloc, bench, found),
         None => obey(alloc, manner, bench, command),
     }
 }

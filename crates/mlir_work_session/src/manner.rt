@@ -16,4 +16,6 @@ pub struct Manner {
     pub opaque: bool,
     /// Whether what a refusal is about is told behind it.
     pub explain: bool,
+    /// Whether a command isn't right if it rewrites by a pattern that no check proves.
+    pub strict: bool,
 }

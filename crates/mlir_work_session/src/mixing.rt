@@ -1,5 +1,5 @@
 //! Orders over a bench and a book beside it: a list that names a pattern of the book is rewritten by rules and patterns.
-ghost use Rattle.std.specs.Prelude.{◌≡◌, [], map, option_map};
+ghost use Rattle.std.specs.Prelude.{◌≡◌, ◌++◌, map, option_map};
 ghost use Rattle.ir_text.specs.Public.{IsFull};
 ghost use Rattle.mlir_work_script.specs.Orders.{order_of};
 ghost use Rattle.mlir_work_mixed.specs.transforms.TraceText.{trace_text};
@@ -18,7 +18,6 @@ ghost use Rattle.mlir_work_session.specs.MixViews.{mix_view};
 use crate::manner::Manner;
 use crate::orders::fulfil;
 use crate::reply::Reply;
-use crate::replying::reply_canonical;
 use crate::shows::{Answered, plain};
 use crate::tracing::told;
 use crate::transforming::limit_of;
@@ -33,6 +32,7 @@ use mlir_work_mixed::transforms::rewriter::Bench;
 use mlir_work_mixed::transforms::rewriter::laws::led_benches_are_kept;
 use mlir_work_mixed::transforms::trace::rewrite_own_traced;
 use mlir_work_mixed::transforms::trace_lines::TraceLines;
+use mlir_work_mixed::unproved::unproved_of;
 use mlir_work_script::order::Order;
 use mlir_work_session_base::supplied::Supplied;
 use std::alloc::Global;
@@ -72,51 +72,52 @@ fn mix_of<'a>(book: &Book, order: &Order<'a>) -> Option<Mix<'a>>
     }
 }
 
-/// Rewrites by rules and patterns until none of them applies any more, or so many times.
+/// Rewrites by rules and patterns until none of them applies any more, or so many times, with lines below the reply.
 fn rewrite_plainly<L: Analysis>(
     alloc: Global,
     bench: &mut Bench<L>,
     tried: &[Tried<'_>],
+    lines: TraceLines,
     limit: u32,
 ) -> Answered
     requires kept { IsKept L.meaning bench.old }
     requires may { AreAttempts (attempts_of tried.now) }
     ensures follows { Follows (state_of L.meaning bench.old) (Ask (Change (rewriting (by_attempts (attempts_of tried.now)) limit))) (response_of result.reply) Nothing (state_of L.meaning bench.new) }
-    ensures shows { result.shows.items ≡ [] }
+    ensures shows { result.shows.items ≡ told_if (is_accepted (response_of result.reply)) lines.text.items }
     ensures room { FullSo (IsFull bench.new.desk.ctx) (state_of L.meaning bench.old) (rewriting (by_attempts (attempts_of tried.now)) limit) (response_of result.reply) }
     ensures kept { IsKept L.meaning bench.new }
     ensures mode { bench.new.desk.ctx.opaque ≡ bench.old.desk.ctx.opaque }
 {
     led_benches_are_kept::<L>();
-    plain(
-        alloc,
-        reply_canonical(rewrite_tried(alloc, bench, tried, limit)),
-    )
+    let called = rewrite_tried(alloc, bench, tried, limit);
+    told(alloc, lines, called)
 }
 
-/// Rewrites by rules and patterns until none of them applies any more, or so many times, and tells each rewrite.
+/// Rewrites by rules and patterns until none of them applies any more, or so many times, and tells each rewrite behind
+/// lines that are there.
 fn rewrite_telling<L: Analysis>(
     alloc: Global,
     bench: &mut Bench<L>,
     tried: &[Tried<'_>],
-    names: Vec<Vec<u8>>,
+    lines: TraceLines,
     limit: u32,
 ) -> Answered
     requires kept { IsKept L.meaning bench.old }
     requires may { AreAttempts (attempts_of tried.now) }
     ensures follows { Follows (state_of L.meaning bench.old) (Ask (Change (rewriting (by_attempts (attempts_of tried.now)) limit))) (response_of result.reply) Nothing (state_of L.meaning bench.new) }
-    ensures shows { result.shows.items ≡ told_if (is_accepted (response_of result.reply)) (trace_text (map (λ n. n.items) names.items) (trace_of (by_attempts (attempts_of tried.now)) limit (state_of L.meaning bench.old).held)) }
+    ensures shows { result.shows.items ≡ told_if (is_accepted (response_of result.reply)) (lines.text.items ++ trace_text (map (λ n. n.items) lines.names.items) (trace_of (by_attempts (attempts_of tried.now)) limit (state_of L.meaning bench.old).held)) }
     ensures room { FullSo (IsFull bench.new.desk.ctx) (state_of L.meaning bench.old) (rewriting (by_attempts (attempts_of tried.now)) limit) (response_of result.reply) }
     ensures kept { IsKept L.meaning bench.new }
     ensures mode { bench.new.desk.ctx.opaque ≡ bench.old.desk.ctx.opaque }
 {
     led_benches_are_kept::<L>();
-    let mut lines = TraceLines::naming(alloc, names);
+    let mut lines = lines;
     let called = rewrite_own_traced(alloc, bench, tried, limit, &mut lines);
     told(alloc, lines, called)
 }
 
-/// Rewrites by the rules and patterns of a list, where each name is that of one.
+/// Rewrites by the rules and patterns of a list, where each name is that of one, and says which patterns no check proves
+/// for the module.
 fn rewrite_mix<L: Analysis>(
     alloc: Global,
     manner: &Manner,
@@ -135,11 +136,15 @@ fn rewrite_mix<L: Analysis>(
         Ok(None) => return plain(alloc, Reply::Refused(Refusal::NoSuchKey)),
         Err(refusal) => return plain(alloc, Reply::Refused(refusal)),
     };
+    let Ok(text) = unproved_of(alloc, bench.world(), book, mix.rules) else {
+        return plain(alloc, Reply::Refused(Refusal::Memory));
+    };
+    let lines = TraceLines { text, names };
     let limit = limit_of(manner, mix.limit);
     if mix.tells {
-        rewrite_telling(alloc, bench, &tried, names, limit)
+        rewrite_telling(alloc, bench, &tried, lines, limit)
     } else {
-        rewrite_plainly(alloc, bench, &tried, limit)
+        rewrite_plainly(alloc, bench, &tried, lines, limit)
     }
 }
 

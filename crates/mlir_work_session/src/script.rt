@@ -26,7 +26,7 @@ use ir_event::analysis::Analysis;
 use ir_event::types::refusal::Refusal;
 use mlir_work_book::book::Book;
 use mlir_work_book::explained::put_told;
-use mlir_work_book::notice::{Notice, Noticed, is_right, replied};
+use mlir_work_book::notice::{Notice, Noticed, is_right_under, replied};
 use mlir_work_book::orders::shelve;
 use mlir_work_mixed::transforms::rewriter::Bench;
 use mlir_work_script::command::{Command, Line, read_line};
@@ -198,7 +198,8 @@ pub(crate) fn put_end<W: Sink>(writer: &mut W, ends: bool) -> Result<(), WriteFa
 
 /// Answers a line of a script over a module, listeners that each agree with it or are stale, and a book of patterns: `n` is the number of the
 /// next reply, and `line` has no line feed. Writes what is written for it, and says whether what came is right: the command
-/// was accepted, or refused as the line expects. Of a line that says nothing it says nothing, and nothing is written.
+/// was accepted, in a strict run by no pattern that no check proves, or refused as the line expects. Of a line that says
+/// nothing it says nothing, and nothing is written.
 pub fn answer_line<L: Supplied, W: Sink>(
     alloc: Global,
     manner: &Manner,
@@ -225,7 +226,7 @@ pub fn answer_line<L: Supplied, W: Sink>(
         Err(fault) => return Err(fault),
     }
     match put_end(writer, manner.ends) {
-        Ok(()) => Ok(Some(is_right(&expected, &answered.notice))),
+        Ok(()) => Ok(Some(is_right_under(manner.strict, &expected, &answered))),
         Err(fault) => Err(fault),
     }
 }
@@ -253,7 +254,7 @@ pub fn accepted_behind(accepted: bool, told: Option<bool>) -> bool
 
 /// Runs a script over a module, listeners that each agree with it or are stale, and a book of patterns, and writes as it
 /// goes. The status is 1 where a command was refused of which that wasn't expected, or not as it was, or a check of a
-/// pattern found that it fails.
+/// pattern found that it fails; in a strict run also where a command rewrites by a pattern that no check proves.
 pub fn run_script<L: Supplied, W: Sink>(
     alloc: Global,
     manner: &Manner,

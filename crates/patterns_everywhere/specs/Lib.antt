@@ -2,3 +2,4 @@ pub mod Polynomials
 pub mod Everywhere
 pub mod Views
 pub mod Lasting
+pub mod Passing

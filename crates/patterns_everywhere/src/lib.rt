@@ -5,5 +5,6 @@ mod bits;
 pub mod everywhere;
 mod formal;
 pub mod laws;
+pub mod passing;
 mod polynomials;
 mod types;

@@ -1,8 +1,7 @@
 -- Patterns that match no choices and make no quotients and remainders. Where such a pattern is matched, a value that is
 -- poison makes its root poison; and what it makes is defined whatever is poison. So where it keeps what is there at the
 -- kinds found it keeps what a module computes: nothing is asked of the values that it matches.
-use Rattle.std.specs.Prelude.{◌≡◌, ℕ, List, [], ◌∷◌, ◌++◌, map, Bool, true, false, ◌&&◌, not, Some}
-use Rattle.std.specs.List.{list_all}
+use Rattle.std.specs.Prelude.{◌≡◌, ℕ, List, [], ◌∷◌, ◌++◌, map, Bool, true, ◌&&◌, Some}
 use Rattle.ir_types.specs.declared.bits.BitsKind.{BitsKind}
 use Rattle.ir_types.specs.declared.bits.BitsKind.TheVariants as kind
 use Rattle.ir_types.specs.Bits.{width_of}
@@ -16,12 +15,10 @@ use Rattle.patterns_base.specs.Rewrites.{becomes}
 use Rattle.patterns_check.specs.declared.verdict.Verdict.TheVariants as verdict
 use Rattle.patterns_check.specs.Checks.{AlwaysKeeps}
 use Rattle.patterns_check.specs.Families.{AreWidths, IsVerdict}
-use Rattle.patterns_check.specs.Outcomes.{divides}
 use Rattle.patterns_book.specs.declared.pattern.Form.{Form}
 use Rattle.patterns_book.specs.declared.pattern.Form.TheVariants as form
 use Rattle.patterns_book.specs.declared.pattern.New.{New}
 use Rattle.patterns_book.specs.declared.pattern.New.TheVariants as new
-use Rattle.patterns_book.specs.declared.pattern.Piece.{Piece}
 use Rattle.patterns_book.specs.Fitting.{content_at, content_with, fits, kind_at}
 use Rattle.patterns_book.specs.Matching.{Standing}
 use Rattle.patterns_book.specs.Planning.{kind_standing, typed}
@@ -32,35 +29,7 @@ use Rattle.patterns_meaning.specs.Meaning.{Assignment}
 use Rattle.patterns_meaning.specs.Better.{narrows}
 use Rattle.patterns_meaning.specs.Applied.{IsProper, kinds_matched, matched}
 use Rattle.patterns_meaning.specs.Keeping.{Computing, Improves, IsReady, done_after}
-
--- ---- of which patterns
-
--- an operation is known only where its operands are: a choice isn't, what it doesn't choose may be poison
-abbrev pub passes_poison : Form → Bool
-passes_poison (form.Pair o i j) = true
-passes_poison (form.Compare q i j) = true
-passes_poison (form.Select c i j) = false
-passes_poison (form.Resize c i) = true
-passes_poison (form.IndexCast c i) = true
-
-abbrev pub piece_passes : Piece → Bool
-piece_passes o = passes_poison o.form
-
--- an operation is defined whatever its operands are: a quotient or a remainder isn't
-abbrev pub is_always_defined : Form → Bool
-is_always_defined (form.Pair o i j) = not (divides o)
-is_always_defined (form.Compare q i j) = true
-is_always_defined (form.Select c i j) = true
-is_always_defined (form.Resize c i) = true
-is_always_defined (form.IndexCast c i) = true
-
-abbrev pub new_is_defined : New → Bool
-new_is_defined (new.Operation o) = is_always_defined o.form
-new_is_defined (new.Constant i t) = true
-
--- what is matched passes poison on, and what is made is always defined
-abbrev pub is_passing : Shape → Bool
-is_passing p = list_all piece_passes p.old && list_all new_is_defined p.new
+pub use Rattle.patterns_everywhere.specs.Passing.{passes_poison, piece_passes, is_always_defined, new_is_defined, is_passing}
 
 -- ---- at which kinds
 

@@ -3,10 +3,10 @@ use Rattle.mlir_work_session.proofs.Owning.{beside_none, beside_none_room, besid
 use Rattle.mlir_work_session.proofs.beside.obey_beside.Goals as goal
 
 pub returns-in-Some-clause-obeys : goal.returns-in-Some-clause-obeys
-returns-in-Some-clause-obeys g c = beside_some c.args.manner.now _ _ _ _ _ _ _ _ (sym c.in-Some.ensures) (rw (c.plain.ensures.reply, c.plain.ensures.shows) c.apply_own.ensures.applies)
+returns-in-Some-clause-obeys g c = beside_some c.args.manner.now _ _ _ _ _ _ _ _ (sym c.in-Some.ensures) c.apply_own.ensures.applies
 
 pub returns-in-Some-clause-room : goal.returns-in-Some-clause-room
-returns-in-Some-clause-room g c = beside_some_room c.args.manner.now _ _ _ _ _ _ _ (sym c.in-Some.ensures) (rw c.plain.ensures.reply c.apply_own.ensures.room)
+returns-in-Some-clause-room g c = beside_some_room c.args.manner.now _ _ _ _ _ _ _ (sym c.in-Some.ensures) c.apply_own.ensures.room
 
 pub returns-in-None-clause-obeys : goal.returns-in-None-clause-obeys
 returns-in-None-clause-obeys g c = beside_none c.args.manner.now _ _ _ _ _ _ (sym c.in-None.ensures) c.obey.ensures.obeys

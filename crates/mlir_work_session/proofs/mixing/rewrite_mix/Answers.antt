@@ -1,6 +1,11 @@
+use Rattle.std.proofs.Common.{ap, refl}
+use Rattle.std.specs.Prelude.{is_some}
+use Rattle.ir_event.specs.types.declared.refusal.Refusal.TheVariants.{Memory}
+use Rattle.mlir_work_mixed.specs.Unproved.{unproved_of}
 use Rattle.mlir_work_book.specs.Shelf.{book_view}
 use Rattle.mlir_work_session.specs.MixViews.{mix_view}
 use Rattle.mlir_work_session.proofs.Mixes.{bytes_told, bytes_untold, mixes_forgot, mixes_found, mixes_unnamed}
+use Rattle.mlir_work_session.proofs.Reading.{held_bytes}
 use Rattle.mlir_work_session.proofs.mixing.rewrite_mix.Goals as goal
 
 pub returns-in-Ok-None-clause-mixes : goal.returns-in-Ok-None-clause-mixes
@@ -11,14 +16,21 @@ pub returns-in-Err-clause-mixes : goal.returns-in-Err-clause-mixes
 returns-in-Err-clause-mixes g c =
     rw (c.plain-in-Err.ensures.reply, c.plain-in-Err.ensures.shows) (mixes_forgot c.args.manner.now (book_view c.args.book.now) (mix_view c.args.mix.now) _ c.in-Err.refusal c.in-Err.ensures.want.0 c.in-Err.ensures.want.1)
 
+pub returns-in_default-clause-mixes : goal.returns-in_default-clause-mixes
+returns-in_default-clause-mixes g c =
+    let m = rw c.in-Ok-Some.field-0-is at c.in-Ok-Some.ensures.mixed in
+    rw (c.plain-in_default.ensures.reply, c.plain-in_default.ensures.shows) (mixes_forgot c.args.manner.now (book_view c.args.book.now) (mix_view c.args.mix.now) _ Memory refl (ap is_some m.1))
+
 pub returns-then-mix-clause-mixes : goal.returns-then-mix-clause-mixes
 returns-then-mix-clause-mixes g c =
     let m = rw c.in-Ok-Some.field-0-is at c.in-Ok-Some.ensures.mixed in
+    let these = held_bytes c.args.bench.now.desk c.world.result.now c.world.ensures.ctx c.world.ensures.store (unproved_of (book_view c.args.book.now) (mix_view c.args.mix.now).names) c.in-Ok.text.items c.in-Ok.ensures in
     mixes_found c.args.manner.now (book_view c.args.book.now) (mix_view c.args.mix.now) _ _ _ _ m.0 _ _ m.1 m.2.attempts c.limit_of-limit.ensures (rw c.deref.ensures.value at c.rewrite_telling.ensures.follows)
-    (bytes_told c.args.manner.now (book_view c.args.book.now) (mix_view c.args.mix.now) _ _ _ m.0 _ _ _ c.if-mix.true m.1 m.2.attempts m.2.names c.limit_of-limit.ensures (rw c.deref.ensures.value at c.rewrite_telling.ensures.shows))
+    (bytes_told c.args.manner.now (book_view c.args.book.now) (mix_view c.args.mix.now) _ _ _ c.in-Ok.text.items m.0 _ _ _ these c.if-mix.true m.1 m.2.attempts m.2.names c.limit_of-limit.ensures (rw c.deref.ensures.value at c.rewrite_telling.ensures.shows))
 
 pub returns-clause-mixes : goal.returns-clause-mixes
 returns-clause-mixes g c =
     let m = rw c.in-Ok-Some.field-0-is at c.in-Ok-Some.ensures.mixed in
+    let these = held_bytes c.args.bench.now.desk c.world.result.now c.world.ensures.ctx c.world.ensures.store (unproved_of (book_view c.args.book.now) (mix_view c.args.mix.now).names) c.in-Ok.text.items c.in-Ok.ensures in
     mixes_found c.args.manner.now (book_view c.args.book.now) (mix_view c.args.mix.now) _ _ _ _ m.0 _ _ m.1 m.2.attempts c.limit_of-limit.ensures (rw c.deref-else-mix.ensures.value at c.rewrite_plainly.ensures.follows)
-    (bytes_untold c.args.manner.now (book_view c.args.book.now) (mix_view c.args.mix.now) _ _ _ c.if-mix.false c.rewrite_plainly.ensures.shows)
+    (bytes_untold c.args.manner.now (book_view c.args.book.now) (mix_view c.args.mix.now) _ _ _ c.in-Ok.text.items these c.if-mix.false c.rewrite_plainly.ensures.shows)

@@ -1,4 +1,6 @@
-use Rattle.std.proofs.Common.{inr}
+use Rattle.std.proofs.Common.{inr, map}
+use Rattle.mlir_work_mixed.specs.transforms.TraceText.{trace_text}
+use Rattle.mlir_work_mixed.specs.transforms.greedy.Tracing.{trace_of}
 use Rattle.mlir_work_mixed.specs.transforms.greedy.Changes.{rewriting}
 use Rattle.mlir_work_mixed.specs.transforms.greedy.Trial.{attempts_of, by_attempts}
 use Rattle.mlir_work_mixed.specs.transforms.rewriter.Benched.{state_of}
@@ -10,7 +12,7 @@ pub returns-clause-follows : goal.returns-clause-follows
 returns-clause-follows g c = follows_called _ _ _ _ _ c.told.ensures.reply c.rewrite_own_traced-called.ensures.does
 
 pub returns-clause-shows : goal.returns-clause-shows
-returns-clause-shows g c = shows_told _ _ _ _ _ _ c.told.ensures.reply c.naming-lines.ensures.text (rw c.naming-lines.ensures.names at c.rewrite_own_traced-called.ensures.told) c.told.ensures.shows
+returns-clause-shows g c = shows_told _ _ c.args.lines.text.items _ (trace_text (map (λ n. n.items) c.args.lines.names.items) (trace_of (by_attempts (attempts_of c.args.tried.now)) c.args.limit (state_of g.L.Analysis.meaning c.args.bench.now).held)) _ c.told.ensures.reply c.rewrite_own_traced-called.ensures.told c.told.ensures.shows
 
 pub returns-clause-room : goal.returns-clause-room
 returns-clause-room g c = replied _ (state_of g.L.Analysis.meaning c.args.bench.now) (rewriting (by_attempts (attempts_of c.args.tried.now)) c.args.limit) _ _ c.told.ensures.reply (λ e. widened (λ more. inr more) (c.rewrite_own_traced-called.ensures.room e))

@@ -2,8 +2,8 @@ use Rattle.std.proofs.Common.{◌++◌, [], Some, refl, sym}
 use Rattle.mlir_work_script.specs.Commands.{line_says, spoken_of}
 use Rattle.mlir_work_script.specs.Expecting.{line_expects}
 use Rattle.mlir_work_script_base.proofs.Joins.{front_join, front_more, grows_join, grows_none}
-use Rattle.mlir_work_book.specs.Notices.{notice_of}
-use Rattle.mlir_work_session.specs.Output.{Way, end_of, is_right, way_of}
+use Rattle.mlir_work_book.specs.Notices.{is_right_under, notice_of}
+use Rattle.mlir_work_session.specs.Output.{Way, end_of, way_of}
 use Rattle.mlir_work_session.specs.Sittings.{sitting_of}
 use Rattle.mlir_work_session.proofs.Runs.{told_of}
 use Rattle.mlir_work_session.proofs.script.answer_line.Goals as goal
@@ -17,9 +17,9 @@ returns-in-Err-clause-answered g c =
     let way : Way = way_of g.L.Supplied.supply c.args.manner.now in
     let text = c.in-Err.ensures.0 in
     let reply = notice_of c.answer-answered.result.notice in (
-      Some (is_right (line_expects c.args.line.now) reply),
+      Some (is_right_under c.args.manner.now.strict (line_expects c.args.line.now) reply c.answer-answered.result.shows.items),
       text ++ end_of way.manner.ends,
-      told_of way c.args.n (sitting_of meaning c.args.bench.now c.args.book.now) (line_expects c.args.line.now) (spoken_of c.read_line-line.result) (line_says c.args.line.now) reply c.answer-answered.result.shows.items (sitting_of meaning c.answer-answered.new.bench c.answer-answered.new.book) text (is_right (line_expects c.args.line.now) reply)
+      told_of way c.args.n (sitting_of meaning c.args.bench.now c.args.book.now) (line_expects c.args.line.now) (spoken_of c.read_line-line.result) (line_says c.args.line.now) reply c.answer-answered.result.shows.items (sitting_of meaning c.answer-answered.new.bench c.answer-answered.new.book) text (is_right_under c.args.manner.now.strict (line_expects c.args.line.now) reply c.answer-answered.result.shows.items)
           c.read_line-line.ensures c.if-is_nothing.ensures c.answer-answered.ensures.replies (rw c.expected_of-expected.ensures at c.in-Err.ensures.1) c.answer-answered.ensures.bounded refl,
       front_more (g.W.Sink.stream c.args.writer.now) (g.W.Sink.stream c.put_answer.new.writer) text (end_of way.manner.ends) c.in-Err.ensures.2,
     )
@@ -32,7 +32,7 @@ returns-in-Ok-put_end-clause-answered g c =
     let reply = notice_of c.answer-answered.result.notice in (
       text ++ end_of way.manner.ends,
       told_of way c.args.n (sitting_of meaning c.args.bench.now c.args.book.now) (line_expects c.args.line.now) (spoken_of c.read_line-line.result) (line_says c.args.line.now) reply c.answer-answered.result.shows.items (sitting_of meaning c.answer-answered.new.bench c.answer-answered.new.book) text _
-          c.read_line-line.ensures c.if-is_nothing.ensures c.answer-answered.ensures.replies (rw c.expected_of-expected.ensures at c.in-Ok.ensures.1) c.answer-answered.ensures.bounded (rw c.expected_of-expected.ensures at c.is_right.ensures),
+          c.read_line-line.ensures c.if-is_nothing.ensures c.answer-answered.ensures.replies (rw c.expected_of-expected.ensures at c.in-Ok.ensures.1) c.answer-answered.ensures.bounded (rw c.expected_of-expected.ensures at c.is_right_under.ensures),
       grows_join (g.W.Sink.stream c.args.writer.now) (g.W.Sink.stream c.put_answer.new.writer) (g.W.Sink.stream c.put_end.new.writer) text (end_of way.manner.ends) c.in-Ok.ensures.2 c.in-Ok-put_end.ensures,
     )
 
@@ -42,9 +42,9 @@ returns-clause-answered g c =
     let way : Way = way_of g.L.Supplied.supply c.args.manner.now in
     let text = c.in-Ok.ensures.0 in
     let reply = notice_of c.answer-answered.result.notice in (
-      Some (is_right (line_expects c.args.line.now) reply),
+      Some (is_right_under c.args.manner.now.strict (line_expects c.args.line.now) reply c.answer-answered.result.shows.items),
       text ++ end_of way.manner.ends,
-      told_of way c.args.n (sitting_of meaning c.args.bench.now c.args.book.now) (line_expects c.args.line.now) (spoken_of c.read_line-line.result) (line_says c.args.line.now) reply c.answer-answered.result.shows.items (sitting_of meaning c.answer-answered.new.bench c.answer-answered.new.book) text (is_right (line_expects c.args.line.now) reply)
+      told_of way c.args.n (sitting_of meaning c.args.bench.now c.args.book.now) (line_expects c.args.line.now) (spoken_of c.read_line-line.result) (line_says c.args.line.now) reply c.answer-answered.result.shows.items (sitting_of meaning c.answer-answered.new.bench c.answer-answered.new.book) text (is_right_under c.args.manner.now.strict (line_expects c.args.line.now) reply c.answer-answered.result.shows.items)
           c.read_line-line.ensures c.if-is_nothing.ensures c.answer-answered.ensures.replies (rw c.expected_of-expected.ensures at c.in-Ok.ensures.1) c.answer-answered.ensures.bounded refl,
       front_join (g.W.Sink.stream c.args.writer.now) (g.W.Sink.stream c.put_answer.new.writer) (g.W.Sink.stream c.put_end.new.writer) text (end_of way.manner.ends) c.in-Ok.ensures.2 c.in-Err-put_end.ensures,
     )
