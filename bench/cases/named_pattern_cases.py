@@ -186,7 +186,7 @@ CASES = {
              ["converged 0", *(f"unproved {name} unchecked" for name in BOOK if name.startswith("select_"))])),
          ("rewrite select_and", "refused 26 NoSuchKey"), ("rewrite select_or_not", "refused 26 NoSuchKey")]),
     "values-alone": (
-        "A check tries no poison, so what matches a choice or makes a quotient is `unrefuted` at best, as the page says.",
+        "A check tries no poison, so what matches a choice or makes a quotient is at best `unrefuted`, as pages say.",
         "",
         [("pattern p1 arith.select(%c, %a : i1, 0) => arith.andi(%c, %a)", "ok"), ("check p1", "unrefuted 1"),
          ("pattern p2 arith.minui(%b, 1) => arith.divui(%b, arith.maxui(%b, 1))", "ok"), ("check p2", "unrefuted 8"),
