@@ -19,20 +19,25 @@ use Rattle.ir_tree.specs.WellFormed.{IsWellFormed}
 use Rattle.op_registry.specs.Registry as registry
 use Rattle.op_registry.specs.Rows as rows
 use Rattle.op_registry.specs.Properties as properties
-use Rattle.dialects_int.specs.Arithmetic.{sum_of}
+use Rattle.dialects_int.specs.Arithmetic.{absorbs, sum_of}
 use Rattle.dialects_int.specs.Folds as folds
 use Rattle.patterns_laws.specs.Words as lists
 use Rattle.patterns_base.specs.Looks as looks
 use Rattle.patterns_base.specs.Rewrites as rewrites
 use Rattle.patterns_base.specs.Rewrites.{becomes, rewrite_of}
 use Rattle.patterns_base.specs.Rules as rule_table
+use Rattle.patterns_base.specs.RuleNames as rule_names
+use Rattle.patterns_base.specs.Casting as casting
+use Rattle.patterns_base.specs.Canonicalization as canons
+use Rattle.patterns_base.specs.Canonicalization.{canonicalization_of, converged, ended}
 use Rattle.patterns_base.specs.declared.rule.Rule.TheVariants.{DropZero}
 use Rattle.patterns_base.specs.Diagnostics.{diagnostics_of}
 use Rattle.patterns_meaning.specs.Meaning.{Each, IsOfType, Assignment}
+use Rattle.patterns_meaning.specs.Canonical.{IsPlain}
 use Rattle.patterns_meaning.specs.Keeping.{Computing}
 use Rattle.patterns_meaning.specs.ObservingSamples.{i8, function_of, module_of, returning, storing, summing}
 use Rattle.patterns_meaning.specs.Refining.{ObservationsRefine, observed, Refined, lasting, observation}
-use Rattle.patterns_meaning.specs.RefiningSamples.{SampleIsRefined, after, before, ending_seen, five, functions_seen, memory, SamplesArentRefined}
+use Rattle.patterns_meaning.specs.RefiningSamples.{SampleIsRefined, after, before, canonical, ending_seen, five, functions_seen, memory, SamplesArentRefined}
 use Rattle.patterns_meaning.specs.Samples.{all_done}
 use Rattle.patterns_meaning.specs.Verified.{IsVerified, is_in_range, is_within}
 
@@ -125,6 +130,10 @@ applies : rewrite_of DropZero before 4 ≡ becomes after
 unfolding rewrites.rewrite_of rewrites.edits_of rewrites.suits rule_table.rule rule_table.rules_for rule_table.table looks.is_clean looks.known lists.ignoring_zero folds.fold_of folds.rule_of folds.rules words.operations words.is_inherent words.is_listed words.is_table words.is_isolated properties.is_allowed properties.is_of_kind properties.kind_of properties.kinds registry.row_of rows.rows
 applies = refl
 
+canonicalizes : canonicalization_of 10 before ≡ ended canonical 2 converged
+unfolding canons.canonicalization_of canons.canonical_from canons.most_rewrites canons.first_rule canons.first_among rewrites.rewrite_of rewrites.edits_of rewrites.suits rule_table.rule rule_table.rules_for rule_table.table rule_names.all_rules looks.is_clean looks.is_in_order looks.may_go looks.known lists.swapping lists.ignoring_zero lists.ignoring_one lists.cancelling lists.keeping lists.remainders lists.regrouping lists.extensions lists.index_casts lists.arithmetic lists.index_users lists.flagged lists.asking lists.dividing casting.resizing folds.fold_of folds.rule_of folds.rules words.operations words.is_inherent words.is_listed words.is_table words.is_isolated properties.is_allowed properties.is_of_kind properties.kind_of properties.kinds registry.row_of rows.rows sum_of absorbs
+canonicalizes = refl
+
 -- ---- what is seen
 seen_before : observed five all_done before.tree ≡ functions_seen (ending_seen (record { value = None; outcome = Some (kind.Int 8, 5) }))
 unfolding folds.rule_of folds.rules registry.row_of rows.rows
@@ -134,12 +143,20 @@ seen_after : observed five all_done after.tree ≡ functions_seen (ending_seen (
 unfolding folds.rule_of folds.rules registry.row_of rows.rows
 seen_after = refl
 
+seen_canonical : observed five all_done canonical.tree ≡ observed five all_done after.tree
+unfolding folds.rule_of folds.rules registry.row_of rows.rows
+seen_canonical = refl
+
+plain : IsPlain before
+unfolding rule_table.rules_for rule_table.table
+plain = (refl, (((refl, (tt, tt)), ((refl, (((refl, tt), ((refl, tt), ((refl, tt), ((refl, tt), ((refl, tt), tt))))), tt)), tt)), tt))
+
 refined : ObservationsRefine (observed five all_done before.tree) (observed five all_done after.tree)
 unfolding folds.rule_of folds.rules registry.row_of rows.rows
 refined = (refl, tt, (refl, tt, (refl, (tt, refl, (refl, refl, tt)), (refl, (tt, refl, tt), (refl, (tt, refl, tt), tt)))))
 
 pub sample_is_refined : SampleIsRefined
-sample_is_refined = record { verified = verified; computing = computes; applies = applies; seen_before = seen_before; seen_after = seen_after; refined = refined }
+sample_is_refined = record { verified = verified; computing = computes; applies = applies; plain = plain; canonicalizes = canonicalizes; seen_canonical = seen_canonical; seen_before = seen_before; seen_after = seen_after; refined = refined }
 
 -- ---- what isn't refined
 abbrev AllDone : (ℕ → Bool) → List Header → Type 0

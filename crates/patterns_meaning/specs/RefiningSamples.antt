@@ -8,8 +8,10 @@ use Rattle.ir_tree.specs.Tree.{OpsOf, RegionOf, block, empty, next, no_ops, no_r
 use Rattle.ir_tree.specs.Meaning.{Operation}
 use Rattle.ir_event.specs.Modules.{Module}
 use Rattle.patterns_base.specs.declared.rule.Rule.TheVariants.{DropZero}
+use Rattle.patterns_base.specs.Canonicalization.{canonicalization_of, converged, ended}
 use Rattle.patterns_base.specs.Rewrites.{becomes, rewrite_of}
 use Rattle.patterns_meaning.specs.Meaning.{Assignment}
+use Rattle.patterns_meaning.specs.Canonical.{IsPlain}
 use Rattle.patterns_meaning.specs.Keeping.{Computing}
 use Rattle.patterns_meaning.specs.ObservingSamples.{function_of, i8, module_of, plain_op, returning, storing, summing}
 use Rattle.patterns_meaning.specs.Refining.{Observation, ObservationsRefine, Operand, Refined, observed}
@@ -67,6 +69,10 @@ before = calling (zero_then (sum_then (ending (Result 4 0))))
 abbrev pub after : Module
 after = calling (zero_then (ending (Arg 2 0 0)))
 
+-- `canon`: the constant is gone too
+abbrev pub canonical : Module
+canonical = calling (ending (Arg 2 0 0))
+
 -- %a is 5, and so is the sum; what the call gives is 9
 abbrev pub five : Assignment
 five (Result x k) = get_or (None ∷ None ∷ None ∷ Some (kind.Int 8, 0) ∷ Some (kind.Int 8, 5) ∷ None ∷ Some (kind.Int 8, 9) ∷ []) x None
@@ -91,14 +97,17 @@ ending_seen v =
     ∷ seen (codes "func.return") 7 [] [] (v ∷ [])
     ∷ []
 
--- The module has no diagnostics and computes so. `drop-zero` applies. Before, an observer sees that 5 is stored, passed to
+-- The module has no diagnostics and computes so. `drop-zero` applies, and `canon` makes two rewrites. Before, an observer sees that 5 is stored, passed to
 -- @g and returned; after, that %a is, which is 5. So the second refines the first.
 pub record SampleIsRefined : Type 0 where
   pub verified : IsVerified before
   pub computing : Computing five all_done before.tree
   pub applies : rewrite_of DropZero before 4 ≡ becomes after
+  pub plain : IsPlain before
+  pub canonicalizes : canonicalization_of 10 before ≡ ended canonical 2 converged
   pub seen_before : observed five all_done before.tree ≡ functions_seen (ending_seen (record { value = None; outcome = Some (kind.Int 8, 5) }))
   pub seen_after : observed five all_done after.tree ≡ functions_seen (ending_seen (record { value = Some (Arg 2 0 0); outcome = Some (kind.Int 8, 5) }))
+  pub seen_canonical : observed five all_done canonical.tree ≡ observed five all_done after.tree
   pub refined : ObservationsRefine (observed five all_done before.tree) (observed five all_done after.tree)
 
 -- What isn't refined, where all is done: if all is erased, if another argument is returned, and if a store is erased, an
