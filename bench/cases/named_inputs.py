@@ -46,6 +46,10 @@ UNPROVED = [
         "A pattern that holds at every width is proved for each module.",
         SHIFT + "pattern double arith.addi(%x, %x) => arith.muli(%x, 2)\ncheck double\n"
         "rewrite double,shift trace limit 4\n", ty="index")),
+    ("written-types", ["--brief"], script(
+        "A check that holds proves a pattern whose types are all written, whatever types the module has.",
+        "pattern typed arith.shli(%x : i8, 1) => arith.addi(%x, %x)\nrewrite typed limit 1\ncheck typed\n"
+        "rewrite typed\n", ONE + "%w = \"test.wide\"() : () -> i32\n")),
     ("list", ["--brief"], script(
         "The patterns of a list are named in its order, each once, and before the lines of a trace; rules never are.",
         GOOD + SHIFT + "pattern one arith.muli(%x, 1) => %x\npattern wrong arith.ori(%x, 1) => %x\ncheck wrong\n"

@@ -1,6 +1,6 @@
 """The lines below a reply that name the patterns by which a command rewrites, and that no check proves for its module:
 a check has to say that the pattern holds at every width, or up to the widest integer type of a value of the module, in
-which no value has type index."""
+which no value has type index; or that it holds at all, of a pattern whose types are all written."""
 import re
 
 from . import passing
@@ -30,17 +30,19 @@ def is_within(ty, most):
     return ty != INDEX and not (ty[0] in ("i", "si", "ui") and ty[1] > most)
 
 
-def is_proved(verdict, module):
+def is_proved(pattern, verdict, module):
     """Whether what a check says proves a pattern for a module."""
     word, _, width = verdict.partition(" ")
-    return word == "holds" and (not width or all(is_within(ty, int(width)) for ty in types_of(module)))
+    if word != "holds":
+        return False
+    return not width or not pattern.all_types() or all(is_within(ty, int(width)) for ty in types_of(module))
 
 
 def lines(patterns, verdicts, module):
     """A line for each pattern that isn't proved, in their order and each once."""
-    said_of = {it.name: verdicts.get(it.name, "unchecked") for it in patterns}
-    return "".join(f"unproved {name} {verdict}\n" for name, verdict in said_of.items()
-                   if not is_proved(verdict, module))
+    said_of = {it.name: (it, verdicts.get(it.name, "unchecked")) for it in patterns}
+    return "".join(f"unproved {name} {verdict}\n" for name, (it, verdict) in said_of.items()
+                   if not is_proved(it, verdict, module))
 
 
 def is_named(reply):

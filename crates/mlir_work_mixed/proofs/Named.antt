@@ -43,12 +43,12 @@ module _ (book : Book) where
 module _ (t : Operation) where
   -- the line of one, in front of those of others
   pub one_line : (n : Noted) (ns : List Noted) → unproved_text t (n ∷ []) ++ unproved_text t ns ≡ unproved_text t (n ∷ ns)
-  one_line n ns = ap (λ line. line ++ unproved_text t ns) (append-nil (if proves n.said t then [] else unproved_line n))
+  one_line n ns = ap (λ line. line ++ unproved_text t ns) (append-nil (if proves n.is_typed n.said t then [] else unproved_line n))
 
-  pub proved_line : (n : Noted) (proved : Bool) (out : List ℕ) → proved ≡ proves n.said t → proved ≡ true → out ≡ out ++ unproved_text t (n ∷ [])
+  pub proved_line : (n : Noted) (proved : Bool) (out : List ℕ) → proved ≡ proves n.is_typed n.said t → proved ≡ true → out ≡ out ++ unproved_text t (n ∷ [])
   proved_line n proved out is e = sym (append-nil out) ∙ ap (λ line. out ++ line) (sym (ap (λ b. (if b then [] else unproved_line n) ++ []) (sym is ∙ e)))
 
-  pub unproved_lines : (n : Noted) (proved : Bool) (out more : List ℕ) → proved ≡ proves n.said t → proved ≡ false → more ≡ out ++ unproved_line n → more ≡ out ++ unproved_text t (n ∷ [])
+  pub unproved_lines : (n : Noted) (proved : Bool) (out more : List ℕ) → proved ≡ proves n.is_typed n.said t → proved ≡ false → more ≡ out ++ unproved_line n → more ≡ out ++ unproved_text t (n ∷ [])
   unproved_lines n proved out more is e put =
       put ∙ ap (λ line. out ++ line) (sym (append-nil (unproved_line n)) ∙ sym (ap (λ b. (if b then [] else unproved_line n) ++ []) (sym is ∙ e)))
 

@@ -1,5 +1,5 @@
 -- Patterns of a command that no check proves for the module at hand, and the lines that say so.
-use Rattle.std.specs.Prelude.{ℕ, List, [], ◌∷◌, ◌++◌, Bool, true, false, not, ◌&&◌, nat_le, Option, Some, None, if◌then◌else◌, codes}
+use Rattle.std.specs.Prelude.{ℕ, List, [], ◌∷◌, ◌++◌, Bool, true, false, not, ◌&&◌, ◌||◌, ◌==◌, nat_le, Option, Some, None, if◌then◌else◌, codes}
 use Rattle.std.specs.List.{list_all, list_any}
 use Rattle.std.specs.Str.{bytes_eq}
 use Rattle.ir_event.specs.types.Terms.{TypeTerm, Integer, Index, Function, Memref, OpaqueType}
@@ -33,23 +33,25 @@ has_narrow_types most t = every (types_pass (is_narrow_type most)) t
 
 -- ---- patterns
 
--- a pattern by its name, and what its last check said
+-- a pattern by its name, whether all its types are written, and what its last check said
 pub record Noted : Type 0 where
   pub name : List ℕ
+  pub is_typed : Bool
   pub said : Option Said
 
 abbrev pub noted_of : Kept → Noted
-noted_of k = record { name = k.name; said = k.said }
+noted_of k = record { name = k.name; is_typed = k.shape.types == 0; said = k.said }
 
 -- whether what a check said proves a pattern for a module: it said that the pattern holds at every width, or up to that
--- of each value of the module
-abbrev pub proves : Option Said → Operation → Bool
-proves None t = false
-proves (Some (said.Holds w)) t = has_narrow_types w t
-proves (Some said.Everywhere) t = true
-proves (Some (said.Empty w)) t = false
-proves (Some (said.Fails w)) t = false
-proves (Some (said.Unrefuted w)) t = false
+-- of each value of the module; a pattern whose types are all written is matched at these alone, of which all values were
+-- tried
+abbrev pub proves : Bool → Option Said → Operation → Bool
+proves is_typed None t = false
+proves is_typed (Some (said.Holds w)) t = is_typed || has_narrow_types w t
+proves is_typed (Some said.Everywhere) t = true
+proves is_typed (Some (said.Empty w)) t = false
+proves is_typed (Some (said.Fails w)) t = false
+proves is_typed (Some (said.Unrefuted w)) t = false
 
 abbrev pub is_noted : List ℕ → Noted → Bool
 is_noted name n = bytes_eq n.name name
@@ -80,7 +82,7 @@ unproved_line n = codes "unproved " ++ (n.name ++ (codes " " ++ (verdict_text n.
 -- a line for each pattern that isn't proved for a module
 abbrev pub unproved_text : Operation → List Noted → List ℕ
 unproved_text t [] = []
-unproved_text t (n ∷ ns) = (if proves n.said t then [] else unproved_line n) ++ unproved_text t ns
+unproved_text t (n ∷ ns) = (if proves n.is_typed n.said t then [] else unproved_line n) ++ unproved_text t ns
 
 -- of a pattern, and of those that a list names
 abbrev pub unproved_one : Kept → Operation → List ℕ

@@ -25,7 +25,7 @@ IsMixed None found = found ≡ None
 IsMixed (Some m) found = (ls : List Listed) × (found ≡ Some ls) × IsMixedOf m ls × AreAttempts (attempts_in ls)
 
 abbrev pub noted_view : NotedCode → Noted
-noted_view n = record { name = n.name.now; said = n.said }
+noted_view n = record { name = n.name.now; is_typed = n.is_typed; said = n.said }
 
 abbrev pub noted_views : List NotedCode → List Noted
 noted_views ns = map noted_view ns

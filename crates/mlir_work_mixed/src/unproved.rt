@@ -1,5 +1,5 @@
 //! The lines that name the patterns of a command that no check proves for the module at hand.
-ghost use Rattle.std.specs.Prelude.{◌≡◌, ◌∷◌, ◌++◌, [], IfOk, OnOk, Some};
+ghost use Rattle.std.specs.Prelude.{◌≡◌, ◌∷◌, ◌++◌, [], IfOk, OnOk, Some, false};
 ghost use Rattle.std.specs.List.{list_any};
 ghost use Rattle.ir_event.specs.Modules.{module_in};
 ghost use Rattle.mlir_work_script_base.specs.RuleNames.{name_of, names_of};
@@ -21,10 +21,11 @@ use mlir_work_script_base::items::split_item;
 use mlir_work_script_base::rule_name::{RuleName, name_in};
 use std::alloc::{AllocError, Global};
 
-/// A pattern by its name, and what its last check said.
+/// A pattern by its name, whether all its types are written, and what its last check said.
 #[derive(Clone, Copy)]
 pub(crate) struct Noted<'a> {
     name: &'a [u8],
+    is_typed: bool,
     said: Option<Said>,
 }
 
@@ -40,6 +41,7 @@ fn noted_of(held: &Held) -> Noted<'_>
 {
     Noted {
         name: held.name.as_slice(),
+        is_typed: held.pattern.types == 0,
         said: held.said,
     }
 }
@@ -97,10 +99,10 @@ fn copied(world: &World, tree: Option<TreeOp>) -> Result<TreeOp, AllocError>
     }
 }
 
-/// Whether a check up to a width proves a pattern for a world's module. Keeps the module's tree.
+/// Whether a check up to a width proves a pattern with type variables for a world's module. Keeps the module's tree.
 fn is_narrow(world: &World, width: u32, tree: &mut Option<TreeOp>) -> Result<bool, AllocError>
     requires { IsCopy tree.old world.now.store.module_of.tree }
-    ensures narrow { IfOk result (λ b. b ≡ proves (Some (SaysHolds width)) (module_in world.now).tree) }
+    ensures narrow { IfOk result (λ b. b ≡ proves false (Some (SaysHolds width)) (module_in world.now).tree) }
     ensures copy { IsCopy tree.new world.now.store.module_of.tree }
 {
     let copy = copied(world, tree.take())?;
@@ -112,14 +114,15 @@ fn is_narrow(world: &World, width: u32, tree: &mut Option<TreeOp>) -> Result<boo
 /// Whether what a check said proves a pattern for a world's module. Keeps the module's tree, where it was copied.
 fn is_proved(
     world: &World,
-    said: Option<Said>,
+    noted: &Noted<'_>,
     tree: &mut Option<TreeOp>,
 ) -> Result<bool, AllocError>
     requires { IsCopy tree.old world.now.store.module_of.tree }
-    ensures proved { IfOk result (λ b. b ≡ proves said (module_in world.now).tree) }
+    ensures proved { IfOk result (λ b. b ≡ proves noted.now.is_typed noted.now.said (module_in world.now).tree) }
     ensures copy { IsCopy tree.new world.now.store.module_of.tree }
 {
-    match said {
+    match noted.said {
+        Some(Said::Holds(_)) if noted.is_typed => Ok(true),
         Some(Said::Holds(width)) => is_narrow(world, width, tree),
         Some(Said::Everywhere) => Ok(true),
         Some(Said::Empty(_)) => Ok(false),
@@ -162,7 +165,7 @@ fn put_unless_proved(
     ensures put { OnOk result (out.new.items ≡ out.old.items ++ unproved_text (module_in world.now).tree (noted_view noted.now ∷ [])) }
     ensures copy { IsCopy tree.new world.now.store.module_of.tree }
 {
-    if is_proved(world, noted.said, tree)? {
+    if is_proved(world, noted, tree)? {
         return Ok(());
     }
     put_line(out, noted)
