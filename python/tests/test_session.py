@@ -107,6 +107,28 @@ class Calls(Case):
         s.move(4, start(7))
         self.assertEqual([it.number for it in s], [0, 9, 1, 2, 3, 5, 6, 7, 4, 8])
 
+    def test_hoisting(self):
+        """Operations of arith that don't depend on a loop move out of it, as LICM moves them; others are refused."""
+        folder = ROOT / "tests/embed"
+        with session((folder / "hoist.mlir").read_text()) as s:
+            loop, = (op for op in s.operations() if op.name == "scf.for")
+            moved = [op.number for op in s.operations()
+                     if op.parent == loop.number and op.name.startswith("arith.") and self.is_moved(s, op, loop)]
+            uses = s.report("uses", of=Result(moved[0], 0))
+            self.assertEqual(moved, [5, 6])
+            self.assertEqual([(row.user, row.operand) for row in uses], [(6, 1)])
+            self.assertEqual(s.report("diagnostics"), [])
+            wanted = (folder / "hoist.out").read_text().partition("\n")[2]
+            self.assertEqual(s.print(), wanted)
+
+    def is_moved(self, s, op, loop):
+        """Whether an operation may stand before a loop; then it is moved there."""
+        try:
+            s.move(op, before(loop))
+        except mlir_work.Refused:
+            return False
+        return True
+
     def test_entries(self):
         s = self.s
         for key, attribute in (("k", "5"), ("a b", "@f"), ('"\\', quoted('x"y\\z\n')), ("ä", quoted("ö"))):

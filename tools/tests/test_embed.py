@@ -89,6 +89,13 @@ class Library(unittest.TestCase):
             out = ran([self.built("examples/embed/dead.cpp", *more), self.module()]).decode()
             self.assertEqual(out, '"builtin.module"() ({\n^bb0:\n}) : () -> ()\n// 2 erased\n')
 
+    def test_hoist(self):
+        """Operations that don't depend on a loop move out of it by handles, as LICM moves them, and others are refused;
+        the report about one value has its rows alone."""
+        for more in ((), SANITIZED):
+            out = ran([self.built("tests/embed/hoist.cpp", *more), ROOT / "tests/embed/hoist.mlir"])
+            self.assertEqual(out, (ROOT / "tests/embed/hoist.out").read_bytes())
+
     def test_stack(self):
         """A thread with as much stack as the header says is enough works on what is nested deepest."""
         size, = re.findall(r"([0-9]+) KB of stack are enough", (ROOT / "c/mlir_work.h").read_text())
