@@ -226,7 +226,7 @@ CASES = {
                            "arith.mulsi_extended(%a, %b)", "arith.ceildivsi(%a, %b)", "arith.floordivsi(%a, %b)",
                            "math.ctpop(%a)", "index.add(%a, 0)", "arith.bitcast(%a : S) : S")]),
     "patterns-that-look-wrong": (
-        "With operands of i1 a comparison may be its operand, and a cast takes its type from the root: both are patterns.",
+        "A comparison of i1 may become its operand, and a cast takes its type from the root: both are patterns.",
         "",
         [("pattern e arith.cmpi<eq>(%a, %b) => %a", "ok"),
          ("pattern f arith.extui(%a : i1) : i8 => arith.extui(%a)", "ok"),

@@ -110,7 +110,7 @@ class Calls(Case):
     def test_hoisting(self):
         """Operations of arith that don't depend on a loop move out of it, as LICM moves them; others are refused."""
         folder = ROOT / "tests/embed"
-        with session((folder / "hoist.mlir").read_text()) as s:
+        with session((folder / "hoist.before").read_text()) as s:
             loop, = (op for op in s.operations() if op.name == "scf.for")
             moved = [op.number for op in s.operations()
                      if op.parent == loop.number and op.name.startswith("arith.") and self.is_moved(s, op, loop)]
@@ -118,7 +118,7 @@ class Calls(Case):
             self.assertEqual(moved, [5, 6])
             self.assertEqual([(row.user, row.operand) for row in uses], [(6, 1)])
             self.assertEqual(s.report("diagnostics"), [])
-            wanted = (folder / "hoist.out").read_text().partition("\n")[2]
+            wanted = (folder / "hoist.after").read_text().partition("\n")[2]
             self.assertEqual(s.print(), wanted)
 
     def is_moved(self, s, op, loop):

@@ -93,8 +93,8 @@ class Library(unittest.TestCase):
         """Operations that don't depend on a loop move out of it by handles, as LICM moves them, and others are refused;
         the report about one value has its rows alone."""
         for more in ((), SANITIZED):
-            out = ran([self.built("tests/embed/hoist.cpp", *more), ROOT / "tests/embed/hoist.mlir"])
-            self.assertEqual(out, (ROOT / "tests/embed/hoist.out").read_bytes())
+            out = ran([self.built("tests/embed/hoist.cpp", *more), ROOT / "tests/embed/hoist.before"])
+            self.assertEqual(out, (ROOT / "tests/embed/hoist.after").read_bytes())
 
     def test_stack(self):
         """A thread with as much stack as the header says is enough works on what is nested deepest."""
