@@ -1,10 +1,10 @@
 #!/usr/bin/env python3
 """Merges crates, and gives crates, modules and names other names by a table, at the top of a clean checkout.
 
-usage: gate/rename.py TABLE [--kinds KIND,..] [--lines FIRST-LAST] [--skip-missing] [--try]
+usage: gate/rename.py TABLE [--groups GROUP,..] [--kinds KIND,..] [--skip-missing] [--try]
 
 A line of the table is KIND, CRATE, OLD, NEW and a reason, separated by tabs. KIND is crate, module, alias, type, variant,
-function, field or definition. A line whose OLD isn't there is printed, and nothing is written unless --skip-missing
+function or definition. A comment `# group NAME: ..` begins a group. A line whose OLD isn't there is printed, and nothing is written unless --skip-missing
 is said. --try writes nothing. docs/WORKING.md says how to go on."""
 import argparse
 import pathlib
@@ -23,7 +23,7 @@ def words() -> argparse.Namespace:
     asked = argparse.ArgumentParser(usage=__doc__)
     asked.add_argument("table", type=pathlib.Path)
     asked.add_argument("--kinds", default=",".join(table.KINDS))
-    asked.add_argument("--lines", default="1-1000000")
+    asked.add_argument("--groups", default="")
     asked.add_argument("--skip-missing", action="store_true")
     asked.add_argument("--try", dest="only_try", action="store_true")
     return asked.parse_args()
@@ -31,9 +31,8 @@ def words() -> argparse.Namespace:
 
 def chosen_of(rows: list[table.Row], asked: argparse.Namespace) -> list[table.Row]:
     """Returns the rows that the command line asks for."""
-    first, _, last = asked.lines.partition("-")
-    kinds = asked.kinds.split(",")
-    return [it for it in rows if it.kind in kinds and int(first) <= it.line <= int(last or first)]
+    kinds, groups = asked.kinds.split(","), asked.groups.split(",")
+    return [it for it in rows if it.kind in kinds and (it.group in groups or not asked.groups)]
 
 
 def main() -> int:

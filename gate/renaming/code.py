@@ -15,6 +15,8 @@ class Type:
     variants: set[str] = field(default_factory=set)
     fields: dict[str, tuple[str, ...]] = field(default_factory=dict)
     functions: set[str] = field(default_factory=set)
+    methods: set[str] = field(default_factory=set)  # the functions that take `self`
+    inherent: set[str] = field(default_factory=set)  # the functions that aren't of a trait
 
 
 @dataclass
@@ -42,6 +44,7 @@ class Module:
     uses: list[Leaf] = field(default_factory=list)
     bodies: list[tuple[str, str, int, int]] = field(default_factory=list)  # type, function, first token, last token
     impls: dict[str, tuple[str, str]] = field(default_factory=dict)  # TypeTrait: the type and the trait
+    traits: dict[int, str] = field(default_factory=dict)  # the trait that a function is of, by its first token
 
 
 def leaves_of(tokens: list[Token], at: int, path: tuple[str, ...] = ()):
@@ -142,7 +145,15 @@ def heads_of(code: list[Token], at: int, opens: int) -> tuple[str, str]:
     return words[-1] if words else "", trait
 
 
-def functions_in(code: list[Token], first: int, last: int, owner: str, module: Module, places: dict[int, int]):
+def takes_self(code: list[Token], at: int) -> bool:
+    """Whether the parameters of a function begin with `self`. Its name stands before the token."""
+    while code[at].text != "(":
+        at += 1
+    return any(it.text == "self" for it in code[at + 1:at + 5] if it.text != ")")
+
+
+def functions_in(code: list[Token], first: int, last: int, owner: str, module: Module, places: dict[int, int],
+                 trait: str = ""):
     """Notes the functions that stand between two tokens at one depth."""
     at = first
     while at < last:
@@ -155,7 +166,13 @@ def functions_in(code: list[Token], first: int, last: int, owner: str, module: M
             name = code[at + 1].text
             module.bodies.append((owner, name, places[code[at].start], places[code[closes].start]))
             if owner:
-                module.types.setdefault(owner, Type("foreign")).functions.add(name)
+                made = module.types.setdefault(owner, Type("foreign"))
+                made.functions.add(name)
+                module.traits[places[code[at].start]] = trait
+                if not trait:
+                    made.inherent.add(name)
+                if takes_self(code, at + 2):
+                    made.methods.add(name)
             else:
                 module.items.setdefault(name, "function")
             at = closes + 1
@@ -198,7 +215,7 @@ def module_of(crate: str, name: str, file: str, tokens: list[Token]) -> Module:
             if text == "trait":
                 module.items[owner] = "type"
                 module.types[owner] = Type("trait")
-            functions_in(code, opens + 1, closing(code, opens), owner, module, places)
+            functions_in(code, opens + 1, closing(code, opens), owner, module, places, trait)
             at = closing(code, opens)
         elif text in ITEMS and is_word(code[at + 1]) and code[at + 1].text not in ("fn", "unsafe", "extern"):
             known = code[at + 1].text
@@ -218,6 +235,8 @@ def module_of(crate: str, name: str, file: str, tokens: list[Token]) -> Module:
                     module.types[known] = type_at(code, at, text)
                     if old:
                         module.types[known].functions |= old.functions
+                        module.types[known].methods |= old.methods
+                        module.types[known].inherent |= old.inherent
                 while code[at].text not in "{(;=":
                     at += 1
                 at = closing(code, at) if code[at].text in "{(" else at

@@ -103,7 +103,10 @@ def rewrite(writing, it: Mutant, tokens: list) -> None:
         modules = tree.crates[it.crate].modules
         kept, modules[stem] = modules[stem], module_of(it.crate, stem, it.file, tokens)
         for name, made in modules[stem].types.items():
-            made.functions |= kept.types[name].functions if name in kept.types else set()
+            if name in kept.types:
+                made.functions |= kept.types[name].functions
+                made.methods |= kept.types[name].methods
+                made.inherent |= kept.types[name].inherent
         edits_after = writing.code_edits(modules[stem])
         modules[stem] = kept
     else:

@@ -1,5 +1,6 @@
 """New names of paths: of code (`ir_event::world::World`), and of definitions and lemmas (`Rattle.ir_event.specs.Looks`)."""
 from renaming.code import Module
+from renaming.members import Members
 from renaming.table import Names
 from renaming.tree import Thing, Tree
 
@@ -10,6 +11,7 @@ class Paths:
     def __init__(self, tree: Tree, names: Names) -> None:
         self.tree = tree
         self.names = names
+        self.members = Members(tree, names)
 
     def last(self, thing: Thing) -> str:
         """Returns the new last word of a thing."""
@@ -66,12 +68,12 @@ class Paths:
         elif is_use and len(path) == 1:
             return path
         else:
-            thing = tree.in_scope(module, first)
+            thing = tree.in_scope(module, first, len(path) > 1)
             if thing is None:
                 return path
-            out = (self.local(module, first),)
+            out = (self.local(module, first, len(path) > 1),)
         for at, word in enumerate(path[1:], 1):
-            under = tree.step(thing, word)
+            under = tree.step(thing, word, frozenset(), at + 1 < len(path))
             if under is None:
                 return (*out, *path[at:])
             leaf = self.handed_on(thing, under, word)
@@ -100,7 +102,8 @@ class Paths:
                                      under[2] == thing[2]):
             return None
         lib = self.tree.crates[thing[1]].modules[thing[2]]
-        return next((it for it in lib.uses if it.name == word), None)
+        leaves = [it for it in lib.uses if it.name == word]
+        return next((it for it in leaves if self.tree.of_path(lib, it.path) == under), leaves[0] if leaves else None)
 
     def handed_name(self, module: Module, leaf) -> str:
         """Returns the new name under which a `use` line brings what it brings."""
@@ -115,12 +118,17 @@ class Paths:
             return leaf.name
         return path[-1]
 
-    def local(self, module: Module, name: str) -> str:
+    def local(self, module: Module, name: str, is_inner: bool = False) -> str:
         """Returns the new name of what a file knows by a name."""
-        for leaf in module.uses:
-            if leaf.name == name:
-                return self.handed_name(module, leaf)
-        thing = self.tree.in_scope(module, name)
+        if name in ("crate", "self", "super", "Self"):
+            return name
+        thing = self.tree.in_scope(module, name, is_inner)
+        if thing and thing[1:3] == (module.crate, module.name) and len(thing) == 4:
+            return self.last(thing)
+        leaves = [it for it in module.uses if it.name == name]
+        if leaves:
+            same = [it for it in leaves if self.tree.of_path(module, it.path, frozenset(), is_inner) == thing]
+            return self.handed_name(module, (same or leaves)[0])
         if thing and thing[0] == "module" and thing[2] == "":
             return self.root(module, thing[1])[0]
         return self.last(thing) if thing else name

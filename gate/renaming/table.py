@@ -2,7 +2,8 @@
 import pathlib
 from typing import NamedTuple
 
-KINDS = ("crate", "module", "alias", "type", "variant", "function", "field", "definition")
+KINDS = ("crate", "module", "alias", "type", "variant", "function", "definition")
+GROUP = "# group "
 
 
 class Row(NamedTuple):
@@ -13,18 +14,21 @@ class Row(NamedTuple):
     crate: str
     old: str
     new: str
+    group: str
 
 
 def rows_of(file: pathlib.Path) -> list[Row]:
     """Returns the rows of a table. A line that is empty or begins with `#` is none."""
-    found = []
+    found, group = [], ""
     for number, text in enumerate(file.read_text().splitlines(), 1):
+        if text.startswith(GROUP):
+            group = text[len(GROUP):].partition(":")[0]
         if not text.strip() or text.startswith("#"):
             continue
         cells = text.split("\t")
         if len(cells) < 4 or cells[0] not in KINDS:
             raise SystemExit(f"{file}:{number}: not KIND, CRATE, OLD, NEW")
-        found.append(Row(number, *cells[:3], cells[3].rpartition("/")[2]))
+        found.append(Row(number, *cells[:3], cells[3].rpartition("/")[2], group))
     return found
 
 
@@ -61,6 +65,7 @@ class Loading:
         self.tree, self.names = tree, Names()
         self.crates = {it.crate: it.new for it in rows if it.kind == "crate"}
         self.modules = {(it.crate, it.old): it.new for it in rows if it.kind == "module"}
+        self.types = {(it.crate, *it.old.split("::")): it.new for it in rows if it.kind == "type"}
         self.missing: list[Row] = []
         self.done: list[Row] = []
         for row in chosen:
@@ -158,17 +163,13 @@ class Loading:
         return self.is_done(row, module.items.get(row.new) == kind)
 
     def add_member(self, module, row: Row, owner: str, name: str) -> bool:
-        thing = self.tree.in_scope(module, owner) or self.tree.in_scope(module, self.new_of_type(row, owner))
+        known = self.types.get((row.crate, row.old.split("::")[0], owner), owner)
+        thing = self.tree.in_scope(module, owner) or self.tree.in_scope(module, known)
         if thing is None or thing[0] != "type":
             return False
         made = self.tree.crates[thing[1]].modules[thing[2]].types.get(thing[3])
-        room = {"variant": made.variants, "field": made.fields, "function": made.functions}[row.kind]
+        room = {"variant": made.variants, "function": made.functions}[row.kind]
         if name in room:
             self.names.members[(*thing[1:], name)] = row.new
             return True
         return self.is_done(row, row.new in room)
-
-    def new_of_type(self, row: Row, owner: str) -> str:
-        return self.renamed_types.get((row.crate, row.old.split("::")[0], owner), owner)
-
-    renamed_types: dict[tuple[str, str, str], str] = {}

@@ -108,6 +108,8 @@ class Tree:
                             owner = crate.modules[thing[2]].types.get(thing[3])
                             if owner:
                                 owner.functions |= made.functions
+                                owner.methods |= made.methods
+                                owner.inherent |= made.inherent
 
     def definitions(self, crate: str, file: str) -> set[str]:
         """Returns the names that a file of specs declares."""
@@ -118,6 +120,20 @@ class Tree:
             self.declared[name] = declared_in(self.tokens[name])
         return self.declared[name]
 
+    def handed_by_file(self, crate: str, side: str, file: str) -> dict[str, tuple[str, ...]]:
+        """Returns what a file hands on by `pub use PATH.{NAME}`: by name, the path."""
+        name = self.crates[crate].files[side][file]
+        if ("handed", name) not in self.declared:
+            found, tokens = {}, self.tokens[name]
+            for at, it in enumerate(tokens[:-4]):
+                if it.text == "use" and at and tokens[at - 1].text == "pub" and tokens[at + 3].text == "{":
+                    place, path = at + 4, tuple(tokens[at + 1].text.split("."))
+                    while tokens[place].text != "}":
+                        found[tokens[place].text] = path
+                        place += 1
+            self.declared["handed", name] = found
+        return self.declared["handed", name]
+
     def words(self, crate: str, file: str) -> set[str]:
         """Returns all words of a file of specs."""
         name = self.crates[crate].files["specs"][file]
@@ -127,24 +143,30 @@ class Tree:
 
     # ---- code
 
-    def in_module(self, crate: str, module: str, name: str, seen: frozenset = frozenset()) -> Thing | None:
-        """Returns what a name is in a module of code."""
-        if (crate, module, name) in seen:
+    def in_module(self, crate: str, module: str, name: str, seen: frozenset = frozenset(),
+                  is_inner: bool = False) -> Thing | None:
+        """Returns what a name is in a module of code: a module or a type first where more words follow it."""
+        if (crate, module, name, is_inner) in seen:
             return None
         it = self.crates[crate].modules.get(module)
         if it is None:
             return None
-        kind = it.items.get(name)
+        kind, found = it.items.get(name), []
         if kind == "module":
-            return ("module", crate, name) if name in self.crates[crate].modules else None
-        if kind:
-            return (kind, crate, module, name)
+            if name in self.crates[crate].modules:
+                found.append(("module", crate, name))
+        elif kind:
+            found.append((kind, crate, module, name))
+        if found and (found[0][0] in ("module", "type")) == is_inner:
+            return found[0]
         for leaf in it.uses:
             if leaf.name == name:
-                return self.of_path(it, leaf.path, seen | {(crate, module, name)})
-        return None
+                thing = self.of_path(it, leaf.path, seen | {(crate, module, name, is_inner)}, is_inner)
+                if thing:
+                    found.append(thing)
+        return next((it for it in found if (it[0] in ("module", "type")) == is_inner), found[0] if found else None)
 
-    def in_scope(self, module: Module, name: str) -> Thing | None:
+    def in_scope(self, module: Module, name: str, is_inner: bool = False) -> Thing | None:
         """Returns what a first word of a path is in a module."""
         if name == "crate":
             return ("module", module.crate, "")
@@ -152,36 +174,38 @@ class Tree:
             return ("module", module.crate, module.name)
         if name == "super":
             return ("module", module.crate, "")
-        found = self.in_module(module.crate, module.name, name)
+        found = self.in_module(module.crate, module.name, name, frozenset(), is_inner)
         if found is None and name in self.crates and name in self.crates[module.crate].uses:
             return ("module", name, "")
         return found
 
-    def step(self, thing: Thing | None, name: str, seen: frozenset = frozenset()) -> Thing | None:
+    def step(self, thing: Thing | None, name: str, seen: frozenset = frozenset(),
+             is_inner: bool = False) -> Thing | None:
         """Returns what stands below a thing of code under a name."""
         if thing is None:
             return None
         if thing[0] == "module":
-            return self.in_module(thing[1], thing[2], name, seen)
+            return self.in_module(thing[1], thing[2], name, seen, is_inner)
         if thing[0] == "type":
             made = self.crates[thing[1]].modules[thing[2]].types.get(thing[3])
             if made and (name in made.variants or name in made.functions or name in made.fields):
                 return ("member", *thing[1:], name)
         return None
 
-    def of_path(self, module: Module, path: tuple[str, ...], seen: frozenset = frozenset()) -> Thing | None:
+    def of_path(self, module: Module, path: tuple[str, ...], seen: frozenset = frozenset(),
+                is_inner: bool = False) -> Thing | None:
         """Returns what a path of code is in a module. A `use` of a crate's name is the crate."""
-        first = path[0]
+        first, more = path[0], len(path) > 1
         if first in self.crates and first in self.crates[module.crate].uses and first not in module.items:
             thing: Thing | None = ("module", first, "")
-        elif len(path) > 1 or first in ("crate", "self", "super"):
-            if (module.crate, module.name, first) in seen:
+        elif more or first in ("crate", "self", "super"):
+            if (module.crate, module.name, first, True) in seen:
                 return None
-            thing = self.in_scope(module, first)
+            thing = self.in_scope(module, first, True)
         else:
             thing = None
-        for word in path[1:]:
-            thing = self.step(thing, word, seen)
+        for at, word in enumerate(path[1:], 2):
+            thing = self.step(thing, word, seen, at < len(path) or is_inner)
         return thing
 
     # ---- definitions and lemmas
@@ -214,6 +238,9 @@ class Tree:
                 return self.mirrored("proofs", ("module", crate.name, ""), name)
             return None
         if thing[0] == "file":
+            target = self.handed_by_file(thing[1], thing[2], thing[3]).get(name)
+            if target:
+                return self.below(self.walk(target)[-1], name)
             kind = "definition" if thing[2] == "specs" else "lemma"
             return (kind, thing[1], thing[3], name)
         if thing[0] == "mirror":

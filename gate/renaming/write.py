@@ -7,7 +7,8 @@ from renaming import mutants
 from renaming.layout import Layout, renamed_mods
 from renaming.pages import Pages
 from renaming.paths import Paths
-from renaming.rewrite import Code, applied, logic_edits
+from renaming.logic import Logic
+from renaming.rewrite import Code, applied, in_comments, owner_at, params_at
 from renaming.sources import RATTLE
 from renaming.table import Names
 from renaming.tree import LIB, Tree
@@ -46,6 +47,9 @@ class Writing:
         self.layout = Layout(tree, self.paths)
         self.pages = Pages(self)
         self.said: list[str] = []
+        self.left: list[str] = []
+        self.labels: dict[tuple[str, str, str], dict[str, str]] = {}
+        self.file_words: dict[str, dict[str, str]] = {}
         self.made: dict[str, bytes] = {}
         self.came_from: dict[str, str] = {}
         self.edits: dict[str, list] = {}
@@ -53,6 +57,7 @@ class Writing:
 
     def all(self) -> dict[str, bytes]:
         """Returns all files that differ or go elsewhere, by new path."""
+        self.leave_undecided()
         self.sources()
         self.roots()
         self.crates_txt()
@@ -60,6 +65,16 @@ class Writing:
         self.others()
         self.said += self.layout.problems
         return self.made
+
+    def leave_undecided(self) -> None:
+        """Leaves methods that are called where the type of the receiver can't be told."""
+        members = self.paths.members
+        found = members.undecided(lambda module, at: (owner_at(module, at), params_at(module, at)))
+        for name, files in sorted(found.items()):
+            rows = [f"{'::'.join(it)} to {new}" for it, new in self.names.members.items() if it[3] == name]
+            self.said.append(f"left: method {', '.join(rows)}: called on what may be another type in "
+                             f"{len(files)} places, first in {files[0]}")
+        members.without(set(found))
 
     def give(self, new: str, data: bytes, old: str) -> None:
         if new in self.came_from and self.came_from[new] != old:
@@ -91,14 +106,40 @@ class Writing:
 
     def code_edits(self, module) -> list:
         """Returns the replacements in a file of code."""
-        return Code(self.paths, module).all()
+        code = Code(self.paths, module, self.labels)
+        edits = code.all()
+        self.left += [f"{module.file}: {it}" for it in code.left]
+        self.file_words[module.file] = code.words
+        return edits
 
     def logic_edits(self, file: str, tokens: list) -> list:
         """Returns the replacements in a file of specs or proofs."""
-        return logic_edits(self.paths, tokens)
+        parts = file.split("/")
+        stem = parts[3].removesuffix(".antt") if len(parts) == 4 else ""
+        labels = self.labels_of(parts) if len(parts) > 4 else {}
+        logic = Logic(self.paths, parts[1], parts[2], stem, tokens, labels, self.labels)
+        edits = logic.all()
+        self.left += [f"{file}: {it}" for it in logic.left]
+        self.file_words[file] = logic.words
+        return edits
+
+    def labels_of(self, parts: list[str]) -> dict[str, str]:
+        """Returns how labels change in the answers of a function, or of the functions of a cycle."""
+        room, name = parts[3:-1], parts[-2]
+        module = room[0] if room[0] in self.tree.crates[parts[1]].modules else ""
+        if not name.startswith("+"):
+            return self.labels.get((parts[1], module, name), {})
+        found: dict[str, str] = {}
+        for (crate, known, _), labels in self.labels.items():
+            if crate == parts[1] and known == module:
+                found |= labels
+        return found
 
     def source(self, file: str, edits: list, crate: str) -> None:
-        data = applied((self.tree.root / file).read_bytes(), edits)
+        data = (self.tree.root / file).read_bytes()
+        mark = "--" if file.endswith(".antt") else "//"
+        edits = edits + in_comments(data, mark, self.file_words.get(file, {}))
+        data = applied(data, edits)
         if file.endswith(("/src/lib.rt", "/src/main.rt")):
             data = renamed_mods(data.decode(), lambda it: self.names.module(crate, it)).encode()
         self.give(self.layout.new_path(file), data, file)
