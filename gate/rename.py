@@ -2,10 +2,11 @@
 """Merges crates, and gives crates, modules and names other names by a table, at the top of a clean checkout.
 
 usage: gate/rename.py TABLE [--groups GROUP,..] [--kinds KIND,..] [--skip-missing] [--try]
+       gate/rename.py --check     prints each path and imported name of the sources that leads to nothing
 
-A line of the table is KIND, CRATE, OLD, NEW and a reason, separated by tabs. KIND is crate, module, alias, type, variant,
-function or definition. A comment `# group NAME: ..` begins a group. A line whose OLD isn't there is printed, and nothing is written unless --skip-missing
-is said. --try writes nothing. docs/WORKING.md says how to go on."""
+A line of the table is KIND, CRATE, OLD, NEW and a reason, separated by tabs. KIND is crate, module, alias, type,
+variant, function or definition. A comment `# group NAME: ..` begins a group. A line whose OLD isn't there is printed,
+and nothing is written unless --skip-missing is said. --try writes nothing. docs/WORKING.md says how to go on."""
 import argparse
 import pathlib
 import subprocess
@@ -14,6 +15,7 @@ import sys
 sys.path.insert(0, str(pathlib.Path(__file__).parent))
 
 from renaming import table  # noqa: E402
+from renaming.resolve import unresolved  # noqa: E402
 from renaming.tree import Tree  # noqa: E402
 from renaming.write import Writing  # noqa: E402
 
@@ -21,7 +23,8 @@ from renaming.write import Writing  # noqa: E402
 def words() -> argparse.Namespace:
     """Returns the words of the command line."""
     asked = argparse.ArgumentParser(usage=__doc__)
-    asked.add_argument("table", type=pathlib.Path)
+    asked.add_argument("table", type=pathlib.Path, nargs="?")
+    asked.add_argument("--check", action="store_true")
     asked.add_argument("--kinds", default=",".join(table.KINDS))
     asked.add_argument("--groups", default="")
     asked.add_argument("--skip-missing", action="store_true")
@@ -37,6 +40,10 @@ def chosen_of(rows: list[table.Row], asked: argparse.Namespace) -> list[table.Ro
 
 def main() -> int:
     asked, root = words(), pathlib.Path(".").resolve()
+    if asked.check:
+        found = unresolved(Tree(root))
+        print(*found, f"{len(found)} names lead to nothing", sep="\n")
+        return bool(found)
     dirty = subprocess.run(["git", "status", "--porcelain"], capture_output=True, text=True, check=True).stdout
     if dirty and not asked.only_try:
         sys.exit("the checkout isn't clean")

@@ -47,7 +47,8 @@ class Layout:
     def logic_place(self, parts: list[str]) -> str:
         stem, _, end = parts[-1].rpartition(".")
         if len(parts) == 4:
-            return "/".join(["crates", self.names.crate(parts[1]), parts[2], f"{self.names.file(*parts[1:3], stem)}.{end}"])
+            name = f"{self.names.file(*parts[1:3], stem)}.{end}"
+            return "/".join(["crates", self.names.crate(parts[1]), parts[2], name])
         new = self.paths.logic(("Rattle", parts[1], *parts[2:-1]))
         return "/".join(["crates", new[1], *new[2:], parts[-1]])
 

@@ -13,7 +13,7 @@ from renaming.sources import tokens_of
 
 @dataclass
 class Mutant:
-    """An edit: its path, its crate, the file that it changes, its pairs, and where each pair stands before and after."""
+    """An edit: its path, its crate, the file that it changes, its pairs, and where each pair is before and after."""
 
     path: str
     crate: str

@@ -1,4 +1,4 @@
-"""New names of paths: of code (`ir_event::world::World`), and of definitions and lemmas (`Rattle.ir_event.specs.Looks`)."""
+"""New names of paths of code (`ir_event::world::World`) and of definitions (`Rattle.ir_event.specs.Looks`)."""
 from renaming.code import Module
 from renaming.members import Members
 from renaming.table import Names
@@ -60,7 +60,8 @@ class Paths:
         """Returns what a path becomes that stands in a module of code."""
         tree, first = self.tree, path[0]
         uses = tree.crates[module.crate].uses
-        if first in tree.crates and first in uses and (is_use or tree.in_module(module.crate, module.name, first) is None):
+        is_hidden = not is_use and tree.in_module(module.crate, module.name, first) is not None
+        if first in tree.crates and first in uses and not is_hidden:
             out, thing = self.root(module, first), ("module", first, "")
         elif first in ("crate", "self", "super"):
             thing = tree.in_scope(module, first)

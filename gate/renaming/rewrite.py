@@ -185,7 +185,8 @@ class Code:
             for is_inner in (False, True):
                 thing = self.paths.tree.in_scope(self.module, name, is_inner)
                 if thing and (thing[0] in ("module", "type")) == is_inner:
-                    known.setdefault((self.paths.local(self.module, name, is_inner), is_inner), set()).add((name, thing))
+                    new = self.paths.local(self.module, name, is_inner)
+                    known.setdefault((new, is_inner), set()).add((name, thing))
         for (new, _), found in known.items():
             if len(found) > 1:
                 names = " and ".join(sorted(name for name, _ in found))

@@ -9,7 +9,7 @@ AT_ONCE = 400
 
 
 class Token(NamedTuple):
-    """A token: where it begins and ends in the file's bytes, its kind (Code, Head, Antt, End, Literal, Text), its text."""
+    """A token: its range of bytes, its kind (Code, Head, Antt, End, Literal, Text) and its text."""
 
     start: int
     end: int

@@ -102,6 +102,8 @@ class Loading:
 
     def module(self, crate: str, row: Row) -> bool:
         side, slash, name = row.old.rpartition("/")
+        if self.is_carried_out(crate, row, side, slash):
+            return self.is_done(row, True)
         if slash:
             if name in self.tree.crates[crate].files.get(side, {}):
                 self.names.files[crate, side, name] = row.new
@@ -115,6 +117,13 @@ class Loading:
             self.names.modules[crate, name] = row.new
             return True
         return self.is_done(row, row.new in self.tree.crates[crate].modules)
+
+    def is_carried_out(self, crate: str, row: Row, side: str, slash: str) -> bool:
+        """Whether NEW is there, and isn't OLD of another row: then a file of the name OLD is another one."""
+        it = self.tree.crates[crate]
+        there = it.files.get(side, {}) if slash else it.modules
+        return row.new in there and not any(old.rpartition("/")[2] == row.new for known, old in self.modules
+                                            if known == row.crate and old.rpartition("/")[0] == side)
 
     def is_done(self, row: Row, there: bool) -> bool:
         if there:

@@ -1,5 +1,4 @@
 """All files of a checkout under their new names."""
-import pathlib
 import re
 import subprocess
 
@@ -11,7 +10,7 @@ from renaming.logic import Logic
 from renaming.rewrite import Code, applied, in_comments, owner_at, params_at
 from renaming.sources import RATTLE
 from renaming.table import Names
-from renaming.tree import LIB, Tree
+from renaming.tree import Tree
 
 LEFT_ALONE = ("tests/golden/", "dist/")
 
@@ -151,7 +150,8 @@ class Writing:
                 if text is not None:
                     self.give(f"crates/{new}/{side}/Lib.antt", text.encode(), f"crates/{old[0]}/{side}/Lib.antt")
             if len(old) > 1:
-                self.give(f"crates/{new}/src/lib.rt", self.layout.code_root(new).encode(), f"crates/{old[0]}/src/lib.rt")
+                root = self.layout.code_root(new)
+                self.give(f"crates/{new}/src/lib.rt", root.encode(), f"crates/{old[0]}/src/lib.rt")
                 for name in old:
                     if (name, "") in self.names.modules:
                         place = f"crates/{new}/src/{self.names.modules[name, '']}.rt"
