@@ -1,0 +1,68 @@
+#!/usr/bin/env python3
+"""Merges crates, and gives crates, modules and names other names by a table, at the top of a clean checkout.
+
+usage: gate/rename.py TABLE [--groups GROUP,..] [--kinds KIND,..] [--skip-missing] [--try]
+       gate/rename.py --check     prints each path and imported name of the sources that leads to nothing
+
+A line of the table is KIND, CRATE, OLD, NEW and a reason, separated by tabs. KIND is crate, module, alias, type,
+variant, function or definition. A comment `# group NAME: ..` begins a group. A line whose OLD isn't there is printed,
+and nothing is written unless --skip-missing is said. --try writes nothing. docs/WORKING.md says how to go on."""
+import argparse
+import pathlib
+import subprocess
+import sys
+
+sys.path.insert(0, str(pathlib.Path(__file__).parent))
+
+from renaming import table  # noqa: E402
+from renaming.resolve import unresolved  # noqa: E402
+from renaming.tree import Tree  # noqa: E402
+from renaming.write import Writing  # noqa: E402
+
+
+def words() -> argparse.Namespace:
+    """Returns the words of the command line."""
+    asked = argparse.ArgumentParser(usage=__doc__)
+    asked.add_argument("table", type=pathlib.Path, nargs="?")
+    asked.add_argument("--check", action="store_true")
+    asked.add_argument("--kinds", default=",".join(table.KINDS))
+    asked.add_argument("--groups", default="")
+    asked.add_argument("--skip-missing", action="store_true")
+    asked.add_argument("--try", dest="only_try", action="store_true")
+    return asked.parse_args()
+
+
+def chosen_of(rows: list[table.Row], asked: argparse.Namespace) -> list[table.Row]:
+    """Returns the rows that the command line asks for."""
+    kinds, groups = asked.kinds.split(","), asked.groups.split(",")
+    return [it for it in rows if it.kind in kinds and (it.group in groups or not asked.groups)]
+
+
+def main() -> int:
+    asked, root = words(), pathlib.Path(".").resolve()
+    if asked.check:
+        found = unresolved(Tree(root))
+        print(*found, f"{len(found)} names lead to nothing", sep="\n")
+        return bool(found)
+    dirty = subprocess.run(["git", "status", "--porcelain"], capture_output=True, text=True, check=True).stdout
+    if dirty and not asked.only_try:
+        sys.exit("the checkout isn't clean")
+    rows = table.rows_of(asked.table)
+    tree = Tree(root)
+    loading = table.Loading(tree, rows, chosen_of(rows, asked))
+    for row in loading.missing:
+        print(f"missing: {asked.table}:{row.line}: {row.kind} {row.crate} {row.old}")
+    if loading.missing and not asked.skip_missing:
+        sys.exit(f"{len(loading.missing)} lines whose OLD isn't there: nothing is written")
+    writing = Writing(tree, loading.names)
+    made = writing.all()
+    for line in writing.said:
+        print(line)
+    if not asked.only_try:
+        writing.store(made)
+    print(f"{len(loading.done)} lines were carried out before; {len(made)} files written")
+    return 0
+
+
+if __name__ == "__main__":
+    sys.exit(main())
