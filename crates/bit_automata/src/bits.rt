@@ -1,0 +1,129 @@
+//! From one bit to the next.
+ghost use Rattle.std.specs.Prelude.{◌≡◌, ◌+◌, ◌*◌, ◌/◌, ◌%◌, ◌<◌, ◌^◌, IfOk, OnOk};
+ghost use Rattle.bit_automata.specs.Steps.{number_at};
+ghost use Rattle.bit_automata.specs.Serial.{AreBits, after, bit_of, bits_then, less_still, letter_then, next_of, radix, room, same_still};
+
+use crate::digits::{asks, is_number, radix};
+use crate::step::Step;
+use std::alloc::AllocError;
+
+/// The bit at a place; 0 where nothing stands there.
+fn bit_at(bits: &[u128], place: usize) -> u128
+    ensures { result ≡ number_at bits.now place }
+{
+    match bits.get(place) {
+        Some(bit) => *bit,
+        None => 0,
+    }
+}
+
+fn same_still(kept: u128, p: u128, q: u128) -> u128
+    ensures { result ≡ same_still kept p q }
+{
+    if p == q { kept } else { 0 }
+}
+
+fn less_still(kept: u128, p: u128, q: u128) -> u128
+    ensures { result ≡ less_still kept p q }
+{
+    if p == q { kept } else { q }
+}
+
+/// A step's bit.
+fn bit(step: &Step, kept: u128, guess: u128, bits: &[u128]) -> u128
+    requires kept { kept < radix step.now }
+    requires bits { AreBits bits.now }
+    ensures { result ≡ bit_of step.now kept guess bits.now }
+{
+    match step {
+        Step::Variable(_) => guess,
+        Step::Literal(_) => kept % 2,
+        Step::And(i, j) => bit_at(bits, *i).min(bit_at(bits, *j)),
+        Step::Or(i, j) => bit_at(bits, *i).max(bit_at(bits, *j)),
+        Step::ExclusiveOr(i, j) => (bit_at(bits, *i) + bit_at(bits, *j)) % 2,
+        Step::Add(i, j) => (bit_at(bits, *i) + bit_at(bits, *j) + kept) % 2,
+        Step::Subtract(i, j) => (bit_at(bits, *i) + bit_at(bits, *j) + kept) % 2,
+        Step::Select(_, _, _) => guess,
+        Step::Equal(_, _)
+        | Step::Less(_, _)
+        | Step::Suppose(_, _)
+        | Step::Not(_)
+        | Step::Both(_, _)
+        | Step::Differ(_, _) => 0,
+    }
+}
+
+/// What a step keeps for the next bit.
+fn next(step: &Step, kept: u128, guess: u128, bits: &[u128]) -> u128
+    requires kept { kept < radix step.now }
+    requires bits { AreBits bits.now }
+    ensures { result ≡ next_of step.now kept guess bits.now }
+{
+    match step {
+        Step::Literal(_) => kept / 2,
+        Step::Add(i, j) => (bit_at(bits, *i) + bit_at(bits, *j) + kept) / 2,
+        Step::Subtract(i, j) => less_still(kept, bit_at(bits, *i), bit_at(bits, *j)),
+        Step::Select(_, i, j) => selected(kept, guess, bit_at(bits, *i), bit_at(bits, *j)),
+        Step::Equal(i, j) => same_still(kept, bit_at(bits, *i), bit_at(bits, *j)),
+        Step::Less(i, j) => less_still(kept, bit_at(bits, *i), bit_at(bits, *j)),
+        Step::Suppose(i, j) => same_still(kept, bit_at(bits, *i), bit_at(bits, *j)),
+        Step::Variable(_)
+        | Step::And(_, _)
+        | Step::Or(_, _)
+        | Step::ExclusiveOr(_, _)
+        | Step::Not(_)
+        | Step::Both(_, _)
+        | Step::Differ(_, _) => 0,
+    }
+}
+
+/// What is kept of two that may be selected.
+fn selected(kept: u128, guess: u128, p: u128, q: u128) -> u128
+    requires { kept < 4 }
+    ensures { result ≡ same_still (kept % 2) guess p + 2 * same_still (kept / 2) guess q }
+{
+    same_still(kept % 2, guess, p) + 2 * same_still(kept / 2, guess, q)
+}
+
+/// Puts a step's bit behind those that are there, if it has one.
+fn put_bit(step: &Step, kept: u128, guess: u128, bits: &mut Vec<u128>) -> Result<(), AllocError>
+    requires kept { kept < radix step.now }
+    requires bits { AreBits bits.old.items }
+    ensures { OnOk result (bits.new.items ≡ bits_then step.now kept guess bits.old.items) }
+{
+    if is_number(step) {
+        let bit = bit(step, kept, guess, bits.as_slice());
+        bits.push(bit)?;
+    }
+    Ok(())
+}
+
+/// What is left of a letter behind a step.
+fn letter_then(step: &Step, letter: u32) -> u32
+    ensures { result ≡ letter_then step.now letter }
+{
+    if asks(step) { letter / 2 } else { letter }
+}
+
+/// The state behind a letter. The bits of all steps stand behind those that are there.
+pub fn after(
+    steps: &[Step],
+    state: u128,
+    letter: u32,
+    bits: &mut Vec<u128>,
+) -> Result<u128, AllocError>
+    requires small { room steps.now < 2 ^ 128 }
+    requires bits { AreBits bits.old.items }
+    ensures { IfOk result (λ n. (n ≡ after steps.now state letter bits.old.items) × (n < room steps.now)) }
+{
+    let [step, tail @ ..] = steps else {
+        return Ok(0);
+    };
+    let radix = radix(step);
+    let kept = state % radix;
+    let guess = (letter % 2) as u128;
+    let first = next(step, kept, guess, bits.as_slice());
+    put_bit(step, kept, guess, bits)?;
+    let rest = after(tail, state / radix, letter_then(step, letter), bits)?;
+    Ok(first + radix * rest)
+}

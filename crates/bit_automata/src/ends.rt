@@ -1,0 +1,136 @@
+//! What is known at the end.
+ghost use Rattle.std.specs.Prelude.{◌≡◌, ◌<◌, ◌^◌, IfOk, OnOk};
+ghost use Rattle.bit_automata.specs.Steps.{differ, truth_at};
+ghost use Rattle.bit_automata.specs.Serial.{Ended, agrees, is_lost, loses, radix, room, told, told_then};
+
+use crate::digits::{is_number, radix};
+use crate::step::Step;
+use std::alloc::AllocError;
+
+/// The truth at a place; false where nothing stands there.
+pub fn truth_at(truths: &[bool], place: usize) -> bool
+    ensures { result ≡ truth_at truths.now place }
+{
+    match truths.get(place) {
+        Some(truth) => *truth,
+        None => false,
+    }
+}
+
+/// Whether a guess stays wrong, or what is supposed isn't so.
+fn loses(step: &Step, kept: u128) -> bool
+    ensures { result ≡ loses step.now kept }
+{
+    match step {
+        Step::Select(_, _, _) | Step::Suppose(_, _) => kept == 0,
+        Step::Variable(_)
+        | Step::Literal(_)
+        | Step::And(_, _)
+        | Step::Or(_, _)
+        | Step::ExclusiveOr(_, _)
+        | Step::Add(_, _)
+        | Step::Subtract(_, _)
+        | Step::Equal(_, _)
+        | Step::Less(_, _)
+        | Step::Not(_)
+        | Step::Both(_, _)
+        | Step::Differ(_, _) => false,
+    }
+}
+
+/// The same of all steps.
+pub fn is_lost(steps: &[Step], state: u128) -> bool
+    requires { room steps.now < 2 ^ 128 }
+    ensures { result ≡ is_lost steps.now state }
+{
+    let [step, tail @ ..] = steps else {
+        return false;
+    };
+    let radix = radix(step);
+    if loses(step, state % radix) {
+        return true;
+    }
+    is_lost(tail, state / radix)
+}
+
+/// Whether one of two is true alone.
+fn differ(a: bool, b: bool) -> bool
+    ensures { result ≡ differ a b }
+{
+    if a { !b } else { b }
+}
+
+/// A truth.
+fn told(step: &Step, kept: u128, truths: &[bool]) -> bool
+    ensures { result ≡ told step.now kept truths.now }
+{
+    match step {
+        Step::Equal(_, _) | Step::Less(_, _) | Step::Suppose(_, _) => kept == 1,
+        Step::Not(i) => !truth_at(truths, *i),
+        Step::Both(i, j) => truth_at(truths, *i) && truth_at(truths, *j),
+        Step::Differ(i, j) => differ(truth_at(truths, *i), truth_at(truths, *j)),
+        Step::Variable(_)
+        | Step::Literal(_)
+        | Step::And(_, _)
+        | Step::Or(_, _)
+        | Step::ExclusiveOr(_, _)
+        | Step::Add(_, _)
+        | Step::Subtract(_, _)
+        | Step::Select(_, _, _) => false,
+    }
+}
+
+/// Whether what was guessed is what is selected, and what is supposed is so.
+fn agrees(step: &Step, kept: u128, truths: &[bool]) -> bool
+    ensures { result ≡ agrees step.now kept truths.now }
+{
+    match step {
+        Step::Select(t, _, _) => {
+            if truth_at(truths, *t) {
+                kept % 2 == 1
+            } else {
+                kept / 2 == 1
+            }
+        }
+        Step::Suppose(_, _) => kept == 1,
+        Step::Variable(_)
+        | Step::Literal(_)
+        | Step::And(_, _)
+        | Step::Or(_, _)
+        | Step::ExclusiveOr(_, _)
+        | Step::Add(_, _)
+        | Step::Subtract(_, _)
+        | Step::Equal(_, _)
+        | Step::Less(_, _)
+        | Step::Not(_)
+        | Step::Both(_, _)
+        | Step::Differ(_, _) => true,
+    }
+}
+
+/// Puts a step's truth behind those that are there, if it has one.
+fn put_told(step: &Step, kept: u128, truths: &mut Vec<bool>) -> Result<(), AllocError>
+    ensures { OnOk result (truths.new.items ≡ told_then step.now kept truths.old.items) }
+{
+    if !is_number(step) {
+        let truth = told(step, kept, truths.as_slice());
+        truths.push(truth)?;
+    }
+    Ok(())
+}
+
+/// Puts all truths there. The answer is whether all that was guessed and supposed agrees with them.
+pub fn end(steps: &[Step], state: u128, truths: &mut Vec<bool>) -> Result<bool, AllocError>
+    requires { room steps.now < 2 ^ 128 }
+    ensures { IfOk result (Ended steps.now state truths.old.items truths.new.items) }
+{
+    let [step, tail @ ..] = steps else {
+        return Ok(true);
+    };
+    let radix = radix(step);
+    let kept = state % radix;
+    let here = agrees(step, kept, truths.as_slice());
+    put_told(step, kept, truths)?;
+    let rest = end(tail, state / radix, truths)?;
+    Ok(here && rest)
+}

@@ -1,0 +1,88 @@
+//! Whether two values are the same at all widths.
+ghost use Rattle.std.specs.Prelude.{◌≡◌, [], IfOk, IfSome};
+ghost use Rattle.width_claims.specs.Emitted.{claim_of};
+ghost use Rattle.width_claims.specs.Claimed.{IsClaim, IsSame};
+
+use crate::block::at;
+use crate::emit::{emit_asked, emit_narrower, emit_pieces, emit_types};
+use crate::form::Piece;
+use crate::width::{Narrower, Width};
+use bit_automata::decided::decide_everywhere;
+use bit_automata::step::Step;
+use bit_automata::verdict::Verdict;
+use std::alloc::{AllocError, Global};
+
+/// Puts the steps of a claim there, where nothing stands. The answer is the place of its truth, unless it has too many.
+fn emit_claim(
+    alloc: Global,
+    first_mask: usize,
+    types: &[Width],
+    narrower: &[Narrower],
+    pieces: &[Piece],
+    asked: &[usize],
+    left: usize,
+    right: usize,
+    steps: &mut Vec<Step>,
+) -> Result<Option<usize>, AllocError>
+    requires { steps.old.items ≡ [] }
+    ensures { IfOk result (λ p. IfSome p (IsClaim (claim_of first_mask types.now narrower.now pieces.now asked.now left right) steps.new.items)) }
+{
+    steps.extend_from_slice(&[Step::Literal(0), Step::Literal(1)])?;
+    let mut masks = Vec::new(alloc);
+    let typed = emit_types(first_mask, types, steps, &mut masks, 2, 0)?;
+    let Some(typed) = typed else {
+        return Ok(None);
+    };
+    let ordered = emit_narrower(
+        masks.as_slice(),
+        narrower,
+        steps,
+        typed.numbers,
+        typed.truths,
+    )?;
+    let Some(ordered) = ordered else {
+        return Ok(None);
+    };
+    let mut places = Vec::new(alloc);
+    let made = emit_pieces(
+        masks.as_slice(),
+        pieces,
+        &mut places,
+        steps,
+        ordered.numbers,
+        ordered.truths,
+    )?;
+    let Some(made) = made else {
+        return Ok(None);
+    };
+    emit_asked(places.as_slice(), asked, steps)?;
+    let last = Step::Equal(at(places.as_slice(), left), at(places.as_slice(), right));
+    steps.push(last)?;
+    Ok(made.truths.checked_add(asked.len()))
+}
+
+/// Whether two values are the same, at all widths that the types may have, for all variables, where what is asked is so.
+/// Of the states so many at most are looked at.
+pub fn decide_same(
+    alloc: Global,
+    first_mask: usize,
+    types: &[Width],
+    narrower: &[Narrower],
+    pieces: &[Piece],
+    asked: &[usize],
+    left: usize,
+    right: usize,
+    most: usize,
+) -> Result<Verdict, AllocError>
+    ensures { IfOk result (IsSame (claim_of first_mask types.now narrower.now pieces.now asked.now left right)) }
+{
+    let mut steps = Vec::new(alloc);
+    let place = emit_claim(
+        alloc, first_mask, types, narrower, pieces, asked, left, right, &mut steps,
+    )?;
+    let Some(place) = place else {
+        return Ok(Verdict::TooMany);
+    };
+    let verdict = decide_everywhere(alloc, steps.as_slice(), place, most)?;
+    Ok(verdict)
+}
