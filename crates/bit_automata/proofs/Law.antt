@@ -8,9 +8,9 @@ use Rattle.std.proofs.Math.Nat.{add-mul-mod_self_left, add-mul-div_left, div-eq_
 use Rattle.bit_automata.specs.Runs.{AcceptsAll, AreLetters, reached}
 use Rattle.bit_automata.specs.declared.step.Step.{Step}
 use Rattle.bit_automata.specs.Steps.{is_number, numbers_then, supposed, supposed_of, truth_at, truth_of, truths, truths_then, value_of}
-use Rattle.bit_automata.specs.Serial.{accepts, after, agrees, all_agree, asks, behind, bit_of, bits_then, is_lost, kept_on, letter_then, letters, loses, next_of, radix, start, told, told_all, told_then}
-use Rattle.bit_automata.specs.Lasting.{Lasts}
-use Rattle.bit_automata.proofs.Standing.{AreLow, agrees_is, bit_is, bits, kept, kept_below, kept_first, loses_not, next_is, told_is, value_low}
+use Rattle.bit_automata.specs.BitSerial.{accepts, after, agrees, all_agree, reads_bit, next_state, bit_of, bits_then, is_lost, kept_on, letter_then, letters, loses, next_of, radix, start, end_truth, end_truths, end_truths_then}
+use Rattle.bit_automata.specs.AllWidths.{AcceptanceIsSound}
+use Rattle.bit_automata.proofs.Invariant.{AreLow, agrees_is, bit_is, bits, kept, kept_below, kept_first, loses_not, next_is, end_truth_is, value_low}
 
 -- a digit and what is above it
 digit : (c r p : ℕ) → c < r → ((c + r * p) % r ≡ c) × ((c + r * p) / r ≡ p)
@@ -48,7 +48,7 @@ module _ (w : ℕ) (vs : List ℕ) where
   abbrev pub letter_at : ℕ → List Step → List ℕ → List Bool → ℕ
   letter_at k [] ns ts = 0
   letter_at k (s ∷ ss) ns ts =
-      if asks s then bit_at (value_of w vs s ns ts) k + 2 * letter_at k ss (numbers_then w vs s ns ts) (truths_then s ns ts)
+      if reads_bit s then bit_at (value_of w vs s ns ts) k + 2 * letter_at k ss (numbers_then w vs s ns ts) (truths_then s ns ts)
       else letter_at k ss (numbers_then w vs s ns ts) (truths_then s ns ts)
 
   pub state_first : (ss : List Step) (ns : List ℕ) (ts : List Bool) → state_at 0 ss ns ts ≡ start ss
@@ -59,7 +59,7 @@ module _ (w : ℕ) (vs : List ℕ) where
   pub letter_below : (k : ℕ) (ss : List Step) (ns : List ℕ) (ts : List Bool) → letter_at k ss ns ts < letters ss
   letter_below k [] ns ts = omega arith
   letter_below k (s ∷ ss) ns ts =
-      go (asks s) (bit_at (value_of w vs s ns ts) k) (letter_at k ss (numbers_then w vs s ns ts) (truths_then s ns ts)) (letters ss)
+      go (reads_bit s) (bit_at (value_of w vs s ns ts) k) (letter_at k ss (numbers_then w vs s ns ts) (truths_then s ns ts)) (letters ss)
       (bit_at-lt (value_of w vs s ns ts) k) (letter_below k ss (numbers_then w vs s ns ts) (truths_then s ns ts))
     where
       go : (b : Bool) (p x m : ℕ) → p < 2 → x < m → (if b then p + 2 * x else x) < (if b then 2 * m else m)
@@ -76,7 +76,7 @@ module _ (w : ℕ) (vs : List ℕ) where
     rest_is true p x l = omega (arith, l)
     rest_is false p x l = refl
 
-    bits_are : (s : Step) (g : ℕ) (ns : List ℕ) (ts : List Bool) → AreLow w ns → (asks s ≡ true → g ≡ bit_at (value_of w vs s ns ts) k)
+    bits_are : (s : Step) (g : ℕ) (ns : List ℕ) (ts : List Bool) → AreLow w ns → (reads_bit s ≡ true → g ≡ bit_at (value_of w vs s ns ts) k)
         → bits_then s (kept k s (value_of w vs s ns ts) ns) g (bits k ns) ≡ bits k (numbers_then w vs s ns ts)
     bits_are s g ns ts low guess = go (is_number s) (λ e. bit_is w vs k within s g ns ts e low guess)
       where
@@ -93,32 +93,32 @@ module _ (w : ℕ) (vs : List ℕ) where
         let us = truths_then s ns ts in
         let d = digit (kept k s v ns) (radix s) (state_at k ss ms us) (kept_below k s v ns) in
         let x = letter_at k (s ∷ ss) ns ts in
-        let guess : asks s ≡ true → x % 2 ≡ bit_at v k = guess_is (asks s) (bit_at v k) (letter_at k ss ms us) (bit_at-lt v k) in
-        let rest : letter_then s x ≡ letter_at k ss ms us = rest_is (asks s) (bit_at v k) (letter_at k ss ms us) (bit_at-lt v k) in
+        let guess : reads_bit s ≡ true → x % 2 ≡ bit_at v k = guess_is (reads_bit s) (bit_at v k) (letter_at k ss ms us) (bit_at-lt v k) in
+        let rest : letter_then s x ≡ letter_at k ss ms us = rest_is (reads_bit s) (bit_at v k) (letter_at k ss ms us) (bit_at-lt v k) in
         (λ i. next_of s (d.0 i) (x % 2) (bits k ns) + radix s * after ss (d.1 i) (rest i) (bits_then s (d.0 i) (x % 2) (bits k ns)))
         ∙ (λ i. next_is w vs k within s (x % 2) ns ts guess i + radix s * after ss (state_at k ss ms us) (letter_at k ss ms us) (bits_are s (x % 2) ns ts low guess i))
         ∙ ap (λ n. kept (suc k) s v ns + radix s * n) (state_next ss ms us (low_then s ns ts low))
 
   -- ---- at the end
 
-  told_there : (s : Step) (ns : List ℕ) (ts : List Bool) → AreLow w ns → told_then s (kept w s (value_of w vs s ns ts) ns) ts ≡ truths_then s ns ts
-  told_there s ns ts low = go (is_number s) (λ e. told_is w vs s ns ts e low)
+  end_there : (s : Step) (ns : List ℕ) (ts : List Bool) → AreLow w ns → end_truths_then s (kept w s (value_of w vs s ns ts) ns) ts ≡ truths_then s ns ts
+  end_there s ns ts low = go (is_number s) (λ e. end_truth_is w vs s ns ts e low)
     where
-      go : (b : Bool) → (b ≡ false → told s (kept w s (value_of w vs s ns ts) ns) ts ≡ truth_of s ns ts)
-          → (if b then ts else ts ++ (told s (kept w s (value_of w vs s ns ts) ns) ts ∷ [])) ≡ (if b then ts else ts ++ (truth_of s ns ts ∷ []))
+      go : (b : Bool) → (b ≡ false → end_truth s (kept w s (value_of w vs s ns ts) ns) ts ≡ truth_of s ns ts)
+          → (if b then ts else ts ++ (end_truth s (kept w s (value_of w vs s ns ts) ns) ts ∷ [])) ≡ (if b then ts else ts ++ (truth_of s ns ts ∷ []))
       go true e = refl
       go false e = ap (λ t. ts ++ (t ∷ [])) (e refl)
 
-  pub told_truths : (ss : List Step) (ns : List ℕ) (ts : List Bool) → AreLow w ns → told_all ss (state_at w ss ns ts) ts ≡ truths w vs ss ns ts
-  told_truths [] ns ts low = refl
-  told_truths (s ∷ ss) ns ts low =
+  pub end_truths_are : (ss : List Step) (ns : List ℕ) (ts : List Bool) → AreLow w ns → end_truths ss (state_at w ss ns ts) ts ≡ truths w vs ss ns ts
+  end_truths_are [] ns ts low = refl
+  end_truths_are (s ∷ ss) ns ts low =
       let v = value_of w vs s ns ts in
       let ms = numbers_then w vs s ns ts in
       let us = truths_then s ns ts in
       let d = digit (kept w s v ns) (radix s) (state_at w ss ms us) (kept_below w s v ns) in
-      (λ i. told_all ss (d.1 i) (told_then s (d.0 i) ts))
-      ∙ ap (λ r. told_all ss (state_at w ss ms us) r) (told_there s ns ts low)
-      ∙ told_truths ss ms us (low_then s ns ts low)
+      (λ i. end_truths ss (d.1 i) (end_truths_then s (d.0 i) ts))
+      ∙ ap (λ r. end_truths ss (state_at w ss ms us) r) (end_there s ns ts low)
+      ∙ end_truths_are ss ms us (low_then s ns ts low)
 
   pub guesses_agree : (ss : List Step) (ns : List ℕ) (ts : List Bool) → AreLow w ns → supposed w vs ss ns ts ≡ true → all_agree ss (state_at w ss ns ts) ts ≡ true
   guesses_agree [] ns ts low e = refl
@@ -128,8 +128,8 @@ module _ (w : ℕ) (vs : List ℕ) where
       let us = truths_then s ns ts in
       let d = digit (kept w s v ns) (radix s) (state_at w ss ms us) (kept_below w s v ns) in
       let h = and_parts (supposed_of s ns) (supposed w vs ss ms us) e in
-      (λ i. agrees s (d.0 i) ts && all_agree ss (d.1 i) (told_then s (d.0 i) ts))
-      ∙ (λ i. agrees_is w vs s ns ts h.0 i && all_agree ss (state_at w ss ms us) (told_there s ns ts low i))
+      (λ i. agrees s (d.0 i) ts && all_agree ss (d.1 i) (end_truths_then s (d.0 i) ts))
+      ∙ (λ i. agrees_is w vs s ns ts h.0 i && all_agree ss (state_at w ss ms us) (end_there s ns ts low i))
       ∙ guesses_agree ss ms us (low_then s ns ts low) h.1
 
   pub never_lost : (k : ℕ) (ss : List Step) (ns : List ℕ) (ts : List Bool) → supposed w vs ss ns ts ≡ true → is_lost ss (state_at k ss ns ts) ≡ false
@@ -162,11 +162,11 @@ module _ (w : ℕ) (vs : List ℕ) where
     letters_behind n [] x a l = (l, tt)
     letters_behind n (y ∷ xs) x a l = (a.0, letters_behind n xs x a.1 l)
 
-    reached_at : (k : ℕ) → k ≤ w → reached (behind ss) (start ss) (word k) ≡ state_at k ss [] []
+    reached_at : (k : ℕ) → k ≤ w → reached (next_state ss) (start ss) (word k) ≡ state_at k ss [] []
     reached_at zero l = sym (state_first ss [] [])
     reached_at (suc k) l =
-        one_further (behind ss) (start ss) (word k) (letter_at k ss [] [])
-        ∙ ap (λ n. behind ss n (letter_at k ss [] [])) (reached_at k (omega (arith, l)))
+        one_further (next_state ss) (start ss) (word k) (letter_at k ss [] [])
+        ∙ ap (λ n. next_state ss n (letter_at k ss [] [])) (reached_at k (omega (arith, l)))
         ∙ ap (kept_on ss) (state_next k (omega (arith, l)) ss [] [] none_low)
         ∙ ap (λ b. if b then 0 else state_at (suc k) ss [] []) (never_lost (suc k) ss [] [] so)
 
@@ -178,17 +178,17 @@ module _ (w : ℕ) (vs : List ℕ) where
     accepted_behind f p n s all [] x a = all x [] a
     accepted_behind f p n s all (y ∷ xs) x a = all y (xs ++ x ∷ []) a
 
-    told_true : (a b : Bool) → a ≡ true → (not a || b) ≡ true → b ≡ true
-    told_true true b e h = h
-    told_true false b e h = absurd (true≢false (sym e))
+    end_true : (a b : Bool) → a ≡ true → (not a || b) ≡ true → b ≡ true
+    end_true true b e h = h
+    end_true false b e h = absurd (true≢false (sym e))
 
-    pub true_there : (claim k : ℕ) → w ≡ suc k → AcceptsAll (behind ss) (accepts ss claim) (letters ss) (start ss) → truth_at (truths w vs ss [] []) claim ≡ true
+    pub true_there : (claim k : ℕ) → w ≡ suc k → AcceptsAll (next_state ss) (accepts ss claim) (letters ss) (start ss) → truth_at (truths w vs ss [] []) claim ≡ true
     true_there claim k e all =
-        let yes = accepted_behind (behind ss) (accepts ss claim) (letters ss) (start ss) all (word k) (letter_at k ss [] []) (word_letters (suc k)) in
+        let yes = accepted_behind (next_state ss) (accepts ss claim) (letters ss) (start ss) all (word k) (letter_at k ss [] []) (word_letters (suc k)) in
         let there = sym (ap (accepts ss claim) (reached_at (suc k) (omega (arith, e)) ∙ ap (λ j. state_at j ss [] []) (sym e))) ∙ yes in
-        ap (λ ts. truth_at ts claim) (sym (told_truths ss [] [] none_low))
-        ∙ told_true (all_agree ss (state_at w ss [] []) []) (truth_at (told_all ss (state_at w ss [] []) []) claim) (guesses_agree ss [] [] none_low so) there
+        ap (λ ts. truth_at ts claim) (sym (end_truths_are ss [] [] none_low))
+        ∙ end_true (all_agree ss (state_at w ss [] []) []) (truth_at (end_truths ss (state_at w ss [] []) []) claim) (guesses_agree ss [] [] none_low so) there
 
-pub lasts : Lasts
-lasts ss claim all zero l vs so = absurd (omega (arith, l))
-lasts ss claim all (suc k) l vs so = true_there (suc k) vs ss so claim k refl all
+pub accepted_at_all_widths : AcceptanceIsSound
+accepted_at_all_widths ss claim all zero l vs so = absurd (omega (arith, l))
+accepted_at_all_widths ss claim all (suc k) l vs so = true_there (suc k) vs ss so claim k refl all

@@ -6,7 +6,7 @@ use Rattle.std.proofs.lemmas.Nat.{mod-pow-add, div-mul-add, div-add-mod', pow-ad
 use Rattle.std.proofs.lemmas.Nat.Bits.{bit_at-lt}
 use Rattle.std.proofs.Math.Nat.{div-div-eq-div-mul, div-lt_iff_lt-mul, mod-lt, pow-suc}
 use Rattle.std.proofs.Math.Pow.{mod-mod-pow}
-use Rattle.bit_automata.specs.Serial.{same_still, less_still}
+use Rattle.bit_automata.specs.BitSerial.{same_still, less_still}
 
 -- the lowest bits and one more
 pub one_more : (a k : ℕ) → a % 2 ^ suc k ≡ bit_at a k * 2 ^ k + a % 2 ^ k

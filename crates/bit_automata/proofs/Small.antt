@@ -9,9 +9,9 @@ use Rattle.bit_automata.specs.Runs.{IsVerdict}
 use Rattle.bit_automata.specs.declared.step.Step.{Step}
 use Rattle.bit_automata.specs.declared.step.Step.TheVariants as step
 use Rattle.bit_automata.specs.Steps.{is_number, number_at}
-use Rattle.bit_automata.specs.Serial.{AreBits, accepts, after, agrees, all_agree, begins, behind, bit_of, bits_then, Ended, is_lost, less_still, letter_then, letters, loses, next_of, radix, room, same_still, start, told_all, told_then}
-use Rattle.bit_automata.specs.Lasting.{IsDecided}
-use Rattle.bit_automata.proofs.Law.{lasts}
+use Rattle.bit_automata.specs.BitSerial.{AreBits, accepts, after, agrees, all_agree, first_digit, next_state, bit_of, bits_then, Ended, is_lost, less_still, letter_then, letters, loses, next_of, radix, state_count, same_still, start, end_truths, end_truths_then}
+use Rattle.bit_automata.specs.AllWidths.{IsDecided}
+use Rattle.bit_automata.proofs.Law.{accepted_at_all_widths}
 
 pub uncons : {X : Type 0} (xs : List X) (d : X) → 1 ≤ length xs → xs ≡ get_or xs 0 d ∷ take (length xs - 1) (drop 1 xs)
 uncons [] d l = absurd (omega (arith, l))
@@ -33,18 +33,18 @@ radix_some (step.Less i j) = omega arith
 radix_some (step.Suppose i j) = omega arith
 radix_some _ = omega arith
 
-room_some : (ss : List Step) → 0 < room ss
-room_some [] = omega arith
-room_some (s ∷ ss) =
-    let h = le-mul_of_pos_right (radix s) (room_some ss) in
+state_count_some : (ss : List Step) → 0 < state_count ss
+state_count_some [] = omega arith
+state_count_some (s ∷ ss) =
+    let h = le-mul_of_pos_right (radix s) (state_count_some ss) in
     let l = radix_some s in
     omega (arith, h, l)
 
-pub room_parts : (ss tail : List Step) (s : Step) (m : ℕ) → ss ≡ s ∷ tail → room ss < m → (radix s < m) × (room tail < m)
-room_parts ss tail s m e l =
-    let h = le-mul_of_pos_right (radix s) (room_some tail) in
-    let i : 1 * room tail ≤ radix s * room tail = mul-le-mul {n₁ = 1} {m₁ = room tail} {n₂ = radix s} {m₂ = room tail} (radix_some s) (omega arith) in
-    let r : room ss ≡ radix s * room tail = ap room e in
+pub state_count_parts : (ss tail : List Step) (s : Step) (m : ℕ) → ss ≡ s ∷ tail → state_count ss < m → (radix s < m) × (state_count tail < m)
+state_count_parts ss tail s m e l =
+    let h = le-mul_of_pos_right (radix s) (state_count_some tail) in
+    let i : 1 * state_count tail ≤ radix s * state_count tail = mul-le-mul {n₁ = 1} {m₁ = state_count tail} {n₂ = radix s} {m₂ = state_count tail} (radix_some s) (omega arith) in
+    let r : state_count ss ≡ radix s * state_count tail = ap state_count e in
     (omega (arith, h, r, l), omega (arith, i, r, l))
 
 -- a digit and what is above it
@@ -54,7 +54,7 @@ digits_below c r p q l h =
     let e : r * suc p ≡ r * p + r = omega arith in
     omega (arith, i, e, l)
 
-begins_small : (s : Step) → begins s < radix s
+begins_small : (s : Step) → first_digit s < radix s
 begins_small (step.Literal n) = omega arith
 begins_small (step.Select t i j) = omega arith
 begins_small (step.Equal i j) = omega arith
@@ -64,12 +64,12 @@ begins_small (step.Subtract i j) = omega arith
 begins_small (step.Less i j) = omega arith
 begins_small _ = omega arith
 
-pub start_small : (ss tail : List Step) (s : Step) (b r rest : ℕ) → ss ≡ s ∷ tail → b ≡ begins s → r ≡ radix s → rest < room tail → b + r * rest < room ss
+pub start_small : (ss tail : List Step) (s : Step) (b r rest : ℕ) → ss ≡ s ∷ tail → b ≡ first_digit s → r ≡ radix s → rest < state_count tail → b + r * rest < state_count ss
 start_small ss tail s b r rest e i j l =
-    let h = digits_below (begins s) (radix s) rest (room tail) (begins_small s) l in
-    let k : b + r * rest ≡ begins s + radix s * rest = (λ t. i t + j t * rest) in
-    let room_is : room ss ≡ radix s * room tail = ap room e in
-    omega (arith, h, k, room_is)
+    let h = digits_below (first_digit s) (radix s) rest (state_count tail) (begins_small s) l in
+    let k : b + r * rest ≡ first_digit s + radix s * rest = (λ t. i t + j t * rest) in
+    let state_count_is : state_count ss ≡ radix s * state_count tail = ap state_count e in
+    omega (arith, h, k, state_count_is)
 
 -- ---- bits
 
@@ -128,18 +128,18 @@ kept_small s n r e = subst (λ (q : ℕ). n % q < radix s) (sym e) (mod-lt n (ra
 -- ---- all steps
 
 pub after_all : (ss tail : List Step) (s : Step) (n x r f rest y : ℕ) (bs more : List ℕ) → ss ≡ s ∷ tail → AreBits bs → r ≡ radix s → f ≡ next_of s (n % r) (x % 2) bs
-    → more ≡ bits_then s (n % r) (x % 2) bs → y ≡ letter_then s x → (rest ≡ after tail (n / r) y more) × (rest < room tail)
-    → (f + r * rest ≡ after ss n x bs) × (f + r * rest < room ss)
-after_all ss tail s n x r f rest y bs more e are j first put letter is =
+    → more ≡ bits_then s (n % r) (x % 2) bs → y ≡ letter_then s x → (rest ≡ after tail (n / r) y more) × (rest < state_count tail)
+    → (f + r * rest ≡ after ss n x bs) × (f + r * rest < state_count ss)
+after_all ss tail s n x r f rest y bs more e are j first push_steps letter is =
     let small : f < radix s = subst (λ (q : ℕ). q < radix s) (sym first) (next_small s (n % r) (x % 2) bs are (kept_small s n r j)) in
-    let below = digits_below f (radix s) rest (room tail) small is.1 in
+    let below = digits_below f (radix s) rest (state_count tail) small is.1 in
     let k : f + r * rest ≡ f + radix s * rest = ap (λ q. f + q * rest) j in
-    let room_is : room ss ≡ radix s * room tail = ap room e in (
+    let state_count_is : state_count ss ≡ radix s * state_count tail = ap state_count e in (
       (λ t. first t + r * is.0 t)
-          ∙ (λ t. next_of s (n % r) (x % 2) bs + r * after tail (n / r) (letter t) (put t))
+          ∙ (λ t. next_of s (n % r) (x % 2) bs + r * after tail (n / r) (letter t) (push_steps t))
           ∙ (λ t. next_of s (n % j t) (x % 2) bs + j t * after tail (n / j t) (letter_then s x) (bits_then s (n % j t) (x % 2) bs))
           ∙ ap (λ us. after us n x bs) (sym e),
-      omega (arith, below, k, room_is),
+      omega (arith, below, k, state_count_is),
     )
 
 pub lost_all : (ss tail : List Step) (s : Step) (n r : ℕ) (here rest : Bool) → ss ≡ s ∷ tail → r ≡ radix s → here ≡ loses s (n % r) → here ≡ false → rest ≡ is_lost tail (n / r) → rest ≡ is_lost ss n
@@ -150,20 +150,20 @@ pub lost_here : (ss tail : List Step) (s : Step) (n r : ℕ) (here : Bool) → s
 lost_here ss tail s n r here e j is loss =
     ap (λ b. b || is_lost tail (n / radix s)) (sym loss ∙ is ∙ ap (λ q. loses s (n % q)) j) ∙ ap (λ us. is_lost us n) (sym e)
 
-pub end_all : (ss tail : List Step) (s : Step) (n r : ℕ) (ts us new : List Bool) (here rest : Bool) → ss ≡ s ∷ tail → r ≡ radix s → here ≡ agrees s (n % r) ts → us ≡ told_then s (n % r) ts
+pub end_all : (ss tail : List Step) (s : Step) (n r : ℕ) (ts us new : List Bool) (here rest : Bool) → ss ≡ s ∷ tail → r ≡ radix s → here ≡ agrees s (n % r) ts → us ≡ end_truths_then s (n % r) ts
     → Ended tail (n / r) us new rest → Ended ss n ts new (here && rest)
-end_all ss tail s n r ts us new here rest e j is put more = (
-  more.0 ∙ (λ t. told_all tail (n / r) (put t)) ∙ (λ t. told_all tail (n / j t) (told_then s (n % j t) ts)) ∙ ap (λ vs. told_all vs n ts) (sym e),
-  (λ t. is t && more.1 t) ∙ (λ t. agrees s (n % r) ts && all_agree tail (n / r) (put t)) ∙ (λ t. agrees s (n % j t) ts && all_agree tail (n / j t) (told_then s (n % j t) ts)) ∙ ap (λ vs. all_agree vs n ts) (sym e),
+end_all ss tail s n r ts us new here rest e j is push_steps more = (
+  more.0 ∙ (λ t. end_truths tail (n / r) (push_steps t)) ∙ (λ t. end_truths tail (n / j t) (end_truths_then s (n % j t) ts)) ∙ ap (λ vs. end_truths vs n ts) (sym e),
+  (λ t. is t && more.1 t) ∙ (λ t. agrees s (n % r) ts && all_agree tail (n / r) (push_steps t)) ∙ (λ t. agrees s (n % j t) ts && all_agree tail (n / j t) (end_truths_then s (n % j t) ts)) ∙ ap (λ vs. all_agree vs n ts) (sym e),
 )
 
 -- ---- what is decided
 
-pub decided : (ss : List Step) (claim n first : ℕ) (v : Verdict) → n ≡ letters ss → first ≡ start ss → IsVerdict (behind ss) (accepts ss claim) n first v → IsDecided ss claim v
-decided ss claim n first v many begin is =
-    turned v (subst (λ (k : ℕ). IsVerdict (behind ss) (accepts ss claim) k (start ss) v) many (subst (λ (b : ℕ). IsVerdict (behind ss) (accepts ss claim) n b v) begin is))
+pub all_widths : (ss : List Step) (claim n first : ℕ) (v : Verdict) → n ≡ letters ss → first ≡ start ss → IsVerdict (next_state ss) (accepts ss claim) n first v → IsDecided ss claim v
+all_widths ss claim n first v many begin is =
+    turned v (subst (λ (k : ℕ). IsVerdict (next_state ss) (accepts ss claim) k (start ss) v) many (subst (λ (b : ℕ). IsVerdict (next_state ss) (accepts ss claim) n b v) begin is))
   where
-    turned : (u : Verdict) → IsVerdict (behind ss) (accepts ss claim) (letters ss) (start ss) u → IsDecided ss claim u
-    turned verdict.Always all = lasts ss claim all
+    turned : (u : Verdict) → IsVerdict (next_state ss) (accepts ss claim) (letters ss) (start ss) u → IsDecided ss claim u
+    turned verdict.Always all = accepted_at_all_widths ss claim all
     turned (verdict.Fails word) fails = fails
     turned verdict.TooMany none = tt

@@ -255,17 +255,17 @@ module _ (after : ℕ → ℕ → ℕ) (accepts : ℕ → Bool) (n : ℕ) where
   -- what is known where a letter fails
   pub failed : (start : ℕ) (first : Option ℕ) (states : List ℕ) (os : List Origin) (place s x : ℕ) (failing : Option ℕ) (word : List ℕ) → first ≡ Some start → failing ≡ Some x
       → WentThrough after accepts n first states os place s failing → LeadsTo os place x word → AreLetters n word × (accepts (reached after start word) ≡ false) × IsShortest after accepts n start word
-  failed start first states os place s x failing word begins is went leads =
+  failed start first states os place s x failing word first_digit is went leads =
       let g = subst (λ (r : Option ℕ). WentThrough after accepts n first states os place s r) is went in
       let ds = g.0.0 in
       let w = g.0.1 in
-      let r = leads after n states start s w.origins (w.first ∙ begins) g.1 g.2 in
+      let r = leads after n states start s w.origins (w.first ∙ first_digit) g.1 g.2 in
       let many = r.2 ds w.deep in
       let within = slice_get_within states place s g.1 in
       let long = w.long in
       let deep = w.deep.0 in
       let none = w.deep.1 in
-      (r.0, ap accepts r.1 ∙ g.3, λ y ys a l. shallow first states os ds place w (omega (arith, within, long, deep)) 0 start (w.first ∙ begins) y ys a (omega (arith, l, many, none)))
+      (r.0, ap accepts r.1 ∙ g.3, λ y ys a l. shallow first states os ds place w (omega (arith, within, long, deep)) 0 start (w.first ∙ first_digit) y ys a (omega (arith, l, many, none)))
 
   pub known_origins : (first : Option ℕ) (states : List ℕ) (os : List Origin) (place s x : ℕ) (failing : Option ℕ) → failing ≡ Some x
       → WentThrough after accepts n first states os place s failing → AreBefore os × (place < length os)
@@ -277,10 +277,10 @@ module _ (after : ℕ → ℕ → ℕ) (accepts : ℕ → Bool) (n : ℕ) where
 
   pub passed : (start : ℕ) (first : Option ℕ) (states : List ℕ) (os : List Origin) (place s : ℕ) (failing : Option ℕ) → first ≡ Some start → failing ≡ None
       → WentThrough after accepts n first states os place s failing → Walked after accepts n (Some start) states os (place + 1)
-  passed start first states os place s failing begins is went =
+  passed start first states os place s failing first_digit is went =
       let w = subst (λ (r : Option ℕ). WentThrough after accepts n first states os place s r) is went in
       let e : suc place ≡ place + 1 = omega arith in
-      subst (λ (k : ℕ). Walked after accepts n (Some start) states os k) e (subst (λ (f : Option ℕ). Walked after accepts n f states os (suc place)) begins w)
+      subst (λ (k : ℕ). Walked after accepts n (Some start) states os k) e (subst (λ (f : Option ℕ). Walked after accepts n f states os (suc place)) first_digit w)
 
   -- with no state left, whatever letters lead to is accepted
   pub all_accepted : (states ds : List ℕ) (most : ℕ) → AllMet after accepts n states ds most → length states ≤ most

@@ -1,5 +1,5 @@
 pub mod Runs
 pub mod Walks
 pub mod Steps
-pub mod Serial
-pub mod Lasting
+pub mod BitSerial
+pub mod AllWidths

@@ -1,9 +1,9 @@
 //! From one bit to the next.
 ghost use Rattle.std.specs.Prelude.{◌≡◌, ◌+◌, ◌*◌, ◌/◌, ◌%◌, ◌<◌, ◌^◌, IfOk, OnOk};
 ghost use Rattle.bit_automata.specs.Steps.{number_at};
-ghost use Rattle.bit_automata.specs.Serial.{AreBits, after, bit_of, bits_then, less_still, letter_then, next_of, radix, room, same_still};
+ghost use Rattle.bit_automata.specs.BitSerial.{AreBits, after, bit_of, bits_then, less_still, letter_then, next_of, radix, state_count, same_still};
 
-use crate::digits::{asks, is_number, radix};
+use crate::digits::{is_number, radix, reads_bit};
 use crate::step::Step;
 use std::alloc::AllocError;
 
@@ -86,7 +86,7 @@ fn selected(kept: u128, guess: u128, p: u128, q: u128) -> u128
 }
 
 /// Puts a step's bit behind those that are there, if it has one.
-fn put_bit(step: &Step, kept: u128, guess: u128, bits: &mut Vec<u128>) -> Result<(), AllocError>
+fn push_bit(step: &Step, kept: u128, guess: u128, bits: &mut Vec<u128>) -> Result<(), AllocError>
     requires kept { kept < radix step.now }
     requires bits { AreBits bits.old.items }
     ensures { OnOk result (bits.new.items ≡ bits_then step.now kept guess bits.old.items) }
@@ -102,7 +102,7 @@ fn put_bit(step: &Step, kept: u128, guess: u128, bits: &mut Vec<u128>) -> Result
 fn letter_then(step: &Step, letter: u32) -> u32
     ensures { result ≡ letter_then step.now letter }
 {
-    if asks(step) { letter / 2 } else { letter }
+    if reads_bit(step) { letter / 2 } else { letter }
 }
 
 /// The state behind a letter. The bits of all steps stand behind those that are there.
@@ -112,9 +112,9 @@ pub fn after(
     letter: u32,
     bits: &mut Vec<u128>,
 ) -> Result<u128, AllocError>
-    requires small { room steps.now < 2 ^ 128 }
+    requires small { state_count steps.now < 2 ^ 128 }
     requires bits { AreBits bits.old.items }
-    ensures { IfOk result (λ n. (n ≡ after steps.now state letter bits.old.items) × (n < room steps.now)) }
+    ensures { IfOk result (λ n. (n ≡ after steps.now state letter bits.old.items) × (n < state_count steps.now)) }
 {
     let [step, tail @ ..] = steps else {
         return Ok(0);
@@ -123,7 +123,7 @@ pub fn after(
     let kept = state % radix;
     let guess = (letter % 2) as u128;
     let first = next(step, kept, guess, bits.as_slice());
-    put_bit(step, kept, guess, bits)?;
+    push_bit(step, kept, guess, bits)?;
     let rest = after(tail, state / radix, letter_then(step, letter), bits)?;
     Ok(first + radix * rest)
 }

@@ -43,8 +43,8 @@ fn go_through<M: Machine>(
 {
     let mut letter = 0u32;
     'letters: while letter < letters {
-        let behind = machine.after(alloc, state, letter)?;
-        let accepted = machine.accepts(alloc, behind)?;
+        let next_state = machine.after(alloc, state, letter)?;
+        let accepted = machine.accepts(alloc, next_state)?;
         if !accepted {
             return Ok(Some(letter));
         }
@@ -52,7 +52,7 @@ fn go_through<M: Machine>(
             from: place,
             letter,
         };
-        find(states, origins, behind, origin)?;
+        find(states, origins, next_state, origin)?;
         letter += 1;
     }
     Ok(None)

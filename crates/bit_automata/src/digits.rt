@@ -1,7 +1,7 @@
 //! What a step keeps from bit to bit.
 ghost use Rattle.std.specs.Prelude.{◌≡◌, ◌*◌, ◌<◌, ◌^◌, IfSome};
 ghost use Rattle.bit_automata.specs.Steps.{is_number};
-ghost use Rattle.bit_automata.specs.Serial.{asks, begins, letters, radix, room, start};
+ghost use Rattle.bit_automata.specs.BitSerial.{reads_bit, first_digit, letters, radix, state_count, start};
 
 use crate::step::Step;
 
@@ -28,8 +28,8 @@ pub fn is_number(step: &Step) -> bool
 }
 
 /// Whether a step's bit is one of the letter's.
-pub fn asks(step: &Step) -> bool
-    ensures { result ≡ asks step.now }
+pub fn reads_bit(step: &Step) -> bool
+    ensures { result ≡ reads_bit step.now }
 {
     match step {
         Step::Variable(_) | Step::Select(_, _, _) => true,
@@ -72,8 +72,8 @@ pub fn radix(step: &Step) -> u128
 }
 
 /// The first of them.
-pub fn begins(step: &Step) -> u128
-    ensures { result ≡ begins step.now }
+pub fn first_digit(step: &Step) -> u128
+    ensures { result ≡ first_digit step.now }
 {
     match step {
         Step::Literal(n) => *n,
@@ -110,13 +110,13 @@ fn product(a: u128, b: u128) -> Option<u128>
 }
 
 /// How many states there may be, where there are few enough.
-pub fn room(steps: &[Step]) -> Option<u128>
-    ensures { IfSome result (λ r. r ≡ room steps.now) }
+pub fn state_count(steps: &[Step]) -> Option<u128>
+    ensures { IfSome result (λ r. r ≡ state_count steps.now) }
 {
     let [step, tail @ ..] = steps else {
         return Some(1);
     };
-    let rest = room(tail)?;
+    let rest = state_count(tail)?;
     let radix = radix_of(step)?;
     product(radix, rest)
 }
@@ -129,7 +129,7 @@ pub fn letters(steps: &[Step]) -> Option<u32>
         return Some(1);
     };
     let rest = letters(tail)?;
-    if asks(step) {
+    if reads_bit(step) {
         rest.checked_mul(2)
     } else {
         Some(rest)

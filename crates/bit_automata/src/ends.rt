@@ -1,7 +1,7 @@
 //! What is known at the end.
 ghost use Rattle.std.specs.Prelude.{◌≡◌, ◌<◌, ◌^◌, IfOk, OnOk};
 ghost use Rattle.bit_automata.specs.Steps.{differ, truth_at};
-ghost use Rattle.bit_automata.specs.Serial.{Ended, agrees, is_lost, loses, radix, room, told, told_then};
+ghost use Rattle.bit_automata.specs.BitSerial.{Ended, agrees, is_lost, loses, radix, state_count, end_truth, end_truths_then};
 
 use crate::digits::{is_number, radix};
 use crate::step::Step;
@@ -40,7 +40,7 @@ fn loses(step: &Step, kept: u128) -> bool
 
 /// The same of all steps.
 pub fn is_lost(steps: &[Step], state: u128) -> bool
-    requires { room steps.now < 2 ^ 128 }
+    requires { state_count steps.now < 2 ^ 128 }
     ensures { result ≡ is_lost steps.now state }
 {
     let [step, tail @ ..] = steps else {
@@ -61,8 +61,8 @@ fn differ(a: bool, b: bool) -> bool
 }
 
 /// A truth.
-fn told(step: &Step, kept: u128, truths: &[bool]) -> bool
-    ensures { result ≡ told step.now kept truths.now }
+fn end_truth(step: &Step, kept: u128, truths: &[bool]) -> bool
+    ensures { result ≡ end_truth step.now kept truths.now }
 {
     match step {
         Step::Equal(_, _) | Step::Less(_, _) | Step::Suppose(_, _) => kept == 1,
@@ -109,11 +109,11 @@ fn agrees(step: &Step, kept: u128, truths: &[bool]) -> bool
 }
 
 /// Puts a step's truth behind those that are there, if it has one.
-fn put_told(step: &Step, kept: u128, truths: &mut Vec<bool>) -> Result<(), AllocError>
-    ensures { OnOk result (truths.new.items ≡ told_then step.now kept truths.old.items) }
+fn push_truth(step: &Step, kept: u128, truths: &mut Vec<bool>) -> Result<(), AllocError>
+    ensures { OnOk result (truths.new.items ≡ end_truths_then step.now kept truths.old.items) }
 {
     if !is_number(step) {
-        let truth = told(step, kept, truths.as_slice());
+        let truth = end_truth(step, kept, truths.as_slice());
         truths.push(truth)?;
     }
     Ok(())
@@ -121,7 +121,7 @@ fn put_told(step: &Step, kept: u128, truths: &mut Vec<bool>) -> Result<(), Alloc
 
 /// Puts all truths there. The answer is whether all that was guessed and supposed agrees with them.
 pub fn end(steps: &[Step], state: u128, truths: &mut Vec<bool>) -> Result<bool, AllocError>
-    requires { room steps.now < 2 ^ 128 }
+    requires { state_count steps.now < 2 ^ 128 }
     ensures { IfOk result (Ended steps.now state truths.old.items truths.new.items) }
 {
     let [step, tail @ ..] = steps else {
@@ -130,7 +130,7 @@ pub fn end(steps: &[Step], state: u128, truths: &mut Vec<bool>) -> Result<bool, 
     let radix = radix(step);
     let kept = state % radix;
     let here = agrees(step, kept, truths.as_slice());
-    put_told(step, kept, truths)?;
+    push_truth(step, kept, truths)?;
     let rest = end(tail, state / radix, truths)?;
     Ok(here && rest)
 }

@@ -1,7 +1,7 @@
 //! What is decided lasts.
-ghost use Rattle.bit_automata.specs.Lasting.{Lasts};
+ghost use Rattle.bit_automata.specs.AllWidths.{AcceptanceIsSound};
 
 /// What is accepted bit by bit is true at every width.
-pub fn what_lasts()
-    ensures { Lasts }
+pub fn acceptance_is_sound()
+    ensures { AcceptanceIsSound }
 {}

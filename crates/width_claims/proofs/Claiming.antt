@@ -4,15 +4,15 @@ use Rattle.std.proofs.lemmas.Bool.{cases_lt, eqb-true}
 use Rattle.std.proofs.lemmas.List.{append_assoc, append-nil}
 use Rattle.std.proofs.Math.Nat.{mod-eq_of_lt}
 use Rattle.std.proofs.Math.Pow.{pow-lt}
-use Rattle.width_claims.specs.Masked.{IsMask, mask}
+use Rattle.width_claims.specs.Masks.{IsMask, mask}
 use Rattle.width_claims.proofs.Masking.{are_masks, masks_narrower}
 use Rattle.bit_automata.specs.declared.step.Step.{Step}
 use Rattle.bit_automata.specs.declared.step.Step.TheVariants as step
 use Rattle.bit_automata.specs.Steps.{numbers_then, supposed, supposed_of, truth_at, truths, truths_then}
 use Rattle.bit_automata.specs.declared.verdict.Verdict.{Verdict}
 use Rattle.bit_automata.specs.declared.verdict.Verdict.TheVariants as verdict
-use Rattle.bit_automata.specs.Lasting.{IsDecided}
-use Rattle.width_claims.specs.Claimed.{IsClaim, IsSame}
+use Rattle.bit_automata.specs.AllWidths.{IsDecided}
+use Rattle.width_claims.specs.Claimed.{IsClaim, IsEqualDecided}
 use Rattle.std.specs.Prelude.{IfSome}
 use Rattle.width_claims.specs.declared.form.Form.{Form}
 use Rattle.width_claims.specs.declared.form.Form.TheVariants as form
@@ -20,9 +20,9 @@ use Rattle.width_claims.specs.declared.form.Piece.{Piece}
 use Rattle.width_claims.specs.declared.width.Narrower.{Narrower}
 use Rattle.width_claims.specs.declared.width.Width.{Width}
 use Rattle.width_claims.specs.declared.width.Width.TheVariants as width
-use Rattle.width_claims.specs.Made.{at, made}
-use Rattle.width_claims.specs.Emitted.{Claim, asked_steps, block_of, claim_masks, claim_numbers, claim_place, claim_places, claim_steps, claim_truths, emitted, mask_places, narrow_numbers, narrow_steps, narrow_truths, type_numbers, type_steps, type_truths}
-use Rattle.width_claims.specs.Right.{AreAsked, AreNarrower, Claims, FitWidths, IsBelow, Stands, numbers}
+use Rattle.width_claims.specs.PieceValues.{at, piece_values}
+use Rattle.width_claims.specs.Emission.{Claim, condition_steps, block_of, claim_masks, claim_numbers, claim_place, claim_places, claim_steps, claim_truths, emitted, mask_places, narrow_numbers, narrow_steps, narrow_truths, type_numbers, type_steps, type_truths}
+use Rattle.width_claims.specs.Right.{ConditionsHold, AreNarrower, Claims, FitWidths, IsBelow, Represents, numbers}
 use Rattle.width_claims.proofs.Emitting.{emits, last, last_truth, longer, old, truths_behind}
 
 module _ (W : ℕ) (vs : List ℕ) where
@@ -65,7 +65,7 @@ module _ (W : ℕ) (vs : List ℕ) where
 
   record Begun (ds ms ns : List ℕ) (ts : List Bool) (n t : ℕ) : Type 0 where
     many : length ns ≡ n
-    told : length ts ≡ t
+    end_truth : length ts ≡ t
     some : 2 ≤ n
     zero_there : at ns 0 ≡ 0
     one_there : at ns 1 ≡ 1
@@ -75,12 +75,12 @@ module _ (W : ℕ) (vs : List ℕ) where
   -- one mask more, behind which numbers may be
   mask_more : (ds ms ns new : List ℕ) (ts us : List Bool) (n t k u w : ℕ) → Begun ds ms ns ts n t → ((i : ℕ) → i < n → at new i ≡ at ns i) → length new ≡ k → length us ≡ u → n < k → at new n ≡ mask w
       → Begun (ds ++ w ∷ []) (ms ++ n ∷ []) new us k u
-  mask_more ds ms ns new ts us n t k u w b stay many told h is =
+  mask_more ds ms ns new ts us n t k u w b stay many end_truth h is =
       let some = b.some in
       let alike = b.alike in
       record {
         many = many;
-        told = told;
+        end_truth = end_truth;
         some = omega (arith, some, h);
         zero_there = stay 0 (omega (arith, some)) ∙ b.zero_there;
         one_there = stay 1 (omega (arith, some)) ∙ b.one_there;
@@ -134,7 +134,7 @@ module _ (W : ℕ) (vs : List ℕ) where
       let many3 : length ns3 ≡ n + 3 = longer ns2 x2 (n + 2) many2 ∙ three in
       let four : n + 3 + 1 ≡ n + 4 = omega arith in
       let many4 : length ns4 ≡ n + 4 = longer ns3 x3 (n + 3) many3 ∙ four in
-      let told1 = longer ts b1 t b.told in
+      let told1 = longer ts b1 t b.end_truth in
       let up : t + 1 + 1 ≡ t + 2 = omega arith in
       let told2 : length ts2 ≡ t + 2 = longer ts1 b2 (t + 1) told1 ∙ up in
       let mask_is : m ≡ mask w = ap (λ q. q % 2 ^ W) f.1 ∙ mod-eq_of_lt is.low in
@@ -167,7 +167,7 @@ module _ (W : ℕ) (vs : List ℕ) where
       let many = b.many in
       let mask_is : m ≡ mask w = ap (λ q. q % 2 ^ W) f.1 ∙ mod-eq_of_lt is.low in
       let stay : (i : ℕ) → i < n → at ns1 i ≡ at ns i = λ i l. old ns m i (omega (arith, l, many)) in
-      let next = mask_more ds ms ns ns1 ts ts n t (n + 1) t w b stay (longer ns m n many) b.told (omega arith) (last ns m n many ∙ mask_is) in
+      let next = mask_more ds ms ns ns1 ts ts n t (n + 1) t w b stay (longer ns m n many) b.end_truth (omega arith) (last ns m n many ∙ mask_is) in
       let rest = types_stand ks (ds ++ w ∷ []) us (ms ++ n ∷ []) ns1 ts (n + 1) t (v + 1) next f.2 in (
         subst (λ (es : List ℕ). Begun es (mask_places ks (ms ++ n ∷ []) (n + 1)) (numbers W vs (type_steps (v + 1) ks (n + 1)) ns1 ts) (truths W vs (type_steps (v + 1) ks (n + 1)) ns1 ts) (type_numbers ks (n + 1)) (type_truths ks t))
             (append_assoc ds (w ∷ []) us) rest.0,
@@ -179,11 +179,11 @@ module _ (W : ℕ) (vs : List ℕ) where
   past (x ∷ xs) zero l = absurd (omega (arith, l))
   past (x ∷ xs) (suc i) l = past xs i (omega (arith, l))
 
-  all_stand : (ws ms ns : List ℕ) (ts : List Bool) (n t : ℕ) → Begun ws ms ns ts n t → Stands W ws ms [] [] [] ns ts n t
+  all_stand : (ws ms ns : List ℕ) (ts : List Bool) (n t : ℕ) → Begun ws ms ns ts n t → Represents W ws ms [] [] [] ns ts n t
   all_stand ws ms ns ts n t b =
       record {
         many = b.many;
-        told = b.told;
+        end_truth = b.end_truth;
         some = b.some;
         zero_there = b.zero_there;
         one_there = b.one_there;
@@ -200,8 +200,8 @@ module _ (W : ℕ) (vs : List ℕ) where
 
   -- ---- narrower types
 
-  narrow_stand : (ws ms ns : List ℕ) (ts : List Bool) (n t : ℕ) (ps : List Narrower) → Stands W ws ms [] [] [] ns ts n t → AreNarrower ws ps
-      → Stands W ws ms [] [] [] (numbers W vs (narrow_steps ms ps n t) ns ts) (truths W vs (narrow_steps ms ps n t) ns ts) (narrow_numbers ps n) (narrow_truths ps t)
+  narrow_stand : (ws ms ns : List ℕ) (ts : List Bool) (n t : ℕ) (ps : List Narrower) → Represents W ws ms [] [] [] ns ts n t → AreNarrower ws ps
+      → Represents W ws ms [] [] [] (numbers W vs (narrow_steps ms ps n t) ns ts) (truths W vs (narrow_steps ms ps n t) ns ts) (narrow_numbers ps n) (narrow_truths ps t)
       × (supposed W vs (narrow_steps ms ps n t) ns ts ≡ true)
   narrow_stand ws ms ns ts n t [] s a = (s, refl)
   narrow_stand ws ms ns ts n t (p ∷ ps) s a =
@@ -213,15 +213,15 @@ module _ (W : ℕ) (vs : List ℕ) where
       let ts2 = ts1 ++ b2 ∷ [] in
       let many = s.many in
       let some = s.some in
-      let told1 = longer ts b t s.told in
+      let told1 = longer ts b t s.end_truth in
       let up : t + 1 + 1 ≡ t + 2 = omega arith in
       let b_is : b ≡ true = (λ r. nat_lt ((s.masks p.narrow).1 r) ((s.masks p.wide).1 r)) ∙ masks_narrower (at ws p.narrow) (at ws p.wide) a.0 in
-      let x_is : x ≡ 1 = ap (λ c. if c then at ns 1 else at ns 0) (last_truth ts b t s.told ∙ b_is) ∙ s.one_there in
+      let x_is : x ≡ 1 = ap (λ c. if c then at ns 1 else at ns 0) (last_truth ts b t s.end_truth ∙ b_is) ∙ s.one_there in
       let one1 : at ns1 1 ≡ 1 = old ns x 1 (omega (arith, many, some)) ∙ s.one_there in
       let b2_is : b2 ≡ true = eq-eqb (at ns1 n) (at ns1 1) (last ns x n many ∙ x_is ∙ sym one1) in
-      let next : Stands W ws ms [] [] [] ns1 ts2 (n + 1) (t + 2) = record {
+      let next : Represents W ws ms [] [] [] ns1 ts2 (n + 1) (t + 2) = record {
         many = longer ns x n many;
-        told = longer ts1 b2 (t + 1) told1 ∙ up;
+        end_truth = longer ts1 b2 (t + 1) told1 ∙ up;
         some = omega (arith, some);
         zero_there = old ns x 0 (omega (arith, many, some)) ∙ s.zero_there;
         one_there = one1;
@@ -235,13 +235,13 @@ module _ (W : ℕ) (vs : List ℕ) where
 
   -- ---- what is asked
 
-  asked_so : (env pl ns : List ℕ) (hs : List ℕ) (ts : List Bool) → at ns 1 ≡ 1 → ((i : ℕ) → i < length env → at ns (at pl i) ≡ at env i) → AreAsked env hs
-      → (supposed W vs (asked_steps pl hs) ns ts ≡ true) × (numbers W vs (asked_steps pl hs) ns ts ≡ ns) × (length (truths W vs (asked_steps pl hs) ns ts) ≡ length ts + length hs)
-  asked_so env pl ns [] ts one values a = (refl, refl, omega arith)
-  asked_so env pl ns (h ∷ hs) ts one values a =
+  conditions_hold : (env pl ns : List ℕ) (hs : List ℕ) (ts : List Bool) → at ns 1 ≡ 1 → ((i : ℕ) → i < length env → at ns (at pl i) ≡ at env i) → ConditionsHold env hs
+      → (supposed W vs (condition_steps pl hs) ns ts ≡ true) × (numbers W vs (condition_steps pl hs) ns ts ≡ ns) × (length (truths W vs (condition_steps pl hs) ns ts) ≡ length ts + length hs)
+  conditions_hold env pl ns [] ts one values a = (refl, refl, omega arith)
+  conditions_hold env pl ns (h ∷ hs) ts one values a =
       let b = at ns (at pl h) == at ns 1 in
       let yes : b ≡ true = eq-eqb (at ns (at pl h)) (at ns 1) (values h a.0 ∙ a.1 ∙ sym one) in
-      let rest = asked_so env pl ns hs (ts ++ b ∷ []) one values a.2 in
+      let rest = conditions_hold env pl ns hs (ts ++ b ∷ []) one values a.2 in
       let many = rest.2 in
       let l = length-append ts (b ∷ []) in
       ((λ r. yes r && rest.0 r), rest.1, omega (arith, many, l))
@@ -251,7 +251,7 @@ module _ (W : ℕ) (vs : List ℕ) where
       let g = pow-lt {i = 0} {j = W} h in
       record {
         many = refl;
-        told = refl;
+        end_truth = refl;
         some = omega arith;
         zero_there = mod-eq_of_lt (omega (arith, g));
         one_there = mod-eq_of_lt (omega (arith, g));
@@ -260,7 +260,7 @@ module _ (W : ℕ) (vs : List ℕ) where
       }
 
 pub claims : Claims
-claims c all W vs ws h fit narrow right asked left_in right_in =
+claims c all W vs ws h fit narrow right conditions left_in right_in =
     let ns0 = 0 % 2 ^ W ∷ 1 % 2 ^ W ∷ [] in
     let ms = claim_masks c in
     let n0 = type_numbers c.types 2 in
@@ -271,7 +271,7 @@ claims c all W vs ws h fit narrow right asked left_in right_in =
     let T = type_steps c.first_mask c.types 2 in
     let N = narrow_steps ms c.narrower n0 t0 in
     let E = emitted ms c.pieces [] n1 t1 in
-    let A = asked_steps pl c.asked in
+    let A = condition_steps pl c.conditions in
     let F = step.Equal (at pl c.left) (at pl c.right) ∷ [] in
     let begun = types_stand W vs c.types [] ws [] ns0 [] 2 0 c.first_mask (start_stands W vs h) fit in
     let nsT = numbers W vs T ns0 [] in
@@ -282,9 +282,9 @@ claims c all W vs ws h fit narrow right asked left_in right_in =
     let s = emits W vs ws ms c.pieces [] [] [] nsN tsN n1 t1 first.0 right in
     let nsE = numbers W vs E nsN tsN in
     let tsE = truths W vs E nsN tsN in
-    let env = made ws vs c.pieces [] in
+    let env = piece_values ws vs c.pieces [] in
     let values : (i : ℕ) → i < length env → at nsE (at pl i) ≡ at env i = λ i l. (s.values i l).1 in
-    let a = asked_so W vs env pl nsE c.asked tsE s.one_there values asked in
+    let a = conditions_hold W vs env pl nsE c.conditions tsE s.one_there values conditions in
     let nsA = numbers W vs A nsE tsE in
     let tsA = truths W vs A nsE tsE in
     let b = at nsA (at pl c.left) == at nsA (at pl c.right) in
@@ -295,17 +295,17 @@ claims c all W vs ws h fit narrow right asked left_in right_in =
     (supposed_behind W vs A F nsE tsE a.0 refl))) in
     let yes = all W h vs so in
     let ended : truths W vs (T ++ (N ++ (E ++ (A ++ F)))) ns0 [] ≡ tsA ++ b ∷ [] = truths_behind W vs vs vs T (N ++ (E ++ (A ++ F))) ns0 [] ∙ truths_behind W vs vs vs N (E ++ (A ++ F)) nsT tsT ∙ truths_behind W vs vs vs E (A ++ F) nsN tsN ∙ truths_behind W vs vs vs A F nsE tsE in
-    let place : length tsA ≡ claim_place c = a.2 ∙ ap (λ k. k + length c.asked) s.told in
-    let told : b ≡ true = sym (last_truth tsA b (claim_place c) place) ∙ ap (λ ts. truth_at ts (claim_place c)) (sym ended) ∙ yes in
-    let same = eqb-true (at nsA (at pl c.left)) (at nsA (at pl c.right)) told in
+    let place : length tsA ≡ claim_place c = a.2 ∙ ap (λ k. k + length c.conditions) s.end_truth in
+    let end_truth : b ≡ true = sym (last_truth tsA b (claim_place c) place) ∙ ap (λ ts. truth_at ts (claim_place c)) (sym ended) ∙ yes in
+    let same = eqb-true (at nsA (at pl c.left)) (at nsA (at pl c.right)) end_truth in
     sym (values c.left left_in) ∙ ap (λ ns. at ns (at pl c.left)) (sym a.1) ∙ same ∙ ap (λ ns. at ns (at pl c.right)) a.1 ∙ values c.right right_in
 
-pub decided_same : (c : Claim) (ss shown : List Step) (place : ℕ) (r : Option ℕ) (v : Verdict) → IsDecided shown place v → shown ≡ ss → r ≡ Some place → IfSome r (IsClaim c ss) → IsSame c v
-decided_same c ss shown place r v d same is claim =
+pub decided_equal : (c : Claim) (ss shown : List Step) (place : ℕ) (r : Option ℕ) (v : Verdict) → IsDecided shown place v → shown ≡ ss → r ≡ Some place → IfSome r (IsClaim c ss) → IsEqualDecided c v
+decided_equal c ss shown place r v d same is claim =
     let k = subst (λ (q : Option ℕ). IfSome q (IsClaim c ss)) is claim in
     turned v (subst (λ (us : List Step). IsDecided us (claim_place c) v) (same ∙ k.0) (subst (λ (p : ℕ). IsDecided shown p v) k.1 d))
   where
-    turned : (u : Verdict) → IsDecided (claim_steps c) (claim_place c) u → IsSame c u
+    turned : (u : Verdict) → IsDecided (claim_steps c) (claim_place c) u → IsEqualDecided c u
     turned verdict.Always all = claims c all
     turned (verdict.Fails word) fails = fails
     turned verdict.TooMany none = tt

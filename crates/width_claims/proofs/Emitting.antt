@@ -7,18 +7,18 @@ use Rattle.std.proofs.Math.Nat.{mod-eq_of_lt, mod-lt}
 use Rattle.std.proofs.Math.Pow.{pow-lt}
 use Rattle.ir_types.specs.Readings.{literal_number, signed_of, wrapped}
 use Rattle.ir_types.proofs.ReadingLaws.{bits_below}
-use Rattle.dialects_int.specs.declared.operations.Predicate.TheVariants as asks
+use Rattle.dialects_int.specs.declared.operations.Predicate.TheVariants as predicate
 use Rattle.dialects_int.specs.Arithmetic.{choice_of, comparison_of, difference_of, sign_extended, sum_of, truth, zero_extended}
-use Rattle.width_claims.specs.Masked.{differ, less_signed, mask, sign}
+use Rattle.width_claims.specs.Masks.{differ, less_signed, mask, sign}
 use Rattle.width_claims.proofs.Masking.{masks_cut, masks_difference, masks_extension, masks_less, masks_literal, masks_negative, masks_resize, masks_sum, masks_zeros, shorter}
 use Rattle.bit_automata.specs.declared.step.Step.{Step}
 use Rattle.bit_automata.specs.Steps.{numbers_then, truth_at, truths, truths_then}
 use Rattle.width_claims.specs.declared.form.Form.{Form}
 use Rattle.width_claims.specs.declared.form.Form.TheVariants as form
 use Rattle.width_claims.specs.declared.form.Piece.{Piece}
-use Rattle.width_claims.specs.Made.{at, made, made_of}
-use Rattle.width_claims.specs.Emitted.{block_of, emitted, numbers_end, places, truths_end}
-use Rattle.width_claims.specs.Right.{AreRight, Emits, Has, IsBelow, IsRight, Stands, numbers, types}
+use Rattle.width_claims.specs.PieceValues.{at, piece_values, piece_value}
+use Rattle.width_claims.specs.Emission.{block_of, emitted, numbers_end, places, truths_end}
+use Rattle.width_claims.specs.Right.{AreRight, Emits, Has, IsBelow, IsRight, Represents, numbers, types}
 
 -- ---- lists that grow
 
@@ -63,32 +63,32 @@ all_ones w = let p = pow_pos w in let e : 0 + (2 ^ w - 1) ≡ 2 ^ w - 1 = omega 
 abbrev Stay : List ℕ → List ℕ → Type 0
 Stay ns ms = (i : ℕ) → i < length ns → at ms i ≡ at ns i
 
-put : (ns : List ℕ) (x : ℕ) → Stay ns (ns ++ x ∷ [])
-put ns x i l = old ns x i l
+push_steps : (ns : List ℕ) (x : ℕ) → Stay ns (ns ++ x ∷ [])
+push_steps ns x i l = old ns x i l
 
-put_more : (ns ms : List ℕ) (x : ℕ) → length ns ≤ length ms → Stay ns ms → Stay ns (ms ++ x ∷ [])
-put_more ns ms x h s i l = old ms x i (omega (arith, l, h)) ∙ s i l
+push_more : (ns ms : List ℕ) (x : ℕ) → length ns ≤ length ms → Stay ns ms → Stay ns (ms ++ x ∷ [])
+push_more ns ms x h s i l = old ms x i (omega (arith, l, h)) ∙ s i l
 
 -- what a block does
 record Does (ns : List ℕ) (n : ℕ) (ms : List ℕ) (us : List Bool) (r m u v : ℕ) : Type 0 where
   stay : Stay ns ms
   many : length ms ≡ m
-  told : length us ≡ u
+  end_truth : length us ≡ u
   grown : n ≤ m
   there : r < m
   value : at ms r ≡ v
 
 module _ (W : ℕ) (vs ws ms : List ℕ) where
   -- one value more stands there
-  more : (env tys pl ns new : List ℕ) (ts us : List Bool) (n t r m u v ty : ℕ) → Stands W ws ms env tys pl ns ts n t → Does ns n new us r m u v → v < 2 ^ at ws ty
-      → Stands W ws ms (env ++ v ∷ []) (tys ++ ty ∷ []) (pl ++ r ∷ []) new us m u
+  more : (env tys pl ns new : List ℕ) (ts us : List Bool) (n t r m u v ty : ℕ) → Represents W ws ms env tys pl ns ts n t → Does ns n new us r m u v → v < 2 ^ at ws ty
+      → Represents W ws ms (env ++ v ∷ []) (tys ++ ty ∷ []) (pl ++ r ∷ []) new us m u
   more env tys pl ns new ts us n t r m u v ty s d low =
       let many = s.many in
       let grown = d.grown in
       let some = s.some in
       record {
         many = d.many;
-        told = d.told;
+        end_truth = d.end_truth;
         some = omega (arith, grown, some);
         zero_there = d.stay 0 (omega (arith, many, some)) ∙ s.zero_there;
         one_there = d.stay 1 (omega (arith, many, some)) ∙ s.one_there;
@@ -126,16 +126,16 @@ module _ (W : ℕ) (vs ws ms : List ℕ) where
   -- ---- blocks of few steps
 
   does_none : (ns : List ℕ) (ts : List Bool) (n t r v : ℕ) → length ns ≡ n → length ts ≡ t → r < n → at ns r ≡ v → Does ns n ns ts r n t v
-  does_none ns ts n t r v many told l e = record { stay = λ i k. refl; many = many; told = told; grown = omega arith; there = l; value = e }
+  does_none ns ts n t r v many end_truth l e = record { stay = λ i k. refl; many = many; end_truth = end_truth; grown = omega arith; there = l; value = e }
 
   does_one : (ns : List ℕ) (us : List Bool) (n u x v : ℕ) → length ns ≡ n → length us ≡ u → x ≡ v → Does ns n (ns ++ x ∷ []) us n (n + 1) u v
-  does_one ns us n u x v many told e =
-      record { stay = put ns x; many = longer ns x n many; told = told; grown = omega arith; there = omega arith; value = last ns x n many ∙ e }
+  does_one ns us n u x v many end_truth e =
+      record { stay = push_steps ns x; many = longer ns x n many; end_truth = end_truth; grown = omega arith; there = omega arith; value = last ns x n many ∙ e }
 
   -- one number more behind others
   does_next : (ns ms : List ℕ) (us : List Bool) (n m u x v : ℕ) → Stay ns ms → length ns ≡ n → length ms ≡ m → n ≤ m → length us ≡ u → x ≡ v → Does ns n (ms ++ x ∷ []) us m (m + 1) u v
-  does_next ns os us n m u x v stay many long h told e =
-      record { stay = put_more ns os x (omega (arith, many, long, h)) stay; many = longer os x m long; told = told; grown = omega (arith, h); there = omega arith; value = last os x m long ∙ e }
+  does_next ns os us n m u x v stay many long h end_truth e =
+      record { stay = push_more ns os x (omega (arith, many, long, h)) stay; many = longer os x m long; end_truth = end_truth; grown = omega (arith, h); there = omega arith; value = last os x m long ∙ e }
 
   -- a mask
   masked : (ns : List ℕ) (x n m w : ℕ) → length ns ≡ n → m < n → at ns m ≡ mask w → bit_and (at (ns ++ x ∷ []) n) (at (ns ++ x ∷ []) m) ≡ bit_and x (mask w)
@@ -143,20 +143,20 @@ module _ (W : ℕ) (vs ws ms : List ℕ) where
 
   does_masked : (ns : List ℕ) (us : List Bool) (n u x m w v : ℕ) → length ns ≡ n → length us ≡ u → m < n → at ns m ≡ mask w → bit_and x (mask w) ≡ v
       → Does ns n ((ns ++ x ∷ []) ++ bit_and (at (ns ++ x ∷ []) n) (at (ns ++ x ∷ []) m) ∷ []) us (n + 1) (n + 2) u v
-  does_masked ns us n u x m w v many told l e is =
+  does_masked ns us n u x m w v many end_truth l e is =
       let two : n + 1 + 1 ≡ n + 2 = omega arith in
       subst (λ (k : ℕ). Does ns n ((ns ++ x ∷ []) ++ bit_and (at (ns ++ x ∷ []) n) (at (ns ++ x ∷ []) m) ∷ []) us (n + 1) k u v) two
-      (does_next ns (ns ++ x ∷ []) us n (n + 1) u (bit_and (at (ns ++ x ∷ []) n) (at (ns ++ x ∷ []) m)) v (put ns x) many (longer ns x n many) (omega arith) told (masked ns x n m w many l e ∙ is))
+      (does_next ns (ns ++ x ∷ []) us n (n + 1) u (bit_and (at (ns ++ x ∷ []) n) (at (ns ++ x ∷ []) m)) v (push_steps ns x) many (longer ns x n many) (omega arith) end_truth (masked ns x n m w many l e ∙ is))
 
   -- a truth as a number
   as_number : (ns : List ℕ) (ts : List Bool) (t : ℕ) (b c : Bool) → at ns 0 ≡ 0 → at ns 1 ≡ 1 → truth_at ts t ≡ b → b ≡ c → (if truth_at ts t then at ns 1 else at ns 0) ≡ truth c
-  as_number ns ts t b c zero_is one_is e same = (λ i. if (e ∙ same) i then one_is i else zero_is i) ∙ told c
+  as_number ns ts t b c zero_is one_is e same = (λ i. if (e ∙ same) i then one_is i else zero_is i) ∙ end_truth c
     where
-      told : (d : Bool) → (if d then 1 else 0) ≡ truth d
-      told true = refl
-      told false = refl
+      end_truth : (d : Bool) → (if d then 1 else 0) ≡ truth d
+      end_truth true = refl
+      end_truth false = refl
 
-  module _ (env tys pl ns : List ℕ) (ts : List Bool) (n t : ℕ) (s : Stands W ws ms env tys pl ns ts n t) where
+  module _ (env tys pl ns : List ℕ) (ts : List Bool) (n t : ℕ) (s : Represents W ws ms env tys pl ns ts n t) where
     -- where a value is, and how large
     record Is (w i : ℕ) : Type 0 where
       place : at pl i < n
@@ -175,61 +175,61 @@ module _ (W : ℕ) (vs ws ms : List ℕ) where
 
     abbrev DoesForm : ℕ → ℕ → Form → Type 0
     DoesForm w m f =
-        Does ns n (numbers W vs (block_of m ms pl n t f).steps ns ts) (truths W vs (block_of m ms pl n t f).steps ns ts) (block_of m ms pl n t f).result (block_of m ms pl n t f).numbers (block_of m ms pl n t f).truths (made_of ws vs w f env)
+        Does ns n (numbers W vs (block_of m ms pl n t f).steps ns ts) (truths W vs (block_of m ms pl n t f).steps ns ts) (block_of m ms pl n t f).result (block_of m ms pl n t f).numbers (block_of m ms pl n t f).truths (piece_value ws vs w f env)
 
     module _ (w m : ℕ) (below : IsBelow W w) (inside : m < n) (there : at ns m ≡ mask w) where
       narrow : w ≤ W
       narrow = below.1
 
       does_value : (i : ℕ) → DoesForm w m (form.Value i)
-      does_value i = does_masked ns ts n t (at vs i % 2 ^ W) m w (at vs i % 2 ^ w) s.many s.told inside there (and_mask (at vs i % 2 ^ W) w ∙ shorter (at vs i) W w narrow)
+      does_value i = does_masked ns ts n t (at vs i % 2 ^ W) m w (at vs i % 2 ^ w) s.many s.end_truth inside there (and_mask (at vs i % 2 ^ W) w ∙ shorter (at vs i) W w narrow)
 
       does_literal : (k : ℕ) → k < 2 ^ w → DoesForm w m (form.Literal k)
-      does_literal k l = does_masked ns ts n t (k % 2 ^ W) m w (wrapped w (literal_number false k)) s.many s.told inside there (masks_literal W w k narrow l)
+      does_literal k l = does_masked ns ts n t (k % 2 ^ W) m w (wrapped w (literal_number false k)) s.many s.end_truth inside there (masks_literal W w k narrow l)
 
       does_add : (i j : ℕ) → Is w i → Is w j → DoesForm w m (form.Add i j)
       does_add i j x y =
-          does_masked ns ts n t ((at ns (at pl i) + at ns (at pl j)) % 2 ^ W) m w (sum_of w (at env i) (at env j)) s.many s.told inside there
+          does_masked ns ts n t ((at ns (at pl i) + at ns (at pl j)) % 2 ^ W) m w (sum_of w (at env i) (at env j)) s.many s.end_truth inside there
           ((λ r. bit_and ((x.there r + y.there r) % 2 ^ W) (mask w)) ∙ masks_sum W w (at env i) (at env j) narrow)
 
       does_subtract : (i j : ℕ) → Is w i → Is w j → DoesForm w m (form.Subtract i j)
       does_subtract i j x y =
           let l = y.low in
-          does_masked ns ts n t ((at ns (at pl i) + (2 ^ W - at ns (at pl j))) % 2 ^ W) m w (difference_of w (at env i) (at env j)) s.many s.told inside there
+          does_masked ns ts n t ((at ns (at pl i) + (2 ^ W - at ns (at pl j))) % 2 ^ W) m w (difference_of w (at env i) (at env j)) s.many s.end_truth inside there
           ((λ r. bit_and ((x.there r + (2 ^ W - y.there r)) % 2 ^ W) (mask w)) ∙ masks_difference W w (at env i) (at env j) narrow (omega (arith, l)))
 
       does_and : (i j : ℕ) → Is w i → Is w j → DoesForm w m (form.And i j)
-      does_and i j x y = does_one ns ts n t (bit_and (at ns (at pl i)) (at ns (at pl j))) (bit_and (at env i) (at env j)) s.many s.told (λ r. bit_and (x.there r) (y.there r))
+      does_and i j x y = does_one ns ts n t (bit_and (at ns (at pl i)) (at ns (at pl j))) (bit_and (at env i) (at env j)) s.many s.end_truth (λ r. bit_and (x.there r) (y.there r))
 
       does_or : (i j : ℕ) → Is w i → Is w j → DoesForm w m (form.Or i j)
-      does_or i j x y = does_one ns ts n t (bit_or (at ns (at pl i)) (at ns (at pl j))) (bit_or (at env i) (at env j)) s.many s.told (λ r. bit_or (x.there r) (y.there r))
+      does_or i j x y = does_one ns ts n t (bit_or (at ns (at pl i)) (at ns (at pl j))) (bit_or (at env i) (at env j)) s.many s.end_truth (λ r. bit_or (x.there r) (y.there r))
 
       does_exclusive : (i j : ℕ) → Is w i → Is w j → DoesForm w m (form.ExclusiveOr i j)
-      does_exclusive i j x y = does_one ns ts n t (bit_xor (at ns (at pl i)) (at ns (at pl j))) (bit_xor (at env i) (at env j)) s.many s.told (λ r. bit_xor (x.there r) (y.there r))
+      does_exclusive i j x y = does_one ns ts n t (bit_xor (at ns (at pl i)) (at ns (at pl j))) (bit_xor (at env i) (at env j)) s.many s.end_truth (λ r. bit_xor (x.there r) (y.there r))
 
       does_same : (u v i j : ℕ) → Is u i → Is v j → DoesForm w m (form.Same i j)
       does_same u v i j x y =
           let b = at ns (at pl i) == at ns (at pl j) in
-          does_one ns (ts ++ b ∷ []) n (t + 1) (if truth_at (ts ++ b ∷ []) t then at ns 1 else at ns 0) (truth (at env i == at env j)) s.many (longer ts b t s.told)
-          (as_number ns (ts ++ b ∷ []) t b (at env i == at env j) s.zero_there s.one_there (last_truth ts b t s.told) (λ r. x.there r == y.there r))
+          does_one ns (ts ++ b ∷ []) n (t + 1) (if truth_at (ts ++ b ∷ []) t then at ns 1 else at ns 0) (truth (at env i == at env j)) s.many (longer ts b t s.end_truth)
+          (as_number ns (ts ++ b ∷ []) t b (at env i == at env j) s.zero_there s.one_there (last_truth ts b t s.end_truth) (λ r. x.there r == y.there r))
 
       does_less : (u v i j : ℕ) → Is u i → Is v j → DoesForm w m (form.Less i j)
       does_less u v i j x y =
           let b = nat_lt (at ns (at pl i)) (at ns (at pl j)) in
-          does_one ns (ts ++ b ∷ []) n (t + 1) (if truth_at (ts ++ b ∷ []) t then at ns 1 else at ns 0) (truth (nat_lt (at env i) (at env j))) s.many (longer ts b t s.told)
-          (as_number ns (ts ++ b ∷ []) t b (nat_lt (at env i) (at env j)) s.zero_there s.one_there (last_truth ts b t s.told) (λ r. nat_lt (x.there r) (y.there r)))
+          does_one ns (ts ++ b ∷ []) n (t + 1) (if truth_at (ts ++ b ∷ []) t then at ns 1 else at ns 0) (truth (nat_lt (at env i) (at env j))) s.many (longer ts b t s.end_truth)
+          (as_number ns (ts ++ b ∷ []) t b (nat_lt (at env i) (at env j)) s.zero_there s.one_there (last_truth ts b t s.end_truth) (λ r. nat_lt (x.there r) (y.there r)))
 
       does_select : (u c i j : ℕ) → Is u c → Is w i → Is w j → DoesForm w m (form.Select c i j)
       does_select u c i j z x y =
           let b = at ns (at pl c) == at ns 0 in
-          does_one ns (ts ++ b ∷ []) n (t + 1) (if truth_at (ts ++ b ∷ []) t then at ns (at pl j) else at ns (at pl i)) (choice_of (at env c) (at env i) (at env j)) s.many (longer ts b t s.told)
-          ((λ r. if last_truth ts b t s.told r then y.there r else x.there r) ∙ (λ r. if z.there r == s.zero_there r then at env j else at env i))
+          does_one ns (ts ++ b ∷ []) n (t + 1) (if truth_at (ts ++ b ∷ []) t then at ns (at pl j) else at ns (at pl i)) (choice_of (at env c) (at env i) (at env j)) s.many (longer ts b t s.end_truth)
+          ((λ r. if last_truth ts b t s.end_truth r then y.there r else x.there r) ∙ (λ r. if z.there r == s.zero_there r then at env j else at env i))
 
       does_zeros : (u i : ℕ) → u ≤ w → Is u i → DoesForm w m (form.Zeros i)
-      does_zeros u i h x = does_none ns ts n t (at pl i) (zero_extended w (at env i)) s.many s.told x.place (x.there ∙ masks_zeros u w (at env i) h x.low)
+      does_zeros u i h x = does_none ns ts n t (at pl i) (zero_extended w (at env i)) s.many s.end_truth x.place (x.there ∙ masks_zeros u w (at env i) h x.low)
 
       does_cut : (u i : ℕ) → Is u i → DoesForm w m (form.Cut i)
-      does_cut u i x = does_one ns ts n t (bit_and (at ns (at pl i)) (at ns m)) (at env i % 2 ^ w) s.many s.told ((λ r. bit_and (x.there r) (there r)) ∙ masks_cut w (at env i))
+      does_cut u i x = does_one ns ts n t (bit_and (at ns (at pl i)) (at ns m)) (at env i % 2 ^ w) s.many s.end_truth ((λ r. bit_and (x.there r) (there r)) ∙ masks_cut w (at env i))
 
       does_negative : (k : ℕ) → k < 2 ^ w → DoesForm w m (form.Negative k)
       does_negative k l =
@@ -250,7 +250,7 @@ module _ (W : ℕ) (vs ws ms : List ℕ) where
           let is_two : bit_and (at ns2 (n + 2 - 1)) (at ns2 m) ≡ wrapped w (literal_number true k) = ap (λ q. bit_and (at ns2 q) (at ns2 m)) (less_one n) ∙ is3 in
           let x3 = bit_and (at ns2 (n + 1)) (at ns2 m) in
           subst (λ (q : ℕ). Does ns n (ns2 ++ x3 ∷ []) ts (n + 2) q t (wrapped w (literal_number true k))) three
-          (does_next ns ns2 ts n (n + 2) t x3 (wrapped w (literal_number true k)) (put_more ns ns1 x2 (omega (arith, many, many1)) (put ns x1)) many many2 (omega arith) s.told is3)
+          (does_next ns ns2 ts n (n + 2) t x3 (wrapped w (literal_number true k)) (push_more ns ns1 x2 (omega (arith, many, many1)) (push_steps ns x1)) many many2 (omega arith) s.end_truth is3)
         where
           less_one : (q : ℕ) → q + 2 - 1 ≡ q + 1
           less_one q = omega arith
@@ -287,13 +287,13 @@ module _ (W : ℕ) (vs ws ms : List ℕ) where
           let a3 : at ns3 a ≡ at env i = old ns2 x3 a (omega (arith, a_in, many2)) ∙ a2 in
           let second : at ns2 (n + 1) ≡ bit_xor (mask w) (mask v) = last ns1 x2 (n + 1) many1 ∙ (λ r. bit_xor (m1 r) (mu1 r)) in
           let third : at ns3 (n + 2) ≡ bit_or (at env i) (bit_xor (mask w) (mask v)) = last ns2 x3 (n + 2) many2 ∙ (λ r. bit_or (a2 r) (second r)) in
-          let t_is = last_truth ts b t s.told ∙ b_is in
+          let t_is = last_truth ts b t s.end_truth ∙ b_is in
           let is4 : x4 ≡ sign_extended v w (at env i) = (λ r. if t_is r then third r else a3 r) ∙ masks_extension W v w (at env i) small.0 h small.1 x.low in
-          let stay1 = put ns x1 in
-          let stay2 = put_more ns ns1 x2 (omega (arith, many, many1)) stay1 in
-          let stay3 = put_more ns ns2 x3 (omega (arith, many, many2)) stay2 in
+          let stay1 = push_steps ns x1 in
+          let stay2 = push_more ns ns1 x2 (omega (arith, many, many1)) stay1 in
+          let stay3 = push_more ns ns2 x3 (omega (arith, many, many2)) stay2 in
           subst (λ (q : ℕ). Does ns n (ns3 ++ x4 ∷ []) ts1 (n + 3) q (t + 1) (sign_extended v w (at env i))) four
-          (does_next ns ns3 ts1 n (n + 3) (t + 1) x4 (sign_extended v w (at env i)) stay3 many many3 (omega arith) (longer ts b t s.told) is4)
+          (does_next ns ns3 ts1 n (n + 3) (t + 1) x4 (sign_extended v w (at env i)) stay3 many many3 (omega arith) (longer ts b t s.end_truth) is4)
 
       does_less_signed : (u i j : ℕ) → IsBelow W (at ws u) → Is (at ws u) i → Is (at ws u) j → DoesForm w m (form.LessSigned u i j)
       does_less_signed u i j small x y =
@@ -320,12 +320,12 @@ module _ (W : ℕ) (vs ws ms : List ℕ) where
           let ts5 = ts4 ++ t4 ∷ [] in
           let many = s.many in
           let some = s.some in
-          let told = s.told in
+          let end_truth = s.end_truth in
           let many1 = longer ns x1 n many in
           let two : n + 1 + 1 ≡ n + 2 = omega arith in
           let many2 : length ns2 ≡ n + 2 = longer ns1 x2 (n + 1) many1 ∙ two in
           let three : n + 2 + 1 ≡ n + 3 = omega arith in
-          let told1 = longer ts t0 t told in
+          let told1 = longer ts t0 t end_truth in
           let up2 : t + 1 + 1 ≡ t + 2 = omega arith in
           let told2 : length ts2 ≡ t + 2 = longer ts1 t1 (t + 1) told1 ∙ up2 in
           let up3 : t + 2 + 1 ≡ t + 3 = omega arith in
@@ -343,7 +343,7 @@ module _ (W : ℕ) (vs ws ms : List ℕ) where
           let t0_is : t0 ≡ sign W (mask v) (at env i) = (λ r. nat_lt (first r) (a2 r)) in
           let t1_is : t1 ≡ sign W (mask v) (at env j) = (λ r. nat_lt (second r) (b2 r)) in
           let t2_is : t2 ≡ nat_lt (at env i) (at env j) = (λ r. nat_lt (a2 r) (b2 r)) in
-          let at0 : truth_at ts3 t ≡ sign W (mask v) (at env i) = old_truth ts2 t2 t (omega (arith, told2)) ∙ old_truth ts1 t1 t (omega (arith, told1)) ∙ last_truth ts t0 t told ∙ t0_is in
+          let at0 : truth_at ts3 t ≡ sign W (mask v) (at env i) = old_truth ts2 t2 t (omega (arith, told2)) ∙ old_truth ts1 t1 t (omega (arith, told1)) ∙ last_truth ts t0 t end_truth ∙ t0_is in
           let at1 : truth_at ts3 (t + 1) ≡ sign W (mask v) (at env j) = old_truth ts2 t2 (t + 1) (omega (arith, told2)) ∙ last_truth ts1 t1 (t + 1) told1 ∙ t1_is in
           let at2 : truth_at ts4 (t + 2) ≡ nat_lt (at env i) (at env j) = old_truth ts3 t3 (t + 2) (omega (arith, told3)) ∙ last_truth ts2 t2 (t + 2) told2 ∙ t2_is in
           let at3 : truth_at ts4 (t + 3) ≡ differ (sign W (mask v) (at env i)) (sign W (mask v) (at env j)) = last_truth ts3 t3 (t + 3) told3 ∙ (λ r. differ (at0 r) (at1 r)) in
@@ -351,9 +351,9 @@ module _ (W : ℕ) (vs ws ms : List ℕ) where
           let zero2 : at ns2 0 ≡ 0 = old ns1 x2 0 (omega (arith, many1)) ∙ old ns x1 0 (omega (arith, many, some)) ∙ s.zero_there in
           let one2 : at ns2 1 ≡ 1 = old ns1 x2 1 (omega (arith, many1, some)) ∙ old ns x1 1 (omega (arith, many, some)) ∙ s.one_there in
           let x3 = if truth_at ts5 (t + 4) then at ns2 1 else at ns2 0 in
-          let value = truth (comparison_of v asks.SignedLess (at env i) (at env j)) in
-          let is3 : x3 ≡ value = as_number ns2 ts5 (t + 4) (less_signed W (mask v) (at env i) (at env j)) (comparison_of v asks.SignedLess (at env i) (at env j)) zero2 one2 at4 (masks_less W v (at env i) (at env j) small.0 small.1 x.low y.low) in
-          let stay2 = put_more ns ns1 x2 (omega (arith, many, many1)) (put ns x1) in
+          let value = truth (comparison_of v predicate.SignedLess (at env i) (at env j)) in
+          let is3 : x3 ≡ value = as_number ns2 ts5 (t + 4) (less_signed W (mask v) (at env i) (at env j)) (comparison_of v predicate.SignedLess (at env i) (at env j)) zero2 one2 at4 (masks_less W v (at env i) (at env j) small.0 small.1 x.low y.low) in
+          let stay2 = push_more ns ns1 x2 (omega (arith, many, many1)) (push_steps ns x1) in
           subst (λ (q : ℕ). Does ns n (ns2 ++ x3 ∷ []) ts5 (n + 2) q (t + 5) value) three
           (does_next ns ns2 ts5 n (n + 2) (t + 5) x3 value stay2 many many2 (omega arith) told5 is3)
 
@@ -402,19 +402,19 @@ module _ (W : ℕ) (vs ws ms : List ℕ) where
           let ones : at ns2 (n + 1) ≡ mask W = last ns1 x2 (n + 1) many1 ∙ (λ r. (zero1 r + (2 ^ W - one1 r)) % 2 ^ W) ∙ all_ones W in
           let third : at ns3 (n + 2) ≡ bit_xor (mask W) (mask v) = last ns2 x3 (n + 2) many2 ∙ (λ r. bit_xor (ones r) (mu2 r)) in
           let fourth : at ns4 (n + 3) ≡ bit_or (at env i) (bit_xor (mask W) (mask v)) = last ns3 x4 (n + 3) many3 ∙ (λ r. bit_or (a3 r) (third r)) in
-          let t_is = last_truth ts b t s.told ∙ b_is in
+          let t_is = last_truth ts b t s.end_truth ∙ b_is in
           let fifth : at ns5 (n + 4) ≡ (if sign W (mask v) (at env i) then bit_or (at env i) (bit_xor (mask W) (mask v)) else at env i) = last ns4 x5 (n + 4) many4 ∙ (λ r. if t_is r then fourth r else a4 r) in
           let m5 : at ns5 m ≡ mask w =
           old ns4 x5 m (omega (arith, inside, many4)) ∙ old ns3 x4 m (omega (arith, inside, many3)) ∙ old ns2 x3 m (omega (arith, inside, many2)) ∙ old ns1 x2 m (omega (arith, inside, many1))
           ∙ old ns x1 m (omega (arith, inside, many)) ∙ there in
           let is6 : x6 ≡ sign_extended v w (at env i) = (λ r. bit_and (fifth r) (m5 r)) ∙ masks_resize W v w (at env i) small.0 small.1 narrow x.low in
-          let stay1 = put ns x1 in
-          let stay2 = put_more ns ns1 x2 (omega (arith, many, many1)) stay1 in
-          let stay3 = put_more ns ns2 x3 (omega (arith, many, many2)) stay2 in
-          let stay4 = put_more ns ns3 x4 (omega (arith, many, many3)) stay3 in
-          let stay5 = put_more ns ns4 x5 (omega (arith, many, many4)) stay4 in
+          let stay1 = push_steps ns x1 in
+          let stay2 = push_more ns ns1 x2 (omega (arith, many, many1)) stay1 in
+          let stay3 = push_more ns ns2 x3 (omega (arith, many, many2)) stay2 in
+          let stay4 = push_more ns ns3 x4 (omega (arith, many, many3)) stay3 in
+          let stay5 = push_more ns ns4 x5 (omega (arith, many, many4)) stay4 in
           subst (λ (q : ℕ). Does ns n (ns5 ++ x6 ∷ []) ts1 (n + 5) q (t + 1) (sign_extended v w (at env i))) six
-          (does_next ns ns5 ts1 n (n + 5) (t + 1) x6 (sign_extended v w (at env i)) stay5 many many5 (omega arith) (longer ts b t s.told) is6)
+          (does_next ns ns5 ts1 n (n + 5) (t + 1) x6 (sign_extended v w (at env i)) stay5 many many5 (omega arith) (longer ts b t s.end_truth) is6)
 
       -- each form
       does : (f : Form) → IsRight W ws tys w f → DoesForm w m f
@@ -443,7 +443,7 @@ module _ (W : ℕ) (vs ws ms : List ℕ) where
           small false h = pow_pos w
 
       -- and its value is one of its type
-      low_of : (f : Form) → IsRight W ws tys w f → made_of ws vs w f env < 2 ^ w
+      low_of : (f : Form) → IsRight W ws tys w f → piece_value ws vs w f env < 2 ^ w
       low_of (form.Value i) r = mod-lt (at vs i) (pow_pos w)
       low_of (form.Literal k) r = bits_below w (literal_number false k)
       low_of (form.Negative k) r = bits_below w (literal_number true k)
@@ -454,7 +454,7 @@ module _ (W : ℕ) (vs ws ms : List ℕ) where
       low_of (form.ExclusiveOr i j) r = xor_lt w (at env i) (at env j) ((is w i r.0).low) ((is w j r.1).low)
       low_of (form.Same i j) r = truth_low (at env i == at env j)
       low_of (form.Less i j) r = truth_low (nat_lt (at env i) (at env j))
-      low_of (form.LessSigned u i j) r = truth_low (comparison_of (at ws u) asks.SignedLess (at env i) (at env j))
+      low_of (form.LessSigned u i j) r = truth_low (comparison_of (at ws u) predicate.SignedLess (at env i) (at env j))
       low_of (form.Select c i j) r = chosen (at env c == 0)
         where
           chosen : (b : Bool) → (if b then at env j else at env i) < 2 ^ w
@@ -475,8 +475,8 @@ module _ (W : ℕ) (vs ws ms : List ℕ) where
   truths_behind [] rs ns ts = refl
   truths_behind (s ∷ ss) rs ns ts = truths_behind ss rs (numbers_then W vs s ns ts) (truths_then s ns ts)
 
-  emits_all : (ps : List Piece) (env tys pl ns : List ℕ) (ts : List Bool) (n t : ℕ) → Stands W ws ms env tys pl ns ts n t → AreRight W ws ps tys
-      → Stands W ws ms (made ws vs ps env) (types ps tys) (places ms ps pl n t) (numbers W vs (emitted ms ps pl n t) ns ts) (truths W vs (emitted ms ps pl n t) ns ts) (numbers_end ms ps pl n t) (truths_end ms ps pl n t)
+  emits_all : (ps : List Piece) (env tys pl ns : List ℕ) (ts : List Bool) (n t : ℕ) → Represents W ws ms env tys pl ns ts n t → AreRight W ws ps tys
+      → Represents W ws ms (piece_values ws vs ps env) (types ps tys) (places ms ps pl n t) (numbers W vs (emitted ms ps pl n t) ns ts) (truths W vs (emitted ms ps pl n t) ns ts) (numbers_end ms ps pl n t) (truths_end ms ps pl n t)
   emits_all [] env tys pl ns ts n t s r = s
   emits_all (p ∷ ps) env tys pl ns ts n t s r =
       let w = at ws p.ty in
@@ -484,15 +484,15 @@ module _ (W : ℕ) (vs ws ms : List ℕ) where
       let mask_there = s.masks p.ty in
       let d = does env tys pl ns ts n t s w (at ms p.ty) r.0 mask_there.0 mask_there.1 p.form r.1 in
       let low = low_of env tys pl ns ts n t s w (at ms p.ty) r.0 mask_there.0 mask_there.1 p.form r.1 in
-      let v = made_of ws vs w p.form env in
+      let v = piece_value ws vs w p.form env in
       let next = more env tys pl ns (numbers W vs b.steps ns ts) ts (truths W vs b.steps ns ts) n t b.result b.numbers b.truths v p.ty s d low in
       let rest = emits_all ps (env ++ v ∷ []) (tys ++ p.ty ∷ []) (pl ++ b.result ∷ []) (numbers W vs b.steps ns ts) (truths W vs b.steps ns ts) b.numbers b.truths next r.2 in
       let after = emitted ms ps (pl ++ b.result ∷ []) b.numbers b.truths in
       let m = numbers_end ms (p ∷ ps) pl n t in
       let u = truths_end ms (p ∷ ps) pl n t in
-      subst (λ (us : List Bool). Stands W ws ms (made ws vs (p ∷ ps) env) (types (p ∷ ps) tys) (places ms (p ∷ ps) pl n t) (numbers W vs (b.steps ++ after) ns ts) us m u)
+      subst (λ (us : List Bool). Represents W ws ms (piece_values ws vs (p ∷ ps) env) (types (p ∷ ps) tys) (places ms (p ∷ ps) pl n t) (numbers W vs (b.steps ++ after) ns ts) us m u)
       (sym (truths_behind b.steps after ns ts))
-      (subst (λ (ks : List ℕ). Stands W ws ms (made ws vs (p ∷ ps) env) (types (p ∷ ps) tys) (places ms (p ∷ ps) pl n t) ks (truths W vs after (numbers W vs b.steps ns ts) (truths W vs b.steps ns ts)) m u)
+      (subst (λ (ks : List ℕ). Represents W ws ms (piece_values ws vs (p ∷ ps) env) (types (p ∷ ps) tys) (places ms (p ∷ ps) pl n t) ks (truths W vs after (numbers W vs b.steps ns ts) (truths W vs b.steps ns ts)) m u)
       (sym (numbers_behind b.steps after ns ts)) rest)
 
 pub emits : Emits

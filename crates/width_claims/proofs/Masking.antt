@@ -15,7 +15,7 @@ use Rattle.dialects_int.specs.Arithmetic.{comparison_of, difference_of, product_
 use Rattle.dialects_int.proofs.Widths.{difference_is}
 use Rattle.dialects_int.proofs.Quotients.{signed_cases}
 use Rattle.width_claims.proofs.Cutting.{cut_wrapped}
-use Rattle.width_claims.specs.Masked.{AreMasks, MasksCut, MasksDifference, MasksExtension, MasksLess, MasksLiteral, MasksNarrower, MasksNegative, MasksPower, MasksProduct, MasksResize, MasksSum, MasksZeros, differ, mask, sign}
+use Rattle.width_claims.specs.Masks.{AreMasks, MasksCut, MasksDifference, MasksExtension, MasksLess, MasksLiteral, MasksNarrower, MasksNegative, MasksPower, MasksProduct, MasksResize, MasksSum, MasksZeros, differ, mask, sign}
 
 -- modulo 2^W is modulo 2^w
 pub shorter : (n W w : ℕ) → w ≤ W → n % 2 ^ W % 2 ^ w ≡ n % 2 ^ w

@@ -6,7 +6,7 @@ use Rattle.width_claims.specs.declared.emit.Counts.{Counts}
 use Rattle.width_claims.specs.declared.form.Piece.{Piece}
 use Rattle.width_claims.specs.declared.width.Narrower.{Narrower}
 use Rattle.width_claims.specs.declared.width.Width.{Width}
-use Rattle.width_claims.specs.Emitted.{Block, emitted, mask_places, narrow_numbers, narrow_steps, narrow_truths, numbers_end, places, truths_end, type_numbers, type_steps, type_truths}
+use Rattle.width_claims.specs.Emission.{Block, emitted, mask_places, narrow_numbers, narrow_steps, narrow_truths, numbers_end, places, truths_end, type_numbers, type_steps, type_truths}
 
 abbrev pub IsBlock : Block → List Step → List Step → Ends → Type 0
 IsBlock b old new e = (new ≡ old ++ b.steps) × (e.result ≡ b.result) × (e.numbers ≡ b.numbers) × (e.truths ≡ b.truths)

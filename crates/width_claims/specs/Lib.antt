@@ -1,6 +1,6 @@
-pub mod Masked
-pub mod Made
-pub mod Emitted
+pub mod Masks
+pub mod PieceValues
+pub mod Emission
 pub mod Right
 pub mod Blocks
 pub mod Claimed

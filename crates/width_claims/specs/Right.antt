@@ -2,13 +2,13 @@
 use Rattle.std.specs.Prelude.{◌≡◌, ℕ, ◌+◌, ◌^◌, ◌<◌, ◌≤◌, List, [], ◌∷◌, ◌++◌, Bool, length}
 use Rattle.bit_automata.specs.declared.step.Step.{Step}
 use Rattle.bit_automata.specs.Steps.{numbers_then, truths, truths_then}
-use Rattle.width_claims.specs.Masked.{mask}
+use Rattle.width_claims.specs.Masks.{mask}
 use Rattle.width_claims.specs.declared.form.Form.{Form}
 use Rattle.width_claims.specs.declared.form.Form.TheVariants as form
 use Rattle.width_claims.specs.declared.form.Piece.{Piece}
-use Rattle.width_claims.specs.Made.{at, made}
-use Rattle.width_claims.specs.Emitted.{Claim, claim_place, claim_steps, emitted, numbers_end, places, truths_end}
-use Rattle.bit_automata.specs.Lasting.{IsTrueEverywhere}
+use Rattle.width_claims.specs.PieceValues.{at, piece_values}
+use Rattle.width_claims.specs.Emission.{Claim, claim_place, claim_steps, emitted, numbers_end, places, truths_end}
+use Rattle.bit_automata.specs.AllWidths.{IsTrueAtAllWidths}
 use Rattle.width_claims.specs.declared.width.Narrower.{Narrower}
 use Rattle.width_claims.specs.declared.width.Width.{Width}
 use Rattle.width_claims.specs.declared.width.Width.TheVariants as width
@@ -50,9 +50,9 @@ AreRight W ws [] tys = Unit {0}
 AreRight W ws (p ∷ ps) tys = IsBelow W (at ws p.ty) × IsRight W ws tys (at ws p.ty) p.form × AreRight W ws ps (tys ++ (p.ty ∷ []))
 
 -- n numbers and t truths, where each type's mask stands at its place, and each value at its own
-pub record Stands (W : ℕ) (ws ms env tys pl ns : List ℕ) (ts : List Bool) (n t : ℕ) : Type 0 where
+pub record Represents (W : ℕ) (ws ms env tys pl ns : List ℕ) (ts : List Bool) (n t : ℕ) : Type 0 where
   pub many : length ns ≡ n
-  pub told : length ts ≡ t
+  pub end_truth : length ts ≡ t
   pub some : 2 ≤ n
   pub zero_there : at ns 0 ≡ 0
   pub one_there : at ns 1 ≡ 1
@@ -70,8 +70,8 @@ types (p ∷ ps) tys = types ps (tys ++ (p.ty ∷ []))
 abbrev pub Emits : Type 0
 Emits =
     (W : ℕ) (vs ws ms : List ℕ) (ps : List Piece) (env tys pl ns : List ℕ) (ts : List Bool) (n t : ℕ)
-    → Stands W ws ms env tys pl ns ts n t → AreRight W ws ps tys
-    → Stands W ws ms (made ws vs ps env) (types ps tys) (places ms ps pl n t) (numbers W vs (emitted ms ps pl n t) ns ts) (truths W vs (emitted ms ps pl n t) ns ts)
+    → Represents W ws ms env tys pl ns ts n t → AreRight W ws ps tys
+    → Represents W ws ms (piece_values ws vs ps env) (types ps tys) (places ms ps pl n t) (numbers W vs (emitted ms ps pl n t) ns ts) (truths W vs (emitted ms ps pl n t) ns ts)
     (numbers_end ms ps pl n t) (truths_end ms ps pl n t)
 
 -- ---- a whole claim
@@ -89,17 +89,17 @@ AreNarrower ws [] = Unit {0}
 AreNarrower ws (p ∷ ps) = (at ws p.narrow < at ws p.wide) × AreNarrower ws ps
 
 -- what is asked of values is so
-abbrev pub AreAsked : List ℕ → List ℕ → Type 0
-AreAsked env [] = Unit {0}
-AreAsked env (h ∷ hs) = (h < length env) × (at env h ≡ 1) × AreAsked env hs
+abbrev pub ConditionsHold : List ℕ → List ℕ → Type 0
+ConditionsHold env [] = Unit {0}
+ConditionsHold env (h ∷ hs) = (h < length env) × (at env h ≡ 1) × ConditionsHold env hs
 
 -- the two values are the same, at all widths that the types may have, for all variables, where what is asked is so
-abbrev pub IsSameEverywhere : Claim → Type 0
-IsSameEverywhere c =
-    (W : ℕ) (vs ws : List ℕ) → 1 ≤ W → FitWidths W vs c.first_mask c.types ws → AreNarrower ws c.narrower → AreRight W ws c.pieces [] → AreAsked (made ws vs c.pieces []) c.asked
-    → c.left < length (made ws vs c.pieces []) → c.right < length (made ws vs c.pieces [])
-    → at (made ws vs c.pieces []) c.left ≡ at (made ws vs c.pieces []) c.right
+abbrev pub IsEqualAtAllWidths : Claim → Type 0
+IsEqualAtAllWidths c =
+    (W : ℕ) (vs ws : List ℕ) → 1 ≤ W → FitWidths W vs c.first_mask c.types ws → AreNarrower ws c.narrower → AreRight W ws c.pieces [] → ConditionsHold (piece_values ws vs c.pieces []) c.conditions
+    → c.left < length (piece_values ws vs c.pieces []) → c.right < length (piece_values ws vs c.pieces [])
+    → at (piece_values ws vs c.pieces []) c.left ≡ at (piece_values ws vs c.pieces []) c.right
 
 -- what is decided of the steps holds of the values
 abbrev pub Claims : Type 0
-Claims = (c : Claim) → IsTrueEverywhere (claim_steps c) (claim_place c) → IsSameEverywhere c
+Claims = (c : Claim) → IsTrueAtAllWidths (claim_steps c) (claim_place c) → IsEqualAtAllWidths c

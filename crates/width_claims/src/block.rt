@@ -1,7 +1,7 @@
 //! The steps of one form.
 ghost use Rattle.std.specs.Prelude.{◌≡◌, ◌≤◌, IfOk};
-ghost use Rattle.width_claims.specs.Made.{at};
-ghost use Rattle.width_claims.specs.Emitted.{block, block_of};
+ghost use Rattle.width_claims.specs.PieceValues.{at};
+ghost use Rattle.width_claims.specs.Emission.{block, block_of};
 ghost use Rattle.width_claims.specs.Blocks.{IsBlock};
 
 use crate::form::Form;
@@ -27,7 +27,7 @@ pub fn at(list: &[usize], place: usize) -> usize
 }
 
 /// Puts steps behind others.
-fn put(
+fn push_steps(
     steps: &mut Vec<Step>,
     more: &[Step],
     place: usize,
@@ -59,35 +59,35 @@ pub fn block(
     ensures { IfOk result (IsBlock (block_of m masks.now places.now n t form.now) steps.old.items steps.new.items) }
 {
     match form {
-        Form::Value(i) => put(
+        Form::Value(i) => push_steps(
             steps,
             &[Step::Variable(*i), Step::And(n, m)],
             n + 1,
             n + 2,
             t,
         ),
-        Form::Literal(k) => put(
+        Form::Literal(k) => push_steps(
             steps,
             &[Step::Literal(*k), Step::And(n, m)],
             n + 1,
             n + 2,
             t,
         ),
-        Form::Negative(k) => put(
+        Form::Negative(k) => push_steps(
             steps,
             &[Step::Literal(*k), Step::Subtract(0, n), Step::And(n + 1, m)],
             n + 2,
             n + 3,
             t,
         ),
-        Form::Add(i, j) => put(
+        Form::Add(i, j) => push_steps(
             steps,
             &[Step::Add(at(places, *i), at(places, *j)), Step::And(n, m)],
             n + 1,
             n + 2,
             t,
         ),
-        Form::Subtract(i, j) => put(
+        Form::Subtract(i, j) => push_steps(
             steps,
             &[
                 Step::Subtract(at(places, *i), at(places, *j)),
@@ -97,28 +97,28 @@ pub fn block(
             n + 2,
             t,
         ),
-        Form::And(i, j) => put(
+        Form::And(i, j) => push_steps(
             steps,
             &[Step::And(at(places, *i), at(places, *j))],
             n,
             n + 1,
             t,
         ),
-        Form::Or(i, j) => put(
+        Form::Or(i, j) => push_steps(
             steps,
             &[Step::Or(at(places, *i), at(places, *j))],
             n,
             n + 1,
             t,
         ),
-        Form::ExclusiveOr(i, j) => put(
+        Form::ExclusiveOr(i, j) => push_steps(
             steps,
             &[Step::ExclusiveOr(at(places, *i), at(places, *j))],
             n,
             n + 1,
             t,
         ),
-        Form::Same(i, j) => put(
+        Form::Same(i, j) => push_steps(
             steps,
             &[
                 Step::Equal(at(places, *i), at(places, *j)),
@@ -128,7 +128,7 @@ pub fn block(
             n + 1,
             t + 1,
         ),
-        Form::Less(i, j) => put(
+        Form::Less(i, j) => push_steps(
             steps,
             &[
                 Step::Less(at(places, *i), at(places, *j)),
@@ -138,7 +138,7 @@ pub fn block(
             n + 1,
             t + 1,
         ),
-        Form::LessSigned(u, i, j) => put(
+        Form::LessSigned(u, i, j) => push_steps(
             steps,
             &[
                 Step::Subtract(at(masks, *u), at(places, *i)),
@@ -154,7 +154,7 @@ pub fn block(
             n + 3,
             t + 5,
         ),
-        Form::Select(c, i, j) => put(
+        Form::Select(c, i, j) => push_steps(
             steps,
             &[
                 Step::Equal(at(places, *c), 0),
@@ -164,7 +164,7 @@ pub fn block(
             n + 1,
             t + 1,
         ),
-        Form::Signs(u, i) => put(
+        Form::Signs(u, i) => push_steps(
             steps,
             &[
                 Step::Subtract(at(masks, *u), at(places, *i)),
@@ -177,7 +177,7 @@ pub fn block(
             n + 4,
             t + 1,
         ),
-        Form::Resize(u, i) => put(
+        Form::Resize(u, i) => push_steps(
             steps,
             &[
                 Step::Subtract(at(masks, *u), at(places, *i)),
@@ -192,7 +192,7 @@ pub fn block(
             n + 6,
             t + 1,
         ),
-        Form::Zeros(i) => put(steps, &[], at(places, *i), n, t),
-        Form::Cut(i) => put(steps, &[Step::And(at(places, *i), m)], n, n + 1, t),
+        Form::Zeros(i) => push_steps(steps, &[], at(places, *i), n, t),
+        Form::Cut(i) => push_steps(steps, &[Step::And(at(places, *i), m)], n, n + 1, t),
     }
 }

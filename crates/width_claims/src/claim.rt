@@ -1,13 +1,13 @@
 //! Whether two values are the same at all widths.
 ghost use Rattle.std.specs.Prelude.{◌≡◌, [], IfOk, IfSome};
-ghost use Rattle.width_claims.specs.Emitted.{claim_of};
-ghost use Rattle.width_claims.specs.Claimed.{IsClaim, IsSame};
+ghost use Rattle.width_claims.specs.Emission.{claim_of};
+ghost use Rattle.width_claims.specs.Claimed.{IsClaim, IsEqualDecided};
 
 use crate::block::at;
-use crate::emit::{emit_asked, emit_narrower, emit_pieces, emit_types};
+use crate::emit::{emit_conditions, emit_narrower, emit_pieces, emit_types};
 use crate::form::Piece;
 use crate::width::{Narrower, Width};
-use bit_automata::decided::decide_everywhere;
+use bit_automata::all_widths::decide_all_widths;
 use bit_automata::step::Step;
 use bit_automata::verdict::Verdict;
 use std::alloc::{AllocError, Global};
@@ -19,13 +19,13 @@ fn emit_claim(
     types: &[Width],
     narrower: &[Narrower],
     pieces: &[Piece],
-    asked: &[usize],
+    conditions: &[usize],
     left: usize,
     right: usize,
     steps: &mut Vec<Step>,
 ) -> Result<Option<usize>, AllocError>
     requires { steps.old.items ≡ [] }
-    ensures { IfOk result (λ p. IfSome p (IsClaim (claim_of first_mask types.now narrower.now pieces.now asked.now left right) steps.new.items)) }
+    ensures { IfOk result (λ p. IfSome p (IsClaim (claim_of first_mask types.now narrower.now pieces.now conditions.now left right) steps.new.items)) }
 {
     steps.extend_from_slice(&[Step::Literal(0), Step::Literal(1)])?;
     let mut masks = Vec::new(alloc);
@@ -44,7 +44,7 @@ fn emit_claim(
         return Ok(None);
     };
     let mut places = Vec::new(alloc);
-    let made = emit_pieces(
+    let piece_values = emit_pieces(
         masks.as_slice(),
         pieces,
         &mut places,
@@ -52,37 +52,37 @@ fn emit_claim(
         ordered.numbers,
         ordered.truths,
     )?;
-    let Some(made) = made else {
+    let Some(piece_values) = piece_values else {
         return Ok(None);
     };
-    emit_asked(places.as_slice(), asked, steps)?;
+    emit_conditions(places.as_slice(), conditions, steps)?;
     let last = Step::Equal(at(places.as_slice(), left), at(places.as_slice(), right));
     steps.push(last)?;
-    Ok(made.truths.checked_add(asked.len()))
+    Ok(piece_values.truths.checked_add(conditions.len()))
 }
 
 /// Whether two values are the same, at all widths that the types may have, for all variables, where what is asked is so.
 /// Of the states so many at most are looked at.
-pub fn decide_same(
+pub fn decide_equal(
     alloc: Global,
     first_mask: usize,
     types: &[Width],
     narrower: &[Narrower],
     pieces: &[Piece],
-    asked: &[usize],
+    conditions: &[usize],
     left: usize,
     right: usize,
     most: usize,
 ) -> Result<Verdict, AllocError>
-    ensures { IfOk result (IsSame (claim_of first_mask types.now narrower.now pieces.now asked.now left right)) }
+    ensures { IfOk result (IsEqualDecided (claim_of first_mask types.now narrower.now pieces.now conditions.now left right)) }
 {
     let mut steps = Vec::new(alloc);
     let place = emit_claim(
-        alloc, first_mask, types, narrower, pieces, asked, left, right, &mut steps,
+        alloc, first_mask, types, narrower, pieces, conditions, left, right, &mut steps,
     )?;
     let Some(place) = place else {
         return Ok(Verdict::TooMany);
     };
-    let verdict = decide_everywhere(alloc, steps.as_slice(), place, most)?;
+    let verdict = decide_all_widths(alloc, steps.as_slice(), place, most)?;
     Ok(verdict)
 }

@@ -1,6 +1,6 @@
 //! The steps of a claim.
 ghost use Rattle.std.specs.Prelude.{◌≡◌, ◌++◌, IfOk, IfSome, OnOk};
-ghost use Rattle.width_claims.specs.Emitted.{asked_steps};
+ghost use Rattle.width_claims.specs.Emission.{condition_steps};
 ghost use Rattle.width_claims.specs.Blocks.{AreNarrow, ArePieces, AreTypes};
 
 use crate::block::{at, block};
@@ -120,16 +120,16 @@ pub fn emit_pieces(
 }
 
 /// Puts there that values are 1.
-pub fn emit_asked(
+pub fn emit_conditions(
     places: &[usize],
-    asked: &[usize],
+    conditions: &[usize],
     steps: &mut Vec<Step>,
 ) -> Result<(), AllocError>
-    ensures { OnOk result (steps.new.items ≡ steps.old.items ++ asked_steps places.now asked.now) }
+    ensures { OnOk result (steps.new.items ≡ steps.old.items ++ condition_steps places.now conditions.now) }
 {
-    let [place, tail @ ..] = asked else {
+    let [place, tail @ ..] = conditions else {
         return Ok(());
     };
     steps.push(Step::Suppose(at(places, *place), 1))?;
-    emit_asked(places, tail, steps)
+    emit_conditions(places, tail, steps)
 }

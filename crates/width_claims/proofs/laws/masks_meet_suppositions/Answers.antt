@@ -1,5 +1,5 @@
 use Rattle.width_claims.proofs.Masking.{are_masks, masks_narrower, masks_power}
-use Rattle.width_claims.proofs.laws.what_is_supposed_of_masks.Goals as goal
+use Rattle.width_claims.proofs.laws.masks_meet_suppositions.Goals as goal
 
 pub returns-clause-masks : goal.returns-clause-masks
 returns-clause-masks c = are_masks

@@ -1,6 +1,6 @@
 use Rattle.width_claims.proofs.Emitting.{emits}
 use Rattle.width_claims.proofs.Claiming.{claims}
-use Rattle.width_claims.proofs.laws.what_is_claimed.Goals as goal
+use Rattle.width_claims.proofs.laws.claims_are_sound.Goals as goal
 
 pub returns-clause-emits : goal.returns-clause-emits
 returns-clause-emits c = emits

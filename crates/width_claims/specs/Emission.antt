@@ -8,7 +8,7 @@ use Rattle.width_claims.specs.declared.form.Piece.{Piece}
 use Rattle.width_claims.specs.declared.width.Narrower.{Narrower}
 use Rattle.width_claims.specs.declared.width.Width.{Width}
 use Rattle.width_claims.specs.declared.width.Width.TheVariants as width
-use Rattle.width_claims.specs.Made.{at}
+use Rattle.width_claims.specs.PieceValues.{at}
 
 -- steps, the place of the number that they are for, and how many numbers and truths there are behind them
 pub record Block : Type 0 where
@@ -125,9 +125,9 @@ narrow_truths [] t = t
 narrow_truths (p ∷ ps) t = narrow_truths ps (t + 2)
 
 -- what is asked of values: that they are 1
-abbrev pub asked_steps : List ℕ → List ℕ → List Step
-asked_steps pl [] = []
-asked_steps pl (h ∷ hs) = step.Suppose (at pl h) 1 ∷ asked_steps pl hs
+abbrev pub condition_steps : List ℕ → List ℕ → List Step
+condition_steps pl [] = []
+condition_steps pl (h ∷ hs) = step.Suppose (at pl h) 1 ∷ condition_steps pl hs
 
 -- that two values are the same, where what is asked is so
 pub record Claim : Type 0 where
@@ -135,7 +135,7 @@ pub record Claim : Type 0 where
   pub types : List Width
   pub narrower : List Narrower
   pub pieces : List Piece
-  pub asked : List ℕ
+  pub conditions : List ℕ
   pub left : ℕ
   pub right : ℕ
 
@@ -159,10 +159,10 @@ claim_steps c =
     ∷ (type_steps c.first_mask c.types 2
     ++ (narrow_steps (claim_masks c) c.narrower (type_numbers c.types 2) (type_truths c.types 0)
     ++ (emitted (claim_masks c) c.pieces [] (claim_numbers c) (claim_truths c)
-    ++ (asked_steps (claim_places c) c.asked ++ (step.Equal (at (claim_places c) c.left) (at (claim_places c) c.right) ∷ [])))))
+    ++ (condition_steps (claim_places c) c.conditions ++ (step.Equal (at (claim_places c) c.left) (at (claim_places c) c.right) ∷ [])))))
 
 abbrev pub claim_place : Claim → ℕ
-claim_place c = truths_end (claim_masks c) c.pieces [] (claim_numbers c) (claim_truths c) + length c.asked
+claim_place c = truths_end (claim_masks c) c.pieces [] (claim_numbers c) (claim_truths c) + length c.conditions
 
 abbrev pub claim_of : ℕ → List Width → List Narrower → List Piece → List ℕ → ℕ → ℕ → Claim
-claim_of v ks ns ps hs l r = record { first_mask = v; types = ks; narrower = ns; pieces = ps; asked = hs; left = l; right = r }
+claim_of v ks ns ps hs l r = record { first_mask = v; types = ks; narrower = ns; pieces = ps; conditions = hs; left = l; right = r }

@@ -1,31 +1,31 @@
 //! Whether a truth of steps is true at every width.
 ghost use Rattle.std.specs.Prelude.{◌≡◌, ◌<◌, ◌^◌, IfOk};
-ghost use Rattle.bit_automata.specs.Serial.{room, start};
-ghost use Rattle.bit_automata.specs.Lasting.{IsDecided};
+ghost use Rattle.bit_automata.specs.BitSerial.{state_count, start};
+ghost use Rattle.bit_automata.specs.AllWidths.{IsDecided};
 
+use crate::bit_serial::BitSerial;
 use crate::decide::decide;
-use crate::digits::{begins, letters, radix, room};
-use crate::serial::Serial;
+use crate::digits::{first_digit, letters, radix, state_count};
 use crate::step::Step;
 use crate::verdict::Verdict;
 use std::alloc::{AllocError, Global};
 
 /// The state before the first bit.
 fn start(steps: &[Step]) -> u128
-    requires { room steps.now < 2 ^ 128 }
+    requires { state_count steps.now < 2 ^ 128 }
     ensures is { result ≡ start steps.now }
-    ensures small { result < room steps.now }
+    ensures small { result < state_count steps.now }
 {
     let [step, tail @ ..] = steps else {
         return 0;
     };
     let rest = start(tail);
-    begins(step) + radix(step) * rest
+    first_digit(step) + radix(step) * rest
 }
 
 /// Whether a truth of steps is true at every width, whatever the variables are of which what is supposed is so. Of the
 /// states so many at most are looked at.
-pub fn decide_everywhere(
+pub fn decide_all_widths(
     alloc: Global,
     steps: &[Step],
     claim: usize,
@@ -33,13 +33,13 @@ pub fn decide_everywhere(
 ) -> Result<Verdict, AllocError>
     ensures { IfOk result (IsDecided steps.now claim) }
 {
-    let Some(_) = room(steps) else {
+    let Some(_) = state_count(steps) else {
         return Ok(Verdict::TooMany);
     };
     let Some(letters) = letters(steps) else {
         return Ok(Verdict::TooMany);
     };
-    let serial = Serial { steps, claim };
-    let verdict = decide(alloc, &serial, letters, start(steps), most)?;
+    let bit_serial = BitSerial { steps, claim };
+    let verdict = decide(alloc, &bit_serial, letters, start(steps), most)?;
     Ok(verdict)
 }

@@ -1,5 +1,5 @@
 use Rattle.width_claims.proofs.Masking.{masks_literal, masks_negative, masks_sum, masks_difference, masks_product, masks_less, masks_extension, masks_resize, masks_zeros, masks_cut}
-use Rattle.width_claims.proofs.laws.what_masks_keep.Goals as goal
+use Rattle.width_claims.proofs.laws.masks_keep_arithmetic.Goals as goal
 
 pub returns-clause-literal : goal.returns-clause-literal
 returns-clause-literal c = masks_literal

@@ -17,33 +17,33 @@ radix (step.Less i j) = 2
 radix (step.Suppose i j) = 2
 radix _ = 1
 
-abbrev pub begins : Step → ℕ
-begins (step.Literal n) = n
-begins (step.Select t i j) = 3
-begins (step.Equal i j) = 1
-begins (step.Suppose i j) = 1
-begins _ = 0
+abbrev pub first_digit : Step → ℕ
+first_digit (step.Literal n) = n
+first_digit (step.Select t i j) = 3
+first_digit (step.Equal i j) = 1
+first_digit (step.Suppose i j) = 1
+first_digit _ = 0
 
 -- all states are below it
-abbrev pub room : List Step → ℕ
-room [] = 1
-room (s ∷ ss) = radix s * room ss
+abbrev pub state_count : List Step → ℕ
+state_count [] = 1
+state_count (s ∷ ss) = radix s * state_count ss
 
 -- the state before the first bit
 abbrev pub start : List Step → ℕ
 start [] = 0
-start (s ∷ ss) = begins s + radix s * start ss
+start (s ∷ ss) = first_digit s + radix s * start ss
 
 -- whether a step's bit is one of the letter's
-abbrev pub asks : Step → Bool
-asks (step.Variable i) = true
-asks (step.Select t i j) = true
-asks _ = false
+abbrev pub reads_bit : Step → Bool
+reads_bit (step.Variable i) = true
+reads_bit (step.Select t i j) = true
+reads_bit _ = false
 
 -- how many letters there are
 abbrev pub letters : List Step → ℕ
 letters [] = 1
-letters (s ∷ ss) = if asks s then 2 * letters ss else letters ss
+letters (s ∷ ss) = if reads_bit s then 2 * letters ss else letters ss
 
 -- a step's bit, of what it keeps, the bit that is guessed, and the bits before
 abbrev pub bit_of : Step → ℕ → ℕ → List ℕ → ℕ
@@ -84,7 +84,7 @@ abbrev pub bits_then : Step → ℕ → ℕ → List ℕ → List ℕ
 bits_then s c g bs = if is_number s then bs ++ (bit_of s c g bs ∷ []) else bs
 
 abbrev pub letter_then : Step → ℕ → ℕ
-letter_then s x = if asks s then x / 2 else x
+letter_then s x = if reads_bit s then x / 2 else x
 
 -- the state behind a letter
 abbrev pub after : List Step → ℕ → ℕ → List ℕ → ℕ
@@ -105,27 +105,27 @@ is_lost (s ∷ ss) n = loses s (n % radix s) || is_lost ss (n / radix s)
 abbrev pub kept_on : List Step → ℕ → ℕ
 kept_on ss n = if is_lost ss n then 0 else n
 
-abbrev pub behind : List Step → ℕ → ℕ → ℕ
-behind ss n x = kept_on ss (after ss n x [])
+abbrev pub next_state : List Step → ℕ → ℕ → ℕ
+next_state ss n x = kept_on ss (after ss n x [])
 
 -- ---- at the end
 
 -- a truth
-abbrev pub told : Step → ℕ → List Bool → Bool
-told (step.Equal i j) c ts = c == 1
-told (step.Less i j) c ts = c == 1
-told (step.Suppose i j) c ts = c == 1
-told (step.Not i) c ts = not (truth_at ts i)
-told (step.Both i j) c ts = truth_at ts i && truth_at ts j
-told (step.Differ i j) c ts = differ (truth_at ts i) (truth_at ts j)
-told _ c ts = false
+abbrev pub end_truth : Step → ℕ → List Bool → Bool
+end_truth (step.Equal i j) c ts = c == 1
+end_truth (step.Less i j) c ts = c == 1
+end_truth (step.Suppose i j) c ts = c == 1
+end_truth (step.Not i) c ts = not (truth_at ts i)
+end_truth (step.Both i j) c ts = truth_at ts i && truth_at ts j
+end_truth (step.Differ i j) c ts = differ (truth_at ts i) (truth_at ts j)
+end_truth _ c ts = false
 
-abbrev pub told_then : Step → ℕ → List Bool → List Bool
-told_then s c ts = if is_number s then ts else ts ++ (told s c ts ∷ [])
+abbrev pub end_truths_then : Step → ℕ → List Bool → List Bool
+end_truths_then s c ts = if is_number s then ts else ts ++ (end_truth s c ts ∷ [])
 
-abbrev pub told_all : List Step → ℕ → List Bool → List Bool
-told_all [] n ts = ts
-told_all (s ∷ ss) n ts = told_all ss (n / radix s) (told_then s (n % radix s) ts)
+abbrev pub end_truths : List Step → ℕ → List Bool → List Bool
+end_truths [] n ts = ts
+end_truths (s ∷ ss) n ts = end_truths ss (n / radix s) (end_truths_then s (n % radix s) ts)
 
 -- whether what was guessed is what is selected, and what is supposed is so
 abbrev pub agrees : Step → ℕ → List Bool → Bool
@@ -135,15 +135,15 @@ agrees _ c ts = true
 
 abbrev pub all_agree : List Step → ℕ → List Bool → Bool
 all_agree [] n ts = true
-all_agree (s ∷ ss) n ts = agrees s (n % radix s) ts && all_agree ss (n / radix s) (told_then s (n % radix s) ts)
+all_agree (s ∷ ss) n ts = agrees s (n % radix s) ts && all_agree ss (n / radix s) (end_truths_then s (n % radix s) ts)
 
 -- a state is accepted where a guess was wrong, or what is supposed isn't so, or what is claimed is true
 abbrev pub accepts : List Step → ℕ → ℕ → Bool
-accepts ss claim n = not (all_agree ss n []) || truth_at (told_all ss n []) claim
+accepts ss claim n = not (all_agree ss n []) || truth_at (end_truths ss n []) claim
 
 -- what is told behind steps, and whether all agrees
 abbrev pub Ended : List Step → ℕ → List Bool → List Bool → Bool → Type 0
-Ended ss n ts us agreed = (us ≡ told_all ss n ts) × (agreed ≡ all_agree ss n ts)
+Ended ss n ts us agreed = (us ≡ end_truths ss n ts) × (agreed ≡ all_agree ss n ts)
 
 -- what is known of letters and of states: how many there are, where there are few enough
 abbrev pub IsCount : ℕ → ℕ → Option ℕ → Type 0

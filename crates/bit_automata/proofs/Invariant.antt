@@ -9,7 +9,7 @@ use Rattle.std.proofs.Math.Nat.{div-div-eq-div-mul, div-le_self, mod-eq_of_lt, p
 use Rattle.bit_automata.specs.declared.step.Step.{Step}
 use Rattle.bit_automata.specs.declared.step.Step.TheVariants as step
 use Rattle.bit_automata.specs.Steps.{is_number, number_at, supposed_of, truth_at, truth_of, value_of}
-use Rattle.bit_automata.specs.Serial.{agrees, asks, begins, bit_of, less_still, loses, next_of, radix, same_still, told}
+use Rattle.bit_automata.specs.BitSerial.{agrees, reads_bit, first_digit, bit_of, less_still, loses, next_of, radix, same_still, end_truth}
 use Rattle.bit_automata.proofs.Numbers.{bit_within, carry_below, difference_bit, less, less_bits, low_below, same, same_bits, sum_bit, sum_next}
 
 -- of the first k bits
@@ -58,7 +58,7 @@ kept_below k (step.Less i j) v ns = less_small (number_at ns i % 2 ^ k) (number_
 kept_below k _ v ns = omega arith
 
 -- ---- before the first bit
-pub kept_first : (s : Step) (v : ℕ) (ns : List ℕ) → kept 0 s v ns ≡ begins s
+pub kept_first : (s : Step) (v : ℕ) (ns : List ℕ) → kept 0 s v ns ≡ first_digit s
 kept_first (step.Literal n) v ns = omega arith
 kept_first (step.Add i j) v ns = omega arith
 kept_first (step.Subtract i j) v ns = none (number_at ns i) (number_at ns j)
@@ -85,7 +85,7 @@ kept_first _ v ns = refl
 
 -- ---- from bit to bit
 module _ (w : ℕ) (vs : List ℕ) (k : ℕ) (within : k < w) where
-  pub bit_is : (s : Step) (g : ℕ) (ns : List ℕ) (ts : List Bool) → is_number s ≡ true → AreLow w ns → (asks s ≡ true → g ≡ bit_at (value_of w vs s ns ts) k)
+  pub bit_is : (s : Step) (g : ℕ) (ns : List ℕ) (ts : List Bool) → is_number s ≡ true → AreLow w ns → (reads_bit s ≡ true → g ≡ bit_at (value_of w vs s ns ts) k)
       → bit_of s (kept k s (value_of w vs s ns ts) ns) g (bits k ns) ≡ bit_at (value_of w vs s ns ts) k
   bit_is (step.Variable i) g ns ts is low guess = guess refl
   bit_is (step.Literal n) g ns ts is low guess = sym (bit_within n k w within)
@@ -103,7 +103,7 @@ module _ (w : ℕ) (vs : List ℕ) (k : ℕ) (within : k < w) where
   two_parts : (a b : ℕ) → a < 2 → ((a + 2 * b) % 2 ≡ a) × ((a + 2 * b) / 2 ≡ b)
   two_parts a b l = (omega (arith, l), omega (arith, l))
 
-  pub next_is : (s : Step) (g : ℕ) (ns : List ℕ) (ts : List Bool) → (asks s ≡ true → g ≡ bit_at (value_of w vs s ns ts) k)
+  pub next_is : (s : Step) (g : ℕ) (ns : List ℕ) (ts : List Bool) → (reads_bit s ≡ true → g ≡ bit_at (value_of w vs s ns ts) k)
       → next_of s (kept k s (value_of w vs s ns ts) ns) g (bits k ns) ≡ kept (suc k) s (value_of w vs s ns ts) ns
   next_is (step.Literal n) g ns ts guess = div-div-eq-div-mul n (2 ^ k) 2 ∙ ap (λ m. n / m) (sym (pow-suc 2 k))
   next_is (step.Add i j) g ns ts guess = (λ t. (bit_there k ns i t + bit_there k ns j t + kept k (step.Add i j) 0 ns) / 2) ∙ sym (sum_next (number_at ns i) (number_at ns j) k)
@@ -138,35 +138,35 @@ module _ (w : ℕ) (vs : List ℕ) where
       chosen false = low j
   value_low _ ns ts low = pow_pos w
 
-  pub told_is : (s : Step) (ns : List ℕ) (ts : List Bool) → is_number s ≡ false → AreLow w ns → told s (kept w s (value_of w vs s ns ts) ns) ts ≡ truth_of s ns ts
-  told_is (step.Equal i j) ns ts is low = (λ t. same (whole ns i low t) (whole ns j low t) == 1) ∙ told_same (number_at ns i) (number_at ns j)
+  pub end_truth_is : (s : Step) (ns : List ℕ) (ts : List Bool) → is_number s ≡ false → AreLow w ns → end_truth s (kept w s (value_of w vs s ns ts) ns) ts ≡ truth_of s ns ts
+  end_truth_is (step.Equal i j) ns ts is low = (λ t. same (whole ns i low t) (whole ns j low t) == 1) ∙ end_same (number_at ns i) (number_at ns j)
     where
-      told_same : (a b : ℕ) → (same a b == 1) ≡ (a == b)
-      told_same a b = decided (a == b)
+      end_same : (a b : ℕ) → (same a b == 1) ≡ (a == b)
+      end_same a b = all_widths (a == b)
         where
-          decided : (c : Bool) → ((if c then 1 else 0) == 1) ≡ c
-          decided true = refl
-          decided false = refl
-  told_is (step.Suppose i j) ns ts is low = (λ t. same (whole ns i low t) (whole ns j low t) == 1) ∙ told_same (number_at ns i) (number_at ns j)
+          all_widths : (c : Bool) → ((if c then 1 else 0) == 1) ≡ c
+          all_widths true = refl
+          all_widths false = refl
+  end_truth_is (step.Suppose i j) ns ts is low = (λ t. same (whole ns i low t) (whole ns j low t) == 1) ∙ end_same (number_at ns i) (number_at ns j)
     where
-      told_same : (a b : ℕ) → (same a b == 1) ≡ (a == b)
-      told_same a b = decided (a == b)
+      end_same : (a b : ℕ) → (same a b == 1) ≡ (a == b)
+      end_same a b = all_widths (a == b)
         where
-          decided : (c : Bool) → ((if c then 1 else 0) == 1) ≡ c
-          decided true = refl
-          decided false = refl
-  told_is (step.Less i j) ns ts is low = (λ t. less (whole ns i low t) (whole ns j low t) == 1) ∙ told_less (number_at ns i) (number_at ns j)
+          all_widths : (c : Bool) → ((if c then 1 else 0) == 1) ≡ c
+          all_widths true = refl
+          all_widths false = refl
+  end_truth_is (step.Less i j) ns ts is low = (λ t. less (whole ns i low t) (whole ns j low t) == 1) ∙ end_less (number_at ns i) (number_at ns j)
     where
-      told_less : (a b : ℕ) → (less a b == 1) ≡ nat_lt a b
-      told_less a b = decided (nat_lt a b)
+      end_less : (a b : ℕ) → (less a b == 1) ≡ nat_lt a b
+      end_less a b = all_widths (nat_lt a b)
         where
-          decided : (c : Bool) → ((if c then 1 else 0) == 1) ≡ c
-          decided true = refl
-          decided false = refl
-  told_is (step.Not i) ns ts is low = refl
-  told_is (step.Both i j) ns ts is low = refl
-  told_is (step.Differ i j) ns ts is low = refl
-  told_is _ ns ts is low = absurd (true≢false is)
+          all_widths : (c : Bool) → ((if c then 1 else 0) == 1) ≡ c
+          all_widths true = refl
+          all_widths false = refl
+  end_truth_is (step.Not i) ns ts is low = refl
+  end_truth_is (step.Both i j) ns ts is low = refl
+  end_truth_is (step.Differ i j) ns ts is low = refl
+  end_truth_is _ ns ts is low = absurd (true≢false is)
 
   same_self : (a : ℕ) → same a a ≡ 1
   same_self a = grind (arith, nat_tests)
