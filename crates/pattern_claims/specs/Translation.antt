@@ -1,0 +1,368 @@
+-- A pattern as claims: each place of it has a piece that computes its value, and a flag for its poison. There is one
+-- claim for each set of variables that are poison.
+use Rattle.std.specs.Prelude.{ℕ, ◌+◌, ◌-◌, ◌*◌, ◌/◌, ◌%◌, ◌^◌, ◌==◌, List, [], ◌∷◌, ◌++◌, map, length, Bool, true, false, ◌&&◌, eqb, if◌then◌else◌, Option, Some, None, slice_get}
+use Rattle.std.specs.List.{list_any}
+use Rattle.ir_types.specs.declared.bits.BitsKind.{BitsKind}
+use Rattle.ir_types.specs.declared.bits.BitsKind.TheVariants as kind
+use Rattle.ir_types.specs.Bits.{width_of}
+use Rattle.dialects_int.specs.declared.operations.Arithmetic.{Arithmetic}
+use Rattle.dialects_int.specs.declared.operations.Arithmetic.TheVariants as op
+use Rattle.dialects_int.specs.declared.operations.Predicate.{Predicate}
+use Rattle.dialects_int.specs.declared.operations.Predicate.TheVariants as asks
+use Rattle.dialects_int.specs.declared.operations.Cast.{Cast}
+use Rattle.dialects_int.specs.declared.operations.Cast.TheVariants as cast
+use Rattle.patterns_check.specs.Outcomes.{given}
+use Rattle.patterns_book.specs.declared.pattern.Kind.{Kind}
+use Rattle.patterns_book.specs.declared.pattern.Kind.TheVariants as ty
+use Rattle.patterns_book.specs.declared.pattern.Form as book
+use Rattle.patterns_book.specs.declared.pattern.Form.TheVariants as op_form
+use Rattle.patterns_book.specs.declared.pattern.Piece as matched
+use Rattle.patterns_book.specs.declared.pattern.Literal.{Literal}
+use Rattle.patterns_book.specs.declared.pattern.Further.{Further}
+use Rattle.patterns_book.specs.declared.pattern.Further.TheVariants as further
+use Rattle.patterns_book.specs.declared.pattern.Number.{Number}
+use Rattle.patterns_book.specs.declared.pattern.Number.TheVariants as number
+use Rattle.patterns_book.specs.declared.pattern.New.{New}
+use Rattle.patterns_book.specs.declared.pattern.New.TheVariants as new
+use Rattle.patterns_book.specs.declared.pattern.Asked.{Asked}
+use Rattle.patterns_book.specs.declared.pattern.Asked.TheVariants as asked
+use Rattle.patterns_book.specs.Shapes.{Shape}
+use Rattle.width_claims.specs.declared.form.Form.{Form}
+use Rattle.width_claims.specs.declared.form.Form.TheVariants as form
+use Rattle.width_claims.specs.declared.form.Piece.{Piece}
+use Rattle.width_claims.specs.declared.width.Narrower.{Narrower}
+use Rattle.width_claims.specs.declared.width.Width.{Width}
+use Rattle.width_claims.specs.declared.width.Width.TheVariants as width
+use Rattle.width_claims.specs.Emission.{Claim, claim_of}
+use Rattle.pattern_claims.specs.declared.operand.Poison.{Poison}
+use Rattle.pattern_claims.specs.declared.operand.Poison.TheVariants as poison
+use Rattle.pattern_claims.specs.declared.operand.Operand.{Operand}
+use Rattle.pattern_claims.specs.declared.instruction.Instruction.{Instruction}
+use Rattle.pattern_claims.specs.declared.instruction.Instruction.TheVariants as instruction
+
+-- ---- types: that of the number 0 is i1, and a pattern's type t has the number t + 1, unless it is written i1
+
+abbrev pub is_one_bit : BitsKind → Bool
+is_one_bit (kind.Int w) = w == 1
+is_one_bit kind.Index = false
+
+abbrev pub is_truth : Kind → Bool
+is_truth (ty.Fixed k) = is_one_bit k
+is_truth (ty.Variable v) = false
+
+abbrev pub type_number : ℕ → Kind → ℕ
+type_number t k = if is_truth k then 0 else t + 1
+
+abbrev pub type_at : List Kind → ℕ → Option ℕ
+type_at ks t = given (slice_get ks t) (λ k. Some (type_number t k))
+
+abbrev pub width_at : Kind → Width
+width_at (ty.Fixed k) = width.Fixed (2 ^ width_of k - 1)
+width_at (ty.Variable v) = width.Free
+
+abbrev pub claim_types : List Kind → List Width
+claim_types ks = width.Fixed 1 ∷ map width_at ks
+
+abbrev pub with_narrower : Option ℕ → Option ℕ → List Narrower → List Narrower
+with_narrower (Some s) (Some t) ns = record { narrow = s; wide = t } ∷ ns
+with_narrower _ _ ns = ns
+
+abbrev pub narrower_types : List Kind → List Asked → List Narrower
+narrower_types ks [] = []
+narrower_types ks (asked.Narrower s t ∷ more) = with_narrower (type_at ks s) (type_at ks t) (narrower_types ks more)
+narrower_types ks (asked.Integer t ∷ more) = narrower_types ks more
+
+-- whether one type is asked to be narrower than another
+abbrev pub is_narrower : List Narrower → ℕ → ℕ → Bool
+is_narrower ns s t = list_any (λ (n : Narrower). (n.narrow == s) && (n.wide == t)) ns
+
+-- ---- pieces
+
+-- pieces, and the place of the last
+abbrev pub Made : Type 0
+Made = List Piece × ℕ
+
+abbrev pub put : List Piece → ℕ → Form → Made
+put ps t f = (ps ++ (record { form = f; ty = t } ∷ []), length ps)
+
+-- a truth's negation: 0 and 1 are the pieces 0 and 1
+abbrev pub negated : Made → Made
+negated m = put m.0 0 (form.ExclusiveOr m.1 1)
+
+-- one of two values of a type, by a truth
+abbrev pub chosen : Made → ℕ → ℕ → ℕ → Made
+chosen m t i j = put m.0 t (form.Select m.1 i j)
+
+abbrev pub compare_value : Predicate → ℕ → ℕ → ℕ → List Piece → Made
+compare_value asks.Equal t i j ps = put ps 0 (form.Same i j)
+compare_value asks.NotEqual t i j ps = negated (put ps 0 (form.Same i j))
+compare_value asks.SignedLess t i j ps = put ps 0 (form.LessSigned t i j)
+compare_value asks.SignedLessOrEqual t i j ps = negated (put ps 0 (form.LessSigned t j i))
+compare_value asks.SignedGreater t i j ps = put ps 0 (form.LessSigned t j i)
+compare_value asks.SignedGreaterOrEqual t i j ps = negated (put ps 0 (form.LessSigned t i j))
+compare_value asks.UnsignedLess t i j ps = put ps 0 (form.Less i j)
+compare_value asks.UnsignedLessOrEqual t i j ps = negated (put ps 0 (form.Less j i))
+compare_value asks.UnsignedGreater t i j ps = put ps 0 (form.Less j i)
+compare_value asks.UnsignedGreaterOrEqual t i j ps = negated (put ps 0 (form.Less i j))
+
+-- of two values of a type
+abbrev pub pair_value : Arithmetic → ℕ → ℕ → ℕ → List Piece → Option Made
+pair_value op.Add t i j ps = Some (put ps t (form.Add i j))
+pair_value op.Subtract t i j ps = Some (put ps t (form.Subtract i j))
+pair_value op.And t i j ps = Some (put ps t (form.And i j))
+pair_value op.Or t i j ps = Some (put ps t (form.Or i j))
+pair_value op.ExclusiveOr t i j ps = Some (put ps t (form.ExclusiveOr i j))
+pair_value op.MaximumSigned t i j ps = Some (chosen (put ps 0 (form.LessSigned t i j)) t j i)
+pair_value op.MaximumUnsigned t i j ps = Some (chosen (put ps 0 (form.Less i j)) t j i)
+pair_value op.MinimumSigned t i j ps = Some (chosen (put ps 0 (form.LessSigned t j i)) t j i)
+pair_value op.MinimumUnsigned t i j ps = Some (chosen (put ps 0 (form.Less j i)) t j i)
+pair_value _ t i j ps = None
+
+-- a value of type u as one of type t; a cut has to be one
+abbrev pub cast_value : List Narrower → Cast → ℕ → ℕ → ℕ → List Piece → Option Made
+cast_value ns cast.ExtendSigned t u i ps = Some (put ps t (form.Resize u i))
+cast_value ns cast.ExtendUnsigned t u i ps = Some (put ps t (form.Cut i))
+cast_value ns cast.Truncate t u i ps = if is_narrower ns t u then Some (put ps t (form.Cut i)) else None
+
+abbrev pub literal_form : Literal → Form
+literal_form l = if l.negative then form.Negative l.magnitude else form.Literal l.magnitude
+
+-- ---- poison
+
+-- pieces, and a flag
+abbrev pub Flagged : Type 0
+Flagged = List Piece × Poison
+
+abbrev pub flag_by : Made → Flagged
+flag_by m = (m.0, poison.When m.1)
+
+-- one of two is poison
+abbrev pub either : Poison → Poison → List Piece → Flagged
+either poison.Never g ps = (ps, g)
+either poison.Always g ps = (ps, poison.Always)
+either (poison.When i) poison.Never ps = (ps, poison.When i)
+either (poison.When i) poison.Always ps = (ps, poison.Always)
+either (poison.When i) (poison.When j) ps = flag_by (put ps 0 (form.Or i j))
+
+-- the place of a flag's piece
+abbrev pub flag_place : Poison → ℕ
+flag_place poison.Never = 0
+flag_place poison.Always = 1
+flag_place (poison.When i) = i
+
+-- the one of two that a truth chooses is poison
+abbrev pub chosen_poison : ℕ → Poison → Poison → List Piece → Flagged
+chosen_poison c poison.Never poison.Never ps = (ps, poison.Never)
+chosen_poison c poison.Always poison.Always ps = (ps, poison.Always)
+chosen_poison c f g ps = flag_by (put ps 0 (form.Select c (flag_place f) (flag_place g)))
+
+-- ---- operands
+
+abbrev pub operand : ℕ → Poison → ℕ → Operand
+operand i f t = record { value = i; poison = f; ty = t }
+
+-- pieces, and an operand
+abbrev pub Result : Type 0
+Result = List Piece × Operand
+
+abbrev pub result : ℕ → ℕ → Flagged → Result
+result i t r = (r.0, operand i r.1 t)
+
+-- a value that is poison if one of two operands is
+abbrev pub strict : Made → ℕ → Poison → Poison → Result
+strict m t f g = result m.1 t (either f g m.0)
+
+abbrev pub pair_result : Arithmetic → Operand → Operand → List Piece → Option Result
+pair_result o x y ps =
+    if x.ty == y.ty then given (pair_value o x.ty x.value y.value ps) (λ m. Some (strict m x.ty x.poison y.poison)) else None
+
+abbrev pub compare_result : Predicate → Operand → Operand → List Piece → Option Result
+compare_result q x y ps = if x.ty == y.ty then Some (strict (compare_value q x.ty x.value y.value ps) 0 x.poison y.poison) else None
+
+-- the condition's poison, or that of the chosen one
+abbrev pub also_poison : Poison → Flagged → Flagged
+also_poison f r = either f r.1 r.0
+
+abbrev pub select_poison : Operand → Operand → Operand → List Piece → Flagged
+select_poison c x y ps = also_poison c.poison (chosen_poison c.value x.poison y.poison ps)
+
+abbrev pub select_made : Operand → Operand → Operand → Made → Result
+select_made c x y m = result m.1 x.ty (select_poison c x y m.0)
+
+abbrev pub select_result : Operand → Operand → Operand → List Piece → Option Result
+select_result c x y ps =
+    if (c.ty == 0) && (x.ty == y.ty) then Some (select_made c x y (put ps x.ty (form.Select c.value x.value y.value))) else None
+
+abbrev pub resize_result : List Narrower → Cast → ℕ → Operand → List Piece → Option Result
+resize_result ns c t x ps = given (cast_value ns c t x.ty x.value ps) (λ m. Some (result m.1 t (m.0, x.poison)))
+
+-- ---- instructions
+
+-- the pieces so far, the operand at each place, and the places of pieces that have to be 1
+pub record State : Type 0 where
+  pub pieces : List Piece
+  pub operands : List Operand
+  pub conditions : List ℕ
+
+abbrev pub with_result : State → Result → State
+with_result s r = record { pieces = r.0; operands = s.operands ++ (r.1 ∷ []); conditions = s.conditions }
+
+abbrev pub with_some : State → Option Result → Option State
+with_some s r = given r (λ r. Some (with_result s r))
+
+-- a condition has to be known and not 0
+abbrev pub with_condition : State → Operand → Made → State
+with_condition s x m = record { pieces = m.0; operands = s.operands ++ (x ∷ []); conditions = s.conditions ++ (m.1 ∷ []) }
+
+abbrev pub required : State → Operand → Poison → Option State
+required s x poison.Never = Some (with_condition s x (put s.pieces 0 (form.Less 0 x.value)))
+required s x _ = None
+
+module _ (ks : List Kind) (ns : List Narrower) where
+  abbrev pub literal_result : Literal → List Piece → ℕ → Result
+  literal_result l ps t = let m = put ps t (literal_form l) in (m.0, operand m.1 poison.Never t)
+
+  abbrev pub translated : Instruction → State → Option State
+  translated (instruction.Number l) s = given (type_at ks l.ty) (λ t. Some (with_result s (literal_result l s.pieces t)))
+  translated (instruction.Copy i) s = given (slice_get s.operands i) (λ x. Some (with_result s (s.pieces, x)))
+  translated (instruction.Pair o i j) s =
+      given (slice_get s.operands i) (λ x. given (slice_get s.operands j) (λ y. with_some s (pair_result o x y s.pieces)))
+  translated (instruction.Compare q i j) s =
+      given (slice_get s.operands i) (λ x. given (slice_get s.operands j) (λ y. with_some s (compare_result q x y s.pieces)))
+  translated (instruction.Select c i j) s =
+      given (slice_get s.operands c) (λ b. given (slice_get s.operands i) (λ x. given (slice_get s.operands j) (λ y. with_some s (select_result b x y s.pieces))))
+  translated (instruction.Resize c u i) s =
+      given (slice_get s.operands i) (λ x. given (type_at ks u) (λ t. with_some s (resize_result ns c t x s.pieces)))
+  translated (instruction.Require i) s = given (slice_get s.operands i) (λ x. required s x x.poison)
+  translated (instruction.Width t) s = None
+  translated (instruction.Log i) s = None
+
+  abbrev pub all_translated : List Instruction → State → Option State
+  all_translated [] s = Some s
+  all_translated (n ∷ more) s = given (translated n s) (all_translated more)
+
+-- those of a pattern
+abbrev pub further_instruction : Further → Instruction
+further_instruction (further.Written l) = instruction.Number l
+further_instruction (further.Again i) = instruction.Copy i
+
+abbrev pub number_instruction : Number → Instruction
+number_instruction (number.Written l) = instruction.Number l
+number_instruction (number.Width t) = instruction.Width t
+number_instruction (number.Pair o i j) = instruction.Pair o i j
+number_instruction (number.Compare q i j) = instruction.Compare q i j
+number_instruction (number.Log i) = instruction.Log i
+number_instruction (number.Require i) = instruction.Require i
+
+abbrev pub form_instruction : ℕ → book.Form → Instruction
+form_instruction t (op_form.Pair o i j) = instruction.Pair o i j
+form_instruction t (op_form.Compare q i j) = instruction.Compare q i j
+form_instruction t (op_form.Select c i j) = instruction.Select c i j
+form_instruction t (op_form.Resize c i) = instruction.Resize c t i
+form_instruction t (op_form.IndexCast c i) = instruction.Resize c t i
+
+abbrev pub piece_instruction : matched.Piece → Instruction
+piece_instruction p = form_instruction p.ty p.form
+
+abbrev pub new_instruction : New → Instruction
+new_instruction (new.Operation p) = piece_instruction p
+new_instruction (new.Constant i t) = instruction.Copy i
+
+abbrev pub given_instructions : Shape → List Instruction
+given_instructions p = map further_instruction p.further ++ map number_instruction p.given
+
+abbrev pub old_instructions : Shape → List Instruction
+old_instructions p = map piece_instruction p.old
+
+abbrev pub new_instructions : Shape → List Instruction
+new_instructions p = map new_instruction p.new
+
+-- ---- variables
+
+-- a set of variables is a number: each variable that isn't a constant has one of its bits
+abbrev pub bit_flag : ℕ → Poison
+bit_flag b = if b == 1 then poison.Always else poison.Never
+
+abbrev pub with_variable : State → ℕ → Poison → ℕ → State
+with_variable s i f t = with_result s (let m = put s.pieces t (form.Value i) in (m.0, operand m.1 f t))
+
+module _ (p : Shape) where
+  abbrev pub is_constant : ℕ → Bool
+  is_constant i = list_any (eqb i) p.constants
+
+  -- the variables from the place i on
+  abbrev pub variables : ℕ → List ℕ → ℕ → State → Option State
+  variables i [] set s = Some s
+  variables i (u ∷ tys) set s =
+      given (type_at p.kinds u) (λ t.
+      if is_constant i then variables (i + 1) tys set (with_variable s i poison.Never t)
+      else variables (i + 1) tys (set / 2) (with_variable s i (bit_flag (set % 2)) t))
+
+  -- how many sets there are
+  abbrev pub set_count : ℕ → List ℕ → ℕ
+  set_count i [] = 1
+  set_count i (u ∷ tys) = if is_constant i then set_count (i + 1) tys else 2 * set_count (i + 1) tys
+
+abbrev pub first_state : State
+first_state =
+    record {
+      pieces = record { form = form.Literal 0; ty = 0 } ∷ record { form = form.Literal 1; ty = 0 } ∷ [];
+      operands = [];
+      conditions = [];
+    }
+
+-- ---- both sides
+
+-- pieces, and the places of two that are claimed to be equal
+abbrev pub Sides : Type 0
+Sides = List Piece × ℕ × ℕ
+
+-- the new value is known and the old one
+abbrev pub both_true : Made → Made → Made
+both_true m n = put n.0 0 (form.And m.1 n.1)
+
+abbrev pub known_and : Poison → Made → Made
+known_and poison.Never m = m
+known_and poison.Always m = (m.0, 0)
+known_and (poison.When g) m = both_true m (put m.0 0 (form.ExclusiveOr g 1))
+
+abbrev pub refined : Operand → Operand → List Piece → Made
+refined x y ps = known_and y.poison (put ps 0 (form.Same x.value y.value))
+
+abbrev pub is_one : Made → Sides
+is_one m = (m.0, m.1, 1)
+
+abbrev pub poison_or : ℕ → Made → Made
+poison_or f m = put m.0 0 (form.Or f m.1)
+
+-- the old value is poison, or the new one refines it; there is nothing to claim if the old one always is
+abbrev pub sides_by : Poison → Poison → Operand → Operand → List Piece → Option Sides
+sides_by poison.Always g x y ps = None
+sides_by (poison.When f) g x y ps = Some (is_one (poison_or f (refined x y ps)))
+sides_by poison.Never poison.Never x y ps = Some (ps, x.value, y.value)
+sides_by poison.Never g x y ps = Some (is_one (refined x y ps))
+
+abbrev pub sides : Operand → Operand → List Piece → Option Sides
+sides x y ps = sides_by x.poison y.poison x y ps
+
+-- a goal: nothing, or a claim
+abbrev pub Goal : Type 0
+Goal = Option Claim
+
+abbrev pub claim_from : Shape → List ℕ → Option Sides → Goal
+claim_from p hs None = None
+claim_from p hs (Some r) = Some (claim_of (length p.values) (claim_types p.kinds) (narrower_types p.kinds p.asked) r.0 hs r.1 r.2)
+
+abbrev pub goal_from : Shape → State → Operand → Operand → Option Goal
+goal_from p s x y = if x.ty == y.ty then Some (claim_from p s.conditions (sides x y s.pieces)) else None
+
+-- the goal for a set of poison variables, if the pattern can be translated
+abbrev pub goal_of : Shape → ℕ → Option Goal
+goal_of p set =
+    let ns = narrower_types p.kinds p.asked in
+    given (variables p 0 p.values set first_state) (λ a.
+    given (all_translated p.kinds ns (given_instructions p) a) (λ b.
+    given (all_translated p.kinds ns (old_instructions p) b) (λ c.
+    given (slice_get (State.operands c) p.root) (λ x.
+    given (all_translated p.kinds ns (new_instructions p) c) (λ d.
+    given (slice_get (State.operands d) p.result) (λ y. goal_from p d x y))))))

@@ -1,0 +1,5 @@
+//! Patterns decided at every width, with poison inputs.
+#![tactic(auto)]
+
+pub mod instruction;
+pub mod operand;
