@@ -1,2 +1,4 @@
 pub mod Pieces
 pub mod Forms
+pub mod Flags
+pub mod Operands

@@ -60,8 +60,8 @@ module _ (W : ℕ) (vs ws : List ℕ) where
   pub same : (ps : List Piece) → AreRight W ws ps [] → Grown ps ps
   same ps r = record { right = r; kept = λ i t v is. is }
 
-  pub then : (ps qs rs : List Piece) → Grown ps qs → Grown qs rs → Grown ps rs
-  then ps qs rs g h = record { right = h.right; kept = λ i t v is. h.kept i t v (g.kept i t v is) }
+  pub grown_next : (ps qs rs : List Piece) → Grown ps qs → Grown qs rs → Grown ps rs
+  grown_next ps qs rs g h = record { right = h.right; kept = λ i t v is. h.kept i t v (g.kept i t v is) }
 
   -- what is put there makes a value
   pub record Makes (ps : List Piece) (m : Made) (t v : ℕ) : Type 0 where
@@ -105,7 +105,7 @@ module _ (W : ℕ) (vs ws : List ℕ) where
   base_on ps qs b g = record { right = g.right; zero_is = g.kept 0 0 0 b.zero_is; one_is = g.kept 1 0 1 b.one_is }
 
   pub makes_next : (ps : List Piece) (m n : Made) (t u v w : ℕ) → Makes ps m t v → Makes m.0 n u w → Makes ps n u w
-  makes_next ps m n t u v w a b = record { grown = then ps m.0 n.0 a.grown b.grown; is = b.is }
+  makes_next ps m n t u v w a b = record { grown = grown_next ps m.0 n.0 a.grown b.grown; is = b.is }
 
   pub makes_same : (ps : List Piece) (m : Made) (t v w : ℕ) → v ≡ w → Makes ps m t v → Makes ps m t w
   makes_same ps m t v w e a = subst (λ (u : ℕ). Makes ps m t u) e a
