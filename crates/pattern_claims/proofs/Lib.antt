@@ -2,3 +2,5 @@ pub mod Pieces
 pub mod Forms
 pub mod Flags
 pub mod Operands
+pub mod Types
+pub mod Instructions

@@ -218,10 +218,13 @@ abbrev pub required : State → Operand → Poison → Option State
 required s x poison.Never = Some (with_condition s x (put s.pieces 0 (form.Less 0 x.value)))
 required s x _ = None
 
-module _ (ks : List Kind) (ns : List Narrower) where
-  abbrev pub literal_result : Literal → List Piece → ℕ → Result
-  literal_result l ps t = let m = put ps t (literal_form l) in (m.0, operand m.1 poison.Never t)
+abbrev pub never_poison : Made → ℕ → Result
+never_poison m t = (m.0, operand m.1 poison.Never t)
 
+abbrev pub literal_result : Literal → List Piece → ℕ → Result
+literal_result l ps t = never_poison (put ps t (literal_form l)) t
+
+module _ (ks : List Kind) (ns : List Narrower) where
   abbrev pub translated : Instruction → State → Option State
   translated (instruction.Number l) s = given (type_at ks l.ty) (λ t. Some (with_result s (literal_result l s.pieces t)))
   translated (instruction.Copy i) s = given (slice_get s.operands i) (λ x. Some (with_result s (s.pieces, x)))
@@ -283,8 +286,11 @@ new_instructions p = map new_instruction p.new
 abbrev pub bit_flag : ℕ → Poison
 bit_flag b = if b == 1 then poison.Always else poison.Never
 
+abbrev pub variable_result : Made → Poison → ℕ → Result
+variable_result m f t = (m.0, operand m.1 f t)
+
 abbrev pub with_variable : State → ℕ → Poison → ℕ → State
-with_variable s i f t = with_result s (let m = put s.pieces t (form.Value i) in (m.0, operand m.1 f t))
+with_variable s i f t = with_result s (variable_result (put s.pieces t (form.Value i)) f t)
 
 module _ (p : Shape) where
   abbrev pub is_constant : ℕ → Bool
