@@ -9,7 +9,7 @@ use Rattle.pattern_claims.specs.Translation.{Flagged, Made, also_poison, chosen_
 use Rattle.pattern_claims.proofs.Pieces.{Base, Grown, Is, Makes, base_on, makes_same, same, grown_next}
 use Rattle.pattern_claims.proofs.Forms.{put_or, put_select}
 
-or_truth : (b c : Bool) → bit_or (truth b) (truth c) ≡ truth (b || c)
+pub or_truth : (b c : Bool) → bit_or (truth b) (truth c) ≡ truth (b || c)
 or_truth true true = refl
 or_truth true false = refl
 or_truth false true = refl

@@ -17,7 +17,7 @@ use Rattle.width_claims.specs.Right.{IsBelow}
 use Rattle.pattern_claims.specs.Translation.{Made, chosen, compare_value, negated, pair_value, put}
 use Rattle.pattern_claims.proofs.Pieces.{Base, Is, Makes, base_on, has, inside, made, makes_next, makes_same}
 
-not_truth : (b : Bool) → bit_xor (truth b) 1 ≡ truth (not b)
+pub not_truth : (b : Bool) → bit_xor (truth b) 1 ≡ truth (not b)
 not_truth true = refl
 not_truth false = refl
 

@@ -96,7 +96,7 @@ module _ (W : ℕ) (most : most_width ≤ W) (vs : List ℕ) (kinds : List Kind)
   all_more ps (p ∷ os) [] o x a s = absurd a
   all_more ps (p ∷ os) (y ∷ xs) o x a s = (a.0, all_more ps os xs o x a.1 s)
 
-  ones_still : (ps qs : List Piece) (hs : List ℕ) → Grown W vs ws ps qs → AllOnes ps hs → AllOnes qs hs
+  pub ones_still : (ps qs : List Piece) (hs : List ℕ) → Grown W vs ws ps qs → AllOnes ps hs → AllOnes qs hs
   ones_still ps qs [] g a = tt
   ones_still ps qs (h ∷ hs) g a = (g.kept h 0 1 a.0, ones_still ps qs hs g a.1)
 
@@ -127,7 +127,7 @@ module _ (W : ℕ) (most : most_width ≤ W) (vs : List ℕ) (kinds : List Kind)
   Goes may s env None (Some next) = may ≡ true
   Goes may s env (Some x) (Some next) = Reached s next (env ++ x ∷ [])
 
-  reached : (s : State) (env : List Outcome) (r : Result) (x : Outcome) → Holds s env → Grown W vs ws s.pieces r.0 → StandsFor r.0 r.1 x → Reached s (with_result s r) (env ++ x ∷ [])
+  pub reached : (s : State) (env : List Outcome) (r : Result) (x : Outcome) → Holds s env → Grown W vs ws s.pieces r.0 → StandsFor r.0 r.1 x → Reached s (with_result s r) (env ++ x ∷ [])
   reached s env r x h g a =
       record {
         grown = g;

@@ -4,3 +4,6 @@ pub mod Flags
 pub mod Operands
 pub mod Types
 pub mod Instructions
+pub mod Refining
+pub mod Variables
+pub mod Deciding

@@ -24,7 +24,7 @@ use Rattle.pattern_claims.specs.Outcomes.{AreKindsOf, are_kinds}
 use Rattle.pattern_claims.specs.Translation.{is_one_bit, is_truth, type_at, type_number}
 use Rattle.pattern_claims.proofs.Operands.{width_is}
 
-width_low : (W w : ℕ) → most_width ≤ W → is_width w ≡ true → IsBelow W w
+pub width_low : (W w : ℕ) → most_width ≤ W → is_width w ≡ true → IsBelow W w
 width_low W w most e =
     let h = and_parts (nat_lt 0 w) (nat_le w most_width) e in
     let a : 1 ≤ w = positive w h.0 in
