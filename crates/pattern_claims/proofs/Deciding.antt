@@ -1,12 +1,15 @@
 -- Claims that are true decide a pattern.
-use Rattle.std.proofs.Common.{◌≡◌, ◌∙◌, ℕ, zero, suc, ◌+◌, ◌^◌, ◌<◌, ◌≤◌, ◌==◌, List, [], ◌∷◌, ◌++◌, length, map, Bool, true, false, true≢false, ◌||◌, ◌&&◌, if◌then◌else◌, Option, Some, None, slice_get, refl, sym, ap, subst, arith}
+use Rattle.std.proofs.Common.{◌≡◌, ◌∙◌, ℕ, zero, suc, ◌+◌, ◌^◌, ◌<◌, ◌≤◌, ◌==◌, List, [], ◌∷◌, ◌++◌, length, map, Bool, true, false, true≢false, ◌||◌, ◌&&◌, if◌then◌else◌, Option, Some, None, slice_get, nat_lt, refl, sym, ap, subst, arith, eqb}
 use Rattle.std.specs.List.{list_all, list_any}
 use Rattle.std.proofs.Math.Path.{ap₂}
 use Rattle.std.proofs.lemmas.Bool.{and_from, and_parts}
-use Rattle.std.proofs.lemmas.List.{length-map, map-append}
+use Rattle.std.proofs.lemmas.List.{append_assoc, append-nil, length-map, map-append}
+use Rattle.std.proofs.lemmas.Bool.Decides.{nat_tests}
 use Rattle.std.proofs.lemmas.Option.{none-some}
 use Rattle.ir_types.specs.declared.bits.BitsKind.{BitsKind}
-use Rattle.ir_types.specs.Bits.{bits_of, width_of}
+use Rattle.ir_types.specs.Bits.{bits_of, is_bits, width_of}
+use Rattle.ir_types.specs.Reasons.{is_width}
+use Rattle.dialects_int.specs.Folds.{Known}
 use Rattle.ir_types.specs.Limits.{most_width}
 use Rattle.patterns_check.specs.declared.step.Step.{Step}
 use Rattle.patterns_check.specs.Contents.{Content}
@@ -29,7 +32,7 @@ use Rattle.width_claims.specs.Emission.{Claim}
 use Rattle.width_claims.specs.Right.{AreNarrower, FitWidths}
 use Rattle.pattern_claims.specs.declared.instruction.Instruction.{Instruction}
 use Rattle.pattern_claims.specs.declared.operand.Operand.{Operand}
-use Rattle.pattern_claims.specs.Outcomes.{AreKindsOf, AreOutcomes, HoldsAtAllWidths, are_kinds, keeps_outcomes}
+use Rattle.pattern_claims.specs.Outcomes.{AreKindsOf, AreOutcomes, HoldsAtAllWidths, IsNumberIf, OutcomesDecide, are_kinds, keeps_outcomes}
 use Rattle.pattern_claims.specs.Settled.{AreClaimsTrue, ClaimsDecide, IsReached}
 use Rattle.pattern_claims.specs.Translation.{Goal, Sides, State, all_translated, claim_from, claim_types, first_state, form_instruction, further_instruction, given_instructions, goal_from, goal_of, narrower_types, new_instruction, new_instructions, number_instruction, old_instructions, piece_instruction, set_count, sides, variables}
 use Rattle.pattern_claims.proofs.Pieces.{Grown, many}
@@ -264,7 +267,56 @@ claims_decide p all ks wide aligned os are = keeps_all p ks aligned wide os are 
 
 -- ---- values are outcomes
 
-abbrev AreUnder : List ℕ → List ℕ → Type 0
-AreUnder [] [] = Unit {0}
-AreUnder (b ∷ bs) (v ∷ vs) = (v < b) × AreUnder bs vs
-AreUnder _ _ = ⊥
+less_from : (n m : ℕ) → nat_lt n m ≡ true → n < m
+less_from n m e = grind (arith, nat_tests)
+
+number_if : (b : Bool) (x : Known) → IsNumberIf b (Some x)
+number_if true x = tt
+number_if false x = tt
+
+module _ (p : Shape) (ks : List BitsKind) where
+  record AreBound (env : List Outcome) (i : ℕ) (tys : List ℕ) (all : List Outcome) : Type 0 where
+    more : List Outcome
+    is : all ≡ env ++ more
+    are : AreOutcomes p ks i tys more
+
+  abbrev BoundAre : List Outcome → ℕ → List ℕ → Option (List Outcome) → Type 0
+  BoundAre env i tys None = Unit {0}
+  BoundAre env i tys (Some all) = AreBound env i tys all
+
+  bound_are : (tys values : List ℕ) (env : List Outcome) (i : ℕ) → BoundAre env i tys (bound (map (kind_at ks) tys) values env)
+  bound_are [] [] env i = record { more = []; is = sym (append-nil env); are = tt }
+  bound_are [] (v ∷ values) env i = tt
+  bound_are (t ∷ tys) [] env i = tt
+  bound_are (t ∷ tys) (v ∷ values) env i = go (λ b. bound_are tys values (env ++ Some b ∷ []) (i + 1)) (is_bits (kind_at ks t) v) refl
+    where
+      next : v < 2 ^ width_of (kind_at ks t) → (o : Option (List Outcome)) → BoundAre (env ++ Some (kind_at ks t, v) ∷ []) (i + 1) tys o → BoundAre env i (t ∷ tys) o
+      next l None h = tt
+      next l (Some all) h =
+          record {
+            more = Some (kind_at ks t, v) ∷ h.more;
+            is = h.is ∙ append_assoc env (Some (kind_at ks t, v) ∷ []) h.more;
+            are = ((refl, l), number_if (list_any (eqb i) p.constants) (kind_at ks t, v), h.are);
+          }
+
+      go : ((b : Known) → BoundAre (env ++ Some b ∷ []) (i + 1) tys (bound (map (kind_at ks) tys) values (env ++ Some b ∷ []))) → (c : Bool) → is_bits (kind_at ks t) v ≡ c
+          → BoundAre env i (t ∷ tys) (given (if c then Some (kind_at ks t, v) else None) (λ b. bound (map (kind_at ks) tys) values (env ++ Some b ∷ [])))
+      go ih false e = tt
+      go ih true e =
+          let l = less_from v (2 ^ width_of (kind_at ks t)) (and_parts (is_width (width_of (kind_at ks t))) (nat_lt v (2 ^ width_of (kind_at ks t))) e).1 in
+          next l (bound (map (kind_at ks) tys) values (env ++ Some (kind_at ks t, v) ∷ [])) (ih (kind_at ks t, v))
+
+  values_keep : ((os : List Outcome) → AreOutcomes p ks 0 p.values os → keeps_outcomes (content_with ks p) os ≡ true) → (values : List ℕ) → keeps (content_with ks p) values ≡ true
+  values_keep all values = on (bound (map (kind_at ks) p.values) values []) (bound_are p.values values [] 0)
+    where
+      on : (o : Option (List Outcome)) → BoundAre [] 0 p.values o
+          → old_ran (content_with ks p) (if fits ks p then given (given o (run (Content.given (content_with ks p)))) (run (Content.old (content_with ks p))) else None) ≡ true
+      on None h = nothing (fits ks p)
+        where
+          nothing : (b : Bool) → old_ran (content_with ks p) (if b then None else None) ≡ true
+          nothing true = refl
+          nothing false = refl
+      on (Some os) h = all os (subst (λ (xs : List Outcome). AreOutcomes p ks 0 p.values xs) (sym h.is) h.are)
+
+pub outcomes_decide : OutcomesDecide
+outcomes_decide p holds ks wide aligned values low = values_keep p ks (holds ks wide aligned) values

@@ -2,4 +2,5 @@
 #![tactic(auto)]
 
 pub mod instruction;
+pub mod laws;
 pub mod operand;
