@@ -37,7 +37,7 @@ use Rattle.pattern_claims.specs.Settled.{AreClaimsTrue, ClaimsDecide, IsReached}
 use Rattle.pattern_claims.specs.Translation.{Goal, Sides, State, all_translated, claim_from, claim_types, first_state, form_instruction, further_instruction, given_instructions, goal_from, goal_of, narrower_types, new_instruction, new_instructions, number_instruction, old_instructions, piece_instruction, set_count, sides, variables}
 use Rattle.pattern_claims.proofs.Pieces.{Grown, many}
 use Rattle.pattern_claims.proofs.Operands.{Stands, stands_still}
-use Rattle.pattern_claims.proofs.Types.{claim_kinds}
+use Rattle.pattern_claims.proofs.Typing.{claim_kinds}
 use Rattle.pattern_claims.proofs.Instructions.{AllGo, Found, Holds, Reached, all_go, found, instruction_fits, instruction_step, is_require, ones_still}
 use Rattle.pattern_claims.proofs.Refining as refining
 use Rattle.pattern_claims.proofs.Refining.{ClaimsSome, sides_claim}

@@ -36,7 +36,7 @@ use Rattle.pattern_claims.proofs.Pieces.{Base, Grown, Is, Makes, base_on, grown_
 use Rattle.pattern_claims.proofs.Forms.{put_less}
 use Rattle.pattern_claims.proofs.Flags.{PoisonIs}
 use Rattle.pattern_claims.proofs.Operands.{Gives, GivesSome, Stands, again, compare_gives, outcome_by, pair_gives, resize_gives, select_gives, stands_still, width_is, widths}
-use Rattle.pattern_claims.proofs.Types.{LiteralIs, TypeIs, claim_kinds, literal_is, type_is}
+use Rattle.pattern_claims.proofs.Typing.{LiteralIs, TypeIs, claim_kinds, literal_is, type_is}
 
 -- the step of an instruction
 abbrev pub instruction_step : List BitsKind → Instruction → Step

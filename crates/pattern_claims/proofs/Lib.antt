@@ -2,7 +2,7 @@ pub mod Pieces
 pub mod Forms
 pub mod Flags
 pub mod Operands
-pub mod Types
+pub mod Typing
 pub mod Instructions
 pub mod Refining
 pub mod Variables

@@ -35,7 +35,7 @@ use Rattle.pattern_claims.specs.Translation.{State, bit_flag, claim_types, first
 use Rattle.pattern_claims.proofs.Pieces.{Base, Grown, Is, made, many, same, values}
 use Rattle.pattern_claims.proofs.Flags.{PoisonIs}
 use Rattle.pattern_claims.proofs.Operands.{Stands, outcome_by, width_is}
-use Rattle.pattern_claims.proofs.Types.{TypeIs, claim_kinds, type_is, width_low}
+use Rattle.pattern_claims.proofs.Typing.{TypeIs, claim_kinds, type_is, width_low}
 use Rattle.pattern_claims.proofs.Instructions.{AllOnes, Holds, Reached, reached}
 
 -- ---- widths

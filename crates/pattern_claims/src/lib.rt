@@ -4,3 +4,7 @@
 pub mod instruction;
 pub mod laws;
 pub mod operand;
+pub mod operations;
+pub mod poison;
+pub mod types;
+pub mod values;
