@@ -31,7 +31,7 @@ use Rattle.pattern_claims.specs.declared.operand.Operand.{Operand}
 use Rattle.pattern_claims.specs.declared.operand.Poison.{Poison}
 use Rattle.pattern_claims.specs.declared.operand.Poison.TheVariants as poison
 use Rattle.pattern_claims.specs.Outcomes.{AreKindsOf, are_kinds}
-use Rattle.pattern_claims.specs.Translation.{Made, Result, State, all_translated, compare_result, literal_form, literal_result, pair_result, put, required, resize_result, select_result, translated, type_at, with_condition, with_result, with_some}
+use Rattle.pattern_claims.specs.Translation.{Made, Result, State, all_translated, compare_result, literal_form, literal_result, pair_result, put, required, resize_result, result_of, select_result, translated, type_at, with_condition, with_result, with_some}
 use Rattle.pattern_claims.proofs.Pieces.{Base, Grown, Is, Makes, base_on, grown_next, made, makes_same, piece_types, same, values}
 use Rattle.pattern_claims.proofs.Forms.{put_less}
 use Rattle.pattern_claims.proofs.Flags.{PoisonIs}
@@ -145,21 +145,28 @@ module _ (W : ℕ) (most : most_width ≤ W) (vs : List ℕ) (kinds : List Kind)
   some_goes may s env r None h a = tt
   some_goes may s env r (Some q) h a = gives_goes may s env r q h a
 
-  module _ (may : Bool) (s : State) (env : List Outcome) (h : Holds s env) where
-    with_operand : (i : ℕ) (f : Operand → Option State) (g : Outcome → Option Outcome) → ((o : Operand) (x : Outcome) → StandsFor s.pieces o x → Goes may s env (g x) (f o))
-        → Goes may s env (given (slice_get env i) g) (given (slice_get s.operands i) f)
-    with_operand i f g each = go (slice_get s.operands i) refl
+  abbrev GivesHere : List Piece → Option Outcome → Option Result → Type 0
+  GivesHere ps r q = GivesSome W vs js refl ps r q
+
+  module _ (s : State) (env : List Outcome) (h : Holds s env) where
+    with_operand : {X : Type 0} (P : Option Outcome → Option X → Type 0) → ((r : Option Outcome) → P r None) → (i : ℕ) (f : Operand → Option X) (g : Outcome → Option Outcome)
+        → ((o : Operand) (x : Outcome) → StandsFor s.pieces o x → P (g x) (f o)) → P (given (slice_get env i) g) (given (slice_get s.operands i) f)
+    with_operand P none i f g each = go (slice_get s.operands i) refl
       where
-        go : (o : Option Operand) → slice_get s.operands i ≡ o → Goes may s env (given (slice_get env i) g) (given o f)
-        go None e = tt
+        go : (o : Option Operand) → slice_get s.operands i ≡ o → P (given (slice_get env i) g) (given o f)
+        go None e = none (given (slice_get env i) g)
         go (Some o) e =
             let a = found s.pieces s.operands env i o h.all e in
-            subst (λ (x : Option Outcome). Goes may s env (given x g) (f o)) (sym a.is) (each o a.outcome a.stands)
+            subst (λ (x : Option Outcome). P (given x g) (f o)) (sym a.is) (each o a.outcome a.stands)
 
-    with_type : (t : ℕ) (f : ℕ → Option State) (r : Option Outcome) → ((u : ℕ) → TypeIs W ks t u → Goes may s env r (f u)) → Goes may s env r (given (type_at kinds t) f)
-    with_type t f r each = go (type_at kinds t) refl
+    by_operand : (i : ℕ) (f : Operand → Option Result) (g : Outcome → Option Outcome) → ((o : Operand) (x : Outcome) → StandsFor s.pieces o x → GivesHere s.pieces (g x) (f o))
+        → GivesHere s.pieces (given (slice_get env i) g) (given (slice_get s.operands i) f)
+    by_operand i f g each = with_operand (GivesHere s.pieces) (λ r. tt) i f g each
+
+    by_type : (t : ℕ) (f : ℕ → Option Result) (r : Option Outcome) → ((u : ℕ) → TypeIs W ks t u → GivesHere s.pieces r (f u)) → GivesHere s.pieces r (given (type_at kinds t) f)
+    by_type t f r each = go (type_at kinds t) refl
       where
-        go : (o : Option ℕ) → type_at kinds t ≡ o → Goes may s env r (given o f)
+        go : (o : Option ℕ) → type_at kinds t ≡ o → GivesHere s.pieces r (given o f)
         go None e = tt
         go (Some u) e = each u (type_is W most kinds ks t u aligned wide e)
 
@@ -230,34 +237,42 @@ module _ (W : ℕ) (most : most_width ≤ W) (vs : List ℕ) (kinds : List Kind)
 
   -- ---- one instruction
   module _ (ns : List Narrower) (narrow : AreNarrower ws ns) where
-    pub goes : (n : Instruction) (s : State) (env : List Outcome) → Holds s env → instruction_fits ks n ≡ true → Goes (is_require n) s env (step_of (instruction_step ks n) env) (translated kinds ns n s)
-    goes (instruction.Number l) s env h fit =
-        with_type false s env h l.ty (λ t. Some (with_result s (literal_result l s.pieces t))) (step_of (written_step ks l) env)
-        (λ u t. gives_goes false s env (step_of (written_step ks l) env) (literal_result l s.pieces u) h (literal_gives false s env h l u t fit))
-    goes (instruction.Copy i) s env h fit =
-        subst (λ (r : Option Outcome). Goes false s env r (given (slice_get s.operands i) (λ x. Some (with_result s (s.pieces, x))))) (sym (copied (slice_get env i)))
-        (with_operand false s env h i (λ x. Some (with_result s (s.pieces, x))) Some (λ o x a. reached s env (s.pieces, o) x h (same W vs ws s.pieces h.base.right) a))
-    goes (instruction.Pair o i j) s env h fit =
-        with_operand false s env h i (λ x. given (slice_get s.operands j) (λ y. with_some s (pair_result o x y s.pieces))) (λ x. given (slice_get env j) (λ y. pair_outcome o x y))
-        (λ x p a. with_operand false s env h j (λ y. with_some s (pair_result o x y s.pieces)) (λ y. pair_outcome o p y)
-        (λ y q b. some_goes false s env (pair_outcome o p q) (pair_result o x y s.pieces) h (pair_gives W vs js refl s.pieces h.base x y p q a b o)))
-    goes (instruction.Compare o i j) s env h fit =
-        with_operand false s env h i (λ x. given (slice_get s.operands j) (λ y. with_some s (compare_result o x y s.pieces))) (λ x. given (slice_get env j) (λ y. compare_outcome o x y))
-        (λ x p a. with_operand false s env h j (λ y. with_some s (compare_result o x y s.pieces)) (λ y. compare_outcome o p y)
-        (λ y q b. some_goes false s env (compare_outcome o p q) (compare_result o x y s.pieces) h (compare_gives W vs js refl s.pieces h.base x y p q a b o)))
-    goes (instruction.Select c i j) s env h fit =
-        with_operand false s env h c (λ d. given (slice_get s.operands i) (λ x. given (slice_get s.operands j) (λ y. with_some s (select_result d x y s.pieces))))
+    gives : (n : Instruction) (s : State) (env : List Outcome) → Holds s env → instruction_fits ks n ≡ true → GivesHere s.pieces (step_of (instruction_step ks n) env) (result_of kinds ns n s.operands s.pieces)
+    gives (instruction.Number l) s env h fit = by_type s env h l.ty (λ t. Some (literal_result l s.pieces t)) (step_of (written_step ks l) env) (λ u t. literal_gives s env h l u t fit)
+    gives (instruction.Copy i) s env h fit =
+        subst (λ (r : Option Outcome). GivesHere s.pieces r (given (slice_get s.operands i) (λ x. Some (s.pieces, x)))) (sym (copied (slice_get env i)))
+        (by_operand s env h i (λ x. Some (s.pieces, x)) Some (λ o x a. record { outcome = x; is = refl; grown = same W vs ws s.pieces h.base.right; stands = a }))
+    gives (instruction.Pair o i j) s env h fit =
+        by_operand s env h i (λ x. given (slice_get s.operands j) (λ y. pair_result o x y s.pieces)) (λ x. given (slice_get env j) (λ y. pair_outcome o x y))
+        (λ x p a. by_operand s env h j (λ y. pair_result o x y s.pieces) (λ y. pair_outcome o p y) (λ y q b. pair_gives W vs js refl s.pieces h.base x y p q a b o))
+    gives (instruction.Compare o i j) s env h fit =
+        by_operand s env h i (λ x. given (slice_get s.operands j) (λ y. compare_result o x y s.pieces)) (λ x. given (slice_get env j) (λ y. compare_outcome o x y))
+        (λ x p a. by_operand s env h j (λ y. compare_result o x y s.pieces) (λ y. compare_outcome o p y) (λ y q b. compare_gives W vs js refl s.pieces h.base x y p q a b o))
+    gives (instruction.Select c i j) s env h fit =
+        by_operand s env h c (λ d. given (slice_get s.operands i) (λ x. given (slice_get s.operands j) (λ y. select_result d x y s.pieces)))
         (λ d. given (slice_get env i) (λ x. given (slice_get env j) (λ y. select_outcome d x y)))
-        (λ d r k. with_operand false s env h i (λ x. given (slice_get s.operands j) (λ y. with_some s (select_result d x y s.pieces))) (λ x. given (slice_get env j) (λ y. select_outcome r x y))
-        (λ x p a. with_operand false s env h j (λ y. with_some s (select_result d x y s.pieces)) (λ y. select_outcome r p y)
-        (λ y q b. some_goes false s env (select_outcome r p q) (select_result d x y s.pieces) h (select_gives W vs js refl s.pieces h.base x y p q a b d r k))))
-    goes (instruction.Resize c u i) s env h fit =
-        with_operand false s env h i (λ x. given (type_at kinds u) (λ t. with_some s (resize_result ns c t x s.pieces))) (λ x. resize_outcome c (kind_at ks u) x)
-        (λ x p a. with_type false s env h u (λ t. with_some s (resize_result ns c t x s.pieces)) (resize_outcome c (kind_at ks u) p)
-        (λ t is. some_goes false s env (resize_outcome c (kind_at ks u) p) (resize_result ns c t x s.pieces) h
-        (subst (λ (k : BitsKind). GivesSome W vs js refl s.pieces (resize_outcome c k p) (resize_result ns c t x s.pieces)) is.same
-        (resize_gives W vs js refl s.pieces h.base ns narrow t is.low c x p a (ap (λ k. is_width (width_of k)) is.same ∙ is.wide)))))
-    goes (instruction.Require i) s env h fit = with_operand true s env h i (λ x. required s x x.poison) outcomes.required (λ o x a. require_goes s env h o x a)
+        (λ d r k. by_operand s env h i (λ x. given (slice_get s.operands j) (λ y. select_result d x y s.pieces)) (λ x. given (slice_get env j) (λ y. select_outcome r x y))
+        (λ x p a. by_operand s env h j (λ y. select_result d x y s.pieces) (λ y. select_outcome r p y) (λ y q b. select_gives W vs js refl s.pieces h.base x y p q a b d r k)))
+    gives (instruction.Resize c u i) s env h fit =
+        by_operand s env h i (λ x. given (type_at kinds u) (λ t. resize_result ns c t x s.pieces)) (λ x. resize_outcome c (kind_at ks u) x)
+        (λ x p a. by_type s env h u (λ t. resize_result ns c t x s.pieces) (resize_outcome c (kind_at ks u) p)
+        (λ t is. subst (λ (k : BitsKind). GivesHere s.pieces (resize_outcome c k p) (resize_result ns c t x s.pieces)) is.same
+        (resize_gives W vs js refl s.pieces h.base ns narrow t is.low c x p a (ap (λ k. is_width (width_of k)) is.same ∙ is.wide))))
+    gives (instruction.Require i) s env h fit = tt
+    gives (instruction.Width t) s env h fit = tt
+    gives (instruction.Log i) s env h fit = tt
+
+    plain : (n : Instruction) (s : State) (env : List Outcome) → Holds s env → instruction_fits ks n ≡ true → Goes false s env (step_of (instruction_step ks n) env) (with_some s (result_of kinds ns n s.operands s.pieces))
+    plain n s env h fit = some_goes false s env (step_of (instruction_step ks n) env) (result_of kinds ns n s.operands s.pieces) h (gives n s env h fit)
+
+    pub goes : (n : Instruction) (s : State) (env : List Outcome) → Holds s env → instruction_fits ks n ≡ true → Goes (is_require n) s env (step_of (instruction_step ks n) env) (translated kinds ns n s)
+    goes (instruction.Number l) s env h fit = plain (instruction.Number l) s env h fit
+    goes (instruction.Copy i) s env h fit = plain (instruction.Copy i) s env h fit
+    goes (instruction.Pair o i j) s env h fit = plain (instruction.Pair o i j) s env h fit
+    goes (instruction.Compare o i j) s env h fit = plain (instruction.Compare o i j) s env h fit
+    goes (instruction.Select c i j) s env h fit = plain (instruction.Select c i j) s env h fit
+    goes (instruction.Resize c u i) s env h fit = plain (instruction.Resize c u i) s env h fit
+    goes (instruction.Require i) s env h fit = with_operand s env h (Goes true s env) (λ r. tt) i (λ x. required s x x.poison) outcomes.required (λ o x a. require_goes s env h o x a)
     goes (instruction.Width t) s env h fit = tt
     goes (instruction.Log i) s env h fit = tt
 

@@ -5,5 +5,5 @@ pub mod Operands
 pub mod Typing
 pub mod Instructions
 pub mod Refining
-pub mod Variables
+pub mod VariableOutcomes
 pub mod Deciding

@@ -1,9 +1,12 @@
 -- What code makes of a pattern.
-use Rattle.std.specs.Prelude.{◌≡◌, ℕ, List, Bool, true, false, Option, Some, None}
+use Rattle.std.specs.Prelude.{◌≡◌, ℕ, List, ◌++◌, map, Bool, true, false, Option, Some, None}
+use Rattle.patterns_book.specs.declared.pattern.Kind.{Kind}
 use Rattle.width_claims.specs.declared.form.Piece.{Piece}
+use Rattle.width_claims.specs.declared.width.Narrower.{Narrower}
+use Rattle.width_claims.specs.declared.width.Width.{Width}
 use Rattle.pattern_claims.specs.declared.operand.Operand.{Operand}
 use Rattle.pattern_claims.specs.declared.operand.Poison.{Poison}
-use Rattle.pattern_claims.specs.Translation.{Flagged, Made, Result}
+use Rattle.pattern_claims.specs.Translation.{Flagged, Made, Result, State, narrower_types, width_at}
 
 -- the pieces and the place that are made
 abbrev pub IsMade : Made → List Piece → ℕ → Type 0
@@ -24,3 +27,24 @@ IsResult r new o = (new ≡ r.0) × (o ≡ r.1)
 abbrev pub IsResultIf : Option Result → List Piece → Option Operand → Type 0
 IsResultIf None new r = r ≡ None
 IsResultIf (Some q) new r = (new ≡ q.0) × (r ≡ Some q.1)
+
+-- a state by its lists, and those that a call leaves, which answers whether there is a state
+abbrev pub state : List Piece → List Operand → List ℕ → State
+state ps os hs = record { pieces = ps; operands = os; conditions = hs }
+
+abbrev pub IsStateIf : Option State → List Piece → List Operand → List ℕ → Bool → Type 0
+IsStateIf None ps os hs done = done ≡ false
+IsStateIf (Some s) ps os hs done = (done ≡ true) × (ps ≡ s.pieces) × (os ≡ s.operands) × (hs ≡ s.conditions)
+
+-- the widths of types, if a call says that all are there
+abbrev pub AreWidths : List Kind → List Width → List Width → Bool → Type 0
+AreWidths ks old new true = new ≡ old ++ map width_at ks
+AreWidths ks old new false = Unit {0}
+
+abbrev pub IsReachedState : Option State → List Piece → List Operand → List ℕ → Bool → Type 0
+IsReachedState o ps os hs true = o ≡ Some (state ps os hs)
+IsReachedState o ps os hs false = Unit {0}
+
+-- one variable more
+abbrev pub IsVariable : State → List Piece → List Operand → Unit {0} → Type 0
+IsVariable s ps os done = (ps ≡ s.pieces) × (os ≡ s.operands)

@@ -225,20 +225,21 @@ abbrev pub literal_result : Literal → List Piece → ℕ → Result
 literal_result l ps t = never_poison (put ps t (literal_form l)) t
 
 module _ (ks : List Kind) (ns : List Narrower) where
+  -- the operand that an instruction makes
+  abbrev pub result_of : Instruction → List Operand → List Piece → Option Result
+  result_of (instruction.Number l) os ps = given (type_at ks l.ty) (λ t. Some (literal_result l ps t))
+  result_of (instruction.Copy i) os ps = given (slice_get os i) (λ x. Some (ps, x))
+  result_of (instruction.Pair o i j) os ps = given (slice_get os i) (λ x. given (slice_get os j) (λ y. pair_result o x y ps))
+  result_of (instruction.Compare q i j) os ps = given (slice_get os i) (λ x. given (slice_get os j) (λ y. compare_result q x y ps))
+  result_of (instruction.Select c i j) os ps = given (slice_get os c) (λ b. given (slice_get os i) (λ x. given (slice_get os j) (λ y. select_result b x y ps)))
+  result_of (instruction.Resize c u i) os ps = given (slice_get os i) (λ x. given (type_at ks u) (λ t. resize_result ns c t x ps))
+  result_of (instruction.Require i) os ps = None
+  result_of (instruction.Width t) os ps = None
+  result_of (instruction.Log i) os ps = None
+
   abbrev pub translated : Instruction → State → Option State
-  translated (instruction.Number l) s = given (type_at ks l.ty) (λ t. Some (with_result s (literal_result l s.pieces t)))
-  translated (instruction.Copy i) s = given (slice_get s.operands i) (λ x. Some (with_result s (s.pieces, x)))
-  translated (instruction.Pair o i j) s =
-      given (slice_get s.operands i) (λ x. given (slice_get s.operands j) (λ y. with_some s (pair_result o x y s.pieces)))
-  translated (instruction.Compare q i j) s =
-      given (slice_get s.operands i) (λ x. given (slice_get s.operands j) (λ y. with_some s (compare_result q x y s.pieces)))
-  translated (instruction.Select c i j) s =
-      given (slice_get s.operands c) (λ b. given (slice_get s.operands i) (λ x. given (slice_get s.operands j) (λ y. with_some s (select_result b x y s.pieces))))
-  translated (instruction.Resize c u i) s =
-      given (slice_get s.operands i) (λ x. given (type_at ks u) (λ t. with_some s (resize_result ns c t x s.pieces)))
   translated (instruction.Require i) s = given (slice_get s.operands i) (λ x. required s x x.poison)
-  translated (instruction.Width t) s = None
-  translated (instruction.Log i) s = None
+  translated n s = with_some s (result_of n s.operands s.pieces)
 
   abbrev pub all_translated : List Instruction → State → Option State
   all_translated [] s = Some s

@@ -6,5 +6,8 @@ pub mod laws;
 pub mod operand;
 pub mod operations;
 pub mod poison;
+pub mod translate;
 pub mod types;
 pub mod values;
+pub mod variables;
+pub mod walk;
