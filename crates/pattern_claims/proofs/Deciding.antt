@@ -39,8 +39,8 @@ use Rattle.pattern_claims.proofs.Pieces.{Grown, many}
 use Rattle.pattern_claims.proofs.Operands.{Stands, stands_still}
 use Rattle.pattern_claims.proofs.Typing.{claim_kinds}
 use Rattle.pattern_claims.proofs.Instructions.{AllGo, Found, Holds, Reached, all_go, found, instruction_fits, instruction_step, is_require, ones_still}
-use Rattle.pattern_claims.proofs.Refining as refining
-use Rattle.pattern_claims.proofs.Refining.{ClaimsSome, sides_claim}
+use Rattle.pattern_claims.proofs.BothSides as refining
+use Rattle.pattern_claims.proofs.BothSides.{ClaimsSome, sides_claim}
 use Rattle.pattern_claims.proofs.VariableOutcomes.{are_narrower, conditions_hold, VariablesHold, first_holds, fit, masks_of, number_of, set_low, set_of, variables_hold}
 
 -- ---- a pattern's steps are those of its instructions

@@ -4,6 +4,7 @@ pub mod Flags
 pub mod Operands
 pub mod Typing
 pub mod Instructions
-pub mod Refining
+pub mod BothSides
 pub mod VariableOutcomes
 pub mod Deciding
+pub mod Chaining

@@ -6,7 +6,9 @@ use Rattle.width_claims.specs.declared.width.Narrower.{Narrower}
 use Rattle.width_claims.specs.declared.width.Width.{Width}
 use Rattle.pattern_claims.specs.declared.operand.Operand.{Operand}
 use Rattle.pattern_claims.specs.declared.operand.Poison.{Poison}
-use Rattle.pattern_claims.specs.Translation.{Flagged, Made, Result, State, narrower_types, width_at}
+use Rattle.pattern_claims.specs.declared.refining.Equation.{Equation}
+
+use Rattle.pattern_claims.specs.Translation.{Flagged, Made, Result, Sides, State, narrower_types, width_at}
 
 -- the pieces and the place that are made
 abbrev pub IsMade : Made → List Piece → ℕ → Type 0
@@ -48,3 +50,8 @@ IsReachedState o ps os hs false = Unit {0}
 -- one variable more
 abbrev pub IsVariable : State → List Piece → List Operand → Unit {0} → Type 0
 IsVariable s ps os done = (ps ≡ s.pieces) × (os ≡ s.operands)
+
+-- the pieces and the places of two that are claimed to be equal
+abbrev pub AreSidesIf : Option Sides → List Piece → Option Equation → Type 0
+AreSidesIf None new r = r ≡ None
+AreSidesIf (Some s) new r = (new ≡ s.0) × (r ≡ Some (record { left = s.1; right = s.2 }))

@@ -1,11 +1,13 @@
 //! Patterns decided at every width, with poison inputs.
 #![tactic(auto)]
 
+pub mod goal;
 pub mod instruction;
 pub mod laws;
 pub mod operand;
 pub mod operations;
 pub mod poison;
+pub mod refining;
 pub mod translate;
 pub mod types;
 pub mod values;
