@@ -1,5 +1,5 @@
 -- Instructions one after another.
-use Rattle.std.proofs.Common.{◌≡◌, ◌∙◌, ℕ, List, [], ◌∷◌, ◌++◌, map, Bool, true, false, true≢false, Option, Some, None, slice_get, refl, sym, ap, subst}
+use Rattle.std.proofs.Common.{◌≡◌, ◌∙◌, ℕ, List, [], ◌∷◌, ◌++◌, map, Bool, true, false, true≢false, Option, Some, None, refl, sym, ap, subst}
 use Rattle.std.specs.Result.{IfOk}
 use Rattle.std.proofs.lemmas.Result.{IfOk-weaker}
 use Rattle.std.specs.Prelude.{Result}
@@ -7,13 +7,12 @@ use Rattle.patterns_check.specs.Outcomes.{given}
 use Rattle.patterns_book.specs.declared.pattern.Further.{Further}
 use Rattle.patterns_book.specs.declared.pattern.Kind.{Kind}
 use Rattle.patterns_book.specs.declared.pattern.Number.{Number}
-use Rattle.patterns_book.specs.Shapes.{Shape}
 use Rattle.width_claims.specs.declared.form.Piece.{Piece}
 use Rattle.width_claims.specs.declared.width.Narrower.{Narrower}
 use Rattle.pattern_claims.specs.declared.instruction.Instruction.{Instruction}
 use Rattle.pattern_claims.specs.declared.operand.Operand.{Operand}
 use Rattle.pattern_claims.specs.Code.{IsReachedState, state}
-use Rattle.pattern_claims.specs.Translation.{State, all_translated, first_state, further_instruction, given_instructions, goal_from, goal_of, narrower_types, new_instructions, number_instruction, old_instructions, translated, variables}
+use Rattle.pattern_claims.specs.Translation.{State, all_translated, further_instruction, number_instruction, translated}
 
 pub all_after : (ks : List Kind) (ns : List Narrower) (xs ys : List Instruction) (s : State) → all_translated ks ns (xs ++ ys) s ≡ given (all_translated ks ns xs s) (all_translated ks ns ys)
 all_after ks ns [] ys s = refl
@@ -45,20 +44,3 @@ given_reached ks ks0 ns fs fs0 ms ms0 s ps qs os rs hs gs b r k f m e first next
     (all_after ks ns (map further_instruction fs) (map number_instruction ms) s)
     (subst (λ (o : Option State). IsReachedState o qs rs gs c) (λ i. all_translated (k i) ns (map number_instruction (m i)) (state ps os hs)) h))
     next
-
--- the goal, by what each part of a pattern leads to
-pub goal_is : (p : Shape) (set : ℕ) (a b c d : State) (x y : Operand) → variables p 0 p.values set first_state ≡ Some a
-    → all_translated p.kinds (narrower_types p.kinds p.asked) (given_instructions p) a ≡ Some b
-    → all_translated p.kinds (narrower_types p.kinds p.asked) (old_instructions p) b ≡ Some c → slice_get (State.operands c) p.root ≡ Some x
-    → all_translated p.kinds (narrower_types p.kinds p.asked) (new_instructions p) c ≡ Some d → slice_get (State.operands d) p.result ≡ Some y
-    → goal_of p set ≡ goal_from p d x y
-goal_is p set a b c d x y e f g h i j =
-    let ns = narrower_types p.kinds p.asked in
-    ap (λ o. given o (λ a. given (all_translated p.kinds ns (given_instructions p) a) (λ b. given (all_translated p.kinds ns (old_instructions p) b) (λ c. given (slice_get (State.operands c) p.root) (λ x.
-        given (all_translated p.kinds ns (new_instructions p) c) (λ d. given (slice_get (State.operands d) p.result) (λ y. goal_from p d x y))))))) e
-    ∙ ap (λ o. given o (λ b. given (all_translated p.kinds ns (old_instructions p) b) (λ c. given (slice_get (State.operands c) p.root) (λ x.
-        given (all_translated p.kinds ns (new_instructions p) c) (λ d. given (slice_get (State.operands d) p.result) (λ y. goal_from p d x y)))))) f
-    ∙ ap (λ o. given o (λ c. given (slice_get (State.operands c) p.root) (λ x. given (all_translated p.kinds ns (new_instructions p) c) (λ d. given (slice_get (State.operands d) p.result) (λ y. goal_from p d x y))))) g
-    ∙ ap (λ o. given o (λ x. given (all_translated p.kinds ns (new_instructions p) c) (λ d. given (slice_get (State.operands d) p.result) (λ y. goal_from p d x y)))) h
-    ∙ ap (λ o. given o (λ d. given (slice_get (State.operands d) p.result) (λ y. goal_from p d x y))) i
-    ∙ ap (λ o. given o (λ y. goal_from p d x y)) j

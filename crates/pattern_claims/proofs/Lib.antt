@@ -8,3 +8,4 @@ pub mod BothSides
 pub mod VariableOutcomes
 pub mod Deciding
 pub mod Chaining
+pub mod Answering

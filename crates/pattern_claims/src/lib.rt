@@ -1,12 +1,15 @@
 //! Patterns decided at every width, with poison inputs.
 #![tactic(auto)]
 
+pub mod decide;
+pub mod decision;
 pub mod goal;
 pub mod instruction;
 pub mod laws;
 pub mod operand;
 pub mod operations;
 pub mod poison;
+pub mod question;
 pub mod refining;
 pub mod translate;
 pub mod types;
