@@ -140,7 +140,7 @@ peel (Some x) f r = (x, refl, r)
 
 module _ (p : Shape) (ks : List BitsKind) (aligned : AreKindsOf p.kinds ks) (wide : are_kinds ks ≡ true) (os : List Outcome) (are : AreOutcomes p ks 0 p.values os) where
   abbrev js : List BitsKind
-  js = claim_kinds ks
+  js = claim_kinds p.kinds ks
 
   abbrev W : ℕ
   W = most_width

@@ -60,7 +60,7 @@ is_require _ = false
 
 module _ (W : ℕ) (most : most_width ≤ W) (vs : List ℕ) (kinds : List Kind) (ks : List BitsKind) (aligned : AreKindsOf kinds ks) (wide : are_kinds ks ≡ true) where
   abbrev pub js : List BitsKind
-  js = claim_kinds ks
+  js = claim_kinds kinds ks
 
   abbrev pub ws : List ℕ
   ws = map width_of js
@@ -163,7 +163,7 @@ module _ (W : ℕ) (most : most_width ≤ W) (vs : List ℕ) (kinds : List Kind)
         → GivesHere s.pieces (given (slice_get env i) g) (given (slice_get s.operands i) f)
     by_operand i f g each = with_operand (GivesHere s.pieces) (λ r. tt) i f g each
 
-    by_type : (t : ℕ) (f : ℕ → Option Result) (r : Option Outcome) → ((u : ℕ) → TypeIs W ks t u → GivesHere s.pieces r (f u)) → GivesHere s.pieces r (given (type_at kinds t) f)
+    by_type : (t : ℕ) (f : ℕ → Option Result) (r : Option Outcome) → ((u : ℕ) → TypeIs W kinds ks t u → GivesHere s.pieces r (f u)) → GivesHere s.pieces r (given (type_at kinds t) f)
     by_type t f r each = go (type_at kinds t) refl
       where
         go : (o : Option ℕ) → type_at kinds t ≡ o → GivesHere s.pieces r (given o f)
@@ -171,9 +171,9 @@ module _ (W : ℕ) (most : most_width ≤ W) (vs : List ℕ) (kinds : List Kind)
         go (Some u) e = each u (type_is W most kinds ks t u aligned wide e)
 
     -- ---- literals
-    literal_gives : (l : Literal) (u : ℕ) → TypeIs W ks l.ty u → is_literal_of ks l ≡ true → Gives W vs js refl s.pieces (step_of (written_step ks l) env) (literal_result l s.pieces u)
+    literal_gives : (l : Literal) (u : ℕ) → TypeIs W kinds ks l.ty u → is_literal_of ks l ≡ true → Gives W vs js refl s.pieces (step_of (written_step ks l) env) (literal_result l s.pieces u)
     literal_gives l u t e =
-        let is = literal_is W ks l u t e in
+        let is = literal_is W kinds ks l u t e in
         let w = at ws u in
         let w_is : w ≡ width_of (kind_at ks l.ty) = width_is js u ∙ ap width_of t.same in
         let x = wrapped w (literal_number l.negative l.magnitude) in

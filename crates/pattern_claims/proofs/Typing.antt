@@ -21,7 +21,7 @@ use Rattle.patterns_book.specs.Fitting.{bits_with, is_literal_of, kind_at, or_ze
 use Rattle.width_claims.specs.PieceValues.{at}
 use Rattle.width_claims.specs.Right.{IsBelow}
 use Rattle.pattern_claims.specs.Outcomes.{AreKindsOf, are_kinds}
-use Rattle.pattern_claims.specs.Translation.{is_one_bit, is_truth, type_at, type_number}
+use Rattle.pattern_claims.specs.Translation.{is_one_bit, is_repeated, is_truth, type_at, type_if, type_number}
 use Rattle.pattern_claims.proofs.Operands.{width_is}
 
 pub width_low : (W w : ℕ) → most_width ≤ W → is_width w ≡ true → IsBelow W w
@@ -37,15 +37,23 @@ width_low W w most e =
     at_most : (n m : ℕ) → nat_le n m ≡ true → n ≤ m
     at_most n m f = grind (arith, nat_tests)
 
--- a pattern's kinds and those of a claim, of which the first is i1
-abbrev pub claim_kinds : List BitsKind → List BitsKind
-claim_kinds ks = kind.Int 1 ∷ ks
+-- a pattern's kinds and those of a claim, of which the first is i1; so is that of a type without a number
+abbrev pub kind_if : Bool → BitsKind → BitsKind
+kind_if repeated j = if repeated then kind.Int 1 else j
+
+abbrev pub kinds_from : List Kind → ℕ → List Kind → List BitsKind → List BitsKind
+kinds_from all i [] ks = []
+kinds_from all i (k ∷ kinds) [] = []
+kinds_from all i (k ∷ kinds) (j ∷ ks) = kind_if (is_repeated i all k) j ∷ kinds_from all (i + 1) kinds ks
+
+abbrev pub claim_kinds : List Kind → List BitsKind → List BitsKind
+claim_kinds kinds ks = kind.Int 1 ∷ kinds_from kinds 0 kinds ks
 
 -- the type u of a claim is the type t of a pattern
-pub record TypeIs (W : ℕ) (ks : List BitsKind) (t u : ℕ) : Type 0 where
-  pub same : kind_at (claim_kinds ks) u ≡ kind_at ks t
+pub record TypeIs (W : ℕ) (kinds : List Kind) (ks : List BitsKind) (t u : ℕ) : Type 0 where
+  pub same : kind_at (claim_kinds kinds ks) u ≡ kind_at ks t
   pub wide : is_width (width_of (kind_at ks t)) ≡ true
-  pub low : IsBelow W (at (map width_of (claim_kinds ks)) u)
+  pub low : IsBelow W (at (map width_of (claim_kinds kinds ks)) u)
 
 abbrev KindIs : Kind → BitsKind → Type 0
 KindIs (ty.Fixed j) i = i ≡ j
@@ -65,27 +73,47 @@ one_bit : (k : BitsKind) → is_one_bit k ≡ true → kind.Int 1 ≡ k
 one_bit (kind.Int w) e = ap kind.Int (sym (eqb-true w 1 e))
 one_bit kind.Index e = absurd (true≢false (sym e))
 
-kind_next : (ks : List BitsKind) (t : ℕ) → kind_at (claim_kinds ks) (t + 1) ≡ kind_at ks t
-kind_next ks t = let e : t + 1 ≡ suc t = omega arith in ap (kind_at (claim_kinds ks)) e
+kind_used : (all kinds : List Kind) (ks : List BitsKind) (i t : ℕ) (k : Kind) → AreKindsOf kinds ks → slice_get kinds t ≡ Some k → is_repeated (i + t) all k ≡ false → kind_at (kinds_from all i kinds ks) t ≡ kind_at ks t
+kind_used all [] ks i t k a e f = absurd (none-some k e)
+kind_used all (ty.Fixed b ∷ kinds) [] i t k a e f = absurd a
+kind_used all (ty.Variable v ∷ kinds) [] i t k a e f = absurd a
+kind_used all (ty.Fixed b ∷ kinds) (j ∷ ks) i zero k a e f =
+    let g : i + 0 ≡ i = omega arith in
+    ap (λ c. kind_if c j) ((λ r. is_repeated (sym g r) all (same_Some (ty.Fixed b) k e r)) ∙ f)
+kind_used all (ty.Variable v ∷ kinds) (j ∷ ks) i zero k a e f =
+    let g : i + 0 ≡ i = omega arith in
+    ap (λ c. kind_if c j) ((λ r. is_repeated (sym g r) all (same_Some (ty.Variable v) k e r)) ∙ f)
+kind_used all (ty.Fixed b ∷ kinds) (j ∷ ks) i (suc t) k a e f = let g : i + 1 + t ≡ i + suc t = omega arith in kind_used all kinds ks (i + 1) t k a.1 e (ap (λ n. is_repeated n all k) g ∙ f)
+kind_used all (ty.Variable v ∷ kinds) (j ∷ ks) i (suc t) k a e f = let g : i + 1 + t ≡ i + suc t = omega arith in kind_used all kinds ks (i + 1) t k a e (ap (λ n. is_repeated n all k) g ∙ f)
 
-number_kind : (ks : List BitsKind) (t : ℕ) (k : Kind) → KindIs k (kind_at ks t) → kind_at (claim_kinds ks) (type_number t k) ≡ kind_at ks t
-number_kind ks t (ty.Variable v) i = kind_next ks t
-number_kind ks t (ty.Fixed j) i = go (is_one_bit j) refl
+kind_next : (kinds : List Kind) (ks : List BitsKind) (t : ℕ) (k : Kind) → AreKindsOf kinds ks → slice_get kinds t ≡ Some k → is_repeated t kinds k ≡ false → kind_at (claim_kinds kinds ks) (t + 1) ≡ kind_at ks t
+kind_next kinds ks t k a e f =
+    let g : t + 1 ≡ suc t = omega arith in
+    let h : 0 + t ≡ t = omega arith in
+    ap (kind_at (claim_kinds kinds ks)) g ∙ kind_used kinds kinds ks 0 t k a e (ap (λ n. is_repeated n kinds k) h ∙ f)
+
+number_kind : (kinds : List Kind) (ks : List BitsKind) (t : ℕ) (k : Kind) → kind_at (claim_kinds kinds ks) (t + 1) ≡ kind_at ks t → KindIs k (kind_at ks t) → kind_at (claim_kinds kinds ks) (type_number t k) ≡ kind_at ks t
+number_kind kinds ks t (ty.Variable v) next i = next
+number_kind kinds ks t (ty.Fixed j) next i = go (is_one_bit j) refl
   where
-    go : (b : Bool) → is_one_bit j ≡ b → kind_at (claim_kinds ks) (if b then 0 else t + 1) ≡ kind_at ks t
+    go : (b : Bool) → is_one_bit j ≡ b → kind_at (claim_kinds kinds ks) (if b then 0 else t + 1) ≡ kind_at ks t
     go true e = one_bit j e ∙ sym i
-    go false e = kind_next ks t
+    go false e = next
 
-pub type_is : (W : ℕ) → most_width ≤ W → (kinds : List Kind) (ks : List BitsKind) (t u : ℕ) → AreKindsOf kinds ks → are_kinds ks ≡ true → type_at kinds t ≡ Some u → TypeIs W ks t u
+pub type_is : (W : ℕ) → most_width ≤ W → (kinds : List Kind) (ks : List BitsKind) (t u : ℕ) → AreKindsOf kinds ks → are_kinds ks ≡ true → type_at kinds t ≡ Some u → TypeIs W kinds ks t u
 type_is W most kinds ks t u a w e = on (slice_get kinds t) refl e
   where
-    on : (o : Option Kind) → slice_get kinds t ≡ o → given o (λ k. Some (type_number t k)) ≡ Some u → TypeIs W ks t u
-    on None i f = absurd (none-some u f)
-    on (Some k) i f =
+    used : (k : Kind) (b : Bool) → slice_get kinds t ≡ Some k → is_repeated t kinds k ≡ b → type_if b t k ≡ Some u → TypeIs W kinds ks t u
+    used k true i g f = absurd (none-some u f)
+    used k false i g f =
         let h = entry kinds ks t k a w i in
-        let same : kind_at (claim_kinds ks) u ≡ kind_at ks t = ap (kind_at (claim_kinds ks)) (sym (same_Some (type_number t k) u f)) ∙ number_kind ks t k h.1 in
-        let wide : at (map width_of (claim_kinds ks)) u ≡ width_of (kind_at ks t) = width_is (claim_kinds ks) u ∙ ap width_of same in
+        let same : kind_at (claim_kinds kinds ks) u ≡ kind_at ks t = ap (kind_at (claim_kinds kinds ks)) (sym (same_Some (type_number t k) u f)) ∙ number_kind kinds ks t k (kind_next kinds ks t k a i g) h.1 in
+        let wide : at (map width_of (claim_kinds kinds ks)) u ≡ width_of (kind_at ks t) = width_is (claim_kinds kinds ks) u ∙ ap width_of same in
         record { same = same; wide = h.0; low = subst (λ (n : ℕ). IsBelow W n) (sym wide) (width_low W (width_of (kind_at ks t)) most h.0) }
+
+    on : (o : Option Kind) → slice_get kinds t ≡ o → given o (λ k. type_if (is_repeated t kinds k) t k) ≡ Some u → TypeIs W kinds ks t u
+    on None i f = absurd (none-some u f)
+    on (Some k) i f = used k (is_repeated t kinds k) i refl f
 
 -- ---- literals
 
@@ -132,8 +160,8 @@ pub record LiteralIs (ks : List BitsKind) (l : Literal) : Type 0 where
   pub outcome : constant_outcome (kind_at ks l.ty) (or_zero (bits_with ks l)) ≡ Some (Some (kind_at ks l.ty, wrapped (width_of (kind_at ks l.ty)) (literal_number l.negative l.magnitude)))
   pub below : l.magnitude < 2 ^ width_of (kind_at ks l.ty)
 
-pub literal_is : (W : ℕ) (ks : List BitsKind) (l : Literal) (u : ℕ) → TypeIs W ks l.ty u → is_literal_of ks l ≡ true → LiteralIs ks l
-literal_is W ks l u t e =
+pub literal_is : (W : ℕ) (kinds : List Kind) (ks : List BitsKind) (l : Literal) (u : ℕ) → TypeIs W kinds ks l.ty u → is_literal_of ks l ≡ true → LiteralIs ks l
+literal_is W kinds ks l u t e =
     let k = kind_at ks l.ty in
     let w = width_of k in
     let x = wrapped w (literal_number l.negative l.magnitude) in

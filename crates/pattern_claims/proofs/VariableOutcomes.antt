@@ -31,11 +31,11 @@ use Rattle.width_claims.specs.Right.{AreNarrower, ConditionsHold, FitWidths, IsB
 use Rattle.pattern_claims.specs.declared.operand.Poison.{Poison}
 use Rattle.pattern_claims.specs.declared.operand.Poison.TheVariants as poison
 use Rattle.pattern_claims.specs.Outcomes.{AreKindsOf, AreOutcomes, IsNumberIf, IsOutcome, are_kinds}
-use Rattle.pattern_claims.specs.Translation.{State, bit_flag, claim_types, first_state, is_constant, narrower_types, put, set_count, type_at, variable_result, variables, width_at, with_narrower, with_variable}
+use Rattle.pattern_claims.specs.Translation.{State, bit_flag, claim_types, first_state, is_constant, narrower_types, put, set_count, is_repeated, type_at, types_from, variable_result, variables, width_if, with_narrower, with_variable}
 use Rattle.pattern_claims.proofs.Pieces.{Base, Grown, Is, made, many, same, values}
 use Rattle.pattern_claims.proofs.Flags.{PoisonIs}
 use Rattle.pattern_claims.proofs.Operands.{Stands, outcome_by, width_is}
-use Rattle.pattern_claims.proofs.Typing.{TypeIs, claim_kinds, type_is, width_low}
+use Rattle.pattern_claims.proofs.Typing.{TypeIs, claim_kinds, kind_if, kinds_from, type_is, width_low}
 use Rattle.pattern_claims.proofs.Instructions.{AllOnes, Holds, Reached, reached}
 
 -- ---- widths
@@ -43,28 +43,58 @@ use Rattle.pattern_claims.proofs.Instructions.{AllOnes, Holds, Reached, reached}
 abbrev pub masks_of : List BitsKind → List ℕ
 masks_of ks = map (λ k. mask (width_of k)) ks
 
-fit_next : (W : ℕ) (pre : List ℕ) (m : ℕ) (rest : List ℕ) (kinds : List Kind) (us : List ℕ) → FitWidths W ((pre ++ m ∷ []) ++ rest) (length (pre ++ m ∷ [])) (map width_at kinds) us
-    → FitWidths W (pre ++ (m ∷ rest)) (length pre + 1) (map width_at kinds) us
-fit_next W pre m rest kinds us f =
-    subst (λ (vs : List ℕ). FitWidths W vs (length pre + 1) (map width_at kinds) us) (append_assoc pre (m ∷ []) rest)
-    (subst (λ (n : ℕ). FitWidths W ((pre ++ m ∷ []) ++ rest) n (map width_at kinds) us) (length-append pre (m ∷ [])) f)
+fit_next : (W : ℕ) (pre : List ℕ) (m : ℕ) (rest : List ℕ) (tys : List Width) (us : List ℕ) → FitWidths W ((pre ++ m ∷ []) ++ rest) (length (pre ++ m ∷ [])) tys us → FitWidths W (pre ++ (m ∷ rest)) (length pre + 1) tys us
+fit_next W pre m rest tys us f =
+    subst (λ (vs : List ℕ). FitWidths W vs (length pre + 1) tys us) (append_assoc pre (m ∷ []) rest)
+    (subst (λ (n : ℕ). FitWidths W ((pre ++ m ∷ []) ++ rest) n tys us) (length-append pre (m ∷ [])) f)
 
-fit_more : (W : ℕ) → most_width ≤ W → (kinds : List Kind) (ks : List BitsKind) (pre : List ℕ) → AreKindsOf kinds ks → are_kinds ks ≡ true → FitWidths W (pre ++ masks_of ks) (length pre) (map width_at kinds) (map width_of ks)
-fit_more W most [] [] pre a w = tt
-fit_more W most [] (j ∷ ks) pre a w = absurd a
-fit_more W most (ty.Fixed k ∷ kinds) [] pre a w = absurd a
-fit_more W most (ty.Variable v ∷ kinds) [] pre a w = absurd a
-fit_more W most (ty.Fixed k ∷ kinds) (j ∷ ks) pre a w =
+-- the type of one kind
+abbrev FitsOne : ℕ → List ℕ → ℕ → Width → ℕ → Type 0
+FitsOne W vs v width.Free w = IsBelow W w × (at vs v ≡ mask w)
+FitsOne W vs v (width.Fixed m) w = IsBelow W w × (m ≡ mask w)
+
+fit_cons : (W : ℕ) (vs : List ℕ) (v : ℕ) (t : Width) (w : ℕ) (tys : List Width) (us : List ℕ) → FitsOne W vs v t w → FitWidths W vs (v + 1) tys us → FitWidths W vs v (t ∷ tys) (w ∷ us)
+fit_cons W vs v width.Free w tys us f rest = (f.0, f.1, rest)
+fit_cons W vs v (width.Fixed m) w tys us f rest = (f.0, f.1, rest)
+
+fit_more : (W : ℕ) → most_width ≤ W → (all kinds : List Kind) (ks : List BitsKind) (i : ℕ) (pre : List ℕ) → AreKindsOf kinds ks → are_kinds ks ≡ true
+    → FitWidths W (pre ++ masks_of (kinds_from all i kinds ks)) (length pre) (types_from all i kinds) (map width_of (kinds_from all i kinds ks))
+fit_more W most all [] [] i pre a w = tt
+fit_more W most all [] (j ∷ ks) i pre a w = absurd a
+fit_more W most all (ty.Fixed k ∷ kinds) [] i pre a w = absurd a
+fit_more W most all (ty.Variable v ∷ kinds) [] i pre a w = absurd a
+fit_more W most all (ty.Fixed k ∷ kinds) (j ∷ ks) i pre a w =
     let h = and_parts (is_width (width_of j)) (are_kinds ks) w in
-    (width_low W (width_of j) most h.0, ap (λ i. 2 ^ width_of i - 1) (sym a.0), fit_next W pre (mask (width_of j)) (masks_of ks) kinds (map width_of ks) (fit_more W most kinds ks (pre ++ mask (width_of j) ∷ []) a.1 h.1))
-fit_more W most (ty.Variable v ∷ kinds) (j ∷ ks) pre a w =
+    let c = is_repeated i all (ty.Fixed k) in
+    let m = mask (width_of (kind_if c j)) in
+    let rest = kinds_from all (i + 1) kinds ks in
+    fit_cons W (pre ++ (m ∷ masks_of rest)) (length pre) (width_if c (ty.Fixed k)) (width_of (kind_if c j)) (types_from all (i + 1) kinds) (map width_of rest)
+    (one c h.0)
+    (fit_next W pre m (masks_of rest) (types_from all (i + 1) kinds) (map width_of rest) (fit_more W most all kinds ks (i + 1) (pre ++ m ∷ []) a.1 h.1))
+  where
+    one : (b : Bool) → is_width (width_of j) ≡ true
+        → FitsOne W (pre ++ (mask (width_of (kind_if b j)) ∷ masks_of (kinds_from all (i + 1) kinds ks))) (length pre) (width_if b (ty.Fixed k)) (width_of (kind_if b j))
+    one true g = (width_low W 1 most refl, refl)
+    one false g = (width_low W (width_of j) most g, ap (λ c. 2 ^ width_of c - 1) (sym a.0))
+fit_more W most all (ty.Variable v ∷ kinds) (j ∷ ks) i pre a w =
     let h = and_parts (is_width (width_of j)) (are_kinds ks) w in
-    (width_low W (width_of j) most h.0, get_or-append_seam pre (mask (width_of j)) (masks_of ks) 0, fit_next W pre (mask (width_of j)) (masks_of ks) kinds (map width_of ks) (fit_more W most kinds ks (pre ++ mask (width_of j) ∷ []) a h.1))
+    let c = is_repeated i all (ty.Variable v) in
+    let m = mask (width_of (kind_if c j)) in
+    let rest = kinds_from all (i + 1) kinds ks in
+    fit_cons W (pre ++ (m ∷ masks_of rest)) (length pre) (width_if c (ty.Variable v)) (width_of (kind_if c j)) (types_from all (i + 1) kinds) (map width_of rest)
+    (one c h.0)
+    (fit_next W pre m (masks_of rest) (types_from all (i + 1) kinds) (map width_of rest) (fit_more W most all kinds ks (i + 1) (pre ++ m ∷ []) a h.1))
+  where
+    one : (b : Bool) → is_width (width_of j) ≡ true
+        → FitsOne W (pre ++ (mask (width_of (kind_if b j)) ∷ masks_of (kinds_from all (i + 1) kinds ks))) (length pre) (width_if b (ty.Variable v)) (width_of (kind_if b j))
+    one true g = (width_low W 1 most refl, refl)
+    one false g = (width_low W (width_of j) most g, get_or-append_seam pre (mask (width_of j)) (masks_of (kinds_from all (i + 1) kinds ks)) 0)
 
 pub fit : (W : ℕ) → most_width ≤ W → (kinds : List Kind) (ks : List BitsKind) (pre : List ℕ) → AreKindsOf kinds ks → are_kinds ks ≡ true
-    → FitWidths W (pre ++ masks_of (claim_kinds ks)) (length pre) (claim_types kinds) (map width_of (claim_kinds ks))
+    → FitWidths W (pre ++ masks_of (claim_kinds kinds ks)) (length pre) (claim_types kinds) (map width_of (claim_kinds kinds ks))
 fit W most kinds ks pre a w =
-    (width_low W 1 most refl, refl, fit_next W pre (mask 1) (masks_of ks) kinds (map width_of ks) (fit_more W most kinds ks (pre ++ mask 1 ∷ []) a w))
+    let rest = kinds_from kinds 0 kinds ks in
+    (width_low W 1 most refl, refl, fit_next W pre (mask 1) (masks_of rest) (types_from kinds 0 kinds) (map width_of rest) (fit_more W most kinds kinds ks 0 (pre ++ mask 1 ∷ []) a w))
 
 -- ---- narrower types
 
@@ -73,7 +103,7 @@ less_from n m e = grind (arith, nat_tests)
 
 module _ (W : ℕ) (most : most_width ≤ W) (kinds : List Kind) (ks : List BitsKind) (aligned : AreKindsOf kinds ks) (wide : are_kinds ks ≡ true) where
   abbrev ws : List ℕ
-  ws = map width_of (claim_kinds ks)
+  ws = map width_of (claim_kinds kinds ks)
 
   narrower_more : (s t : ℕ) (more : List Narrower) → width_of (kind_at ks s) < width_of (kind_at ks t) → AreNarrower ws more → (o r : Option ℕ) → type_at kinds s ≡ o → type_at kinds t ≡ r
       → AreNarrower ws (with_narrower o r more)
@@ -81,8 +111,8 @@ module _ (W : ℕ) (most : most_width ≤ W) (kinds : List Kind) (ks : List Bits
   narrower_more s t more l a None (Some v) e f = a
   narrower_more s t more l a (Some u) None e f = a
   narrower_more s t more l a (Some u) (Some v) e f =
-      let first = width_is (claim_kinds ks) u ∙ ap width_of (type_is W most kinds ks s u aligned wide e).same in
-      let second = width_is (claim_kinds ks) v ∙ ap width_of (type_is W most kinds ks t v aligned wide f).same in
+      let first = width_is (claim_kinds kinds ks) u ∙ ap width_of (type_is W most kinds ks s u aligned wide e).same in
+      let second = width_is (claim_kinds kinds ks) v ∙ ap width_of (type_is W most kinds ks t v aligned wide f).same in
       (subst (λ (n : ℕ). n < at ws v) (sym first) (subst (λ (n : ℕ). width_of (kind_at ks s) < n) (sym second) l), a)
 
   pub are_narrower : (l : List Asked) → list_all (is_asked ks) l ≡ true → AreNarrower ws (narrower_types kinds l)
@@ -134,7 +164,7 @@ set_low p ks i (u ∷ tys) (o ∷ os) a = go (set_low p ks (i + 1) tys os a.2) (
 
 module _ (W : ℕ) (most : most_width ≤ W) (vs : List ℕ) (p : Shape) (ks : List BitsKind) (aligned : AreKindsOf p.kinds ks) (wide : are_kinds ks ≡ true) where
   abbrev js : List BitsKind
-  js = claim_kinds ks
+  js = claim_kinds p.kinds ks
 
   abbrev us : List ℕ
   us = map width_of js
@@ -143,7 +173,7 @@ module _ (W : ℕ) (most : most_width ≤ W) (vs : List ℕ) (p : Shape) (ks : L
   HoldsHere s env = Holds W most vs p.kinds ks aligned wide s env
 
   -- one variable
-  variable_stands : (s : State) (env : List Outcome) (i u t : ℕ) (o : Outcome) (f : Poison) → HoldsHere s env → TypeIs W ks u t → IsOutcome (kind_at ks u) o → at vs i ≡ number_of o
+  variable_stands : (s : State) (env : List Outcome) (i u t : ℕ) (o : Outcome) (f : Poison) → HoldsHere s env → TypeIs W p.kinds ks u t → IsOutcome (kind_at ks u) o → at vs i ≡ number_of o
       → ((ps : List Piece) → PoisonIs W vs us ps f (is_none o)) → HoldsHere (with_variable s i f t) (env ++ o ∷ [])
   variable_stands s env i u t o f h is fits e flag =
       let n = at vs i % 2 ^ at us t in
@@ -191,7 +221,7 @@ module _ (W : ℕ) (most : most_width ≤ W) (vs : List ℕ) (p : Shape) (ks : L
       values_next : vs ≡ map number_of (pre ++ o ∷ []) ++ (map number_of os ++ rest)
       values_next = e ∙ sym (append_assoc (map number_of pre) (number_of o ∷ []) (map number_of os ++ rest)) ∙ ap (λ xs. xs ++ (map number_of os ++ rest)) (sym (map-append number_of pre (o ∷ [])))
 
-      by_constant : (t : ℕ) → TypeIs W ks u t → ((next : State) → HoldsHere next (pre ++ o ∷ []) → VariablesHold (variables p (i + 1) tys (set_of p (i + 1) tys os) next) ((pre ++ o ∷ []) ++ os)) → (c : Bool) → is_constant p i ≡ c
+      by_constant : (t : ℕ) → TypeIs W p.kinds ks u t → ((next : State) → HoldsHere next (pre ++ o ∷ []) → VariablesHold (variables p (i + 1) tys (set_of p (i + 1) tys os) next) ((pre ++ o ∷ []) ++ os)) → (c : Bool) → is_constant p i ≡ c
           → VariablesHold (if c then variables p (i + 1) tys (if c then set_of p (i + 1) tys os else poison_bit o + 2 * set_of p (i + 1) tys os) (with_variable s i poison.Never t)
           else variables p (i + 1) tys ((if c then set_of p (i + 1) tys os else poison_bit o + 2 * set_of p (i + 1) tys os) / 2) (with_variable s i (bit_flag ((if c then set_of p (i + 1) tys os else poison_bit o + 2 * set_of p (i + 1) tys os) % 2)) t)) (pre ++ (o ∷ os))
       by_constant t is ih true f =

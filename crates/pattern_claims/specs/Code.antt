@@ -8,7 +8,7 @@ use Rattle.pattern_claims.specs.declared.operand.Operand.{Operand}
 use Rattle.pattern_claims.specs.declared.operand.Poison.{Poison}
 use Rattle.pattern_claims.specs.declared.refining.Equation.{Equation}
 
-use Rattle.pattern_claims.specs.Translation.{Flagged, Made, Result, Sides, State, narrower_types, width_at}
+use Rattle.pattern_claims.specs.Translation.{Flagged, Made, Result, Sides, State, narrower_types, types_from}
 
 -- the pieces and the place that are made
 abbrev pub IsMade : Made → List Piece → ℕ → Type 0
@@ -38,10 +38,10 @@ abbrev pub IsStateIf : Option State → List Piece → List Operand → List ℕ
 IsStateIf None ps os hs done = done ≡ false
 IsStateIf (Some s) ps os hs done = (done ≡ true) × (ps ≡ s.pieces) × (os ≡ s.operands) × (hs ≡ s.conditions)
 
--- the widths of types, if a call says that all are there
-abbrev pub AreWidths : List Kind → List Width → List Width → Bool → Type 0
-AreWidths ks old new true = new ≡ old ++ map width_at ks
-AreWidths ks old new false = Unit {0}
+-- the widths of types from the number i on, if a call says that all are there
+abbrev pub AreWidths : List Kind → ℕ → List Kind → List Width → List Width → Bool → Type 0
+AreWidths all i ks old new true = new ≡ old ++ types_from all i ks
+AreWidths all i ks old new false = Unit {0}
 
 abbrev pub IsReachedState : Option State → List Piece → List Operand → List ℕ → Bool → Type 0
 IsReachedState o ps os hs true = o ≡ Some (state ps os hs)

@@ -1,10 +1,11 @@
 -- A pattern as claims: each place of it has a piece that computes its value, and a flag for its poison. There is one
 -- claim for each set of variables that are poison.
-use Rattle.std.specs.Prelude.{ℕ, ◌+◌, ◌-◌, ◌*◌, ◌/◌, ◌%◌, ◌^◌, ◌==◌, List, [], ◌∷◌, ◌++◌, map, length, Bool, true, false, ◌&&◌, eqb, if◌then◌else◌, Option, Some, None, slice_get}
+use Rattle.std.specs.Prelude.{ℕ, zero, suc, ◌+◌, ◌-◌, ◌*◌, ◌/◌, ◌%◌, ◌^◌, ◌==◌, List, [], ◌∷◌, ◌++◌, map, length, Bool, true, false, ◌&&◌, ◌||◌, eqb, if◌then◌else◌, Option, Some, None, slice_get}
 use Rattle.std.specs.List.{list_any}
 use Rattle.ir_types.specs.declared.bits.BitsKind.{BitsKind}
 use Rattle.ir_types.specs.declared.bits.BitsKind.TheVariants as kind
 use Rattle.ir_types.specs.Bits.{width_of}
+use Rattle.dialects_int.specs.Folds.{same_kind}
 use Rattle.dialects_int.specs.declared.operations.Arithmetic.{Arithmetic}
 use Rattle.dialects_int.specs.declared.operations.Arithmetic.TheVariants as op
 use Rattle.dialects_int.specs.declared.operations.Predicate.{Predicate}
@@ -53,15 +54,38 @@ is_truth (ty.Variable v) = false
 abbrev pub type_number : ℕ → Kind → ℕ
 type_number t k = if is_truth k then 0 else t + 1
 
-abbrev pub type_at : List Kind → ℕ → Option ℕ
-type_at ks t = given (slice_get ks t) (λ k. Some (type_number t k))
+-- a type that is also an earlier one has no number
+abbrev pub is_same : Kind → Kind → Bool
+is_same (ty.Fixed a) (ty.Fixed b) = same_kind a b
+is_same (ty.Fixed a) (ty.Variable w) = false
+is_same (ty.Variable v) (ty.Fixed b) = false
+is_same (ty.Variable v) (ty.Variable w) = v == w
 
+abbrev pub is_repeated : ℕ → List Kind → Kind → Bool
+is_repeated i [] k = false
+is_repeated zero (j ∷ ks) k = false
+is_repeated (suc i) (j ∷ ks) k = is_same k j || is_repeated i ks k
+
+abbrev pub type_if : Bool → ℕ → Kind → Option ℕ
+type_if repeated t k = if repeated then None else Some (type_number t k)
+
+abbrev pub type_at : List Kind → ℕ → Option ℕ
+type_at ks t = given (slice_get ks t) (λ k. type_if (is_repeated t ks k) t k)
+
+-- the widths of a claim's types; a type without a number is i1 there
 abbrev pub width_at : Kind → Width
 width_at (ty.Fixed k) = width.Fixed (2 ^ width_of k - 1)
 width_at (ty.Variable v) = width.Free
 
+abbrev pub width_if : Bool → Kind → Width
+width_if repeated k = if repeated then width.Fixed 1 else width_at k
+
+abbrev pub types_from : List Kind → ℕ → List Kind → List Width
+types_from all i [] = []
+types_from all i (k ∷ ks) = width_if (is_repeated i all k) k ∷ types_from all (i + 1) ks
+
 abbrev pub claim_types : List Kind → List Width
-claim_types ks = width.Fixed 1 ∷ map width_at ks
+claim_types ks = width.Fixed 1 ∷ types_from ks 0 ks
 
 abbrev pub with_narrower : Option ℕ → Option ℕ → List Narrower → List Narrower
 with_narrower (Some s) (Some t) ns = record { narrow = s; wide = t } ∷ ns

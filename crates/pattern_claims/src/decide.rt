@@ -21,7 +21,7 @@ use width_claims::width::Width;
 /// The most sets of poison variables.
 const MOST_SETS: usize = 64;
 
-/// The most variables.
+/// The most variables, and the most types.
 const MOST_VARIABLES: usize = 1000;
 
 /// Whether the results of both sides are as they have to be.
@@ -109,7 +109,7 @@ pub fn decide_pattern(
 ) -> Result<Decision, AllocError>
     ensures { IfOk result (IsPatternDecided (shape pattern.now)) }
 {
-    if pattern.values.len() > MOST_VARIABLES {
+    if pattern.values.len() > MOST_VARIABLES || pattern.kinds.len() > MOST_VARIABLES {
         return Ok(Decision::Undecided);
     }
     let Some(count) = set_count(pattern, 0, &pattern.values) else {
@@ -120,7 +120,7 @@ pub fn decide_pattern(
     }
     let mut types = Vec::new(alloc);
     types.push(Width::Fixed(1))?;
-    if !put_widths(&pattern.kinds, &mut types)? {
+    if !put_widths(&pattern.kinds, 0, &pattern.kinds, &mut types)? {
         return Ok(Decision::Undecided);
     }
     let mut narrower = Vec::new(alloc);
