@@ -8,7 +8,7 @@ use Rattle.dialects_int.specs.declared.operations.Arithmetic.TheVariants as op
 use Rattle.dialects_int.specs.declared.operations.Predicate.{Predicate}
 use Rattle.dialects_int.specs.declared.operations.Predicate.TheVariants as asks
 use Rattle.dialects_int.specs.Arithmetic.{choice_of, comparison_of, difference_of, maximum_of, minimum_of, sign_extended, signed_maximum_of, signed_minimum_of, sum_of, truth, value_of}
-use Rattle.ir_types.specs.Readings.{signed_of}
+use Rattle.ir_types.specs.Readings.{literal_number, signed_of, wrapped}
 use Rattle.patterns_check.specs.Outcomes.{divides}
 use Rattle.width_claims.specs.declared.form.Form.TheVariants as form
 use Rattle.width_claims.specs.declared.form.Piece.{Piece}
@@ -72,6 +72,9 @@ module _ (W : ℕ) (vs ws : List ℕ) where
 
   pub put_cut : (ps : List Piece) → Base W vs ws ps → (i t u x : ℕ) → IsBelow W (at ws t) → Is W vs ws ps i u x → Makes W vs ws ps (put ps t (form.Cut i)) t (x % 2 ^ at ws t)
   put_cut ps b i t u x low p = made W vs ws ps t (form.Cut i) (x % 2 ^ at ws t) b.right low (inside W vs ws ps i u x p) (λ r. p.value r % 2 ^ at ws t)
+
+  pub put_number : (ps : List Piece) → Base W vs ws ps → (t n : ℕ) → IsBelow W (at ws t) → n < 2 ^ at ws t → Makes W vs ws ps (put ps t (form.Literal n)) t (wrapped (at ws t) (literal_number false n))
+  put_number ps b t n low l = made W vs ws ps t (form.Literal n) (wrapped (at ws t) (literal_number false n)) b.right low l refl
 
   -- a truth's negation
   pub makes_not : (ps : List Piece) (m : Made) (c : Bool) → Base W vs ws ps → Makes W vs ws ps m 0 (truth c) → Makes W vs ws ps (negated m) 0 (truth (not c))

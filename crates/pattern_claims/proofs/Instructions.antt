@@ -183,7 +183,7 @@ module _ (W : ℕ) (most : most_width ≤ W) (vs : List ℕ) (kinds : List Kind)
           outcome = Some (kind_at js u, x);
           is = is.outcome ∙ (λ r. Some (Some (sym t.same r, wrapped (sym w_is r) (literal_number l.negative l.magnitude))));
           grown = a.grown;
-          stands = record { number = x; poisoned = false; number_is = a.is; poison_is = refl; is = refl };
+          stands = record { number = x; poisoned = false; number_is = a.is; poison_is = refl; is = refl; written_is = (refl, low, refl) };
         }
       where
         right : (b : Bool) (w : ℕ) → l.magnitude < 2 ^ w → IsRight W ws (piece_types s.pieces) w (if b then form.Negative l.magnitude else form.Literal l.magnitude)

@@ -1,5 +1,6 @@
 pub mod Pieces
 pub mod Forms
+pub mod Multiples
 pub mod Flags
 pub mod Operands
 pub mod Typing

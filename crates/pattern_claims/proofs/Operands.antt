@@ -1,5 +1,5 @@
 -- Operands that stand for outcomes, and what operations make of them.
-use Rattle.std.proofs.Common.{◌≡◌, ◌∙◌, ℕ, zero, suc, ◌+◌, ◌%◌, ◌^◌, ◌<◌, ◌≤◌, ◌==◌, List, [], ◌∷◌, map, Bool, true, false, true≢false, ◌||◌, ◌&&◌, not, nat_lt, if◌then◌else◌, Option, Some, None, bit_and, refl, sym, ap, subst, arith}
+use Rattle.std.proofs.Common.{◌≡◌, ◌∙◌, ℕ, zero, suc, ◌+◌, ◌%◌, ◌^◌, ◌<◌, ◌≤◌, ◌==◌, List, [], ◌∷◌, map, Bool, true, false, true≢false, ◌||◌, ◌&&◌, not, nat_lt, if◌then◌else◌, Option, Some, None, ◌⊎◌, inl, inr, bit_and, refl, sym, ap, subst, arith}
 use Rattle.std.specs.List.{list_any}
 use Rattle.std.specs.Int.Bits.{and_self}
 use Rattle.std.proofs.lemmas.Bool.{and_parts, eqb-true}
@@ -17,6 +17,8 @@ use Rattle.dialects_int.specs.Arithmetic.{cast_of, choice_of, comparison_of, sig
 use Rattle.dialects_int.specs.Folds.{same_kind}
 use Rattle.dialects_int.proofs.KnownOperands.{same_itself}
 use Rattle.patterns_check.specs.Outcomes.{Outcome, compare_outcome, divides, given, is_some_number, judged, no_value, pair_outcome, resize_any, resize_outcome, select_outcome}
+use Rattle.ir_types.specs.Readings.{literal_number, wrapped}
+use Rattle.patterns_book.specs.declared.pattern.Literal.{Literal}
 use Rattle.patterns_book.specs.Fitting.{kind_at}
 use Rattle.width_claims.specs.declared.form.Form.TheVariants as form
 use Rattle.width_claims.specs.declared.form.Piece.{Piece}
@@ -25,10 +27,11 @@ use Rattle.width_claims.specs.PieceValues.{at}
 use Rattle.width_claims.specs.Right.{AreNarrower, IsBelow}
 use Rattle.pattern_claims.specs.declared.operand.Poison.{Poison}
 use Rattle.pattern_claims.specs.declared.operand.Operand.{Operand}
-use Rattle.pattern_claims.specs.Translation.{Flagged, Made, Result, cast_value, chosen_poison, compare_result, compare_value, either, is_narrower, operand, pair_result, pair_value, put, resize_result, result, select_made, select_poison, select_result, strict}
+use Rattle.pattern_claims.specs.Translation.{Flagged, Made, Result, cast_value, chosen_poison, compare_result, compare_value, either, first_there, is_narrower, left_literal, literal_times, operand, operands_value, pair_result, pair_value, put, resize_result, result, right_literal, select_made, select_poison, select_result, strict, with_literal}
 use Rattle.pattern_claims.proofs.Pieces.{Base, Grown, Is, Makes, base_on, same, grown_next}
 use Rattle.pattern_claims.proofs.Forms.{IsPair, PairMakes, compare_makes, pair_makes, put_cut, put_resize, put_select}
-use Rattle.pattern_claims.proofs.Flags.{Flags, PoisonIs, also_is, chosen_is, either_is, poison_kept}
+use Rattle.pattern_claims.proofs.Multiples.{IsLiteral, IsTurned, LiteralMakes, TurnedMakes, times_value, with_makes}
+use Rattle.pattern_claims.proofs.Flags.{Flags, PoisonIs, also_is, chosen_is, either_is, or_false, poison_kept}
 
 -- poison, or a number of a kind
 abbrev pub outcome_by : BitsKind → ℕ → Bool → Outcome
@@ -39,17 +42,37 @@ width_is [] t = refl
 width_is (j ∷ js) zero = refl
 width_is (j ∷ js) (suc t) = width_is js t
 
+-- a literal is its number, and no poison
+abbrev pub WrittenIs : Option Literal → ℕ → ℕ → Bool → Type 0
+WrittenIs None w n b = Unit {0}
+WrittenIs (Some l) w n b = (n ≡ wrapped w (literal_number l.negative l.magnitude)) × (l.magnitude < 2 ^ w) × (b ≡ false)
+
 -- ---- outcomes of operations
 
 pub again : (x : Outcome) → pair_outcome op.And x x ≡ Some x
 again None = refl
 again (Some x) = ap (λ b. if b then Some (Some (x.0, bit_and x.1 x.1)) else None) (same_itself x.0) ∙ ap (λ n. Some (Some (x.0, n))) (and_self x.1)
 
-pair_of : (o : Arithmetic) (k : BitsKind) (u v r : ℕ) → divides o ≡ false → value_of o (width_of k) u v ≡ Some r → (b c : Bool)
+undivided : (o : Arithmetic) (k : BitsKind) (u v r : ℕ) → divides o ≡ false → value_of o (width_of k) u v ≡ Some r → (b c : Bool)
     → pair_outcome o (outcome_by k u b) (outcome_by k v c) ≡ Some (outcome_by k r (b || c))
-pair_of o k u v r t e true c = ap (λ d. if d && not (is_some_number (outcome_by k v c)) then None else Some None) t
-pair_of o k u v r t e false true = ap (λ d. if d then None else Some None) t
-pair_of o k u v r t e false false = ap (λ d. if d then judged o k v (value_of o (width_of k) u v) else None) (same_itself k) ∙ ap (judged o k v) e
+undivided o k u v r t e true c = ap (λ d. if d && not (is_some_number (outcome_by k v c)) then None else Some None) t
+undivided o k u v r t e false true = ap (λ d. if d then None else Some None) t
+undivided o k u v r t e false false = ap (λ d. if d then judged o k v (value_of o (width_of k) u v) else None) (same_itself k) ∙ ap (judged o k v) e
+
+-- a division by a number that is known, and not 0
+divided : (o : Arithmetic) (k : BitsKind) (u v r : ℕ) → (v == 0) ≡ false → value_of o (width_of k) u v ≡ Some r → (b : Bool) → pair_outcome o (outcome_by k u b) (Some (k, v)) ≡ Some (outcome_by k r b)
+divided o k u v r t e true = ap (λ d. if divides o && not (not d) then None else Some None) t ∙ ap (λ d. if d then None else Some None) (and_false (divides o))
+  where
+    and_false : (d : Bool) → (d && false) ≡ false
+    and_false true = refl
+    and_false false = refl
+divided o k u v r t e false = ap (λ d. if d then judged o k v (value_of o (width_of k) u v) else None) (same_itself k) ∙ ap (judged o k v) e
+
+pair_of : (o : Arithmetic) (k : BitsKind) (u v r : ℕ) (b c : Bool) → (divides o ≡ false) ⊎ (((v == 0) ≡ false) × (c ≡ false)) → value_of o (width_of k) u v ≡ Some r
+    → pair_outcome o (outcome_by k u b) (outcome_by k v c) ≡ Some (outcome_by k r (b || c))
+pair_of o k u v r b c (inl t) e = undivided o k u v r t e b c
+pair_of o k u v r b c (inr t) e =
+    ap (λ d. pair_outcome o (outcome_by k u b) (outcome_by k v d)) t.1 ∙ divided o k u v r t.0 e b ∙ ap (λ d. Some (outcome_by k r d)) (sym (ap (λ d. b || d) t.1 ∙ or_false b))
 
 compare_of : (q : Predicate) (k : BitsKind) (u v : ℕ) (b c : Bool) → compare_outcome q (outcome_by k u b) (outcome_by k v c) ≡ Some (outcome_by (kind.Int 1) (truth (comparison_of (width_of k) q u v)) (b || c))
 compare_of q k u v true c = refl
@@ -96,6 +119,7 @@ module _ (W : ℕ) (vs : List ℕ) (js : List BitsKind) (first : kind_at js 0 �
     pub number_is : Is W vs widths ps o.value o.ty number
     pub poison_is : PoisonIs W vs widths ps o.poison poisoned
     pub is : x ≡ outcome_by (kind_at js o.ty) number poisoned
+    pub written_is : WrittenIs o.written (at widths o.ty) number poisoned
 
   pub stands_still : (ps qs : List Piece) (o : Operand) (x : Outcome) → Grown W vs widths ps qs → Stands ps o x → Stands qs o x
   stands_still ps qs o x g s =
@@ -105,6 +129,7 @@ module _ (W : ℕ) (vs : List ℕ) (js : List BitsKind) (first : kind_at js 0 �
         number_is = g.kept o.value o.ty s.number s.number_is;
         poison_is = poison_kept W vs widths ps qs o.poison s.poisoned g s.poison_is;
         is = s.is;
+        written_is = s.written_is;
       }
 
   -- what is made of operands stands for what an operation gives
@@ -125,7 +150,7 @@ module _ (W : ℕ) (vs : List ℕ) (js : List BitsKind) (first : kind_at js 0 �
         outcome = outcome_by (kind_at js t) v b;
         is = e;
         grown = grown_next W vs widths ps m.0 f.0 a.grown h.grown;
-        stands = record { number = v; poisoned = b; number_is = h.grown.kept m.1 t v a.is; poison_is = h.is; is = refl };
+        stands = record { number = v; poisoned = b; number_is = h.grown.kept m.1 t v a.is; poison_is = h.is; is = refl; written_is = tt };
       }
 
   gives_strict : (ps : List Piece) (base : Base W vs widths ps) (r : Option Outcome) (m : Made) (t v : ℕ) (f g : Poison) (b c : Bool)
@@ -144,21 +169,66 @@ module _ (W : ℕ) (vs : List ℕ) (js : List BitsKind) (first : kind_at js 0 �
       same_kind_of : (x.ty == y.ty) ≡ true → q ≡ outcome_by (kind_at js x.ty) u.number u.poisoned
       same_kind_of e = u.is ∙ ap (λ t. outcome_by (kind_at js t) u.number u.poisoned) (sym (eqb-true x.ty y.ty e))
 
-      -- (the case that the types are the same)
-      pair_made : (e : (x.ty == y.ty) ≡ true) (o : Arithmetic) (m : Option Made) → PairMakes W vs widths ps base x.value y.value x.ty s.number u.number s.number_is (of_type e) o m
-          → GivesSome ps (pair_outcome o p q) (given m (λ m. Some (strict m x.ty x.poison y.poison)))
+      -- what is made of both
+      record IsMade (o : Arithmetic) (m : Made) : Type 0 where
+        total : (divides o ≡ false) ⊎ (((u.number == 0) ≡ false) × (u.poisoned ≡ false))
+        value : ℕ
+        value_is : value_of o (at widths x.ty) s.number u.number ≡ Some value
+        makes : Makes W vs widths ps m x.ty value
+
+      abbrev IsMadeSome : Arithmetic → Option Made → Type 0
+      IsMadeSome o None = Unit {0}
+      IsMadeSome o (Some m) = IsMade o m
+
+      first_made : (o : Arithmetic) (m n : Option Made) → IsMadeSome o m → IsMadeSome o n → IsMadeSome o (first_there m n)
+      first_made o None n a b = b
+      first_made o (Some m) n a b = a
+
+      plain_made : (e : (x.ty == y.ty) ≡ true) (o : Arithmetic) (m : Option Made) → PairMakes W vs widths ps base x.value y.value x.ty s.number u.number s.number_is (of_type e) o m → IsMadeSome o m
+      plain_made e o None i = tt
+      plain_made e o (Some m) i = record { total = inl i.total; value = i.value; value_is = i.value_is; makes = i.makes }
+
+      right_made : (e : (x.ty == y.ty) ≡ true) (o : Arithmetic) (l : Option Literal) → WrittenIs l (at widths x.ty) u.number u.poisoned → IsMadeSome o (given l (λ l. with_literal o x.ty x.value l ps))
+      right_made e o None w = tt
+      right_made e o (Some l) w = on (with_literal o x.ty x.value l ps) (with_makes W vs widths x.ty x.value s.number l u.number w.0 w.1 ps base s.number_is o)
+        where
+          known : (t : (divides o ≡ false) ⊎ ((u.number == 0) ≡ false)) → (divides o ≡ false) ⊎ (((u.number == 0) ≡ false) × (u.poisoned ≡ false))
+          known (inl t) = inl t
+          known (inr t) = inr (t, w.2)
+
+          on : (m : Option Made) → LiteralMakes W vs widths x.ty x.value s.number l u.number w.0 w.1 ps base s.number_is o m → IsMadeSome o m
+          on None i = tt
+          on (Some m) i = record { total = known i.total; value = i.value; value_is = i.value_is; makes = i.makes }
+
+      left_made : (e : (x.ty == y.ty) ≡ true) (o : Arithmetic) (l : Option Literal) → WrittenIs l (at widths x.ty) s.number s.poisoned → IsMadeSome o (given l (λ l. literal_times o x.ty y.value l ps))
+      left_made e o None w = tt
+      left_made e o (Some l) w = on (literal_times o x.ty y.value l ps) (times_value W vs widths x.ty y.value u.number l s.number w.0 w.1 ps base (of_type e) o)
+        where
+          on : (m : Option Made) → TurnedMakes W vs widths x.ty y.value u.number l s.number w.0 w.1 ps base (of_type e) o m → IsMadeSome o m
+          on None i = tt
+          on (Some m) i = record { total = inl i.total; value = i.value; value_is = i.value_is; makes = i.makes }
+
+      operands_made : (e : (x.ty == y.ty) ≡ true) (o : Arithmetic) → IsMadeSome o (operands_value o x y ps)
+      unfolding operands_value
+      operands_made e o =
+          first_made o (right_literal o x y ps) (first_there (left_literal o x y ps) (pair_value o x.ty x.value y.value ps))
+          (right_made e o y.written (subst (λ (t : ℕ). WrittenIs y.written (at widths t) u.number u.poisoned) (sym (eqb-true x.ty y.ty e)) u.written_is))
+          (first_made o (left_literal o x y ps) (pair_value o x.ty x.value y.value ps) (left_made e o x.written s.written_is)
+          (plain_made e o (pair_value o x.ty x.value y.value ps) (pair_makes W vs widths ps base x.value y.value x.ty s.number u.number s.number_is (of_type e) o)))
+
+      pair_made : (e : (x.ty == y.ty) ≡ true) (o : Arithmetic) (m : Option Made) → IsMadeSome o m → GivesSome ps (pair_outcome o p q) (given m (λ m. Some (strict m x.ty x.poison y.poison)))
       pair_made e o None i = tt
       pair_made e o (Some m) i =
           gives_strict ps base (pair_outcome o p q) m x.ty i.value x.poison y.poison s.poisoned u.poisoned i.makes s.poison_is u.poison_is
           ((λ r. pair_outcome o (s.is r) (same_kind_of e r))
-          ∙ pair_of o (kind_at js x.ty) s.number u.number i.value i.total (ap (λ w. value_of o w s.number u.number) (sym (width_is js x.ty)) ∙ i.value_is) s.poisoned u.poisoned)
+          ∙ pair_of o (kind_at js x.ty) s.number u.number i.value s.poisoned u.poisoned i.total (ap (λ w. value_of o w s.number u.number) (sym (width_is js x.ty)) ∙ i.value_is))
 
       pub pair_gives : (o : Arithmetic) → GivesSome ps (pair_outcome o p q) (pair_result o x y ps)
       pair_gives o = go (x.ty == y.ty) refl
         where
-          go : (b : Bool) → (x.ty == y.ty) ≡ b → GivesSome ps (pair_outcome o p q) (if b then given (pair_value o x.ty x.value y.value ps) (λ m. Some (strict m x.ty x.poison y.poison)) else None)
+          go : (b : Bool) → (x.ty == y.ty) ≡ b → GivesSome ps (pair_outcome o p q) (if b then given (operands_value o x y ps) (λ m. Some (strict m x.ty x.poison y.poison)) else None)
           go false e = tt
-          go true e = pair_made e o (pair_value o x.ty x.value y.value ps) (pair_makes W vs widths ps base x.value y.value x.ty s.number u.number s.number_is (of_type e) o)
+          go true e = pair_made e o (operands_value o x y ps) (operands_made e o)
 
       pub compare_gives : (o : Predicate) → GivesSome ps (compare_outcome o p q) (compare_result o x y ps)
       compare_gives o = go (x.ty == y.ty) refl

@@ -180,7 +180,7 @@ module _ (W : ℕ) (most : most_width ≤ W) (vs : List ℕ) (p : Shape) (ks : L
       let m = put s.pieces t (form.Value i) in
       let a = made W vs us s.pieces t (form.Value i) n h.base.right is.low tt refl in
       (reached W most vs p.kinds ks aligned wide s env (variable_result m f t) o h a.grown
-      (record { number = n; poisoned = is_none o; number_is = a.is; poison_is = flag m.0; is = outcome_is o fits e })).holds
+      (record { number = n; poisoned = is_none o; number_is = a.is; poison_is = flag m.0; is = outcome_is o fits e; written_is = tt })).holds
     where
       outcome_is : (x : Outcome) → IsOutcome (kind_at ks u) x → at vs i ≡ number_of x → x ≡ outcome_by (kind_at js t) (at vs i % 2 ^ at us t) (is_none x)
       outcome_is None g r = refl

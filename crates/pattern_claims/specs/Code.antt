@@ -18,6 +18,11 @@ abbrev pub IsMadeIf : Option Made → List Piece → Option ℕ → Type 0
 IsMadeIf None new r = r ≡ None
 IsMadeIf (Some m) new r = (new ≡ m.0) × (r ≡ Some m.1)
 
+-- or the old pieces
+abbrev pub IsMadeOr : Option Made → List Piece → List Piece → Option ℕ → Type 0
+IsMadeOr None old new r = (new ≡ old) × (r ≡ None)
+IsMadeOr (Some m) old new r = (new ≡ m.0) × (r ≡ Some m.1)
+
 -- the pieces and the flag
 abbrev pub IsFlagged : Flagged → List Piece → Poison → Type 0
 IsFlagged r new f = (new ≡ r.0) × (f ≡ r.1)

@@ -1,6 +1,6 @@
 -- A pattern as claims: each place of it has a piece that computes its value, and a flag for its poison. There is one
 -- claim for each set of variables that are poison.
-use Rattle.std.specs.Prelude.{ℕ, zero, suc, ◌+◌, ◌-◌, ◌*◌, ◌/◌, ◌%◌, ◌^◌, ◌==◌, List, [], ◌∷◌, ◌++◌, map, length, Bool, true, false, ◌&&◌, ◌||◌, eqb, if◌then◌else◌, Option, Some, None, slice_get}
+use Rattle.std.specs.Prelude.{ℕ, zero, suc, ◌+◌, ◌-◌, ◌*◌, ◌/◌, ◌%◌, ◌^◌, ◌==◌, List, [], ◌∷◌, ◌++◌, map, length, Bool, true, false, ◌&&◌, ◌||◌, not, eqb, if◌then◌else◌, Option, Some, None, slice_get}
 use Rattle.std.specs.List.{list_any}
 use Rattle.ir_types.specs.declared.bits.BitsKind.{BitsKind}
 use Rattle.ir_types.specs.declared.bits.BitsKind.TheVariants as kind
@@ -151,6 +151,44 @@ cast_value ns cast.Truncate t u i ps = if is_narrower ns t u then Some (put ps t
 abbrev pub literal_form : Literal → Form
 literal_form l = if l.negative then form.Negative l.magnitude else form.Literal l.magnitude
 
+-- the product of the value at a place and a number, which isn't above the first one given, by sums
+abbrev pub twice : ℕ → Made → Made
+twice t m = put m.0 t (form.Add m.1 m.1)
+
+abbrev pub one_more : Bool → ℕ → ℕ → Made → Made
+one_more more t i m = if more then put m.0 t (form.Add m.1 i) else m
+
+abbrev pub times : ℕ → ℕ → ℕ → ℕ → List Piece → Made
+times zero n t i ps = put ps t (form.Literal 0)
+times (suc k) n t i ps = if n == 0 then put ps t (form.Literal 0) else if n == 1 then put ps t (form.Cut i) else one_more (n % 2 == 1) t i (twice t (times k (n / 2) t i ps))
+
+-- 0 less a value
+abbrev pub negative_of : ℕ → ℕ → Made → Made
+negative_of t i m = put m.0 t (form.Subtract m.1 i)
+
+abbrev pub opposite : ℕ → Made → Made
+opposite t m = negative_of t m.1 (put m.0 t (form.Literal 0))
+
+abbrev pub multiple : Literal → ℕ → ℕ → List Piece → Made
+multiple l t i ps = if l.negative then opposite t (times l.magnitude l.magnitude t i ps) else times l.magnitude l.magnitude t i ps
+
+abbrev pub is_number : ℕ → Literal → Bool
+is_number n l = not l.negative && (l.magnitude == n)
+
+-- of a value of a type and a literal
+abbrev pub with_literal : Arithmetic → ℕ → ℕ → Literal → List Piece → Option Made
+with_literal op.Multiply t i l ps = Some (multiple l t i ps)
+with_literal op.ShiftLeft t i l ps = if is_number 0 l then Some (put ps t (form.Cut i)) else None
+with_literal op.ShiftRightUnsigned t i l ps = if is_number 0 l then Some (ps, i) else None
+with_literal op.DivideUnsigned t i l ps = if is_number 1 l then Some (ps, i) else None
+with_literal op.RemainderUnsigned t i l ps = if is_number 1 l then Some (put ps t (form.Literal 0)) else None
+with_literal _ t i l ps = None
+
+-- a literal times a value
+abbrev pub literal_times : Arithmetic → ℕ → ℕ → Literal → List Piece → Option Made
+literal_times op.Multiply t i l ps = Some (multiple l t i ps)
+literal_times _ t i l ps = None
+
 -- ---- poison
 
 -- pieces, and a flag
@@ -183,7 +221,7 @@ chosen_poison c f g ps = flag_by (put ps 0 (form.Select c (flag_place f) (flag_p
 -- ---- operands
 
 abbrev pub operand : ℕ → Poison → ℕ → Operand
-operand i f t = record { value = i; poison = f; ty = t }
+operand i f t = record { value = i; poison = f; ty = t; written = None }
 
 -- pieces, and an operand
 abbrev pub Result : Type 0
@@ -196,9 +234,21 @@ result i t r = (r.0, operand i r.1 t)
 abbrev pub strict : Made → ℕ → Poison → Poison → Result
 strict m t f g = result m.1 t (either f g m.0)
 
+abbrev pub first_there : Option Made → Option Made → Option Made
+first_there None m = m
+first_there (Some n) m = Some n
+
+abbrev pub right_literal : Arithmetic → Operand → Operand → List Piece → Option Made
+right_literal o x y ps = given y.written (λ l. with_literal o x.ty x.value l ps)
+
+abbrev pub left_literal : Arithmetic → Operand → Operand → List Piece → Option Made
+left_literal o x y ps = given x.written (λ l. literal_times o x.ty y.value l ps)
+
+unfoldable pub operands_value : Arithmetic → Operand → Operand → List Piece → Option Made
+operands_value o x y ps = first_there (right_literal o x y ps) (first_there (left_literal o x y ps) (pair_value o x.ty x.value y.value ps))
+
 abbrev pub pair_result : Arithmetic → Operand → Operand → List Piece → Option Result
-pair_result o x y ps =
-    if x.ty == y.ty then given (pair_value o x.ty x.value y.value ps) (λ m. Some (strict m x.ty x.poison y.poison)) else None
+pair_result o x y ps = if x.ty == y.ty then given (operands_value o x y ps) (λ m. Some (strict m x.ty x.poison y.poison)) else None
 
 abbrev pub compare_result : Predicate → Operand → Operand → List Piece → Option Result
 compare_result q x y ps = if x.ty == y.ty then Some (strict (compare_value q x.ty x.value y.value ps) 0 x.poison y.poison) else None
@@ -242,11 +292,11 @@ abbrev pub required : State → Operand → Poison → Option State
 required s x poison.Never = Some (with_condition s x (put s.pieces 0 (form.Less 0 x.value)))
 required s x _ = None
 
-abbrev pub never_poison : Made → ℕ → Result
-never_poison m t = (m.0, operand m.1 poison.Never t)
+abbrev pub literal_made : Made → Literal → ℕ → Result
+literal_made m l t = (m.0, record { value = m.1; poison = poison.Never; ty = t; written = Some l })
 
 abbrev pub literal_result : Literal → List Piece → ℕ → Result
-literal_result l ps t = never_poison (put ps t (literal_form l)) t
+literal_result l ps t = literal_made (put ps t (literal_form l)) l t
 
 module _ (ks : List Kind) (ns : List Narrower) where
   -- the operand that an instruction makes

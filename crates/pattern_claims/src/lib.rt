@@ -9,6 +9,7 @@ pub mod laws;
 pub mod operand;
 pub mod operations;
 pub mod poison;
+pub mod products;
 pub mod question;
 pub mod refining;
 pub mod translate;

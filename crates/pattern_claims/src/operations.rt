@@ -1,10 +1,11 @@
 //! What operations make of operands.
 ghost use Rattle.std.specs.Prelude.{IfOk};
-ghost use Rattle.pattern_claims.specs.Code.{IsFlagged, IsResult, IsResultIf};
-ghost use Rattle.pattern_claims.specs.Translation.{compare_result, pair_result, resize_result, select_made, select_poison, select_result, strict};
+ghost use Rattle.pattern_claims.specs.Code.{IsFlagged, IsMadeIf, IsMadeOr, IsResult, IsResultIf};
+ghost use Rattle.pattern_claims.specs.Translation.{compare_result, left_literal, operands_value, pair_result, resize_result, right_literal, select_made, select_poison, select_result, strict};
 
 use crate::operand::{Operand, Poison};
 use crate::poison::{chosen_poison, either};
+use crate::products::{literal_times, with_literal};
 use crate::values::{cast_value, compare_value, pair_value, put};
 use dialects_int::operations::{Arithmetic, Cast, Predicate};
 use std::alloc::AllocError;
@@ -22,7 +23,61 @@ fn strict(
     ensures { IfOk result (IsResult (strict (pieces.old.items, value) ty f.now g.now) pieces.new.items) }
 {
     let poison = either(f, g, pieces)?;
-    Ok(Operand { value, poison, ty })
+    Ok(Operand {
+        value,
+        poison,
+        ty,
+        written: None,
+    })
+}
+
+/// Appends an operation whose second operand is a literal, if claims can say it.
+fn right_literal(
+    operation: &Arithmetic,
+    x: &Operand,
+    y: &Operand,
+    pieces: &mut Vec<Piece>,
+) -> Result<Option<usize>, AllocError>
+    ensures { IfOk result (IsMadeOr (right_literal operation.now x.now y.now pieces.old.items) pieces.old.items pieces.new.items) }
+{
+    match &y.written {
+        Some(literal) => with_literal(operation, x.ty, x.value, literal, pieces),
+        None => Ok(None),
+    }
+}
+
+/// Appends an operation whose first operand is a literal, if claims can say it.
+fn left_literal(
+    operation: &Arithmetic,
+    x: &Operand,
+    y: &Operand,
+    pieces: &mut Vec<Piece>,
+) -> Result<Option<usize>, AllocError>
+    ensures { IfOk result (IsMadeOr (left_literal operation.now x.now y.now pieces.old.items) pieces.old.items pieces.new.items) }
+{
+    match &x.written {
+        Some(literal) => literal_times(operation, x.ty, y.value, literal, pieces),
+        None => Ok(None),
+    }
+}
+
+/// Appends an operation on two operands, if claims can say it.
+#[tactic(auto, unfolding(crate::specs::Translation::operands_value))]
+fn operands_value(
+    operation: &Arithmetic,
+    x: &Operand,
+    y: &Operand,
+    pieces: &mut Vec<Piece>,
+) -> Result<Option<usize>, AllocError>
+    ensures { IfOk result (IsMadeIf (operands_value operation.now x.now y.now pieces.old.items) pieces.new.items) }
+{
+    if let Some(value) = right_literal(operation, x, y, pieces)? {
+        return Ok(Some(value));
+    }
+    if let Some(value) = left_literal(operation, x, y, pieces)? {
+        return Ok(Some(value));
+    }
+    pair_value(operation, x.ty, x.value, y.value, pieces)
 }
 
 /// `arith.addi` and its like, of two operands of a type.
@@ -37,7 +92,7 @@ pub fn pair_result(
     if x.ty != y.ty {
         return Ok(None);
     }
-    let Some(value) = pair_value(operation, x.ty, x.value, y.value, pieces)? else {
+    let Some(value) = operands_value(operation, x, y, pieces)? else {
         return Ok(None);
     };
     let operand = strict(value, x.ty, &x.poison, &y.poison, pieces)?;
@@ -89,6 +144,7 @@ fn select_made(
         value,
         poison,
         ty: x.ty,
+        written: None,
     })
 }
 
@@ -126,5 +182,6 @@ pub fn resize_result(
         value,
         poison: x.poison,
         ty,
+        written: None,
     }))
 }

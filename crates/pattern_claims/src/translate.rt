@@ -38,6 +38,7 @@ fn literal_result(
         value,
         poison: Poison::Never,
         ty,
+        written: Some(*literal),
     })
 }
 

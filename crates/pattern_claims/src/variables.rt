@@ -41,7 +41,12 @@ fn with_variable(
     ensures { IfOk result (IsVariable (with_variable (state pieces.old.items operands.old.items []) i poison ty) pieces.new.items operands.new.items) }
 {
     let value = put(pieces, ty, Form::Value(i))?;
-    operands.push(Operand { value, poison, ty })?;
+    operands.push(Operand {
+        value,
+        poison,
+        ty,
+        written: None,
+    })?;
     Ok(())
 }
 
