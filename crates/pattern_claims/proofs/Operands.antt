@@ -251,9 +251,9 @@ module _ (W : ℕ) (vs : List ℕ) (js : List BitsKind) (first : kind_at js 0 �
               let a = put_select W vs widths ps base x.value y.value x.ty s.number u.number s.number_is (of_type e) c.value c.ty k.number k.number_is in
               let b = base_on W vs widths ps m.0 base a.grown in
               let chosen = chosen_is W vs widths m.0 b c.value c.ty k.number (a.grown.kept c.value c.ty k.number k.number_is) x.poison y.poison s.poisoned u.poisoned
-                (poison_kept W vs widths ps m.0 x.poison s.poisoned a.grown s.poison_is) (poison_kept W vs widths ps m.0 y.poison u.poisoned a.grown u.poison_is) in
+              (poison_kept W vs widths ps m.0 x.poison s.poisoned a.grown s.poison_is) (poison_kept W vs widths ps m.0 y.poison u.poisoned a.grown u.poison_is) in
               let flags = also_is W vs widths c.poison m.0 (chosen_poison c.value x.poison y.poison m.0) k.poisoned (choice_of k.number s.poisoned u.poisoned) b
-                (poison_kept W vs widths ps m.0 c.poison k.poisoned a.grown k.poison_is) chosen in
+              (poison_kept W vs widths ps m.0 c.poison k.poisoned a.grown k.poison_is) chosen in
               let condition : d ≡ outcome_by (kind.Int 1) k.number k.poisoned = k.is ∙ ap (λ t. outcome_by (kind_at js t) k.number k.poisoned) (eqb-true c.ty 0 z) ∙ ap (λ i. outcome_by i k.number k.poisoned) first in
               gives_flagged ps (select_outcome d p q) m (select_poison c x y m.0) x.ty (choice_of k.number s.number u.number) (k.poisoned || choice_of k.number s.poisoned u.poisoned) a flags
               ((λ r. select_outcome (condition r) (s.is r) (same_kind_of e r)) ∙ select_of (kind_at js x.ty) k.number s.number u.number k.poisoned s.poisoned u.poisoned)

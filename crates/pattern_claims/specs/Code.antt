@@ -7,7 +7,6 @@ use Rattle.width_claims.specs.declared.width.Width.{Width}
 use Rattle.pattern_claims.specs.declared.operand.Operand.{Operand}
 use Rattle.pattern_claims.specs.declared.operand.Poison.{Poison}
 use Rattle.pattern_claims.specs.declared.refining.Equation.{Equation}
-
 use Rattle.pattern_claims.specs.Translation.{Flagged, Made, Result, Sides, State, narrower_types, types_from}
 
 -- the pieces and the place that are made

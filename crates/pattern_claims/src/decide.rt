@@ -102,11 +102,7 @@ fn decide_sets(alloc: Global, question: &Question, count: usize) -> Result<Decis
 
 /// Whether a pattern holds at every width, for all outcomes of its variables. At most this many states of a claim are
 /// looked at.
-pub fn decide_pattern(
-    alloc: Global,
-    pattern: &Pattern,
-    most: usize,
-) -> Result<Decision, AllocError>
+pub fn decide_pattern(alloc: Global, pattern: &Pattern, most: usize) -> Result<Decision, AllocError>
     ensures { IfOk result (IsPatternDecided (shape pattern.now)) }
 {
     if pattern.values.len() > MOST_VARIABLES || pattern.kinds.len() > MOST_VARIABLES {

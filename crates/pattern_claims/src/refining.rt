@@ -44,7 +44,11 @@ fn refined(x: &Operand, y: &Operand, pieces: &mut Vec<Piece>) -> Result<usize, A
 }
 
 /// The sides of a claim whose old value isn't poison.
-fn known_sides(x: &Operand, y: &Operand, pieces: &mut Vec<Piece>) -> Result<Option<Equation>, AllocError>
+fn known_sides(
+    x: &Operand,
+    y: &Operand,
+    pieces: &mut Vec<Piece>,
+) -> Result<Option<Equation>, AllocError>
     ensures { IfOk result (AreSidesIf (sides_by Never y.now.poison x.now y.now pieces.old.items) pieces.new.items) }
 {
     if let Poison::Never = y.poison {
@@ -58,7 +62,11 @@ fn known_sides(x: &Operand, y: &Operand, pieces: &mut Vec<Piece>) -> Result<Opti
 }
 
 /// The sides of the claim that a new value refines an old one, if there is anything to claim.
-pub fn sides(x: &Operand, y: &Operand, pieces: &mut Vec<Piece>) -> Result<Option<Equation>, AllocError>
+pub fn sides(
+    x: &Operand,
+    y: &Operand,
+    pieces: &mut Vec<Piece>,
+) -> Result<Option<Equation>, AllocError>
     ensures { IfOk result (AreSidesIf (sides x.now y.now pieces.old.items) pieces.new.items) }
 {
     match x.poison {

@@ -75,9 +75,7 @@ pub fn all_further(
         return Ok(true);
     };
     let instruction = further_instruction(first);
-    let done = translate(
-        &instruction, kinds, narrower, pieces, operands, conditions,
-    )?;
+    let done = translate(&instruction, kinds, narrower, pieces, operands, conditions)?;
     if !done {
         return Ok(false);
     }
@@ -99,9 +97,7 @@ pub fn all_numbers(
         return Ok(true);
     };
     let instruction = number_instruction(first);
-    let done = translate(
-        &instruction, kinds, narrower, pieces, operands, conditions,
-    )?;
+    let done = translate(&instruction, kinds, narrower, pieces, operands, conditions)?;
     if !done {
         return Ok(false);
     }
@@ -123,9 +119,7 @@ pub fn all_old(
         return Ok(true);
     };
     let instruction = piece_instruction(first);
-    let done = translate(
-        &instruction, kinds, narrower, pieces, operands, conditions,
-    )?;
+    let done = translate(&instruction, kinds, narrower, pieces, operands, conditions)?;
     if !done {
         return Ok(false);
     }
@@ -147,9 +141,7 @@ pub fn all_new(
         return Ok(true);
     };
     let instruction = new_instruction(first);
-    let done = translate(
-        &instruction, kinds, narrower, pieces, operands, conditions,
-    )?;
+    let done = translate(&instruction, kinds, narrower, pieces, operands, conditions)?;
     if !done {
         return Ok(false);
     }
