@@ -1,5 +1,5 @@
 -- What code answers of goals.
-use Rattle.std.proofs.Common.{◌≡◌, ◌∙◌, ℕ, ◌<◌, ◌==◌, ◌⊎◌, inl, inr, ⊎_elim, List, length, Bool, true, false, true≢false, if◌then◌else◌, Option, Some, None, refl, sym, ap, subst, arith}
+use Rattle.std.proofs.Common.{◌≡◌, ◌∙◌, ℕ, ◌<◌, ◌==◌, List, length, true, if◌then◌else◌, Option, Some, None, sym, ap, subst}
 use Rattle.std.specs.Prelude.{Result}
 use Rattle.std.specs.Result.{IfOk}
 use Rattle.std.proofs.lemmas.Result.{IfOk-weaker}

@@ -1,9 +1,8 @@
 -- What two claimed values say of the outcomes of both sides.
-use Rattle.std.proofs.Common.{◌≡◌, ◌∙◌, ℕ, ◌<◌, ◌==◌, List, length, map, Bool, true, false, true≢false, ◌||◌, ◌&&◌, not, bit_and, bit_or, bit_xor, if◌then◌else◌, Option, Some, None, refl, sym, ap, subst, arith, eq-eqb}
+use Rattle.std.proofs.Common.{◌≡◌, ◌∙◌, ℕ, ◌<◌, ◌==◌, List, length, Bool, true, false, ◌||◌, ◌&&◌, not, bit_and, bit_or, bit_xor, Option, Some, None, refl, sym, ap, subst, arith, eq-eqb}
 use Rattle.std.proofs.lemmas.Bool.{eqb-true}
 use Rattle.ir_types.specs.declared.bits.BitsKind.{BitsKind}
 use Rattle.ir_types.specs.declared.bits.BitsKind.TheVariants as kind
-use Rattle.ir_types.specs.Bits.{width_of}
 use Rattle.dialects_int.specs.Arithmetic.{truth}
 use Rattle.dialects_int.proofs.KnownOperands.{same_itself}
 use Rattle.patterns_check.specs.Checks.{refines}
@@ -16,9 +15,9 @@ use Rattle.pattern_claims.specs.declared.operand.Operand.{Operand}
 use Rattle.pattern_claims.specs.declared.operand.Poison.{Poison}
 use Rattle.pattern_claims.specs.declared.operand.Poison.TheVariants as poison
 use Rattle.pattern_claims.specs.Translation.{Made, Sides, both_true, is_one, known_and, poison_or, put, refined, sides, sides_by}
-use Rattle.pattern_claims.proofs.Pieces.{Base, Grown, Is, Makes, base_on, grown_next, makes_next, makes_same, same, values}
+use Rattle.pattern_claims.proofs.Pieces.{Base, Grown, Is, Makes, base_on, makes_next, makes_same, same, values}
 use Rattle.pattern_claims.proofs.Forms.{not_truth, put_and, put_or, put_same, put_xor}
-use Rattle.pattern_claims.proofs.Flags.{PoisonIs, or_truth, poison_kept}
+use Rattle.pattern_claims.proofs.Flags.{PoisonIs, or_truth}
 use Rattle.pattern_claims.proofs.Operands.{Stands, outcome_by, widths}
 
 -- the old outcome is poison, or the new one is known and the same number

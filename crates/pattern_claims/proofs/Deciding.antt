@@ -1,13 +1,12 @@
 -- Claims that are true decide a pattern.
-use Rattle.std.proofs.Common.{◌≡◌, ◌∙◌, ℕ, zero, suc, ◌+◌, ◌^◌, ◌<◌, ◌≤◌, ◌==◌, List, [], ◌∷◌, ◌++◌, length, map, Bool, true, false, true≢false, ◌||◌, ◌&&◌, if◌then◌else◌, Option, Some, None, slice_get, nat_lt, refl, sym, ap, subst, arith, eqb}
+use Rattle.std.proofs.Common.{◌≡◌, ◌∙◌, ℕ, ◌+◌, ◌^◌, ◌<◌, ◌≤◌, ◌==◌, List, [], ◌∷◌, ◌++◌, length, map, Bool, true, false, true≢false, ◌||◌, if◌then◌else◌, Option, Some, None, slice_get, nat_lt, refl, sym, ap, subst, arith, eqb}
 use Rattle.std.specs.List.{list_all, list_any}
 use Rattle.std.proofs.Math.Path.{ap₂}
 use Rattle.std.proofs.lemmas.Bool.{and_from, and_parts}
 use Rattle.std.proofs.lemmas.List.{append_assoc, append-nil, length-map, map-append}
 use Rattle.std.proofs.lemmas.Bool.Decides.{nat_tests}
-use Rattle.std.proofs.lemmas.Option.{none-some}
 use Rattle.ir_types.specs.declared.bits.BitsKind.{BitsKind}
-use Rattle.ir_types.specs.Bits.{bits_of, is_bits, width_of}
+use Rattle.ir_types.specs.Bits.{is_bits, width_of}
 use Rattle.ir_types.specs.Reasons.{is_width}
 use Rattle.dialects_int.specs.Folds.{Known}
 use Rattle.ir_types.specs.Limits.{most_width}
@@ -26,20 +25,17 @@ use Rattle.patterns_book.specs.declared.pattern.New.{New}
 use Rattle.patterns_book.specs.declared.pattern.New.TheVariants as new
 use Rattle.patterns_book.specs.Fitting.{content_with, fits, form_step, further_fits, further_step, is_asked, kind_at, new_step, number_fits, number_step, piece_step}
 use Rattle.patterns_book.specs.Shapes.{Shape}
-use Rattle.width_claims.specs.declared.form.Piece.{Piece}
 use Rattle.width_claims.specs.declared.width.Narrower.{Narrower}
-use Rattle.width_claims.specs.Emission.{Claim}
 use Rattle.width_claims.specs.Right.{AreNarrower, FitWidths}
 use Rattle.pattern_claims.specs.declared.instruction.Instruction.{Instruction}
 use Rattle.pattern_claims.specs.declared.operand.Operand.{Operand}
-use Rattle.pattern_claims.specs.Outcomes.{AreKindsOf, AreOutcomes, HoldsAtAllWidths, IsNumberIf, OutcomesDecide, are_kinds, keeps_outcomes}
+use Rattle.pattern_claims.specs.Outcomes.{AreKindsOf, AreOutcomes, IsNumberIf, OutcomesDecide, are_kinds, keeps_outcomes}
 use Rattle.pattern_claims.specs.Settled.{AreClaimsTrue, ClaimsDecide, IsReached}
-use Rattle.pattern_claims.specs.Translation.{Goal, Sides, State, all_translated, claim_from, claim_types, first_state, form_instruction, further_instruction, given_instructions, goal_from, goal_of, narrower_types, new_instruction, new_instructions, number_instruction, old_instructions, piece_instruction, set_count, sides, variables}
-use Rattle.pattern_claims.proofs.Pieces.{Grown, many}
+use Rattle.pattern_claims.specs.Translation.{Goal, Sides, State, all_translated, claim_from, claim_types, first_state, form_instruction, further_instruction, given_instructions, goal_from, goal_of, narrower_types, new_instruction, new_instructions, number_instruction, old_instructions, piece_instruction, sides, variables}
+use Rattle.pattern_claims.proofs.Pieces.{many}
 use Rattle.pattern_claims.proofs.Operands.{Stands, stands_still}
 use Rattle.pattern_claims.proofs.Typing.{claim_kinds}
-use Rattle.pattern_claims.proofs.Instructions.{AllGo, Found, Holds, Reached, all_go, found, instruction_fits, instruction_step, is_require, ones_still}
-use Rattle.pattern_claims.proofs.BothSides as refining
+use Rattle.pattern_claims.proofs.Instructions.{AllGo, Holds, Reached, all_go, found, instruction_fits, instruction_step, is_require, ones_still}
 use Rattle.pattern_claims.proofs.BothSides.{ClaimsSome, sides_claim}
 use Rattle.pattern_claims.proofs.VariableOutcomes.{are_narrower, conditions_hold, VariablesHold, first_holds, fit, masks_of, number_of, set_low, set_of, variables_hold}
 

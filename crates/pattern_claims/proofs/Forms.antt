@@ -1,5 +1,5 @@
 -- What pieces of each form make.
-use Rattle.std.proofs.Common.{◌≡◌, ◌∙◌, ℕ, ◌+◌, ◌<◌, ◌%◌, ◌^◌, ◌==◌, List, [], ◌∷◌, Bool, true, false, not, nat_lt, nat_le, bit_and, bit_or, bit_xor, if◌then◌else◌, ℤ, refl, sym, ap, arith, Option, Some, None, true≢false}
+use Rattle.std.proofs.Common.{◌≡◌, ℕ, ◌<◌, ◌%◌, ◌^◌, ◌==◌, List, Bool, true, false, not, nat_lt, nat_le, bit_and, bit_or, bit_xor, if◌then◌else◌, ℤ, refl, ap, arith, Option, Some, None}
 use Rattle.std.specs.Prelude.{int_lt, int_le}
 use Rattle.std.proofs.lemmas.Bool.Decides.{nat_tests}
 use Rattle.std.proofs.lemmas.Int.{ints}

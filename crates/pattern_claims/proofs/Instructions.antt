@@ -1,11 +1,10 @@
 -- Translated instructions compute what the steps of a pattern compute.
-use Rattle.std.proofs.Common.{◌≡◌, ◌∙◌, ℕ, zero, suc, ◌^◌, ◌<◌, ◌≤◌, ◌==◌, List, [], ◌∷◌, ◌++◌, map, Bool, true, false, true≢false, ◌||◌, ◌&&◌, nat_lt, if◌then◌else◌, Option, Some, None, slice_get, refl, sym, ap, subst, arith}
+use Rattle.std.proofs.Common.{◌≡◌, ◌∙◌, ℕ, zero, suc, ◌^◌, ◌<◌, ◌≤◌, ◌==◌, List, [], ◌∷◌, ◌++◌, map, Bool, true, false, ◌||◌, nat_lt, if◌then◌else◌, Option, Some, None, slice_get, refl, sym, ap, subst, arith}
 use Rattle.std.specs.List.{list_all, list_any}
 use Rattle.std.proofs.lemmas.Bool.{and_parts, or_left}
 use Rattle.std.proofs.lemmas.Bool.Decides.{nat_tests}
 use Rattle.std.proofs.lemmas.Option.{none-some, same_Some}
 use Rattle.ir_types.specs.declared.bits.BitsKind.{BitsKind}
-use Rattle.ir_types.specs.declared.bits.BitsKind.TheVariants as kind
 use Rattle.ir_types.specs.Bits.{width_of}
 use Rattle.ir_types.specs.Limits.{most_width}
 use Rattle.ir_types.specs.Readings.{literal_number, wrapped}
@@ -19,24 +18,23 @@ use Rattle.patterns_check.specs.Outcomes.{Outcome, compare_outcome, given, pair_
 use Rattle.patterns_book.specs.declared.pattern.Kind.{Kind}
 use Rattle.patterns_book.specs.declared.pattern.Literal.{Literal}
 use Rattle.patterns_book.specs.Fitting.{again_step, is_literal_of, kind_at, width_step, written_step}
-use Rattle.width_claims.specs.declared.form.Form.{Form}
 use Rattle.width_claims.specs.declared.form.Form.TheVariants as form
 use Rattle.width_claims.specs.declared.form.Piece.{Piece}
 use Rattle.width_claims.specs.declared.width.Narrower.{Narrower}
 use Rattle.width_claims.specs.PieceValues.{at, piece_value}
-use Rattle.width_claims.specs.Right.{AreNarrower, IsBelow, IsRight}
+use Rattle.width_claims.specs.Right.{AreNarrower, IsRight}
 use Rattle.pattern_claims.specs.declared.instruction.Instruction.{Instruction}
 use Rattle.pattern_claims.specs.declared.instruction.Instruction.TheVariants as instruction
 use Rattle.pattern_claims.specs.declared.operand.Operand.{Operand}
 use Rattle.pattern_claims.specs.declared.operand.Poison.{Poison}
 use Rattle.pattern_claims.specs.declared.operand.Poison.TheVariants as poison
 use Rattle.pattern_claims.specs.Outcomes.{AreKindsOf, are_kinds}
-use Rattle.pattern_claims.specs.Translation.{Made, Result, State, all_translated, compare_result, literal_form, literal_result, pair_result, put, required, resize_result, result_of, select_result, translated, type_at, with_condition, with_result, with_some}
-use Rattle.pattern_claims.proofs.Pieces.{Base, Grown, Is, Makes, base_on, grown_next, made, makes_same, piece_types, same, values}
+use Rattle.pattern_claims.specs.Translation.{Result, State, all_translated, compare_result, literal_form, literal_result, pair_result, put, required, resize_result, result_of, select_result, translated, type_at, with_condition, with_result, with_some}
+use Rattle.pattern_claims.proofs.Pieces.{Base, Grown, Is, base_on, grown_next, made, makes_same, piece_types, same, values}
 use Rattle.pattern_claims.proofs.Forms.{put_less}
 use Rattle.pattern_claims.proofs.Flags.{PoisonIs}
-use Rattle.pattern_claims.proofs.Operands.{Gives, GivesSome, Stands, again, compare_gives, outcome_by, pair_gives, resize_gives, select_gives, stands_still, width_is, widths}
-use Rattle.pattern_claims.proofs.Typing.{LiteralIs, TypeIs, claim_kinds, literal_is, type_is}
+use Rattle.pattern_claims.proofs.Operands.{Gives, GivesSome, Stands, again, compare_gives, outcome_by, pair_gives, resize_gives, select_gives, stands_still, width_is}
+use Rattle.pattern_claims.proofs.Typing.{TypeIs, claim_kinds, literal_is, type_is}
 
 -- the step of an instruction
 abbrev pub instruction_step : List BitsKind → Instruction → Step

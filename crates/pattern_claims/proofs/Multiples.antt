@@ -1,5 +1,5 @@
 -- Products of a value and a literal, and the operations by 0 and 1 that change nothing.
-use Rattle.std.proofs.Common.{◌≡◌, ◌∙◌, ℕ, zero, suc, ◌+◌, ◌-◌, ◌*◌, ◌/◌, ◌%◌, ◌^◌, ◌<◌, ◌≤◌, ◌==◌, List, [], ◌∷◌, Bool, true, false, true≢false, not, ◌&&◌, nat_lt, if◌then◌else◌, Option, Some, None, ◌⊎◌, inl, inr, ⊎_elim, pos, ◌-ℤ◌, refl, sym, ap, subst, arith}
+use Rattle.std.proofs.Common.{◌≡◌, ◌∙◌, ℕ, zero, suc, ◌+◌, ◌-◌, ◌*◌, ◌/◌, ◌%◌, ◌^◌, ◌<◌, ◌≤◌, ◌==◌, List, Bool, true, false, true≢false, not, nat_lt, if◌then◌else◌, Option, Some, None, ◌⊎◌, inl, inr, ⊎_elim, refl, sym, ap, subst, arith}
 use Rattle.std.proofs.lemmas.Bool.{and_parts, cases_lt, eqb-true}
 use Rattle.std.proofs.lemmas.Bool.Decides.{nat_tests}
 use Rattle.std.proofs.lemmas.Nat.{mod_below, mul-mod, pow_pos, div-add-mod'}
@@ -17,8 +17,8 @@ use Rattle.width_claims.specs.declared.form.Form.TheVariants as form
 use Rattle.width_claims.specs.declared.form.Piece.{Piece}
 use Rattle.width_claims.specs.PieceValues.{at}
 use Rattle.width_claims.specs.Right.{IsBelow}
-use Rattle.pattern_claims.specs.Translation.{Made, is_number, literal_times, multiple, negative_of, one_more, opposite, put, times, twice, with_literal}
-use Rattle.pattern_claims.proofs.Pieces.{Base, Grown, Is, Makes, base_on, made, makes_next, makes_same, same}
+use Rattle.pattern_claims.specs.Translation.{Made, is_number, literal_times, multiple, one_more, opposite, put, times, twice, with_literal}
+use Rattle.pattern_claims.proofs.Pieces.{Base, Is, Makes, base_on, makes_next, makes_same, same}
 use Rattle.pattern_claims.proofs.Forms.{put_add, put_cut, put_number, put_subtract}
 
 -- ---- numbers modulo M

@@ -1,6 +1,5 @@
 -- Operands that stand for outcomes, and what operations make of them.
-use Rattle.std.proofs.Common.{◌≡◌, ◌∙◌, ℕ, zero, suc, ◌+◌, ◌%◌, ◌^◌, ◌<◌, ◌≤◌, ◌==◌, List, [], ◌∷◌, map, Bool, true, false, true≢false, ◌||◌, ◌&&◌, not, nat_lt, if◌then◌else◌, Option, Some, None, ◌⊎◌, inl, inr, bit_and, refl, sym, ap, subst, arith}
-use Rattle.std.specs.List.{list_any}
+use Rattle.std.proofs.Common.{◌≡◌, ◌∙◌, ℕ, zero, suc, ◌%◌, ◌^◌, ◌<◌, ◌==◌, List, [], ◌∷◌, map, Bool, true, false, true≢false, ◌||◌, ◌&&◌, not, nat_lt, if◌then◌else◌, Option, Some, None, ◌⊎◌, inl, inr, bit_and, refl, sym, ap, subst, arith}
 use Rattle.std.specs.Int.Bits.{and_self}
 use Rattle.std.proofs.lemmas.Bool.{and_parts, eqb-true}
 use Rattle.std.proofs.lemmas.Bool.Decides.{nat_tests}
@@ -14,9 +13,8 @@ use Rattle.dialects_int.specs.declared.operations.Predicate.{Predicate}
 use Rattle.dialects_int.specs.declared.operations.Cast.{Cast}
 use Rattle.dialects_int.specs.declared.operations.Cast.TheVariants as cast
 use Rattle.dialects_int.specs.Arithmetic.{cast_of, choice_of, comparison_of, sign_extended, truncated, truth, value_of, zero_extended}
-use Rattle.dialects_int.specs.Folds.{same_kind}
 use Rattle.dialects_int.proofs.KnownOperands.{same_itself}
-use Rattle.patterns_check.specs.Outcomes.{Outcome, compare_outcome, divides, given, is_some_number, judged, no_value, pair_outcome, resize_any, resize_outcome, select_outcome}
+use Rattle.patterns_check.specs.Outcomes.{Outcome, compare_outcome, divides, given, is_some_number, judged, pair_outcome, resize_any, resize_outcome, select_outcome}
 use Rattle.ir_types.specs.Readings.{literal_number, wrapped}
 use Rattle.patterns_book.specs.declared.pattern.Literal.{Literal}
 use Rattle.patterns_book.specs.Fitting.{kind_at}
@@ -27,10 +25,10 @@ use Rattle.width_claims.specs.PieceValues.{at}
 use Rattle.width_claims.specs.Right.{AreNarrower, IsBelow}
 use Rattle.pattern_claims.specs.declared.operand.Poison.{Poison}
 use Rattle.pattern_claims.specs.declared.operand.Operand.{Operand}
-use Rattle.pattern_claims.specs.Translation.{Flagged, Made, Result, cast_value, chosen_poison, compare_result, compare_value, either, first_there, is_narrower, left_literal, literal_times, operand, operands_value, pair_result, pair_value, put, resize_result, result, right_literal, select_made, select_poison, select_result, strict, with_literal}
+use Rattle.pattern_claims.specs.Translation.{Flagged, Made, Result, cast_value, chosen_poison, compare_result, compare_value, either, first_there, is_narrower, left_literal, literal_times, operands_value, pair_result, pair_value, put, resize_result, result, right_literal, select_made, select_poison, select_result, strict, with_literal}
 use Rattle.pattern_claims.proofs.Pieces.{Base, Grown, Is, Makes, base_on, same, grown_next}
-use Rattle.pattern_claims.proofs.Forms.{IsPair, PairMakes, compare_makes, pair_makes, put_cut, put_resize, put_select}
-use Rattle.pattern_claims.proofs.Multiples.{IsLiteral, IsTurned, LiteralMakes, TurnedMakes, times_value, with_makes}
+use Rattle.pattern_claims.proofs.Forms.{PairMakes, compare_makes, pair_makes, put_cut, put_resize, put_select}
+use Rattle.pattern_claims.proofs.Multiples.{LiteralMakes, TurnedMakes, times_value, with_makes}
 use Rattle.pattern_claims.proofs.Flags.{Flags, PoisonIs, also_is, chosen_is, either_is, or_false, poison_kept}
 
 -- poison, or a number of a kind

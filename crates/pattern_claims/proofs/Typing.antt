@@ -1,7 +1,6 @@
 -- Types of a pattern as types of a claim, and literals that fit them.
-use Rattle.std.proofs.Common.{◌≡◌, ◌∙◌, ℕ, zero, suc, ◌+◌, ◌-◌, ◌^◌, ◌<◌, ◌≤◌, ◌==◌, List, [], ◌∷◌, map, Bool, true, false, true≢false, ◌&&◌, nat_lt, nat_le, if◌then◌else◌, Option, Some, None, slice_get, refl, sym, ap, subst, arith}
+use Rattle.std.proofs.Common.{◌≡◌, ◌∙◌, ℕ, zero, suc, ◌+◌, ◌-◌, ◌^◌, ◌<◌, ◌≤◌, List, [], ◌∷◌, map, Bool, true, false, true≢false, ◌&&◌, nat_lt, nat_le, if◌then◌else◌, Option, Some, None, slice_get, refl, sym, ap, subst, arith}
 use Rattle.std.specs.Prelude.{is_some}
-use Rattle.std.specs.List.{list_all}
 use Rattle.std.proofs.lemmas.Bool.{and_parts, eqb-true}
 use Rattle.std.proofs.lemmas.Bool.Decides.{nat_tests}
 use Rattle.std.proofs.lemmas.Option.{none-some, same_Some}
@@ -13,7 +12,7 @@ use Rattle.ir_types.specs.Limits.{index_width, most_width}
 use Rattle.ir_types.specs.Readings.{literal_bits, literal_number, wrapped}
 use Rattle.ir_types.specs.Reasons.{is_width}
 use Rattle.ir_types.proofs.ReadingLaws.{bits_below}
-use Rattle.patterns_check.specs.Outcomes.{Outcome, constant_outcome, given}
+use Rattle.patterns_check.specs.Outcomes.{constant_outcome, given}
 use Rattle.patterns_book.specs.declared.pattern.Kind.{Kind}
 use Rattle.patterns_book.specs.declared.pattern.Kind.TheVariants as ty
 use Rattle.patterns_book.specs.declared.pattern.Literal.{Literal}
@@ -21,7 +20,7 @@ use Rattle.patterns_book.specs.Fitting.{bits_with, is_literal_of, kind_at, or_ze
 use Rattle.width_claims.specs.PieceValues.{at}
 use Rattle.width_claims.specs.Right.{IsBelow}
 use Rattle.pattern_claims.specs.Outcomes.{AreKindsOf, are_kinds}
-use Rattle.pattern_claims.specs.Translation.{is_one_bit, is_repeated, is_truth, type_at, type_if, type_number}
+use Rattle.pattern_claims.specs.Translation.{is_one_bit, is_repeated, type_at, type_if, type_number}
 use Rattle.pattern_claims.proofs.Operands.{width_is}
 
 pub width_low : (W w : ℕ) → most_width ≤ W → is_width w ≡ true → IsBelow W w

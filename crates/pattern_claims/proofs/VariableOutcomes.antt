@@ -1,14 +1,13 @@
 -- Variables and their outcomes; the widths of a claim's types.
-use Rattle.std.proofs.Common.{◌≡◌, ◌∙◌, ℕ, zero, suc, ◌+◌, ◌-◌, ◌*◌, ◌/◌, ◌%◌, ◌^◌, ◌<◌, ◌≤◌, ◌==◌, List, [], ◌∷◌, ◌++◌, length, length-append, map, Bool, true, false, true≢false, ◌&&◌, nat_lt, if◌then◌else◌, Option, Some, None, refl, sym, ap, subst, arith, eqb}
+use Rattle.std.proofs.Common.{◌≡◌, ◌∙◌, ℕ, ◌+◌, ◌-◌, ◌*◌, ◌/◌, ◌%◌, ◌^◌, ◌<◌, ◌≤◌, List, [], ◌∷◌, ◌++◌, length, length-append, map, Bool, true, false, true≢false, ◌&&◌, nat_lt, if◌then◌else◌, Option, Some, None, refl, sym, ap, subst, arith}
 use Rattle.std.specs.Prelude.{is_none}
-use Rattle.std.specs.List.{list_all, list_any}
+use Rattle.std.specs.List.{list_all}
 use Rattle.std.proofs.lemmas.Bool.{and_parts}
 use Rattle.std.proofs.lemmas.Bool.Decides.{nat_tests}
 use Rattle.std.proofs.lemmas.List.{append_assoc, append-nil, length-map, map-append}
 use Rattle.std.proofs.Math.Nat.{mod-eq_of_lt}
 use Rattle.std.proofs.Math.Seq.{get_or-append_seam}
 use Rattle.ir_types.specs.declared.bits.BitsKind.{BitsKind}
-use Rattle.ir_types.specs.declared.bits.BitsKind.TheVariants as kind
 use Rattle.ir_types.specs.Bits.{width_of}
 use Rattle.ir_types.specs.Limits.{most_width}
 use Rattle.ir_types.specs.Readings.{wrapped}
@@ -32,11 +31,11 @@ use Rattle.pattern_claims.specs.declared.operand.Poison.{Poison}
 use Rattle.pattern_claims.specs.declared.operand.Poison.TheVariants as poison
 use Rattle.pattern_claims.specs.Outcomes.{AreKindsOf, AreOutcomes, IsNumberIf, IsOutcome, are_kinds}
 use Rattle.pattern_claims.specs.Translation.{State, bit_flag, claim_types, first_state, is_constant, narrower_types, put, set_count, is_repeated, type_at, types_from, variable_result, variables, width_if, with_narrower, with_variable}
-use Rattle.pattern_claims.proofs.Pieces.{Base, Grown, Is, made, many, same, values}
+use Rattle.pattern_claims.proofs.Pieces.{made, many, values}
 use Rattle.pattern_claims.proofs.Flags.{PoisonIs}
-use Rattle.pattern_claims.proofs.Operands.{Stands, outcome_by, width_is}
+use Rattle.pattern_claims.proofs.Operands.{outcome_by, width_is}
 use Rattle.pattern_claims.proofs.Typing.{TypeIs, claim_kinds, kind_if, kinds_from, type_is, width_low}
-use Rattle.pattern_claims.proofs.Instructions.{AllOnes, Holds, Reached, reached}
+use Rattle.pattern_claims.proofs.Instructions.{AllOnes, Holds, reached}
 
 -- ---- widths
 

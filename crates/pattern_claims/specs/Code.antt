@@ -1,13 +1,12 @@
 -- What code makes of a pattern.
-use Rattle.std.specs.Prelude.{◌≡◌, ℕ, List, ◌++◌, map, Bool, true, false, Option, Some, None}
+use Rattle.std.specs.Prelude.{◌≡◌, ℕ, List, ◌++◌, Bool, true, false, Option, Some, None}
 use Rattle.patterns_book.specs.declared.pattern.Kind.{Kind}
 use Rattle.width_claims.specs.declared.form.Piece.{Piece}
-use Rattle.width_claims.specs.declared.width.Narrower.{Narrower}
 use Rattle.width_claims.specs.declared.width.Width.{Width}
 use Rattle.pattern_claims.specs.declared.operand.Operand.{Operand}
 use Rattle.pattern_claims.specs.declared.operand.Poison.{Poison}
 use Rattle.pattern_claims.specs.declared.refining.Equation.{Equation}
-use Rattle.pattern_claims.specs.Translation.{Flagged, Made, Result, Sides, State, narrower_types, types_from}
+use Rattle.pattern_claims.specs.Translation.{Flagged, Made, Result, Sides, State, types_from}
 
 -- the pieces and the place that are made
 abbrev pub IsMade : Made → List Piece → ℕ → Type 0

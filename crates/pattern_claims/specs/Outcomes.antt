@@ -1,12 +1,12 @@
 -- What it means that a pattern is right at every width. An outcome of a variable is poison or a number of its kind; that
 -- of a constant is a number. If the old steps are defined, the new ones are defined, and if the old result is a number,
 -- the new result is that number.
-use Rattle.std.specs.Prelude.{◌≡◌, ◌^◌, ◌<◌, ◌+◌, ℕ, List, [], ◌∷◌, Bool, true, false, Option, Some, None, eqb, if◌then◌else◌}
+use Rattle.std.specs.Prelude.{◌≡◌, ◌^◌, ◌<◌, ◌+◌, ℕ, List, [], ◌∷◌, Bool, true, Option, Some, None, eqb, if◌then◌else◌}
 use Rattle.std.specs.List.{list_all, list_any}
 use Rattle.ir_types.specs.declared.bits.BitsKind.{BitsKind}
 use Rattle.ir_types.specs.Bits.{width_of}
 use Rattle.ir_types.specs.Reasons.{is_width}
-use Rattle.patterns_check.specs.Checks.{AlwaysKeeps, bound, counts, keeps, old_ran}
+use Rattle.patterns_check.specs.Checks.{AlwaysKeeps, old_ran}
 use Rattle.patterns_check.specs.Contents.{Content}
 use Rattle.patterns_check.specs.Outcomes.{Outcome, given, run}
 use Rattle.patterns_book.specs.declared.pattern.Kind.{Kind}

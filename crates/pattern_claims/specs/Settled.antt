@@ -1,6 +1,5 @@
 -- What claims decide.
-use Rattle.std.specs.Prelude.{◌≡◌, ◌<◌, ℕ, Option, Some, None, Vec}
-use Rattle.std.specs.declared.alloc.Global.{Global}
+use Rattle.std.specs.Prelude.{◌<◌, ℕ, Option, Some, None}
 use Rattle.bit_automata.specs.declared.verdict.Verdict.{Verdict}
 use Rattle.bit_automata.specs.declared.verdict.Verdict.TheVariants as verdict
 use Rattle.width_claims.specs.Claimed.{IsEqualDecided}
