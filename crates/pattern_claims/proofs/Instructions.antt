@@ -8,6 +8,7 @@ use Rattle.ir_types.specs.declared.bits.BitsKind.{BitsKind}
 use Rattle.ir_types.specs.Bits.{width_of}
 use Rattle.ir_types.specs.Limits.{most_width}
 use Rattle.ir_types.specs.Readings.{literal_number, wrapped}
+use Rattle.ir_types.proofs.Widths.{literal_low}
 use Rattle.ir_types.specs.Reasons.{is_width}
 use Rattle.dialects_int.specs.declared.operations.Arithmetic.TheVariants as op
 use Rattle.dialects_int.specs.Arithmetic.{truth}
@@ -29,12 +30,12 @@ use Rattle.pattern_claims.specs.declared.operand.Operand.{Operand}
 use Rattle.pattern_claims.specs.declared.operand.Poison.{Poison}
 use Rattle.pattern_claims.specs.declared.operand.Poison.TheVariants as poison
 use Rattle.pattern_claims.specs.Outcomes.{AreKindsOf, are_kinds}
-use Rattle.pattern_claims.specs.Translation.{Result, State, all_translated, compare_result, literal_form, literal_result, pair_result, put, required, resize_result, result_of, select_result, translated, type_at, with_condition, with_result, with_some}
+use Rattle.pattern_claims.specs.Translation.{Result, State, all_translated, compare_result, literal_form, literal_result, number_state, pair_result, power_there, put, required, resize_result, result_of, select_result, top_power, translated, type_at, with_condition, with_fitting, with_number, with_result, with_some}
 use Rattle.pattern_claims.proofs.Pieces.{Base, Grown, Is, base_on, grown_next, made, makes_same, piece_types, same, values}
-use Rattle.pattern_claims.proofs.Forms.{put_less}
+use Rattle.pattern_claims.proofs.Forms.{put_less, put_number}
 use Rattle.pattern_claims.proofs.Flags.{PoisonIs}
 use Rattle.pattern_claims.proofs.Operands.{Gives, GivesSome, Stands, again, compare_gives, outcome_by, pair_gives, resize_gives, select_gives, stands_still, width_is}
-use Rattle.pattern_claims.proofs.Typing.{TypeIs, claim_kinds, literal_is, type_is}
+use Rattle.pattern_claims.proofs.Typing.{top_low, top_some, TypeIs, claim_kinds, literal_is, type_is}
 
 -- the step of an instruction
 abbrev pub instruction_step : List BitsKind → Instruction → Step
@@ -161,11 +162,11 @@ module _ (W : ℕ) (most : most_width ≤ W) (vs : List ℕ) (kinds : List Kind)
         → GivesHere s.pieces (given (slice_get env i) g) (given (slice_get s.operands i) f)
     by_operand i f g each = with_operand (GivesHere s.pieces) (λ r. tt) i f g each
 
-    by_type : (t : ℕ) (f : ℕ → Option Result) (r : Option Outcome) → ((u : ℕ) → TypeIs W kinds ks t u → GivesHere s.pieces r (f u)) → GivesHere s.pieces r (given (type_at kinds t) f)
-    by_type t f r each = go (type_at kinds t) refl
+    with_type : {X : Type 0} (P : Option X → Type 0) → P None → (t : ℕ) (f : ℕ → Option X) → ((u : ℕ) → TypeIs W kinds ks t u → P (f u)) → P (given (type_at kinds t) f)
+    with_type P none t f each = go (type_at kinds t) refl
       where
-        go : (o : Option ℕ) → type_at kinds t ≡ o → GivesHere s.pieces r (given o f)
-        go None e = tt
+        go : (o : Option ℕ) → type_at kinds t ≡ o → P (given o f)
+        go None e = none
         go (Some u) e = each u (type_is W most kinds ks t u aligned wide e)
 
     -- ---- literals
@@ -191,6 +192,54 @@ module _ (W : ℕ) (most : most_width ≤ W) (vs : List ℕ) (kinds : List Kind)
         value : (b : Bool) (w : ℕ) → piece_value ws vs w (if b then form.Negative l.magnitude else form.Literal l.magnitude) (values W vs ws s.pieces) ≡ wrapped w (literal_number b l.magnitude)
         value true w = refl
         value false w = refl
+
+  -- a literal, and that it fits
+  module _ (s : State) (env : List Outcome) (h : Holds s env) (l : Literal) (u : ℕ) (t : TypeIs W kinds ks l.ty u) (fit : is_literal_of ks l ≡ true) where
+    abbrev made_literal : Result
+    made_literal = literal_result l s.pieces u
+
+    power_there_is : nat_lt l.magnitude 2 ≡ false → Reached s (with_fitting s made_literal (power_there (put made_literal.0 u (form.Literal (top_power l.magnitude l.magnitude))))) (env ++ (literal_gives s env h l u t fit).outcome ∷ [])
+    power_there_is e =
+        let r = made_literal in
+        let g = literal_gives s env h l u t fit in
+        let is = literal_is W kinds ks l u t fit in
+        let w = at ws u in
+        let w_is : w ≡ width_of (kind_at ks l.ty) = width_is js u ∙ ap width_of t.same in
+        let p = top_power l.magnitude l.magnitude in
+        let below = is.below in
+        let some = two l.magnitude e in
+        let least = top_low l.magnitude l.magnitude (omega (arith, some)) in
+        let low : p < 2 ^ w = subst (λ (n : ℕ). p < 2 ^ n) (sym w_is) (omega (arith, below, least)) in
+        let b = base_on W vs ws s.pieces r.0 h.base g.grown in
+        let m = put r.0 u (form.Literal p) in
+        let one = makes_same W vs ws r.0 m u (wrapped w (literal_number false p)) p (sym (literal_low w p low)) (put_number W vs ws r.0 b u p t.low low) in
+        let c = base_on W vs ws r.0 m.0 b one.grown in
+        let n = power_there m in
+        let last = makes_same W vs ws m.0 n 0 (truth (nat_lt 0 p)) 1 (ap truth (positive p (top_some l.magnitude l.magnitude))) (put_less W vs ws m.0 c 0 m.1 0 u 0 p c.zero_is one.is) in
+        let more = grown_next W vs ws r.0 m.0 n.0 one.grown last.grown in
+        let all = grown_next W vs ws s.pieces r.0 n.0 g.grown more in
+        record {
+          grown = all;
+          holds = record {
+            base = base_on W vs ws s.pieces n.0 h.base all;
+            all = all_more n.0 s.operands env r.1 g.outcome (all_still s.pieces n.0 s.operands env all h.all) (stands_still W vs js refl r.0 n.0 r.1 g.outcome more g.stands);
+            ones = ones_more n.0 s.conditions n.1 (ones_still s.pieces n.0 s.conditions all h.ones) last.is;
+          };
+        }
+      where
+        two : (n : ℕ) → nat_lt n 2 ≡ false → 2 ≤ n
+        two n f = grind (arith, nat_tests)
+
+        positive : (n : ℕ) → 1 ≤ n → nat_lt 0 n ≡ true
+        positive n f = grind (arith, nat_tests)
+
+    number_goes : Goes false s env (step_of (written_step ks l) env) (Some (number_state s l u))
+    number_goes = go (nat_lt l.magnitude 2) refl
+      where
+        go : (b : Bool) → nat_lt l.magnitude 2 ≡ b → Goes false s env (step_of (written_step ks l) env) (Some (with_number b s l u made_literal))
+        go true e = gives_goes false s env (step_of (written_step ks l) env) made_literal h (literal_gives s env h l u t fit)
+        go false e =
+            subst (λ (o : Option Outcome). Goes false s env o (Some (with_fitting s made_literal (power_there (put made_literal.0 u (form.Literal (top_power l.magnitude l.magnitude))))))) (sym (literal_gives s env h l u t fit).is) (power_there_is e)
 
   -- ---- conditions
   some_number : (n : ℕ) → (n == 0) ≡ false → nat_lt 0 n ≡ true
@@ -236,7 +285,7 @@ module _ (W : ℕ) (most : most_width ≤ W) (vs : List ℕ) (kinds : List Kind)
   -- ---- one instruction
   module _ (ns : List Narrower) (narrow : AreNarrower ws ns) where
     gives : (n : Instruction) (s : State) (env : List Outcome) → Holds s env → instruction_fits ks n ≡ true → GivesHere s.pieces (step_of (instruction_step ks n) env) (result_of kinds ns n s.operands s.pieces)
-    gives (instruction.Number l) s env h fit = by_type s env h l.ty (λ t. Some (literal_result l s.pieces t)) (step_of (written_step ks l) env) (λ u t. literal_gives s env h l u t fit)
+    gives (instruction.Number l) s env h fit = tt
     gives (instruction.Copy i) s env h fit =
         subst (λ (r : Option Outcome). GivesHere s.pieces r (given (slice_get s.operands i) (λ x. Some (s.pieces, x)))) (sym (copied (slice_get env i)))
         (by_operand s env h i (λ x. Some (s.pieces, x)) Some (λ o x a. record { outcome = x; is = refl; grown = same W vs ws s.pieces h.base.right; stands = a }))
@@ -253,7 +302,7 @@ module _ (W : ℕ) (most : most_width ≤ W) (vs : List ℕ) (kinds : List Kind)
         (λ x p a. by_operand s env h j (λ y. select_result d x y s.pieces) (λ y. select_outcome r p y) (λ y q b. select_gives W vs js refl s.pieces h.base x y p q a b d r k)))
     gives (instruction.Resize c u i) s env h fit =
         by_operand s env h i (λ x. given (type_at kinds u) (λ t. resize_result ns c t x s.pieces)) (λ x. resize_outcome c (kind_at ks u) x)
-        (λ x p a. by_type s env h u (λ t. resize_result ns c t x s.pieces) (resize_outcome c (kind_at ks u) p)
+        (λ x p a. with_type s env h (GivesHere s.pieces (resize_outcome c (kind_at ks u) p)) tt u (λ t. resize_result ns c t x s.pieces)
         (λ t is. subst (λ (k : BitsKind). GivesHere s.pieces (resize_outcome c k p) (resize_result ns c t x s.pieces)) is.same
         (resize_gives W vs js refl s.pieces h.base ns narrow t is.low c x p a (ap (λ k. is_width (width_of k)) is.same ∙ is.wide))))
     gives (instruction.Require i) s env h fit = tt
@@ -264,7 +313,7 @@ module _ (W : ℕ) (most : most_width ≤ W) (vs : List ℕ) (kinds : List Kind)
     plain n s env h fit = some_goes false s env (step_of (instruction_step ks n) env) (result_of kinds ns n s.operands s.pieces) h (gives n s env h fit)
 
     pub goes : (n : Instruction) (s : State) (env : List Outcome) → Holds s env → instruction_fits ks n ≡ true → Goes (is_require n) s env (step_of (instruction_step ks n) env) (translated kinds ns n s)
-    goes (instruction.Number l) s env h fit = plain (instruction.Number l) s env h fit
+    goes (instruction.Number l) s env h fit = with_type s env h (Goes false s env (step_of (written_step ks l) env)) tt l.ty (λ t. Some (number_state s l t)) (λ u t. number_goes s env h l u t fit)
     goes (instruction.Copy i) s env h fit = plain (instruction.Copy i) s env h fit
     goes (instruction.Pair o i j) s env h fit = plain (instruction.Pair o i j) s env h fit
     goes (instruction.Compare o i j) s env h fit = plain (instruction.Compare o i j) s env h fit

@@ -1,15 +1,16 @@
 -- Products of a value and a literal, and the operations by 0 and 1 that change nothing.
-use Rattle.std.proofs.Common.{◌≡◌, ◌∙◌, ℕ, zero, suc, ◌+◌, ◌-◌, ◌*◌, ◌/◌, ◌%◌, ◌^◌, ◌<◌, ◌≤◌, ◌==◌, List, Bool, true, false, true≢false, not, nat_lt, if◌then◌else◌, Option, Some, None, ◌⊎◌, inl, inr, ⊎_elim, refl, sym, ap, subst, arith}
+use Rattle.std.proofs.Common.{ℤ, pos, negsuc, ◌≡◌, ◌∙◌, ℕ, zero, suc, ◌+◌, ◌-◌, ◌*◌, ◌/◌, ◌%◌, ◌^◌, ◌<◌, ◌≤◌, ◌==◌, List, Bool, true, false, true≢false, not, nat_lt, if◌then◌else◌, Option, Some, None, ◌⊎◌, inl, inr, ⊎_elim, refl, sym, ap, subst, arith}
+use Rattle.std.specs.Int.{int_shr}
 use Rattle.std.proofs.lemmas.Bool.{and_parts, cases_lt, eqb-true}
 use Rattle.std.proofs.lemmas.Bool.Decides.{nat_tests}
 use Rattle.std.proofs.lemmas.Nat.{mod_below, mul-mod, pow_pos, div-add-mod'}
 use Rattle.std.proofs.Math.Nat.{add-mod, add-mul-mod_self_right, mod-eq_of_lt, mul-le-mul_right}
 use Rattle.std.proofs.Math.Pow.{pow-lt}
-use Rattle.ir_types.specs.Readings.{literal_number, wrapped}
+use Rattle.ir_types.specs.Readings.{literal_number, signed_of, wrapped}
 use Rattle.ir_types.proofs.Widths.{literal_low}
 use Rattle.dialects_int.specs.declared.operations.Arithmetic.{Arithmetic}
 use Rattle.dialects_int.specs.declared.operations.Arithmetic.TheVariants as op
-use Rattle.dialects_int.specs.Arithmetic.{difference_of, left_shift_of, product_of, quotient_of, remainder_of, right_shift_of, sum_of, value_of}
+use Rattle.dialects_int.specs.Arithmetic.{difference_of, left_shift_of, product_of, quotient_of, remainder_of, right_shift_of, sum_of, value_of, sign_extended, signed_right_shift_of}
 use Rattle.dialects_int.proofs.Widths.{difference_is}
 use Rattle.patterns_book.specs.declared.pattern.Literal.{Literal}
 use Rattle.patterns_check.specs.Outcomes.{divides}
@@ -19,7 +20,7 @@ use Rattle.width_claims.specs.PieceValues.{at}
 use Rattle.width_claims.specs.Right.{IsBelow}
 use Rattle.pattern_claims.specs.Translation.{Made, is_number, literal_times, multiple, one_more, opposite, put, times, twice, with_literal}
 use Rattle.pattern_claims.proofs.Pieces.{Base, Is, Makes, base_on, makes_next, makes_same, same}
-use Rattle.pattern_claims.proofs.Forms.{put_add, put_cut, put_number, put_subtract}
+use Rattle.pattern_claims.proofs.Forms.{put_add, put_cut, put_number, put_resize, put_subtract}
 
 -- ---- numbers modulo M
 
@@ -30,6 +31,11 @@ left_reduced M u v l =
 
 both_reduced : (M u : ℕ) → (u % M + u % M) % M ≡ (u + u) % M
 both_reduced M u = sym (add-mod u u M)
+
+-- a shift by 0
+shift_by_none : (z : ℤ) → int_shr z 0 ≡ z
+shift_by_none (pos n) = let e : n / 1 ≡ n = omega arith in ap pos e
+shift_by_none (negsuc n) = let e : n / 1 ≡ n = omega arith in ap negsuc e
 
 -- what makes 0 with a number
 cancels : (M x r j : ℕ) → r < M → x + r ≡ j * M → x % M ≡ (M - r) % M
@@ -238,6 +244,20 @@ module _ (W : ℕ) (vs ws : List ℕ) where
             makes = itself_makes;
           }
 
+      shifted_signed : (c : Bool) → is_number 0 l ≡ c → LiteralMakes op.ShiftRightSigned (if c then Some (put ps t (form.Resize t i)) else None)
+      unfolding signed_right_shift_of sign_extended
+      shifted_signed false e = tt
+      shifted_signed true e =
+          let z = number_is 0 e (pow_pos (at ws t)) in
+          record {
+            total = inl refl;
+            value = wrapped (at ws t) (signed_of (at ws t) a);
+            value_is = ap (λ n. if nat_lt n (at ws t) then Some (wrapped (at ws t) (int_shr (signed_of (at ws t) a) n)) else None) z
+                ∙ ap (λ c. if c then Some (wrapped (at ws t) (int_shr (signed_of (at ws t) a) 0)) else None) some_width
+                ∙ ap (λ n. Some (wrapped (at ws t) n)) (shift_by_none (signed_of (at ws t) a));
+            makes = put_resize W vs ws ps b i t t a is.low is;
+          }
+
       divided : (c : Bool) → is_number 1 l ≡ c → LiteralMakes op.DivideUnsigned (if c then Some (ps, i) else None)
       unfolding quotient_of
       divided false e = tt
@@ -286,7 +306,7 @@ module _ (W : ℕ) (vs ws : List ℕ) where
       with_makes op.MinimumUnsigned = tt
       with_makes op.DivideSigned = tt
       with_makes op.RemainderSigned = tt
-      with_makes op.ShiftRightSigned = tt
+      with_makes op.ShiftRightSigned = shifted_signed (is_number 0 l) refl
 
       -- the literal first
       pub record IsTurned (o : Arithmetic) (m : Made) : Type 0 where

@@ -1,5 +1,5 @@
 -- Types of a pattern as types of a claim, and literals that fit them.
-use Rattle.std.proofs.Common.{◌≡◌, ◌∙◌, ℕ, zero, suc, ◌+◌, ◌-◌, ◌^◌, ◌<◌, ◌≤◌, List, [], ◌∷◌, map, Bool, true, false, true≢false, ◌&&◌, nat_lt, nat_le, if◌then◌else◌, Option, Some, None, slice_get, refl, sym, ap, subst, arith}
+use Rattle.std.proofs.Common.{◌≡◌, ◌∙◌, ℕ, zero, suc, ◌+◌, ◌-◌, ◌*◌, ◌/◌, ◌^◌, ◌<◌, ◌≤◌, List, [], ◌∷◌, map, Bool, true, false, true≢false, ◌&&◌, nat_lt, nat_le, if◌then◌else◌, Option, Some, None, slice_get, refl, sym, ap, subst, arith}
 use Rattle.std.specs.Prelude.{is_some}
 use Rattle.std.proofs.lemmas.Bool.{and_parts, eqb-true}
 use Rattle.std.proofs.lemmas.Bool.Decides.{nat_tests}
@@ -20,7 +20,7 @@ use Rattle.patterns_book.specs.Fitting.{bits_with, is_literal_of, kind_at, or_ze
 use Rattle.width_claims.specs.PieceValues.{at}
 use Rattle.width_claims.specs.Right.{IsBelow}
 use Rattle.pattern_claims.specs.Outcomes.{AreKindsOf, are_kinds}
-use Rattle.pattern_claims.specs.Translation.{is_one_bit, is_repeated, type_at, type_if, type_number}
+use Rattle.pattern_claims.specs.Translation.{is_one_bit, is_repeated, top_power, type_at, type_if, type_number}
 use Rattle.pattern_claims.proofs.Operands.{width_is}
 
 pub width_low : (W w : ℕ) → most_width ≤ W → is_width w ≡ true → IsBelow W w
@@ -174,3 +174,24 @@ literal_is W kinds ks l u t e =
   where
     positive : (n : ℕ) → nat_lt 0 n ≡ true → 1 ≤ n
     positive n f = grind (arith, nat_tests)
+
+-- ---- the power of two by which a literal fits
+
+two_or_more : (n : ℕ) → nat_le 2 n ≡ true → 2 ≤ n
+two_or_more n f = grind (arith, nat_tests)
+
+pub top_some : (k n : ℕ) → 1 ≤ top_power k n
+top_some zero n = omega arith
+top_some (suc k) n = go (nat_le 2 n) (top_some k (n / 2))
+  where
+    go : (b : Bool) → 1 ≤ top_power k (n / 2) → 1 ≤ (if b then 2 * top_power k (n / 2) else 1)
+    go true l = omega (arith, l)
+    go false l = omega arith
+
+pub top_low : (k n : ℕ) → 1 ≤ n → top_power k n ≤ n
+top_low zero n l = l
+top_low (suc k) n l = go (nat_le 2 n) refl (top_low k (n / 2))
+  where
+    go : (b : Bool) → nat_le 2 n ≡ b → (1 ≤ n / 2 → top_power k (n / 2) ≤ n / 2) → (if b then 2 * top_power k (n / 2) else 1) ≤ n
+    go true e h = let two : 2 ≤ n = two_or_more n e in let less = h (omega (arith, two)) in omega (arith, less)
+    go false e h = l

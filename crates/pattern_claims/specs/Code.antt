@@ -1,5 +1,5 @@
 -- What code makes of a pattern.
-use Rattle.std.specs.Prelude.{◌≡◌, ℕ, List, ◌++◌, Bool, true, false, Option, Some, None}
+use Rattle.std.specs.Prelude.{◌≡◌, ℕ, List, [], ◌∷◌, ◌++◌, Bool, true, false, Option, Some, None}
 use Rattle.patterns_book.specs.declared.pattern.Kind.{Kind}
 use Rattle.width_claims.specs.declared.form.Piece.{Piece}
 use Rattle.width_claims.specs.declared.width.Width.{Width}
@@ -58,3 +58,7 @@ IsVariable s ps os done = (ps ≡ s.pieces) × (os ≡ s.operands)
 abbrev pub AreSidesIf : Option Sides → List Piece → Option Equation → Type 0
 AreSidesIf None new r = r ≡ None
 AreSidesIf (Some s) new r = (new ≡ s.0) × (r ≡ Some (record { left = s.1; right = s.2 }))
+
+-- the pieces and one condition more
+abbrev pub IsCondition : Made → List ℕ → List Piece → List ℕ → Unit {0} → Type 0
+IsCondition m old new hs done = (new ≡ m.0) × (hs ≡ old ++ (m.1 ∷ []))

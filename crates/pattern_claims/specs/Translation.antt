@@ -1,6 +1,6 @@
 -- A pattern as claims: each place of it has a piece that computes its value, and a flag for its poison. There is one
 -- claim for each set of variables that are poison.
-use Rattle.std.specs.Prelude.{ℕ, zero, suc, ◌+◌, ◌-◌, ◌*◌, ◌/◌, ◌%◌, ◌^◌, ◌==◌, List, [], ◌∷◌, ◌++◌, map, length, Bool, false, ◌&&◌, ◌||◌, not, eqb, if◌then◌else◌, Option, Some, None, slice_get}
+use Rattle.std.specs.Prelude.{ℕ, zero, suc, ◌+◌, ◌-◌, ◌*◌, ◌/◌, ◌%◌, ◌^◌, ◌==◌, List, [], ◌∷◌, ◌++◌, map, length, Bool, false, ◌&&◌, ◌||◌, not, eqb, nat_le, nat_lt, if◌then◌else◌, Option, Some, None, slice_get}
 use Rattle.std.specs.List.{list_any}
 use Rattle.ir_types.specs.declared.bits.BitsKind.{BitsKind}
 use Rattle.ir_types.specs.declared.bits.BitsKind.TheVariants as kind
@@ -180,6 +180,7 @@ abbrev pub with_literal : Arithmetic → ℕ → ℕ → Literal → List Piece 
 with_literal op.Multiply t i l ps = Some (multiple l t i ps)
 with_literal op.ShiftLeft t i l ps = if is_number 0 l then Some (put ps t (form.Cut i)) else None
 with_literal op.ShiftRightUnsigned t i l ps = if is_number 0 l then Some (ps, i) else None
+with_literal op.ShiftRightSigned t i l ps = if is_number 0 l then Some (put ps t (form.Resize t i)) else None
 with_literal op.DivideUnsigned t i l ps = if is_number 1 l then Some (ps, i) else None
 with_literal op.RemainderUnsigned t i l ps = if is_number 1 l then Some (put ps t (form.Literal 0)) else None
 with_literal _ t i l ps = None
@@ -298,10 +299,28 @@ literal_made m l t = (m.0, record { value = m.1; poison = poison.Never; ty = t; 
 abbrev pub literal_result : Literal → List Piece → ℕ → Result
 literal_result l ps t = literal_made (put ps t (literal_form l)) l t
 
+-- the greatest power of two that isn't above a number from 1 on; the first number bounds the steps
+abbrev pub top_power : ℕ → ℕ → ℕ
+top_power zero n = 1
+top_power (suc k) n = if nat_le 2 n then 2 * top_power k (n / 2) else 1
+
+-- 0 and 1 fit each type; of another literal it is supposed that its type has this power of two
+abbrev pub with_fitting : State → Result → Made → State
+with_fitting s r m = record { pieces = m.0; operands = s.operands ++ (r.1 ∷ []); conditions = s.conditions ++ (m.1 ∷ []) }
+
+abbrev pub power_there : Made → Made
+power_there m = put m.0 0 (form.Less 0 m.1)
+
+abbrev pub with_number : Bool → State → Literal → ℕ → Result → State
+with_number small s l t r = if small then with_result s r else with_fitting s r (power_there (put r.0 t (form.Literal (top_power l.magnitude l.magnitude))))
+
+abbrev pub number_state : State → Literal → ℕ → State
+number_state s l t = with_number (nat_lt l.magnitude 2) s l t (literal_result l s.pieces t)
+
 module _ (ks : List Kind) (ns : List Narrower) where
   -- the operand that an instruction makes
   abbrev pub result_of : Instruction → List Operand → List Piece → Option Result
-  result_of (instruction.Number l) os ps = given (type_at ks l.ty) (λ t. Some (literal_result l ps t))
+  result_of (instruction.Number l) os ps = None
   result_of (instruction.Copy i) os ps = given (slice_get os i) (λ x. Some (ps, x))
   result_of (instruction.Pair o i j) os ps = given (slice_get os i) (λ x. given (slice_get os j) (λ y. pair_result o x y ps))
   result_of (instruction.Compare q i j) os ps = given (slice_get os i) (λ x. given (slice_get os j) (λ y. compare_result q x y ps))
@@ -312,6 +331,7 @@ module _ (ks : List Kind) (ns : List Narrower) where
   result_of (instruction.Log i) os ps = None
 
   abbrev pub translated : Instruction → State → Option State
+  translated (instruction.Number l) s = given (type_at ks l.ty) (λ t. Some (number_state s l t))
   translated (instruction.Require i) s = given (slice_get s.operands i) (λ x. required s x x.poison)
   translated n s = with_some s (result_of n s.operands s.pieces)
 

@@ -103,6 +103,12 @@ pub fn with_literal(
         Arithmetic::ShiftRightUnsigned => {
             return Ok(if is_number(0, literal) { Some(i) } else { None });
         }
+        Arithmetic::ShiftRightSigned => {
+            if !is_number(0, literal) {
+                return Ok(None);
+            }
+            put(pieces, ty, Form::Resize(ty, i))?
+        }
         Arithmetic::DivideUnsigned => {
             return Ok(if is_number(1, literal) { Some(i) } else { None });
         }
@@ -112,18 +118,7 @@ pub fn with_literal(
             }
             put(pieces, ty, Form::Literal(0))?
         }
-        Arithmetic::Add
-        | Arithmetic::Subtract
-        | Arithmetic::And
-        | Arithmetic::Or
-        | Arithmetic::ExclusiveOr
-        | Arithmetic::DivideSigned
-        | Arithmetic::RemainderSigned
-        | Arithmetic::ShiftRightSigned
-        | Arithmetic::MaximumSigned
-        | Arithmetic::MaximumUnsigned
-        | Arithmetic::MinimumSigned
-        | Arithmetic::MinimumUnsigned => return Ok(None),
+        _ => return Ok(None),
     };
     Ok(Some(place))
 }

@@ -1,8 +1,9 @@
 //! Instructions, translated to pieces.
-ghost use Rattle.std.specs.Prelude.{◌≡◌, IfOk, Some, slice_get};
+ghost use Rattle.std.specs.Prelude.{◌≡◌, ◌≤◌, IfOk, Some, slice_get};
 ghost use Rattle.patterns_check.specs.Outcomes.{given};
-ghost use Rattle.pattern_claims.specs.Code.{IsResult, IsResultIf, IsStateIf, state};
-ghost use Rattle.pattern_claims.specs.Translation.{compare_result, literal_result, pair_result, required, resize_result, result_of, select_result, translated, type_at};
+ghost use Rattle.pattern_claims.specs.Code.{IsCondition, IsResult, IsResultIf, IsStateIf, state};
+ghost use Rattle.width_claims.specs.declared.form.Form.TheVariants as form;
+ghost use Rattle.pattern_claims.specs.Translation.{compare_result, literal_result, number_state, pair_result, power_there, put, required, resize_result, result_of, select_result, top_power, translated, type_at};
 
 use crate::instruction::Instruction;
 use crate::operand::{Operand, Poison};
@@ -42,18 +43,70 @@ fn literal_result(
     })
 }
 
+/// The greatest power of two that isn't above `n`, if `n` isn't above `most`.
+fn top_power(most: u128, n: u128) -> u128
+    requires { 1 ≤ n }
+    ensures is { result ≡ top_power most n }
+    ensures low { result ≤ n }
+{
+    if most == 0 {
+        return 1;
+    }
+    if n < 2 {
+        return 1;
+    }
+    let half = top_power(most - 1, n / 2);
+    2 * half
+}
+
+/// Appends the condition that a type has the greatest power of two that isn't above a number.
+fn power_there(
+    n: u128,
+    ty: usize,
+    pieces: &mut Vec<Piece>,
+    conditions: &mut Vec<usize>,
+) -> Result<(), AllocError>
+    requires { 1 ≤ n }
+    ensures { IfOk result (IsCondition (power_there (put pieces.old.items ty (form.Literal (top_power n n)))) conditions.old.items pieces.new.items conditions.new.items) }
+{
+    let power = put(pieces, ty, Form::Literal(top_power(n, n)))?;
+    let place = put(pieces, 0, Form::Less(0, power))?;
+    conditions.push(place)?;
+    Ok(())
+}
+
+/// Appends a literal, and the condition that it fits.
+fn number_state(
+    literal: &Literal,
+    ty: usize,
+    pieces: &mut Vec<Piece>,
+    operands: &mut Vec<Operand>,
+    conditions: &mut Vec<usize>,
+) -> Result<bool, AllocError>
+    ensures { IfOk result (IsStateIf (Some (number_state (state pieces.old.items operands.old.items conditions.old.items) literal.now ty)) pieces.new.items operands.new.items conditions.new.items) }
+{
+    let operand = literal_result(literal, ty, pieces)?;
+    operands.push(operand)?;
+    if literal.magnitude < 2 {
+        return Ok(true);
+    }
+    power_there(literal.magnitude, ty, pieces, conditions)?;
+    Ok(true)
+}
+
 fn number_at(
     literal: &Literal,
     kinds: &[Kind],
     pieces: &mut Vec<Piece>,
-) -> Result<Option<Operand>, AllocError>
-    ensures { IfOk result (IsResultIf (given (type_at kinds.now literal.now.ty) (λ t. Some (literal_result literal.now pieces.old.items t))) pieces.new.items) }
+    operands: &mut Vec<Operand>,
+    conditions: &mut Vec<usize>,
+) -> Result<bool, AllocError>
+    ensures { IfOk result (IsStateIf (given (type_at kinds.now literal.now.ty) (λ t. Some (number_state (state pieces.old.items operands.old.items conditions.old.items) literal.now t))) pieces.new.items operands.new.items conditions.new.items) }
 {
     let Some(ty) = type_at(kinds, literal.ty) else {
-        return Ok(None);
+        return Ok(false);
     };
-    let operand = literal_result(literal, ty, pieces)?;
-    Ok(Some(operand))
+    number_state(literal, ty, pieces, operands, conditions)
 }
 
 fn pair_at(
@@ -143,7 +196,7 @@ fn result_of(
     ensures { IfOk result (IsResultIf (result_of kinds.now narrower.now instruction.now operands.now pieces.old.items) pieces.new.items) }
 {
     match instruction {
-        Instruction::Number(literal) => number_at(literal, kinds, pieces),
+        Instruction::Number(_) => Ok(None),
         Instruction::Copy(i) => Ok(operand_at(operands, *i)),
         Instruction::Pair(operation, i, j) => pair_at(operation, *i, *j, operands, pieces),
         Instruction::Compare(predicate, i, j) => compare_at(predicate, *i, *j, operands, pieces),
@@ -203,6 +256,9 @@ pub fn translate(
 ) -> Result<bool, AllocError>
     ensures { IfOk result (IsStateIf (translated kinds.now narrower.now instruction.now (state pieces.old.items operands.old.items conditions.old.items)) pieces.new.items operands.new.items conditions.new.items) }
 {
+    if let Instruction::Number(literal) = instruction {
+        return number_at(literal, kinds, pieces, operands, conditions);
+    }
     if let Instruction::Require(i) = instruction {
         return require_at(*i, pieces, operands, conditions);
     }
