@@ -23,8 +23,8 @@ fn start(steps: &[Step]) -> u128
     first_digit(step) + radix(step) * rest
 }
 
-/// Whether a truth of steps is true at every width, whatever the variables are of which what is supposed is so. Of the
-/// states so many at most are looked at.
+/// Decides whether a truth of steps is true at every width, for all variables for which the suppositions hold. Visits
+/// at most `most` states.
 pub fn decide_all_widths(
     alloc: Global,
     steps: &[Step],

@@ -7,7 +7,7 @@ use crate::digits::{is_number, radix, reads_bit};
 use crate::step::Step;
 use std::alloc::AllocError;
 
-/// The bit at a place; 0 where nothing stands there.
+/// Returns the bit at a place, or 0 if there is none.
 fn bit_at(bits: &[u128], place: usize) -> u128
     ensures { result ≡ number_at bits.now place }
 {
@@ -29,7 +29,7 @@ fn less_still(kept: u128, p: u128, q: u128) -> u128
     if p == q { kept } else { q }
 }
 
-/// A step's bit.
+/// Returns a step's bit.
 fn bit(step: &Step, kept: u128, guess: u128, bits: &[u128]) -> u128
     requires kept { kept < radix step.now }
     requires bits { AreBits bits.now }
@@ -53,7 +53,7 @@ fn bit(step: &Step, kept: u128, guess: u128, bits: &[u128]) -> u128
     }
 }
 
-/// What a step keeps for the next bit.
+/// Returns what a step keeps for the next bit.
 fn next(step: &Step, kept: u128, guess: u128, bits: &[u128]) -> u128
     requires kept { kept < radix step.now }
     requires bits { AreBits bits.now }
@@ -77,7 +77,7 @@ fn next(step: &Step, kept: u128, guess: u128, bits: &[u128]) -> u128
     }
 }
 
-/// What is kept of two that may be selected.
+/// Returns what a choice keeps for the next bit: whether the guess is still equal to each arm.
 fn selected(kept: u128, guess: u128, p: u128, q: u128) -> u128
     requires { kept < 4 }
     ensures { result ≡ same_still (kept % 2) guess p + 2 * same_still (kept / 2) guess q }
@@ -85,7 +85,7 @@ fn selected(kept: u128, guess: u128, p: u128, q: u128) -> u128
     same_still(kept % 2, guess, p) + 2 * same_still(kept / 2, guess, q)
 }
 
-/// Puts a step's bit behind those that are there, if it has one.
+/// Appends a step's bit, if it has one.
 fn push_bit(step: &Step, kept: u128, guess: u128, bits: &mut Vec<u128>) -> Result<(), AllocError>
     requires kept { kept < radix step.now }
     requires bits { AreBits bits.old.items }
@@ -98,14 +98,14 @@ fn push_bit(step: &Step, kept: u128, guess: u128, bits: &mut Vec<u128>) -> Resul
     Ok(())
 }
 
-/// What is left of a letter behind a step.
+/// Returns what is left of a letter after a step.
 fn letter_then(step: &Step, letter: u32) -> u32
     ensures { result ≡ letter_then step.now letter }
 {
     if reads_bit(step) { letter / 2 } else { letter }
 }
 
-/// The state behind a letter. The bits of all steps stand behind those that are there.
+/// Returns the state after a letter, and appends the bits of all steps.
 pub fn after(
     steps: &[Step],
     state: u128,

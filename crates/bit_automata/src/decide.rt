@@ -1,4 +1,4 @@
-//! All states are walked.
+//! The search for a state that isn't accepted.
 ghost use Rattle.std.specs.Prelude.{◌≡◌, Some, IfOk, OnOk, slice_get};
 ghost use Rattle.bit_automata.specs.Runs.{IsVerdict};
 ghost use Rattle.bit_automata.specs.Walks.{Found, Walked, WentThrough};
@@ -10,7 +10,7 @@ use crate::word::word_to;
 use indexmap::IndexSet;
 use std::alloc::{AllocError, Global};
 
-/// Puts a state behind those that were found, if it isn't among them.
+/// Appends a state, if it wasn't found before.
 fn find(
     states: &mut IndexSet<u128>,
     origins: &mut Vec<Origin>,
@@ -26,8 +26,8 @@ fn find(
     Ok(())
 }
 
-/// Looks at what comes behind the state at a place. The answer is the first letter that leads to a state which isn't
-/// accepted, if there is one.
+/// Visits the states after the state at a place. Returns the first letter that leads to a state which isn't accepted,
+/// if there is one.
 fn go_through<M: Machine>(
     alloc: Global,
     machine: &M,
@@ -58,8 +58,8 @@ fn go_through<M: Machine>(
     Ok(None)
 }
 
-/// Whether a machine accepts every state that one letter or more lead to from a first one, where so many states at most
-/// are looked at.
+/// Returns whether a machine accepts every state that one or more letters lead to from `start`. Visits at most `most`
+/// states.
 pub fn decide<M: Machine>(
     alloc: Global,
     machine: &M,

@@ -48,7 +48,7 @@ pub fn reads_bit(step: &Step) -> bool
     }
 }
 
-/// How many numbers a step may keep.
+/// Returns the number of values that a step may keep.
 pub fn radix(step: &Step) -> u128
     requires { radix step.now < 2 ^ 128 }
     ensures { result ≡ radix step.now }
@@ -71,7 +71,7 @@ pub fn radix(step: &Step) -> u128
     }
 }
 
-/// The first of them.
+/// Returns the value that a step keeps before the first bit.
 pub fn first_digit(step: &Step) -> u128
     ensures { result ≡ first_digit step.now }
 {
@@ -92,7 +92,7 @@ pub fn first_digit(step: &Step) -> u128
     }
 }
 
-/// How many numbers a step may keep, where there are few enough.
+/// Returns the number of values that a step may keep, if it fits 128 bits.
 fn radix_of(step: &Step) -> Option<u128>
     ensures { IfSome result (λ r. r ≡ radix step.now) }
 {
@@ -102,14 +102,14 @@ fn radix_of(step: &Step) -> Option<u128>
     Some(radix(step))
 }
 
-/// A product, where it is small enough.
+/// Returns a product, if it fits 128 bits.
 fn product(a: u128, b: u128) -> Option<u128>
     ensures { IfSome result (λ p. p ≡ a * b) }
 {
     a.checked_mul(b)
 }
 
-/// How many states there may be, where there are few enough.
+/// Returns the number of possible states, if it fits 128 bits.
 pub fn state_count(steps: &[Step]) -> Option<u128>
     ensures { IfSome result (λ r. r ≡ state_count steps.now) }
 {
@@ -121,7 +121,7 @@ pub fn state_count(steps: &[Step]) -> Option<u128>
     product(radix, rest)
 }
 
-/// How many letters there are, where there are few enough.
+/// Returns the number of letters, if it fits 32 bits.
 pub fn letters(steps: &[Step]) -> Option<u32>
     ensures { IfSome result (λ n. n ≡ letters steps.now) }
 {

@@ -1,4 +1,4 @@
-//! What is known at the end.
+//! What a state says after the last bit.
 ghost use Rattle.std.specs.Prelude.{◌≡◌, ◌<◌, ◌^◌, IfOk, OnOk};
 ghost use Rattle.bit_automata.specs.Steps.{differ, truth_at};
 ghost use Rattle.bit_automata.specs.BitSerial.{Ended, agrees, is_lost, loses, radix, state_count, end_truth, end_truths_then};
@@ -7,7 +7,7 @@ use crate::digits::{is_number, radix};
 use crate::step::Step;
 use std::alloc::AllocError;
 
-/// The truth at a place; false where nothing stands there.
+/// Returns the truth at a place, or false if there is none.
 pub fn truth_at(truths: &[bool], place: usize) -> bool
     ensures { result ≡ truth_at truths.now place }
 {
@@ -17,7 +17,7 @@ pub fn truth_at(truths: &[bool], place: usize) -> bool
     }
 }
 
-/// Whether a guess stays wrong, or what is supposed isn't so.
+/// Whether a guess is wrong for good, or a supposition broken.
 fn loses(step: &Step, kept: u128) -> bool
     ensures { result ≡ loses step.now kept }
 {
@@ -38,7 +38,7 @@ fn loses(step: &Step, kept: u128) -> bool
     }
 }
 
-/// The same of all steps.
+/// Whether this holds of a step.
 pub fn is_lost(steps: &[Step], state: u128) -> bool
     requires { state_count steps.now < 2 ^ 128 }
     ensures { result ≡ is_lost steps.now state }
@@ -53,14 +53,14 @@ pub fn is_lost(steps: &[Step], state: u128) -> bool
     is_lost(tail, state / radix)
 }
 
-/// Whether one of two is true alone.
+/// Whether exactly one of two is true.
 fn differ(a: bool, b: bool) -> bool
     ensures { result ≡ differ a b }
 {
     if a { !b } else { b }
 }
 
-/// A truth.
+/// Returns a step's truth.
 fn end_truth(step: &Step, kept: u128, truths: &[bool]) -> bool
     ensures { result ≡ end_truth step.now kept truths.now }
 {
@@ -80,7 +80,7 @@ fn end_truth(step: &Step, kept: u128, truths: &[bool]) -> bool
     }
 }
 
-/// Whether what was guessed is what is selected, and what is supposed is so.
+/// Whether a guess is what the truth selects, and a supposition holds.
 fn agrees(step: &Step, kept: u128, truths: &[bool]) -> bool
     ensures { result ≡ agrees step.now kept truths.now }
 {
@@ -108,7 +108,7 @@ fn agrees(step: &Step, kept: u128, truths: &[bool]) -> bool
     }
 }
 
-/// Puts a step's truth behind those that are there, if it has one.
+/// Appends a step's truth, if it has one.
 fn push_truth(step: &Step, kept: u128, truths: &mut Vec<bool>) -> Result<(), AllocError>
     ensures { OnOk result (truths.new.items ≡ end_truths_then step.now kept truths.old.items) }
 {
@@ -119,7 +119,7 @@ fn push_truth(step: &Step, kept: u128, truths: &mut Vec<bool>) -> Result<(), All
     Ok(())
 }
 
-/// Puts all truths there. The answer is whether all that was guessed and supposed agrees with them.
+/// Appends all truths. Returns whether all guesses and suppositions agree with them.
 pub fn end(steps: &[Step], state: u128, truths: &mut Vec<bool>) -> Result<bool, AllocError>
     requires { state_count steps.now < 2 ^ 128 }
     ensures { IfOk result (Ended steps.now state truths.old.items truths.new.items) }

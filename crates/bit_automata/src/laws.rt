@@ -1,4 +1,4 @@
-//! What is decided lasts.
+//! The law of the machine.
 ghost use Rattle.bit_automata.specs.AllWidths.{AcceptanceIsSound};
 
 /// What is accepted bit by bit is true at every width.

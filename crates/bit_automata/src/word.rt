@@ -5,7 +5,7 @@ ghost use Rattle.bit_automata.specs.Walks.{AreBefore, LeadsTo};
 use crate::origin::Origin;
 use std::alloc::{AllocError, Global};
 
-/// The letters that lead from the first state to the one at a place, and a letter more.
+/// Returns the letters that lead from the first state to the one at a place, and one more letter.
 pub fn word_to(
     alloc: Global,
     origins: &[Origin],

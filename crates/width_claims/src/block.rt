@@ -8,7 +8,7 @@ use crate::form::Form;
 use bit_automata::step::Step;
 use std::alloc::AllocError;
 
-/// Where the number of a form stands, and how many numbers and truths there are behind it.
+/// The place of a form's number, and the counts of numbers and truths after its steps.
 #[derive(Clone, Copy)]
 pub struct Ends {
     pub result: usize,
@@ -16,7 +16,7 @@ pub struct Ends {
     pub truths: usize,
 }
 
-/// The number at a place; 0 where nothing stands there.
+/// Returns the number at a place, or 0 if there is none.
 pub fn at(list: &[usize], place: usize) -> usize
     ensures { result ≡ at list.now place }
 {
@@ -26,7 +26,7 @@ pub fn at(list: &[usize], place: usize) -> usize
     }
 }
 
-/// Puts steps behind others.
+/// Appends steps.
 fn push_steps(
     steps: &mut Vec<Step>,
     more: &[Step],
@@ -44,7 +44,7 @@ fn push_steps(
     })
 }
 
-/// Puts the steps of a form there, where so many numbers and truths are before: `m` is the place of its type's mask.
+/// Appends the steps of a form, after `n` numbers and `t` truths. `m` is the place of its type's mask.
 pub fn block(
     m: usize,
     masks: &[usize],

@@ -1,4 +1,4 @@
-//! Whether two values are the same at all widths.
+//! Whether two values are equal at all widths.
 ghost use Rattle.std.specs.Prelude.{◌≡◌, [], IfOk, IfSome};
 ghost use Rattle.width_claims.specs.Emission.{claim_of};
 ghost use Rattle.width_claims.specs.Claimed.{IsClaim, IsEqualDecided};
@@ -12,7 +12,7 @@ use bit_automata::step::Step;
 use bit_automata::verdict::Verdict;
 use std::alloc::{AllocError, Global};
 
-/// Puts the steps of a claim there, where nothing stands. The answer is the place of its truth, unless it has too many.
+/// Writes the steps of a claim to an empty list. Returns the place of its truth, unless there are too many steps.
 fn emit_claim(
     alloc: Global,
     first_mask: usize,
@@ -61,8 +61,8 @@ fn emit_claim(
     Ok(piece_values.truths.checked_add(conditions.len()))
 }
 
-/// Whether two values are the same, at all widths that the types may have, for all variables, where what is asked is so.
-/// Of the states so many at most are looked at.
+/// Decides whether two values are equal at all widths that the types may have, for all variables for which the
+/// conditions hold. Visits at most `most` states.
 pub fn decide_equal(
     alloc: Global,
     first_mask: usize,

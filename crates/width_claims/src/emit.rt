@@ -9,7 +9,7 @@ use crate::width::{Narrower, Width};
 use bit_automata::step::Step;
 use std::alloc::AllocError;
 
-/// How many numbers and truths there are.
+/// The counts of numbers and truths.
 #[derive(Clone, Copy)]
 pub struct Counts {
     pub numbers: usize,
@@ -19,7 +19,7 @@ pub struct Counts {
 /// The most of them.
 const MOST: usize = 100000;
 
-/// Puts the masks of types there, and their places. Those of free ones are variables from `v` on.
+/// Appends the masks of types, and their places. The masks of free types are the variables from `v` on.
 pub fn emit_types(
     v: usize,
     types: &[Width],
@@ -59,7 +59,7 @@ pub fn emit_types(
     }
 }
 
-/// Puts there that types are narrower than others.
+/// Appends the suppositions that types are narrower than others.
 pub fn emit_narrower(
     masks: &[usize],
     narrower: &[Narrower],
@@ -86,7 +86,7 @@ pub fn emit_narrower(
     emit_narrower(masks, tail, steps, n + 1, t + 2)
 }
 
-/// Puts pieces there, and the places of their numbers.
+/// Appends the steps of pieces, and the places of their numbers.
 pub fn emit_pieces(
     masks: &[usize],
     pieces: &[Piece],
@@ -119,7 +119,7 @@ pub fn emit_pieces(
     emit_pieces(masks, tail, places, steps, ends.numbers, ends.truths)
 }
 
-/// Puts there that values are 1.
+/// Appends the suppositions that values are 1.
 pub fn emit_conditions(
     places: &[usize],
     conditions: &[usize],
