@@ -442,8 +442,8 @@ shows_symbols c t which m rows ordered kept is =
     let nk = possible_known b which es ek in
     let em = entries_meant t b m ordered keeps in
     let same =
-        sym (lines_meant b kept.sound t m keeps ds dk names nk es ek)
-        ∙ (λ i. lines_with bytes_eq same_type (role_of t) ((sym (definitions_meant b es) ∙ ap definitions em) i) (is_among bytes_eq ((sym (possible_meant b which es) ∙ ap (possible_names which) em) i)) (em i)) in
+    sym (lines_meant b kept.sound t m keeps ds dk names nk es ek)
+    ∙ (λ i. lines_with bytes_eq same_type (role_of t) ((sym (definitions_meant b es) ∙ ap definitions em) i) (is_among bytes_eq ((sym (possible_meant b which es) ∙ ap (possible_names which) em) i)) (em i)) in
     let lk = lines_known b kept.sound t m keeps ds dk names nk es ek in
     record {
       says = rows_say b c kept.sound.holds kept.grown rows _ is lk ∙ ap (map (line_cells Tag Op Name Path)) same;
