@@ -221,13 +221,18 @@ class Writing:
 
     # ---- storing
 
+    def changed(self, made: dict[str, bytes]) -> dict[str, bytes]:
+        """Returns the files that differ from what is there."""
+        root = self.tree.root
+        return {it: data for it, data in made.items() if not (root / it).exists() or (root / it).read_bytes() != data}
+
     def store(self, made: dict[str, bytes]) -> None:
         """Writes the files, and takes away those that went elsewhere."""
         root = self.tree.root
         gone = [it for it in self.tree.files if self.goes(it) and it not in made]
         for file in gone:
             (root / file).unlink()
-        made = {it: data for it, data in made.items() if not (root / it).exists() or (root / it).read_bytes() != data}
+        made = self.changed(made)
         for file, data in made.items():
             (root / file).parent.mkdir(parents=True, exist_ok=True)
             (root / file).write_bytes(data)
