@@ -2,7 +2,7 @@
 import re
 
 from renaming.code import Module
-from renaming.logic import Logic
+from renaming.logic import Labels, Logic
 from renaming.members import head_of
 from renaming.paths import Paths
 from renaming.sources import Token, closing, is_word
@@ -193,10 +193,14 @@ class Code:
                 self.left.append(f"{names} are both {new}")
 
     def note(self, at: int, old: str, new: str) -> None:
-        """Notes that a function has a word under another name: labels of its goals follow it."""
-        for owner, name, first, last in self.module.bodies:
+        """Notes that a function has a word under another name: labels of its goals follow it, but not its own name."""
+        if self.tokens[at - 1].text == "fn":
+            return
+        for _, name, first, last in self.module.bodies:
             if first <= at <= last:
-                self.labels.setdefault((self.module.crate, self.module.name, name), {})[old] = new
+                made = self.labels.setdefault((self.module.crate, self.module.name, name), Labels())
+                made.words[old] = new
+                made.bound |= self.bound_at(at)
 
     def replace(self, at: int, new: str) -> None:
         it = self.tokens[at]
