@@ -165,7 +165,7 @@ class Code:
             self.use_line(first, end)
             in_use |= set(range(first - 1, end + 1))
         for at, it in enumerate(self.tokens):
-            if at in in_use or not is_word(it):
+            if at in in_use or not is_word(it) or self.is_cycle(at):
                 continue
             before = self.tokens[at - 1].text if at else ""
             if at in self.declaring:
@@ -177,6 +177,10 @@ class Code:
         self.clauses()
         self.twice()
         return sorted(set(self.edits))
+
+    def is_cycle(self, at: int) -> bool:
+        """Whether a word is the name of a cycle of calls in `#[cycle(NAME)]`, which its folder of proofs has."""
+        return [it.text for it in self.tokens[max(0, at - 4):at]] == ["#", "[", "cycle", "("]
 
     def twice(self) -> None:
         """Says which two things the file would know by one name."""
