@@ -1,7 +1,7 @@
 #!/usr/bin/env python3
-"""front_end.py CHECKOUT CRATE [WORD..]: whether all names of a crate, and of those below it, lead somewhere and all types
-fit. Nothing is proved, and no library has to be built: each crate below is read as source. Takes some minutes, and
-several GB for the program. WORD.. go to rattle."""
+"""front_end.py CHECKOUT CRATE [WORD..]: whether all names of a crate, and of those below it, lead somewhere and all
+types fit. Nothing is proved, and no library has to be built: each crate below is read as source. Takes some minutes,
+and several GB for the program. WORD.. go to rattle."""
 import os
 import re
 import subprocess

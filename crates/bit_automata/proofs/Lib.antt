@@ -1,0 +1,5 @@
+pub mod Walking
+pub mod Numbers
+pub mod Invariant
+pub mod Law
+pub mod Small

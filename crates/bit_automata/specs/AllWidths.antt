@@ -1,0 +1,24 @@
+-- What is accepted bit by bit is true at every width.
+use Rattle.std.specs.Prelude.{◌≡◌, ◌≤◌, ℕ, List, [], true, false}
+use Rattle.bit_automata.specs.declared.verdict.Verdict.{Verdict}
+use Rattle.bit_automata.specs.declared.verdict.Verdict.TheVariants as verdict
+use Rattle.bit_automata.specs.Runs.{AcceptsAll, AreLetters, IsShortest, reached}
+use Rattle.bit_automata.specs.declared.step.Step.{Step}
+use Rattle.bit_automata.specs.Steps.{supposed, truth_at, truths}
+use Rattle.bit_automata.specs.BitSerial.{accepts, next_state, letters, start}
+
+-- a truth of these steps is true at every width, whatever the variables are of which what is supposed is so
+abbrev pub IsTrueAtAllWidths : List Step → ℕ → Type 0
+IsTrueAtAllWidths ss claim = (w : ℕ) → 1 ≤ w → (vs : List ℕ) → supposed w vs ss [] [] ≡ true → truth_at (truths w vs ss [] []) claim ≡ true
+
+abbrev pub AcceptanceIsSound : Type 0
+AcceptanceIsSound =
+    (ss : List Step) (claim : ℕ) → AcceptsAll (next_state ss) (accepts ss claim) (letters ss) (start ss) → IsTrueAtAllWidths ss claim
+
+-- what is decided of steps: that a truth is true everywhere, or letters behind which it isn't accepted, and no fewer are there
+abbrev pub IsDecided : List Step → ℕ → Verdict → Type 0
+IsDecided ss claim verdict.Always = IsTrueAtAllWidths ss claim
+IsDecided ss claim (verdict.Fails word) =
+    AreLetters (letters ss) word.items × (accepts ss claim (reached (next_state ss) (start ss) word.items) ≡ false)
+    × IsShortest (next_state ss) (accepts ss claim) (letters ss) (start ss) word.items
+IsDecided ss claim verdict.TooMany = Unit {0}

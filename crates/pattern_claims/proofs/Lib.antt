@@ -1,0 +1,12 @@
+pub mod Pieces
+pub mod Forms
+pub mod Multiples
+pub mod Flags
+pub mod Operands
+pub mod Typing
+pub mod Instructions
+pub mod BothSides
+pub mod VariableOutcomes
+pub mod Deciding
+pub mod Chaining
+pub mod Answering

@@ -1,0 +1,4 @@
+pub mod Outcomes
+pub mod Translation
+pub mod Settled
+pub mod Code

@@ -1,0 +1,53 @@
+-- What claims decide.
+use Rattle.std.specs.Prelude.{◌<◌, ℕ, Option, Some, None}
+use Rattle.bit_automata.specs.declared.verdict.Verdict.{Verdict}
+use Rattle.bit_automata.specs.declared.verdict.Verdict.TheVariants as verdict
+use Rattle.width_claims.specs.Claimed.{IsEqualDecided}
+use Rattle.width_claims.specs.Right.{IsEqualAtAllWidths}
+use Rattle.patterns_book.specs.Shapes.{Shape}
+use Rattle.pattern_claims.specs.declared.decision.Decision.{Decision}
+use Rattle.pattern_claims.specs.declared.decision.Decision.TheVariants as decision
+use Rattle.pattern_claims.specs.Outcomes.{HoldsAtAllWidths}
+use Rattle.pattern_claims.specs.Translation.{Goal, goal_of, set_count}
+
+abbrev pub IsReached : Option Goal → Type 0
+IsReached None = ⊥
+IsReached (Some None) = Unit {0}
+IsReached (Some (Some c)) = IsEqualAtAllWidths c
+
+-- for each set of variables that are poison, the goal is reached
+abbrev pub AreClaimsTrue : Shape → Type 0
+AreClaimsTrue p = (set : ℕ) → set < set_count p 0 p.values → IsReached (goal_of p set)
+
+abbrev pub ClaimsDecide : Type 0
+ClaimsDecide = (p : Shape) → AreClaimsTrue p → HoldsAtAllWidths p
+
+-- ---- what code answers
+
+-- letters after which the truth of a claim isn't accepted, and no fewer are there
+abbrev pub IsFailed : Option Goal → Verdict → Type 0
+IsFailed (Some (Some c)) v = IsEqualDecided c v
+IsFailed _ v = ⊥
+
+abbrev pub IsGoalDecided : Option Goal → Verdict → Type 0
+IsGoalDecided g verdict.Always = IsReached g
+IsGoalDecided g (verdict.Fails word) = IsFailed g (verdict.Fails word)
+IsGoalDecided g verdict.TooMany = Unit {0}
+
+-- the goals for the sets below a number
+abbrev pub AreGoalsDecided : Shape → ℕ → Decision → Type 0
+AreGoalsDecided p n decision.Always = (set : ℕ) → set < n → IsReached (goal_of p set)
+AreGoalsDecided p n (decision.Fails set word) = IsFailed (goal_of p set) (verdict.Fails word)
+AreGoalsDecided p n decision.Undecided = Unit {0}
+
+-- the pattern holds at all widths, or the claim for a set of poison variables fails
+abbrev pub IsPatternDecided : Shape → Decision → Type 0
+IsPatternDecided p decision.Always = HoldsAtAllWidths p
+IsPatternDecided p (decision.Fails set word) = IsFailed (goal_of p set) (verdict.Fails word)
+IsPatternDecided p decision.Undecided = Unit {0}
+
+-- what a verdict on the goal for a set says
+abbrev pub decision_by : ℕ → Verdict → Decision
+decision_by set verdict.Always = decision.Always
+decision_by set (verdict.Fails word) = decision.Fails set word
+decision_by set verdict.TooMany = decision.Undecided

@@ -1,0 +1,4 @@
+pub mod Cutting
+pub mod Masking
+pub mod Emitting
+pub mod Claiming

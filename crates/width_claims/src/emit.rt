@@ -1,0 +1,135 @@
+//! The steps of a claim.
+ghost use Rattle.std.specs.Prelude.{◌≡◌, ◌++◌, IfOk, IfSome, OnOk};
+ghost use Rattle.width_claims.specs.Emission.{condition_steps};
+ghost use Rattle.width_claims.specs.Blocks.{AreNarrow, ArePieces, AreTypes};
+
+use crate::block::{at, block};
+use crate::form::Piece;
+use crate::width::{Narrower, Width};
+use bit_automata::step::Step;
+use std::alloc::AllocError;
+
+/// The counts of numbers and truths.
+#[derive(Clone, Copy)]
+pub struct Counts {
+    pub numbers: usize,
+    pub truths: usize,
+}
+
+/// The most of them.
+const MOST: usize = 100000;
+
+/// Appends the masks of types, and their places. The masks of free types are the variables from `v` on.
+pub fn emit_types(
+    v: usize,
+    types: &[Width],
+    steps: &mut Vec<Step>,
+    masks: &mut Vec<usize>,
+    n: usize,
+    t: usize,
+) -> Result<Option<Counts>, AllocError>
+    ensures { IfOk result (λ c. IfSome c (AreTypes v types.now n t steps.old.items masks.old.items steps.new.items masks.new.items)) }
+{
+    if v > MOST || n > MOST || t > MOST {
+        return Ok(None);
+    }
+    let [width, tail @ ..] = types else {
+        return Ok(Some(Counts {
+            numbers: n,
+            truths: t,
+        }));
+    };
+    masks.push(n)?;
+    match width {
+        Width::Free => {
+            steps.extend_from_slice(&[
+                Step::Variable(v),
+                Step::Add(n, 1),
+                Step::And(n, n + 1),
+                Step::Suppose(n + 2, 0),
+                Step::And(n, 1),
+                Step::Suppose(n + 3, 1),
+            ])?;
+            emit_types(v + 1, tail, steps, masks, n + 4, t + 2)
+        }
+        Width::Fixed(m) => {
+            steps.extend_from_slice(&[Step::Literal(*m)])?;
+            emit_types(v + 1, tail, steps, masks, n + 1, t)
+        }
+    }
+}
+
+/// Appends the suppositions that types are narrower than others.
+pub fn emit_narrower(
+    masks: &[usize],
+    narrower: &[Narrower],
+    steps: &mut Vec<Step>,
+    n: usize,
+    t: usize,
+) -> Result<Option<Counts>, AllocError>
+    ensures { IfOk result (λ c. IfSome c (AreNarrow masks.now narrower.now n t steps.old.items steps.new.items)) }
+{
+    if n > MOST || t > MOST {
+        return Ok(None);
+    }
+    let [pair, tail @ ..] = narrower else {
+        return Ok(Some(Counts {
+            numbers: n,
+            truths: t,
+        }));
+    };
+    steps.extend_from_slice(&[
+        Step::Less(at(masks, pair.narrow), at(masks, pair.wide)),
+        Step::Select(t, 1, 0),
+        Step::Suppose(n, 1),
+    ])?;
+    emit_narrower(masks, tail, steps, n + 1, t + 2)
+}
+
+/// Appends the steps of pieces, and the places of their numbers.
+pub fn emit_pieces(
+    masks: &[usize],
+    pieces: &[Piece],
+    places: &mut Vec<usize>,
+    steps: &mut Vec<Step>,
+    n: usize,
+    t: usize,
+) -> Result<Option<Counts>, AllocError>
+    ensures { IfOk result (λ c. IfSome c (ArePieces masks.now pieces.now n t places.old.items steps.old.items places.new.items steps.new.items)) }
+{
+    if n > MOST || t > MOST {
+        return Ok(None);
+    }
+    let [piece, tail @ ..] = pieces else {
+        return Ok(Some(Counts {
+            numbers: n,
+            truths: t,
+        }));
+    };
+    let ends = block(
+        at(masks, piece.ty),
+        masks,
+        places.as_slice(),
+        n,
+        t,
+        &piece.form,
+        steps,
+    )?;
+    places.push(ends.result)?;
+    emit_pieces(masks, tail, places, steps, ends.numbers, ends.truths)
+}
+
+/// Appends the suppositions that values are 1.
+pub fn emit_conditions(
+    places: &[usize],
+    conditions: &[usize],
+    steps: &mut Vec<Step>,
+) -> Result<(), AllocError>
+    ensures { OnOk result (steps.new.items ≡ steps.old.items ++ condition_steps places.now conditions.now) }
+{
+    let [place, tail @ ..] = conditions else {
+        return Ok(());
+    };
+    steps.push(Step::Suppose(at(places, *place), 1))?;
+    emit_conditions(places, tail, steps)
+}
