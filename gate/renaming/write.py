@@ -240,7 +240,8 @@ class Writing:
         for file, data in made.items():
             (root / file).parent.mkdir(parents=True, exist_ok=True)
             (root / file).write_bytes(data)
-        for folder in sorted((it for it in (root / "crates").rglob("*") if it.is_dir()), reverse=True):
+        rooms = [*(root / "crates").rglob("*"), *(root / "bench/wrong_bodies").rglob("*")]
+        for folder in sorted((it for it in rooms if it.is_dir()), reverse=True):
             if not any(folder.iterdir()):
                 folder.rmdir()
         changed = [str(root / it) for it in made if it.endswith(".rt")]
