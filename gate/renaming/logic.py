@@ -16,11 +16,13 @@ class Labels:
 
     words: dict[str, str] = field(default_factory=dict)
     bound: set[str] = field(default_factory=set)
+    modules: dict[str, str] = field(default_factory=dict)
     is_cycle: bool = False
 
     def called(self, word: str) -> str:
-        """Returns the new name of a function, variant or type of the function's code."""
-        return self.words.get(word, word)
+        """Returns the new name of a function, variant or type of the function's code, or of `MODULE::FUNCTION`."""
+        module, colons, name = word.rpartition("::")
+        return self.modules.get(module, module) + colons + self.words.get(name, name)
 
 
 class Logic:

@@ -128,13 +128,14 @@ class Writing:
         module = room[0] if room[0] in self.tree.crates[parts[1]].modules else ""
         if not name.startswith("+"):
             return self.labels.get((parts[1], module, name), Labels())
-        found = Labels(is_cycle=True)
+        found, is_whole = Labels(is_cycle=True), len(room) == 1  # a cycle that goes through several modules
+        found.modules = {old: new for (crate, old), new in self.names.modules.items() if crate == parts[1]}
         for (crate, known, _), labels in self.labels.items():
-            if crate == parts[1] and known == module:
+            if crate == parts[1] and (known == module or is_whole):
                 found.words |= labels.words
                 found.bound |= labels.bound
         for (crate, known, *_, function), new in [*self.names.items.items(), *self.names.members.items()]:
-            if crate == parts[1] and known == module and function[:1].islower():
+            if crate == parts[1] and (known == module or is_whole) and function[:1].islower():
                 found.words[function] = new
         return found
 
