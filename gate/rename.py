@@ -58,9 +58,11 @@ def main() -> int:
     made = writing.all()
     for line in writing.said:
         print(line)
+    changed = len(writing.changed(made))
     if not asked.only_try:
         writing.store(made)
-    print(f"{len(loading.done)} lines were carried out before; {len(made)} files written")
+    verb = "differ" if asked.only_try else "written"
+    print(f"{len(loading.done)} lines were carried out before; {changed} files {verb}")
     return 0
 
 

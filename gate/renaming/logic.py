@@ -1,23 +1,41 @@
 """New names in text of antt: files of specs and proofs, and the clauses of code."""
 import re
 
+from dataclasses import dataclass, field
+
 from renaming.paths import Paths
 from renaming.sources import Token
 
 PART = re.compile(r"([A-Za-z_][\w']*)")
 
 
+@dataclass
+class Labels:
+    """What labels of a function's goals follow: words that the function has under other names, and those that it binds.
+    In a cycle a label begins with the name of one of its functions."""
+
+    words: dict[str, str] = field(default_factory=dict)
+    bound: set[str] = field(default_factory=set)
+    modules: dict[str, str] = field(default_factory=dict)
+    is_cycle: bool = False
+
+    def called(self, word: str) -> str:
+        """Returns the new name of a function, variant or type of the function's code, or of `MODULE::FUNCTION`."""
+        module, colons, name = word.rpartition("::")
+        return self.modules.get(module, module) + colons + self.words.get(name, name)
+
+
 class Logic:
     """Rewrites the tokens of a file of antt. `labels` says how labels of goals of the file's function change."""
 
     def __init__(self, paths: Paths, crate: str, side: str, stem: str, tokens: list[Token],
-                 labels: dict[str, str] | None = None, all_labels: dict | None = None) -> None:
+                 labels: Labels | None = None, all_labels: dict | None = None) -> None:
         self.paths, self.tree = paths, paths.tree
         self.crate, self.side, self.stem, self.tokens = crate, side, stem, tokens
-        self.labels, self.all_labels = labels or {}, all_labels or {}
+        self.labels, self.all_labels = labels or Labels(), all_labels or {}
         self.scope: dict[str, str] = {}
         self.modules: dict[str, tuple] = {}
-        self.goals: dict[str, dict[str, str]] = {}
+        self.goals: dict[str, Labels] = {}
         self.words: dict[str, str] = {}
         self.left: list[str] = []
         self.edits: list[tuple[int, int, str]] = []
@@ -29,7 +47,7 @@ class Logic:
         self.imports()
         if self.side == "specs" and self.stem:
             self.own_names()
-        if not (self.scope or self.modules or self.labels or self.goals):
+        if not (self.scope or self.modules or self.labels.words or self.goals):
             return self.edits
         for at, it in enumerate(self.tokens):
             if at not in self.in_imports and it.kind == "Antt":
@@ -70,11 +88,11 @@ class Logic:
         if path[-1] == "Goals" or thing[0] == "made":
             self.goals[name] = self.labels_of(path)
 
-    def labels_of(self, path: tuple[str, ...]) -> dict[str, str]:
+    def labels_of(self, path: tuple[str, ...]) -> Labels:
         """Returns how labels change of the function whose goals a path names."""
         for thing in self.tree.walk(path)[::-1]:
             if thing and thing[0] == "mirror" and thing[2][0] in ("function", "member", "impl member"):
-                return self.all_labels.get((thing[2][1], thing[2][2], thing[2][-1]), {})
+                return self.all_labels.get((thing[2][1], thing[2][2], thing[2][-1]), Labels())
         return self.labels
 
     def leaves(self, at: int, thing, is_ours: bool) -> None:
@@ -146,9 +164,9 @@ class Logic:
         new = first
         if first in self.scope and not (is_hidden and is_hidden(it, first)):
             new = self.scope[first]
-        if "-" in first and self.labels:
+        if "-" in first and self.labels.words:
             new = relabelled(first, self.labels)
-        if rest and self.labels and first not in self.scope:
+        if rest and self.labels.words and first not in self.scope:
             rest = self.of_goal(rest, self.labels)
         self.replace(it, ".".join([new, *rest]))
 
@@ -163,31 +181,31 @@ class Logic:
             out.append(self.name_of(thing, word) if thing else word)
         self.replace(it, ".".join(out))
 
-    def of_goal(self, rest: list[str], labels: dict[str, str]) -> list[str]:
+    def of_goal(self, rest: list[str], labels: Labels) -> list[str]:
         """Returns the words behind a goal's variable: labels, and the names of parameters and fields."""
         out, before = [], ""
         for word in rest:
-            if before == "args":
-                out.append(word)
-            elif "-" in word or before in ("", "c") or word in labels:
-                out.append(relabelled(word, labels) if before != "ensures" else word)
-            else:
-                out.append(word)
+            is_label = "-" in word or before in ("", "c") or word[:1].isupper()
+            out.append(relabelled(word, labels) if is_label and before not in ("args", "ensures") else word)
             before = word
         return out
 
 
-BEFORE_CALLS = {"in", "then", "else", "returns", "loop", "if", "while"}
+BEFORE_CALLS = {"in", "then", "else", "returns", "loop", "if", "while", "not", "in_default", "in_ok"}
+BEFORE_CALLS_OF_CYCLES = {"decreases", "invariant"}
 
 
-def relabelled(label: str, labels: dict[str, str]) -> str:
+def relabelled(label: str, labels: Labels) -> str:
     """Returns a label of a goal in which called functions, variants and types have other names.
 
-    `put-made` is the call of `put` whose result is `made`; `returns-in-Ok-clause-ok` is clause `ok` in arm `Ok`."""
+    `put-made` is the call of `put` whose result is `made`; `returns-in-Ok-clause-ok` is clause `ok` in arm `Ok`;
+    `in_ok-made` is what `?` gives to the variable `made`, or a call of `made`."""
     words, out, before = label.split("-"), [], ""
     for at, word in enumerate(words):
         is_named = at == 0 or before in BEFORE_CALLS or before[:1].isupper()
+        is_named |= labels.is_cycle and (at == 1 or before in BEFORE_CALLS_OF_CYCLES)
         is_known = word[:1].isupper() or (is_named and word not in BEFORE_CALLS)
-        out.append(labels.get(word, word) if is_known and before != "clause" else word)
+        is_variable = before == "in_ok" and word in labels.bound
+        out.append(labels.called(word) if is_known and before != "clause" and not is_variable else word)
         before = word
     return "-".join(out)

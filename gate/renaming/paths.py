@@ -153,7 +153,9 @@ class Paths:
                 out = (*out, *(self.own_module(thing[2]) if is_root else ()), self.word(thing, path[at]))
                 continue
             new = self.logic(target)
-            if new[1] == self.names.crate(before[1]):
+            if new[1:3] == (self.names.crate(before[1]), before[2]):
+                out = (*out, *new[3:])
+            elif new[1] == self.names.crate(before[1]):
                 out = new
             else:
                 out = (*out, self.handed_word(before, path[at]))

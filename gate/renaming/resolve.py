@@ -26,8 +26,20 @@ def defined(tree: Tree, thing, name: str) -> bool:
     return True
 
 
+def hidden(tree: Tree) -> list[str]:
+    """Returns a line for each file of proofs whose name the checker gives to what it makes of the code."""
+    found = []
+    for crate in tree.crates.values():
+        root = crate.modules.get("")
+        made = {it.lower() for it in crate.modules if it}
+        handed = {*root.items, *(it.name for it in root.uses if it.is_public)} if root else set()
+        found += [f"{file}: `{stem}` is a module or an item of the crate"
+                  for stem, file in crate.files["proofs"].items() if stem.lower() in made or stem in handed]
+    return found
+
+
 def unresolved(tree: Tree) -> list[str]:
-    """Returns a line for each path that leads to nothing."""
+    """Returns a line for each path that leads to nothing, and for each file that the checker's own names hide."""
     found = []
     for file, tokens in tree.tokens.items():
         for it, names in imports_of(tokens):
@@ -47,4 +59,4 @@ def unresolved(tree: Tree) -> list[str]:
                     found.append(f"{module.file}: {'::'.join(leaf.path)}")
         found += [f"crates.txt: {crate.name}: {it}" for it in crate.uses
                   if it not in tree.crates and f"Rattle.{it}" not in tree.kit]
-    return found
+    return found + hidden(tree)

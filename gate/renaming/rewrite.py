@@ -2,7 +2,7 @@
 import re
 
 from renaming.code import Module
-from renaming.logic import Logic
+from renaming.logic import Labels, Logic
 from renaming.members import head_of
 from renaming.paths import Paths
 from renaming.sources import Token, closing, is_word
@@ -165,7 +165,7 @@ class Code:
             self.use_line(first, end)
             in_use |= set(range(first - 1, end + 1))
         for at, it in enumerate(self.tokens):
-            if at in in_use or not is_word(it):
+            if at in in_use or not is_word(it) or self.is_cycle(at):
                 continue
             before = self.tokens[at - 1].text if at else ""
             if at in self.declaring:
@@ -177,6 +177,10 @@ class Code:
         self.clauses()
         self.twice()
         return sorted(set(self.edits))
+
+    def is_cycle(self, at: int) -> bool:
+        """Whether a word is the name of a cycle of calls in `#[cycle(NAME)]`, which its folder of proofs has."""
+        return [it.text for it in self.tokens[max(0, at - 4):at]] == ["#", "[", "cycle", "("]
 
     def twice(self) -> None:
         """Says which two things the file would know by one name."""
@@ -193,10 +197,14 @@ class Code:
                 self.left.append(f"{names} are both {new}")
 
     def note(self, at: int, old: str, new: str) -> None:
-        """Notes that a function has a word under another name: labels of its goals follow it."""
-        for owner, name, first, last in self.module.bodies:
+        """Notes that a function has a word under another name: labels of its goals follow it, but not its own name."""
+        if self.tokens[at - 1].text == "fn":
+            return
+        for _, name, first, last in self.module.bodies:
             if first <= at <= last:
-                self.labels.setdefault((self.module.crate, self.module.name, name), {})[old] = new
+                made = self.labels.setdefault((self.module.crate, self.module.name, name), Labels())
+                made.words[old] = new
+                made.bound |= self.bound_at(at)
 
     def replace(self, at: int, new: str) -> None:
         it = self.tokens[at]

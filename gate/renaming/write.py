@@ -6,7 +6,7 @@ from renaming import mutants
 from renaming.layout import Layout, renamed_mods
 from renaming.pages import Pages
 from renaming.paths import Paths
-from renaming.logic import Logic
+from renaming.logic import Labels, Logic
 from renaming.rewrite import Code, applied, in_comments, owner_at, params_at
 from renaming.sources import RATTLE
 from renaming.table import Names
@@ -47,7 +47,7 @@ class Writing:
         self.pages = Pages(self)
         self.said: list[str] = []
         self.left: list[str] = []
-        self.labels: dict[tuple[str, str, str], dict[str, str]] = {}
+        self.labels: dict[tuple[str, str, str], Labels] = {}
         self.file_words: dict[str, dict[str, str]] = {}
         self.made: dict[str, bytes] = {}
         self.came_from: dict[str, str] = {}
@@ -115,23 +115,28 @@ class Writing:
         """Returns the replacements in a file of specs or proofs."""
         parts = file.split("/")
         stem = parts[3].removesuffix(".antt") if len(parts) == 4 else ""
-        labels = self.labels_of(parts) if len(parts) > 4 else {}
+        labels = self.labels_of(parts) if len(parts) > 4 else Labels()
         logic = Logic(self.paths, parts[1], parts[2], stem, tokens, labels, self.labels)
         edits = logic.all()
         self.left += [f"{file}: {it}" for it in logic.left]
         self.file_words[file] = logic.words
         return edits
 
-    def labels_of(self, parts: list[str]) -> dict[str, str]:
+    def labels_of(self, parts: list[str]) -> Labels:
         """Returns how labels change in the answers of a function, or of the functions of a cycle."""
         room, name = parts[3:-1], parts[-2]
         module = room[0] if room[0] in self.tree.crates[parts[1]].modules else ""
         if not name.startswith("+"):
-            return self.labels.get((parts[1], module, name), {})
-        found: dict[str, str] = {}
+            return self.labels.get((parts[1], module, name), Labels())
+        found, is_whole = Labels(is_cycle=True), len(room) == 1  # a cycle that goes through several modules
+        found.modules = {old: new for (crate, old), new in self.names.modules.items() if crate == parts[1]}
         for (crate, known, _), labels in self.labels.items():
-            if crate == parts[1] and known == module:
-                found |= labels
+            if crate == parts[1] and (known == module or is_whole):
+                found.words |= labels.words
+                found.bound |= labels.bound
+        for (crate, known, *_, function), new in [*self.names.items.items(), *self.names.members.items()]:
+            if crate == parts[1] and (known == module or is_whole) and function[:1].islower():
+                found.words[function] = new
         return found
 
     def source(self, file: str, edits: list, crate: str) -> None:
@@ -221,17 +226,23 @@ class Writing:
 
     # ---- storing
 
+    def changed(self, made: dict[str, bytes]) -> dict[str, bytes]:
+        """Returns the files that differ from what is there."""
+        root = self.tree.root
+        return {it: data for it, data in made.items() if not (root / it).exists() or (root / it).read_bytes() != data}
+
     def store(self, made: dict[str, bytes]) -> None:
         """Writes the files, and takes away those that went elsewhere."""
         root = self.tree.root
         gone = [it for it in self.tree.files if self.goes(it) and it not in made]
         for file in gone:
             (root / file).unlink()
-        made = {it: data for it, data in made.items() if not (root / it).exists() or (root / it).read_bytes() != data}
+        made = self.changed(made)
         for file, data in made.items():
             (root / file).parent.mkdir(parents=True, exist_ok=True)
             (root / file).write_bytes(data)
-        for folder in sorted((it for it in (root / "crates").rglob("*") if it.is_dir()), reverse=True):
+        rooms = [*(root / "crates").rglob("*"), *(root / "bench/wrong_bodies").rglob("*")]
+        for folder in sorted((it for it in rooms if it.is_dir()), reverse=True):
             if not any(folder.iterdir()):
                 folder.rmdir()
         changed = [str(root / it) for it in made if it.endswith(".rt")]
