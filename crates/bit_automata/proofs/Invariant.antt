@@ -1,4 +1,4 @@
--- What each step keeps behind the first bits of numbers that stand there.
+-- What each step keeps after the first bits of its numbers.
 use Rattle.std.proofs.Common.{◌≡◌, ◌∙◌, ℕ, zero, suc, ◌+◌, ◌-◌, ◌*◌, ◌/◌, ◌%◌, ◌^◌, ◌<◌, ◌==◌, min, max, List, [], ◌∷◌, map, Bool, true, false, true≢false, nat_lt, if◌then◌else◌, refl, sym, ap, arith}
 use Rattle.std.specs.Int.{bit_at}
 use Rattle.std.proofs.lemmas.Bool.{eqb-true}

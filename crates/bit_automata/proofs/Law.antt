@@ -39,7 +39,7 @@ module _ (w : ℕ) (vs : List ℕ) where
       go true = low_behind w ns (value_of w vs s ns ts) low (value_low w vs s ns ts low)
       go false = low
 
-  -- the state behind the first k bits
+  -- the state after the first k bits
   abbrev pub state_at : ℕ → List Step → List ℕ → List Bool → ℕ
   state_at k [] ns ts = 0
   state_at k (s ∷ ss) ns ts = kept k s (value_of w vs s ns ts) ns + radix s * state_at k ss (numbers_then w vs s ns ts) (truths_then s ns ts)

@@ -19,7 +19,7 @@ pub last_there : {X : Type 0} → (xs : List X) (x : X) → slice_get (xs ++ x �
 last_there [] x = refl
 last_there (y ∷ xs) x = last_there xs x
 
--- what stands in a longer list stood in the shorter one, or is the last
+-- an item of a longer list is in the shorter one, or is the last
 pub there_or_last : {X : Type 0} → (xs : List X) (x : X) (i : ℕ) (y : X) → slice_get (xs ++ x ∷ []) i ≡ Some y → (slice_get xs i ≡ Some y) ⊎ ((i ≡ length xs) × (x ≡ y))
 there_or_last [] x zero y e = inr (refl, same_Some x y e)
 there_or_last [] x (suc i) y e = absurd (none-some y (sym (slice_get_past [] i (omega arith)) ∙ e))
@@ -27,7 +27,7 @@ there_or_last (z ∷ xs) x zero y e = inl e
 there_or_last (z ∷ xs) x (suc i) y e = elim (there_or_last xs x i y e) [ inl h ↦ inl h | inr h ↦ inr (ap suc h.0, h.1) ]
 
 module _ (after : ℕ → ℕ → ℕ) (accepts : ℕ → Bool) (n : ℕ) where
-  -- origins stay what they are where a state is put behind
+  -- origins stay the same if a state is appended
   still_from : (states : List ℕ) (t i : ℕ) (o : Origin) → ComesFrom after n states i o → ComesFrom after n (states ++ t ∷ []) i o
   still_from states t i o c = (c.0, c.1, c.2, still_there states (t ∷ []) o.from c.2 c.3, still_there states (t ∷ []) i (after c.2 o.letter) c.4)
 
@@ -242,7 +242,7 @@ module _ (after : ℕ → ℕ → ℕ) (accepts : ℕ → Bool) (n : ℕ) where
       let deep = w.deep.0 in
       ⊎_elim (λ h. h) (λ (h : place ≤ i). let r = w.layers.0 place i h (omega (arith, k, long, deep)) in absurd (omega (arith, r, l))) (cases_lt i place)
 
-  -- behind fewer letters than lead to a place, all is accepted
+  -- all states after fewer letters than lead to a place are accepted
   shallow : (start : Option ℕ) (states : List ℕ) (os : List Origin) (ds : List ℕ) (place : ℕ) → WalkedBy after accepts n start states os ds place → place < length ds
       → (i s : ℕ) → slice_get states i ≡ Some s → (x : ℕ) (xs : List ℕ) → AreLetters n (x ∷ xs) → depth ds i + length (x ∷ xs) ≤ depth ds place → accepts (reached after s (x ∷ xs)) ≡ true
   shallow start states os ds place w within i s e x [] a l =

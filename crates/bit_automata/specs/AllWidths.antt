@@ -7,7 +7,7 @@ use Rattle.bit_automata.specs.declared.step.Step.{Step}
 use Rattle.bit_automata.specs.Steps.{supposed, truth_at, truths}
 use Rattle.bit_automata.specs.BitSerial.{accepts, next_state, letters, start}
 
--- a truth of these steps is true at every width, whatever the variables are of which what is supposed is so
+-- a truth of these steps holds at every width, for all variables that meet the suppositions
 abbrev pub IsTrueAtAllWidths : List Step → ℕ → Type 0
 IsTrueAtAllWidths ss claim = (w : ℕ) → 1 ≤ w → (vs : List ℕ) → supposed w vs ss [] [] ≡ true → truth_at (truths w vs ss [] []) claim ≡ true
 
@@ -15,7 +15,7 @@ abbrev pub AcceptanceIsSound : Type 0
 AcceptanceIsSound =
     (ss : List Step) (claim : ℕ) → AcceptsAll (next_state ss) (accepts ss claim) (letters ss) (start ss) → IsTrueAtAllWidths ss claim
 
--- what is decided of steps: that a truth is true everywhere, or letters behind which it isn't accepted, and no fewer are there
+-- the verdict on steps: a truth holds at every width, or a shortest word after which it isn't accepted
 abbrev pub IsDecided : List Step → ℕ → Verdict → Type 0
 IsDecided ss claim verdict.Always = IsTrueAtAllWidths ss claim
 IsDecided ss claim (verdict.Fails word) =

@@ -57,7 +57,7 @@ bit_of (step.Subtract i j) c g bs = (number_at bs i + number_at bs j + c) % 2
 bit_of (step.Select t i j) c g bs = g
 bit_of _ c g bs = 0
 
--- bits, of which each is 0 or 1
+-- bits: each number is 0 or 1
 abbrev pub AreBits : List ℕ → Type 0
 AreBits bs = (i : ℕ) → number_at bs i < 2
 
@@ -86,13 +86,13 @@ bits_then s c g bs = if is_number s then bs ++ (bit_of s c g bs ∷ []) else bs
 abbrev pub letter_then : Step → ℕ → ℕ
 letter_then s x = if reads_bit s then x / 2 else x
 
--- the state behind a letter
+-- the state after a letter
 abbrev pub after : List Step → ℕ → ℕ → List ℕ → ℕ
 after [] n x bs = 0
 after (s ∷ ss) n x bs =
     next_of s (n % radix s) (x % 2) bs + radix s * after ss (n / radix s) (letter_then s x) (bits_then s (n % radix s) (x % 2) bs)
 
--- a state from which a guess stays wrong, or what is supposed isn't so, whatever comes; one of them stands for all
+-- a state in which a guess or a supposition has failed for good; one such state represents all of them
 abbrev pub loses : Step → ℕ → Bool
 loses (step.Select t i j) c = c == 0
 loses (step.Suppose i j) c = c == 0
@@ -141,7 +141,7 @@ all_agree (s ∷ ss) n ts = agrees s (n % radix s) ts && all_agree ss (n / radix
 abbrev pub accepts : List Step → ℕ → ℕ → Bool
 accepts ss claim n = not (all_agree ss n []) || truth_at (end_truths ss n []) claim
 
--- what is told behind steps, and whether all agrees
+-- the truths after the last bit, and whether all guesses and suppositions hold
 abbrev pub Ended : List Step → ℕ → List Bool → List Bool → Bool → Type 0
 Ended ss n ts us agreed = (us ≡ end_truths ss n ts) × (agreed ≡ all_agree ss n ts)
 

@@ -17,12 +17,12 @@ AreLetters n (x ∷ xs) = (x < n) × AreLetters n xs
 abbrev pub AcceptsAll : (ℕ → ℕ → ℕ) → (ℕ → Bool) → ℕ → ℕ → Type 0
 AcceptsAll after accepts n start = (x : ℕ) (xs : List ℕ) → AreLetters n (x ∷ xs) → accepts (reached after start (x ∷ xs)) ≡ true
 
--- behind fewer letters, but not none, it is accepted
+-- the state after each shorter word that isn't empty is accepted
 abbrev pub IsShortest : (ℕ → ℕ → ℕ) → (ℕ → Bool) → ℕ → ℕ → List ℕ → Type 0
 IsShortest after accepts n start word =
     (x : ℕ) (xs : List ℕ) → AreLetters n (x ∷ xs) → length (x ∷ xs) < length word → accepts (reached after start (x ∷ xs)) ≡ true
 
--- what is decided: all are accepted, or one isn't behind these letters, and of such letters there are no fewer
+-- the verdict: all states are accepted, or the state after this word isn't, and no shorter word leads to such a state
 abbrev pub IsVerdict : (ℕ → ℕ → ℕ) → (ℕ → Bool) → ℕ → ℕ → Verdict → Type 0
 IsVerdict after accepts n start verdict.Always = AcceptsAll after accepts n start
 IsVerdict after accepts n start (verdict.Fails word) = AreLetters n word.items × (accepts (reached after start word.items) ≡ false) × IsShortest after accepts n start word.items

@@ -3,7 +3,7 @@ use Rattle.std.specs.Prelude.{ℕ, ◌+◌, ◌-◌, ◌%◌, ◌^◌, ◌==◌,
 use Rattle.bit_automata.specs.declared.step.Step.{Step}
 use Rattle.bit_automata.specs.declared.step.Step.TheVariants as step
 
--- what stands at a place; 0, and false, where nothing does
+-- the item at a place; 0, or false, if there is none
 abbrev pub number_at : List ℕ → ℕ → ℕ
 number_at ns i = get_or ns i 0
 
@@ -46,14 +46,14 @@ truth_of (step.Both i j) ns ts = truth_at ts i && truth_at ts j
 truth_of (step.Differ i j) ns ts = differ (truth_at ts i) (truth_at ts j)
 truth_of _ ns ts = false
 
--- what stands there behind a step
+-- the numbers and the truths after a step
 abbrev pub numbers_then : ℕ → List ℕ → Step → List ℕ → List Bool → List ℕ
 numbers_then w vs s ns ts = if is_number s then ns ++ (value_of w vs s ns ts ∷ []) else ns
 
 abbrev pub truths_then : Step → List ℕ → List Bool → List Bool
 truths_then s ns ts = if is_number s then ts else ts ++ (truth_of s ns ts ∷ [])
 
--- all truths, behind all steps, at a width w, for these numbers of the variables
+-- all truths after all steps, at width w, for these values of the variables
 abbrev pub truths : ℕ → List ℕ → List Step → List ℕ → List Bool → List Bool
 truths w vs [] ns ts = ts
 truths w vs (s ∷ ss) ns ts = truths w vs ss (numbers_then w vs s ns ts) (truths_then s ns ts)

@@ -35,7 +35,7 @@ LeadsTo os place x word =
     → slice_get states 0 ≡ Some start → slice_get states place ≡ Some s → x < n
     → AreLetters n word × (reached after start word ≡ after s x) × ((depths : List ℕ) → AreDepths depths os → length word ≡ suc (depth depths place))
 
--- what a letter leads to from a state is accepted, and among those that were found, behind at most one letter more
+-- the state after a letter is accepted and was found, at a depth of at most one letter more
 abbrev pub IsMet : (ℕ → ℕ → ℕ) → (ℕ → Bool) → List ℕ → List ℕ → ℕ → ℕ → ℕ → Type 0
 IsMet after accepts states ds s d x = (accepts (after s x) ≡ true) × ((i : ℕ) × (slice_get states i ≡ Some (after s x)) × (depth ds i ≤ suc d))
 
@@ -47,7 +47,7 @@ AreMet after accepts states ds s d n = (x : ℕ) → x < n → IsMet after accep
 abbrev pub AllMet : (ℕ → ℕ → ℕ) → (ℕ → Bool) → ℕ → List ℕ → List ℕ → ℕ → Type 0
 AllMet after accepts n states ds most = (i s : ℕ) → i < most → slice_get states i ≡ Some s → AreMet after accepts states ds s (depth ds i) n
 
--- states that were found, the first of them the one that was begun with, and of which some were gone through
+-- the states that were found, the start first; all letters of the first `most` states were tried
 pub record WalkedBy (after : ℕ → ℕ → ℕ) (accepts : ℕ → Bool) (n : ℕ) (start : Option ℕ) (states : List ℕ) (os : List Origin) (ds : List ℕ) (most : ℕ) : Type 0 where
   pub first : slice_get states 0 ≡ start
   pub long : length os ≡ length states
@@ -64,12 +64,12 @@ abbrev pub Goes : (ℕ → ℕ → ℕ) → (ℕ → Bool) → ℕ → Option �
 Goes after accepts n start states os place s x =
     (ds : List ℕ) × WalkedBy after accepts n start states os ds place × (slice_get states place ≡ Some s) × AreMet after accepts states ds s (depth ds place) x
 
--- a state is there behind a search for it, and everything that was
+-- after a search the state is among those found, and no other was dropped
 abbrev pub Found : ℕ → Origin → List ℕ → List Origin → List ℕ → List Origin → Type 0
 Found s o states os more all =
     (((i : ℕ) × (slice_get states i ≡ Some s)) × (more ≡ states) × (all ≡ os)) ⊎ ((more ≡ states ++ s ∷ []) × (all ≡ os ++ o ∷ []))
 
--- what is known behind going through one state more
+-- the facts after all letters of one more state were tried
 abbrev pub WentThrough : (ℕ → ℕ → ℕ) → (ℕ → Bool) → ℕ → Option ℕ → List ℕ → List Origin → ℕ → ℕ → Option ℕ → Type 0
 WentThrough after accepts n start states os place s None = Walked after accepts n start states os (suc place)
 WentThrough after accepts n start states os place s (Some x) =

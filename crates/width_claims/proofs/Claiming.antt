@@ -72,7 +72,7 @@ module _ (W : ℕ) (vs : List ℕ) where
     alike : length ms ≡ length ds
     masks : (u : ℕ) → u < length ms → (at ms u < n) × (at ns (at ms u) ≡ mask (at ds u))
 
-  -- one mask more, behind which numbers may be
+  -- one mask more, with any numbers after it
   mask_more : (ds ms ns new : List ℕ) (ts us : List Bool) (n t k u w : ℕ) → Begun ds ms ns ts n t → ((i : ℕ) → i < n → at new i ≡ at ns i) → length new ≡ k → length us ≡ u → n < k → at new n ≡ mask w
       → Begun (ds ++ w ∷ []) (ms ++ n ∷ []) new us k u
   mask_more ds ms ns new ts us n t k u w b stay many end_truth h is =

@@ -79,7 +79,7 @@ record Does (ns : List ℕ) (n : ℕ) (ms : List ℕ) (us : List Bool) (r m u v 
   value : at ms r ≡ v
 
 module _ (W : ℕ) (vs ws ms : List ℕ) where
-  -- one value more stands there
+  -- one value more
   more : (env tys pl ns new : List ℕ) (ts us : List Bool) (n t r m u v ty : ℕ) → Represents W ws ms env tys pl ns ts n t → Does ns n new us r m u v → v < 2 ^ at ws ty
       → Represents W ws ms (env ++ v ∷ []) (tys ++ ty ∷ []) (pl ++ r ∷ []) new us m u
   more env tys pl ns new ts us n t r m u v ty s d low =
@@ -132,7 +132,7 @@ module _ (W : ℕ) (vs ws ms : List ℕ) where
   does_one ns us n u x v many end_truth e =
       record { stay = push_steps ns x; many = longer ns x n many; end_truth = end_truth; grown = omega arith; there = omega arith; value = last ns x n many ∙ e }
 
-  -- one number more behind others
+  -- one number more after others
   does_next : (ns ms : List ℕ) (us : List Bool) (n m u x v : ℕ) → Stay ns ms → length ns ≡ n → length ms ≡ m → n ≤ m → length us ≡ u → x ≡ v → Does ns n (ms ++ x ∷ []) us m (m + 1) u v
   does_next ns os us n m u x v stay many long h end_truth e =
       record { stay = push_more ns os x (omega (arith, many, long, h)) stay; many = longer os x m long; end_truth = end_truth; grown = omega (arith, h); there = omega arith; value = last os x m long ∙ e }

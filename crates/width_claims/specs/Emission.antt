@@ -10,7 +10,7 @@ use Rattle.width_claims.specs.declared.width.Width.{Width}
 use Rattle.width_claims.specs.declared.width.Width.TheVariants as width
 use Rattle.width_claims.specs.PieceValues.{at}
 
--- steps, the place of the number that they are for, and how many numbers and truths there are behind them
+-- steps, the place of their result, and how many numbers and truths there are after them
 pub record Block : Type 0 where
   pub steps : List Step
   pub result : ℕ
@@ -76,7 +76,7 @@ places ms [] pl n t = pl
 places ms (p ∷ ps) pl n t =
     places ms ps (pl ++ ((block_of (at ms p.ty) ms pl n t p.form).result ∷ [])) ((block_of (at ms p.ty) ms pl n t p.form).numbers) ((block_of (at ms p.ty) ms pl n t p.form).truths)
 
--- how many numbers and truths there are behind them
+-- how many numbers and truths there are after them
 abbrev pub numbers_end : List ℕ → List Piece → List ℕ → ℕ → ℕ → ℕ
 numbers_end ms [] pl n t = n
 numbers_end ms (p ∷ ps) pl n t =

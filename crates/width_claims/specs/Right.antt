@@ -13,7 +13,7 @@ use Rattle.width_claims.specs.declared.width.Narrower.{Narrower}
 use Rattle.width_claims.specs.declared.width.Width.{Width}
 use Rattle.width_claims.specs.declared.width.Width.TheVariants as width
 
--- all numbers, behind all steps
+-- all numbers after all steps
 abbrev pub numbers : ℕ → List ℕ → List Step → List ℕ → List Bool → List ℕ
 numbers W vs [] ns ts = ns
 numbers W vs (s ∷ ss) ns ts = numbers W vs ss (numbers_then W vs s ns ts) (truths_then s ns ts)
@@ -49,7 +49,7 @@ abbrev pub AreRight : ℕ → List ℕ → List Piece → List ℕ → Type 0
 AreRight W ws [] tys = Unit {0}
 AreRight W ws (p ∷ ps) tys = IsBelow W (at ws p.ty) × IsRight W ws tys (at ws p.ty) p.form × AreRight W ws ps (tys ++ (p.ty ∷ []))
 
--- n numbers and t truths, where each type's mask stands at its place, and each value at its own
+-- n numbers and t truths: each type's mask is at its place, and so is each value
 pub record Represents (W : ℕ) (ws ms env tys pl ns : List ℕ) (ts : List Bool) (n t : ℕ) : Type 0 where
   pub many : length ns ≡ n
   pub end_truth : length ts ≡ t
