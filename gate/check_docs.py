@@ -1,17 +1,17 @@
 #!/usr/bin/env python3
-"""Checks README.md, docs/*.md, crates/*/README.md and bench/wrong_bodies/README.md:
+"""Checks README.md, docs/*.md, crates/*/README.md and tests/mutants/README.md:
 
   - each path of a file, a folder or a crate in backticks is there (NAME, CRATE and their like stand for any);
   - a line has at most 120 columns, of Python, shell, C, C++ and Rust too; a cell of a table at most 200 (its row can't
     be broken);
   - the picture of docs/ARCHITECTURE.md has each crate of crates/, and crates.txt no other, each above those it names;
-  - bench/wrong_bodies/README.md lists each edit that the prover must refuse, and docs/PROMISES.md says how many there
+  - tests/mutants/README.md lists each edit that the prover must refuse, and docs/PROMISES.md says how many there
     are, and names in its last column no other;
-  - what an edit or a control is to replace stands once in its file.
+  - the text that an edit or a control replaces is exactly once in its file.
 
-It lists the lines with "yet", "at present" and "so far": what they say is to be looked at whenever something lands.
+It lists the lines with "yet", "at present" and "so far", which may be out of date after a change.
 
-usage: gate/check_docs.py     at the top of the repository; the status is 1 where something is wrong"""
+usage: gate/check_docs.py     at the top of the repository; the status is 1 if something is wrong"""
 import pathlib
 import re
 import sys
@@ -22,13 +22,13 @@ SPAN = re.compile(r"(?<!`)`([^`\n]+)`(?!`)")
 PATH = re.compile(r"[\w.{},*/-]+")
 ENDINGS = {".md", ".py", ".sh", ".rt", ".antt", ".txt", ".c", ".edit", ".mlir", ".script", ".out"}
 INSIDE = {"src", "specs", "proofs", "must-fail"}
-LINES = ("bench", "c", "cpp", "examples", "gate", "python", "rust", "tests/embed", "tools")
+LINES = ("benchmarks", "bindings", "examples", "gate", "oracle", "tests", "tools")
 PLACEHOLDER = re.compile(r"\b(NAME|CRATE|MODULE|FUNCTION|FILE|FOLDER|OLD|NEW|WORD)\b")
 NO_EDITS = {"with_capacity"}  # a function that the table of planted bodies names
 PART_OF_EDIT = re.compile(r"^(file|old|new): ?", re.MULTILINE)
 ROW_OF_EDIT = re.compile(r"^\| `(\w+)` \| `(\w+)` \|", re.MULTILINE)
 root = pathlib.Path()
-WRONG_BODIES = root / "bench/wrong_bodies"
+WRONG_BODIES = root / "tests/mutants"
 crates = {path.name for path in (root / "crates").iterdir() if path.is_dir()}
 
 
@@ -52,7 +52,8 @@ def is_path(text, of_crate):
 
 
 def is_there(text, page, of_crate):
-    """Whether it is there: from the top, crates/ or the page's folder, or, of a page of docs/, in some crate."""
+    """Whether a path exists: from the top, from crates/ or the page's folder, or, for a page of docs/, in some
+    crate."""
     path = text.rstrip("/")
     paths = [path, f"crates/{path}"] + ([] if of_crate else [f"crates/*/{path}"])
     return any(next(root.glob(it), None) for it in paths) or next(page.parent.glob(path), None) is not None
@@ -66,7 +67,7 @@ def pages():
 
 
 def wrong_in(page):
-    """What is wrong with a page, and the lines that speak of a moment."""
+    """What is wrong with a page, and the lines that may be out of date."""
     of_crate = page.parent.parent.name == "crates"
     for number, line in enumerate(page.read_text().splitlines(), 1):
         at = f"{page}:{number}"
@@ -85,7 +86,7 @@ def wrong_in(page):
 
 
 def long_lines():
-    """Lines of programs beside the crates that are too long."""
+    """Lines that are too long in programs outside the crates."""
     for path in sorted(it for folder in LINES for it in (root / folder).rglob("*")):
         if path.suffix in {".py", ".sh", ".c", ".cpp", ".h", ".hpp", ".rs"}:
             for number, line in enumerate(path.read_text().splitlines(), 1):
@@ -94,7 +95,7 @@ def long_lines():
 
 
 def crates_apart():
-    """Where the picture or crates.txt have other crates than there are, or a crate stands on one above it."""
+    """Faults of the picture and of crates.txt: a crate that is missing or doesn't exist, or that uses one above it."""
     drawn = {word for line in (root / "docs/ARCHITECTURE.md").read_text().splitlines() if line.startswith("    ")
              for word in re.findall(r"\w+", line)}
     yield from (f"docs/ARCHITECTURE.md: {name} isn't drawn" for name in sorted(crates - drawn))
@@ -108,7 +109,7 @@ def crates_apart():
 
 
 def edits_apart():
-    """Where the pages have other edits than there are."""
+    """Edits that the pages lack, or that don't exist."""
     tried = {(path.parts[-3], path.stem) for path in root.glob("crates/*/must-fail/*.edit")}
     kept = {(path.parts[-2], path.stem) for path in WRONG_BODIES.glob("*/*.edit")}
     lists = (WRONG_BODIES / "README.md").read_text().split("## Here")
@@ -125,7 +126,7 @@ def edits_apart():
 
 
 def edits_astray():
-    """Where the text that an edit or a control is to replace doesn't stand in its file once."""
+    """Edits and controls whose old text isn't exactly once in its file."""
     edits = [(path, path.parents[1].name) for path in root.glob("crates/*/must-fail/*.edit")]
     edits += [(path, path.parent.name) for ending in ("edit", "control") for path in WRONG_BODIES.glob(f"*/*.{ending}")]
     for edit, crate in sorted(edits):

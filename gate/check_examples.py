@@ -1,27 +1,26 @@
 #!/usr/bin/env python3
-"""Runs each script of examples/ over its module, compares what is written with the output that stands there, and has
-mlir-opt accept each module and what becomes of it.
+"""Runs each script of examples/ over its module, compares the output with the expected one, and has mlir-opt accept
+each module and its result.
 
-usage: gate/check_examples.py [MLIR_OPT]     (mlir-opt-22; where it isn't installed, it isn't asked)
+usage: gate/check_examples.py [MLIR_OPT]     (mlir-opt-22; if it isn't installed, it isn't asked)
 
-Whoever edits an example writes its output anew with `--write` in place of MLIR_OPT."""
-import pathlib
+After an edit of an example, `--write` in place of MLIR_OPT writes its output again."""
 import shutil
 import subprocess
 import sys
 
-sys.dont_write_bytecode = True
-sys.path.append(str(pathlib.Path(__file__).resolve().parents[1] / "tools"))
+from checkout import ROOT
+from mlir_work.cli import program
+from mlir_work.script import joined
+from tools import launch
 
-import program  # noqa: E402
-
-EXAMPLES = program.ROOT / "examples"
+EXAMPLES = ROOT / "examples"
 
 
 def output(name):
     """What the program writes of an example."""
     files = [EXAMPLES / f"{name}.mlir", EXAMPLES / f"{name}.script"]
-    return "".join(line + "\n" for line in program.ran(program.joined(*(file.read_bytes() for file in files)))[1])
+    return program.ran(joined(*(file.read_bytes() for file in files))).text
 
 
 def last_module(written):
@@ -33,7 +32,7 @@ def last_module(written):
 
 
 def refused_by(tool, text):
-    """What mlir-opt says against a module, or nothing where it takes it."""
+    """The error of mlir-opt about a module, or nothing if it accepts the module."""
     it = subprocess.run([tool, "-o", "/dev/null"], input=text.encode(), capture_output=True, check=False)
     return it.stderr.decode().splitlines()[:1] or ["it is refused"] if it.returncode else []
 
@@ -56,6 +55,7 @@ def main():
         return
     if len(sys.argv) > 2 or sys.argv[1:2] == ["--help"]:
         sys.exit(__doc__)
+    launch.provide()
     tool = shutil.which(sys.argv[1] if len(sys.argv) == 2 else "mlir-opt-22")
     try:
         found = [fault for name in names for fault in faults(name, tool)]

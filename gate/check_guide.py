@@ -1,16 +1,18 @@
 #!/usr/bin/env python3
-"""Types the commands of README.md, docs/GUIDE.md, docs/REFUSALS.md, docs/FROM_MLIR_OPT.md and examples/README.md as
-they stand there, in a folder that has what is at the top of the repository, and looks at what they write. A command on
-those pages that isn't known here is a fault, and so is one that is known and isn't there. (What is typed in a session
-of docs/GUIDE.md is typed by tools/tests/test_pages.py.) What stands in docs/COOKBOOK.md, docs/EMBED.md and
-docs/LISTENER_TUTORIAL.md it types too, and compares all that is written with what stands below it; a task of the
-cookbook takes at most ten lines. Where the program hasn't `--interactive`, tools/tests/live.py is asked in its place
-for docs/EMBED.md.
+"""Runs the commands of the pages, and checks what they write.
+
+In README.md, docs/TRUST.md, docs/GUIDE.md, docs/REFUSALS.md, docs/FROM_MLIR_OPT.md and examples/README.md a command is
+an indented line or a span in backticks. Each one has a row in COMMANDS. A command without a row is a fault, and so is
+a row without a command. In these pages and in docs/COOKBOOK.md a block of `sh` before a block of `text` is run, and has
+to write that text to standard output and standard error. In docs/COOKBOOK.md, docs/EMBED.md and
+docs/LISTENER_TUTORIAL.md the blocks of `console` are run, and all output is compared; a task of the cookbook takes at
+most ten typed lines. (tools/tests/test_pages.py runs the sessions of docs/GUIDE.md.) If the program has no
+`--interactive`, tools/tests/live.py takes its place for docs/EMBED.md.
 
 usage: gate/check_guide.py [--all]     with --all also those that take minutes, since they build
 
-The program is the built one, or that of MLIR_WORK (tools/program.py). A command that wants `mlir-opt` is typed where
-one is installed, mlir-opt-22 before another."""
+The program is the built one, or that of MLIR_WORK. A command that needs `mlir-opt` is typed if one is installed,
+mlir-opt-22 before another."""
 import os
 import pathlib
 import re
@@ -20,13 +22,12 @@ import subprocess
 import sys
 import tempfile
 
-sys.dont_write_bytecode = True
-sys.path.append(str(pathlib.Path(__file__).resolve().parents[1] / "tools"))
+from checkout import ROOT
+from mlir_work.cli import program
+from tools import launch
 
-import program  # noqa: E402
-
-ROOT = program.ROOT
-PAGES = ["README.md", "docs/GUIDE.md", "docs/REFUSALS.md", "docs/FROM_MLIR_OPT.md", "examples/README.md"]
+PAGES = ["README.md", "docs/TRUST.md", "docs/GUIDE.md", "docs/REFUSALS.md", "docs/FROM_MLIR_OPT.md",
+         "examples/README.md"]
 COOKBOOK, EMBED, TUTORIAL, MOST_TYPED = "docs/COOKBOOK.md", "docs/EMBED.md", "docs/LISTENER_TUTORIAL.md", 10
 LIVE = [sys.executable, "-S", "-E", str(ROOT / "tools/tests/live.py")]
 # What the tutorial copies and edits.
@@ -35,13 +36,14 @@ BEGINS = ("./run", "./test", "rt ", "tools/", "mlir-opt ", "MLIR_WORK", "(cat ",
 # Words in a sentence that are typed, and not only named.
 SAID = re.compile(r"MLIR_WORK\w*=\S+ .*|\./run .*|\./test.*|rt .*|tools/\w+\.(?:py|sh) .*|gate/check_\w+\.py|tr .*")
 RUN = "(cat module.mlir; echo '// -----'; cat FILE) | ./run --brief"
-TOP = "README.md CHANGELOG.md run test bench crates docs examples gate patterns python tests tools crates.txt".split()
+TOP = ("README.md CHANGELOG.md run test benchmarks bindings crates docs examples gate oracle patterns tests tools "
+       "crates.txt").split()
 SESSION = "ids\ndead\nhelp\n"
 
 
 class Typed:
-    """How a command is typed (`line`, where it isn't as it stands), what is typed to it, a part of what it has to
-    write, its status, and what it wants: a tool that may not be installed, or minutes."""
+    """How a command is run (`line`, if it differs from the page), its input, a part of the expected output, its status,
+    and what it needs: a tool that may not be installed, or minutes."""
 
     def __init__(self, writes, line=None, given="", status=0, wants="", folder="."):
         self.writes, self.line, self.given, self.status = writes, line, given, status
@@ -50,20 +52,14 @@ class Typed:
 
 COMMANDS = {
     "MLIR_WORK=reference tools/session.py examples/fold.mlir": Typed('    #0  "builtin.module"', given=SESSION),
-    "./run --brief < crates/mlir_work/stdin": Typed("\n2 ok\n"),
     "./run --help": Typed("\nTo look:\n"),
-    "./test --help": Typed("./test AREA[/NAME[/CASE]]"),
     "MLIR_WORK_BUILD=1 ./run --help": Typed("\nTo look:\n", wants="minutes"),
     "./test": Typed("", wants="what is typed here itself"),
-    "./test AREA/NAME": Typed("\n0 failed", wants="what is typed here itself"),
-    "rt ci": Typed("", wants="an hour"),
     "rt version": Typed(" logic dac8208d650f15bf\n", wants="rt"),
     "tools/install.sh PREFIX": Typed("installed", line="tools/install.sh prefix && prefix/bin/mlir_work --help"),
-    "tools/session.py FILE": Typed('    #0  "builtin.module"', line="tools/session.py module.mlir", given=SESSION),
     "tools/session.py module.mlir": Typed('    #0  "builtin.module"', given=SESSION),
     "tools/session.py --opaque module.mlir": Typed('    #0  "builtin.module"', given=SESSION),
     "tools/session.py examples/fold.mlir": Typed('    #0  "builtin.module"', given=SESSION),
-    "tools/explain.py MODULE SCRIPT": Typed("s:1:1: 22 HasUses: ", line="tools/explain.py module.mlir s", status=1),
     "tools/explain.py module.mlir FILE": Typed(""),
     "tools/mlir_work.py reduce module.mlir --keep 'diagnostics #8 V15' -o small.mlir": Typed("", status=1),
     "tools/mlir_work.py reduce module.mlir --refused 'convert partial illegal arith.subi rules 28 = 51'":
@@ -82,13 +78,9 @@ COMMANDS = {
     ".. | sed -n '/^\"builtin.module\"/,$p' | mlir-opt":
         Typed("%0 = arith.muli %arg0, %c42_i32 : i32", line=f"{RUN} | sed -n '/^\"builtin.module\"/,$p' | mlir-opt",
               wants="mlir-opt"),
-    f"{RUN} | sed -n '/^\"builtin.module\"/,$p' | mlir-opt":
-        Typed("%0 = arith.muli %arg0, %c42_i32 : i32", wants="mlir-opt"),
     "tr '\\n' ' '": Typed('"a"() : () -> () "b"() : () -> () ', given='"a"() : () -> ()\n"b"() : () -> ()\n'),
     "(head -c 28 FILE; echo x) | LC_ALL=C awk 'END { print NR, length($0) }'": Typed("1 29\n"),
     "tr -d '\\r' <FILE": Typed("// What is known"),
-    "./run --brief --patterns patterns/arith.patterns examples/canon.mlir -e 'rewrite select_alike trace'":
-        Typed("\nrewrote select_alike #7 erased #7\n"),
     "./run --brief examples/fold.mlir -s examples/fold.script -e 'report dead' -e print": Typed("func.return"),
 }
 
@@ -126,12 +118,12 @@ def tool():
 
 def run(command, how, folder):
     """A command as it ended."""
-    words, more = program.words()
+    started = program.started()
     line = re.sub(r"\bmlir-opt\b", str(tool()), how.line or command)
     if "MLIR_WORK" in os.environ and how.wants != "minutes":
-        line = line.replace("MLIR_WORK=./run", f"MLIR_WORK={shlex.quote(shlex.join(words))}")
-        line = line.replace("./run", shlex.join(words))
-    environment = {**os.environ, **more, "XDG_STATE_HOME": str(folder / "state")}
+        line = line.replace("MLIR_WORK=./run", f"MLIR_WORK={shlex.quote(shlex.join(started.words))}")
+        line = line.replace("./run", shlex.join(started.words))
+    environment = {**os.environ, **started.more, "XDG_STATE_HOME": str(folder / "state")}
     there = folder if how.wants != "minutes" else ROOT
     return subprocess.run(["sh", "-c", line], cwd=there / how.folder, env=environment, input=how.given, text=True,
                           capture_output=True, check=False)
@@ -146,7 +138,7 @@ def fault_of(command, how, folder):
 
 
 def blocks(text):
-    """The blocks of a text that has code, with the words behind their first ticks."""
+    """The code blocks of a text, with the words after their opening ticks."""
     return re.findall(r"^```(\w+)\n(.*?)^```$", text, re.M | re.S)
 
 
@@ -164,9 +156,10 @@ def typed(block):
 
 
 def is_written(lines, wanted):
-    """Whether lines are those that are wanted, where `..` stands for any."""
-    parts = ["" if not it else re.escape(it) for it in "\n".join(["", *wanted]).split("\n..")]
-    return re.fullmatch(r"(?:\n[^\n]*)*".join(parts), "\n".join(["", *lines])) is not None
+    """Whether lines are those that are wanted. A line `..` allows any lines, and `: ..` at an end any sentence."""
+    parts = [r"(?:\n[^\n]*)*" if it == ".." else rf"\n{re.escape(it[:-2])}[^\n]*(?:\n    \w[^\n]*)*"
+             if it.endswith(": ..") else f"\n{re.escape(it)}" for it in wanted]
+    return re.fullmatch("".join(parts), "".join(f"\n{it}" for it in lines)) is not None
 
 
 def lines_typed(text):
@@ -176,22 +169,42 @@ def lines_typed(text):
 
 
 def cooked(text, folder):
-    """What is wrong with what a text has typed. A program there has its name in the first line."""
+    """What is wrong with what a text has typed. A program or a module there has the name of its file in its first
+    line."""
     for kind, block in blocks(text):
-        if kind == "python":
-            (folder / block.split()[1]).write_text(block)
+        if kind == "python" or kind == "mlir" and re.match(r"// [\w/]+\.mlir\n", block):
+            file = folder / block.split()[1]
+            file.parent.mkdir(exist_ok=True)
+            file.write_text(block)
             continue
         for line, given, wanted in typed(block) if kind == "console" else ():
-            if re.search(r"\bmlir-opt\b", line) and not tool():
-                print(f"not typed, mlir-opt isn't installed: {line}")
+            wants = [it for it in ("mlir-opt", "lit-22") if re.search(rf"\b{it}\b", line)]
+            if any(not (tool() if it == "mlir-opt" else shutil.which(it)) for it in wants):
+                print(f"not typed, {wants[0]} isn't installed: {line}")
                 continue
             if line.startswith("cd "):
                 folder = folder / line[3:]
                 continue
             it = run(line, Typed("", given="".join(it + "\n" for it in given)), folder)
             print(f"typed: {line}")
-            if it.returncode > 1 or not is_written(it.stdout.splitlines(), wanted):
+            if it.returncode not in (0, 1, 3) or not is_written(it.stdout.splitlines(), wanted):
                 yield f"`{line}` writes {it.stdout[-600:]!r} {it.stderr.strip()[-300:]}"
+
+
+def pasted():
+    """What is wrong with the blocks of shell commands that have their output in the block below."""
+    for page in [*PAGES, COOKBOOK]:
+        found = re.findall(r"^```sh\n(.*?)^```\n\n```text\n(.*?)^```$", (ROOT / page).read_text(), re.M | re.S)
+        for line, wanted in found:
+            if re.search(r"\bmlir-opt\b", line) and not tool():
+                print(f"not run, mlir-opt isn't installed: {' '.join(line.split())}")
+                continue
+            with tempfile.TemporaryDirectory() as name:
+                prepared(pathlib.Path(name))
+                it = run(f"{{ {line} }} 2>&1", Typed(""), pathlib.Path(name))
+            print(f"run: {' '.join(line.split())}")
+            if it.returncode > 1 or not is_written(it.stdout.splitlines(), wanted.splitlines()):
+                yield f"{page}: `{line.strip()}` writes {it.stdout[-600:]!r}"
 
 
 def cookbook():
@@ -205,17 +218,22 @@ def cookbook():
                 yield f"{COOKBOOK}, {title}: {most} lines are typed"
 
 
+REFERENCE = [f"docs/{name}.md" for name in ("PATTERNS", "CANONICALIZE", "CONVERT", "REPORTS", "REFUSALS", "OPERATIONS",
+                                            "VERIFIER")]
+
+
 def embedding():
-    """What is wrong with what is typed to embed the program."""
+    """What is wrong with what is typed to embed the program, and on the pages of reference."""
     if not program.has_option("--interactive"):
         os.environ["MLIR_WORK"] = shlex.join(LIVE)
-    with tempfile.TemporaryDirectory() as name:
-        prepared(pathlib.Path(name))
-        yield from (f"{EMBED}: {fault}" for fault in cooked((ROOT / EMBED).read_text(), pathlib.Path(name)))
+    for page in [EMBED, *REFERENCE]:
+        with tempfile.TemporaryDirectory() as name:
+            prepared(pathlib.Path(name))
+            yield from (f"{page}: {fault}" for fault in cooked((ROOT / page).read_text(), pathlib.Path(name)))
 
 
 def tutorial():
-    """What is wrong with what the tutorial has typed, but for what wants the kit."""
+    """What is wrong with what the tutorial has typed, but for what needs the kit."""
     with tempfile.TemporaryDirectory() as name:
         for path in EDITED:
             copy = pathlib.Path(name) / path
@@ -230,6 +248,7 @@ def tutorial():
 def main():
     if sys.argv[1:] not in ([], ["--all"]):
         sys.exit(__doc__)
+    launch.provide()
     found = {command: page for page in PAGES for command in commands((ROOT / page).read_text())}
     faults = [f"{page}: `{command}` isn't known" for command, page in found.items() if command not in COMMANDS]
     faults += [f"`{command}` is on no page" for command in COMMANDS if command not in found]
@@ -241,7 +260,7 @@ def main():
             said = "" if why else fault_of(command, how, pathlib.Path(name))
             print(f"not typed, {why}: {command}" if why else f"typed: {command}")
             faults += [f"{found[command]}: `{command}`: {said}"] if said else []
-    faults += [*cookbook(), *tutorial(), *embedding()]
+    faults += [*pasted(), *cookbook(), *tutorial(), *embedding()]
     print(*faults, f"{len(found)} commands, {len(faults)} faults", sep="\n")
     sys.exit(bool(faults))
 

@@ -1,14 +1,14 @@
 #!/usr/bin/env python3
-"""Checks what crates hand on whole (`pub use ir_tree as trees`, `pub use Rattle.ir_tree.proofs as of_trees`;
+"""Checks what crates re-export whole (`pub use ir_tree as trees`, `pub use Rattle.ir_tree.proofs as of_trees`;
 docs/WORKING.md):
 
-  - no definition, and no `ghost use` of code, leads by imports to a file that takes lemmas from a crate which hands
-    them on whole: the prover refuses that (`contract-cites-code`), but only once the crate is checked whole;
-  - nothing is handed on that no crate takes from there.
+  - no definition, and no `ghost use` of code, leads by imports to a file that takes lemmas from a crate which
+    re-exports them whole: the prover refuses that (`contract-cites-code`), but only in a check of the whole crate;
+  - no crate has a re-export that no other crate uses.
 
-It reads imports alone, in a second, and wants nothing built.
+It reads only imports, takes a second, and needs no build.
 
-usage: gate/check_imports.py     at the top of the repository; the status is 1 where something is wrong"""
+usage: gate/check_imports.py     at the top of the repository; the status is 1 if something is wrong"""
 import pathlib
 import re
 import sys
@@ -21,7 +21,7 @@ root = pathlib.Path("crates")
 
 
 class Imports:
-    """The files of definitions and lemmas by their modules, what they import, and what crates hand on whole."""
+    """The files of definitions and lemmas by their modules, what they import, and what crates re-export whole."""
 
     def __init__(self):
         self.crates = sorted(path.name for path in root.iterdir() if path.is_dir())
@@ -37,7 +37,7 @@ class Imports:
                     self.handed[f"Rattle.{crate}.{part}.{found[2] or found[1].split('.')[-1]}"] = found[1]
 
     def ends(self, name):
-        """The module that an import means, and whether it takes lemmas that are handed on whole."""
+        """The module that an import resolves to, and whether it takes lemmas by a re-export of the whole."""
         by_another = False
         while True:
             self.named.add(name)
@@ -53,7 +53,7 @@ class Imports:
         return [self.ends(name.rstrip(".")) for name in pattern.findall(self.texts[path])]
 
 
-# What is handed on for those who call these crates from outside, and no file here takes.
+# Re-exports for users outside the repository, which no file here uses.
 OFFERED = {"listeners::unreached"}
 
 
@@ -76,7 +76,7 @@ def leading(imports):
 
 
 def unused(imports):
-    """What a crate hands on, of its code, definitions or lemmas, and no file takes from there."""
+    """The re-exports of a crate (code, definitions or lemmas) that no file uses."""
     for path in imports.texts:
         imports.of(path, IMPORT), imports.of(path, GHOST)
     everything = "\n".join([*imports.texts.values(), *imports.named])

@@ -1,19 +1,19 @@
 #!/usr/bin/env python3
-"""Finds what is said twice: statements of lemmas (proofs/) and definitions (specs/) that stand more than once, and
-lemmas that the library of the kit has. Each is printed with its places, the most often said first; a statement of which
-the library has a lemma is printed with that lemma's import, also where it stands once.
+"""Finds duplicates: statements of lemmas (proofs/) and definitions (specs/) that are there more than once, and lemmas
+that the library of the kit has. Each is printed with its places, the most frequent first. A statement that is a lemma
+of the library is printed with that lemma's import, even if it is there once.
 
-Two statements are one where they differ in names of variables, in how binders are grouped or hidden, and in what a name
-was imported as; the parameters of modules that a statement speaks of, and what is asked of these, are its first
-binders. Only statements of a relation are compared (of equality, order, equivalence, or that something can't be), since
-short types are often alike. Two definitions are one where type and clauses are.
+Two statements are equal if they differ only in names of variables, in how binders are grouped or hidden, and in import
+aliases. The parameters of modules that a statement uses, and the assumptions about them, are its first binders. Only
+statements of a relation are compared (equality, order, equivalence, or a contradiction), since short types are often
+equal. Two definitions are equal if type and clauses are.
 
 usage: gate/check_statements.py [--most N] [--most-definitions N] [--library FOLDER] [--brief]
 
-At the top of the repository. The status is 1 where more than N statements, or more than so many definitions, stand
-twice: as many as did when the numbers below were set, which only fall. FOLDER is that of the library's pages of lemmas
-(/opt/rattle/rattle/std/lemmas); where it isn't there, nothing is compared with it. With `--brief` the last line is
-printed alone."""
+At the top of the repository. The status is 1 if there are more than N duplicate statements, or more duplicate
+definitions than the other number. The defaults below are today's counts, and only fall. FOLDER has the library's pages
+of lemmas (/opt/rattle/rattle/std/lemmas). If it doesn't exist, nothing is compared with it. With `--brief` only the
+last line is printed."""
 import argparse
 import collections
 import pathlib
@@ -36,7 +36,7 @@ Said = collections.namedtuple("Said", "name text file line")
 
 
 def groups(text):
-    """The binders at the front of a telescope: names, type, and what stands behind all of them."""
+    """The binders at the front of a telescope: names, type, and what follows all of them."""
     found, at = [], 0
     while at < len(text) and text[at] in "({":
         depth, end = 0, at
@@ -60,7 +60,7 @@ def words(text):
 
 
 def with_parameters(modules, text):
-    """A statement behind the parameters of its modules that it speaks of, and what is asked of these."""
+    """A statement with the parameters of its modules that it uses, and the assumptions about them, before it."""
     parameters = [(name, ty) for module in modules for names, ty in module for name in names]
     values = {name for name, ty in parameters if not ty.startswith("Type")}
     named, kept = words(text), set()
@@ -89,7 +89,7 @@ def normal(text, aliases):
         return f"v{number[0]}"
 
     def inner(part):
-        """A part with binders, wherever they stand in it, renamed."""
+        """A part with all its binders renamed."""
         out, at = "", 0
         while at < len(part):
             found, rest = groups(part[at:]) if part[at] in "({" else ([], part[at:])
@@ -115,7 +115,7 @@ def normal(text, aliases):
 
 
 def scope(text):
-    """How far what stands in a bracket goes on."""
+    """The end of the contents of a bracket."""
     depth = 0
     for at, sign in enumerate(text):
         depth += (sign in "({[") - (sign in ")}]")
@@ -125,7 +125,7 @@ def scope(text):
 
 
 def parts(text):
-    """What stands between the arrows of a type: its premises, without binders, and its end."""
+    """The parts between the arrows of a type: its premises, without binders, and its end."""
     found = []
     while text:
         while text.startswith(("→", " ")):
@@ -163,9 +163,9 @@ def is_statement(text):
 
 
 def declared(file):
-    """What a file declares: the name, the type behind the parameters that it speaks of, its clauses, and the line."""
+    """The declarations of a file: name, type with the parameters that it uses, clauses, and line."""
     lines = file.read_text(errors="replace").split("\n")
-    open_modules, at = [], 0  # the indentation of what stands in it, and its parameters
+    open_modules, at = [], 0  # the indentation of its contents, and its parameters
     while at < len(lines):
         line = lines[at]
         indent = len(line) - len(line.lstrip())
@@ -198,7 +198,7 @@ def declared(file):
 
 
 def aliases_of(text, own, number):
-    """What names were before a file imported them; a name of its own means what it means in this file alone."""
+    """The original names of a file's imports. A name that the file declares stays apart from those of other files."""
     found = {new: old for used in USED.findall(text) for old, new in re.findall(rf"({NAME}) as ({NAME})", used)}
     return {**found, **{name: f"{name}_in_{number}" for name in own}, **ALIKE}
 

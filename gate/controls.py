@@ -1,11 +1,11 @@
 #!/usr/bin/env python3
 """Tries the controls of wrong bodies: right bodies that the prover must accept.
 
-An edit (crates/CRATE/must-fail/NAME.edit of the gate, or bench/wrong_bodies/CRATE/NAME.edit) says something of a
-contract only where it is refused for what its body means, and not for its form: an answer in proofs/ names the calls
-and branches of its function, so a body of another form may be refused however right it is. Its control, a file
-bench/wrong_bodies/CRATE/NAME.control, changes the lines that the edit changes, with the same calls and branches, and
-means what the contract says.
+An edit (crates/CRATE/must-fail/NAME.edit of the gate, or tests/mutants/CRATE/NAME.edit) says something about a contract
+only if the prover refuses its meaning and not its form: an answer in proofs/ names the calls and branches of its
+function, so a body of another form may be refused even if it is right. Its control, a file
+tests/mutants/CRATE/NAME.control, changes the lines that the edit changes, with the same calls and branches, and means
+what the contract says.
 
 Each control is put into a copy of its crate, which is checked with the words of rt, over a copy of what was kept of the
 crate's last check. Prints a line for each: that the crate is proved with it, or the first goal that isn't, and what
@@ -23,12 +23,12 @@ import sys
 import tempfile
 
 ROOT = next(it for it in pathlib.Path(__file__).resolve().parents if (it / "crates.txt").is_file())
-WRONG_BODIES = ROOT / "bench/wrong_bodies"
+WRONG_BODIES = ROOT / "tests/mutants"
 PLACES = ("file: ", "old: ")
 
 
 def toolchain():
-    """The program rt, as a module: it has the words of a check, and how an edit is read and put in."""
+    """The program rt, as a module: it has the arguments of a check, and reads and applies edits."""
     path = shutil.which("rt") or sys.exit("there is no program rt")
     loader = importlib.machinery.SourceFileLoader("rt", str(pathlib.Path(path).resolve()))
     made = importlib.util.module_from_spec(importlib.util.spec_from_loader("rt", loader))

@@ -4,13 +4,13 @@
 usage: gate/gate.py [LOG [CRATE..]]       runs `rt ci` at the top of the repository, or for these crates and those below
                                           them, and keeps what it prints in LOG (else gate.log in a temporary folder);
                                           then prints wall and processor time, and for each crate the seconds of
-                                          processor time of its own check, its tests and its edits. It ends with the
+                                          processor time of its check, its tests and its edits. It ends with the
                                           gate's status.
        gate/gate.py --table LOG.times..   prints the table of earlier runs again, of all of them together: what one run
                                           proved, a later one on that machine keeps
 
-The gate prints no times of its own, so its processes are looked at twice a second, and each is counted with what it had
-used when it was last seen. Only those that it started are counted, but others beside it make it slower. """
+The gate prints no times, so its processes are sampled twice a second, and each counts with the time that it had used
+when it was last seen. Only processes that the gate started count, but others on the machine make it slower."""
 import collections
 import json
 import os
@@ -73,7 +73,7 @@ def look(seen, gate):
 
 
 def table(times):
-    """Returns the rows of the table, the dearest crate first."""
+    """Returns the rows of the table, the most expensive crate first."""
     spent, edits = collections.defaultdict(collections.Counter), collections.Counter()
     for crate, kind, used in times["seen"].values():
         spent[crate][kind] += used

@@ -1,6 +1,6 @@
 #!/usr/bin/env python3
 """Counts the ways down from each crate of crates.txt to the crates below it, a crate as often as a way leads to it.
-`rt` reads the sources of a library once for each of them before and behind a check (docs/GATE.md). Run it at the top of
+`rt` reads the sources of a library once for each of them before and after a check (docs/GATE.md). Run it at the top of
 the repository."""
 import pathlib
 

@@ -1,29 +1,31 @@
 #!/usr/bin/env python3
 """Writes docs/layers.svg, the picture of the layers in docs/ARCHITECTURE.md: the crates of crates.txt in their layers,
-and which layer stands on which, where that doesn't follow from another arrow.
+and which layer uses which, unless that follows from other arrows.
 
 usage: gate/picture.py            at the top of the repository
-       gate/picture.py --check    writes nothing; the status is 1 where the picture isn't that of crates.txt"""
+       gate/picture.py --check    writes nothing; the status is 1 if the picture isn't that of crates.txt"""
 import html
 import pathlib
 import sys
 
 CRATES, PICTURE = pathlib.Path("crates.txt"), pathlib.Path("docs/layers.svg")
 WIDTH, EDGE, GAP, LINE, LETTER = 980, 14, 34, 26, 7.3
-# Where a layer stands from left to right, and what it does. Nothing stands on cases, so they have no arrows.
+# The left and right end of each layer, and its purpose. No crate depends on cases, so that layer has no arrows.
 LAYERS = {
-    "cases": (0, 980, "programs that write tables of cases"),
+    "cases": (0, 980, "test programs"),
     "program": (0, 980, "bytes in, bytes out: lines, commands, replies"),
-    "rules": (0, 980, "canon and convert: lists of edits, applied whole or not at all"),
-    "bench": (0, 540, "edits, marks and rollback; listeners are told"),
-    "analyses": (560, 980, "listeners: rows that follow each event"),
-    "events": (440, 980, "what one edit did, and its inverse; what a listener is"),
-    "text": (0, 420, "a text is read as the one tree that it spells"),
+    "rules": (0, 980, "canonicalization, user patterns, conversion: atomic lists of edits"),
+    "bench": (0, 540, "edits, marks and rollback; notifies the listeners"),
+    "analyses": (560, 980, "listeners: analyses that follow each event"),
+    "events": (440, 980, "elementary edits, their inverses, the trait of listeners"),
+    "text": (0, 420, "reads and prints the generic form"),
     "module": (440, 930, "the store: operations, values and uses under edits"),
-    "trees": (0, 640, "what a module is, and what an edit makes of it"),
+    "trees": (0, 640, "modules as trees, and edits as functions on trees"),
     "tables": (660, 980, "operations and folds"),
     "context": (0, 980, "names, types and attributes by number"),
 }
+# Layers that have another title in the picture than in crates.txt.
+TITLES = {"bench": "rewriter"}
 STYLE = """
   .ground { fill: #ffffff } .layer { fill: #f5f7fa; stroke: #c9d1db } .crate { fill: #ffffff; stroke: #d8dee6 }
   text { font: 13px system-ui, sans-serif; fill: #1c2128 } .title { font-weight: 600; font-size: 15px }
@@ -38,7 +40,7 @@ STYLE = """
 
 
 def read(text):
-    """The crates of each layer, in order, and on which layers each stands."""
+    """The crates of each layer, in order, and the layers that each layer uses."""
     layers, on, layer = {}, {}, None
     for line in text.splitlines():
         if line.startswith("# "):
@@ -57,12 +59,12 @@ def read(text):
 
 
 def all_below(layer, below):
-    """All layers on which one stands."""
+    """All layers that a layer uses, also through others."""
     return below[layer].union(*(all_below(it, below) for it in below[layer]))
 
 
 def arrows(below):
-    """Of each layer those that it stands on and that none of these stands on."""
+    """For each layer, the used layers that no other used layer uses."""
     return {layer: those - set().union(*(all_below(it, below) for it in those)) for layer, those in below.items()}
 
 
@@ -88,7 +90,8 @@ class Box:
 
     def drawn(self):
         """Its elements."""
-        title = f'<text class="title" x="{self.left + EDGE}" y="{self.top + 22}">{self.layer}</text>'
+        title = f'<text class="title" x="{self.left + EDGE}" y="{self.top + 22}">'
+        title += f'{TITLES.get(self.layer, self.layer)}</text>'
         does = f'<text class="does" x="{self.left + EDGE}" y="{self.top + 39}">{html.escape(self.does)}</text>'
         yield (f'<rect class="layer" x="{self.left + 1}" y="{self.top}" width="{self.right - self.left - 2}" '
                f'height="{self.height}" rx="8"/>{title}{does}')
@@ -98,7 +101,7 @@ class Box:
 
 
 def ranks(below):
-    """The layers, from the lowest on, by how many stand under one another below them."""
+    """The layers by rank, the lowest first: the longest chain of layers below each."""
     depth = {}
     for layer in reversed(LAYERS):
         depth[layer] = 1 + max((depth[it] for it in below.get(layer, ())), default=-1)

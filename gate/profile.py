@@ -1,7 +1,7 @@
 #!/usr/bin/env python3
 """Prints what each function of a crate costs in a check.
 
-usage: gate/profile.py CRATE [N]          checks the crate from nothing, by one job, and prints its N dearest
+usage: gate/profile.py CRATE [N]          checks the crate from nothing, by one job, and prints its N most expensive
                                           functions (20)
        gate/profile.py --of FOLDER [N]    reads the work that a check with `--jobs 1 --incremental FOLDER` kept, in a
                                           folder that was new

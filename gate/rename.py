@@ -6,18 +6,16 @@ usage: gate/rename.py TABLE [--groups GROUP,..] [--kinds KIND,..] [--skip-missin
 
 A line of the table is KIND, CRATE, OLD, NEW and a reason, separated by tabs. KIND is crate, module, alias, type,
 variant, function or definition. A comment `# group NAME: ..` begins a group. A line whose OLD isn't there is printed,
-and nothing is written unless --skip-missing is said. --try writes nothing. docs/WORKING.md says how to go on."""
+and nothing is written without --skip-missing. --try writes nothing. docs/WORKING.md has the next steps."""
 import argparse
 import pathlib
 import subprocess
 import sys
 
-sys.path.insert(0, str(pathlib.Path(__file__).parent))
-
-from renaming import table  # noqa: E402
-from renaming.resolve import unresolved  # noqa: E402
-from renaming.tree import Tree  # noqa: E402
-from renaming.write import Writing  # noqa: E402
+from renaming import table
+from renaming.resolve import unresolved
+from renaming.tree import Tree
+from renaming.write import Writing
 
 
 def words() -> argparse.Namespace:

@@ -1,12 +1,11 @@
 #!/usr/bin/env python3
-"""stand_ins.py CHECKOUT POOL [NAME..]: libraries that stand in for the crates below NAME (none: for all crates).
+"""stand_ins.py CHECKOUT POOL [NAME..]: stub libraries for the crates below NAME (none: for all crates).
 
-A stand-in has a crate's types, contracts and definitions, and those lemmas that others name; the bodies of its
-functions are a false contract of C. So it is built within a minute or two, and the crates above it can be checked
-before those below them are proved. What is checked so is proved as far as the crates below keep their contracts: it
-is no verdict.
+A stub has a crate's types, contracts and definitions, and the lemmas that other crates name. The bodies of its
+functions are a false contract of C. A stub builds within a minute or two, so a crate can be checked before the crates
+below it are proved. Such a check assumes that the crates below keep their contracts. It is no verdict.
 
-    stand_ins.py CHECKOUT POOL --check NAME [WORD..]    `rattle check` of a crate over stand-ins; what it keeps is in
+    stand_ins.py CHECKOUT POOL --check NAME [WORD..]    `rattle check` of a crate over stubs; what it keeps is in
                                                         crates/NAME/out/inc. WORD.. go to rattle: --only PATH, ..
     stand_ins.py CHECKOUT POOL --build NAME [WORD..]    `rattle build`, likewise
 
@@ -40,7 +39,7 @@ TEST = re.compile(r"\[(test|cfg\(test\))")
 LISTED = re.compile(r"(?:pub )?mod (\w+)")
 
 Token = collections.namedtuple("Token", "start end kind text")
-# A function with a body: its name, the words in front of it, the places of its first token and of its body's ends, and
+# A function with a body: its name, the words before it, the places of its first token and of its body's ends, and
 # whether its crate alone can call it.
 Function = collections.namedtuple("Function", "name words first opens closes is_own")
 
@@ -51,7 +50,7 @@ def text_of(file):
 
 
 def table(checkout):
-    """The crates of a checkout, each with what it stands on."""
+    """The crates of a checkout, each with what it uses."""
     found = {}
     for line in text_of(f"{checkout}/crates.txt").splitlines():
         head, _, uses = line.partition("#")[0].partition(":")
@@ -60,7 +59,7 @@ def table(checkout):
     return found
 
 
-# ---- what stands in a source
+# ---- the parts of a source
 
 
 def tokens_of(files):
@@ -77,7 +76,7 @@ def tokens_of(files):
 
 
 def closing(tokens, at, pair):
-    """Where the bracket closes that opens at a place."""
+    """The position of the closing bracket of an opening one."""
     depth = 0
     for place in range(at, len(tokens)):
         if tokens[place].kind == "Code" and tokens[place].text in pair:
@@ -88,7 +87,7 @@ def closing(tokens, at, pair):
 
 
 def opening(tokens, at, pair):
-    """Where the bracket opens that closes at a place."""
+    """The position of the opening bracket of a closing one."""
     depth = 0
     for place in range(at, -1, -1):
         depth += {pair[1]: 1, pair[0]: -1}.get(tokens[place].text, 0)
@@ -98,7 +97,7 @@ def opening(tokens, at, pair):
 
 
 def front_of(tokens, at):
-    """Where an item begins, with its attributes; and the words in front of its keyword."""
+    """Where an item begins, with its attributes; and the words before its keyword."""
     words = []
     while at and tokens[at - 1].kind in ("Code", "Literal"):
         before = tokens[at - 1]
@@ -118,7 +117,7 @@ def front_of(tokens, at):
 
 
 def body_of(tokens, at):
-    """Where the body of a function opens, or the `;` stands that it has in its place."""
+    """The position at which a function's body opens, or of the `;` in its place."""
     depth = 0
     while True:
         it = tokens[at]
@@ -130,7 +129,7 @@ def body_of(tokens, at):
 
 
 def traits_of(tokens):
-    """The places that stand in a trait, or in an impl of one."""
+    """The positions inside a trait or an impl of one."""
     found = set()
     for at, it in enumerate(tokens):
         if it.kind == "Code" and it.text in ("impl", "trait"):
@@ -194,7 +193,7 @@ def leaves(tokens, at=0, path=()):
             return [(path, tokens[at + 1].text)], at + 2
 
 
-# ---- what stands in for it
+# ---- the stub of a source
 
 
 def words_in(texts):
@@ -217,7 +216,7 @@ def named_words(folder, read):
 
 
 def behind_comments(data, at):
-    """Where the documentation in front of an item begins."""
+    """Where the documentation before an item begins."""
     start = data.rfind(b"\n", 0, at) + 1
     if data[start:at].strip():
         return at
@@ -261,7 +260,7 @@ def kept_uses(tokens, gone, dropped):
 
 
 def with_bodies(file, tokens, functions, is_left_out, dropped):
-    """A file as its crate's stand-in has it."""
+    """A file as its crate's stub has it."""
     data, cuts, gone = text_of(file).encode(), [], set()
     for it in functions:
         if is_left_out(it):
@@ -278,7 +277,7 @@ def with_bodies(file, tokens, functions, is_left_out, dropped):
 
 
 def sources_of(folder):
-    """The files of a crate's src as its stand-in has them. A function that only bodies call is left out."""
+    """The files of a crate's src as its stub has them. A function that only bodies call is left out."""
     paths = sorted(glob.glob(f"{folder}/src/**/*.rt", recursive=True))
     read = dict(zip(paths, tokens_of(paths)))
     functions = {file: functions_of(tokens) for file, tokens in read.items()}
@@ -296,7 +295,7 @@ def sources_of(folder):
 
 @functools.lru_cache(maxsize=None)
 def named_lemmas(checkout):
-    """By crate: the modules of lemmas of other crates that it names, and those of its own, by file."""
+    """By crate: the modules of lemmas of other crates that it names, and its modules of lemmas, by file."""
     found = {}
     for name in table(checkout):
         others, own, folder = set(), {}, f"{checkout}/crates/{name}"
@@ -314,7 +313,7 @@ def named_lemmas(checkout):
 
 
 def lemmas_kept(checkout, name, sources):
-    """The modules of lemmas of a crate that others name, or its definitions and contracts, and what those stand on."""
+    """The modules of lemmas of a crate that others name, or its definitions and contracts, and what those use."""
     lemmas = named_lemmas(checkout)
     wanted = set().union(*(others for it, (others, _) in lemmas.items() if it != name))
     wanted |= {word for file, words in lemmas[name][1].items() if file.startswith("specs/") for word in words}
@@ -331,7 +330,7 @@ def lemmas_kept(checkout, name, sources):
 
 
 def files_of(checkout, name):
-    """All files of a crate's stand-in: by path, what they hold."""
+    """All files of a crate's stub: by path, what they hold."""
     folder = f"{checkout}/crates/{name}"
     made = sources_of(folder)
     kept, there = lemmas_kept(checkout, name, made)
@@ -351,7 +350,7 @@ def files_of(checkout, name):
 
 
 class Pool:
-    """Stand-ins of a checkout's crates, each kept by the checksum of what it was made of."""
+    """Stubs of a checkout's crates, each kept by the checksum of what it was made of."""
 
     def __init__(self, checkout, pool):
         self.checkout, self.pool, self.crates = checkout, pool, table(checkout)
@@ -360,11 +359,11 @@ class Pool:
         os.makedirs(pool, exist_ok=True)
 
     def directly(self, name):
-        """What a crate stands on, of the checkout."""
+        """The crates of the checkout that a crate uses."""
         return [it for it in self.crates[name] if it in self.crates]
 
     def below(self, name):
-        """All that a crate stands on, of the checkout, each behind what it stands on."""
+        """All crates of the checkout that a crate uses, also through others, in dependency order."""
         found = []
 
         def add(crate):
@@ -388,7 +387,7 @@ class Pool:
         return f"{self.pool}/{self.key(name)}/{name}.rlib"
 
     def words(self, name, main):
-        """The words that name a crate's source and what it stands on."""
+        """The words that name a crate's source and what it uses."""
         words = ["--crate-name", name, main]
         for it in ["std", *[it for it in self.crates[name] if it not in self.crates]]:
             words += ["--extern", f"{it}={KIT}/rlibs/{it}.rlib"]
@@ -401,7 +400,7 @@ class Pool:
         return [*words, "--logic-built", f"{KIT}/logic_built"]
 
     def build(self, name):
-        """Builds a stand-in, unless the pool has it. The answer is what went wrong."""
+        """Builds a stub, unless the pool has it. The answer is what went wrong."""
         to = os.path.dirname(self.library(name))
         os.makedirs(to, exist_ok=True)
         with open(f"{to}/lock", "w", encoding="utf-8") as lock:
@@ -425,7 +424,7 @@ class Pool:
         return ""
 
     def build_all(self, names, at_once):
-        """Builds stand-ins, each as soon as those below it are there, those first on which most stand. The answer is
+        """Builds stubs, each as soon as those below it exist, the most used first. The answer is
         which of them failed."""
         height = functools.lru_cache(maxsize=None)(
             lambda name: 1 + max([height(it) for it in names if name in self.directly(it)], default=0))
@@ -450,7 +449,7 @@ def timed(call, word):
 
 
 def run(pool, verb, name, flags):
-    """Checks or builds a crate itself over stand-ins."""
+    """Checks or builds a crate itself over stubs."""
     folder = f"{pool.checkout}/crates/{name}"
     main_file = "src/main.rt" if os.path.exists(f"{folder}/src/main.rt") else "src/lib.rt"
     words = [RATTLE, verb, *pool.words(name, main_file)]

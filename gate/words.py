@@ -1,30 +1,28 @@
 #!/usr/bin/env python3
-"""The table of words, docs/commands.json: options, commands, what stands for a word of a command, kinds of analyses,
+"""The table of words, docs/commands.json: options, commands, placeholders of commands, kinds of analyses,
 refusals, rules of rewriting and rules of the verifier. The tools, the man page and the completions take theirs there.
 
-It is made of the code: of the help (mlir_work_front/src/text.rt), the words that a line is read by (mlir_work_script),
+It is made of the code: of the help (mlir_work_cli/src/text.rt), the words that a line is read by (mlir_work_script),
 and the numbers and words of kinds (mlir_work_script_base), refusals and rules, each with what the code says of it.
 Checked is that the table is that of these sources; that the help names each word by which a line is read, and no other;
-that tools/help.txt is the help; that each kind, refusal and rule has its section in the pages; that bench/reference has
+that tools/help.txt is the help; that each kind, refusal and rule has its section in the pages; that oracle has
 the words; and that the man page, the completions of shells and of the prompt have each.
 
-usage: gate/words.py             at the top of the repository; the status is 1 where something is wrong
+usage: gate/words.py             at the top of the repository; the status is 1 if something is wrong
        gate/words.py --write     writes the table"""
 import json
-import pathlib
 import re
 import sys
 
-sys.dont_write_bytecode = True
-ROOT = pathlib.Path(__file__).resolve().parent.parent
-TABLE = ROOT / "docs/commands.json"
-sys.path[:0] = [str(ROOT / "tools"), str(ROOT / "bench")]
+from checkout import ROOT
 
-FRONT = "crates/mlir_work_front/src"
+TABLE = ROOT / "docs/commands.json"
+
+FRONT = "crates/mlir_work_cli/src"
 SCRIPT = "crates/mlir_work_script/src"
 BELOW = "crates/mlir_work_script_base/src"
-READERS = ("command", "order", "book_order", "expect")
-# Words that stand behind the first one, which these files compare in the same way.
+READERS = ("command", "session_command", "registry_command", "expected_refusal")
+# Words after the first one of a line, which these files compare in the same way.
 BEHIND = {"at", "limit", "only", "trace", "width"}
 
 
@@ -41,13 +39,13 @@ def help_text():
 
 
 def texts():
-    """The texts of the help that stand in the code, by their names."""
+    """The texts of the help in the code, by their names."""
     found = re.findall(r'const (\w+): &str = "(?:\\\n)?((?:[^"\\]|\\.)*)";', source(f"{FRONT}/text.rt"))
     return {name: re.sub(r"\\(.)", r"\1", text) for name, text in found}
 
 
 def rows(text):
-    """The rows of a part of the help: what stands at their beginning, and what is said of it."""
+    """The rows of a part of the help: the term, and its description."""
     found = []
     for line in text.splitlines():
         begins = re.match(r"  (\S.*?)(?:  +(\S.*))?$", line)
@@ -59,7 +57,7 @@ def rows(text):
 
 
 def part(text, title, end="\n\n"):
-    """What stands in a text behind a title, up to an end."""
+    """The part of a text from a title to an end."""
     return text.partition(title)[2].partition(end)[0]
 
 
@@ -86,7 +84,7 @@ def stand_ins(text):
 
 
 def variants(path, name):
-    """The variants of an enum: the number and what is said of each, by its name."""
+    """The variants of an enum: the number and the documentation of each, by its name."""
     body = part(source(path), f"pub enum {name} {{", "\n}")
     return {it[2]: (int(it[3]), " ".join(it[1].replace("///", "").split()))
             for it in re.finditer(r"((?:    ///.*\n)+)    (\w+) = (\d+),", body)}
@@ -113,7 +111,7 @@ def read_words():
 
 
 def verifier():
-    """The rules of the verifier, of which the page has the titles."""
+    """The rules of the verifier, with the titles of the page."""
     found = re.findall(r"^### V(\d+): (.*)$", source("docs/VERIFIER.md"), re.M)
     return [{"number": int(number), "word": f"V{number}", "about": title} for number, title in found]
 
@@ -127,7 +125,7 @@ def table():
 
 
 def written(found):
-    """The table as it stands in its file: a row a line."""
+    """The table as written in its file: a row a line."""
     parts = [f'"{name}": [\n' + ",\n".join(json.dumps(row, ensure_ascii=False) for row in those) + "\n]"
              for name, those in found.items()]
     return "{\n" + ",\n".join(parts) + "\n}\n"
@@ -136,7 +134,7 @@ def written(found):
 # ---- what is to agree with it
 
 def differ(where, found, wanted):
-    """What is said where words aren't those that are wanted."""
+    """The differences between the words found and those expected."""
     for word in sorted(set(wanted) - set(found), key=str):
         yield f"{where}: {word} is missing"
     for word in sorted(set(found) - set(wanted), key=str):
@@ -175,21 +173,20 @@ def pages_apart(found):
 
 
 def reference_apart(found):
-    """Where bench/reference has other words."""
-    from reference import analyses, rewrites, script
+    """Where oracle has other words."""
+    from oracle import analyses, rewrites, script
 
     def pairs(name):
         return {(row["number"], row["word"]) for row in found[name]}
-    yield from differ("bench/reference, kinds", analyses.KINDS.items(), pairs("kinds"))
-    yield from differ("bench/reference, refusals", script.REFUSALS.items(), pairs("refusals"))
-    yield from differ("bench/reference, rules", enumerate(rewrites.WORDS, 1), pairs("rules"))
-    yield from differ("bench/reference, commands", script.ALL | {"expect"}, column(found, "commands"))
+    yield from differ("oracle, kinds", analyses.KINDS.items(), pairs("kinds"))
+    yield from differ("oracle, refusals", script.REFUSALS.items(), pairs("refusals"))
+    yield from differ("oracle, rules", enumerate(rewrites.WORDS, 1), pairs("rules"))
+    yield from differ("oracle, commands", script.ALL | {"expect"}, column(found, "commands"))
 
 
 def tools_apart(found):
     """What the man page and the completions lack."""
-    import completion
-    import manual
+    from mlir_work.cli import completion, manual
     text = help_text()
     page = manual.man(text, "").replace("\\-", "-").replace("\\e", "\\").replace("\\&", "")
     for name, key in (("commands", "form"), ("options", "word"), ("kinds", "word"), ("words", "word")):

@@ -1,8 +1,8 @@
 #!/bin/bash
-# Wrong bodies that the prover must refuse, beside those that the gate tries: `bench/wrong_bodies/CRATE/NAME.edit`, each
-# an edit as `crates/CRATE/must-fail` has them (`bench/wrong_bodies/README.md` says what each shows). They are copied
-# into a clone of the repository as it is committed, where `rt must-fail` tries them; what was proved of the libraries
-# here is taken along. Prints a line for each, and whether all were refused. Run it at the top of the repository:
+# Wrong bodies that the prover must refuse, in addition to those that the gate tries: `tests/mutants/CRATE/NAME.edit`,
+# each an edit as `crates/CRATE/must-fail` has them (`tests/mutants/README.md` says what each shows). They are copied
+# into a clone of the committed repository, where `rt must-fail` tries them. The proofs of libraries here are copied
+# too. Prints a line for each, and whether all were refused. Run it at the top of the repository:
 #
 #     gate/wrong_bodies.sh [CRATE..]      (each crate that has some)
 #
@@ -11,7 +11,7 @@
 set -eu
 cd "$(dirname "$0")/.."
 here=$PWD
-[ $# -gt 0 ] || set -- $(cd bench/wrong_bodies && printf '%s\n' */*.edit | cut -d/ -f1 | sort -u)
+[ $# -gt 0 ] || set -- $(cd tests/mutants && printf '%s\n' */*.edit | cut -d/ -f1 | sort -u)
 work=$(mktemp -d)
 trap 'rm -rf "$work"' EXIT
 
@@ -26,13 +26,13 @@ done
 tried=0
 wrong=0
 for crate in "$@"; do
-    edits=("bench/wrong_bodies/$crate"/*.edit)
+    edits=("tests/mutants/$crate"/*.edit)
     [ -e "${edits[0]}" ] || { echo "$crate: no wrong bodies here"; wrong=$((wrong + 1)); continue; }
     into="$work/clone/crates/$crate/must-fail"
     rm -rf "$into"
     mkdir -p "$into"
     cp -- "${edits[@]}" "$into"
-    # What a bad edit or a library that isn't proved is told of is in the log alone.
+    # Messages about a bad edit or an unproved library are only in the log.
     (cd "$work/clone" && rt must-fail "$crate") >"$work/log" 2>&1 || true
     for edit in "${edits[@]}"; do
         tried=$((tried + 1))

@@ -1,21 +1,20 @@
-"""The program and the library as they are shipped: `tools/dist.sh` puts them into dist/, or compares them with what was
-built here.
+"""Writes the shipped program and library to dist/, or compares them with the ones built here (`tools/dist.sh`).
 
-Only what was proved is put there: the program in `crates/mlir_work/out`, which `./run` or `.ci/run` built of these
-sources (`tools/sources.py`). It is shipped without its symbols and section headers, which no run reads: so two builds
-of the same sources, in whatever folders, are the same bytes. `dist/MANIFEST` has a line for each of
+Only a proved program is shipped: the one in `crates/mlir_work/out`, which `./run` or `.ci/run` built from these
+sources (`tools/sources.py`). Its symbols and section headers are removed, so builds of the same sources in different
+folders are the same bytes. `dist/MANIFEST` has a line for each of
 
     version    of CHANGELOG.md
-    sources    the digest of the sources that it was made of
+    sources    the digest of the sources of the program
     kit        the toolchain that proved and built it, as `rt version` prints it
     program    the SHA-256 of the program, unpacked
-    bytes      how many they are
+    bytes      the size of the program, unpacked
     library-sources, library    the digest of the library's sources, and its SHA-256, unpacked
-    linker     what joined it, as `ld --version` prints it
+    linker     the linker of the library, as `ld --version` prints it
 
-The library is what `rt lib` in `crates/mlir_work_c` or `.ci/run` built, with the calls of the toolchain that ask for
-memory (`tools/library.py`); where none was built of these sources it isn't shipped, and the last three words aren't
-there."""
+The library is the one that `rt lib` in `crates/mlir_work_c` or `.ci/run` built, with the allocation calls of the
+toolchain (`tools/library.py`). If none was built from these sources, the library isn't shipped, and the last three
+words are missing."""
 import lzma
 import re
 import struct
@@ -23,16 +22,14 @@ import subprocess
 import sys
 import tempfile
 
-sys.dont_write_bytecode = True
-
-import library  # noqa: E402
-import sources  # noqa: E402
+import checkout  # noqa: F401
+from tools import library, sources
 
 LOADED, ELF, WIDE = 1, b"\x7fELF", 2
 
 
 def stripped(program):
-    """A program of 64 bits without what stands behind its last segment: symbols, and the headers of its sections."""
+    """Returns a 64-bit program without the bytes after its last segment: symbols and section headers."""
     if program[:4] != ELF or program[4] != WIDE:
         sys.exit("it is no program of 64 bits")
     at, = struct.unpack_from("<Q", program, 32)
@@ -42,13 +39,13 @@ def stripped(program):
         kind, _, offset, _, _, length = struct.unpack_from("<IIQQQQ", program, at + size * number)
         end = max(end, offset + length) if kind == LOADED else end
     kept = bytearray(program[:end])
-    struct.pack_into("<Q", kept, 40, 0)     # where the headers of sections begin
-    struct.pack_into("<HHH", kept, 58, 0, 0, 0)     # how large they are, how many, and which has their names
+    struct.pack_into("<Q", kept, 40, 0)     # offset of the section headers
+    struct.pack_into("<HHH", kept, 58, 0, 0, 0)     # their size, their count, and the index of the one with their names
     return bytes(kept)
 
 
 def version():
-    """The newest version that CHANGELOG.md tells of."""
+    """Returns the newest version in CHANGELOG.md."""
     return re.search(r"^## (\S+)", (sources.ROOT / "CHANGELOG.md").read_text(), re.M)[1]
 
 
@@ -57,7 +54,7 @@ def kit():
 
 
 def linker():
-    """What joins the library."""
+    """Returns the version of the linker that joins the library."""
     try:
         ran = subprocess.run(["ld", "--version"], stdout=subprocess.PIPE, check=True, text=True)
     except FileNotFoundError:
@@ -66,7 +63,7 @@ def linker():
 
 
 def built():
-    """The program that was built here of these sources, as it is shipped, and the digest of the sources."""
+    """Returns the program that was built here from these sources, stripped, and the digest of the sources."""
     of_sources = sources.digest()
     found = sources.built(of_sources)
     if not found:
@@ -75,7 +72,7 @@ def built():
 
 
 def built_library():
-    """The library that was built here of these sources, as it is shipped; nothing where none was."""
+    """Returns the library that was built here from these sources, or nothing if there is none."""
     made = sources.built_library()
     if not made:
         return None
@@ -84,7 +81,7 @@ def built_library():
 
 
 def agree_on_version():
-    """Stops where the program that was built says another version than CHANGELOG.md."""
+    """Exits if the built program has another version than CHANGELOG.md."""
     ran = subprocess.run([sources.BUILT, "--version"], capture_output=True, text=True, check=False)
     if not ran.returncode and ran.stdout.split()[1:] != [version()]:
         sys.exit(f"the program says {ran.stdout.strip()}, and CHANGELOG.md {version()}")
@@ -113,9 +110,9 @@ def make():
 
 
 def compare():
-    """Whether dist/ has what was built here, byte for byte where the kit is the one that built dist/; another kit may
-    make other bytes of the same sources, and then both have to answer the same, by all tests. It is silent where they
-    are the same bytes."""
+    """Compares dist/ with the program and the library built here, byte for byte if the same toolchain built both.
+    Another toolchain may give other bytes for the same sources; then all tests are run on the program of dist/. Prints
+    nothing if the bytes are the same."""
     said = sources.entries(sources.MANIFEST)
     if said.get("sources") != sources.digest():
         print("dist/ is of other sources, so it isn't compared: `./run` builds; `tools/dist.sh` makes dist/ anew")

@@ -1,7 +1,7 @@
 #!/bin/sh
-# Makes dist/ of the program and the library that were proved and built here: dist/mlir_work.xz, dist/libmlir_work.a.xz
-# and dist/MANIFEST (tools/dist.py says more).
+# Writes the proved program and library to dist/: dist/mlir_work.xz, dist/libmlir_work.a.xz and dist/MANIFEST
+# (tools/dist.py describes them).
 #
-# usage: tools/dist.sh              of what `./run` or `.ci/run` built of these sources; the library where one was
-#        tools/dist.sh --compare    whether those are what dist/ has, where dist/MANIFEST is of these sources
+# usage: tools/dist.sh              ships the program that `./run` or `.ci/run` built, and the library if there is one
+#        tools/dist.sh --compare    compares the build with dist/, if dist/MANIFEST is of these sources
 exec python3 "$(dirname "$0")/dist.py" "$@"

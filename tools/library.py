@@ -1,13 +1,14 @@
 #!/usr/bin/env python3
-"""The library for C, C++, Rust and Python, of what was proved and built here: `libmlir_work.a`, which holds all that a
-program links, and `libmlir_work.so`, which Python loads.
+"""Writes the library for C, C++, Rust and Python, from a proved build: `libmlir_work.a`, which a program links without
+further archives, and `libmlir_work.so`, which Python loads.
 
 usage: tools/library.py FOLDER [ARCHIVE]     writes both into a folder
 
-ARCHIVE is what the checker built of `crates/mlir_work_c` (`rt lib` there leaves `out/libmlir_work_c.a`); the
-toolchain's own archive, which has the calls that ask for memory, is joined to it. Without one it is the library of
-dist/, where that is of these sources, or the one that was built here. What was built here wants `ld`, `objcopy` and
-`ar`, the shared object `gcc`. Both hand out the calls of `c/mlir_work.h` alone, and take only the C library's."""
+ARCHIVE is the output of the checker for `crates/mlir_work_c` (`rt lib` there writes `out/libmlir_work_c.a`); the
+toolchain's own archive, which has the allocation calls, is joined to it. Without ARCHIVE the library of dist/ is used
+if it is of these sources, or else the one built here. Joining an archive needs `ld`, `objcopy` and `ar`; the shared
+object needs `gcc`. Both files export only the calls of `bindings/c/mlir_work.h`, and import only calls of the C
+library."""
 import os
 import pathlib
 import shutil
@@ -15,9 +16,8 @@ import subprocess
 import sys
 import tempfile
 
-sys.dont_write_bytecode = True
-
-import sources  # noqa: E402
+import checkout  # noqa: F401
+from tools import sources
 
 KIT = pathlib.Path("/opt/rattle/c/liblibc_c.a")
 ARCHIVE, SHARED, WHOLE = "libmlir_work.a", "libmlir_work.so", "mlir_work.o"
@@ -30,7 +30,7 @@ def ran(*words):
 
 
 def joined(archive, folder):
-    """Writes the archive that has all, as one object."""
+    """Writes the joined archive, as one object."""
     made = pathlib.Path(folder) / ARCHIVE
     made.unlink(missing_ok=True)
     with tempfile.TemporaryDirectory() as room:
@@ -42,7 +42,7 @@ def joined(archive, folder):
 
 
 def shared(archive, folder):
-    """Writes the shared object of an archive that has all."""
+    """Writes the shared object of a joined archive."""
     made = pathlib.Path(folder) / SHARED
     with tempfile.TemporaryDirectory() as room:
         names = pathlib.Path(room) / "names"
@@ -53,8 +53,8 @@ def shared(archive, folder):
 
 
 def found(folder):
-    """The archive of these sources, if there is one: the one that MLIR_WORK_ARCHIVE names, or that of dist/, or what
-    was built here, which is written into a folder."""
+    """Returns the archive of these sources, if there is one: the one that MLIR_WORK_ARCHIVE names, the one of dist/, or
+    the one built here, which is first joined in a folder."""
     named = os.environ.get(NAMED)
     if named:
         return pathlib.Path(named)

@@ -1,17 +1,16 @@
 #!/usr/bin/env python3
-"""Which program, and which library, is that of the sources in this checkout: the one that is shipped in dist/, or one
-that was built here.
+"""Finds the program and the library of the sources in this checkout: shipped in dist/, or built here.
 
-A program is of the sources where a digest of them stands beside it: in `dist/MANIFEST` for the one that is shipped, and
-in `crates/mlir_work/out/mlir_work.sources` for the one that `./run` or `.ci/run` built, with the program's own digest.
-The digest is of the bytes of all files of `src`, `specs` and `proofs` of the crates at or below `mlir_work`, and of
-their lines in crates.txt. The library is that of `mlir_work_c`, and has a digest of its own.
+A program belongs to the sources if a record has the digest of the sources and of the program. The record is
+`dist/MANIFEST` for the shipped program, and `crates/mlir_work/out/mlir_work.sources` for one that `./run` or `.ci/run`
+built. The digest covers all files of `src`, `specs` and `proofs` of the crates at or below `mlir_work`, and their lines
+in crates.txt. The library belongs to `mlir_work_c`, and has a separate digest.
 
 usage: tools/sources.py            prints the digest of the program's sources
-       tools/sources.py --program  says which program is of these sources, if there is one
-       tools/sources.py --library  says which library is, that of dist/ or what the checker built
-       tools/sources.py --version FILE     says what a program of these sources is, or the one that is installed
-       tools/sources.py --record   writes beside what was built here just now that it is of these sources"""
+       tools/sources.py --program  prints the path of the program of these sources, if there is one
+       tools/sources.py --library  prints the path of the library: the one of dist/, or the one that the checker built
+       tools/sources.py --version FILE     prints the version of a program, its toolchain and its digests
+       tools/sources.py --record   records that the program and the library built here are of these sources"""
 import hashlib
 import os
 import pathlib
@@ -34,7 +33,7 @@ def digest_of(data):
 
 
 def lines():
-    """The line of each crate in crates.txt, as its words."""
+    """Returns the words of the line of each crate in crates.txt."""
     found = {}
     for line in (ROOT / "crates.txt").read_text().splitlines():
         name, colon, rest = line.partition("#")[0].partition(":")
@@ -44,7 +43,7 @@ def lines():
 
 
 def crates(top=TOP):
-    """The crates at or below the program, or another one, with the words of their lines."""
+    """Returns the crates at or below the program or another crate, with the words of their lines."""
     known, found, left = lines(), {}, [top]
     while left:
         name = left.pop()
@@ -55,7 +54,7 @@ def crates(top=TOP):
 
 
 def files(folder):
-    """The files below a folder, by their path in the repository, in the order of their names."""
+    """Returns the files below a folder, by their paths in the repository, in the order of their names."""
     try:
         inside = sorted(os.scandir(f"{ROOT}/{folder}"), key=lambda it: it.name)
     except FileNotFoundError:
@@ -75,7 +74,7 @@ def bytes_of(path):
 
 
 def digest(top=TOP):
-    """The digest of the sources of the program, or of another crate."""
+    """Returns the digest of the sources of the program, or of another crate."""
     whole = hashlib.sha256()
     for name, words in sorted(crates(top).items()):
         whole.update(f"{name}: {' '.join(words)}\n".encode())
@@ -88,13 +87,13 @@ def digest(top=TOP):
 
 
 def entries(file):
-    """What a file says, of lines `WORD: TEXT`; nothing where it isn't there."""
+    """Returns the entries of a file with lines `WORD: TEXT`; none if the file is missing."""
     text = file.read_text() if file.is_file() else ""
     return {word: rest.strip() for word, colon, rest in (line.partition(":") for line in text.splitlines()) if colon}
 
 
 def shipped(of_sources):
-    """The program of dist/, where that is of these sources; it is unpacked once."""
+    """Returns the program of dist/, if it is of these sources; unpacks it once."""
     said, here = entries(MANIFEST), os.uname()
     if said.get("sources") != of_sources or not PACKED.is_file() or (here.sysname, here.machine) != ("Linux", "x86_64"):
         return None
@@ -104,8 +103,8 @@ def shipped(of_sources):
 
 
 def unpacked(word="program"):
-    """The program or the library of dist/, which has to be the one that its MANIFEST speaks of."""
-    import lzma  # (here, since few starts want it)
+    """Returns the program or the library of dist/. Exits if its digest isn't the one in the MANIFEST."""
+    import lzma  # imported here, since few starts need it
     packed = PACKED_LIBRARY if word == "library" else PACKED
     try:
         made = lzma.decompress(packed.read_bytes())
@@ -117,7 +116,7 @@ def unpacked(word="program"):
 
 
 def put(made, to, mode):
-    """Writes a file whole, or not at all."""
+    """Writes a file atomically."""
     to.parent.mkdir(exist_ok=True)
     new = to.with_name(f"{to.name}.{os.getpid()}")
     new.write_bytes(made)
@@ -126,12 +125,12 @@ def put(made, to, mode):
 
 
 def unpack():
-    """Writes the program of dist/ to where it is started."""
+    """Writes the program of dist/ to the path from which it is started."""
     put(unpacked(), UNPACKED, 0o755)
 
 
 def library():
-    """The library of dist/, where that is of these sources; it is unpacked once."""
+    """Returns the library of dist/, if it is of these sources; unpacks it once."""
     said = entries(MANIFEST)
     if said.get("library-sources") != digest(LIBRARY_TOP) or not PACKED_LIBRARY.is_file():
         return None
@@ -141,30 +140,30 @@ def library():
 
 
 def is_recorded(made, record, of_sources):
-    """Whether a record says of what was built here that it is of these sources."""
+    """Whether a record says that a file built here is of these sources."""
     said = entries(record)
     return (said.get("sources") == of_sources and made.is_file()
             and said.get("program") == digest_of(made.read_bytes()))
 
 
 def built(of_sources):
-    """The program that was built here, where it is of these sources."""
+    """Returns the program that was built here, if it is of these sources."""
     return BUILT if is_recorded(BUILT, RECORD, of_sources) else None
 
 
 def built_library():
-    """The library that was built here, without what it takes of the toolchain, where it is of these sources."""
+    """Returns the library that was built here, without the toolchain's archive, if it is of these sources."""
     return BUILT_LIBRARY if is_recorded(BUILT_LIBRARY, record_of(BUILT_LIBRARY), digest(LIBRARY_TOP)) else None
 
 
 def record_of(made):
-    """The file that says of which sources something is."""
+    """Returns the record of a built file."""
     return made.with_suffix(".sources")
 
 
 def record(of_sources, made=None):
-    """Says beside the program that was built here that it is of these sources, or beside the library. Where `rt` left a
-    stamp of it, that has to be of what stands there."""
+    """Writes the record of the program or the library that was built here. If `rt` left a stamp, the stamp must have
+    the digest of the file."""
     made = made or BUILT
     of_program = digest_of(made.read_bytes())
     stamp = made.with_suffix(".stamp")
@@ -174,7 +173,7 @@ def record(of_sources, made=None):
 
 
 def record_all():
-    """Says so beside the program and the library, each where it was built."""
+    """Writes the records of the program and the library, if they were built."""
     there = [(it, top) for it, top in ((BUILT, TOP), (BUILT_LIBRARY, LIBRARY_TOP)) if it.is_file()]
     if not there:
         sys.exit("nothing was built here")
@@ -183,7 +182,7 @@ def record_all():
 
 
 def version(path):
-    """What a program is: its version, the kit that built it, and the digests of its sources and its bytes."""
+    """Returns the version of a program, the toolchain that built it, and the digests of its sources and its bytes."""
     of_program = digest_of(pathlib.Path(path).read_bytes())
     said = entries(MANIFEST)
     if said.get("program") != of_program:
@@ -194,7 +193,7 @@ def version(path):
 
 
 def program():
-    """The program of these sources, if there is one."""
+    """Returns the program of these sources, if there is one."""
     of_sources = digest()
     return shipped(of_sources) or built(of_sources)
 

@@ -2,16 +2,12 @@
 """Edits that depend on one another, each with a query: of a chain of operations that nothing uses in the end, the one
 that `report dead` names is erased, again and again, until there is none.
 
-usage: MLIR_WORK=PROGRAM examples/python/edits.py [EDITS]     10,000 where nothing is said"""
-import pathlib
+usage: MLIR_WORK=PROGRAM PYTHONPATH=bindings/python examples/python/edits.py [EDITS]     (10,000 without a number; the
+path isn't needed if the package is installed)"""
 import sys
 import time
 
-sys.dont_write_bytecode = True
-# (not needed where the package is installed)
-sys.path.insert(0, str(pathlib.Path(__file__).resolve().parents[2] / "python"))
-
-import mlir_work  # noqa: E402
+import mlir_work
 
 
 def chain(count):

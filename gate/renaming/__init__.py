@@ -1,1 +1,1 @@
-"""The parts of gate/rename.py: reading a checkout, resolving its names, and writing it anew under other names."""
+"""The parts of gate/rename.py: reading a checkout, resolving its names, and writing it again under other names."""

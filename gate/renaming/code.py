@@ -146,7 +146,7 @@ def heads_of(code: list[Token], at: int, opens: int) -> tuple[str, str]:
 
 
 def takes_self(code: list[Token], at: int) -> bool:
-    """Whether the parameters of a function begin with `self`. Its name stands before the token."""
+    """Whether the parameters of a function begin with `self`. Its name is before the token."""
     while code[at].text != "(":
         at += 1
     return any(it.text == "self" for it in code[at + 1:at + 5] if it.text != ")")
@@ -154,7 +154,7 @@ def takes_self(code: list[Token], at: int) -> bool:
 
 def functions_in(code: list[Token], first: int, last: int, owner: str, module: Module, places: dict[int, int],
                  trait: str = ""):
-    """Notes the functions that stand between two tokens at one depth."""
+    """Notes the functions that are between two tokens at one depth."""
     at = first
     while at < last:
         text = code[at].text

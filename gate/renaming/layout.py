@@ -38,9 +38,9 @@ class Layout:
             return self.logic_place(parts)
         if parts[0] == "crates" and len(parts) > 2:
             return "/".join(["crates", self.names.crate(parts[1]), *parts[2:]])
-        if file.startswith("bench/cases/") and parts[2].removesuffix(".py") in self.names.crates:
-            return f"bench/cases/{self.names.crate(parts[2].removesuffix('.py'))}.py"
-        if file.startswith("bench/wrong_bodies/") and len(parts) > 3 and parts[2] in self.tree.crates:
+        if file.startswith("tests/generate/") and parts[2].removesuffix(".py") in self.names.crates:
+            return f"tests/generate/{self.names.crate(parts[2].removesuffix('.py'))}.py"
+        if file.startswith("tests/mutants/") and len(parts) > 3 and parts[2] in self.tree.crates:
             return "/".join([*parts[:2], self.names.crate(parts[2]), *parts[3:]])
         return file
 
@@ -83,7 +83,7 @@ class Layout:
             self.problems.append(f"{self.names.crate(name)}/{side}/Lib.antt: {known[word]} and {made}")
 
     def logic_line(self, name: str, side: str, line: str) -> str | None:
-        """Returns what a line of `Lib.antt` becomes, or nothing if what it hands on is in the same crate now."""
+        """Returns what a line of `Lib.antt` becomes, or nothing if what it re-exports is in the same crate now."""
         found = LIB.match(line.strip())
         if not found:
             return line
@@ -150,7 +150,7 @@ class Layout:
         return renamed_mods(text, lambda it: self.names.module(name, it))
 
     def is_inside(self, name: str, module, leaf) -> bool:
-        """Whether a `pub use` of a root hands on what is in the same crate now."""
+        """Whether a `pub use` of a root re-exports what is in the same crate now."""
         new = self.paths.code(module, leaf.path, True)
         return leaf.is_public and new[0] == "crate" and leaf.path[0] in self.tree.crates
 

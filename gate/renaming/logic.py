@@ -182,7 +182,7 @@ class Logic:
         self.replace(it, ".".join(out))
 
     def of_goal(self, rest: list[str], labels: Labels) -> list[str]:
-        """Returns the words behind a goal's variable: labels, and the names of parameters and fields."""
+        """Returns the words after a goal's variable: labels, and the names of parameters and fields."""
         out, before = [], ""
         for word in rest:
             is_label = "-" in word or before in ("", "c") or word[:1].isupper()

@@ -1,4 +1,4 @@
-"""Methods, which are named behind a dot: what each call becomes, by what is known of the receiver's type."""
+"""Methods, which are named after a dot: what each call becomes, by what is known of the receiver's type."""
 import functools
 import pathlib
 import re
@@ -64,7 +64,7 @@ class Members:
         return None
 
     def method(self, module: Module, at: int, owner: str, params: dict[str, str]) -> str | None:
-        """Returns the new name of a method behind a dot, or nothing if that can't be told."""
+        """Returns the new name of a method after a dot, or nothing if it isn't known."""
         name = module.tokens[at].text
         if name not in self.methods:
             return name
@@ -128,7 +128,7 @@ class Members:
         return found
 
     def undecided(self, of_file) -> dict[str, list[str]]:
-        """Returns the methods whose receivers' types can't be told somewhere, with the files."""
+        """Returns the methods with a receiver of unknown type, with the files."""
         found: dict[str, list[str]] = {}
         for crate in self.tree.crates.values():
             for module in crate.modules.values():
@@ -147,13 +147,13 @@ class Members:
         self.methods -= names
 
     def head(self, module: Module, words: tuple[str, ...]) -> Thing | None:
-        """Returns the type that the words of a type begin with, behind references."""
+        """Returns the type that the words of a type begin with, after references."""
         name = head_of(words)
         return self.tree.in_scope(module, name) if name else None
 
 
 def head_of(words: tuple[str, ...]) -> str:
-    """Returns the first name of a type, behind references."""
+    """Returns the first name of a type, after references."""
     for word in words:
         if word not in ("&", "mut", "dyn", "impl") and not word.startswith("'"):
             return word if word[0].isalpha() else ""

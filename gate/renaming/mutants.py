@@ -1,6 +1,6 @@
-"""Edits (`must-fail/*.edit`, `bench/wrong_bodies/CRATE/*.edit` and `*.control`): their code under new names.
+"""Edits (`must-fail/*.edit`, `tests/mutants/CRATE/*.edit` and `*.control`): their code under new names.
 
-An edit is applied to its file, the file with the edit is rewritten as any other, and what stands in the place of each
+An edit is applied to its file, the file with the edit is rewritten as any other, and the text in the place of each
 `old:` and `new:` is taken from there."""
 import pathlib
 import tempfile
@@ -39,7 +39,7 @@ def mutant_of(path: str, crate: str, text: str) -> Mutant:
 
 
 def place(made: Mutant, data: bytes) -> bool:
-    """Finds where the pairs stand, and makes the file with the edit. False if a text isn't there once."""
+    """Finds where the pairs are, and makes the file with the edit. False if a text isn't there once."""
     spots = []
     for old, new in made.pairs:
         at = data.find(old.encode())
@@ -58,7 +58,7 @@ def place(made: Mutant, data: bytes) -> bool:
 
 
 def taken(data: bytes, edits: list, spot: tuple[int, int]) -> str | None:
-    """Returns what stands in a range of a rewritten file, the range being one before rewriting."""
+    """Returns what is in a range of a rewritten file, the range being one before rewriting."""
     start, end = new_place(edits, spot[0]), new_place(edits, spot[1])
     return None if start is None or end is None else applied(data, edits)[start:end].decode()
 
@@ -68,7 +68,7 @@ def mutants_of(writing) -> list[Mutant]:
     found = []
     for name in writing.tree.files:
         parts = name.split("/")
-        if name.endswith((".edit", ".control")) and ("must-fail" in parts or "wrong_bodies" in parts):
+        if name.endswith((".edit", ".control")) and ("must-fail" in parts or name.startswith("tests/mutants/")):
             crate = parts[1] if parts[0] == "crates" else parts[2]
             found.append(mutant_of(name, crate, (writing.tree.root / name).read_text()))
     return found

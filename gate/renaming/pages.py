@@ -1,4 +1,4 @@
-"""Pages and programs beside the crates: paths of files, and names in backticks."""
+"""Pages, and programs outside the crates: paths of files, and names in backticks."""
 import re
 
 from renaming.code import Module
@@ -46,11 +46,11 @@ class Pages:
         self.outside.modules["page"] = Module("", "page", "", [])
 
     def unambiguous(self) -> dict[str, str]:
-        """Returns the names that are renamed wherever they stand: all things of that name get one new name."""
+        """Returns the names that are renamed everywhere: all things of that name get the same new name."""
         return {}
 
     def text(self, file: str, text: str) -> str:
-        """Returns a text under new names. `file` is where it stands today."""
+        """Returns a text under new names. `file` is where it is today."""
         crate = file.split("/")[1] if file.startswith("crates/") else ""
         made = PATH.sub(lambda found: self.path(found.group(), crate), text)
         if file.endswith(".md"):
@@ -60,12 +60,12 @@ class Pages:
                 made = wrapped(text, made)
         if file.endswith(".py"):
             for old, new in self.names.crates.items():
-                if f"bench/cases/{old}.py" in self.known:
+                if f"tests/generate/{old}.py" in self.known:
                     made = re.sub(rf"\b{old}\b", new, made)
         return made
 
     def rows_of_edits(self, text: str) -> str:
-        """Gives rows of tables of edits the names of those that met another in a merged crate."""
+        """Renames rows of the tables of edits whose names collide in a merged crate."""
         for (crate, old), new in self.writing.edit_names.items():
             text = text.replace(f"| `{crate}` | `{old}` |", f"| `{crate}` | `{new}` |")
         return text
@@ -102,7 +102,7 @@ class Pages:
         return "/".join(self.writing.layout.new_path(inside[0]).split("/")[:len(parts)])
 
     def span(self, said: str) -> str:
-        """Returns what stands in backticks under new names."""
+        """Returns what is in backticks under new names."""
         if said in self.names.crates:
             return self.names.crates[said]
         if re.fullmatch(r"\w+(::\w+)+", said) and said.split("::")[0] in self.tree.crates:

@@ -6,7 +6,7 @@ from renaming.tree import Thing, Tree
 
 
 class Paths:
-    """Says what a path becomes. A path that leads through what one merged crate handed on of the other gets shorter."""
+    """Says what a path becomes. A path that leads through what one merged crate passed on of the other gets shorter."""
 
     def __init__(self, tree: Tree, names: Names) -> None:
         self.tree = tree
@@ -57,7 +57,7 @@ class Paths:
     # ---- code
 
     def code(self, module: Module, path: tuple[str, ...], is_use: bool = False) -> tuple[str, ...]:
-        """Returns what a path becomes that stands in a module of code."""
+        """Returns what a path becomes that is in a module of code."""
         tree, first = self.tree, path[0]
         uses = tree.crates[module.crate].uses
         is_hidden = not is_use and tree.in_module(module.crate, module.name, first) is not None
@@ -96,7 +96,7 @@ class Paths:
         return ("crate",) if new == self.names.crate(module.crate) else (new,)
 
     def handed_on(self, thing: Thing, under: Thing, word: str):
-        """Returns the leaf by which a module hands on what stands elsewhere."""
+        """Returns the leaf by which a module re-exports what is elsewhere."""
         if thing[0] != "module":
             return None
         if under[1] == thing[1] and (under[:2] == thing[:2] if thing[2] == "" and under[0] == "module" else
@@ -162,14 +162,14 @@ class Paths:
         return out
 
     def handed_path(self, thing: Thing, word: str) -> tuple[str, ...] | None:
-        """Returns the path that a library's root hands on under a word."""
+        """Returns the path that a library's root re-exports under a word."""
         if thing is None or thing[0] != "side" or word in self.tree.crates[thing[1]].files[thing[2]]:
             return None
         found = self.tree.crates[thing[1]].handed_on[thing[2]].get(word)
         return found[0] if found else None
 
     def handed_word(self, side: Thing, word: str) -> str:
-        """Returns the new name of what a library's root hands on."""
+        """Returns the new name of what a library's root re-exports."""
         new = self.names.aliases.get((side[1], side[2], word))
         if new:
             return new

@@ -27,7 +27,7 @@ def defined(tree: Tree, thing, name: str) -> bool:
 
 
 def hidden(tree: Tree) -> list[str]:
-    """Returns a line for each file of proofs whose name the checker gives to what it makes of the code."""
+    """Returns a line for each file of proofs whose name the checker uses for what it generates from the code."""
     found = []
     for crate in tree.crates.values():
         root = crate.modules.get("")

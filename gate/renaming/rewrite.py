@@ -102,7 +102,7 @@ class Code:
         return found
 
     def is_pattern(self, at: int, last: int) -> bool:
-        """Whether a word stands in a pattern: one of a `let`, of an arm or of a closure."""
+        """Whether a word is in a pattern: one of a `let`, of an arm or of a closure."""
         depth = 0
         for place in range(at, min(last, at + 60, len(self.tokens) - 1)):
             text = self.tokens[place].text

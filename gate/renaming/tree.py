@@ -20,7 +20,7 @@ Thing = tuple
 
 @dataclass
 class Crate:
-    """A crate: what it uses, its modules of code, and by side its files and what its root hands on."""
+    """A crate: what it uses, its modules of code, and by side its files and what its root re-exports."""
 
     name: str
     uses: list[str] = field(default_factory=list)
@@ -121,7 +121,7 @@ class Tree:
         return self.declared[name]
 
     def handed_by_file(self, crate: str, side: str, file: str) -> dict[str, tuple[str, ...]]:
-        """Returns what a file hands on by `pub use PATH.{NAME}`: by name, the path."""
+        """Returns what a file re-exports by `pub use PATH.{NAME}`: by name, the path."""
         name = self.crates[crate].files[side][file]
         if ("handed", name) not in self.declared:
             found, tokens = {}, self.tokens[name]
@@ -181,7 +181,7 @@ class Tree:
 
     def step(self, thing: Thing | None, name: str, seen: frozenset = frozenset(),
              is_inner: bool = False) -> Thing | None:
-        """Returns what stands below a thing of code under a name."""
+        """Returns what is below a thing of code under a name."""
         if thing is None:
             return None
         if thing[0] == "module":
@@ -223,7 +223,7 @@ class Tree:
         return found
 
     def below(self, thing: Thing | None, name: str) -> Thing | None:
-        """Returns what stands below a thing of a library of antt under a name."""
+        """Returns what is below a thing of a library of antt under a name."""
         if thing is None:
             return None
         if thing[0] == "side":
@@ -250,7 +250,7 @@ class Tree:
         return ("made",)
 
     def mirrored(self, room: str, code: Thing, name: str) -> Thing | None:
-        """Returns what stands below a thing of code in a room that the checker makes."""
+        """Returns what is below a thing of code in a room that the checker makes."""
         if code[0] == "module":
             module = self.crates[code[1]].modules.get(code[2])
             if module is None:

@@ -66,7 +66,7 @@ class Writing:
         return self.made
 
     def leave_undecided(self) -> None:
-        """Leaves methods that are called where the type of the receiver can't be told."""
+        """Leaves methods that are called on a receiver of unknown type."""
         members = self.paths.members
         found = members.undecided(lambda module, at: (owner_at(module, at), params_at(module, at)))
         for name, files in sorted(found.items()):
@@ -85,7 +85,7 @@ class Writing:
         """Returns another path for a file that meets one of its name in a merged crate."""
         folder, _, name = new.rpartition("/")
         if new.endswith((".edit", ".control")):
-            crate = old.split("/")[2 if old.startswith("bench") else 1]
+            crate = old.split("/")[2 if old.startswith("tests") else 1]
             self.edit_names[crate, name.rpartition(".")[0]] = f"{crate}_{name.rpartition('.')[0]}"
             return f"{folder}/{crate}_{name}"
         self.said.append(f"two files become {new}: {self.came_from[new]} and {old}")
@@ -232,7 +232,7 @@ class Writing:
         return {it: data for it, data in made.items() if not (root / it).exists() or (root / it).read_bytes() != data}
 
     def store(self, made: dict[str, bytes]) -> None:
-        """Writes the files, and takes away those that went elsewhere."""
+        """Writes the files, and removes those that moved elsewhere."""
         root = self.tree.root
         gone = [it for it in self.tree.files if self.goes(it) and it not in made]
         for file in gone:
@@ -241,7 +241,7 @@ class Writing:
         for file, data in made.items():
             (root / file).parent.mkdir(parents=True, exist_ok=True)
             (root / file).write_bytes(data)
-        rooms = [*(root / "crates").rglob("*"), *(root / "bench/wrong_bodies").rglob("*")]
+        rooms = [*(root / "crates").rglob("*"), *(root / "tests/mutants").rglob("*")]
         for folder in sorted((it for it in rooms if it.is_dir()), reverse=True):
             if not any(folder.iterdir()):
                 folder.rmdir()

@@ -1,7 +1,7 @@
-"""A browser without a window, for the tests of pages: what stands there is asked for by expressions of JavaScript.
+"""A browser without a window, for the tests of pages. JavaScript expressions read the contents of a page.
 
 It is a chromium (`--remote-debugging-pipe`), which reads commands from its file 3 and writes answers to its file 4,
-each a JSON text with a zero byte behind it."""
+each a JSON text with a zero byte after it."""
 import base64
 import fcntl
 import json
@@ -79,7 +79,7 @@ class Browser:
         return json.loads(text)
 
     def open(self, address):
-        """Opens a page, anew, and waits until it is there."""
+        """Opens a page again from the start, and waits until it is loaded."""
         self.ask("Page.enable")
         self.ask("Page.navigate", url="about:blank")
         self.ask("Page.navigate", url=address)

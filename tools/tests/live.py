@@ -1,14 +1,13 @@
-"""A program for tests that has `--interactive`: it answers by bench/reference, a line at a time, or a whole run. With
+"""A program for tests that has `--interactive`: it answers by oracle, a line at a time, or a whole run. With
 FAIL_AT in the environment it ends at the line of that number, once: the file that GONE names says that it did."""
 import os
 import pathlib
 import sys
 
-sys.path.append(str(pathlib.Path(__file__).resolve().parents[2] / "bench"))
-
-from reference import script  # noqa: E402
-from reference.module import read, rules  # noqa: E402
-from reference.script import printing  # noqa: E402
+import checkout  # noqa: F401
+from oracle import script
+from oracle.module import read, rules
+from oracle.script import printing
 
 OUT = sys.stdout.buffer
 BAD = " refused 60 BadCommand\n", True

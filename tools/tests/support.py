@@ -1,36 +1,36 @@
-"""What the tests stand on: the tools, over the program where it is built, and else over bench/reference, which is
-called here for speed, in place of a process for each run."""
+"""Shared code of the tests of the tools. The tools run the program if it is built, or else oracle, which is called in
+this process, since a process for each run would be slow."""
 import os
-import pathlib
-import sys
 
-sys.dont_write_bytecode = True
-ROOT = pathlib.Path(__file__).resolve().parents[2]
-sys.path[:0] = [str(ROOT / "tools"), str(ROOT / "gate")]
-sys.path.append(str(ROOT / "bench"))
-
-import program  # noqa: E402
+from checkout import ROOT  # noqa: F401
+from gate import check_examples  # noqa: F401
+from mlir_work.cli import changes, explain, forms, listing, mistakes, program, session, targets  # noqa: F401
+from mlir_work.command import INSTALLED, REFERENCE, VARIABLE
+from tests.compare import refusals  # noqa: F401
+from tools import launch
 
 
 def referred(text):
-    """The status of a run by bench/reference, and the text that it writes."""
-    from reference import aliases, own, rules
+    """The status of a run by oracle, and the text that it writes."""
+    from oracle import aliases, own, rules
     reader = aliases.Reader if program.OPAQUE in program.ASKED else rules.Reader
     files = [file for option, file in zip(program.ASKED, program.ASKED[1:]) if option == program.PATTERNS]
     status, out = own.run(text, book=own.book_of(files), reader=reader)
     return status, out.decode()
 
 
-if "MLIR_WORK" not in os.environ and not program.of_sources():
-    os.environ["MLIR_WORK"] = "reference"
-    program.written = referred
+def replies(run):
+    """Returns the replies of a run, each with the lines below it."""
+    return [(it.text, it.lines) for it in run.replies()]
 
-import changes  # noqa: E402, F401
-import check_examples  # noqa: E402, F401
-import explain  # noqa: E402, F401
-import forms  # noqa: E402, F401
-import listing  # noqa: E402, F401
-import mistakes  # noqa: E402, F401
-import session  # noqa: E402, F401
-import targets  # noqa: E402, F401
-from compare import refusals  # noqa: E402, F401
+
+def words():
+    """Returns the words that start the program, and what its environment has besides."""
+    found = program.asked_for()
+    return found.words, found.more
+
+
+launch.provide()
+if not os.environ.get(VARIABLE) and not os.environ.get(INSTALLED):
+    os.environ[VARIABLE] = REFERENCE
+    program.written = referred

@@ -1,4 +1,4 @@
-"""The pairs of modules of tests/compare, each with what `mlir-work compare` has to say of it.
+"""The pairs of modules of tests/golden/compare, each with what `mlir-work compare` has to say of it.
 
 A file `NAME.pair` begins with a sentence of intent. The first module follows a line `=== before`, the second one a line
 `=== after`, then come a line `=== compare OPTIONS` and a line `=== status N` with what is written. A line that follows
@@ -16,9 +16,9 @@ import unittest.mock
 
 from support import ROOT
 
-import mlir_work
+from mlir_work.cli import main
 
-PAIRS = ROOT / "tests/compare"
+PAIRS = ROOT / "tests/golden/compare"
 HEADER = re.compile(r"^=== (.*)\n", re.M)
 REPEATED = re.compile(r"^// the next line for each k from (\d+) to (\d+)\n(.*\n)", re.M)
 
@@ -41,14 +41,15 @@ class Pair:
         self.words = next(it for it in self.parts if it.split()[0] == "compare").split()
 
     def asked(self):
-        """What is said of the pair, below a line with the status."""
-        with tempfile.TemporaryDirectory() as folder, unittest.mock.patch("generic.tool", return_value=[]):
+        """The output for the pair, below a line with the status."""
+        no_tool = unittest.mock.patch("mlir_work.cli.generic.tool", return_value=[])
+        with tempfile.TemporaryDirectory() as folder, no_tool:
             names = [pathlib.Path(folder, name) for name in ("before", "after")]
             for name in names:
                 name.write_text(repeated(self.parts[name.name]))
             with contextlib.redirect_stdout(io.StringIO()) as out, contextlib.redirect_stderr(out):
                 out.reconfigure = lambda **_: None
-                status = mlir_work.main([self.words[0], *map(str, names), *self.words[1:]])
+                status = main.main([self.words[0], *map(str, names), *self.words[1:]])
             return f"=== status {status}\n" + out.getvalue().replace(folder + "/", "")
 
     def expected(self):

@@ -10,7 +10,7 @@ import unittest
 
 from support import ROOT, program
 
-import mlir_work
+from mlir_work.cli import main
 
 
 def function(body, takes="i4, i4", gives="i4", name="f", more=""):
@@ -112,7 +112,7 @@ def compared(before, after, *more):
             name.write_text(text)
         with contextlib.redirect_stdout(io.StringIO()) as out, contextlib.redirect_stderr(out):
             out.reconfigure = lambda **_: None
-            status = mlir_work.main(["compare", *map(str, names), *more])
+            status = main.main(["compare", *map(str, names), *more])
         return status, out.getvalue().replace(folder + "/", "")
 
 
@@ -157,7 +157,7 @@ class Compared(unittest.TestCase):
         before, after = DIFFERENT["a public function removed"]
         self.assertEqual(compared(before, after, "--function", "f")[0], 0)
         status, said = compared(before, after, "--function", "@g")
-        self.assertEqual((status, said), (2, "mlir-work: after has no function @g\n"))
+        self.assertEqual((status, said), (2, "mlir-work: after has no function @g: it has @f\n"))
 
     def test_a_difference_counts_most(self):
         before = binary("subi", "%a, %b") + UNKNOWN["an operation that isn't listed"][0].replace('"f"', '"h"')
@@ -175,10 +175,10 @@ class Compared(unittest.TestCase):
             self.assertEqual(ended.exception.code, 2)
 
     def test_examples(self):
-        """What `canon` makes of the examples is the same."""
+        """The examples after `canon` compare as the same."""
         for name in ("fold", "canon"):
             text = (ROOT / f"examples/{name}.mlir").read_text()
-            printed = program.asked(text.encode(), ["canon", "print"])[1][2:]
+            printed = program.asked(text.encode(), ["canon", "print"]).lines[2:]
             status, said = compared(text, "\n".join([*printed, ""]), "--inputs", "50")
             self.assertEqual(status, 0, said)
 

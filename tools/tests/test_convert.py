@@ -1,45 +1,48 @@
-"""Lines that canonicalize, convert or sweep: what their mistake is, and what is said behind them."""
+"""Lines that canonicalize, convert or sweep: messages for mistakes, and the answers at the prompt."""
 import unittest
 import unittest.mock
 
+import support
 from support import explain, mistakes, program, session, targets
 
-# Lines that are no command, with the byte where the fault stands, and a part of what is said.
+from mlir_work.script import joined
+
+# Lines that aren't commands, with the byte offset of the fault, and a part of the message.
 MISSPELT = {
     "convert": (7, "MODE is missing: write `convert MODE CLAUSES` or `convert trace MODE CLAUSES`; a mode is "
                    "`partial` or `full`"),
-    "convert illegal a.b": (8, "`illegal` is no MODE: write `convert MODE CLAUSES` or "),
+    "convert illegal a.b": (8, "found `illegal`, expected MODE: write `convert MODE CLAUSES` or "),
     "convert trace": (13, "MODE is missing: write `convert trace MODE CLAUSES`; a mode is `partial` or `full`"),
-    "convert trace  illegal a.b": (15, "`illegal` is no MODE: write `convert trace MODE CLAUSES`; a mode is "),
-    "convert trace trace full": (14, "`trace` is no MODE: write `convert trace MODE CLAUSES`"),
-    "convert partial trace": (16, "`trace` is no clause: the clauses are `legal NAMES`, "),
+    "convert trace  illegal a.b": (15, "found `illegal`, expected MODE: write `convert trace MODE CLAUSES`; a mode "),
+    "convert trace trace full": (14, "found `trace`, expected MODE: write `convert trace MODE CLAUSES`"),
+    "convert partial trace": (16, "`trace` is not a clause: write one of `legal NAMES`, "),
     "convert trace full legal a.b,": (29, "a name is missing here"),
-    "convert traces full": (8, "`traces` is no MODE: write `convert MODE CLAUSES` or `convert trace MODE CLAUSES`"),
-    "convert partial a.b": (16, "`a.b` is no clause: the clauses are `legal NAMES`, "),
+    "convert traces full": (8, "found `traces`, expected MODE: write `convert MODE CLAUSES` or `convert trace MODE "),
+    "convert partial a.b": (16, "`a.b` is not a clause: write one of `legal NAMES`, "),
     "convert full legal": (18, "NAMES is missing: write `legal NAMES`"),
     "convert full  legal a.b, a.c": (24, "a name is missing here"),
     "convert full legal ,": (19, "a name is missing here"),
     "convert full legal a.b,,a.c": (23, "a name is missing here"),
-    "convert full legal a.b legal a.c": (23, "`legal` stands twice"),
-    "convert full rules 2,x": (21, "`x` is no number"),
-    "convert full rules 2;25": (19, "`2;25` is no number"),
+    "convert full legal a.b legal a.c": (23, "the clause `legal` is repeated"),
+    "convert full rules 2,x": (21, "`x` is not a number"),
+    "convert full rules 2;25": (19, "`2;25` is not a number"),
     "convert full rules 2,4294967296": (21, "4294967296 is above 4294967295"),
-    "convert full depth 1,2": (20, "one number stands behind `depth`"),
-    "convert full depth -1": (19, "`-1` is no number"),
+    "convert full depth 1,2": (20, "`depth` has several numbers"),
+    "convert full depth -1": (19, "`-1` is not a number"),
     "legalize": (0, "write `convert MODE CLAUSES`"),
     "converted": (0, "write `convert MODE CLAUSES`"),
 }
-# Targets that can't be, with the byte where the fault stands, and a part of what is said.
+# Invalid targets, with the byte offset of the fault, and a part of the message.
 UNFIT = {
-    "convert partial legal a.b illegal a.b": (34, "`a.b` stands twice"),
-    "convert  full dynamic a.c,a.c": (26, "`a.c` stands twice"),
+    "convert partial legal a.b illegal a.b": (34, "`a.b` is repeated"),
+    "convert  full dynamic a.c,a.c": (26, "`a.c` is repeated"),
     "convert partial illegal a.b,builtin.unrealized_conversion_cast": (28, "casts are always legal"),
-    "convert partial rules 2,1": (24, "1 is none of the rules 2 and 25 to 30"),
-    "convert partial rules 25,31": (25, "31 is none of the rules 2 and 25 to 30"),
-    "convert partial depth 0": (22, "a depth is 1 to 16"),
-    "convert partial legal a.b depth 17": (32, "a depth is 1 to 16"),
-    "convert trace partial depth 0": (28, "a depth is 1 to 16"),
-    " convert \ttrace  full legal a.c rules 2,1": (40, "1 is none of the rules 2 and 25 to 30"),
+    "convert partial rules 2,1": (24, "a `convert` has no rule 1: write rules of 2 and 25 to 30"),
+    "convert partial rules 25,31": (25, "a `convert` has no rule 31: write rules of 2 and 25 to 30"),
+    "convert partial depth 0": (22, "depth 0 is out of range: write 1 to 16"),
+    "convert partial legal a.b depth 17": (32, "depth 17 is out of range: write 1 to 16"),
+    "convert trace partial depth 0": (28, "depth 0 is out of range: write 1 to 16"),
+    " convert \ttrace  full legal a.c rules 2,1": (40, "a `convert` has no rule 1: write rules of 2 and 25 to 30"),
 }
 RIGHT = ["convert partial", "convert full", "convert partial depth 1 rules 2,25,25 dynamic a.b legal c,d illegal e",
          "convert trace partial", "convert\ttrace full  rules 27,26", "canon", "canon limit 0", "sweep"]
@@ -67,13 +70,13 @@ class Misspelt(unittest.TestCase):
                 self.assertIn(words, fault.words)
 
     def test_each_is_refused(self):
-        replies = program.replies(program.asked(b"", list(MISSPELT))[1])
+        replies = support.replies(program.asked(b"", list(MISSPELT)))
         self.assertEqual({reply for reply, _ in replies}, {"refused 60 BadCommand"})
 
     def test_right_ones(self):
         for line in RIGHT:
             self.assertIsNone(mistakes.misspelt(line), line)
-        replies = program.replies(program.asked(b"", RIGHT)[1])
+        replies = support.replies(program.asked(b"", RIGHT))
         self.assertFalse([reply for reply, _ in replies if "60" in reply])
 
 
@@ -85,11 +88,11 @@ class Targets(unittest.TestCase):
                 self.assertEqual((targets.unfit(line)[0], words in targets.unfit(line)[1]), (column, True))
 
     def test_each_is_refused(self):
-        replies = program.replies(program.asked(b"", list(UNFIT))[1])
+        replies = support.replies(program.asked(b"", list(UNFIT)))
         self.assertEqual({reply for reply, _ in replies}, {"refused 54 BadTarget"})
 
     def test_the_others_are_not(self):
-        replies = program.replies(program.asked(b"", RIGHT)[1])
+        replies = support.replies(program.asked(b"", RIGHT))
         self.assertEqual([line for line, (reply, _) in zip(RIGHT, replies) if "54" in reply], [])
         self.assertTrue(all(targets.unfit(line) is None for line in RIGHT[:5]))
 
@@ -129,11 +132,11 @@ class Answered(unittest.TestCase):
 
     def test_what_is_told_is_explained(self):
         script = b"convert trace partial illegal arith.remsi\nexpect 51 convert trace partial illegal arith.remsi\n"
-        replies = program.replies(program.ran(program.joined(REMAINDER, script))[1])
+        replies = list(program.ran(joined(REMAINDER, script)).replies())
         told = explain.commands_refused("a", (REMAINDER, script), 1, replies[:1])
         self.assertTrue(told[0].startswith("a:1:1: 51 NotLegalised #2: "))
         self.assertEqual([line[:8] for line in told[-2:]], ["    #2  ", "stays #2"])
-        self.assertEqual(replies[1], ("refused 51 NotLegalised #2", ["stays #2 no-rule"]))
+        self.assertEqual(replies[1], ("refused 51 NotLegalised #2", "stays #2 no-rule\n"))
 
     def test_sweep(self):
         self.assertEqual(begun(PRIVATE).answer("sweep")[0], "swept 1")
@@ -143,7 +146,7 @@ class Answered(unittest.TestCase):
         here = begun(PRIVATE * 3)
         with unittest.mock.patch.object(session, "MOST_DIFF", 2):
             said = here.answer("sweep")
-        self.assertEqual((said[0], len(said), said[-1]), ("swept 3", 4, ".. 2 more lines: `diff` has them"))
+        self.assertEqual((said[0], len(said), said[-1]), ("swept 3", 4, ".. 2 more lines: `diff` shows them"))
         self.assertEqual(len(here.answer("diff")), 4)
 
     def test_what_it_changed_itself(self):
@@ -163,7 +166,7 @@ class Answered(unittest.TestCase):
 
     def test_a_target(self):
         self.assertEqual(begun(b"").answer("convert partial rules 1"), [
-            "refused 54 BadTarget: 1 is none of the rules 2 and 25 to 30",
+            "refused 54 BadTarget: a `convert` has no rule 1: write rules of 2 and 25 to 30",
             "    convert partial rules 1",
             "                          ^"])
 

@@ -1,6 +1,6 @@
-"""The library for C, C++ and Rust: the examples are compiled, run under memcheck and under gcc's sanitizers, and asked
-beside the program; every allocation is refused in turn. Where there is no library of these sources, or no compiler, it
-is left out."""
+"""The library for C, C++ and Rust: the examples are compiled, run under memcheck and gcc's sanitizers, and compared
+with the program. Every allocation is refused in turn. Without a library of these sources, or a compiler, the tests are
+skipped."""
 import os
 import pathlib
 import re
@@ -11,11 +11,12 @@ import unittest
 
 from support import ROOT, program
 
-import library
+from mlir_work.script import joined
+from tools import library
 
 C = ["gcc", "-std=c11", "-D_POSIX_C_SOURCE=200809L"]
-CPP = ["g++", "-std=c++17", f"-I{ROOT}/cpp"]
-STRICT = ["-Wall", "-Wextra", "-pedantic", "-Werror", f"-I{ROOT}/c", "-g"]
+CPP = ["g++", "-std=c++17", f"-I{ROOT}/bindings/cpp"]
+STRICT = ["-Wall", "-Wextra", "-pedantic", "-Werror", f"-I{ROOT}/bindings/c", "-g"]
 SANITIZED = ["-fsanitize=address,undefined", "-fno-sanitize-recover=all"]
 REFUSING = ["-Wl,--wrap=malloc,--wrap=realloc,--wrap=free"]
 MEMCHECK = ["valgrind", "--quiet", "--error-exitcode=99", "--leak-check=full", "--errors-for-leak-kinds=all"]
@@ -58,29 +59,30 @@ class Library(unittest.TestCase):
 
     def test_handles(self):
         for more in ((), SANITIZED):
-            self.assertEqual(ran([self.built("tests/embed/handles.c", *more)]), b"")
+            self.assertEqual(ran([self.built("tests/golden/embed/handles.c", *more)]), b"")
 
     def test_marks(self):
         """A `Mark` of C++ goes back to its own mark, whatever is done within it, also on an exception."""
         for more in ((), SANITIZED):
-            self.assertEqual(ran([self.built("tests/embed/marks.cpp", *more)]), b"")
+            self.assertEqual(ran([self.built("tests/golden/embed/marks.cpp", *more)]), b"")
 
     @unittest.skipUnless(shutil.which("valgrind"), "there is no valgrind")
     def test_memcheck(self):
-        self.assertEqual(ran([*MEMCHECK, self.built("tests/embed/handles.c")]), b"")
-        self.assertEqual(ran([*MEMCHECK, self.built("tests/embed/marks.cpp")]), b"")
+        self.assertEqual(ran([*MEMCHECK, self.built("tests/golden/embed/handles.c")]), b"")
+        self.assertEqual(ran([*MEMCHECK, self.built("tests/golden/embed/marks.cpp")]), b"")
         script = (EXAMPLES / "fold.script").read_bytes()
         ran([*MEMCHECK, self.built("examples/embed/replies.c"), EXAMPLES / "fold.mlir"], script)
         ran([*MEMCHECK, self.built("examples/embed/dead.cpp"), self.module()])
 
     def test_every_allocation_is_refused(self):
-        self.assertRegex(ran([self.built("tests/embed/memory.c", *REFUSING), "--count"]), rb"^[1-9][0-9]+ sessions\n$")
+        built = self.built("tests/golden/embed/memory.c", *REFUSING)
+        self.assertRegex(ran([built, "--count"]), rb"^[1-9][0-9]+ sessions\n$")
 
     def test_replies(self):
         replies = self.built("examples/embed/replies.c", *SANITIZED)
         for module in sorted(EXAMPLES.glob("*.mlir")):
             script = module.with_suffix(".script").read_bytes()
-            status, out = program.written(program.joined(module.read_bytes(), script))
+            status, out = program.written(joined(module.read_bytes(), script))
             with self.subTest(module=module.name):
                 self.assertEqual(ran([replies, module], script, status).decode(), out)
 
@@ -93,14 +95,14 @@ class Library(unittest.TestCase):
         """Operations that don't depend on a loop move out of it by handles, as LICM moves them, and others are refused;
         the report about one value has its rows alone."""
         for more in ((), SANITIZED):
-            out = ran([self.built("tests/embed/hoist.cpp", *more), ROOT / "tests/embed/hoist.before"])
-            self.assertEqual(out, (ROOT / "tests/embed/hoist.after").read_bytes())
+            out = ran([self.built("tests/golden/embed/hoist.cpp", *more), ROOT / "tests/golden/embed/hoist.before"])
+            self.assertEqual(out, (ROOT / "tests/golden/embed/hoist.after").read_bytes())
 
     def test_stack(self):
         """A thread with as much stack as the header says is enough works on what is nested deepest."""
-        size, = re.findall(r"([0-9]+) KB of stack are enough", (ROOT / "c/mlir_work.h").read_text())
-        it = subprocess.run([self.built("tests/embed/stack.c", "-pthread"), size], capture_output=True, text=True,
-                            check=False)
+        size, = re.findall(r"([0-9]+) KB of stack are enough", (ROOT / "bindings/c/mlir_work.h").read_text())
+        built = self.built("tests/golden/embed/stack.c", "-pthread")
+        it = subprocess.run([built, size], capture_output=True, text=True, check=False)
         if it.returncode == 77:
             self.skipTest(f"there is no thread with {size} KB of stack")
         self.assertEqual((it.returncode, it.stdout, it.stderr), (0, "", ""))
@@ -115,14 +117,14 @@ class Library(unittest.TestCase):
         names = subprocess.run(["nm", "--defined-only", "--extern-only", self.archive], stdout=subprocess.PIPE,
                                text=True, check=True).stdout.splitlines()
         found = {line.split()[2] for line in names if len(line.split()) == 3}
-        header = (ROOT / "c/mlir_work.h").read_text()
+        header = (ROOT / "bindings/c/mlir_work.h").read_text()
         self.assertEqual({name for name in found if name + "(" in header}, found)
         self.assertGreater(len(found), 10)
 
     @unittest.skipUnless(shutil.which("cargo"), "there is no cargo")
     def test_rust(self):
         room = self.folder / "rust"
-        shutil.copytree(ROOT / "rust", room, ignore=shutil.ignore_patterns("target"))
+        shutil.copytree(ROOT / "bindings/rust", room, ignore=shutil.ignore_patterns("target"))
         held = self.folder / "held"
         held.mkdir()
         shutil.copy(self.archive, held / "libmlir_work.a")

@@ -1,54 +1,57 @@
-"""Where a refused line is wrong, and what is said of it."""
+"""The place of the fault in a refused line, and the message."""
 import pathlib
 import re
 import tempfile
 import unittest
 import unittest.mock
 
-from support import ROOT, check_examples, explain, forms, mistakes, program, targets
+import support
+from support import ROOT, check_examples, explain, forms, mistakes, program
+
+from mlir_work.script import counted
 
 STRENGTH = ROOT / "examples/strength.mlir"
-# Lines that are no command, with the byte where the fault stands, and a part of what is said.
+# Lines that aren't commands, with the byte offset of the fault, and a part of the message.
 MISSPELT = {
-    "erase 8": (6, "`8` is no #N: write `erase #N`"),
+    "erase 8": (6, "found `8`, expected #N: write `erase #N`"),
     "erase": (5, "#N is missing: write `erase #N`"),
-    "erase #8 #9": (9, "`#9` is too much: write `erase #N`"),
+    "erase #8 #9": (9, "found `#9` after the end of the command: write `erase #N`"),
     "erase #4294967296": (6, "4294967296 is above 4294967295"),
-    "set-operand #8 0 %9": (17, "`%9` is no VALUE"),
-    "set-operand #8 %v8.0": (15, "`%v8.0` is no K"),
-    "move #8 #7": (8, "`#7` is no PLACE"),
-    "move #8 start #6": (8, "`start` is no PLACE"),
-    "replace %v8.0 with %v7.0": (14, "`with` is no VALUE"),
-    "set-attr #1 2 3": (12, "`2` is no KEY"),
+    "set-operand #8 0 %9": (17, "found `%9`, expected VALUE"),
+    "set-operand #8 %v8.0": (15, "found `%v8.0`, expected K"),
+    "move #8 #7": (8, "found `#7`, expected PLACE"),
+    "move #8 start #6": (8, "found `start`, expected PLACE"),
+    "replace %v8.0 with %v7.0": (14, "found `with`, expected VALUE"),
+    "set-attr #1 2 3": (12, "found `2`, expected KEY"),
     "set-attr #1 a": (13, "ATTRIBUTE is missing"),
     "insert before #8": (16, "OPERATION is missing"),
     "report use": (7, "the kinds are uses, "),
     "use": (0, "write `report uses`"),
     "delete #8": (0, "write `erase #N`"),
     "inesrt": (0, "write `insert PLACE OPERATION`"),
-    "xyzzy": (0, "they are print, report, "),
-    "canon 5": (6, "`5` stands where `limit` or `at` or `only` or `trace` is wanted: write `canon` or "
+    "xyzzy": (0, "the commands are print, report, "),
+    "canon 5": (6, "found `5`, expected `limit` or `at` or `only` or `trace`: write `canon` or "
                 "`canon limit N` or "),
     "canon limit": (11, "N is missing: write `canon limit N`"),
-    "canon limit #5": (12, "`#5` is no N: write `canon limit N`"),
+    "canon limit #5": (12, "found `#5`, expected N: write `canon limit N`"),
     "canon limit 4294967296": (12, "4294967296 is above 4294967295"),
-    "canon limit 5 6": (14, "`6` is too much: write `canon limit N`"),
-    "canon trace 5": (12, "`5` stands where `limit` is wanted: write `canon trace` or `canon trace limit N`"),
+    "canon limit 5 6": (14, "found `6` after the end of the command: write `canon limit N`"),
+    "canon trace 5": (12, "found `5`, expected `limit`: write `canon trace` or `canon trace limit N`"),
     "canon trace limit": (17, "N is missing: write `canon trace limit N`"),
-    "rewrite 4,1 traced": (12, "`traced` stands where `limit` or `trace` is wanted: write `rewrite RULES` or "),
-    "rewrite 25 trace": (8, "`25` is no RULES: write `rewrite RULES` or "),
-    "canon only 4 trace limit #5": (25, "`#5` is no N: write `canon only RULES trace limit N`"),
-    "canon limit 5 trace": (14, "`trace` is too much: write `canon limit N`"),
-    "trace": (0, "`trace` is no command: write `canon` or "),
-    "sweep #3": (6, "`#3` is too much: write `sweep`"),
+    "rewrite 4,1 traced": (12, "found `traced`, expected `limit` or `trace`: write `rewrite RULES` or "),
+    "rewrite 25 trace": (8, "found `25`, expected RULES: write `rewrite RULES` or "),
+    "canon only 4 trace limit #5": (25, "found `#5`, expected N: write `canon only RULES trace limit N`"),
+    "canon limit 5 trace": (14, "found `trace` after the end of the command: write `canon limit N`"),
+    "trace": (0, "unknown command `trace`: write `canon` or "),
+    "sweep #3": (6, "found `#3` after the end of the command: write `sweep`"),
     "canonicalize": (0, "write `canon` or `canon limit N`"),
     "symbol-dce": (0, "write `sweep`"),
-    '"scf.yield"() : () -> ()': (0, "an operation stands on one line"),
+    '"scf.yield"() : () -> ()': (0, "write `insert PLACE OPERATION`, with the operation on one line"),
 }
 
 
 def explained(module, script=None):
-    """The status and what is told of two files with these bytes."""
+    """The status and the output for two files with these bytes."""
     with tempfile.TemporaryDirectory() as folder:
         names = []
         for name, text in (("m", module), ("s", script)):
@@ -68,12 +71,12 @@ class Misspelt(unittest.TestCase):
                 self.assertIn(words, fault.words)
 
     def test_each_is_refused(self):
-        replies = program.replies(program.asked(STRENGTH.read_bytes(), list(MISSPELT))[1])
+        replies = support.replies(program.asked(STRENGTH.read_bytes(), list(MISSPELT)))
         self.assertEqual({reply for reply, _ in replies}, {"refused 60 BadCommand"})
 
     def test_no_fault_in_what_is_a_command(self):
         for file in (ROOT / "examples").glob("*.script"):
-            for _, line in program.counted(file.read_bytes()):
+            for _, line in counted(file.read_bytes()):
                 self.assertIsNone(mistakes.misspelt(line.decode("latin-1")))
 
 

@@ -6,6 +6,7 @@ import subprocess
 import tempfile
 import unittest
 
+import support
 from support import program, referred
 
 MODULE = b'%0 = "arith.constant"() <{value = 1 : i32}> : () -> i32\n%1 = "t.u"(%0) : (i32) -> i32\n'
@@ -15,7 +16,7 @@ DIVIDER = b"// -----\n"
 
 def has_files():
     try:
-        return program.words()[0][0] != os.sys.executable and program.has_option("--script")
+        return support.words()[0][0] != os.sys.executable and program.has_option("--script")
     except program.Fault:
         return False
 
@@ -34,7 +35,7 @@ class Files(unittest.TestCase):
 
     def ran(self, *words, given=b""):
         """The status, and what is written to both ends."""
-        before, more = program.words()
+        before, more = support.words()
         it = subprocess.run([*before, "--brief", *words], input=given, capture_output=True, check=False,
                             env={**os.environ, **more})
         return it.returncode, it.stdout.decode(), it.stderr.decode()

@@ -12,7 +12,7 @@ TOOL = shutil.which("mlir-opt-22")
 
 
 def rows():
-    """The rows of the table of what isn't read: the text, what is said of it, and what is with `--opaque`."""
+    """The rows of the table of unsupported texts: the text, the answer, and the answer with `--opaque`."""
     for line in PAGE.splitlines():
         cells = re.split(r" \| ", line.strip("| "))
         if len(cells) == 5 and re.fullmatch(r"`\d+ \w+ at \d+`", cells[2]):
@@ -32,8 +32,8 @@ def generic(module, flags):
 
 
 def answer(says):
-    """The status and the lines of a run over a text of which that is said."""
-    return (0, []) if says == "read" else (3, [f"module refused {says}"])
+    """The status and the output of a run over a text with this answer."""
+    return (0, "") if says == "read" else (3, f"module refused {says}\n")
 
 
 class NotRead(unittest.TestCase):
@@ -60,8 +60,8 @@ class NotRead(unittest.TestCase):
         self.assertEqual(len(found), 5)
         for flags, module in found:
             with self.subTest(flags):
-                self.assertEqual(program.ran(generic(module, ""))[0], 3)
-                self.assertEqual(program.ran(generic(module, flags)), (0, []))
+                self.assertEqual(program.ran(generic(module, "")).status, 3)
+                self.assertEqual(program.ran(generic(module, flags)), (0, ""))
 
 
 if __name__ == "__main__":

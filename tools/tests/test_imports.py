@@ -1,4 +1,4 @@
-"""What crates hand on whole: contracts that lead to it are found, and what none takes."""
+"""Re-exports of whole crates: the check finds contracts that need them, and re-exports that none needs."""
 import os
 import pathlib
 import tempfile
@@ -6,7 +6,7 @@ import unittest
 
 from support import ROOT
 
-import check_imports
+from gate import check_imports
 
 FILES = {
     "low/specs/Lib.antt": "pub mod Trees\n",

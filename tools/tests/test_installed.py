@@ -8,11 +8,10 @@ import sys
 import tempfile
 import unittest
 
-from support import ROOT, program
+import support
+from support import ROOT
 
-import manual
-import mlir_work
-import words
+from mlir_work.cli import main, manual, words
 
 HELP = (ROOT / "tools/help.txt").read_text()
 COMPLETE = '. "$1"; COMP_WORDS=("${@:2}"); COMP_CWORD=$(($# - 2)); _mlir_work_prompt; printf "%s\\n" "${COMPREPLY[@]}"'
@@ -21,7 +20,7 @@ COMPLETE = '. "$1"; COMP_WORDS=("${@:2}"); COMP_CWORD=$(($# - 2)); _mlir_work_pr
 class Manual(unittest.TestCase):
     def test_each_word_is_there(self):
         text = manual.man(HELP, "1").replace("\\-", "-")
-        for word in mlir_work.COMMANDS:
+        for word in main.COMMANDS:
             self.assertIn(f"\nmlir-work {word} ", text)
         for own in (*words.WORDS.values(), *words.NAMED.values()):
             self.assertIn(f"\n  {own.form} ", text)
@@ -55,7 +54,7 @@ class Installed(unittest.TestCase):
         made = tempfile.TemporaryDirectory()
         self.addCleanup(made.cleanup)
         self.prefix = pathlib.Path(made.name, "there")
-        its, more = program.words()
+        its, more = support.words()
         there = pathlib.Path(made.name, "program")
         variables = " ".join(f"{name}={shlex.quote(text)}" for name, text in more.items())
         there.write_text(f'#!/bin/sh\n[ "$1" != --help ] || exec cat {ROOT}/tools/help.txt\n'
@@ -83,10 +82,10 @@ class Installed(unittest.TestCase):
     def test_the_package(self):
         """It finds the program that is installed."""
         there = {"PYTHONPATH": self.prefix / "share/mlir_work/python", "PATH": self.prefix / "bin"}
-        code = "import mlir_work.process as it; print(it.words_of(None)[0], it.__file__)"
+        code = "import mlir_work.command as it; print(it.find().words[0], it.__file__)"
         said = subprocess.run([sys.executable, "-c", code], stdout=subprocess.PIPE, text=True, env=there, check=True)
         self.assertEqual(said.stdout.split(), [f"{self.prefix}/bin/mlir_work",
-                                               f"{self.prefix}/share/mlir_work/python/mlir_work/process.py"])
+                                               f"{self.prefix}/share/mlir_work/python/mlir_work/command.py"])
 
 
 if __name__ == "__main__":

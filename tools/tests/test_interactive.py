@@ -1,5 +1,5 @@
 """Each line of `--interactive` is answered before the next one is written: over the program where it has that option,
-and else over bench/reference. A pipe goes each way."""
+and else over oracle. A pipe goes each way."""
 import os
 import re
 import select
@@ -11,9 +11,11 @@ import subprocess
 import sys
 import unittest
 
+import support
 from support import ROOT, program
 
-from reference import live
+from mlir_work.script import is_counted
+from oracle import live
 
 SECONDS = 60
 MODULE = b'%a = "t.a"() : () -> i32\n"t.b"(%a) : (i32) -> ()\n'
@@ -26,12 +28,12 @@ MOST_LINE = 16 * 1024 * 1024
 def words():
     """The program's words, and what its environment has besides."""
     if program.has_option("--interactive"):
-        return program.words()
-    return [sys.executable, "-m", "reference"], {"PYTHONPATH": str(ROOT / "bench"), "PYTHONDONTWRITEBYTECODE": "1"}
+        return support.words()
+    return [sys.executable, "-m", "oracle"], {"PYTHONPATH": str(ROOT), "PYTHONDONTWRITEBYTECODE": "1"}
 
 
 class Running:
-    """A process that is told lines, and whose answers are waited for."""
+    """A process that reads lines. Calls wait for its answers."""
 
     def __init__(self, *options, given=subprocess.PIPE):
         named, more = words()
@@ -66,7 +68,7 @@ class Running:
         return not self.kept and self.read(0.2) is None
 
     def end(self):
-        """What it writes yet, and its status, where it is told no more."""
+        """Ends the input, and returns the rest of the output and the status."""
         if self.run.stdin:
             self.run.stdin.close()
         rest = self.kept
@@ -85,7 +87,7 @@ class Running:
 
 def said(line):
     """Whether a line has an answer."""
-    return program.is_counted(line.removesuffix(b"\n"))
+    return is_counted(line.removesuffix(b"\n"))
 
 
 class Interactive(unittest.TestCase):

@@ -63,16 +63,16 @@ class Reduce(Folder):
         self.assertRegex(said, r"(?m)^[0-9]+ of 14 operations are left, by [1-9]")
         left, script = files["out.mlir"], files["out.mlir.script"].splitlines()
         self.assertIn("arith.muli", left)
-        self.assertEqual(program.asked(MODULE, [*script, "print"])[1][len(script) + 1:], left.splitlines())
+        self.assertEqual(program.asked(MODULE, [*script, "print"]).lines[len(script) + 1:], left.splitlines())
 
     def test_on_standard_output(self):
-        """Without a file it is written to standard output, behind its script in comments."""
+        """Without a file, the module is written to standard output, after its script in comments."""
         status, out, said = self.reduced(6)
         head, *rest = out.splitlines()
         script = [line.removeprefix("//   ") for line in rest if line.startswith("//   ")]
-        self.assertEqual((status, head, self.files()), (130, "// m.mlir behind:", {}), said)
+        self.assertEqual((status, head, self.files()), (130, "// m.mlir, reduced by:", {}), said)
         self.assertGreater(len(script), 0)
-        self.assertEqual(program.asked(MODULE, [*script, "print"])[1][len(script) + 1:], rest[len(script):])
+        self.assertEqual(program.asked(MODULE, [*script, "print"]).lines[len(script) + 1:], rest[len(script):])
 
     def test_before_anything_was_tried(self):
         """Where it isn't known yet that the module shows it, nothing is written, and a file that is there is kept."""

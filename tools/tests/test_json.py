@@ -1,21 +1,18 @@
-"""docs/JSON.md: each line of its tables is the object beside it, by the rules; its run is typed; and with files, to a
-file, by wrong words and on a full disk the program writes JSON as it writes text with `--explain`, where it knows
-`--format`."""
+"""docs/JSON.md: oracle turns each line of its tables into the object next to it, and its run gives the output shown.
+The JSON of the program agrees with its text with `--explain`: with files, to a file, with wrong options and on a full
+disk, if it knows `--format`."""
 import json
 import os
 import pathlib
 import re
 import subprocess
-import sys
 import tempfile
 import unittest
 
-from support import program
+import support
+from support import ROOT, program
 
-ROOT = pathlib.Path(__file__).resolve().parents[2]
-sys.path.append(str(ROOT / "bench"))
-
-from reference import json_lines  # noqa: E402
+from oracle import json_lines
 
 PAGE = (ROOT / "docs/JSON.md").read_text()
 ROW = re.compile(r"^\| `([^`]*)`[^|]* \| `(\{[^`]*\})` \|$", re.M)
@@ -26,7 +23,7 @@ SCRIPT = MODULE + b"report uses\nerase #1\n"
 
 def has_json():
     try:
-        return program.words()[0][0] != os.sys.executable and program.has_option("--format")
+        return support.words()[0][0] != os.sys.executable and program.has_option("--format")
     except program.Fault:
         return False
 
@@ -44,7 +41,7 @@ class Page(unittest.TestCase):
 class Program(unittest.TestCase):
     def ran(self, *words, given=SCRIPT, to=subprocess.PIPE):
         """The status, and what is written to both ends."""
-        before, more = program.words()
+        before, more = support.words()
         it = subprocess.run([*before, "--brief", *words], input=given, stdout=to, stderr=subprocess.PIPE, check=False,
                             env={**os.environ, **more})
         return it.returncode, it.stdout, it.stderr

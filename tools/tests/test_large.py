@@ -5,7 +5,8 @@ import unittest.mock
 
 from support import ROOT, changes, listing, program, session
 
-import ways
+from mlir_work.cli import ways
+from mlir_work.reply import Transcript
 
 NAMES = sorted(file.stem for file in (ROOT / "examples").glob("*.mlir"))
 # The line that each example is rewritten by, with the one before it.
@@ -75,62 +76,42 @@ class Runs(unittest.TestCase):
             begun(module("canon"))
             self.assertEqual(run.call_count, 1)
 
-    def test_more_than_was_guessed(self):
-        with unittest.mock.patch.object(session, "MADE_MOSTLY", 0), unittest.mock.patch.object(session, "MAKES", {}):
-            self.check_numbers()
-
     def test_script_at_the_beginning(self):
         here = session.Session(CHAIN)
         here.begin(b"erase #2\n" + b'insert end #0 0 "a" () : () -> ()\n' * 80)
-        self.assertEqual(here.count, 123)
         for _ in range(79):
             here.answer("undo")
         self.assertEqual(here.answer("at #43 0"), ['   #43    "a"() : () -> ()'])
         self.assertEqual(here.answer('insert end #0 0 "b"() : () -> ()'), ["ok #44"])
 
-    def check_numbers(self):
-        """Looks whether each operation that is shown behind a rewriting line has a number."""
-        for name, lines in REWRITES.items():
-            here = begun(module(name))
-            for line in lines:
-                here.answer(line)
-            self.assertFalse([line for line in here.answer("ids") if "#?" in line])
-
 
 class Both(unittest.TestCase):
+    """Both listings of a line that rewrites are made by one run."""
+
     def setUp(self):
         self.known = {}
         for name, (edit, line) in REWRITES.items():
-            script, bounds = [edit], (99, 999)
-            alone = listing.listed(module(name), script, 99), listing.listed(module(name), [*script, line], 999)
-            self.known[name] = script, line, bounds, alone
+            alone = listing.listed(module(name), [edit]), listing.listed(module(name), [edit, line])
+            self.known[name] = [edit], line, alone
 
     def check(self, name, found):
         """Whether two listings are those that were made alone."""
-        for it, alone in zip(found, self.known[name][3]):
-            self.assertEqual((it.lines(), it.keys, it.count), (alone.lines(), alone.keys, alone.count))
+        for it, alone in zip(found, self.known[name][2], strict=True):
+            self.assertEqual((it.lines(), it.keys), (alone.lines(), alone.keys))
 
     def test_by_one_run(self):
-        for name, (script, line, bounds, _) in self.known.items():
-            self.check(name, listing.both(module(name), script, line, bounds))
-            self.check(name, listing.rewritten(module(name), script, line, bounds, None))
+        for name, (script, line, _) in self.known.items():
+            self.check(name, ways.Again(module(name)).rewritten(script, line, None)[1:])
 
-    def test_too_many_marks(self):
-        for name, (script, line, bounds, _) in self.known.items():
-            script = [*script, *["begin"] * 16]
-            self.assertIsNone(listing.both(module(name), script, line, bounds))
-            self.check(name, listing.rewritten(module(name), script, line, bounds, None))
-
-    def test_too_long(self):
-        script, line, bounds, _ = self.known["sweep"]
-        with unittest.mock.patch.object(listing, "MOST_SCRIPT", 1000):
-            self.assertIsNone(listing.both(module("sweep"), script, line, bounds))
-            self.check("sweep", listing.rewritten(module("sweep"), script, line, bounds, None))
+    def test_all_marks_are_open(self):
+        for name, (script, line, _) in self.known.items():
+            self.check(name, ways.Again(module(name)).rewritten([*script, *["begin"] * 16], line, None)[1:])
 
     def test_reply(self):
-        before, behind = listing.rewritten(CHAIN, ["erase #2"], "canon", (50, 99), None)
-        self.assertEqual((before.reply, behind.reply), ("ok", "converged 37"))
-        self.assertEqual(listing.both(CHAIN, ["begin"], "sweep #1", (50, 99))[1].reply, "refused 60 BadCommand")
+        way = ways.Again(CHAIN)
+        self.assertEqual(way.rewritten(["erase #2"], "canon", None)[0].text, "converged 37")
+        reply, _, behind = way.rewritten(["begin"], "sweep #1", None)
+        self.assertEqual((reply.text, behind), ("refused 60 BadCommand", None))
 
 
 class Names(unittest.TestCase):
@@ -149,11 +130,6 @@ class Names(unittest.TestCase):
         for text in ("", " {A}", " {z}", " {A, z}", ' {A = {"N" = 1 : i64}, B = "%0, ", z}'):
             line = f'"test.a"(){text} : () -> ()'
             self.assertEqual(begun(line.encode()).answer("at #1 0"), ["    #1    " + line.replace('"N"', "N")])
-
-    def test_numbering(self):
-        for first, last in ((0, 0), (0, 7), (990, 1010), (1000, 2000), (7, 3456), (99900, 101001)):
-            lines = "".join(f"set-attr #{number} N. {number}\n" for number in range(first, last))
-            self.assertEqual(listing.numbering("N.", first, last), lines)
 
     def test_the_key_is_typed(self):
         here = begun(CHAIN)
@@ -190,14 +166,10 @@ class Changed(unittest.TestCase):
 
 class Replies(unittest.TestCase):
     def test_reply(self):
-        written = program.Written(1, "1 ok\n#1 a\n  2 b\n2 refused 20 NoSuchOp\n3 ok\n")
-        self.assertEqual([written.reply(number) for number in range(1, 5)],
-                         [("ok", "#1 a\n  2 b"), ("refused 20 NoSuchOp", ""), ("ok", ""), ("", "")])
-
-    def test_bounds(self):
-        lines = {"sweep": 0, "canon": 2000, "canon limit 3": 6, "canon limit 9999999": 20000, "canon limit": 2000,
-                 "rewrite 4": 2000, "rewrite 4,1 trace limit 3": 6, "canon only 4": 2000, "convert partial": 40000}
-        self.assertEqual({line: session.bound(line, 10000) - 10000 - session.MADE_MOSTLY for line in lines}, lines)
+        written = Transcript(1, "1 ok\n#1 a\n  2 b\n2 refused 20 NoSuchOp\n3 ok\n")
+        wanted = [("ok", "#1 a\n  2 b\n"), ("refused 20 NoSuchOp", ""), ("ok", "")]
+        self.assertEqual(list(written.replies()), wanted)
+        self.assertEqual(list(Transcript(3, "module refused 2 Unexpected at 5\n").replies()), [])
 
 
 if __name__ == "__main__":

@@ -9,7 +9,7 @@ import unittest.mock
 
 from support import ROOT, program, session
 
-import ways
+from mlir_work.cli import ways
 
 LIVE = shlex.join([sys.executable, str(pathlib.Path(__file__).with_name("live.py"))])
 LINES = {
@@ -70,8 +70,8 @@ class Live(unittest.TestCase):
     def test_many_lines(self):
         way = self.live(b"")
         kept = ['insert end #0 0 "test.a"() : () -> ()'] * 100
-        self.assertEqual(way.answer(kept, "erase #101")[0], "refused 20 NoSuchOp")
-        self.assertEqual(way.answer(kept, "erase #100")[0], "ok")
+        self.assertEqual(way.answer(kept, "erase #101").text, "refused 20 NoSuchOp")
+        self.assertEqual(way.answer(kept, "erase #100").text, "ok")
 
     def test_all_marks_are_open(self):
         said, here = self.ask(module("canon"), [*["begin"] * 16, "ids", "erase #14", "rollback", "commit"])
@@ -80,7 +80,7 @@ class Live(unittest.TestCase):
         self.assertEqual(len(here.marks()), 14)
 
     def test_it_is_killed(self):
-        said, here = self.ask(module("canon"), ["set-attr #1 k 1", "dead", "set-attr #1 k 2"], FAIL_AT="20")
+        said, here = self.ask(module("canon"), ["set-attr #1 k 1", "dead", "set-attr #1 k 2"], FAIL_AT="3")
         self.assertTrue(self.gone.exists())
         self.assertEqual(said, [["ok"], ["no rows"], ["ok"]])
         self.assertEqual(here.kept(), ["set-attr #1 k 1", "set-attr #1 k 2"])
@@ -92,17 +92,17 @@ class Live(unittest.TestCase):
 
     def test_a_module_that_is_refused(self):
         here = session.Session(b'"a"(', self.live(b'"a"('))
-        with unittest.mock.patch.object(program, "ran", lambda text: (3, ["module refused 2 Unexpected at 5"])):
+        with unittest.mock.patch.object(program, "written", lambda text: (3, "module refused 2 Unexpected at 5\n")):
             self.assertEqual(here.begin(b"")[0], 3)
 
     def test_an_interrupt(self):
         way = self.live(b"")
         way.answer([], "begin")
-        with unittest.mock.patch.object(ways.Process, "ask", side_effect=KeyboardInterrupt):
+        with unittest.mock.patch.object(program.Process, "lines", side_effect=KeyboardInterrupt):
             with self.assertRaises(KeyboardInterrupt):
                 way.answer(["begin"], "commit")
         self.assertIsNone(way.process)
-        self.assertEqual(way.answer(["begin"], "commit")[0], "ok")
+        self.assertEqual(way.answer(["begin"], "commit").text, "ok")
 
 
 if __name__ == "__main__":

@@ -7,8 +7,8 @@ import unittest
 
 from support import explain, listing, program, session
 
-import mlir_work
-import reduce
+from mlir_work import ModuleRefused
+from mlir_work.cli import main, reduce
 
 MODULE = r"""%a = "t.a"() {k = #d.a<%x, "q\"%y"#0>, l = "s" : !d.t} : () -> tensor<4xf32>
 %c = "arith.constant"() <{value = 1.0 : f32}> : () -> f32
@@ -49,11 +49,11 @@ class Kept(unittest.TestCase):
 
     def test_lines_end_at_line_feeds_alone(self):
         text = '"t.a"() {k = #d.a<"\x1c\u2028\x85">} : () -> ()\n'.encode()
-        self.assertEqual(len(program.asked(text, ["print"])[1]), 4)
-        self.assertEqual(len(listing.listed(text, [], 2).texts), 3)
+        self.assertEqual(len(program.asked(text, ["print"]).lines), 4)
+        self.assertEqual(len(listing.listed(text, []).texts), 3)
 
     def test_what_is_refused_is_told(self):
-        told = explain.module_refused("m", b'"t.a"() {k = #d.a<(x>} : () -> ()', "2", "Unexpected", "20")
+        told = explain.module_refused("m", b'"t.a"() {k = #d.a<(x>} : () -> ()', ModuleRefused(2, "Unexpected", 20))
         self.assertEqual(told[0].split(": ")[:2], ["m:1:21", "2 Unexpected"])
 
     def test_words_of_the_command_line(self):
@@ -64,13 +64,13 @@ class Kept(unittest.TestCase):
             for words, status in ((["explain", "--opaque", str(module), str(script)], 1),
                                   (["explain", str(module), str(script)], 3)):
                 with contextlib.redirect_stdout(io.TextIOWrapper(io.BytesIO())):
-                    self.assertEqual(mlir_work.main(words), status, words)
+                    self.assertEqual(main.main(words), status, words)
 
     def test_a_module_made_smaller(self):
         reducer = reduce.Reducer(MODULE, reduce.Row("uses %v1.0 #4 1"))
         self.addCleanup(reducer.way.stop)
         self.assertTrue(reducer.go())
-        self.assertEqual(program.asked(MODULE, [*reducer.kept, "print"])[1][-5:], [
+        self.assertEqual(program.asked(MODULE, [*reducer.kept, "print"]).lines[-5:], [
             "  \"t.b\"(%0, %1) ({", "  ^bb0(%arg0: vector<[4]xi8>):",
             "    \"t.c\"(%arg0, %0) : (vector<[4]xi8>, tensor<4xf32>) -> ()", "  }) : (tensor<4xf32>, f32) -> ()",
             "}) : () -> ()"])

@@ -1,6 +1,5 @@
-"""Patterns of one's own that are there from the start, `--patterns FILE`: what lines of files are refused, and where,
-by hand and by the rules; and what is written where none is, in each way to run, is what the rules write with that
-book."""
+"""User patterns from files, `--patterns FILE`. Refused lines and their places are compared with answers by hand and
+with oracle. If no line is refused, the output of each way to run is that of oracle with the same patterns."""
 import contextlib
 import io
 import os
@@ -11,12 +10,11 @@ import sys
 import tempfile
 import unittest
 
+import support
 from support import ROOT, program, session
 
-import completion
-import mlir_work
-import ways
-from reference import json_lines, own
+from mlir_work.cli import completion, main, ways
+from oracle import json_lines, own
 
 MODULE = b"""%a = "t.a"() : () -> i8
 %z = "arith.constant"() <{value = 0 : i8}> : () -> i8
@@ -30,7 +28,7 @@ HALF = b"half arith.divsi(%a, c) => arith.shrsi(%a, log2(c))\n"
 MANY = b"".join(b"p%d arith.addi(%%a, %d) => %%a\n" % (number, number) for number in range(256))
 ONE_MORE = b"p256 arith.addi(%a, 0) => %a\n"
 
-# Books that are read: the texts of their files, and the names of their patterns.
+# Accepted pattern files: their texts, and the names of their patterns.
 READ = {
     "no files": ([], ""),
     "one": ([ZERO], "zero"),
@@ -51,7 +49,7 @@ READ = {
     "256 patterns, of two files": ([MANY, b"//\n\n"], " ".join(f"p{number}" for number in range(256))),
     "the name of a rule's word": ([b"commute arith.addi(%a, 0) => %a"], "commute"),
 }
-# Books that are refused: the texts of their files, which of these is wrong, and what is said of it, by hand.
+# Refused pattern files: their texts, which file is wrong, and the message, by hand.
 REFUSED = {
     "twice in a file": ([ZERO + DOUBLE + ZERO], 0, "line 3: refused 4 Redefined at 0"),
     "twice in two files": ([ZERO + DOUBLE, b"// again\n\n" + DOUBLE], 1, "line 3: refused 4 Redefined at 0"),
@@ -77,7 +75,7 @@ REFUSED = {
     "257 patterns, one of them twice": ([MANY, b"p0 arith.addi(%a, 0) => %a"], 1, "line 1: refused 4 Redefined at 0"),
     "257 patterns, the last one wrong": ([MANY, b"p256 arith.addi(%a, 0) => %b"], 1, "line 1: refused 11 TooMany at 0"),
 }
-# What is asked of a book, behind the module.
+# Scripts to run with the accepted pattern files.
 SCRIPTS = {
     "listed": b"patterns\n",
     "checked": b"check zero\ncheck double width 4\npatterns\nexpect NoSuchKey check half\n",
@@ -106,7 +104,7 @@ ANSWERED = (b"1 ok\nzero arith.addi(%a, 0) => %a // not checked\n"
 
 def has_patterns():
     try:
-        return program.words()[0][0] != sys.executable and program.has_option("--patterns")
+        return support.words()[0][0] != sys.executable and program.has_option("--patterns")
     except program.Fault:
         return False
 
@@ -116,7 +114,7 @@ def has_files():
 
 
 def book_of(texts):
-    """The book of some texts, by the rules."""
+    """The pattern registry of some texts, by oracle."""
     book = {}
     for text in texts:
         own.read_book(text, book)
@@ -124,7 +122,7 @@ def book_of(texts):
 
 
 class Rules(unittest.TestCase):
-    """What the rules say is what stands here by hand."""
+    """Oracle gives the answers that are written here by hand."""
 
     def test_by_hand(self):
         self.assertEqual(own.run(MODULE + DIVIDER + ASKED, book=book_of([ZERO, DOUBLE])), (1, ANSWERED))
@@ -156,7 +154,7 @@ class Case(unittest.TestCase):
 
     def words(self):
         """What is run, with what its environment has besides."""
-        return program.words()
+        return support.words()
 
     def flags(self, texts):
         """The words that name files with these texts, and the names of these."""
@@ -176,7 +174,7 @@ class Reference(Case):
     """The rules by themselves, as a program."""
 
     def words(self):
-        return [sys.executable, "-m", "reference"], {"PYTHONPATH": str(ROOT / "bench"), "PYTHONDONTWRITEBYTECODE": "1"}
+        return [sys.executable, "-m", "oracle"], {"PYTHONPATH": str(ROOT), "PYTHONDONTWRITEBYTECODE": "1"}
 
     def test_runs(self):
         flags, files = self.flags([ZERO, DOUBLE, b"// \n" + ZERO])
@@ -235,7 +233,7 @@ class Patterns(Case):
         """The status of a tool, and what it writes."""
         with contextlib.redirect_stdout(io.TextIOWrapper(io.BytesIO())) as out, \
                 contextlib.redirect_stderr(io.StringIO()) as told:
-            status = mlir_work.main(words)
+            status = main.main(words)
             out.flush()
             return status, out.buffer.getvalue().decode(), told.getvalue()
 
@@ -260,7 +258,7 @@ class Patterns(Case):
                              (2, "", f"mlir-work: {name}: {told}\n"))
 
     def test_prompt(self):
-        """What is typed to a session may name them, whether one process is told each line or not."""
+        """Typed lines may name the patterns, in both ways to ask the program."""
         self.addCleanup(program.ask, False)
         program.ask(False, self.flags([ZERO, b"// \n" + DOUBLE])[1])
         for way in (ways.Again, ways.Live) if program.has_option("--interactive") else (ways.Again,):
@@ -386,7 +384,7 @@ class Patterns(Case):
 
 @unittest.skipUnless(has_files(), "the program takes no files")
 class Files(Case):
-    """Beside modules, scripts and outputs in files."""
+    """Pattern files together with modules, scripts and outputs in files."""
 
     def test_order(self):
         module, lines = self.named("m.mlir", MODULE), self.named("a.script", b"rewrite zero trace\n")
@@ -435,7 +433,7 @@ class Files(Case):
         self.assertEqual(out.read_bytes(), wanted)
 
     def test_patterns_come_first(self):
-        """A wrong pattern is told before a module or a script that isn't there, and no standard input is read."""
+        """A wrong pattern is reported before a missing module or script, and standard input isn't read."""
         flags, files = self.flags([b"5"])
         told = f"error: {files[0]}: line 1: refused 2 Unexpected at 0\n"
         none = str(self.folder / "none")

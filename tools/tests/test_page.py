@@ -1,5 +1,5 @@
-"""The page of a script over a module: what is written, and, where a chromium is installed, what stands there when it is
-clicked through."""
+"""The web page of a script over a module: its text and, if a chromium is installed, its contents after clicks and
+keys."""
 import html.parser
 import json
 import os
@@ -11,15 +11,15 @@ import sys
 import tempfile
 import unittest
 
+import support
 from support import ROOT, listing, program
 
 import browser
-import generic
-import page
-import replay
+from mlir_work.cli import generic, page, replay
+from mlir_work.script import is_counted
 
 NAMES = sorted(file.stem for file in (ROOT / "examples").glob("*.mlir"))
-# What would be code in a page that puts text in as it is.
+# Text that would be code in a page that doesn't escape it.
 HOSTILE = b'"test.a"() {"<b>&amp;" = "<!--", a = "</script><img src=x onerror=alert(1)>"} : () -> ()\n'
 if not browser.found():
     print("no chromium is installed: the page isn't clicked through", file=sys.stderr)
@@ -96,16 +96,16 @@ class Splices(unittest.TestCase):
 
 class Steps(unittest.TestCase):
     def test_examples(self):
-        """Behind each line of a script the module and the rows are those that the program tells of it."""
+        """After each line of a script, the module and the rows are those of the program."""
         for name in ("canon", "hoist", "signature", "sweep"):
             module, script = example(name)
             steps = filled(module, script)
-            lines = [line.decode() for line in script.split(b"\n") if program.is_counted(line)]
+            lines = [line.decode() for line in script.split(b"\n") if is_counted(line)]
             self.assertEqual([step.line for step in steps[1:] if not step.part or step.part[0] == step.part[1]], lines)
             asked = [*lines, *(f"report {kind}" for kind in steps[0].state.rows)]
-            told = program.replies(program.asked(module, asked)[1])
+            told = support.replies(program.asked(module, asked))
             self.assertEqual([below for _, below in told[len(lines):]], list(steps[-1].state.rows.values()))
-            self.assertEqual(steps[-1].state.lines, replay.keyed(listing.listed(module, lines, 99)))
+            self.assertEqual(steps[-1].state.lines, replay.keyed(listing.listed(module, lines)))
             whole = played(json.loads(Reader(page.written(page.Data().all(name, steps))).data))
             for step, (texts, rows) in zip(steps, whole, strict=True):
                 self.assertEqual((texts, rows), ([text for _, text in step.state.lines], step.state.rows))
@@ -124,12 +124,12 @@ class Steps(unittest.TestCase):
                      b"canon only 10,1 trace limit 2", b"\tcanon  trace\tlimit 4"):
             with self.subTest(line):
                 steps = filled(module, line)
-                reply = program.replies(program.asked(module, [line.decode()])[1])[0][0]
+                reply = support.replies(program.asked(module, [line.decode()]))[0][0]
                 count = int(reply.split()[1])
                 self.assertGreater(count, 1)
                 self.assertEqual([step.part for step in steps[1:]], [(at, count) for at in range(1, count + 1)])
                 self.assertEqual(steps[-1].reply, f"rewrite {count} of {count}: {reply}")
-                self.assertEqual(steps[-1].state.lines, replay.keyed(listing.listed(module, [line.decode()], 99)))
+                self.assertEqual(steps[-1].state.lines, replay.keyed(listing.listed(module, [line.decode()])))
 
     def test_unproved_patterns(self):
         """A step that rewrites by a pattern that no check proves says so, and so does the page."""
@@ -150,14 +150,14 @@ class Steps(unittest.TestCase):
                      "convert trace partial dynamic arith.muli,arith.addi rules 28"):
             with self.subTest(line):
                 steps = filled(module, line.encode())
-                (reply, told), = program.replies(program.asked(module, [line])[1])
+                (reply, told), = support.replies(program.asked(module, [line]))
                 count = len(told)
                 self.assertEqual(reply, f"converted {count}")
                 self.assertGreater(count, 1)
                 self.assertEqual([step.part for step in steps[1:]], [(at, count) for at in range(1, count + 1)])
                 self.assertEqual([step.run[0].split()[2] for step in steps[1:]], [it.split()[3] for it in told])
                 self.assertEqual(steps[-1].reply, f"rewrite {count} of {count}: {reply}")
-                self.assertEqual(steps[-1].state.lines, replay.keyed(listing.listed(module, [line], 99)))
+                self.assertEqual(steps[-1].state.lines, replay.keyed(listing.listed(module, [line])))
                 few = filled(module, line.encode(), 4)
                 self.assertEqual([step.part for step in few[1:]], [(at, count) for at in range(1, min(count, 3) + 1)])
                 self.assertEqual(few[-1].state.lines, steps[-1].state.lines)
@@ -181,7 +181,7 @@ class Steps(unittest.TestCase):
         module, _ = example("fold")
         steps = filled(module, b"begin\n" * 16 + b"set-attr #1 k 1\nbegin\nrollback\ndetach uses\n")
         self.assertEqual(steps[18].reply, "refused 34 TooManyMarks")
-        self.assertEqual(steps[17].state.lines, replay.keyed(listing.listed(module, ["set-attr #1 k 1"], 99)))
+        self.assertEqual(steps[17].state.lines, replay.keyed(listing.listed(module, ["set-attr #1 k 1"])))
         self.assertEqual(steps[19].state.lines, steps[0].state.lines)
         self.assertEqual(steps[20].state.rows["uses"], "refused 41 NoSuchKind")
 
@@ -213,7 +213,7 @@ class Written(unittest.TestCase):
     def test_alone(self):
         for tag, given in Reader(page_of(*example("fold"))).found:
             self.assertFalse({"src", "href", "srcset"} & set(given), tag)
-        code = "".join((page.PARTS / f"page.{name}").read_text() for name in ("css", "js"))
+        code = "".join((page.WEB / f"page.{name}").read_text() for name in ("css", "js"))
         for word in ("http", "url(", "import", "fetch", "innerHTML", "eval(", "insertAdjacent", "document.write"):
             self.assertNotIn(word, code)
 
@@ -225,7 +225,7 @@ class Called(unittest.TestCase):
         self.folder = pathlib.Path(folder.name)
 
     def call(self, *words, **more):
-        """The status of a call and what it tells."""
+        """The status of a call and its messages."""
         it = subprocess.run([sys.executable, str(ROOT / "tools/page.py"), *words], cwd=self.folder, text=True,
                             capture_output=True, check=False, **more)
         return it.returncode, it.stdout + it.stderr
@@ -250,7 +250,7 @@ class Called(unittest.TestCase):
         self.assertTrue(found.title.startswith("bad\\xff<.mlir"), found.title)
 
     def test_as_a_whole(self):
-        """Where the page can't be written whole the file is what it was, and no other is left beside it."""
+        """If the page can't be written, the file is unchanged, and no other file is left next to it."""
         page_there = self.folder / "replay.html"
         page_there.write_text("kept\n")
 
@@ -387,9 +387,9 @@ class Clicked(unittest.TestCase):
 
     def test_not_attached(self):
         self.here.open(self.put("bare", page_of(example("fold")[0], b"detach uses\nprint\n")) + "#step=2")
-        self.assertEqual(self.texts("#rows .empty"), ["uses isn't told: refused 41 NoSuchKind"])
+        self.assertEqual(self.texts("#rows .empty"), ["no uses report: refused 41 NoSuchKind"])
         self.here.point("""document.querySelector('#module [data-value="%v2.0"]')""")
-        self.assertTrue(self.texts("#detail")[0].endswith("uses aren't told"))
+        self.assertTrue(self.texts("#detail")[0].endswith("no uses report"))
 
     def test_find(self):
         self.here.open(self.address)

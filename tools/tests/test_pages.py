@@ -1,4 +1,4 @@
-"""The runs that stand on README.md, docs/GUIDE.md, docs/CONVERT.md and docs/REPORTS.md, typed as they stand there."""
+"""The runs of docs/GUIDE.md, docs/CONVERT.md and docs/REPORTS.md, typed as they are on the page."""
 import os
 import re
 import shlex
@@ -6,13 +6,15 @@ import shutil
 import subprocess
 import unittest
 
+import support
 from support import ROOT, program, refusals, session
 
 BLOCK = re.compile(r"(?:^    .*\n)+", re.M)
 MODULE = re.compile(r"```mlir\n(.*?)```", re.S)
-RUNS = {"A pattern by hand": "strength", "A pass replayed, with marks": "hoist", "The verifier, live": "signature",
-        "Made simpler, a rule at a time": "canon", "Why a rule doesn't apply": "canon",
-        "A pattern of one's own": "strength", "Converted to a target": "index", "What nothing reaches": "sweep"}
+RUNS = {"Try a rewrite by hand": "strength", "Replay a pass with marks": "hoist", "Watch the verifier": "signature",
+        "Canonicalize step by step": "canon", "Why did a rule not apply?": "canon",
+        "Define and check a pattern": "strength", "Convert to a target": "index",
+        "Remove unused private symbols": "sweep"}
 
 
 def sections(page):
@@ -26,6 +28,13 @@ def indented(text):
     return [line[4:] for block in BLOCK.findall(text) for line in block.splitlines()]
 
 
+def is_shown(wanted, said):
+    """Whether lines are those of a page: a line `..` takes the place of any more, and `: ..` of a sentence."""
+    parts = [r"(?:[^\n]*\n)*" if line == ".." else f"{re.escape(line[:-2])}[^\n]*\n(?:    \w[^\n]*\n)*"
+             if line.endswith(": ..") else re.escape(line) + "\n" for line in wanted]
+    return re.fullmatch("".join(parts), "".join(line + "\n" for line in said)) is not None
+
+
 def typed(text):
     """What is typed in the runs of a text, and what is answered; `..` stands for more lines."""
     runs = []
@@ -35,19 +44,6 @@ def typed(text):
         elif runs:
             runs[-1][1].append(line)
     return runs
-
-
-class Readme(unittest.TestCase):
-    def test_first_run(self):
-        """The module, and beside each command its reply, and what is written below that."""
-        blocks = [it.group() for it in BLOCK.finditer((ROOT / "README.md").read_text())]
-        lines = [line[4:] for line in next(it for it in blocks if "\n    // -----\n" in it).splitlines()]
-        place = lines.index("// -----")
-        cells = [re.split("  +", line.strip()) + [""] for line in lines[place + 1:]]
-        module = "".join(line + "\n" for line in lines[:place])
-        said = program.asked(module.encode(), [command for command, *_ in cells])[1]
-        wanted = [cell[1].partition(" ")[2::2] + (cell[2],) for cell in cells]
-        self.assertEqual([(reply, ", ".join(below)) for reply, below in program.replies(said)], wanted)
 
 
 class Guide(unittest.TestCase):
@@ -60,15 +56,14 @@ class Guide(unittest.TestCase):
             for line, wanted in typed(text):
                 with self.subTest(title, line=line):
                     said = here.answer(line)
-                    is_cut = wanted[-1:] == [".."]
-                    self.assertEqual(said[:len(wanted) - 1] if is_cut else said, wanted[:-1] if is_cut else wanted)
+                    self.assertTrue(is_shown(wanted, said), said)
 
     @unittest.skipUnless(shutil.which("mlir-opt-22"), "mlir-opt-22 isn't installed")
     def test_back_into_pretty_form(self):
-        lines = indented(sections("GUIDE.md")["A script by itself"])
+        lines = indented(sections("GUIDE.md")["Run a script"])
         run = next(line for line in lines if line.startswith("(cat module.mlir"))
         back = next(line for line in lines if line.startswith(".. | "))
-        words, more = program.words()
+        words, more = support.words()
         names = {"./run": shlex.join(words), "module.mlir": "examples/fold.mlir",
                  "FILE": "examples/fold.script", "mlir-opt": "mlir-opt-22"}
         command = re.sub("|".join(map(re.escape, names)), lambda found: names[found.group()], run + back[2:])
@@ -79,18 +74,18 @@ class Guide(unittest.TestCase):
 
     def test_traps(self):
         module = (ROOT / "examples/strength.mlir").read_bytes()
-        rows = re.findall(r"^\| `(.*?)` \| `(.*?)`(?:, and `(.*?)`)? \|", sections("GUIDE.md")["Traps"], re.M)
+        rows = re.findall(r"^\| `(.*?)` \| `(.*?)`(?:, and `(.*?)`)? \|", sections("GUIDE.md")["Common mistakes"], re.M)
         self.assertGreater(len(rows), 5)
         for line, reply, row in rows:
             with self.subTest(line):
-                (said, _), (_, diagnostics) = program.replies(program.asked(module, [line, "report diagnostics"])[1])
+                (said, _), (_, diagnostics) = support.replies(program.asked(module, [line, "report diagnostics"]))
                 self.assertEqual(said, reply if reply == "ok" else f"refused {reply}")
                 self.assertEqual(diagnostics, [row] if row else [])
 
 
 def conversions():
-    """The examples of docs/CONVERT.md: a module, the lines that are typed over it with what is answered, and the module
-    behind them where it is shown, in the next block of the same section."""
+    """The examples of docs/CONVERT.md: a module, the typed lines with their answers, and the module after them if the
+    next block of the same section shows it."""
     parts = re.split(r"^```mlir\n(.*?)^```\n", (ROOT / "docs/CONVERT.md").read_text(), flags=re.M | re.S)
     for module, text, after in zip(["", *parts[1::2]], parts[::2], [*parts[1::2], ""]):
         runs = typed(text)
@@ -102,22 +97,22 @@ def conversions():
 class Convert(unittest.TestCase):
     def test_examples(self):
         found = list(conversions())
-        self.assertEqual(len(found), 16)
+        self.assertEqual(len(found), 15)
         self.assertEqual(sum(after is not None for _, _, after in found), 9)
         for module, runs, after in found:
             with self.subTest(runs[0][0]):
                 script = [line for line, _ in runs] + ["print"]
-                *said, (_, printed) = program.replies(program.asked(module, script)[1])
+                *said, (_, printed) = support.replies(program.asked(module, script))
                 self.assertEqual([[reply, *below] for reply, below in said], [wanted for _, wanted in runs])
                 if after is not None:
-                    self.assertEqual(printed, program.asked(after, ["print"])[1][1:])
+                    self.assertEqual(printed, program.asked(after, ["print"]).lines[1:])
 
 
 class Refused(unittest.TestCase):
     def test_refusals(self):
         for text, answer, _ in refusals.rows(ROOT / "docs/REFUSALS.md"):
             with self.subTest(text):
-                self.assertEqual(program.ran(text)[1], [answer])
+                self.assertEqual(program.ran(text).lines, [answer])
 
     def test_verifier(self):
         found = list(refusals.broken(ROOT / "docs/VERIFIER.md"))
@@ -125,7 +120,7 @@ class Refused(unittest.TestCase):
         for number, (text, row, _) in enumerate(found, 1):
             with self.subTest(number):
                 self.assertTrue(row.endswith(f" V{number}"))
-                self.assertEqual(program.asked(text, ["report diagnostics"])[1], ["1 ok", row])
+                self.assertEqual(program.asked(text, ["report diagnostics"]).lines, ["1 ok", row])
 
 
 class Reports(unittest.TestCase):
@@ -135,17 +130,17 @@ class Reports(unittest.TestCase):
         for kind, text in sections("REPORTS.md").items():
             if " " in kind:
                 continue
-            own, edit = MODULE.search(text), re.search(r"Behind `(.*?)`", text)
+            own, edit = MODULE.search(text), re.search(r"After `(.*?)`", text)
             script = [*([edit.group(1)] if edit else []), f"report {kind}"]
             with self.subTest(kind):
-                said = program.replies(program.asked((own.group(1) if own else first).encode(), script)[1])
+                said = support.replies(program.asked((own.group(1) if own else first).encode(), script))
                 self.assertEqual(said[-1], ("ok", indented(text)))
 
     def test_symbols_with_opaque_terms(self):
         text = sections("REPORTS.md")["Symbols with `--opaque`"]
         program.ask(True)
         self.addCleanup(program.ask, False)
-        said = program.replies(program.asked(MODULE.search(text).group(1).encode(), ["report symbols"])[1])
+        said = support.replies(program.asked(MODULE.search(text).group(1).encode(), ["report symbols"]))
         self.assertEqual(said, [("ok", indented(text))])
 
     def test_rows_about_one_thing(self):
@@ -155,7 +150,7 @@ class Reports(unittest.TestCase):
         self.assertGreater(len(found), 5)
         for line, rows in found:
             with self.subTest(line):
-                said = program.replies(program.asked(module.encode(), [line])[1])
+                said = support.replies(program.asked(module.encode(), [line]))
                 self.assertEqual(said[-1], ("ok", re.findall("`(.*?)`", rows)))
 
 

@@ -10,8 +10,8 @@ import unittest.mock
 
 from support import ROOT, program, session
 
-import reduce
-import ways
+from mlir_work import operations
+from mlir_work.cli import reduce, ways
 from test_live import LIVE
 
 MODULE = '''"func.func"() <{function_type = (i32, i32) -> i32, sym_name = "g"}> ({
@@ -47,7 +47,7 @@ RETURN = '''"builtin.module"() ({
 
 def printed(reducer):
     """The module that is left."""
-    return "\n".join([*reducer.way.tried(reducer.kept, [], "print")[1][1], ""])
+    return reducer.way.answer(reducer.kept, "print").shown
 
 
 class Reduced(unittest.TestCase):
@@ -59,9 +59,9 @@ class Reduced(unittest.TestCase):
         return reducer, printed(reducer)
 
     def check_script(self, reducer, left, module=MODULE):
-        """Whether the script makes of the module what is left, and each line of it is accepted."""
-        status, lines = program.asked(module, [*reducer.kept, "print"])
-        self.assertEqual((status, lines[len(reducer.kept) + 1:]), (0, left.splitlines()))
+        """Checks that each line of the script is accepted, and that the script gives the reduced module."""
+        run = program.asked(module, [*reducer.kept, "print"])
+        self.assertEqual((run.status, run.lines[len(reducer.kept) + 1:]), (0, left.splitlines()))
 
     def test_a_row(self):
         reducer, left = self.reduced(reduce.Row("diagnostics  #14 V15"))
@@ -72,7 +72,7 @@ class Reduced(unittest.TestCase):
         goal = "convert partial illegal arith.subi rules 28 = 51"
         reducer, left = self.reduced(reduce.Refusal(goal))
         self.check_script(reducer, left)
-        self.assertEqual(program.asked(left.encode(), [goal.partition(" =")[0]])[0], 1)
+        self.assertEqual(program.asked(left.encode(), [goal.partition(" =")[0]]).status, 1)
         self.assertLessEqual(left.count('"arith.'), 2)
         self.assertFalse(reduce.Reducer(MODULE, reduce.Refusal("erase #3 = NotVisible")).go())
         self.assertEqual(self.reduced(reduce.Refusal("erase #13=HasUses"))[0].goal.reason, ["HasUses"])
@@ -97,8 +97,8 @@ class Reduced(unittest.TestCase):
         for file in (ROOT / "examples").glob("*.mlir"):
             here = session.Session(file.read_bytes())
             here.begin(b"")
-            those = reduce.operations(here.listing())
-            self.assertEqual(sorted(int(it.number) for it in those), list(range(1, len(those) + 1)))
+            those = reduce.candidates(operations.read(here.way.answer([], "print ids").shown))
+            self.assertEqual(sorted(it.number for it in those), list(range(1, len(those) + 1)))
             self.assertEqual({it for op in those for it in op.results}, {
                 it for it in here.listing().values if it.startswith("%v")})
 
@@ -112,9 +112,13 @@ class Reduced(unittest.TestCase):
         self.assertEqual([line for line in reducer.kept if line.startswith("drop-attr #1")],
                          [f"drop-attr #1 {key}" for key in ("i1", '"a b"', "i32", "index")])
         self.assertNotIn("{i", left)
-        self.assertEqual(reduce.keys_of(' <{p = #d.a<q = 1, (a > b)>}> ({ }, {}) {r, s = {t = 1}} : (!d<u = 1>) -> i1'),
-                         ["p", "r", "s"])
-        self.assertEqual((reduce.keys_of(" : () -> ()"), reduce.keys_of(" ({ }) : () -> ()")), ([], []))
+        text = ('"builtin.module"() ({ // #0\n'
+                '  "t.a"() <{p = #d.a<q = 1, (a > b)>}> ({ // #1\n'
+                '    "t.b"() ({}) : () -> () // #2\n'
+                '  }, {}) {r, s = {t = 1}} : (!d<u = 1>) -> i1 // #1\n'
+                '}) : () -> () // #0\n')
+        self.assertEqual([(it.number, it.keys) for it in reduce.candidates(operations.read(text))],
+                         [(2, []), (1, ["p", "r", "s"])])
 
     def test_goals(self):
         for make, text in ((reduce.Row, "deaf #1"), (reduce.Row, "dead"), (reduce.Refusal, "erase #1"),
@@ -146,7 +150,7 @@ class CommandLine(unittest.TestCase):
         module = '"builtin.module"() ({\n  "arith.addi"() : () -> ()\n}) : () -> ()\n'
         self.assertEqual(files, {"out.mlir": module, "out.mlir.script": script})
         it, _ = self.ran(text, "--keep", "diagnostics #2 V1")
-        self.assertEqual(it.stdout, "// m.mlir behind:\n//   erase #1\n//   drop-attr #2 k\n" + module)
+        self.assertEqual(it.stdout, "// m.mlir, reduced by:\n//   erase #1\n//   drop-attr #2 k\n" + module)
 
     def test_a_name_that_is_not_utf8(self):
         """The name of the module may have any bytes: what is found is written all the same."""
@@ -158,11 +162,12 @@ class CommandLine(unittest.TestCase):
             words = [sys.executable, ROOT / "tools/mlir_work.py", "reduce", name, "--test", 'grep -q test.a "$1"']
             it = subprocess.run(words, capture_output=True, check=False, env={**os.environ, **more})
         self.assertEqual(it.returncode, 0, it.stderr)
-        self.assertTrue(it.stdout.startswith(b'// m\xff.mlir behind:\n"builtin.module"() ({\n  "test.a"()'), it.stdout)
+        head = b'// m\xff.mlir, reduced by:\n"builtin.module"() ({\n  "test.a"()'
+        self.assertTrue(it.stdout.startswith(head), it.stdout)
 
     def test_wrong(self):
         it, _ = self.ran(b"", "--keep", "dead #9")
-        self.assertEqual((it.returncode, it.stderr), (1, "m.mlir doesn't show `dead #9`\n"))
+        self.assertEqual((it.returncode, it.stderr), (1, "m.mlir doesn't show `dead #9`: nothing to reduce\n"))
         it, _ = self.ran(b'"a"(', "--keep", "dead #9")
         self.assertEqual((it.returncode, it.stdout), (4, ""))
         self.assertIn("m.mlir:1:5: 2 Unexpected", it.stderr)

@@ -4,7 +4,10 @@ import tempfile
 import unittest
 import unittest.mock
 
-from support import ROOT, listing, mistakes, program, session
+import support
+from support import ROOT, mistakes, program, session
+
+from mlir_work.reply import Transcript
 
 # Operations with each form of regions, several results, a string that looks like a value, and dictionaries.
 MODULE = b'''%a:2 = "test.a"() {z = 1 : i8, a = "%0 %a"} : () -> (i32, i32)
@@ -45,13 +48,6 @@ class Listed(unittest.TestCase):
     def test_each_form(self):
         self.assertEqual(begun(MODULE).answer("ids"), LISTED)
 
-    def test_in_pieces(self):
-        most, listing.MOST_SCRIPT = listing.MOST_SCRIPT, 120
-        try:
-            self.assertEqual(begun(MODULE).answer("ids"), LISTED)
-        finally:
-            listing.MOST_SCRIPT = most
-
     def test_no_operation(self):
         self.assertEqual(begun(b"").answer("ids")[0], '    #0  "builtin.module"() ({')
         empty = '"builtin.module"() ({}) : () -> ()'
@@ -63,7 +59,7 @@ class Listed(unittest.TestCase):
 
     def test_a_full_dictionary(self):
         full = ", ".join(f"k{number:03}" for number in range(256))
-        self.assertTrue(begun(f'"test.a"() {{{full}}} : () -> ()'.encode()).answer("ids")[1].startswith("    #?"))
+        self.assertTrue(begun(f'"test.a"() {{{full}}} : () -> ()'.encode()).answer("ids")[1].startswith("    #1  "))
 
     def test_at(self):
         here = begun(MODULE)
@@ -114,7 +110,7 @@ class Changed(unittest.TestCase):
 class Typed(unittest.TestCase):
     def test_undo(self):
         here = example("strength")
-        self.assertEqual(here.answer("undo"), ["there is no edit to take back"])
+        self.assertEqual(here.answer("undo"), ["there is no edit to undo"])
         here.answer("begin")
         self.assertEqual(here.answer('insert before #8 "test.a"() : () -> ()'), ["ok #19"])
         here.answer("rollback")
@@ -162,7 +158,7 @@ class Typed(unittest.TestCase):
 
     def test_a_module_that_is_refused(self):
         here = session.Session(b'"a"(')
-        self.assertEqual(here.begin(b""), (3, ["module refused 2 Unexpected at 5"]))
+        self.assertEqual(here.begin(b""), (3, "module refused 2 Unexpected at 5\n"))
         self.assertIsNone(here.seen)
 
 
@@ -184,8 +180,8 @@ class Typed(unittest.TestCase):
 
 class Replied(unittest.TestCase):
     def test_replies(self):
-        lines = ["1 ok #3", "2 ok", "%v1.0 #2 0", "3 refused 22 HasUses"]
-        self.assertEqual(program.replies(lines), [("ok #3", []), ("ok", ["%v1.0 #2 0"]), ("refused 22 HasUses", [])])
+        run = Transcript(1, "1 ok #3\n2 ok\n%v1.0 #2 0\n3 refused 22 HasUses\n")
+        self.assertEqual(support.replies(run), [("ok #3", []), ("ok", ["%v1.0 #2 0"]), ("refused 22 HasUses", [])])
 
 
 if __name__ == "__main__":

@@ -1,4 +1,4 @@
-"""Golden files as they are read and written, and which program is started of which sources."""
+"""Reading and writing golden files, and the choice of the program for the sources."""
 import lzma
 import pathlib
 import shutil
@@ -7,30 +7,48 @@ import tempfile
 import unittest
 from unittest import mock
 
-import support
+import checkout  # noqa: F401
+from tests.golden import golden
+from tools import dist, sources
 
-sys.path.append(str(support.ROOT / "tests"))
-
-import dist  # noqa: E402
-import golden  # noqa: E402
-import sources  # noqa: E402
-
-TEXTS = [b"", b"\n", b"a", b"a\n", b"a\nb", b"\xff\n", b"=== 1\n", b"a \n", b"\\\t\r\n", b"\x00", b"\xc3\xa4\n"]
+TEXTS = [b"", b"\n", b"a", b"a\n", b"a\nb", b"\xff\n", b"=== 1\n", b"a \n", b"\\\t\r\n", b"\x00", b"\xc3\xa4\n",
+         b"# a\n", b"#a\n# a\n"]
+SENTENCE = "A text is read."
 
 
 class Golden(unittest.TestCase):
     def test_each_text_is_read_as_it_was_written(self):
         with tempfile.TemporaryDirectory() as name:
             file = pathlib.Path(name) / "x.cases"
-            cases = [golden.Case(str(number), ["--limit", "5", ""], [(1, text)]) for number, text in enumerate(TEXTS)]
+            cases = [golden.Case(f"texts/{number}", ["--limit", "5", ""], [(1, text)], sentence=SENTENCE)
+                     for number, text in enumerate(TEXTS)]
+            front = golden.group_text("texts", SENTENCE)
+            cases += [golden.Case(f"text-{number}", [], [(1, text)], sentence=SENTENCE * (number % 2))
+                      for number, text in enumerate(TEXTS + TEXTS[-1:])]
             cases.append(golden.Case("many", [], [(3, b"ab\n"), (1, b"\\x00")]))
-            file.write_bytes(b"".join(map(golden.case_text, cases)))
+            file.write_bytes(front + b"".join(map(golden.case_text, cases)))
             answers = [golden.out_text(case.name, 1, case.given()) for case in cases]
             file.with_suffix(".out").write_bytes(b"".join(answers))
             read, others = golden.cases_in(file)
-        self.assertEqual([(it.name, it.words, it.given()) for it, _ in read],
-                         [(it.name, it.words, it.given()) for it in cases])
+        self.assertEqual([(it.name, it.words, it.given(), it.sentence) for it, _ in read],
+                         [(it.name, it.words, it.given(), it.sentence) for it in cases])
         self.assertEqual(([answer for _, answer in read], others), (answers, []))
+
+    def test_the_sentence_of_a_file_is_in_its_answer(self):
+        with tempfile.TemporaryDirectory() as name:
+            file = pathlib.Path(name) / "some_texts.mlir"
+            for text in TEXTS:
+                file.write_bytes(text)
+                new, _ = golden.cases_in(file)[0][0]
+                self.assertEqual((new.name, new.sentence, new.given()), ("some-texts", "", text))
+                for sentence in ("", SENTENCE):
+                    new.sentence = sentence
+                    told = golden.told(new, lambda words, text: (1, text))
+                    file.with_suffix(".out").write_bytes(told)
+                    (read, answer), = golden.cases_in(file)[0]
+                    self.assertEqual((read.name, read.sentence, read.given(), answer),
+                                     ("some-texts", sentence, text, told))
+                file.with_suffix(".out").unlink()
 
     def test_beginnings(self):
         case = golden.Case("1", [], [(1, b"ab")], True)
@@ -41,8 +59,41 @@ class Golden(unittest.TestCase):
         self.assertIn(b"[digest]\n65537 bytes, SHA-256 ", golden.out_text("1", 0, b"a" * 65537))
 
 
+class Names(unittest.TestCase):
+    """The faults in names and sentences of the files of an area."""
+
+    def faults(self, **texts):
+        """The faults of files with these texts."""
+        with tempfile.TemporaryDirectory() as name:
+            folder = pathlib.Path(name) / "area"
+            folder.mkdir()
+            for stem, text in texts.items():
+                (folder / f"{stem}.cases").write_text(text)
+            with mock.patch.object(golden, "TESTS", folder.parent):
+                return list(golden.faults_in(sorted(folder.glob("*.cases"))))
+
+    def test_right_names(self):
+        texts = {"a": "=== one --brief\n# It is.\n=== two [group]\n# It is.\n=== two/1\n=== two/full\n",
+                 "b": "=== three\n# It is.\n"}
+        self.assertEqual(self.faults(**texts), [])
+
+    def test_wrong_names(self):
+        for text, told in (("=== 1 --brief\n", "case 1 has no name"),
+                           ("=== One\n# It is.\n", "One: this name isn't kebab-case"),
+                           ("=== one_two\n# It is.\n", "one_two: this name isn't kebab-case"),
+                           ("=== one\n", "one: no sentence says what the case shows"),
+                           ("=== one\n# It is\n", "one: the sentence doesn't end with a full stop"),
+                           ("=== one\n# It is.\n=== one\n# It is.\n", "one: two cases have this name"),
+                           ("=== a [group]\n# It is.\n=== a/1\n=== a/1\n", "a/1: two cases have this name"),
+                           ("=== a [group]\n# It is.\n=== a/A\n", "a/A: this name isn't kebab-case"),
+                           ("=== a [group]\n# It is.\n=== b/1\n", "b: no sentence says what the case shows")):
+            self.assertIn(f"area/a.cases: {told}", self.faults(a=text))
+        one = "=== one\n# It is.\n"
+        self.assertEqual(self.faults(a=one, b=one), ["area/b.cases: one: area/a.cases has this name too"])
+
+
 class Sources(unittest.TestCase):
-    """A checkout of one crate, in a folder of its own."""
+    """A checkout of one crate, in a temporary folder."""
 
     def setUp(self):
         made = tempfile.TemporaryDirectory()

@@ -1,6 +1,6 @@
 """What the program needs of the stack: the module that is nested deepest, and what is asked and made of it, with as
 much stack as the pages say is enough (test_embed.py asks the same of a thread that calls the library). It is left out
-over bench/reference, and where the limit of the stack can't be set."""
+over oracle, and where the limit of the stack can't be set."""
 import os
 import re
 import resource
@@ -8,9 +8,10 @@ import subprocess
 import tempfile
 import unittest
 
+import support
 from support import ROOT, program
 
-from forms import kinds
+from mlir_work.cli.forms import kinds
 
 # The most operations around one but for the root, and brackets of attributes and types within one another.
 REGIONS, BRACKETS = 127, 31
@@ -28,7 +29,7 @@ def deepest(leaf=LEAF, regions=REGIONS):
 
 def stated():
     """The stack that the pages and the header say is enough, in bytes."""
-    found = {number for name in ("README.md", "docs/EMBED.md", "c/mlir_work.h")
+    found = {number for name in ("docs/TRUST.md", "docs/EMBED.md", "bindings/c/mlir_work.h")
              for number in re.findall(r"([0-9]+) KB\s+of\s+stack\s+are\s+enough", (ROOT / name).read_text())}
     number, = found
     return int(number) * 1024
@@ -44,7 +45,7 @@ def is_limited():
 class Stack(unittest.TestCase):
     def ran(self, text, *options):
         """The status of a run with that stack, and what it writes."""
-        words, more = program.words()
+        words, more = support.words()
         size = stated()
 
         def few():

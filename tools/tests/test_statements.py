@@ -1,4 +1,4 @@
-"""What is said twice is found: in other words for variables, in modules, under another name, and in the library."""
+"""Repeated statements are found: with renamed variables, in modules, under another name, and in the library."""
 import contextlib
 import io
 import os
@@ -10,7 +10,7 @@ import unittest.mock
 
 from support import ROOT
 
-import check_statements
+from gate import check_statements
 
 FILES = {
     "low/proofs/One.antt": "use Rattle.std.specs.Prelude.{Bool, true}\n"

@@ -15,7 +15,8 @@ import termios
 import time
 import unittest
 
-from support import ROOT, program
+import support
+from support import ROOT
 
 WORK = [sys.executable, str(ROOT / "tools/mlir_work.py")]
 MODULE = '"test.a"() : () -> ()\n"test.b"() {k = 1 : i32} : () -> ()\n'
@@ -35,7 +36,7 @@ def is_small():
 
 
 def on_terminal():
-    """The process is that of the terminal: so Ctrl-C comes to it."""
+    """Makes the terminal control this process, so that Ctrl-C reaches it."""
     fcntl.ioctl(0, termios.TIOCSCTTY, 0)
 
 
@@ -87,7 +88,7 @@ class Terminal:
         self.run.wait()
 
     def close(self):
-        """Ends whatever goes on."""
+        """Ends the process and closes the terminal."""
         self.kill()
         os.close(self.here)
 
@@ -104,7 +105,7 @@ class Terminals(unittest.TestCase):
         self.environment.pop("LINES", None)
 
     def open(self, *words, until="\n> ", out=None):
-        """A session, once something is shown; other words may stand in front of its own."""
+        """Opens a session, and waits until it shows something. `words` come before its command."""
         here = Terminal([*words, *WORK, "open", str(self.file)], self.environment, out)
         self.addCleanup(here.close)
         self.shown = here.until(until)
@@ -190,7 +191,7 @@ class Fails(Terminals):
     def mortal(self, does):
         """Has sessions ask a program that does something else while a file is there; gives that file. (Its help names
         no option, so that it is run for each line; test_live.py has those that live.)"""
-        words, more = program.words()
+        words, more = support.words()
         mortal, there = self.folder / "program", self.folder / "there"
         mortal.write_text(f'#!/bin/sh\n[ "$1" != --help ] || exit 0\n[ ! -e {there} ] || {does}\n'
                           f'exec {shlex.join(words)} "$@"\n')
@@ -258,13 +259,14 @@ class Fails(Terminals):
 
     def test_a_file_stays_where_a_new_one_has_no_room(self):
         """(No file may be longer than some bytes, which fails as a full disk does.)"""
-        child = ("import resource, sys; sys.path.insert(0, sys.argv[1]); import kept; "
+        child = ("import resource, sys; from mlir_work.cli import kept; "
                  "resource.setrlimit(resource.RLIMIT_FSIZE, (400, 400)); it = kept.Kept('m.mlir', b''); "
-                 "it.save(b'one\\n'); kept.put(sys.argv[2], b'one\\n'); more = b'two\\n' * 200\n"
-                 "for call in (lambda: it.save(more), lambda: kept.put(sys.argv[2], more)):\n"
+                 "it.save(b'one\\n'); kept.put(sys.argv[1], b'one\\n'); more = b'two\\n' * 200\n"
+                 "for call in (lambda: it.save(more), lambda: kept.put(sys.argv[1], more)):\n"
                  "    try:\n        call()\n    except OSError as fault:\n        print(fault.errno)")
-        words = [sys.executable, "-c", child, str(ROOT / "tools"), str(self.folder / "saved")]
-        ran = subprocess.run(words, env=self.environment, stdout=subprocess.PIPE, text=True, check=True)
+        words = [sys.executable, "-c", child, str(self.folder / "saved")]
+        environment = {**self.environment, "PYTHONPATH": str(ROOT / "bindings/python")}
+        ran = subprocess.run(words, env=environment, stdout=subprocess.PIPE, text=True, check=True)
         self.assertEqual(ran.stdout, "27\n27\n")
         self.assertEqual((self.folder / "saved").read_text(), "one\n")
         self.assertEqual([*self.scripts().values()], ["one\n"])

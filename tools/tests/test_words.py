@@ -1,5 +1,5 @@
-"""The words of the prompt: what they come to, what is said where they are wrong, and what a word that is begun may
-become; the command line, and modules that go through mlir-opt."""
+"""The words of the prompt: their effects, messages for mistakes, and completion. Also the command line, and modules
+that mlir-opt converts."""
 import contextlib
 import io
 import os
@@ -13,45 +13,40 @@ import unittest.mock
 
 from support import ROOT, mistakes, session
 
-import completion
-import generic
-import mlir_work
-import pages
-import prompt
-import screen
-import words
+from mlir_work.cli import completion, generic, main, pages, prompt, screen, words
 
 WRONG = {
-    "quit now": "`now` can't stand behind `quit`: write `quit`",
-    "ids #3": "`#3` can't stand behind `ids`: write `ids`",
-    "at": "`at` alone is too little: write `at #N [K]`",
+    "quit now": "`now` can't follow `quit`: write `quit`",
+    "ids #3": "`#3` can't follow `ids`: write `ids`",
+    "at": "`at` needs more words: write `at #N [K]`",
     "at x": "write `at #N [K]`",
     "undo x": "write `undo [N]`",
     "save": "write `save FILE`",
-    "diff nothere": "no open mark is called `nothere`: `begin NAME` makes one",
-    "rollback nothere": "no open mark is called `nothere`",
-    "begin start": "a mark can't be called `start`",
-    "begin 3": "`3` can't stand behind `begin`: write `begin NAME`",
-    "uses a b": "`a b` can't stand behind `uses`: write `uses [WORD]`",
+    "diff nothere": "no open mark is named `nothere`: `begin NAME` makes one",
+    "rollback nothere": "no open mark is named `nothere`",
+    "begin start": "a mark can't be named `start`",
+    "begin 3": "`3` can't follow `begin`: write `begin NAME`",
+    "uses a b": "`a b` can't follow `uses`: write `uses [WORD]`",
     "dead #99": "#99 isn't in the module",
     "uses %v99.0": "there is no %v99.0: #99 isn't in the module",
-    "uses %v3": "`%v3` is no value: a value is %vN.K",
+    "uses %v3": "`%v3` is not a value: a value is %vN.K",
     "uses %v8.1": "there is no %v8.1: #8 has 1 results",
-    "uses %a1.0.2": "there is no %a1.0.2: #1 has 2 arguments of blocks",
+    "uses %a1.0.2": "there is no %a1.0.2: #1 has 2 block arguments",
     "redo": "nothing was undone",
-    "help xyzzy": "the pages have nothing of `xyzzy`",
-    "xyzzy": "here ids, at, find, diff, undo, redo, save, source, write, help, quit",
+    "help xyzzy": "no help on `xyzzy`",
+    "xyzzy": "at the prompt also ids, at, find, diff, undo, redo, save, source, write, help, quit",
     "exit": "write `quit`",
     "u": "write `undo [N]`",
     "?": "write `help [WORD]`",
     "verify": "write `report diagnostics`",
     "source /none/s": "No such file",
-    "check half": "26 NoSuchKey", "check 4": "`4` is no NAME: write `check NAME` or `check NAME width W`",
-    "check half sampled": "`sampled` stands where `width` is wanted: write `check NAME`",
-    "check half width 8 x": "`x` stands where `sampled` is wanted: write `check NAME width W`",
-    "check half width 8 sampled x": "`x` is too much: write `check NAME width W sampled`",
+    "check half": "26 NoSuchKey", "check 4": "found `4`, expected NAME: write `check NAME` or `check NAME width W`",
+    "check half sampled": "found `sampled`, expected `width`: write `check NAME`",
+    "check half width 8 x": "found `x`, expected `sampled`: write `check NAME width W`",
+    "check half width 8 sampled x": "found `x` after the end of the command: write `check NAME width W sampled`",
     "pattern": "the rest of the line is the pattern", "define half": "write `pattern PATTERN`",
-    "pattern p arith.muli(%a) => %a": "5 TypeMismatch", "patterns x": "`x` is too much: write `patterns`",
+    "pattern p arith.muli(%a) => %a": "5 TypeMismatch",
+    "patterns x": "found `x` after the end of the command: write `patterns`",
 }
 HELP = {"22": ["22 HasUses", "22 `open-branch`"], "refusal 22": ["22 HasUses"], "hasuses": ["22 HasUses"],
         "V15": ["V15: what a function returns"], "erase-dead": ["1 `erase-dead`"], "rule 30": ["30 `lower-choice`"],
@@ -104,23 +99,23 @@ class Edited(unittest.TestCase):
         self.here = example("strength")
 
     def said(self, *lines):
-        """What is said of the last of some lines."""
+        """The answer to the last of some lines."""
         return [self.here.answer(line) for line in lines][-1]
 
     def test_undo_and_redo(self):
         self.said("set-attr #1 a 1", "set-attr #1 b 1", "dead", "set-attr #1 c 1")
         self.assertEqual(self.said("undo 2"), ["undone: set-attr #1 c 1", "undone: set-attr #1 b 1"])
-        self.assertEqual(self.said("redo"), ["done again: set-attr #1 b 1"])
+        self.assertEqual(self.said("redo"), ["redone: set-attr #1 b 1"])
         self.assertEqual(self.here.script(), b"set-attr #1 a 1\nset-attr #1 b 1\nreport dead\n")
-        self.assertEqual(self.said("dead", "redo 5"), ["done again: set-attr #1 c 1"])
+        self.assertEqual(self.said("dead", "redo 5"), ["redone: set-attr #1 c 1"])
         self.assertEqual(self.said("undo 9")[-1], "undone: set-attr #1 a 1")
         self.said("set-attr #1 d 1")
         self.assertIn("nothing was undone", self.said("redo")[0])
 
     def test_named_marks(self):
         self.said("begin one", "set-attr #1 a 1", "begin", "begin two", "set-attr #1 b 1")
-        self.assertIn("is called `three`: there are `one`, `two`", self.said("diff three")[0])
-        self.assertIn("that is open", self.said("begin one")[0])
+        self.assertIn("is named `three`: the named marks are `one`, `two`", self.said("diff three")[0])
+        self.assertIn("an open mark has that name", self.said("begin one")[0])
         self.assertEqual(len(self.said("diff one")), 3)
         self.assertEqual(self.said("diff start"), self.said("diff one"))
         self.assertEqual(self.said("rollback one"), ["ok"])
@@ -138,7 +133,7 @@ class Edited(unittest.TestCase):
         self.assertIn("#8", numbers["arith.*"])
         self.assertEqual(numbers["#8"], ["#8"])
         self.assertEqual(len(self.said("find %v8.0")), 3)
-        self.assertEqual(self.said("find mul"), ["`mul` stands nowhere"])
+        self.assertEqual(self.said("find mul"), ["no line contains `mul`"])
 
     def test_function_of_a_change(self):
         self.said('insert end #0 0 "test.c"() : () -> ()', "set-attr #8 k 1", "set-attr #16 k 1", "erase #13")
@@ -219,6 +214,17 @@ class CommandLine(unittest.TestCase):
             it = self.ran(*given, tool=tool)
             self.assertEqual((it.returncode, it.stdout, it.stderr[:6]), (2, "", "usage:"))
 
+    def test_unknown_command(self):
+        """A word that is neither a command nor a file gets the list of commands, and the closest one."""
+        for word, more in (("frob", "\n"), ("redcue", "; did you mean `reduce`?\n")):
+            it = self.ran(word)
+            self.assertEqual((it.returncode, it.stdout), (2, ""))
+            end = f"found `{word}`, expected a command ({', '.join(main.COMMANDS)}) or the file of a module{more}"
+            self.assertTrue(it.stderr.endswith(end), it.stderr)
+        self.assertIn("write one of open, reduce", self.ran().stderr)
+        it = self.ran("none.mlir")
+        self.assertEqual((it.returncode, it.stderr), (4, "mlir-work: none.mlir: No such file or directory\n"))
+
     def test_status(self):
         name = str(ROOT / "examples/fold.mlir")
         for text, status in (("dead\n", 0), ("erase #99\n", 1), ("dead #99\nquit\n", 1), ("", 0)):
@@ -235,8 +241,8 @@ class CommandLine(unittest.TestCase):
 
     def test_each_is_described(self):
         with contextlib.redirect_stdout(io.StringIO()) as out, self.assertRaises(SystemExit):
-            mlir_work.main(["-h"])
-        for word in mlir_work.COMMANDS:
+            main.main(["-h"])
+        for word in main.COMMANDS:
             self.assertIn(f"\n    {word} ", out.getvalue())
 
 
@@ -244,7 +250,7 @@ class ThroughOpt(unittest.TestCase):
     """An mlir-opt that prints one module, or refuses."""
 
     def opened(self, text, tool):
-        """What is said of a file, and the status."""
+        """The output for a file, the status, and the options given to mlir-opt."""
         with tempfile.TemporaryDirectory() as folder:
             name, opt = pathlib.Path(folder, "m.mlir"), pathlib.Path(folder, "opt")
             name.write_text(text)

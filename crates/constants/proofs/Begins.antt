@@ -1,4 +1,4 @@
--- A table that was made in order knows what the walk finds.
+-- A table that was built in order has the values that the walk finds.
 use Rattle.std.proofs.Common.{◌≡◌, ℕ, List, [], ◌∷◌, Option, Some, None, inl, inr, refl, sym, ap, ◌∙◌, subst, map}
 use Rattle.ir_event.specs.trees.Ids.{ids, HasDistinctIds}
 use Rattle.ir_event.specs.trees.Meaning.{Operation}
@@ -6,7 +6,7 @@ use Rattle.ir_event.specs.tree_laws.Members.{In}
 use Rattle.std.specs.Ordering.{nat_cmp}
 use Rattle.std.specs.Map.{lookup}
 use Rattle.std.specs.BTreeMap.{is_at}
-use Rattle.id_map.specs.Map.{IdMap}
+use Rattle.listeners_support.specs.Map.{IdMap}
 use Rattle.ir_event.specs.types.declared.bits.Bits.{Bits}
 use Rattle.dialects_int.specs.Folds.{known_of}
 use Rattle.ir_event.specs.types.Terms.{name_term, type_term, attr_term}
@@ -23,7 +23,7 @@ use Rattle.ir_event.proofs.Flat.{heads_ids}
 use Rattle.constants.proofs.Ordering.{ordered_tree}
 use Rattle.constants.specs.Tables.{known_in, look_in, WalkedIds}
 
--- along the operations that are there
+-- along the operations of the module
 walked_heads : (ops : ℕ → Option Header) (hs : List Header) (a b : Facts) → ((h : Header) → In h hs → ops h.id ≡ Some h) → WalkedIds ops (map (λ (h : Header). h.id) hs) a b → (y : ℕ) → b y ≡ walk hs a y
 walked_heads ops [] a b there w y = w y
 walked_heads ops (h ∷ hs) a b there w y =
@@ -36,7 +36,7 @@ walked_facts t xs a b d ordered is vacant w y =
     walked_heads (look t) (heads t) a b (λ h i. sym (look_heads h.id t) ∙ (listed [] (heads t) h ordered i).0) (subst (λ l. WalkedIds (look t) l a b) (is ∙ sym (heads_ids t)) w) y
     ∙ ap (λ (z : Facts). walk (heads t) z y) (λ i z. vacant z i)
 
--- a table that was made for a world's module
+-- a table built for a module
 pub begun : (w : World) (a b : Facts) → ((y : ℕ) → a y ≡ None) → WalkedIds (look_in w) (ids w.store.module_of.tree) a b → HasDistinctIds (module_in w).tree × ((y : ℕ) → b y ≡ facts_of (module_in w).tree y)
 begun w a b vacant walked =
     let same : ids (module_in w).tree ≡ ids w.store.module_of.tree = map_ids (name_term w.ctx) (type_term w.ctx) (attr_term w.ctx) w.store.module_of.tree in

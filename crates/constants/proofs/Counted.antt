@@ -1,4 +1,4 @@
--- The loops of both phases, with their counts of looks.
+-- The loops of both phases, and their counts of looks.
 use Rattle.std.proofs.Common.{◌≡◌, ◌<◌, ◌≤◌, ◌+◌, ℕ, List, [], ◌∷◌, ◌++◌, length, get_or, take, Option, ◌⊎◌, inl, inr, refl, sym, ap, ◌∙◌, subst, arith}
 use Rattle.std.proofs.lemmas.List.{take_more, take-append-le, take_all}
 use Rattle.ir_event.specs.tree_laws.Members.{In}
@@ -14,7 +14,7 @@ pub total_append : (g : ℕ → ℕ) (xs ys : List ℕ) → total g (xs ++ ys) �
 total_append g [] ys = omega arith
 total_append g (x ∷ xs) ys = let h = total_append g xs ys in omega (arith, h)
 
--- a trail that is longer costs no less
+-- a longer trail costs no less
 total_front : (g : ℕ → ℕ) (trail more : List ℕ) (i e : ℕ) → i < length trail → e ≡ get_or trail i e → total g (take i trail) + g e ≤ total g (trail ++ more)
 total_front g [] more i e lt is = absurd (omega (arith, lt))
 total_front g (x ∷ xs) more zero e lt is = let h : ◌≡◌ {A = ℕ} (g e) (g x) = ap g is in omega (arith, h)
@@ -29,7 +29,7 @@ total_next g trail more i e lt is =
     last : (n : ℕ) → n + 0 ≡ n
     last n = omega arith
 
--- one more of a list
+-- one more item of a list
 taken_more : (xs : List ℕ) (i e y : ℕ) → i < length xs → e ≡ get_or xs i e → In y (take (i + 1) xs) → In y (take i xs) ⊎ (y ≡ e)
 taken_more xs i e y lt is h =
     let split : take (i + 1) xs ≡ take i xs ++ e ∷ [] = take_more xs i e lt ∙ ap (λ z. take i xs ++ z ∷ []) (sym is) in
@@ -51,19 +51,19 @@ taken_last xs i e y lt is h =
     let split : take (i + 1) xs ≡ take i xs ++ e ∷ [] = take_more xs i e lt ∙ ap (λ z. take i xs ++ z ∷ []) (sym is) in
     subst (In y) (sym split) (in_right y (take i xs) (e ∷ []) (inl h))
 
--- forgetting one after another
+-- forgetting in order
 pub forgot_next : (D E F : Type 0) (xs : List ℕ) (i e : ℕ) (a b c : Facts) (l m n : List ℕ) → D → E → i < length xs → e ≡ get_or xs i e → Forgotten D (λ y. In y (take i xs)) a b l m → Forgotten E (λ y. y ≡ e) b c m n
     → Forgotten F (λ y. In y (take (i + 1) xs)) a c l n
 forgot_next D E F xs i e a b c l m n d f lt is one two =
     forgot_more D E F (λ y. In y (take i xs)) (λ y. y ≡ e) (λ y. In y (take (i + 1) xs)) a b c l m n d (λ z. f) (λ y. taken_within xs i e y lt is) (λ y. taken_last xs i e y lt is) (λ z y. taken_more xs i e y lt is) one two
 
--- or breaking off
+-- the loop breaks off
 pub forgot_broken : (D E F : Type 0) (xs : List ℕ) (i e : ℕ) (a b c : Facts) (l m n : List ℕ) → D → (F → ⊥) → i < length xs → e ≡ get_or xs i e → Forgotten D (λ y. In y (take i xs)) a b l m → Forgotten E (λ y. y ≡ e) b c m n
     → Forgotten F (λ y. In y xs) a c l n
 forgot_broken D E F xs i e a b c l m n d not_done lt is one two =
     forgot_more D E F (λ y. In y (take i xs)) (λ y. y ≡ e) (λ y. In y xs) a b c l m n d (λ z. absurd (not_done z)) (λ y. taken_before xs i y) (λ y h. subst (λ z. In z xs) (sym h) (in_read xs i e lt is)) (λ z. absurd (not_done z)) one two
 
--- or at the end
+-- the loop reaches the end
 pub forgot_all : (D F : Type 0) (xs : List ℕ) (i : ℕ) (a b : Facts) (l m : List ℕ) → D → length xs ≤ i → Forgotten D (λ y. In y (take i xs)) a b l m → Forgotten F (λ y. In y xs) a b l m
 forgot_all D F xs i a b l m d le f = record {
   more = f.more;
@@ -117,7 +117,7 @@ module _ {W : Type 0} (ops : W → ℕ → Option Header) (uses : W → ℕ → 
   pub forgets_end : (x : ℕ) (start table : Facts) (trail : List ℕ) (next : ℕ) (first w : W) (none looks : ℕ) → length trail ≤ next → ForgetsFrom x start table trail next first w none looks → looks ≤ none + total (λ d. 1 + uses first d) trail
   forgets_end x start table trail next first w none looks le b = subst (λ l. looks ≤ none + total (λ d. 1 + uses first d) l) (take_all next trail le) b.few
 
-  -- trying one after another
+  -- folding in order
   pub record LearnsAll (xs : List ℕ) (i : ℕ) (start table : Facts) (l trail : List ℕ) (first w : W) (none looks : ℕ) : Type 0 where
     pub learnt : ((y : ℕ) → In y xs → IsThere (ops first) y) → Learnt (Unit {0}) (ops first) (λ y. In y (take i xs)) start table l trail
     pub world : w ≡ first

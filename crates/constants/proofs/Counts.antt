@@ -1,4 +1,4 @@
--- How many uses there are, counted along the operations of a tree.
+-- The number of uses, counted along the operations of a tree.
 use Rattle.std.proofs.Common.{◌≡◌, ◌≤◌, ℕ, ◌+◌, List, [], ◌∷◌, ◌++◌, length, Bool, true, false, refl, sym, ap, arith, cond, eqb, length-append}
 use Rattle.ir_event.specs.types.Terms.{TypeTerm, AttrTerm}
 use Rattle.ir_event.specs.trees.declared.value.Value.{Value}

@@ -1,4 +1,4 @@
--- The operations of a tree in a list, where one is taken or shifted.
+-- The list of a tree's operations after one is removed or moved.
 use Rattle.std.proofs.Common.{◌≡◌, ◌≢◌, ℕ, ◌+◌, List, [], ◌∷◌, ◌++◌, Bool, Option, Some, None, ◌⊎◌, inl, inr, refl, sym, ap, ◌∙◌, subst, cond, eqb, map}
 use Rattle.std.specs.Option.{option_map}
 use Rattle.std.proofs.lemmas.Bool.{cases_eq}
@@ -24,8 +24,8 @@ use Rattle.constants.specs.Walk.{look_among, AreOrdered}
 use Rattle.constants.proofs.Walks.{node_there}
 use Rattle.constants.proofs.Looked.{among_append, look_heads}
 
--- the operation that is found stands at a place; the heads are its own and those inside it between a front and a
--- back, and what is left is these two
+-- the operation is found; its head and the heads of its subtree are in the list between `front` and `back`, and these
+-- two are the list without them
 record HeadCut (x : ℕ) (found : Option Operation) (whole left : List Header) : Type 0 where
   here : Operation
   is : found ≡ Some here
@@ -95,28 +95,28 @@ no_heads (region (block args (next o os)) rs) h = absurd h
 one_head : (o : Operation) → HoldNone (regions o) → heads o ≡ head o ∷ []
 one_head (op h rs) e = ap (λ l. h ∷ l) (no_heads rs e)
 
--- an operation of another id is looked for past this one
+-- a lookup of another id skips this operation
 node_past : (xs : List Header) (n : Header) (ys : List Header) (y : ℕ) → y ≢ n.id → look_among (xs ++ n ∷ ys) y ≡ look_among (xs ++ ys) y
 node_past [] n ys y ne = node_there n ys y ne
 node_past (m ∷ xs) n ys y ne = ap (λ r. cond (eqb y m.id) (Some m) r) (node_past xs n ys y ne)
 
-not_met : (met : List ℕ) (hs : List Header) (y : ℕ) → AreOrdered met hs → In y met → look_among hs y ≡ None
-not_met met [] y o h = refl
-not_met met (n ∷ hs) y o h = elim (cases_eq y n.id) [
-  | inl e ↦ absurd (o.0 (subst (λ z. In z met) e h))
-  | inr ne ↦ node_there n hs y ne ∙ not_met (n.id ∷ met) hs y o.2 (inr h)
+not_visited : (visited : List ℕ) (hs : List Header) (y : ℕ) → AreOrdered visited hs → In y visited → look_among hs y ≡ None
+not_visited visited [] y o h = refl
+not_visited visited (n ∷ hs) y o h = elim (cases_eq y n.id) [
+  | inl e ↦ absurd (o.0 (subst (λ z. In z visited) e h))
+  | inr ne ↦ node_there n hs y ne ∙ not_visited (n.id ∷ visited) hs y o.2 (inr h)
 ]
 
-ordered_fresh : (met : List ℕ) (xs : List Header) (n : Header) (ys : List Header) → AreOrdered met (xs ++ n ∷ ys) → In n.id met → ⊥
-ordered_fresh met [] n ys o h = o.0 h
-ordered_fresh met (m ∷ xs) n ys o h = ordered_fresh (m.id ∷ met) xs n ys o.2 (inr h)
+ordered_fresh : (visited : List ℕ) (xs : List Header) (n : Header) (ys : List Header) → AreOrdered visited (xs ++ n ∷ ys) → In n.id visited → ⊥
+ordered_fresh visited [] n ys o h = o.0 h
+ordered_fresh visited (m ∷ xs) n ys o h = ordered_fresh (m.id ∷ visited) xs n ys o.2 (inr h)
 
--- an operation that was left out is gone
-node_gone : (met : List ℕ) (xs : List Header) (n : Header) (ys : List Header) → AreOrdered met (xs ++ n ∷ ys) → look_among (xs ++ ys) n.id ≡ None
-node_gone met [] n ys o = not_met (n.id ∷ met) ys n.id o.2 (inl refl)
-node_gone met (m ∷ xs) n ys o = elim (cases_eq n.id m.id) [
-  | inl e ↦ absurd (ordered_fresh (m.id ∷ met) xs n ys o.2 (inl e))
-  | inr ne ↦ node_there m (xs ++ ys) n.id ne ∙ node_gone (m.id ∷ met) xs n ys o.2
+-- an operation that was left out isn't found
+node_gone : (visited : List ℕ) (xs : List Header) (n : Header) (ys : List Header) → AreOrdered visited (xs ++ n ∷ ys) → look_among (xs ++ ys) n.id ≡ None
+node_gone visited [] n ys o = not_visited (n.id ∷ visited) ys n.id o.2 (inl refl)
+node_gone visited (m ∷ xs) n ys o = elim (cases_eq n.id m.id) [
+  | inl e ↦ absurd (ordered_fresh (m.id ∷ visited) xs n ys o.2 (inl e))
+  | inr ne ↦ node_there m (xs ++ ys) n.id ne ∙ node_gone (m.id ∷ visited) xs n ys o.2
 ]
 
 none_left : (a b : Option Header) → first_of a b ≡ None → a ≡ None
@@ -127,15 +127,15 @@ none_right : (a b : Option Header) → first_of a b ≡ None → b ≡ None
 none_right None b e = e
 none_right (Some m) b e = absurd (let f : Some m ≡ None = e in cc)
 
--- of two lists in order, one has the operation at most
-apart : (met : List ℕ) (xs ys : List Header) (y : ℕ) → AreOrdered met (xs ++ ys) → (look_among xs y ≡ None) ⊎ (look_among ys y ≡ None)
-apart met [] ys y o = inl refl
-apart met (n ∷ xs) ys y o = elim (cases_eq y n.id) [
-  | inl e ↦ inr (none_right (look_among xs y) (look_among ys y) (sym (among_append xs ys y) ∙ not_met (n.id ∷ met) (xs ++ ys) y o.2 (inl e)))
-  | inr ne ↦ elim (apart (n.id ∷ met) xs ys y o.2) [ inl h ↦ inl (node_there n xs y ne ∙ h) | inr h ↦ inr h ]
+-- only one of two lists in order has the operation
+apart : (visited : List ℕ) (xs ys : List Header) (y : ℕ) → AreOrdered visited (xs ++ ys) → (look_among xs y ≡ None) ⊎ (look_among ys y ≡ None)
+apart visited [] ys y o = inl refl
+apart visited (n ∷ xs) ys y o = elim (cases_eq y n.id) [
+  | inl e ↦ inr (none_right (look_among xs y) (look_among ys y) (sym (among_append xs ys y) ∙ not_visited (n.id ∷ visited) (xs ++ ys) y o.2 (inl e)))
+  | inr ne ↦ elim (apart (n.id ∷ visited) xs ys y o.2) [ inl h ↦ inl (node_there n xs y ne ∙ h) | inr h ↦ inr h ]
 ]
 
--- a stretch of a list that moves to the front
+-- a part of a list moves to the front
 moved : (f hs b : List Header) (y : ℕ) → AreOrdered [] (f ++ (hs ++ b)) → look_among (f ++ (hs ++ b)) y ≡ first_of (look_among hs y) (look_among (f ++ b) y)
 moved f hs b y o =
     among_append f (hs ++ b) y

@@ -1,11 +1,11 @@
--- What events leave of the operations of a tree.
+-- The operations of a tree after an event.
 use Rattle.std.proofs.Common.{◌≡◌, ℕ, List, [], ◌∷◌, Bool, true, true≢false, not, Option, Some, None, inl, inr, refl, sym, ap, ◌∙◌, subst, cond, eqb, slice_get}
 use Rattle.std.specs.Option.{option_map}
 use Rattle.std.specs.List.{list_all}
 use Rattle.std.specs.Prelude.{option_and_then}
 use Rattle.std.proofs.lemmas.Bool.{eq-eqb, ne_eqb, cases_eq}
 use Rattle.ir_event.specs.types.Terms.{name_term, attr_term}
-use Rattle.ir_event.specs.types.Things.{Things}
+use Rattle.ir_event.specs.types.Things.{ContextModel}
 use Rattle.ir_event.specs.types.Words.{is_table}
 use Rattle.ir_event.specs.trees.declared.value.Value.{Value}
 use Rattle.ir_event.specs.trees.declared.value.Value.TheVariants.{Result}
@@ -74,11 +74,11 @@ not_left x (v ∷ vs) e (inl q) =
     true≢false (sym b.0 ∙ ap (λ w. not (eqb (owner_of w).0 x)) (sym q) ∙ ap not (eq-eqb x x refl))
 not_left x (v ∷ vs) e (inr h) = not_left x vs (both (not (eqb (owner_of v).0 x)) (list_all (λ w. not (eqb (owner_of w).0 x)) vs) e).1 h
 
--- an operation is there, and the others are as they were
+-- operation x is in the new module, and the others are unchanged
 abbrev pub ChangedAt : ℕ → Module → Module → Type 0
 ChangedAt x m n = IsThere (look n.tree) x × SameBut x (look m.tree) (look n.tree)
 
-module _ (c : Things) (m n : Module) where
+module _ (c : ContextModel) (m n : Module) where
   pub ordered_before : (e : Event) → Step c e m n → AreOrdered [] (heads m.tree)
   ordered_before e s = ordered_tree m.tree s.before.distinct s.before.formed.visible
 
@@ -105,7 +105,7 @@ module _ (c : Things) (m n : Module) where
   pub shift_same : (x : ℕ) (old new : Place) → Step c (Shift x old new) m n → (y : ℕ) → look n.tree y ≡ look m.tree y
   shift_same x old new s = shifted_same m n x (ordered_before (Shift x old new) s) s.before.distinct is_table old new (ordered_after (Shift x old new) s) s.after.distinct s.changes
 
-  -- nobody uses what is taken
+  -- a removed operation has no users
   taken_unused : (x : ℕ) (place : Place) (fresh : Bool) → Step c (Take x place fresh) m n → (y : ℕ) → Uses (look m.tree) x y → ⊥
   taken_unused x place fresh s y u = go (find y m.tree) refl u.is
     where
@@ -117,7 +117,7 @@ module _ (c : Things) (m n : Module) where
           let here : leaves x h ≡ true = (both (leaves x h) _ all).0 in
           not_left x h.operands here (subst (λ (k : Header). In (Result x 0) k.operands) (sym one) u.operand)
 
-  -- to forget what is taken is all there is to do
+  -- forgetting the removed operation is enough
   pub taken_local : (x : ℕ) (place : Place) (fresh : Bool) (t u : Facts) → Step c (Take x place fresh) m n → ((y : ℕ) → u y ≡ with_fact x None t y) → AreLocal (look m.tree) t → AreLocal (look n.tree) u
   taken_local x place fresh t u s is local y = elim (cases_eq y x) [
     | inl e ↦ ap u e ∙ is x ∙ put_same x None t ∙ sym (ap (λ o. folded_if o u) (ap (look n.tree) e ∙ taken_gone m n x ordered s.before.distinct place fresh s.changes))

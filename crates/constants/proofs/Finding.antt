@@ -1,4 +1,4 @@
--- What was learnt in a world is learnt in the world that it is.
+-- A fact learned in an IR state is a fact of an equal IR state.
 use Rattle.std.proofs.Common.{◌≡◌, ℕ, Option, List, subst}
 use Rattle.ir_event.specs.tree_laws.Members.{In}
 use Rattle.constants.specs.Facts.{Header, Facts}

@@ -1,4 +1,4 @@
--- The forms in which the code of the first phase has its facts.
+-- The facts of the first phase in the forms that the code needs.
 use Rattle.std.proofs.Common.{◌≡◌, ◌<◌, ◌≤◌, ◌+◌, ℕ, List, [], ◌∷◌, ◌++◌, length, get_or, take, Bool, true, false, true≢false, Option, Some, None, refl, sym, ap, ◌∙◌, subst, cond, arith}
 use Rattle.std.proofs.lemmas.List.{append_assoc, append-nil, take_all, length_push}
 use Rattle.ir_event.specs.types.declared.bits.Bits.{Bits}
@@ -19,7 +19,7 @@ known_none o v e h = sym e ∙ ap known_of h
 pub known_some : (o : Option Bits) (v : Option Known) (b : Bits) → known_of o ≡ v → o ≡ Some b → v ≡ Some (b.kind, b.value)
 known_some o v b e h = sym e ∙ ap known_of h
 
--- the users of uses that are read one after another: those so far, the next one, and the others
+-- the users of a list of uses: those so far, the next one, and the others
 pub users_length : (us : List (ℕ × ℕ)) → length (users_of us) ≡ length us
 users_length [] = refl
 users_length (u ∷ us) = ap (λ n. suc n) (users_length us)

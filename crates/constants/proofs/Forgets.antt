@@ -25,7 +25,7 @@ once_append (x ∷ xs) ys a b apart = (
 pub in_one : (y x : ℕ) → In y (x ∷ []) → y ≡ x
 in_one y x h = elim h [ inl e ↦ e | inr h2 ↦ absurd h2 ]
 
--- the element at a place is in the list
+-- the item at an index is in the list
 pub in_read : (xs : List ℕ) (i x : ℕ) → i < length xs → x ≡ get_or xs i x → In x xs
 in_read [] i x lt e = absurd (omega (arith, lt))
 in_read (y ∷ ys) zero x lt e = inl e
@@ -119,7 +119,7 @@ pub forgot_below : (D : Type 0) (P : ℕ → Type 0) (old new : Facts) (l m : Li
 forgot_below D P old new l m f y v k = elim (in_or_not y f.more) [ inl h ↦ absurd (not_both (new y) v (f.gone y h) k) | inr out ↦ sym (f.kept y out) ∙ k ]
 
 module _ (ops : ℕ → Option Header) where
-  -- an operation none of whose operands was forgotten gives what it gave
+  -- an operation none of whose operands was forgotten has the same fold
   forgot_value : (D : Type 0) (P : ℕ → Type 0) (old new : Facts) (l m : List ℕ) (f : Forgotten D P old new l m) → (y : ℕ) → ((d : ℕ) → In d f.more → Uses ops d y → ⊥) → value ops new y ≡ value ops old y
   forgot_value D P old new l m f y far = value_uses ops new old y (λ d u. f.kept d (λ h. far d h u))
 
@@ -159,7 +159,7 @@ module _ (ops : ℕ → Option Header) where
     pub below : (y : ℕ) (v : Known) → table y ≡ Some v → start y ≡ Some v
     pub kept : (was : ℕ → Option Header) → SameBut x was ops → AreLocal was start → Forgetting ops x table trail (drop next trail)
 
-  -- the trail alone
+  -- the trail at the start
   pub trail_start : (D : Type 0) (x : ℕ) (start table : Facts) (l trail : List ℕ) → l ≡ [] → Forgotten D (λ y. y ≡ x) start table l trail → IsTrail ops (λ y. y ≡ x) start trail
   trail_start D x start table l trail empty f =
       let is : trail ≡ f.more = f.is ∙ ap (λ r. r ++ f.more) empty in

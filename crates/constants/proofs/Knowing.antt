@@ -1,4 +1,4 @@
--- To know more is to fold to more, and what follows from itself is what the walk finds.
+-- Folding is monotone in the known values, and facts that follow from each other are those that the walk finds.
 use Rattle.std.proofs.Common.{◌≡◌, ℕ, List, [], ◌∷◌, Option, Some, None, inl, inr, refl, sym, ap, ◌∙◌, subst, cond, eqb}
 use Rattle.std.proofs.lemmas.Bool.{eq-eqb, ne_eqb, cases_eq}
 use Rattle.ir_event.specs.trees.declared.value.Value.{Value}
@@ -7,7 +7,7 @@ use Rattle.ir_event.specs.tree_laws.Members.{In}
 use Rattle.dialects_int.specs.Folds.{Known, KnowsMore}
 use Rattle.dialects_int.proofs.KnowingMore.{knowing_more}
 use Rattle.constants.specs.Facts.{Header, Facts, known, knowns, folded, folded_if, value}
-use Rattle.constants.specs.Walk.{nothing, with_fact, walk, look_among, AllMet, AreOrdered, met_after}
+use Rattle.constants.specs.Walk.{nothing, with_fact, walk, look_among, AllVisited, AreOrdered, visited_after}
 use Rattle.constants.specs.Trails.{Uses, Follows}
 use Rattle.constants.proofs.Walks.{not_both, none_if_not, put_same, put_other, node_here, node_there, node_outside, folded_knowns}
 use Rattle.ir_event.proofs.of_tree_laws.Facts.{in_or_not}
@@ -38,7 +38,7 @@ folded_below : (n : Header) (a b : Facts) (v : Known) → ((d : ℕ) (w : Known)
 folded_below n a b v le h = knowing_more n.name n.properties (knowns a n.operands) (knowns b n.operands) n.results v (knowns_below a b n.operands le) h
 
 module _ (ops : ℕ → Option Header) where
-  -- what an operation folds to depends on what is known of its operands alone
+  -- the fold of an operation depends only on the known values of its operands
   pub value_uses : (a b : Facts) (y : ℕ) → ((d : ℕ) → Uses ops d y → a d ≡ b d) → value ops a y ≡ value ops b y
   value_uses a b y same = go (ops y) refl
     where
@@ -46,7 +46,7 @@ module _ (ops : ℕ → Option Header) where
       go None e = refl
       go (Some n) e = folded_knowns n a b (knowns_uses a b n.operands (λ d h. same d (record { here = n; is = e; operand = h })))
 
-  -- to know more never changes what it folds to
+  -- more known values never change a fold
   pub value_more : (a b : Facts) (y : ℕ) (v : Known) → ((d : ℕ) (w : Known) → a d ≡ Some w → b d ≡ Some w) → value ops a y ≡ Some v → value ops b y ≡ Some v
   value_more a b y v le = go (ops y)
     where
@@ -54,16 +54,16 @@ module _ (ops : ℕ → Option Header) where
       go None h = h
       go (Some n) h = folded_below n a b v (λ d w k. le d w) h
 
-  -- to know less gives nothing new
+  -- fewer known values give no new fold
   pub value_less : (a b : Facts) (y : ℕ) → ((d : ℕ) (w : Known) → a d ≡ Some w → b d ≡ Some w) → value ops b y ≡ None → value ops a y ≡ None
   value_less a b y le none = none_if_not (value ops a y) (λ v h. not_both (value ops b y) v none (value_more a b y v le h))
 
--- one of a list of operations in order
-pub listed : (met : List ℕ) (hs : List Header) (n : Header) → AreOrdered met hs → In n hs → (look_among hs n.id ≡ Some n) × (In n.id met → ⊥)
-listed met [] n o h = absurd h
-listed met (m ∷ hs) n o h = elim h [
-  | inl e ↦ (ap (λ (z : Header). look_among (m ∷ hs) z.id) e ∙ node_here m hs ∙ ap Some (sym e), λ g. o.0 (subst (λ (z : Header). In z.id met) e g))
-  | inr k ↦ (let r = listed (m.id ∷ met) hs n o.2 k in (node_there m hs n.id (λ e. r.1 (inl e)) ∙ r.0, λ g. r.1 (inr g)))
+-- an operation of an ordered list
+pub listed : (visited : List ℕ) (hs : List Header) (n : Header) → AreOrdered visited hs → In n hs → (look_among hs n.id ≡ Some n) × (In n.id visited → ⊥)
+listed visited [] n o h = absurd h
+listed visited (m ∷ hs) n o h = elim h [
+  | inl e ↦ (ap (λ (z : Header). look_among (m ∷ hs) z.id) e ∙ node_here m hs ∙ ap Some (sym e), λ g. o.0 (subst (λ (z : Header). In z.id visited) e g))
+  | inr k ↦ (let r = listed (m.id ∷ visited) hs n o.2 k in (node_there m hs n.id (λ e. r.1 (inl e)) ∙ r.0, λ g. r.1 (inr g)))
 ]
 
 pub among_in : (hs : List Header) (y : ℕ) (n : Header) → look_among hs y ≡ Some n → In n hs × (n.id ≡ y)
@@ -75,32 +75,32 @@ among_in (m ∷ hs) y n e = elim (cases_eq y m.id) [
   | inr ne ↦ (let r = among_in hs y n (sym (node_there m hs y ne) ∙ e) in (inr r.0, r.1))
 ]
 
-met_operand : (met : List ℕ) (vs : List Value) (d k : ℕ) → AllMet met vs → In (Result d k) vs → In d met
-met_operand met [] d k all h = absurd h
-met_operand met (Result x j ∷ vs) d k all (inl e) = (let is : d ≡ x = cc in subst (λ z. In z met) (sym is) all.0)
-met_operand met (Arg x r j ∷ vs) d k all (inl e) = absurd cc
-met_operand met (Result x j ∷ vs) d k all (inr h) = met_operand met vs d k all.1 h
-met_operand met (Arg x r j ∷ vs) d k all (inr h) = met_operand met vs d k all h
+visited_operand : (visited : List ℕ) (vs : List Value) (d k : ℕ) → AllVisited visited vs → In (Result d k) vs → In d visited
+visited_operand visited [] d k all h = absurd h
+visited_operand visited (Result x j ∷ vs) d k all (inl e) = (let is : d ≡ x = cc in subst (λ z. In z visited) (sym is) all.0)
+visited_operand visited (Arg x r j ∷ vs) d k all (inl e) = absurd cc
+visited_operand visited (Result x j ∷ vs) d k all (inr h) = visited_operand visited vs d k all.1 h
+visited_operand visited (Arg x r j ∷ vs) d k all (inr h) = visited_operand visited vs d k all h
 
-pub operand_met : (met : List ℕ) (vs : List Value) (d k : ℕ) → AllMet met vs → In (Result d k) vs → In d met
-operand_met = met_operand
+pub operand_visited : (visited : List ℕ) (vs : List Value) (d k : ℕ) → AllVisited visited vs → In (Result d k) vs → In d visited
+operand_visited = visited_operand
 
--- facts each of which follows from the others are among those that the walk finds
-follow_along : (t : Facts) (met : List ℕ) (hs : List Header) (s : Facts) → AreOrdered met hs → ((y : ℕ) (v : Known) → In y met → t y ≡ Some v → s y ≡ Some v)
-    → ((n : Header) → In n hs → (v : Known) → t n.id ≡ Some v → folded n t ≡ Some v) → (y : ℕ) (v : Known) → In y (met_after met hs) → t y ≡ Some v → walk hs s y ≡ Some v
-follow_along t met [] s o le follows y v h e = le y v h e
-follow_along t met (n ∷ hs) s o le follows y v h e =
-    follow_along t (n.id ∷ met) hs (with_fact n.id (folded n s) s) o.2
+-- if each fact follows from the others, the facts are among those that the walk finds
+follow_along : (t : Facts) (visited : List ℕ) (hs : List Header) (s : Facts) → AreOrdered visited hs → ((y : ℕ) (v : Known) → In y visited → t y ≡ Some v → s y ≡ Some v)
+    → ((n : Header) → In n hs → (v : Known) → t n.id ≡ Some v → folded n t ≡ Some v) → (y : ℕ) (v : Known) → In y (visited_after visited hs) → t y ≡ Some v → walk hs s y ≡ Some v
+follow_along t visited [] s o le follows y v h e = le y v h e
+follow_along t visited (n ∷ hs) s o le follows y v h e =
+    follow_along t (n.id ∷ visited) hs (with_fact n.id (folded n s) s) o.2
     (λ z w g k. elim (cases_eq z n.id) [
       | inl q ↦ ap (with_fact n.id (folded n s) s) q
           ∙ put_same n.id (folded n s) s
-          ∙ folded_below n t s w (λ d u i j. le d u (met_operand met n.operands d 0 o.1 i) j) (follows n (inl refl) w (sym (ap t q) ∙ k))
+          ∙ folded_below n t s w (λ d u i j. le d u (visited_operand visited n.operands d 0 o.1 i) j) (follows n (inl refl) w (sym (ap t q) ∙ k))
       | inr ne ↦ put_other n.id z (folded n s) s ne ∙ le z w (elim g [ inl q ↦ absurd (ne q) | inr g2 ↦ g2 ]) k
     ])
     (λ m i. follows m (inr i)) y v h e
 
 pub follows_walk : (hs : List Header) (t : Facts) → AreOrdered [] hs → Follows (look_among hs) t → (y : ℕ) (v : Known) → t y ≡ Some v → walk hs nothing y ≡ Some v
-follows_walk hs t o follows y v e = elim (in_or_not y (met_after [] hs)) [
+follows_walk hs t o follows y v e = elim (in_or_not y (visited_after [] hs)) [
   | inl h ↦ follow_along t [] hs nothing o (λ z w g k. absurd g) (λ n i w k. sym (ap (λ m. folded_if m t) (listed [] hs n o i).0) ∙ follows n.id w k) y v h e
   | inr out ↦ (let f : None ≡ Some v = sym (ap (λ m. folded_if m t) (node_outside [] hs y out)) ∙ follows y v e in absurd cc)
 ]

@@ -1,4 +1,4 @@
--- The forms in which the code of the second phase has its facts.
+-- The facts of the second phase in the forms that the code needs.
 use Rattle.std.proofs.Common.{◌≡◌, ℕ, List, [], ◌∷◌, ◌++◌, Bool, true, false, true≢false, Option, Some, None, inl, inr, refl, sym, ap, ◌∙◌, cond}
 use Rattle.std.specs.Bool.{OnTrue}
 use Rattle.dialects_int.specs.Folds.{Known}
@@ -21,19 +21,19 @@ pub note_refused : (x : ℕ) (v : Known) (old new : Facts) (l : List ℕ) → ((
 note_refused x v old new l is = inr (never false refl, refl, inr is)
 
 module _ (ops : ℕ → Option Header) where
-  -- what was known is not tried
+  -- an operation with a known value isn't folded
   pub learnt_known : (D : Type 0) (x : ℕ) (v : Known) (t : Facts) (l : List ℕ) → t x ≡ Some v → Learnt D ops (λ y. y ≡ x) t t l l
   learnt_known D x v t l e = learnt_nothing ops D (λ y. y ≡ x) t l (λ d y h k. absurd (not_both (t y) v k (ap t h ∙ e)))
 
-  -- what gives nothing
+  -- an operation without a fold
   pub learnt_none : (D : Type 0) (x : ℕ) (t : Facts) (l : List ℕ) → value ops t x ≡ None → Learnt D ops (λ y. y ≡ x) t t l l
   learnt_none D x t l e = learnt_nothing ops D (λ y. y ≡ x) t l (λ d y h k. ap (value ops t) h ∙ e)
 
-  -- what was not tried for want of memory
+  -- an operation that wasn't folded because memory ran out
   pub learnt_not : (P : ℕ → Type 0) (t : Facts) (l : List ℕ) → Learnt (false ≡ true) ops P t t l l
   learnt_not P t l = learnt_nothing ops (false ≡ true) P t l (λ d. never false refl d)
 
-  -- more were to be tried
+  -- more operations were to be folded
   pub learnt_widen : (D F : Type 0) (P R : ℕ → Type 0) (a b : Facts) (l m : List ℕ) → (F → ⊥) → ((y : ℕ) → P y → R y) → Learnt D ops P a b l m → Learnt F ops R a b l m
   learnt_widen D F P R a b l m not_done p f = record {
     more = f.more;

@@ -17,7 +17,7 @@ use Rattle.constants.proofs.Forgets.{once_append, in_one, in_read}
 use Rattle.ir_event.proofs.of_tree_laws.Facts.{in_or_not}
 
 module _ (ops : ℕ → Option Header) where
-  -- nothing was learnt
+  -- nothing was learned
   pub learnt_nothing : (D : Type 0) (P : ℕ → Type 0) (t : Facts) (trail : List ℕ) → (D → (y : ℕ) → P y → t y ≡ None → value ops t y ≡ None) → Learnt D ops P t t trail trail
   learnt_nothing D P t trail settled = record {
     more = [];
@@ -44,7 +44,7 @@ module _ (ops : ℕ → Option Header) where
     | inr ne ↦ value_more ops old new y w (grown x v old new none is) (f y w (sym (is y ∙ put_other x y (Some v) old ne) ∙ k))
   ]
 
-  -- all that became of an operation whose value was written, or not
+  -- an operation whose value was written, or not
   pub learnt_noted : (D : Type 0) (x : ℕ) (v : Known) (old new : Facts) (trail longer : List ℕ) → old x ≡ None → value ops old x ≡ Some v → Noted D x v old new trail longer → Learnt D ops (λ y. y ≡ x) old new trail longer
   learnt_noted D x v old new trail longer none gives (inl (is, longer_is)) =
       let here : new x ≡ Some v = is x ∙ put_same x (Some v) old in
@@ -88,7 +88,7 @@ module _ (ops : ℕ → Option Header) where
   learnt_was : (D : Type 0) (P : ℕ → Type 0) (old new : Facts) (l m : List ℕ) (f : Learnt D ops P old new l m) → (y : ℕ) → new y ≡ None → old y ≡ None
   learnt_was D P old new l m f y k = none_if_not (old y) (λ w e. not_both (new y) w k (f.grows y w e))
 
-  -- an operation none of whose operands was learnt gives what it gave
+  -- an operation none of whose operands was learned has the same fold
   learnt_value : (D : Type 0) (P : ℕ → Type 0) (old new : Facts) (l m : List ℕ) (f : Learnt D ops P old new l m) → D → (y : ℕ) → ((d : ℕ) → In d f.more → Uses ops d y → ⊥) → value ops new y ≡ value ops old y
   learnt_value D P old new l m f d y far = value_uses ops new old y (λ e u. f.kept d e (λ h. far e h u))
 
@@ -156,14 +156,15 @@ module _ (ops : ℕ → Option Header) where
         gives);
   }
 
-  -- nothing is left to follow
+  -- no operand is left to follow
   learning_end : (t : Facts) → Learning ops t [] → AreLocal ops t
   learning_end t b y = elim (some_or_none (t y)) [
     | inl e ↦ e ∙ sym (b.unknown y e (λ d h u. h))
     | inr e ↦ e.1 ∙ sym (b.known y e.0 e.1)
   ]
 
-  -- from `start` on, x and the operations that were forgotten were tried, and the users of the first `next` operations of the trail
+  -- from `start` on, x and the forgotten operations were folded, and so were the users of the first `next` operations
+  -- of the trail
   pub record LearningFrom (x : ℕ) (forgotten : List ℕ) (start table : Facts) (trail : List ℕ) (next : ℕ) : Type 0 where
     pub within : next ≤ length trail
     pub path : IsTrail ops (λ y. (y ≡ x) ⊎ In y forgotten) table trail

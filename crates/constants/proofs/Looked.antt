@@ -46,11 +46,11 @@ mutual
 
 -- the laws for a tree
 pub facts_local : (t : Operation) → HasDistinctIds t → IsTrue (operands_visible is_isolated t) → AreLocal (look t) (facts_of t)
-facts_local t d sees x = walk_is_local (heads t) (ordered_tree t d sees) x ∙ ap (λ o. folded_if o (facts_of t)) (look_heads x t)
+facts_local t d dominated_by x = walk_is_local (heads t) (ordered_tree t d dominated_by) x ∙ ap (λ o. folded_if o (facts_of t)) (look_heads x t)
 
 pub local_facts : (t : Operation) (facts : Facts) → HasDistinctIds t → IsTrue (operands_visible is_isolated t) → AreLocal (look t) facts → (x : ℕ) → facts x ≡ facts_of t x
-local_facts t facts d sees local = local_is_walk (heads t) facts (ordered_tree t d sees) (λ x. local x ∙ ap (λ o. folded_if o facts) (sym (look_heads x t)))
+local_facts t facts d dominated_by local = local_is_walk (heads t) facts (ordered_tree t d dominated_by) (λ x. local x ∙ ap (λ o. folded_if o facts) (sym (look_heads x t)))
 
--- facts that are those of the walk
+-- facts equal to those of the walk
 pub same_facts_local : (t : Operation) (facts : Facts) → HasDistinctIds t → IsTrue (operands_visible is_isolated t) → ((x : ℕ) → facts x ≡ facts_of t x) → AreLocal (look t) facts
-same_facts_local t facts d sees same x = same x ∙ facts_local t d sees x ∙ value_same (look t x) (facts_of t) facts (λ y. sym (same y))
+same_facts_local t facts d dominated_by same x = same x ∙ facts_local t d dominated_by x ∙ value_same (look t x) (facts_of t) facts (λ y. sym (same y))

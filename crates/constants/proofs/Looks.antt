@@ -37,7 +37,7 @@ swapped (n ∷ hs) row bound xs h =
     let s = total_add (row n) (λ d. over hs (λ h. row h d)) xs in
     omega (arith, a, b, s)
 
--- in a list that has each id once, x counts at most once
+-- x counts at most once in a list of distinct ids
 once : (x c : ℕ) (xs : List ℕ) → OnceEach xs → total (λ d. cond (eqb x d) c 0) xs ≤ c
 once x c [] o = omega arith
 once x c (y ∷ xs) o = elim (cases_eq x y) [
@@ -61,7 +61,7 @@ uses_once (v ∷ vs) xs o =
     let a = value_once v xs o in
     omega (arith, s, h, a)
 
--- the uses of operations of which each user is reached are operands of reached operations
+-- if all users of some operations are reached, their uses are operands of reached operations
 uses_within : (hs : List Header) (r : ℕ → Bool) (xs : List ℕ) → OnceEach xs → ((h : Header) → In h hs → r h.id ≡ false → (d : ℕ) → In d xs → results_among d h.operands ≡ 0)
     → total (uses_among hs) xs ≤ over hs (λ h. cond (r h.id) (length h.operands) 0)
 uses_within hs r xs o far = swapped hs (λ h d. results_among d h.operands) (λ h. cond (r h.id) (length h.operands) 0) xs (λ h k. by_test h k (r h.id) refl)
@@ -79,7 +79,7 @@ at_least (n ∷ hs) g d h = elim h.1 [
   | inr k ↦ let a = at_least hs g d (h.0, k, h.2) in omega (arith, a)
 ]
 
--- a sum over some of the reached operations, each once, is within the sum over all
+-- a sum over some of the reached operations, each once, is at most the sum over all
 sum_within : (hs : List Header) (r : ℕ → Bool) (g : ℕ → ℕ) (xs : List ℕ) → OnceEach xs → ((d : ℕ) → In d xs → ((h : Header) × In h hs × (h.id ≡ d)) × (r d ≡ true)) → total g xs ≤ over hs (λ h. cond (r h.id) (g h.id) 0)
 sum_within hs r g xs o all =
     let a = total_le g (λ d. over hs (λ h. cond (eqb h.id d) (g h.id) 0)) xs (λ d h. at_least hs g d (all d h).0) in
@@ -92,7 +92,7 @@ sum_within hs r g xs o all =
         let z = total_zero (λ d. cond (eqb h.id d) (g h.id) 0) xs (λ d k. ap (λ b. cond b (g h.id) 0) (ne_eqb h.id d (λ f. let w : false ≡ true = sym e ∙ ap r f ∙ (all d k).1 in cc))) in
         omega (arith, z)
 
--- what both phases look at, where each list has each operation once and all of them are reached
+-- the looks of both phases, if each list has each operation once and all of them are reached
 pub looks_within : (hs : List Header) (r : ℕ → Bool) (forgotten learned : List ℕ) → OnceEach forgotten → OnceEach learned
     → ((d : ℕ) → In d forgotten → ((h : Header) × In h hs × (h.id ≡ d)) × (r d ≡ true))
     → ((d : ℕ) → In d learned → ((h : Header) × In h hs × (h.id ≡ d)) × (r d ≡ true))

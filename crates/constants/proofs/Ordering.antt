@@ -1,4 +1,4 @@
--- The operations of a tree that see their operands are in order.
+-- The operations of a tree whose operands dominate them are in order.
 use Rattle.std.proofs.Common.{◌≡◌, ℕ, ◌+◌, List, [], ◌∷◌, ◌++◌, length, Bool, true, false, true≢false, ◌||◌, ◌&&◌, ◌⊎◌, inl, inr, refl, sym, ap, ◌∙◌, subst, cond, eqb, map}
 use Rattle.std.specs.Prelude.{nat_lt, IsTrue}
 use Rattle.std.specs.List.{list_all, IsDistinct, AllByRecursion}
@@ -11,36 +11,36 @@ use Rattle.ir_event.specs.trees.declared.value.Value.TheVariants.{Result, Arg}
 use Rattle.ir_event.specs.trees.Tree.{op, RegionsOf, no_regions, region, RegionOf, empty, block, OpsOf, no_ops, next, head}
 use Rattle.ir_event.specs.trees.Ids.{HasDistinctIds}
 use Rattle.ir_event.specs.trees.Meaning.{Operation}
-use Rattle.ir_event.specs.trees.Sites.{Frame, results, arguments, shows, in_scope, results_of, inside, sites, regions_sites, region_sites, ops_sites, sees_operands, operands_visible}
+use Rattle.ir_event.specs.trees.Sites.{Frame, results, arguments, shows, in_scope, results_of, inside, sites, regions_sites, region_sites, ops_sites, dominated_by_operands, operands_visible}
 use Rattle.ir_event.specs.tree_laws.Members.{In}
 use Rattle.ir_event.proofs.of_tree_laws.Listed.{both}
 use Rattle.ir_event.specs.Heads.{heads, regions_heads, region_heads, ops_heads}
 use Rattle.ir_event.proofs.Flat.{heads_ids}
 use Rattle.constants.specs.Facts.{Header}
-use Rattle.constants.specs.Walk.{AllMet, AreOrdered, met_after}
-use Rattle.constants.proofs.Walks.{met_stays}
+use Rattle.constants.specs.Walk.{AllVisited, AreOrdered, visited_after}
+use Rattle.constants.proofs.Walks.{visited_stays}
 use Rattle.ir_event.proofs.of_types.Truths.{all_parts}
 
--- the ids are distinct, and none was met
+-- the ids are distinct, and none was visited
 abbrev Fresh : List ℕ → List Header → Type 0
-Fresh met [] = Unit {0}
-Fresh met (h ∷ hs) = (In h.id met → ⊥) × Fresh (h.id ∷ met) hs
+Fresh visited [] = Unit {0}
+Fresh visited (h ∷ hs) = (In h.id visited → ⊥) × Fresh (h.id ∷ visited) hs
 
-fresh_left : (met : List ℕ) (xs ys : List Header) → Fresh met (xs ++ ys) → Fresh met xs
-fresh_left met [] ys h = tt
-fresh_left met (n ∷ xs) ys h = (h.0, fresh_left (n.id ∷ met) xs ys h.1)
+fresh_left : (visited : List ℕ) (xs ys : List Header) → Fresh visited (xs ++ ys) → Fresh visited xs
+fresh_left visited [] ys h = tt
+fresh_left visited (n ∷ xs) ys h = (h.0, fresh_left (n.id ∷ visited) xs ys h.1)
 
-fresh_right : (met : List ℕ) (xs ys : List Header) → Fresh met (xs ++ ys) → Fresh (met_after met xs) ys
-fresh_right met [] ys h = h
-fresh_right met (n ∷ xs) ys h = fresh_right (n.id ∷ met) xs ys h.1
+fresh_right : (visited : List ℕ) (xs ys : List Header) → Fresh visited (xs ++ ys) → Fresh (visited_after visited xs) ys
+fresh_right visited [] ys h = h
+fresh_right visited (n ∷ xs) ys h = fresh_right (n.id ∷ visited) xs ys h.1
 
-ordered_append : (met : List ℕ) (xs ys : List Header) → AreOrdered met xs → AreOrdered (met_after met xs) ys → AreOrdered met (xs ++ ys)
-ordered_append met [] ys a b = b
-ordered_append met (n ∷ xs) ys a b = (a.0, a.1, ordered_append (n.id ∷ met) xs ys a.2 b)
+ordered_append : (visited : List ℕ) (xs ys : List Header) → AreOrdered visited xs → AreOrdered (visited_after visited xs) ys → AreOrdered visited (xs ++ ys)
+ordered_append visited [] ys a b = b
+ordered_append visited (n ∷ xs) ys a b = (a.0, a.1, ordered_append (n.id ∷ visited) xs ys a.2 b)
 
--- the operations whose results are in sight were met
+-- the operations whose results dominate this place were visited
 abbrev Within : List Frame → List ℕ → Type 0
-Within scope met = (y k : ℕ) → in_scope scope (Result y k) ≡ true → In y met
+Within scope visited = (y k : ℕ) → in_scope scope (Result y k) ≡ true → In y visited
 
 any_parts : (v : Value) (scope : List Frame) (f : Frame) → in_scope (scope ++ f ∷ []) v ≡ true → (in_scope scope v ≡ true) ⊎ (shows v f ≡ true)
 any_parts v [] f e = inr (last (shows v f) e)
@@ -54,61 +54,61 @@ any_parts v (g ∷ scope) f e = go (any_parts v scope f) (shows v g) e
     go more true e = inl refl
     go more false e = more e
 
-all_met : (scope : List Frame) (met : List ℕ) (vs : List Value) → Within scope met → list_all (in_scope scope) vs ≡ true → AllMet met vs
-all_met scope met [] within e = tt
-all_met scope met (Result x k ∷ vs) within e = let b = both (in_scope scope (Result x k)) (list_all (in_scope scope) vs) e in (within x k b.0, all_met scope met vs within b.1)
-all_met scope met (Arg x r k ∷ vs) within e = let b = both (in_scope scope (Arg x r k)) (list_all (in_scope scope) vs) e in all_met scope met vs within b.1
+all_visited : (scope : List Frame) (visited : List ℕ) (vs : List Value) → Within scope visited → list_all (in_scope scope) vs ≡ true → AllVisited visited vs
+all_visited scope visited [] within e = tt
+all_visited scope visited (Result x k ∷ vs) within e = let b = both (in_scope scope (Result x k)) (list_all (in_scope scope) vs) e in (within x k b.0, all_visited scope visited vs within b.1)
+all_visited scope visited (Arg x r k ∷ vs) within e = let b = both (in_scope scope (Arg x r k)) (list_all (in_scope scope) vs) e in all_visited scope visited vs within b.1
 
-inside_within : (h : Header) (scope : List Frame) (met : List ℕ) → Within scope met → Within (inside is_isolated h scope) (h.id ∷ met)
-inside_within h scope met within y k = go (is_isolated h.name)
+inside_within : (h : Header) (scope : List Frame) (visited : List ℕ) → Within scope visited → Within (inside is_isolated h scope) (h.id ∷ visited)
+inside_within h scope visited within y k = go (is_isolated h.name)
   where
-    go : (b : Bool) → in_scope (cond b [] scope) (Result y k) ≡ true → In y (h.id ∷ met)
+    go : (b : Bool) → in_scope (cond b [] scope) (Result y k) ≡ true → In y (h.id ∷ visited)
     go true e = absurd (true≢false (sym e))
     go false e = inr (within y k e)
 
-arguments_within : (scope : List Frame) (x r n : ℕ) (met : List ℕ) → Within scope met → Within (scope ++ arguments x r n ∷ []) met
-arguments_within scope x r n met within y k e = elim (any_parts (Result y k) scope (arguments x r n) e) [ inl a ↦ within y k a | inr b ↦ absurd (true≢false (sym b)) ]
+arguments_within : (scope : List Frame) (x r n : ℕ) (visited : List ℕ) → Within scope visited → Within (scope ++ arguments x r n ∷ []) visited
+arguments_within scope x r n visited within y k e = elim (any_parts (Result y k) scope (arguments x r n) e) [ inl a ↦ within y k a | inr b ↦ absurd (true≢false (sym b)) ]
 
-results_within : (scope : List Frame) (x n : ℕ) (met : List ℕ) → Within scope met → In x met → Within (scope ++ results x n ∷ []) met
-results_within scope x n met within here y k e = elim (any_parts (Result y k) scope (results x n) e) [
+results_within : (scope : List Frame) (x n : ℕ) (visited : List ℕ) → Within scope visited → In x visited → Within (scope ++ results x n ∷ []) visited
+results_within scope x n visited within here y k e = elim (any_parts (Result y k) scope (results x n) e) [
   | inl a ↦ within y k a
-  | inr b ↦ subst (λ z. In z met) (sym (eqb-true y x (both (eqb y x) (nat_lt k n) b).0)) here
+  | inr b ↦ subst (λ z. In z visited) (sym (eqb-true y x (both (eqb y x) (nat_lt k n) b).0)) here
 ]
 
-later : (scope : List Frame) (met : List ℕ) (hs : List Header) → Within scope met → Within scope (met_after met hs)
-later scope met hs within y k e = met_stays y met hs (within y k e)
+later : (scope : List Frame) (visited : List ℕ) (hs : List Header) → Within scope visited → Within scope (visited_after visited hs)
+later scope visited hs within y k e = visited_stays y visited hs (within y k e)
 
-met_op : (o : Operation) (met : List ℕ) → In (head o).id (met_after met (heads o))
-met_op (op h rs) met = met_stays h.id (h.id ∷ met) (regions_heads rs) (inl refl)
+visited_op : (o : Operation) (visited : List ℕ) → In (head o).id (visited_after visited (heads o))
+visited_op (op h rs) visited = visited_stays h.id (h.id ∷ visited) (regions_heads rs) (inl refl)
 
 mutual
-  ordered_op : (o : Operation) (scope : List Frame) (met : List ℕ) → Within scope met → list_all sees_operands (sites is_isolated scope o) ≡ true → Fresh met (heads o) → AreOrdered met (heads o)
-  ordered_op (op h rs) scope met within sees fresh =
-      let b = both (list_all (in_scope scope) h.operands) (list_all sees_operands (regions_sites is_isolated (inside is_isolated h scope) h.id 0 rs)) sees in
-      (fresh.0, all_met scope met h.operands within b.0, ordered_regions rs (inside is_isolated h scope) h.id 0 (h.id ∷ met) (inside_within h scope met within) b.1 fresh.1)
+  ordered_op : (o : Operation) (scope : List Frame) (visited : List ℕ) → Within scope visited → list_all dominated_by_operands (sites is_isolated scope o) ≡ true → Fresh visited (heads o) → AreOrdered visited (heads o)
+  ordered_op (op h rs) scope visited within dominated_by fresh =
+      let b = both (list_all (in_scope scope) h.operands) (list_all dominated_by_operands (regions_sites is_isolated (inside is_isolated h scope) h.id 0 rs)) dominated_by in
+      (fresh.0, all_visited scope visited h.operands within b.0, ordered_regions rs (inside is_isolated h scope) h.id 0 (h.id ∷ visited) (inside_within h scope visited within) b.1 fresh.1)
 
-  ordered_regions : (rs : RegionsOf (List ℕ) TypeTerm AttrTerm) (scope : List Frame) (x r : ℕ) (met : List ℕ) → Within scope met → list_all sees_operands (regions_sites is_isolated scope x r rs) ≡ true → Fresh met (regions_heads rs)
-      → AreOrdered met (regions_heads rs)
-  ordered_regions no_regions scope x r met within sees fresh = tt
-  ordered_regions (region g rs) scope x r met within sees fresh =
-      let b = all_parts sees_operands (region_sites is_isolated scope x r g) (regions_sites is_isolated scope x (r + 1) rs) sees in
-      ordered_append met (region_heads g) (regions_heads rs)
-      (ordered_region g scope x r met within b.0 (fresh_left met (region_heads g) (regions_heads rs) fresh))
-      (ordered_regions rs scope x (r + 1) (met_after met (region_heads g)) (later scope met (region_heads g) within) b.1 (fresh_right met (region_heads g) (regions_heads rs) fresh))
+  ordered_regions : (rs : RegionsOf (List ℕ) TypeTerm AttrTerm) (scope : List Frame) (x r : ℕ) (visited : List ℕ) → Within scope visited → list_all dominated_by_operands (regions_sites is_isolated scope x r rs) ≡ true → Fresh visited (regions_heads rs)
+      → AreOrdered visited (regions_heads rs)
+  ordered_regions no_regions scope x r visited within dominated_by fresh = tt
+  ordered_regions (region g rs) scope x r visited within dominated_by fresh =
+      let b = all_parts dominated_by_operands (region_sites is_isolated scope x r g) (regions_sites is_isolated scope x (r + 1) rs) dominated_by in
+      ordered_append visited (region_heads g) (regions_heads rs)
+      (ordered_region g scope x r visited within b.0 (fresh_left visited (region_heads g) (regions_heads rs) fresh))
+      (ordered_regions rs scope x (r + 1) (visited_after visited (region_heads g)) (later scope visited (region_heads g) within) b.1 (fresh_right visited (region_heads g) (regions_heads rs) fresh))
 
-  ordered_region : (g : RegionOf (List ℕ) TypeTerm AttrTerm) (scope : List Frame) (x r : ℕ) (met : List ℕ) → Within scope met → list_all sees_operands (region_sites is_isolated scope x r g) ≡ true → Fresh met (region_heads g)
-      → AreOrdered met (region_heads g)
-  ordered_region empty scope x r met within sees fresh = tt
-  ordered_region (block args os) scope x r met within sees fresh = ordered_ops os (scope ++ arguments x r (length args) ∷ []) met (arguments_within scope x r (length args) met within) sees fresh
+  ordered_region : (g : RegionOf (List ℕ) TypeTerm AttrTerm) (scope : List Frame) (x r : ℕ) (visited : List ℕ) → Within scope visited → list_all dominated_by_operands (region_sites is_isolated scope x r g) ≡ true → Fresh visited (region_heads g)
+      → AreOrdered visited (region_heads g)
+  ordered_region empty scope x r visited within dominated_by fresh = tt
+  ordered_region (block args os) scope x r visited within dominated_by fresh = ordered_ops os (scope ++ arguments x r (length args) ∷ []) visited (arguments_within scope x r (length args) visited within) dominated_by fresh
 
-  ordered_ops : (os : OpsOf (List ℕ) TypeTerm AttrTerm) (scope : List Frame) (met : List ℕ) → Within scope met → list_all sees_operands (ops_sites is_isolated scope os) ≡ true → Fresh met (ops_heads os) → AreOrdered met (ops_heads os)
-  ordered_ops no_ops scope met within sees fresh = tt
-  ordered_ops (next o os) scope met within sees fresh =
-      let b = all_parts sees_operands (sites is_isolated scope o) (ops_sites is_isolated (scope ++ results_of o ∷ []) os) sees in
-      ordered_append met (heads o) (ops_heads os)
-      (ordered_op o scope met within b.0 (fresh_left met (heads o) (ops_heads os) fresh))
-      (ordered_ops os (scope ++ results_of o ∷ []) (met_after met (heads o))
-      (results_within scope (head o).id (length (head o).results) (met_after met (heads o)) (later scope met (heads o) within) (met_op o met)) b.1 (fresh_right met (heads o) (ops_heads os) fresh))
+  ordered_ops : (os : OpsOf (List ℕ) TypeTerm AttrTerm) (scope : List Frame) (visited : List ℕ) → Within scope visited → list_all dominated_by_operands (ops_sites is_isolated scope os) ≡ true → Fresh visited (ops_heads os) → AreOrdered visited (ops_heads os)
+  ordered_ops no_ops scope visited within dominated_by fresh = tt
+  ordered_ops (next o os) scope visited within dominated_by fresh =
+      let b = all_parts dominated_by_operands (sites is_isolated scope o) (ops_sites is_isolated (scope ++ results_of o ∷ []) os) dominated_by in
+      ordered_append visited (heads o) (ops_heads os)
+      (ordered_op o scope visited within b.0 (fresh_left visited (heads o) (ops_heads os) fresh))
+      (ordered_ops os (scope ++ results_of o ∷ []) (visited_after visited (heads o))
+      (results_within scope (head o).id (length (head o).results) (visited_after visited (heads o)) (later scope visited (heads o) within) (visited_op o visited)) b.1 (fresh_right visited (heads o) (ops_heads os) fresh))
 
 -- distinct ids
 apart_in : (x y : ℕ) (ys : List ℕ) → AllByRecursion (λ z. eqb x z ≡ false) ys → In y ys → x ≡ y → ⊥
@@ -116,12 +116,12 @@ apart_in x y [] a h e = absurd h
 apart_in x y (z ∷ zs) a (inl q) e = true≢false (sym (eq-eqb x z (e ∙ q)) ∙ a.0)
 apart_in x y (z ∷ zs) a (inr h) e = apart_in x y zs a.1 h e
 
-fresh_if : (met : List ℕ) (hs : List Header) → ((x : ℕ) → In x met → In x (map (λ (h : Header). h.id) hs) → ⊥) → IsDistinct eqb (map (λ (h : Header). h.id) hs) → Fresh met hs
-fresh_if met [] apart d = tt
-fresh_if met (n ∷ hs) apart d = (
+fresh_if : (visited : List ℕ) (hs : List Header) → ((x : ℕ) → In x visited → In x (map (λ (h : Header). h.id) hs) → ⊥) → IsDistinct eqb (map (λ (h : Header). h.id) hs) → Fresh visited hs
+fresh_if visited [] apart d = tt
+fresh_if visited (n ∷ hs) apart d = (
   λ h. apart n.id h (inl refl),
-  fresh_if (n.id ∷ met) hs (λ x h g. elim h [ inl e ↦ apart_in n.id x _ (IsDistinct-head eqb n.id _ d) g (sym e) | inr k ↦ apart x k (inr g) ]) (IsDistinct-tail eqb n.id _ d),
+  fresh_if (n.id ∷ visited) hs (λ x h g. elim h [ inl e ↦ apart_in n.id x _ (IsDistinct-head eqb n.id _ d) g (sym e) | inr k ↦ apart x k (inr g) ]) (IsDistinct-tail eqb n.id _ d),
 )
 
 pub ordered_tree : (t : Operation) → HasDistinctIds t → IsTrue (operands_visible is_isolated t) → AreOrdered [] (heads t)
-ordered_tree t d sees = ordered_op t [] [] (λ y k e. absurd (true≢false (sym e))) sees (fresh_if [] (heads t) (λ x h g. h) (subst (IsDistinct eqb) (sym (heads_ids t)) d))
+ordered_tree t d dominated_by = ordered_op t [] [] (λ y k e. absurd (true≢false (sym e))) dominated_by (fresh_if [] (heads t) (λ x h g. h) (subst (IsDistinct eqb) (sym (heads_ids t)) d))

@@ -1,4 +1,4 @@
--- What an event reaches is closed under uses of what is known, and the trails of both phases are within it.
+-- The reached operations are closed under uses of known values, and the trails of both phases are within them.
 use Rattle.std.proofs.Common.{◌≡◌, ◌≢◌, ◌≤◌, ◌+◌, ℕ, List, [], ◌∷◌, Bool, true, false, true≢false, ◌||◌, ◌&&◌, Option, Some, None, is_some, ◌⊎◌, inl, inr, refl, sym, ap, ◌∙◌, subst, cond, eqb, arith}
 use Rattle.std.specs.List.{list_any}
 use Rattle.std.proofs.lemmas.Bool.{eq-eqb, ne_eqb, cases_eq, or_left, or_right}
@@ -10,7 +10,7 @@ use Rattle.constants.specs.Facts.{Header, Facts}
 use Rattle.constants.specs.Walk.{look_among, AreOrdered}
 use Rattle.constants.specs.Reached.{is_result_of, one_if, results_among, uses_among, is_result_in, with_op, reached_along, reached, most_over}
 use Rattle.constants.specs.Trails.{total, Uses, IsThere, IsKnown, IsTrail}
-use Rattle.constants.proofs.Knowing.{among_in, operand_met}
+use Rattle.constants.proofs.Knowing.{among_in, operand_visited}
 use Rattle.constants.proofs.Looks.{looks_within}
 
 with_same : (x : ℕ) (b : Bool) (r : ℕ → Bool) → with_op x b r x ≡ b
@@ -23,9 +23,9 @@ module _ (knows : ℕ → Bool) where
   abbrev now : Header → (ℕ → Bool) → Bool
   now h r = r h.id || list_any (is_result_in (λ y. r y && knows y)) h.operands
 
-  along_keeps : (met : List ℕ) (hs : List Header) (r : ℕ → Bool) (y : ℕ) → AreOrdered met hs → In y met → reached_along knows hs r y ≡ r y
-  along_keeps met [] r y o h = refl
-  along_keeps met (n ∷ hs) r y o h = along_keeps (n.id ∷ met) hs (with_op n.id (now n r) r) y o.2 (inr h) ∙ with_other n.id y (now n r) r (λ e. o.0 (subst (λ z. In z met) e h))
+  along_keeps : (visited : List ℕ) (hs : List Header) (r : ℕ → Bool) (y : ℕ) → AreOrdered visited hs → In y visited → reached_along knows hs r y ≡ r y
+  along_keeps visited [] r y o h = refl
+  along_keeps visited (n ∷ hs) r y o h = along_keeps (n.id ∷ visited) hs (with_op n.id (now n r) r) y o.2 (inr h) ∙ with_other n.id y (now n r) r (λ e. o.0 (subst (λ z. In z visited) e h))
 
   along_grows : (hs : List Header) (r : ℕ → Bool) (y : ℕ) → r y ≡ true → reached_along knows hs r y ≡ true
   along_grows [] r y e = e
@@ -39,19 +39,19 @@ module _ (knows : ℕ → Bool) where
   one_of r (v ∷ vs) d k (inl q) e = or_left (is_result_in r v) _ (ap (is_result_in r) (sym q) ∙ e)
   one_of r (v ∷ vs) d k (inr h) e = or_right (is_result_in r v) _ (one_of r vs d k h e)
 
-  along_closed : (met : List ℕ) (hs : List Header) (r : ℕ → Bool) (n : Header) (d k : ℕ) → AreOrdered met hs → In n hs → In (Result d k) n.operands → reached_along knows hs r d ≡ true → knows d ≡ true
+  along_closed : (visited : List ℕ) (hs : List Header) (r : ℕ → Bool) (n : Header) (d k : ℕ) → AreOrdered visited hs → In n hs → In (Result d k) n.operands → reached_along knows hs r d ≡ true → knows d ≡ true
       → reached_along knows hs r n.id ≡ true
-  along_closed met [] r n d k o h used e known = absurd h
-  along_closed met (m ∷ hs) r n d k o (inl q) used e known =
+  along_closed visited [] r n d k o h used e known = absurd h
+  along_closed visited (m ∷ hs) r n d k o (inl q) used e known =
       let s : ℕ → Bool = with_op m.id (now m r) r in
       let operand : In (Result d k) m.operands = subst (λ (z : Header). In (Result d k) z.operands) q used in
-      let here : In d met = operand_met met m.operands d k o.1 operand in
-      let was : r d ≡ true = sym (along_keeps (m.id ∷ met) hs s d o.2 (inr here) ∙ with_other m.id d (now m r) r (λ f. o.0 (subst (λ z. In z met) f here))) ∙ e in
+      let here : In d visited = operand_visited visited m.operands d k o.1 operand in
+      let was : r d ≡ true = sym (along_keeps (m.id ∷ visited) hs s d o.2 (inr here) ∙ with_other m.id d (now m r) r (λ f. o.0 (subst (λ z. In z visited) f here))) ∙ e in
       ap (λ (z : Header). reached_along knows hs s z.id) q
-      ∙ along_keeps (m.id ∷ met) hs s m.id o.2 (inl refl)
+      ∙ along_keeps (m.id ∷ visited) hs s m.id o.2 (inl refl)
       ∙ with_same m.id (now m r) r
       ∙ or_right (r m.id) _ (one_of (λ y. r y && knows y) m.operands d k operand (ap (λ b. b && knows d) was ∙ known))
-  along_closed met (m ∷ hs) r n d k o (inr h) used e known = along_closed (m.id ∷ met) hs (with_op m.id (now m r) r) n d k o.2 h used e known
+  along_closed visited (m ∷ hs) r n d k o (inr h) used e known = along_closed (m.id ∷ visited) hs (with_op m.id (now m r) r) n d k o.2 h used e known
 
 module _ (before after : Facts) (hs : List Header) (x : ℕ) (ordered : AreOrdered [] hs) where
   abbrev known_in_one : ℕ → Bool
@@ -88,7 +88,7 @@ module _ (before after : Facts) (hs : List Header) (x : ℕ) (ordered : AreOrder
       one (Result y k) = elim (cases_eq y d) [ inl e ↦ inr (k, ap (λ z. Result z k) (sym e)) | inr ne ↦ inl (ap (λ b. one_if b) (ne_eqb y d ne)) ]
       one (Arg y s k) = inl refl
 
-  -- what is looked at in both phases
+  -- the looks of both phases
   pub looks_bound : (t : Facts) (forgotten learned : List ℕ) → IsThere (look_among hs) x → ((y : ℕ) (v : Known) → t y ≡ Some v → after y ≡ Some v)
       → IsTrail (look_among hs) (λ y. y ≡ x) before forgotten → IsTrail (look_among hs) (λ y. (y ≡ x) ⊎ In y forgotten) t learned
       → 4 + (total (λ d. 2 + uses_among hs d) forgotten + (total (λ d. 1 + uses_among hs d) learned + total (uses_among hs) learned)) ≤ most_over (reached before after hs x) hs

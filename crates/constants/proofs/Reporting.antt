@@ -1,4 +1,4 @@
--- What the report shows.
+-- The rows of the report.
 use Rattle.std.proofs.Common.{◌≡◌, ℕ, List, [], ◌∷◌, true, false, Some, refl, sym, ap, ◌∙◌, subst, arith, cond, eqb, map}
 use Rattle.std.specs.List.{AllByRecursion, All}
 use Rattle.std.specs.List.Sorted.{IsStrictlySortedBy}
@@ -6,12 +6,12 @@ use Rattle.std.specs.Ordering.{nat_cmp, is_eq}
 use Rattle.std.specs.declared.cmp.Ordering.TheVariants.{Less}
 use Rattle.std.specs.Map.{lookup, keys_of}
 use Rattle.std.specs.BTreeMap.{is_at}
-use Rattle.id_map.specs.Map.{IdMap}
-use Rattle.id_map.specs.Map as idmap
+use Rattle.listeners_support.specs.Map.{IdMap}
+use Rattle.listeners_support.specs.Map as idmap
 use Rattle.std.proofs.lemmas.Bool.Decides.{nat_tests}
 use Rattle.std.proofs.lemmas.List.Elements.{All-cons, All-nil}
 use Rattle.ir_event.specs.types.declared.bits.Bits.{Bits}
-use Rattle.ir_event.specs.types.Things.{Things}
+use Rattle.ir_event.specs.types.Things.{ContextModel}
 use Rattle.ir_event.specs.trees.Ids.{HasDistinctIds}
 use Rattle.ir_event.specs.trees.Meaning.{Operation}
 use Rattle.ir_event.specs.declared.row.Cell.TheVariants as cell
@@ -28,7 +28,7 @@ use Rattle.constants.proofs.Tables.{same_test}
 use Rattle.ir_event.proofs.of_types.Sorting.{flips_eq}
 use Rattle.ir_event.proofs.of_types.Truths.{less_than}
 
--- what the entries of a table say
+-- the known values of a table's entries
 abbrev said : List (ℕ × Bits) → List (ℕ × Known)
 said es = map (λ (e : ℕ × Bits). (e.0, (e.1.kind, e.1.value))) es
 
@@ -52,7 +52,7 @@ look_said x (e ∷ es) =
 said_constants : (m : IdMap Bits) (t : Operation) → idmap.IsOrdered m → HasDistinctIds t → ((x : ℕ) → known_in m x ≡ facts_of t x) → said m.entries ≡ constants_of t
 said_constants m t ordered d h = rising_same (said m.entries) (constants_of t) (said_rising m.entries ordered) (constants_rising t d) (λ x. look_said x m.entries ∙ h x ∙ sym (constants_look t d x))
 
-module _ (c : Things) where
+module _ (c : ContextModel) where
   rows_say : (rows : List Line) (es : List (ℕ × Bits)) → map (λ (r : Line). r.cells.items) rows ≡ map cells_of es → rows_meaning c rows ≡ map constant_row (said es)
   rows_say [] [] e = refl
   rows_say [] (x ∷ es) e = absurd cc

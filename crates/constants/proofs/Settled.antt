@@ -1,4 +1,4 @@
--- Facts that agree with an operation that changed agree with all operations, and looks that may be spared.
+-- Facts that agree with a changed operation agree with all operations; spare looks.
 use Rattle.std.proofs.Common.{◌≡◌, ◌≤◌, ◌+◌, ℕ, Option, inl, inr, sym, ap, ◌∙◌, arith}
 use Rattle.std.proofs.lemmas.Bool.{cases_eq}
 use Rattle.constants.specs.Facts.{Header, Facts, value, folded_if, AreLocal}
@@ -16,6 +16,6 @@ settled_local ops was x a but local e y = elim (cases_eq y x) [
 pub renewed_looks : (t : Operation) (x : ℕ) (a : Facts) (before between after : ℕ) → between ≤ before + 1 → LooksRenewed t x a between after → LooksWithin t x a before after
 renewed_looks t x a before between after le looks here was but local ordered = (let few = looks here was but local ordered in omega (arith, le, few))
 
--- and no other
+-- and no other look
 pub settled_looks : (t : Operation) (x : ℕ) (a : Facts) (before after : ℕ) → after ≤ before + 1 → LooksWithin t x a before after
 settled_looks t x a before after le here was but local ordered = omega (arith, le)

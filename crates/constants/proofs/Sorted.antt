@@ -1,4 +1,4 @@
--- The known values of a tree in order of the ids.
+-- The known values of a tree, ordered by id.
 use Rattle.std.proofs.Common.{◌≡◌, ℕ, List, [], ◌∷◌, true, false, Option, Some, None, ◌⊎◌, inl, inr, refl, sym, ap, ◌∙◌, cond, eqb}
 use Rattle.std.proofs.lemmas.Bool.{eq-eqb, ne_eqb, cases_eq}
 use Rattle.std.specs.List.{IsDistinct, AllByRecursion}
@@ -10,7 +10,7 @@ use Rattle.ir_event.specs.tree_laws.Members.{In}
 use Rattle.dialects_int.specs.Folds.{Known}
 use Rattle.ir_event.specs.Heads.{heads}
 use Rattle.constants.specs.Facts.{Header, Facts}
-use Rattle.constants.specs.Walk.{nothing, facts_of, met_after}
+use Rattle.constants.specs.Walk.{nothing, facts_of, visited_after}
 use Rattle.constants.proofs.Walks.{walk_outside}
 use Rattle.ir_event.proofs.Flat.{heads_ids}
 use Rattle.ir_event.proofs.ById.{look, NotIn, Rising, AllApart, by_id_rising, by_id_look}
@@ -58,15 +58,15 @@ among_look t x (y ∷ xs) d out = elim (cases_eq x y) [
     last None = refl
     last (Some k) = refl
 
-met_in : (met : List ℕ) (hs : List Header) (x : ℕ) → In x (met_after met hs) → In x met ⊎ In x (map (λ (h : Header). h.id) hs)
-met_in met [] x h = inl h
-met_in met (n ∷ hs) x h = elim (met_in (n.id ∷ met) hs x h) [ inl k ↦ elim k [ inl e ↦ inr (inl e) | inr g ↦ inl g ] | inr k ↦ inr (inr k) ]
+visited_in : (visited : List ℕ) (hs : List Header) (x : ℕ) → In x (visited_after visited hs) → In x visited ⊎ In x (map (λ (h : Header). h.id) hs)
+visited_in visited [] x h = inl h
+visited_in visited (n ∷ hs) x h = elim (visited_in (n.id ∷ visited) hs x h) [ inl k ↦ elim k [ inl e ↦ inr (inl e) | inr g ↦ inl g ] | inr k ↦ inr (inr k) ]
 
-met_ids : (t : Operation) (x : ℕ) → In x (met_after [] (heads t)) → In x (ids t)
-met_ids t x h = elim (met_in [] (heads t) x h) [ inl k ↦ absurd k | inr k ↦ subst (In x) (heads_ids t) k ]
+visited_ids : (t : Operation) (x : ℕ) → In x (visited_after [] (heads t)) → In x (ids t)
+visited_ids t x h = elim (visited_in [] (heads t) x h) [ inl k ↦ absurd k | inr k ↦ subst (In x) (heads_ids t) k ]
 
 pub constants_rising : (t : Operation) → HasDistinctIds t → Rising (constants_of t)
 constants_rising t d = by_id_rising (known_among (facts_of t) (ids t)) (among_apart (facts_of t) (ids t) d)
 
 pub constants_look : (t : Operation) → HasDistinctIds t → (x : ℕ) → look x (constants_of t) ≡ facts_of t x
-constants_look t d x = by_id_look x (known_among (facts_of t) (ids t)) (among_apart (facts_of t) (ids t) d) ∙ among_look (facts_of t) x (ids t) d (λ out. walk_outside [] (heads t) nothing x (λ h. out (met_ids t x h)))
+constants_look t d x = by_id_look x (known_among (facts_of t) (ids t)) (among_apart (facts_of t) (ids t) d) ∙ among_look (facts_of t) x (ids t) d (λ out. walk_outside [] (heads t) nothing x (λ h. out (visited_ids t x h)))

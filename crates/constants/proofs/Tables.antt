@@ -6,8 +6,8 @@ use Rattle.std.specs.declared.cmp.Ordering.{Ordering}
 use Rattle.std.specs.declared.cmp.Ordering.TheVariants.{Less, Equal, Greater}
 use Rattle.std.specs.BTreeMap.{is_at}
 use Rattle.std.specs.declared.alloc.AllocError.{AllocError}
-use Rattle.id_map.specs.Map.{IdMap}
-use Rattle.id_map.specs.Map as idmap
+use Rattle.listeners_support.specs.Map.{IdMap}
+use Rattle.listeners_support.specs.Map as idmap
 use Rattle.std.proofs.lemmas.Bool.{eq-eqb, ne_eqb}
 use Rattle.std.proofs.lemmas.List.{take_more, map-append}
 use Rattle.ir_event.specs.types.declared.bits.Bits.{Bits}
@@ -40,7 +40,7 @@ facts_more t vs i v items new r lt is before one longer =
     ∙ (λ j. before j ++ one j ∷ [])
     ∙ sym (ap (knowns t) (take_more vs i v lt ∙ ap (λ w. take i vs ++ w ∷ []) (sym is)) ∙ map-append (known t) (take i vs) (v ∷ []))
 
--- ---- lines that are written
+-- ---- rows
 pub one_line : {X : Type 0} (r : Result (Unit {0}) AllocError) (old new more : List X) (x : X) → OnOk r (new ≡ old ++ x ∷ []) → OnOk r (new ++ more ≡ old ++ x ∷ more)
 one_line (Ok u) old new more x e = ap (λ l. l ++ more) e ∙ append_assoc old (x ∷ []) more
 one_line (Err u) old new more x e = tt

@@ -1,6 +1,6 @@
--- The listener agrees with the module after an event that it followed.
+-- The listener agrees with the module after an event, if its update was completed.
 use Rattle.std.proofs.Common.{◌≡◌, ◌≤◌, ◌+◌, ℕ, sym, ap, ◌∙◌, subst, arith}
-use Rattle.ir_event.specs.types.Things.{Things}
+use Rattle.ir_event.specs.types.Things.{ContextModel}
 use Rattle.ir_event.specs.declared.event.Event.{Event}
 use Rattle.ir_event.specs.declared.event.Event.TheVariants.{Put, Take, SetOperand, SetEntry, Shift}
 use Rattle.ir_event.specs.Modules.{Module}
@@ -14,7 +14,7 @@ use Rattle.constants.proofs.Looked.{local_facts, same_facts_local}
 use Rattle.constants.proofs.Events.{ChangedAt, ordered_after, put_changed, operand_changed, entry_changed, shift_same, taken_local}
 use Rattle.constants.specs.Tables.{Updated, FactsFollowed, LooksWithin, LooksFollowed}
 
-module _ (c : Things) (m n : Module) (D : Type 0) (a b : Facts) where
+module _ (c : ContextModel) (m n : Module) (D : Type 0) (a b : Facts) where
   was_local : (e : Event) → Step c e m n → ((x : ℕ) → a x ≡ facts_of m.tree x) → AreLocal (look m.tree) a
   was_local e s same = same_facts_local m.tree a s.before.distinct s.before.formed.visible same
 
@@ -33,7 +33,7 @@ module _ (c : Things) (m n : Module) (D : Type 0) (a b : Facts) where
       let local = was_local (Shift x old new) s same in
       is_facts (Shift x old new) s (λ y. f y ∙ local y ∙ ap (λ o. folded_if o a) (sym (shift_same c m n x old new s y)) ∙ value_same (look n.tree y) a b (λ z. sym (f z)))
 
-module _ (c : Things) (m n : Module) (a : Facts) (before after : ℕ) where
+module _ (c : ContextModel) (m n : Module) (a : Facts) (before after : ℕ) where
   within : (e : Event) (x : ℕ) → Step c e m n → ChangedAt x m n → ((x : ℕ) → a x ≡ facts_of m.tree x) → LooksWithin n.tree x a before after
       → after ≤ before + most_over (reached (facts_of m.tree) (facts_of n.tree) (heads n.tree) x) (heads n.tree)
   within e x s at same few =

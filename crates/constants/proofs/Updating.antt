@@ -1,4 +1,4 @@
--- What an update does, from its two phases; and what it means for a listener that follows an event.
+-- The two phases of an update, and the contract of the listener.
 use Rattle.std.proofs.Common.{◌≡◌, ◌≤◌, ◌+◌, ℕ, true, false, List, [], ◌∷◌, Option, Some, None, is_some, ◌⊎◌, refl, sym, ap, ◌∙◌, subst, arith, length}
 use Rattle.ir_event.specs.trees.Meaning.{Operation}
 use Rattle.ir_event.specs.tree_laws.Members.{In}
@@ -13,7 +13,7 @@ use Rattle.constants.proofs.Looked.{look_heads}
 use Rattle.constants.proofs.Knowing.{follows_walk}
 use Rattle.constants.proofs.Reaching.{looks_bound}
 
--- what was forgotten is there
+-- forgotten operations are in the module
 pub trail_there : (ops : ℕ → Option Header) (x : ℕ) (t : Facts) (trail : List ℕ) → IsThere ops x → IsTrail ops (λ y. y ≡ x) t trail → (y : ℕ) → In y trail → IsThere ops y
 trail_there ops x t trail here path y h =
     go (ops y) refl (path.reached (λ z. is_some (ops z)) (λ z e. ap (λ q. is_some (ops q)) e ∙ ap is_some here.1) (λ d z a k u. ap is_some u.is) y h)
@@ -33,7 +33,7 @@ module _ (t : Operation) (x : ℕ) (a mid b : Facts) (forgotten : List ℕ) (non
   among : look_among (heads t) ≡ look t
   among = λ i y. look_heads y t i
 
-  -- where the first phase broke off
+  -- the first phase broke off
   pub broken_looks : IsTrail (look t) (λ y. y ≡ x) a forgotten → one ≤ none + total (λ d. 1 + uses_among (heads t) d) forgotten → IsThere (look t) x → AreOrdered [] (heads t) → 1 + one ≤ none + most_over (reached a (facts_of t) (heads t) x) (heads t)
   broken_looks path few here ordered =
       let ops : ℕ → Option Header = look_among (heads t) in
@@ -42,7 +42,7 @@ module _ (t : Operation) (x : ℕ) (a mid b : Facts) (forgotten : List ℕ) (non
       let two = total_two (uses_among (heads t)) forgotten in
       omega (arith, bound, two, few)
 
-  -- where it went through
+  -- the first phase was completed
   pub whole_looks : {D : Type 0} → IsTrail (look t) (λ y. y ≡ x) a forgotten → one ≤ none + total (λ d. 1 + uses_among (heads t) d) forgotten → LearntFrom D (look t) (uses_among (heads t)) x forgotten mid b one two → Forgetting (look t) x mid forgotten []
       → IsThere (look t) x → AreOrdered [] (heads t) → 1 + two ≤ none + most_over (reached a (facts_of t) (heads t) x) (heads t)
   whole_looks path few learnt forgetting here ordered =

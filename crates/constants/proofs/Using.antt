@@ -1,11 +1,11 @@
--- The users of a result, and what an operation that is shown folds to.
+-- The users of a result, and the fold of an operation that the view shows.
 use Rattle.std.proofs.Common.{◌≡◌, ◌≤◌, ℕ, ◌+◌, ◌-◌, ◌^◌, min, List, [], ◌∷◌, ◌++◌, length, map, Bool, true, false, true≢false, ◌||◌, ◌&&◌, Option, Some, None, inl, inr, refl, sym, ap, ◌∙◌, subst, arith, cond, eqb, length-append}
 use Rattle.std.specs.Option.{option_map}
 use Rattle.std.specs.Prelude.{All}
 use Rattle.std.specs.FinMap as finmap
 use Rattle.std.proofs.lemmas.Bool.{eq-eqb, eqb-true}
 use Rattle.ir_event.specs.types.declared.bits.Bits.{Bits}
-use Rattle.ir_event.specs.types.Things.{Things, IsName, IsType, IsAttr}
+use Rattle.ir_event.specs.types.Things.{ContextModel, IsName, IsType, IsAttr}
 use Rattle.ir_event.specs.types.Terms.{name_term, type_term, attr_term}
 use Rattle.ir_event.specs.trees.declared.value.Value.{Value}
 use Rattle.ir_event.specs.trees.declared.value.Value.TheVariants.{Result, Arg}
@@ -38,7 +38,7 @@ use Rattle.ir_event.proofs.of_trees.Replaced.{same_value_true, same_value_refl}
 
 -- ---- uses in a list
 
--- a use is listed where its operand is
+-- an operand gives a listed use
 listed_use : (v : Value) (x k : ℕ) (vs : List Value) → In v vs → (j : ℕ) × In (x, j) (operand_uses v x k vs)
 listed_use v x k [] h = absurd h
 listed_use v x k (w ∷ ws) (inl e) = (k, subst (λ b. In (x, k) (cond b ((x, k) ∷ operand_uses v x (k + 1) ws) (operand_uses v x (k + 1) ws))) (sym (ap (λ z. same_value v z) (sym e) ∙ same_value_refl v)) (inl refl))
@@ -76,7 +76,7 @@ in_is_use x j (u ∷ us) (inr h) = later (same_use u (x, j)) (in_is_use x j us h
     later true e = refl
     later false e = e
 
--- uses that are once each among others are no more than those
+-- distinct uses that are among others are at most as many
 record Split (u : ℕ × ℕ) (ws : List (ℕ × ℕ)) : Type 0 where
   front : List (ℕ × ℕ)
   back : List (ℕ × ℕ)
@@ -102,7 +102,7 @@ fewer (u ∷ us) ws once h =
     let b : length ws ≡ length s.front + length (u ∷ s.back) = ap length s.is ∙ length-append s.front (u ∷ s.back) in
     omega (arith, rest, a, b)
 
--- ---- the uses of a world's module
+-- ---- the uses of a module
 
 look_number : (w : World) (y : ℕ) → look_in w y ≡ option_map (λ (o : Op). map_head (name_term w.ctx) (type_term w.ctx) (attr_term w.ctx) (head o)) (find y w.store.module_of.tree)
 look_number w y = ap (option_map head) (map_find (name_term w.ctx) (type_term w.ctx) (attr_term w.ctx) y w.store.module_of.tree) ∙ go (find y w.store.module_of.tree)
@@ -163,7 +163,7 @@ module _ (w : World) (d : ℕ) (us : List (ℕ × ℕ)) (are : AreUses (Result d
 pub few_looks : (n m old : ℕ) → n ≤ m → min (old + (n + 1)) (2 ^ 64 - 1) ≤ old + (1 + m)
 few_looks n m old le = omega (arith, le)
 
--- ---- what is shown
+-- ---- operations that the view shows
 
 types_of : {P : ℕ × ℕ → Type 0} {Q : ℕ × ℕ → Type 0} → ((e : ℕ × ℕ) → P e → Q e) → (es : List (ℕ × ℕ)) → All P es → All Q es
 types_of f es a k d lt = f _ (a k d lt)
@@ -193,19 +193,19 @@ module _ (w : World) (x : ℕ) (n : Numbers) (is : option_map node_of (known x w
           ∙ ap (λ (m : Numbers). Some (map_head (name_term w.ctx) (type_term w.ctx) (attr_term w.ctx) m.head)) one in
           gives ∙ ap (λ l. fold_of (name_term w.ctx n.head.name) (entries_of w.ctx n.head.properties) l (map (type_term w.ctx) n.head.results)) are ∙ sym (ap (λ o. folded_if o t) here)
 
-  -- the forms in which the code has these facts
-  pub properties_known : (c : Things) (ps : List (ℕ × ℕ)) → c ≡ w.ctx → ps ≡ n.head.properties → All (λ (e : ℕ × ℕ). IsAttr c e.1) ps
+  -- these facts in the forms that the code needs
+  pub properties_known : (c : ContextModel) (ps : List (ℕ × ℕ)) → c ≡ w.ctx → ps ≡ n.head.properties → All (λ (e : ℕ × ℕ). IsAttr c e.1) ps
   properties_known c ps e f = subst (λ c. All (λ (e : ℕ × ℕ). IsAttr c e.1) ps) (sym e) (subst (All (λ (e : ℕ × ℕ). IsAttr w.ctx e.1)) (sym f) shown_properties)
 
-  pub results_known : (c : Things) (ts : List ℕ) → c ≡ w.ctx → ts ≡ n.head.results → All (λ t. IsType c t) ts
+  pub results_known : (c : ContextModel) (ts : List ℕ) → c ≡ w.ctx → ts ≡ n.head.results → All (λ t. IsType c t) ts
   results_known c ts e f = subst (λ c. All (λ t. IsType c t) ts) (sym e) (subst (All (λ t. IsType w.ctx t)) (sym f) shown_results)
 
-  pub folds_as : (t : Facts) (ks ls : List (Option Bits)) (r : Option Bits) (c : Things) (name : ℕ) (ps : List (ℕ × ℕ)) (os : List Value) (ts : List ℕ) → c ≡ w.ctx → name ≡ n.head.name → ps ≡ n.head.properties → os ≡ n.head.operands → ts ≡ n.head.results
+  pub folds_as : (t : Facts) (ks ls : List (Option Bits)) (r : Option Bits) (c : ContextModel) (name : ℕ) (ps : List (ℕ × ℕ)) (os : List Value) (ts : List ℕ) → c ≡ w.ctx → name ≡ n.head.name → ps ≡ n.head.properties → os ≡ n.head.operands → ts ≡ n.head.results
       → ls ≡ ks → map known_of ks ≡ knowns t os → known_of r ≡ fold_of (name_term c name) (entries_of c ps) (map known_of ls) (map (type_term c) ts) → IsThere (look_in w) x → known_of r ≡ value (look_in w) t x
   folds_as t ks ls r c name ps os ts ec en ep eo et el are gives =
       folds_to t ks r (are ∙ ap (knowns t) eo) (gives ∙ λ i. fold_of (name_term (ec i) (en i)) (entries_of (ec i) (ep i)) (map known_of (el i)) (map (type_term (ec i)) (et i)))
 
--- what isn't shown isn't there
+-- an operation that the view doesn't show isn't in the module
 pub not_shown : (w : World) (x : ℕ) → option_map node_of (known x w.store) ≡ None → IsThere (look_in w) x → ⊥
 not_shown w x e there = go (find x w.store.module_of.tree) refl
   where

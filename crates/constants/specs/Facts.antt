@@ -1,4 +1,4 @@
--- What is known of the results of operations, and what it means that it agrees with them.
+-- The known values of operations' results, and when they agree with the operations.
 use Rattle.std.specs.Prelude.{◌≡◌, ℕ, ◌==◌, if◌then◌else◌, List, map, Option, Some, None}
 use Rattle.std.specs.Option.{option_map}
 use Rattle.ir_event.specs.types.Terms.{TypeTerm, AttrTerm}
@@ -9,15 +9,15 @@ use Rattle.ir_event.specs.trees.Ids.{find}
 use Rattle.ir_event.specs.trees.Meaning.{Operation}
 use Rattle.dialects_int.specs.Folds.{Known, fold_of}
 
--- what an operation has beside its regions, in contents
+-- the head of an operation, in terms of contents
 abbrev pub Header : Type 0
 Header = HeadOf (List ℕ) TypeTerm AttrTerm
 
--- the known values of operations' results, by the operations' ids
+-- the known values of results, by the ids of their operations
 abbrev pub Facts : Type 0
 Facts = ℕ → Option Known
 
--- what is known of a value: only an operation with one result folds, so other results are unknown, as arguments are
+-- the known value of a value; only an operation with one result folds, so other results and arguments are unknown
 abbrev pub known : Facts → Value → Option Known
 known t (Result x k) = if k == 0 then t x else None
 known t (Arg x r k) = None
@@ -25,7 +25,7 @@ known t (Arg x r k) = None
 abbrev pub knowns : Facts → List Value → List (Option Known)
 knowns t vs = map (known t) vs
 
--- what an operation folds to, from what is known of its operands
+-- the fold of an operation, given the known values of its operands
 abbrev pub folded : Header → Facts → Option Known
 folded h t = fold_of h.name h.properties (knowns t h.operands) h.results
 
@@ -37,10 +37,10 @@ folded_if (Some h) t = folded h t
 abbrev pub look : Operation → ℕ → Option Header
 look t x = option_map head (find x t)
 
--- what operation x folds to, if there is one
+-- the fold of operation x, if there is one
 abbrev pub value : (ℕ → Option Header) → Facts → ℕ → Option Known
 value ops t x = folded_if (ops x) t
 
--- facts agree with operations, each looked at alone: its result is known as it folds, and nothing else is known
+-- the facts agree with each operation: the known value of its result is its fold, and there are no other known values
 abbrev pub AreLocal : (ℕ → Option Header) → Facts → Type 0
 AreLocal ops t = (x : ℕ) → t x ≡ value ops t x

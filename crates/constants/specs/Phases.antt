@@ -1,4 +1,5 @@
--- The two phases in which facts follow a change: what may have changed is forgotten, then what can be known is learnt.
+-- The two phases of an update: the values that may have changed are forgotten, then the values that can be known are
+-- learned.
 use Rattle.std.specs.Prelude.{◌≡◌, ℕ, ◌+◌, ◌≤◌, List, [], ◌∷◌, ◌++◌, length, Option, Some, None, ◌⊎◌}
 use Rattle.ir_event.specs.tree_laws.Members.{In}
 use Rattle.dialects_int.specs.Folds.{Known}
@@ -6,8 +7,8 @@ use Rattle.constants.specs.Facts.{Header, Facts, value, AreLocal}
 use Rattle.constants.specs.Walk.{with_fact}
 use Rattle.constants.specs.Trails.{OnceEach, total, Uses, IsKnown, Follows, IsTrail}
 
--- of the operations that P tells, some of which something was known were forgotten, and added to the trail; where it is
--- done, nothing is known of any
+-- some of the operations that satisfy P were forgotten and appended to the trail; if the step was completed, no known
+-- value of such an operation is left
 pub record Forgotten (done : Type 0) (P : ℕ → Type 0) (old new : Facts) (trail longer : List ℕ) : Type 0 where
   pub more : List ℕ
   pub is : longer ≡ trail ++ more
@@ -18,14 +19,14 @@ pub record Forgotten (done : Type 0) (P : ℕ → Type 0) (old new : Facts) (tra
   pub kept : (y : ℕ) → (In y more → ⊥) → new y ≡ old y
   pub all : done → (y : ℕ) → P y → new y ≡ None
 
--- while forgetting: what is known follows from what is known of its operands, but where an operand is still to be
--- followed; and what is unknown doesn't, but at x and where it was forgotten
+-- during the first phase: a known value is the fold of its operation, unless an operand is still to be followed; an
+-- unknown value isn't, except at x and where it was forgotten
 pub record Forgetting (ops : ℕ → Option Header) (x : ℕ) (t : Facts) (trail rest : List ℕ) : Type 0 where
   pub known : (y : ℕ) (v : Known) → t y ≡ Some v → ((d : ℕ) → In d rest → Uses ops d y → ⊥) → value ops t y ≡ Some v
   pub unknown : (y : ℕ) → t y ≡ None → (y ≡ x → ⊥) → (In y trail → ⊥) → value ops t y ≡ None
 
--- of the operations that P tells, some of which nothing was known were learnt, and added to the trail; where it is
--- done, those of which nothing is known give nothing, but where an operand was learnt
+-- some of the operations that satisfy P were learned and appended to the trail; if the step was completed, an
+-- operation without a known value has no fold, unless an operand was learned
 pub record Learnt (done : Type 0) (ops : ℕ → Option Header) (P : ℕ → Type 0) (old new : Facts)
     (trail longer : List ℕ) : Type 0 where
   pub more : List ℕ
@@ -39,20 +40,21 @@ pub record Learnt (done : Type 0) (ops : ℕ → Option Header) (P : ℕ → Typ
   pub kept : done → (y : ℕ) → (In y more → ⊥) → new y ≡ old y
   pub settled : done → (y : ℕ) → P y → new y ≡ None → ((d : ℕ) → In d more → Uses ops d y → ⊥) → value ops new y ≡ None
 
--- a known value was written at x, and x was added to the trail; where it isn't done, the value alone may have been
--- written
+-- a known value was written at x, and x was appended to the trail; if the step wasn't completed, perhaps only the
+-- value was written
 abbrev pub Noted : Type 0 → ℕ → Known → Facts → Facts → List ℕ → List ℕ → Type 0
 Noted done x v old new trail longer =
     (((y : ℕ) → new y ≡ with_fact x (Some v) old y) × (longer ≡ trail ++ x ∷ []))
     ⊎ ((done → ⊥) × (longer ≡ trail) × (((y : ℕ) → new y ≡ with_fact x (Some v) old y) ⊎ ((y : ℕ) → new y ≡ old y)))
 
--- while learning: what is known follows, and what is unknown doesn't, but where an operand is still to be followed
+-- during the second phase: a known value is the fold of its operation, and an unknown value has none, unless an
+-- operand is still to be followed
 pub record Learning (ops : ℕ → Option Header) (t : Facts) (rest : List ℕ) : Type 0 where
   pub known : Follows ops t
   pub unknown : (y : ℕ) → t y ≡ None → ((d : ℕ) → In d rest → Uses ops d y → ⊥) → value ops t y ≡ None
 
--- what the second phase does, where `uses` counts the uses of an operation's results: the facts agree with the
--- operations where it is done, and it looks at what it learnt
+-- the second phase, where `uses` counts the uses of an operation's results: if it was completed, the facts agree with
+-- the operations; it looks at the operations that it learned
 pub record LearntFrom (done : Type 0) (ops : ℕ → Option Header) (uses : ℕ → ℕ) (x : ℕ) (forgotten : List ℕ)
     (old new : Facts) (before after : ℕ) : Type 0 where
   pub trail : List ℕ
@@ -61,11 +63,11 @@ pub record LearntFrom (done : Type 0) (ops : ℕ → Option Header) (uses : ℕ 
   pub few : after ≤ before + (1 + length forgotten + (total (λ d. 1 + uses d) trail + total uses trail))
   pub local : done → Forgetting ops x old forgotten [] → AreLocal ops new
 
--- operations are the same but for x
+-- the operations are the same except for x
 abbrev pub SameBut : ℕ → (ℕ → Option Header) → (ℕ → Option Header) → Type 0
 SameBut x was ops = (y : ℕ) → (y ≡ x → ⊥) → ops y ≡ was y
 
--- these are the operations of which the first result of d is an operand
+-- ys are the operations that have the first result of d as an operand
 pub record AreUsers (ops : ℕ → Option Header) (d : ℕ) (ys : List ℕ) : Type 0 where
   pub all : (y : ℕ) → Uses ops d y → In y ys
   pub only : (y : ℕ) → In y ys → Uses ops d y

@@ -1,8 +1,8 @@
--- The table of known values, and how it follows an event.
+-- The table of known values, and its updates.
 use Rattle.std.specs.Prelude.{◌≡◌, ℕ, ◌+◌, ◌≤◌, List, [], ◌∷◌, map, Option, None, Bool, true, false}
 use Rattle.std.specs.Ordering.{nat_cmp}
-use Rattle.id_map.specs.Map.{IdMap}
-use Rattle.id_map.specs.Map as idmap
+use Rattle.listeners_support.specs.Map.{IdMap}
+use Rattle.listeners_support.specs.Map as idmap
 use Rattle.ir_event.specs.types.declared.bits.Bits.{Bits}
 use Rattle.ir_event.specs.trees.Meaning.{Operation}
 use Rattle.ir_event.specs.declared.event.Event.{Event}
@@ -20,7 +20,7 @@ use Rattle.constants.specs.Reached.{uses_among, reached, most_over}
 use Rattle.constants.specs.Trails.{IsThere}
 use Rattle.constants.specs.Phases.{SameBut}
 
--- what a table knows
+-- the facts of a table
 abbrev pub known_in : IdMap Bits → Facts
 known_in table x = known_of (idmap.get table x)
 
@@ -28,7 +28,7 @@ known_in table x = known_of (idmap.get table x)
 abbrev pub cells_of : ℕ × Bits → List Cell
 cells_of e = Val (Result e.0 0) ∷ BitsCell e.1 ∷ []
 
--- the operations of a world's module, and how often the results of one are used
+-- the operations of the module, and the number of uses of an operation's results
 abbrev pub look_in : World → ℕ → Option Header
 look_in w = look (module_in w).tree
 
@@ -39,12 +39,12 @@ uses_in w = uses_among (heads (module_in w).tree)
 abbrev pub users_of : List (ℕ × ℕ) → List ℕ
 users_of us = map (λ (u : ℕ × ℕ). u.0) us
 
--- facts that agreed with operations that differ at x alone agree with these, where it is done
+-- if the update was completed, facts that agreed with operations that differ only at x agree with these operations
 abbrev pub Updated : Type 0 → (ℕ → Option Header) → ℕ → Facts → Facts → Type 0
 Updated done ops x a b = IsThere ops x → (was : ℕ → Option Header) → SameBut x was ops → AreLocal was a → done
     → AreLocal ops b
 
--- whether nothing can be learnt by an event: a table that follows it takes no memory
+-- whether the event can teach no value, so that the update needs no memory
 abbrev pub teaches_nothing : Event → Bool
 teaches_nothing (Put x place fresh) = false
 teaches_nothing (Take x place fresh) = true
@@ -52,7 +52,7 @@ teaches_nothing (SetOperand x k old new) = false
 teaches_nothing (SetEntry x part key old new) = false
 teaches_nothing (Shift x old new) = true
 
--- facts followed an event, where these operations are there now
+-- the facts were updated after an event, given the operations that are in the module now
 abbrev pub FactsFollowed : Type 0 → (ℕ → Option Header) → Event → Facts → Facts → Type 0
 FactsFollowed done ops (Put x place fresh) a b = Updated done ops x a b
 FactsFollowed done ops (Take x place fresh) a b = (y : ℕ) → b y ≡ with_fact x None a y
@@ -60,7 +60,7 @@ FactsFollowed done ops (SetOperand x k old new) a b = Updated done ops x a b
 FactsFollowed done ops (SetEntry x part key old new) a b = Updated done ops x a b
 FactsFollowed done ops (Shift x old new) a b = (y : ℕ) → b y ≡ a y
 
--- the looks of an update of x in a tree: at no more than what it reaches
+-- an update of x looks at no more than x reaches
 abbrev pub LooksWithin : Operation → ℕ → Facts → ℕ → ℕ → Type 0
 LooksWithin t x a before after =
     IsThere (look t) x → (was : ℕ → Option Header) → SameBut x was (look t) → AreLocal was a → AreOrdered [] (heads t)
@@ -72,7 +72,7 @@ LooksRenewed t x a before after =
     IsThere (look t) x → (was : ℕ → Option Header) → SameBut x was (look t) → AreLocal was a → AreOrdered [] (heads t)
     → 1 + after ≤ before + most_over (reached a (facts_of t) (heads t) x) (heads t)
 
--- those of following an event
+-- the looks of an update after an event
 abbrev pub LooksFollowed : Operation → Event → Facts → ℕ → ℕ → Type 0
 LooksFollowed t (Put x place fresh) a before after = LooksWithin t x a before after
 LooksFollowed t (Take x place fresh) a before after = after ≡ before
@@ -80,7 +80,7 @@ LooksFollowed t (SetOperand x k old new) a before after = LooksWithin t x a befo
 LooksFollowed t (SetEntry x part key old new) a before after = LooksWithin t x a before after
 LooksFollowed t (Shift x old new) a before after = after ≡ before
 
--- operations were folded one after another
+-- operations were folded in order
 abbrev pub WalkedIds : (ℕ → Option Header) → List ℕ → Facts → Facts → Type 0
 WalkedIds ops [] a b = (y : ℕ) → b y ≡ a y
 WalkedIds ops (x ∷ xs) a b =

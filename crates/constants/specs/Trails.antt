@@ -1,4 +1,4 @@
--- How operations use one another, and trails of operations.
+-- Uses between operations, and trails of operations.
 use Rattle.std.specs.Prelude.{◌≡◌, ℕ, ◌+◌, Bool, true, List, [], ◌∷◌, Option, Some}
 use Rattle.ir_event.specs.trees.declared.value.Value.TheVariants.{Result}
 use Rattle.ir_event.specs.tree_laws.Members.{In}
@@ -25,16 +25,17 @@ pub record Uses (ops : ℕ → Option Header) (d y : ℕ) : Type 0 where
 abbrev pub IsThere : (ℕ → Option Header) → ℕ → Type 0
 IsThere ops y = (h : Header) × (ops y ≡ Some h)
 
--- something is known of y
+-- the result of y has a known value
 abbrev pub IsKnown : Facts → ℕ → Type 0
 IsKnown t y = (v : Known) × (t y ≡ Some v)
 
--- what is known follows from what is known of operands
+-- each known value is the fold of its operation
 abbrev pub Follows : (ℕ → Option Header) → Facts → Type 0
 Follows ops t = (y : ℕ) (v : Known) → t y ≡ Some v → value ops t y ≡ Some v
 
--- each operation of the trail is in it once, something was known of it, and it is one of the first, or uses one of the
--- trail: it has whatever those have, and passes from operations of which something is known to their users
+-- each operation of the trail is in it once and had a known value, and it is a first operation or uses a result of
+-- the trail; so a property of the first operations that passes from operations with known values to their users holds
+-- for the trail
 pub record IsTrail (ops : ℕ → Option Header) (first : ℕ → Type 0) (t : Facts) (trail : List ℕ) : Type 0 where
   pub once : OnceEach trail
   pub known : (y : ℕ) → In y trail → IsKnown t y

@@ -1,4 +1,4 @@
-//! The table of a module, by one walk in order.
+//! Builds the table of a module in one pass in pre-order.
 ghost use Rattle.std.specs.Prelude.{◌≡◌, ℕ};
 ghost use Rattle.std.specs.Bool.{OnTrue};
 ghost use Rattle.ir_event.specs.trees.Ids.{ids};
@@ -10,14 +10,14 @@ ghost use Rattle.constants.specs.Tables.{known_in, look_in, WalkedIds};
 
 use crate::table::{drop_fact, note};
 use crate::users::folded;
-use id_map::IdMap;
 use ir_event::types::bits::Bits;
 use ir_event::types::ids::OpId;
 use ir_event::view::View;
 use ir_event::world::World;
+use listeners_support::IdMap;
 use std::alloc::Global;
 
-/// Writes what is known of an operation's result, or that nothing is. It is false where memory was refused.
+/// Writes the known value of an operation's result, or removes it. Returns `false` if memory ran out.
 fn write_found(table: &mut IdMap<Bits>, op: OpId, found: &Option<Bits>) -> bool
     ensures { OnTrue result ((y : ℕ)
         → known_in table.new y ≡ with_fact op (known_of found.now) (known_in table.old) y) }
@@ -31,7 +31,7 @@ fn write_found(table: &mut IdMap<Bits>, op: OpId, found: &Option<Bits>) -> bool
     }
 }
 
-/// Writes what an operation folds to, from what is known so far. It is false where memory was refused.
+/// Writes the fold of an operation, given the values known so far. Returns `false` if memory ran out.
 fn enter(alloc: Global, world: &World, table: &mut IdMap<Bits>, op: OpId) -> bool
     ensures { OnTrue result (IsThere (look_in world.now) op → (y : ℕ) → known_in table.new y
         ≡ with_fact op (value (look_in world.now) (known_in table.old) op) (known_in table.old) y) }
@@ -43,7 +43,7 @@ fn enter(alloc: Global, world: &World, table: &mut IdMap<Bits>, op: OpId) -> boo
     }
 }
 
-/// Writes what operations fold to, one after another.
+/// Writes the folds of operations in order. Returns `false` if memory ran out.
 fn enter_all(alloc: Global, world: &World, ops: &[OpId], table: &mut IdMap<Bits>) -> bool
     ensures { OnTrue result (WalkedIds (look_in world.now) ops.now (known_in table.old) (known_in table.new)) }
 {
@@ -55,7 +55,7 @@ fn enter_all(alloc: Global, world: &World, ops: &[OpId], table: &mut IdMap<Bits>
     true
 }
 
-/// Writes what the operations of a world's module fold to, in order. It is false where memory was refused.
+/// Writes the folds of all operations of the module in order. Returns `false` if memory ran out.
 pub(crate) fn enter_module(alloc: Global, world: &World, table: &mut IdMap<Bits>) -> bool
     ensures { OnTrue result (WalkedIds (look_in world.now) (ids world.now.store.module_of.tree) (known_in table.old)
         (known_in table.new)) }

@@ -1,4 +1,4 @@
-//! The table follows an event.
+//! Updates the table after an event.
 ghost use Rattle.std.specs.Prelude.{◌≡◌, ◌≤◌, ◌+◌, true};
 ghost use Rattle.ir_event.specs.Modules.{module_in};
 ghost use Rattle.constants.specs.Facts.{value};
@@ -11,14 +11,14 @@ use crate::forget::forget_from;
 use crate::learn::learn_from;
 use crate::table::{drop_fact, fact};
 use crate::users::folded;
-use id_map::IdMap;
 use ir_event::event::Event;
 use ir_event::types::bits::Bits;
 use ir_event::types::ids::OpId;
 use ir_event::view::View;
+use listeners_support::IdMap;
 use std::alloc::Global;
 
-/// Whether two known values, where there are any, are the same.
+/// Returns whether both values are unknown, or both are known and equal.
 fn are_same(one: &Option<Bits>, other: &Option<Bits>) -> bool
     ensures { result ≡ true → known_of one.now ≡ known_of other.now }
 {
@@ -29,7 +29,8 @@ fn are_same(one: &Option<Bits>, other: &Option<Bits>) -> bool
     }
 }
 
-/// Whether an operation is seen to fold to what is known of its result.
+/// Returns whether the known value of an operation's result is still its fold. `false` may also mean that memory ran
+/// out.
 fn is_settled(alloc: Global, view: &mut View<'_>, table: &IdMap<Bits>, op: OpId) -> bool
     ensures settled { result ≡ true → IsThere (look_in view.old.world.now) op
         → known_in table.now op ≡ value (look_in view.old.world.now) (known_in table.now) op }
@@ -42,8 +43,8 @@ fn is_settled(alloc: Global, view: &mut View<'_>, table: &IdMap<Bits>, op: OpId)
     are_same(&fact(table, op), &found)
 }
 
-/// Forgets what may have changed with an operation, then learns what can be known. It is false where memory was
-/// refused.
+/// Forgets the values that may have changed with an operation, then learns the values that can be known. Returns
+/// `false` if memory ran out.
 fn renew(alloc: Global, table: &mut IdMap<Bits>, view: &mut View<'_>, op: OpId) -> bool
     ensures updated { Updated (result ≡ true) (look_in view.old.world.now) op (known_in table.old)
         (known_in table.new) }
@@ -58,8 +59,8 @@ fn renew(alloc: Global, table: &mut IdMap<Bits>, view: &mut View<'_>, op: OpId) 
     learn_from(alloc, view, table, op, &forgotten)
 }
 
-/// Follows a change of one operation. Where it folds to what is known of its result all stays as it is. It is false
-/// where memory was refused.
+/// Updates the table after a change of one operation. If the operation still folds to its known value, nothing changes.
+/// Returns `false` if memory ran out.
 fn update(alloc: Global, table: &mut IdMap<Bits>, view: &mut View<'_>, op: OpId) -> bool
     ensures updated { Updated (result ≡ true) (look_in view.old.world.now) op (known_in table.old)
         (known_in table.new) }
@@ -73,7 +74,8 @@ fn update(alloc: Global, table: &mut IdMap<Bits>, view: &mut View<'_>, op: OpId)
     renew(alloc, table, view, op)
 }
 
-/// Follows an event. It is false where memory was refused, which an operation that is taken or moved doesn't need.
+/// Updates the table after an event. Returns `false` if memory ran out. An operation that is removed or moved needs
+/// none.
 pub(crate) fn follow(
     alloc: Global,
     table: &mut IdMap<Bits>,

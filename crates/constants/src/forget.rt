@@ -1,4 +1,4 @@
-//! The first phase: what may have changed is forgotten.
+//! The first phase: forgets the values that may have changed.
 ghost use Rattle.std.specs.Prelude.{◌≡◌, ◌≤◌, ◌+◌, ℕ, Option, [], ◌++◌, ◌∷◌, true, if◌then◌else◌};
 ghost use Rattle.ir_event.specs.tree_laws.Members.{In};
 ghost use Rattle.constants.specs.Facts.{Header, AreLocal};
@@ -8,13 +8,13 @@ ghost use Rattle.constants.specs.Tables.{known_in, look_in, uses_in, users_of};
 
 use crate::table::{drop_fact, fact};
 use crate::users::uses_of;
-use id_map::IdMap;
 use ir_event::store::uses::UsesOf;
 use ir_event::types::bits::Bits;
 use ir_event::types::ids::OpId;
 use ir_event::view::View;
+use listeners_support::IdMap;
 
-/// Adds an operation to a trail. It is false where memory was refused.
+/// Appends an operation to a trail. Returns `false` if memory ran out.
 pub(crate) fn push(trail: &mut Vec<OpId>, op: OpId) -> bool
     ensures { trail.new.items ≡ (if result then trail.old.items ++ op ∷ [] else trail.old.items) }
 {
@@ -24,8 +24,8 @@ pub(crate) fn push(trail: &mut Vec<OpId>, op: OpId) -> bool
     }
 }
 
-/// Forgets what is known of an operation's result, and adds it to the trail if something was known. It is false
-/// where memory was refused.
+/// Forgets the known value of an operation's result. If there was one, appends the operation to the trail. Returns
+/// `false` if memory ran out.
 fn forget(table: &mut IdMap<Bits>, op: OpId, trail: &mut Vec<OpId>) -> bool
     ensures { Forgotten (result ≡ true) (λ y. y ≡ op) (known_in table.old)
         (known_in table.new) trail.old.items trail.new.items }
@@ -40,7 +40,7 @@ fn forget(table: &mut IdMap<Bits>, op: OpId, trail: &mut Vec<OpId>) -> bool
     true
 }
 
-/// Forgets the operations of these uses.
+/// Forgets the known values of the operations with these uses.
 fn forget_all(table: &mut IdMap<Bits>, uses: UsesOf<'_>, trail: &mut Vec<OpId>) -> bool
     ensures { Forgotten (result ≡ true) (λ y. In y (users_of uses.entry)) (known_in table.old)
         (known_in table.new) trail.old.items trail.new.items }
@@ -53,7 +53,7 @@ fn forget_all(table: &mut IdMap<Bits>, uses: UsesOf<'_>, trail: &mut Vec<OpId>) 
     true
 }
 
-/// Forgets the operations that use an operation's result.
+/// Forgets the known values of the operations that use an operation's result.
 fn forget_users(
     view: &mut View<'_>,
     table: &mut IdMap<Bits>,
@@ -68,8 +68,8 @@ fn forget_users(
     forget_all(table, uses_of(view, op), trail)
 }
 
-/// Forgets what may have changed with an operation, along the users of what was known. The trail gets all that was
-/// forgotten. It is false where memory was refused.
+/// Forgets the values that may have changed with an operation, along the uses of known values. Appends the forgotten
+/// operations to the trail. Returns `false` if memory ran out.
 pub(crate) fn forget_from(
     view: &mut View<'_>,
     table: &mut IdMap<Bits>,

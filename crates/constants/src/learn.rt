@@ -1,4 +1,4 @@
-//! The second phase: what can be known is learnt.
+//! The second phase: learns the values that can be known.
 ghost use Rattle.std.specs.Prelude.{◌≡◌, ◌≤◌, ◌+◌, ◌⊎◌, ℕ, length, true, None, Option};
 ghost use Rattle.ir_event.specs.tree_laws.Members.{In};
 ghost use Rattle.dialects_int.specs.Folds.{known_of};
@@ -10,14 +10,14 @@ ghost use Rattle.constants.specs.Tables.{known_in, look_in, uses_in, users_of};
 use crate::forget::push;
 use crate::table::{fact, note};
 use crate::users::{folded, uses_of};
-use id_map::IdMap;
 use ir_event::store::uses::UsesOf;
 use ir_event::types::bits::Bits;
 use ir_event::types::ids::OpId;
 use ir_event::view::View;
+use listeners_support::IdMap;
 use std::alloc::Global;
 
-/// Writes a value, and adds the operation to the trail. It is false where memory was refused.
+/// Writes a known value, and appends the operation to the trail. Returns `false` if memory ran out.
 fn note_on(table: &mut IdMap<Bits>, op: OpId, bits: &Bits, trail: &mut Vec<OpId>) -> bool
     ensures { Noted (result ≡ true) op (bits.now.kind, bits.now.value) (known_in table.old)
         (known_in table.new) trail.old.items trail.new.items }
@@ -28,7 +28,7 @@ fn note_on(table: &mut IdMap<Bits>, op: OpId, bits: &Bits, trail: &mut Vec<OpId>
     push(trail, op)
 }
 
-/// Does so where there is a value.
+/// Writes a known value if there is one, and appends the operation to the trail. Returns `false` if memory ran out.
 fn note_found(
     table: &mut IdMap<Bits>,
     op: OpId,
@@ -45,8 +45,8 @@ fn note_found(
     }
 }
 
-/// Writes what an operation folds to, where nothing was known, and adds it to the trail if that is something. It is
-/// false where memory was refused.
+/// Writes the fold of an operation without a known value. If there is a fold, appends the operation to the trail.
+/// Returns `false` if memory ran out.
 fn learn(
     alloc: Global,
     view: &mut View<'_>,
@@ -68,7 +68,7 @@ fn learn(
     }
 }
 
-/// Tries the operations of these uses.
+/// Folds the operations with these uses.
 fn learn_uses(
     alloc: Global,
     view: &mut View<'_>,
@@ -90,7 +90,7 @@ fn learn_uses(
     true
 }
 
-/// Tries each of these operations.
+/// Folds each of these operations.
 fn learn_all(
     alloc: Global,
     view: &mut View<'_>,
@@ -112,7 +112,7 @@ fn learn_all(
     true
 }
 
-/// Tries an operation that changed, and those that were forgotten.
+/// Folds a changed operation, and the operations that were forgotten.
 fn learn_first(
     alloc: Global,
     view: &mut View<'_>,
@@ -134,7 +134,7 @@ fn learn_first(
     learn_all(alloc, view, table, forgotten, trail)
 }
 
-/// Tries the operations that use an operation's result.
+/// Folds the operations that use an operation's result.
 fn learn_users(
     alloc: Global,
     view: &mut View<'_>,
@@ -152,8 +152,8 @@ fn learn_users(
     learn_uses(alloc, view, table, uses, trail)
 }
 
-/// Learns what can be known after an operation changed and others were forgotten. It is false where memory was
-/// refused.
+/// Learns the values that can be known after an operation changed and others were forgotten. Returns `false` if memory
+/// ran out.
 pub(crate) fn learn_from(
     alloc: Global,
     view: &mut View<'_>,

@@ -1,4 +1,4 @@
-//! The known values of operations' results, kept up to date.
+//! The known values of operations' results, kept up to date by a listener (`constants`).
 #![tactic(auto)]
 
 mod collect;

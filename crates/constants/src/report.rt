@@ -1,20 +1,20 @@
 //! The rows of the report.
 ghost use Rattle.std.specs.Prelude.{◌≡◌, ◌+◌, ◌++◌, ◌∷◌, [], List, Option, OnOk, IfOk, map};
-ghost use Rattle.id_map.specs.Map as idmap;
-ghost use Rattle.id_map.specs.Map.{entries_from};
+ghost use Rattle.listeners_support.specs.Map as idmap;
+ghost use Rattle.listeners_support.specs.Map.{entries_from};
 ghost use Rattle.ir_event.specs.types.declared.bits.Bits.{Bits as Known};
 ghost use Rattle.ir_event.specs.declared.row.Row.{Row as Line};
 ghost use Rattle.constants.specs.Tables.{cells_of};
 
-use id_map::IdMap;
 use ir_event::row::{Cell, Row};
 use ir_event::trees::value::Value;
 use ir_event::types::bits::Bits;
 use ir_event::types::ids::OpId;
+use listeners_support::IdMap;
 use std::alloc::{AllocError, Global};
 use std::collections::BTreeMap;
 
-/// The row of a known value.
+/// Returns the row of a known value.
 fn line(alloc: Global, op: OpId, bits: &Bits) -> Result<Row, AllocError>
     ensures { IfOk result (λ row. row.cells.items ≡ cells_of (op, bits.now)) }
 {
@@ -24,7 +24,7 @@ fn line(alloc: Global, op: OpId, bits: &Bits) -> Result<Row, AllocError>
     Ok(Row { cells })
 }
 
-/// Adds the row of a known value.
+/// Appends the row of a known value.
 fn push_line(alloc: Global, op: OpId, bits: &Bits, out: &mut Vec<Row>) -> Result<(), AllocError>
     ensures { OnOk result (map (λ (r : Line). r.cells.items) out.new.items
         ≡ map (λ (r : Line). r.cells.items) out.old.items ++ cells_of (op, bits.now) ∷ []) }
@@ -33,7 +33,7 @@ fn push_line(alloc: Global, op: OpId, bits: &Bits, out: &mut Vec<Row>) -> Result
     Ok(())
 }
 
-/// Adds the row of what an id of a list has, if it has something.
+/// Appends the row of the value of an id in a list, if it has one.
 fn push_slot(
     alloc: Global,
     id: usize,
@@ -53,7 +53,7 @@ fn push_slot(
     push_line(alloc, OpId::new(number), bits, out)
 }
 
-/// Adds a row for each value of the ids of a list.
+/// Appends a row for each value of the ids in a list.
 fn push_near(alloc: Global, near: &[Option<Bits>], out: &mut Vec<Row>) -> Result<(), AllocError>
     ensures { OnOk result (map (λ (r : Line). r.cells.items) out.new.items
         ≡ map (λ (r : Line). r.cells.items) out.old.items ++ map cells_of (entries_from 0 near.now)) }
@@ -64,7 +64,7 @@ fn push_near(alloc: Global, near: &[Option<Bits>], out: &mut Vec<Row>) -> Result
     Ok(())
 }
 
-/// Adds a row for each value of the others.
+/// Appends a row for each value of the ids in a sorted map.
 fn push_far(alloc: Global, far: &BTreeMap<u32, Bits>, out: &mut Vec<Row>) -> Result<(), AllocError>
     ensures { OnOk result (map (λ (r : Line). r.cells.items) out.new.items
         ≡ map (λ (r : Line). r.cells.items) out.old.items ++ map cells_of far.now.entries) }
@@ -75,7 +75,7 @@ fn push_far(alloc: Global, far: &BTreeMap<u32, Bits>, out: &mut Vec<Row>) -> Res
     Ok(())
 }
 
-/// Adds a row for each known value.
+/// Appends a row for each known value.
 fn push_lines(alloc: Global, table: &IdMap<Bits>, out: &mut Vec<Row>) -> Result<(), AllocError>
     ensures { OnOk result (map (λ (r : Line). r.cells.items) out.new.items
         ≡ map (λ (r : Line). r.cells.items) out.old.items ++ map cells_of table.now.entries) }
@@ -85,7 +85,7 @@ fn push_lines(alloc: Global, table: &IdMap<Bits>, out: &mut Vec<Row>) -> Result<
     push_far(alloc, far, out)
 }
 
-/// A row for each known value, in order of the ids.
+/// Returns a row for each known value, ordered by id.
 pub(crate) fn lines(alloc: Global, table: &IdMap<Bits>) -> Result<Vec<Row>, AllocError>
     ensures rows { IfOk result (λ out. map (λ (r : Line). r.cells.items) out.items ≡ map cells_of table.now.entries) }
     ensures ordered { IfOk result (λ _. idmap.IsOrdered table.now) }

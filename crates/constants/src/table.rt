@@ -6,28 +6,28 @@ ghost use Rattle.constants.specs.Facts.{known, knowns};
 ghost use Rattle.constants.specs.Walk.{with_fact};
 ghost use Rattle.constants.specs.Tables.{known_in};
 
-use id_map::IdMap;
 use ir_event::trees::value::Value;
 use ir_event::types::bits::Bits;
 use ir_event::types::ids::OpId;
+use listeners_support::IdMap;
 use smallvec::SmallVec;
 use std::alloc::{AllocError, Global};
 
-/// What is known of an operation's result.
+/// Returns the known value of an operation's result, if there is one.
 pub(crate) fn fact(table: &IdMap<Bits>, op: OpId) -> Option<Bits>
     ensures { known_of result ≡ known_in table.now op }
 {
     table.get(op.number()).copied()
 }
 
-/// Forgets what is known of an operation's result. This needs no memory.
+/// Forgets the known value of an operation's result. Needs no memory.
 pub(crate) fn drop_fact(table: &mut IdMap<Bits>, op: OpId)
     ensures { (y : ℕ) → known_in table.new y ≡ with_fact op None (known_in table.old) y }
 {
     table.remove(op.number());
 }
 
-/// Writes what is known of an operation's result. It is false where memory was refused.
+/// Writes the known value of an operation's result. Returns `false` if memory ran out.
 pub(crate) fn note(table: &mut IdMap<Bits>, op: OpId, bits: &Bits) -> bool
     ensures noted { OnTrue result
         ((y : ℕ) → known_in table.new y ≡ with_fact op (known_of (Some bits.now)) (known_in table.old) y) }
@@ -39,7 +39,7 @@ pub(crate) fn note(table: &mut IdMap<Bits>, op: OpId, bits: &Bits) -> bool
     }
 }
 
-/// What is known of a value.
+/// Returns the known value of a value, if there is one.
 fn value_fact(table: &IdMap<Bits>, value: &Value) -> Option<Bits>
     ensures { known_of result ≡ known (known_in table.now) value.now }
 {
@@ -50,7 +50,7 @@ fn value_fact(table: &IdMap<Bits>, value: &Value) -> Option<Bits>
     }
 }
 
-/// What is known of each of these values. Most operations have two at most, for which no memory is taken.
+/// Returns the known value of each of these values, if it has one. Up to two values need no memory.
 pub(crate) fn value_facts(
     alloc: Global,
     table: &IdMap<Bits>,

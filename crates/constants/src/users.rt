@@ -1,4 +1,4 @@
-//! The operations that use the result of one, and what an operation folds to.
+//! The users of an operation's result, and the fold of an operation.
 ghost use Rattle.std.specs.Prelude.{◌≡◌, ◌≤◌, ◌+◌, length, IfOk};
 ghost use Rattle.dialects_int.specs.Folds.{known_of};
 ghost use Rattle.constants.specs.Facts.{value};
@@ -8,15 +8,15 @@ ghost use Rattle.constants.specs.Tables.{known_in, look_in, uses_in, users_of};
 
 use crate::table::value_facts;
 use dialects_int::fold::fold;
-use id_map::IdMap;
 use ir_event::store::uses::UsesOf;
 use ir_event::trees::value::Value;
 use ir_event::types::bits::Bits;
 use ir_event::types::ids::OpId;
 use ir_event::view::View;
+use listeners_support::IdMap;
 use std::alloc::{AllocError, Global};
 
-/// The uses of an operation's first result.
+/// Returns the uses of an operation's first result.
 pub(crate) fn uses_of<'a>(view: &mut View<'a>, op: OpId) -> UsesOf<'a>
     ensures users { AreUsers (look_in view.old.world.now) op (users_of result) }
     ensures count { length result ≤ uses_in view.old.world.now op }
@@ -26,7 +26,7 @@ pub(crate) fn uses_of<'a>(view: &mut View<'a>, op: OpId) -> UsesOf<'a>
     view.uses(Value::Result(op, 0))
 }
 
-/// What an operation that is shown folds to, from what the table knows.
+/// Returns the fold of an operation that the view shows, given the known values of the table.
 pub(crate) fn folded(
     alloc: Global,
     view: &mut View<'_>,

@@ -1,4 +1,4 @@
--- What the operations of a tree were, before heads were changed and an operation was taken out of it.
+-- The operations of a tree before heads were changed and an operation was taken out.
 use Rattle.std.proofs.Common.{◌≡◌, refl, ap, sym, ◌∙◌, subst, ℕ, zero, suc, ◌+◌, [], ◌∷◌, Option, Some, None}
 use Rattle.std.specs.Prelude.{option_and_then, slice_get}
 use Rattle.ir_event.specs.trees.declared.value.Value.{Value}
@@ -17,7 +17,7 @@ use Rattle.ir_event.proofs.of_tree_laws.Members.{found_stands, stand_found}
 use Rattle.ir_event.proofs.of_tree_laws.Without.{member_left, same_head}
 
 module _ {N T A : Type 0} where
-  -- operation w of a tree, which now is another, but for its head, which f changed
+  -- operation w of the old tree, which differs from the new one only in its head, changed by f
   pub record Was (f : HeadOf N T A → HeadOf N T A) (t : OpOf N T A) (w : ℕ) (o : OpOf N T A) : Type 0 where
     pub was : OpOf N T A
     pub found : find w t ≡ Some was

@@ -1,5 +1,5 @@
--- Casting back applies at a cast of a tree where it applied before heads were changed and an operation was taken out, if neither
--- its head nor that of what gives its operand was changed.
+-- Casting back applies at a cast if it applied there before heads were changed and an operation was taken out, unless
+-- the head of the cast or of its operand's defining operation changed.
 use Rattle.std.proofs.Common.{◌≡◌, refl, ap, sym, ◌∙◌, subst, inl, inr, ◌⊎◌, ℕ, Bool, true, false, true≢false, cond, ◌&&◌, eqb, eq-eqb, List, [], ◌∷◌, Option, Some, None, option_map}
 use Rattle.std.specs.Option.{option_eq}
 use Rattle.std.proofs.lemmas.Slice.Eq.{bytes_eq-Decides}
@@ -19,41 +19,41 @@ use Rattle.ir_event.proofs.of_tree_laws.Around.{place_of_member, present_stand}
 use Rattle.ir_event.proofs.of_tree_laws.Listed.{both}
 use Rattle.ir_event.proofs.of_tree_laws.Members.{stand, has_around}
 use Rattle.ir_event.specs.Modules.{Module}
-use Rattle.patterns_edits.specs.Contents.{Edit}
+use Rattle.patterns_base.specs.Contents.{Edit}
 use Rattle.patterns_base.specs.declared.rule.Rule.TheVariants.{CastBack}
 use Rattle.patterns_base.specs.Casting.{cast_back, unrealized, back_from, through_index}
 use Rattle.patterns_base.specs.Keeps.{given}
-use Rattle.patterns_base.specs.Looks.{Header, One, front_of, giver, in_front, is_clean, is_of_type, one, one_from, source, type_of, when}
+use Rattle.patterns_base.specs.Looks.{Header, One, front_of, defining_op, insertion_point, is_verified, is_of_type, one, one_from, source, type_of, when}
 use Rattle.patterns_base.specs.Makes.{give}
 use Rattle.patterns_base.specs.Rules.{rule}
-use Rattle.patterns_base.specs.Rewrites.{edits_of, suits}
+use Rattle.patterns_base.specs.Rewrites.{edits_of, eligible}
 use Rattle.patterns_base.specs.Words.{named, among, index_casts}
 use Rattle.conversion_base.specs.Reconciling.{is_cast, is_cast_found}
 use Rattle.conversion_base.specs.Targets.{cast_name}
 use Rattle.conversion_base.proofs.Falls.{found_id, rule_is}
 use Rattle.conversion_base.proofs.Makes.{given_some}
-use Rattle.conversion.proofs.Clean.{clean_alike}
+use Rattle.conversion.proofs.Verified.{verified_alike}
 use Rattle.conversion.proofs.From.{From, type_back}
 use Rattle.patterns_base.proofs.Facts.{when_some}
 
--- ---- how casting back comes to apply at a cast
+-- ---- when casting back applies at a cast
 
-edits_are : (m : Module) (x : ℕ) → edits_of CastBack m x ≡ given (find x m.tree) (λ o. given (front_of x m.tree) (λ front. when (is_clean m.tree (head o)) (rule CastBack m.tree m.next front o)))
-unfolding edits_of suits
+edits_are : (m : Module) (x : ℕ) → edits_of CastBack m x ≡ given (find x m.tree) (λ o. given (front_of x m.tree) (λ front. when (is_verified m.tree (head o)) (rule CastBack m.tree m.next front o)))
+unfolding edits_of eligible
 edits_are m x = refl
 
--- its operand has the result's type; or a cast gives it, whose operand has
+-- its operand has the type of the result; or a cast defines the operand, and the operand of that cast has that type
 abbrev Way : Operation → One → Type 0
 Way t p =
-    (is_of_type t p.ty p.first ≡ true) ⊎ ((y : Header) × (q : One) × (giver t p.first ≡ Some y) × (named p.name y.name ≡ true) × (is_clean t y ≡ true) × (one y ≡ Some q) × (is_of_type t p.ty q.first ≡ true))
+    (is_of_type t p.ty p.first ≡ true) ⊎ ((y : Header) × (q : One) × (defining_op t p.first ≡ Some y) × (named p.name y.name ≡ true) × (is_verified t y ≡ true) × (one y ≡ Some q) × (is_of_type t p.ty q.first ≡ true))
 
-source_some : (t : Operation) (name : List ℕ) (v : Value) (y : Header) → source t name v ≡ Some y → (giver t v ≡ Some y) × (named name y.name ≡ true) × (is_clean t y ≡ true)
+source_some : (t : Operation) (name : List ℕ) (v : Value) (y : Header) → source t name v ≡ Some y → (defining_op t v ≡ Some y) × (named name y.name ≡ true) × (is_verified t y ≡ true)
 source_some t name v y e =
-    let g = given_some (giver t v) (λ h. when (named name h.name && is_clean t h) (Some h)) y e in
-    let w = when_some (named name g.0.name && is_clean t g.0) (Some g.0) y g.2 in
+    let g = given_some (defining_op t v) (λ h. when (named name h.name && is_verified t h) (Some h)) y e in
+    let w = when_some (named name g.0.name && is_verified t g.0) (Some g.0) y g.2 in
     let same : g.0 ≡ y = (let s : Some g.0 ≡ Some y = w.1 in cc) in
-    let b = both (named name g.0.name) (is_clean t g.0) w.0 in
-    (g.1 ∙ ap Some same, ap (λ (h : Header). named name h.name) (sym same) ∙ b.0, ap (is_clean t) (sym same) ∙ b.1)
+    let b = both (named name g.0.name) (is_verified t g.0) w.0 in
+    (g.1 ∙ ap Some same, ap (λ (h : Header). named name h.name) (sym same) ∙ b.0, ap (is_verified t) (sym same) ∙ b.1)
 
 module _ (t : Operation) (n : ℕ) (front : Place) (o : Operation) (p : One) where
   way_from : (es : List Edit) → unrealized t n front o p ≡ Some es → Way t p
@@ -76,7 +76,7 @@ module _ (t : Operation) (n : ℕ) (front : Place) (o : Operation) (p : One) whe
       some = Some (give (head o).id w.1.first)
 
       sourced : source t p.name p.first ≡ Some w.0
-      sourced = ap (λ a. given a (λ h. when (named p.name h.name && is_clean t h) (Some h))) w.2 ∙ ap (λ b. when b (Some w.0)) (λ i. w.3 i && w.4 i)
+      sourced = ap (λ a. given a (λ h. when (named p.name h.name && is_verified t h) (Some h))) w.2 ∙ ap (λ b. when b (Some w.0)) (λ i. w.3 i && w.4 i)
 
       back : given (source t p.name p.first) (λ y. given (one y) (back_from t n front o p)) ≡ Some (give (head o).id w.1.first)
       back =
@@ -88,7 +88,7 @@ module _ (t : Operation) (n : ℕ) (front : Place) (o : Operation) (p : One) whe
       go true k = absurd cc
       go false k = (let none : Some (give (head o).id w.1.first) ≡ None = sym back ∙ k in absurd cc)
 
--- at a cast it is that
+-- casting back at a cast gives that
 rule_at : (t : Operation) (n : ℕ) (front : Place) (o : Operation) (p : One) → one (head o) ≡ Some p → named cast_name p.name ≡ true → rule CastBack t n front o ≡ unrealized t n front o p
 rule_at t n front o p e c = rule_is t n front o ∙ ap (λ a. given a of) e ∙ ap (λ b. cond b (unrealized t n front o p) (when (among index_casts p.name) (through_index t n front o p))) c
   where
@@ -105,13 +105,13 @@ one_name name (a ∷ []) (ty ∷ []) p e = (let same : record { name = name; fir
 one_name name (a ∷ []) (ty ∷ u ∷ ts) p e = absurd cc
 one_name name (a ∷ b ∷ vs) ts p e = absurd cc
 
--- where it applies at a cast
+-- casting back applies at a cast
 record Collapses (m : Module) (x : ℕ) : Type 0 where
   here : Operation
   front : Place
   found : find x m.tree ≡ Some here
   at : front_of x m.tree ≡ Some front
-  clean : is_clean m.tree (head here) ≡ true
+  verified : is_verified m.tree (head here) ≡ true
   ends : One
   one_is : one (head here) ≡ Some ends
   way : Way m.tree ends
@@ -123,7 +123,7 @@ collapses_from : (m : Module) (x : ℕ) (es : List Edit) → is_cast x m.tree �
 collapses_from m x es c e =
     let o = given_some (find x m.tree) _ es (sym (edits_are m x) ∙ e) in
     let f = given_some (front_of x m.tree) _ es o.2 in
-    let w = when_some (is_clean m.tree (head o.0)) _ es f.2 in
+    let w = when_some (is_verified m.tree (head o.0)) _ es f.2 in
     let r : cast_back m.tree m.next f.0 o.0 ≡ Some es = sym (rule_is m.tree m.next f.0 o.0) ∙ w.1 in
     let p = given_some (one (head o.0)) _ es r in
     let name = one_name (head o.0).name (head o.0).operands (head o.0).results p.0 p.1 in
@@ -133,7 +133,7 @@ collapses_from m x es c e =
       front = f.0;
       found = o.1;
       at = f.1;
-      clean = w.0;
+      verified = w.0;
       ends = p.0;
       one_is = p.1;
       way = way_at m.tree m.next f.0 o.0 p.0 p.1 cast es w.1;
@@ -145,13 +145,13 @@ collapses_to m x c k e =
     let cast = ap (named cast_name) name.0 ∙ named_cast x m.tree k.here c k.found in
     way_to m.tree m.next k.front k.here k.ends k.way (
     sym (rule_at m.tree m.next k.front k.here k.ends k.one_is cast)
-    ∙ sym (ap (λ b. when b (rule CastBack m.tree m.next k.front k.here)) k.clean)
-    ∙ sym (ap (λ a. given a (λ front. when (is_clean m.tree (head k.here)) (rule CastBack m.tree m.next front k.here))) k.at)
-    ∙ sym (ap (λ a. given a (λ o. given (front_of x m.tree) (λ front. when (is_clean m.tree (head o)) (rule CastBack m.tree m.next front o)))) k.found)
+    ∙ sym (ap (λ b. when b (rule CastBack m.tree m.next k.front k.here)) k.verified)
+    ∙ sym (ap (λ a. given a (λ front. when (is_verified m.tree (head k.here)) (rule CastBack m.tree m.next front k.here))) k.at)
+    ∙ sym (ap (λ a. given a (λ o. given (front_of x m.tree) (λ front. when (is_verified m.tree (head o)) (rule CastBack m.tree m.next front o)))) k.found)
     ∙ sym (edits_are m x)
     ∙ e)
 
--- an operation that isn't the root stands at a place
+-- an operation that isn't the root has a place
 placed : (t : Operation) → HasDistinctIds t → (x : ℕ) → has_id x t ≡ true → eqb (head t).id x ≡ false → (f : Place) × (front_of x t ≡ Some f)
 placed t d x h root =
     let s = present_stand [] t x h in
@@ -160,7 +160,7 @@ placed t d x h root =
       | inr w ↦
           let mem : In (stand s.0.here (w.0 ∷ w.1)) (stands [] t) = subst (λ l. In (stand s.0.here l) (stands [] t)) w.2 s.1 in
           let at = place_of_member t d s.0.here w.0 w.1 mem in
-          (_, ap (option_map (in_front x)) (ap (λ z. place_of z t) (sym s.2) ∙ at))
+          (_, ap (option_map (insertion_point x)) (ap (λ z. place_of z t) (sym s.2) ∙ at))
     ]
 
 -- ---- from one tree to another
@@ -179,7 +179,7 @@ module _ (f : Header → Header) (results : (h : Header) → (f h).results ≡ h
       go None i k = absurd (true≢false (sym k))
       go (Some u) i k = ap (λ b. option_eq same_type b (Some ty)) (type_back f results m.tree n.tree from v u i) ∙ k
 
-  -- what gives a value of an operation that kept its head
+  -- the defining operation of a value keeps its head
   record Given (g : ℕ) (y : Header) : Type 0 where
     now : Operation
     was : Operation
@@ -190,9 +190,9 @@ module _ (f : Header → Header) (results : (h : Header) → (f h).results ≡ h
 
   module _ (z : ℕ) (fixed : (p : Operation) → find z m.tree ≡ Some p → f (head p) ≡ head p)
       (given_fixed : (p : Operation) → find z m.tree ≡ Some p → (g k : ℕ) → In (Result g k) (head p).operands → (q : Operation) → find g m.tree ≡ Some q → f (head q) ≡ head q) where
-    giver_was : (p : Operation) → find z m.tree ≡ Some p → (g k : ℕ) → In (Result g k) (head p).operands → (y : Header) → (a : Option Operation) → find g n.tree ≡ a → option_map head a ≡ Some y → Given g y
-    giver_was p e g k h y None i j = absurd cc
-    giver_was p e g k h y (Some o) i j =
+    defining_op_was : (p : Operation) → find z m.tree ≡ Some p → (g k : ℕ) → In (Result g k) (head p).operands → (y : Header) → (a : Option Operation) → find g n.tree ≡ a → option_map head a ≡ Some y → Given g y
+    defining_op_was p e g k h y None i j = absurd cc
+    defining_op_was p e g k h y (Some o) i j =
         (let w = from g o i in
         let same : head o ≡ y = cc in
         record { now = o; was = w.was; found = i; found_was = w.found; is = same; same = same_node o w.was (w.is ∙ given_fixed p e g k h w.was w.found) w.arguments })
@@ -201,17 +201,17 @@ module _ (f : Header → Header) (results : (h : Header) → (f h).results ≡ h
     way_back p e ends h c (inl i) = inl (of_type_back ends.ty ends.first i)
     way_back p e ends h c (inr w) = inr (given_back ends.first h w.0 w.1 w.2 w.3 w.4 w.5 w.6)
       where
-        given_back : (v : Value) → In v (head p).operands → (y : Header) (q : One) → giver n.tree v ≡ Some y → named ends.name y.name ≡ true → is_clean n.tree y ≡ true → one y ≡ Some q → is_of_type n.tree ends.ty q.first ≡ true
-            → (y : Header) × (q : One) × (giver m.tree v ≡ Some y) × (named ends.name y.name ≡ true) × (is_clean m.tree y ≡ true) × (one y ≡ Some q) × (is_of_type m.tree ends.ty q.first ≡ true)
-        given_back (Arg g r k) h y q i name clean one_is ty = absurd cc
-        given_back (Result g k) h y q i name clean one_is ty =
-            (let w = giver_was p e g k h y (find g n.tree) refl i in
+        given_back : (v : Value) → In v (head p).operands → (y : Header) (q : One) → defining_op n.tree v ≡ Some y → named ends.name y.name ≡ true → is_verified n.tree y ≡ true → one y ≡ Some q → is_of_type n.tree ends.ty q.first ≡ true
+            → (y : Header) × (q : One) × (defining_op m.tree v ≡ Some y) × (named ends.name y.name ≡ true) × (is_verified m.tree y ≡ true) × (one y ≡ Some q) × (is_of_type m.tree ends.ty q.first ≡ true)
+        given_back (Arg g r k) h y q i name verified one_is ty = absurd cc
+        given_back (Result g k) h y q i name verified one_is ty =
+            (let w = defining_op_was p e g k h y (find g n.tree) refl i in
             let heads = same_head w.now w.was w.same in
             let id : y.id ≡ g = ap (λ (u : Header). u.id) (sym w.is) ∙ (found_id g n.tree w.now w.found).1 in
             let cast : named cast_name (head w.now).name ≡ true = ap (λ (u : Header). named cast_name u.name) w.is ∙ ap (named cast_name) ((bytes_eq-Decides y.name ends.name).0 name) ∙ c in
             let own : (head w.now).id ≡ g = ap (λ (u : Header). u.id) w.is ∙ id in
-            let cleans : is_clean n.tree (head w.now) ≡ is_clean m.tree (head w.now) = clean_alike n.tree m.tree w.now w.was (ap (λ x. find x n.tree) own ∙ w.found) (ap (λ x. find x m.tree) own ∙ w.found_was) w.same cast in
-            (y, q, ap (option_map head) w.found_was ∙ ap Some (sym heads ∙ w.is), name, ap (is_clean m.tree) (sym w.is) ∙ sym cleans ∙ ap (is_clean n.tree) w.is ∙ clean, one_is, of_type_back ends.ty q.first ty))
+            let cleans : is_verified n.tree (head w.now) ≡ is_verified m.tree (head w.now) = verified_alike n.tree m.tree w.now w.was (ap (λ x. find x n.tree) own ∙ w.found) (ap (λ x. find x m.tree) own ∙ w.found_was) w.same cast in
+            (y, q, ap (option_map head) w.found_was ∙ ap Some (sym heads ∙ w.is), name, ap (is_verified m.tree) (sym w.is) ∙ sym cleans ∙ ap (is_verified n.tree) w.is ∙ verified, one_is, of_type_back ends.ty q.first ty))
 
     pub rule_back : is_cast z n.tree ≡ true → is_cast z m.tree ≡ true → eqb (head m.tree).id z ≡ false → edits_of CastBack m z ≡ None → edits_of CastBack n z ≡ None
     rule_back c b root none = go (edits_of CastBack n z) refl
@@ -224,7 +224,7 @@ module _ (f : Header → Header) (results : (h : Header) → (f h).results ≡ h
             let id = found_id z n.tree k.here k.found in
             let there = found_id z m.tree w.was w.found in
             let at = placed m.tree d z there.0 root in
-            let cleans = clean_alike n.tree m.tree k.here w.was (ap (λ x. find x n.tree) id.1 ∙ k.found) (ap (λ x. find x m.tree) id.1 ∙ w.found) same (named_cast z n.tree k.here c k.found) in
+            let cleans = verified_alike n.tree m.tree k.here w.was (ap (λ x. find x n.tree) id.1 ∙ k.found) (ap (λ x. find x m.tree) id.1 ∙ w.found) same (named_cast z n.tree k.here c k.found) in
             let name = one_name (head k.here).name (head k.here).operands (head k.here).results k.ends k.one_is in
             let among_them : In k.ends.first (head w.was).operands = subst (λ l. In k.ends.first l) (sym name.1 ∙ ap (λ (h : Header). h.operands) heads) (inl refl) in
             record {
@@ -232,7 +232,7 @@ module _ (f : Header → Header) (results : (h : Header) → (f h).results ≡ h
               front = at.0;
               found = w.found;
               at = at.1;
-              clean = ap (is_clean m.tree) (sym heads) ∙ sym cleans ∙ k.clean;
+              verified = ap (is_verified m.tree) (sym heads) ∙ sym cleans ∙ k.verified;
               ends = k.ends;
               one_is = ap one (sym heads) ∙ k.one_is;
               way = way_back w.was w.found k.ends among_them (ap (named cast_name) name.0 ∙ named_cast z n.tree k.here c k.found) k.way;

@@ -7,8 +7,8 @@ pub mod Seen
 pub mod Trying
 pub mod Turns
 pub mod Walking
-pub mod Behind
-pub mod Clean
+pub mod Following
+pub mod Verified
 pub mod From
 pub mod Given
 pub mod Kept

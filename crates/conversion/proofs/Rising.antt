@@ -1,41 +1,41 @@
--- Each rule that stands made an operation at least, so rules are no more than the ids that were given out.
+-- Each applied rule made at least one operation, so there are at most as many applied rules as new ids.
 use Rattle.std.proofs.Common.{◌≡◌, refl, ap, sym, ◌∙◌, true≢false, ℕ, zero, suc, ◌+◌, ◌<◌, ◌≤◌, Bool, true, false, List, [], ◌∷◌, length, length-append, if◌then◌else◌, arith}
 use Rattle.std.specs.List.{list_all}
 use Rattle.ir_event.specs.trees.Ids.{has_id}
 use Rattle.ir_event.proofs.of_tree_laws.Listed.{both}
 use Rattle.ir_event.specs.Modules.{Module}
-use Rattle.conversion.specs.declared.tried.Tried.{Tried}
-use Rattle.conversion.specs.States.{Told}
+use Rattle.conversion.specs.declared.legalization.Legalization.{Legalization}
+use Rattle.conversion.specs.States.{IsLegalization}
 use Rattle.conversion_base.specs.Rewrites.{Rewrite, none, refused, becomes, rewrite_of}
 use Rattle.conversion_base.specs.Rule.{Rule}
-use Rattle.conversion_base.specs.declared.stood.Stood.{Stood}
+use Rattle.conversion_base.specs.declared.applied_rule.AppliedRule.{AppliedRule}
 use Rattle.conversion_base.specs.RuleNames.{is_converting}
 use Rattle.conversion_base.specs.Targets.{Aim, is_legal}
-use Rattle.conversion_base.specs.Legalization.{Outcome, legalised, failed, stopped, behind, and_then, or_else, standing, stood, each_of, after_rule, first_rule, legalization_of, made_since}
+use Rattle.conversion_base.specs.Legalization.{Outcome, legalised, failed, stopped, trailing, and_then, or_else, standing, applied_rule, each_of, after_rule, first_rule, legalization_of, made_since}
 
--- an outcome's rules, where a number of ids was given out before
+-- the number of applied rules of an outcome is at most the number of ids given out after a number
 abbrev pub Rises : ℕ → Outcome → Type 0
-Rises n (legalised p ks met) = length ks + n ≤ p.next
-Rises n (failed met) = Unit {0}
+Rises n (legalised p ks limit_reached) = length ks + n ≤ p.next
+Rises n (failed limit_reached) = Unit {0}
 Rises n (stopped e) = Unit {0}
 
 -- rules for conversion make operations
 abbrev pub Makes : Type 0
 Makes = (r : Rule) (x : ℕ) (m n : Module) → is_converting r ≡ true → rewrite_of r m x ≡ becomes n → m.next < n.next
 
-rises_behind : (ks : List Stood) (n l : ℕ) (met : Bool) (o : Outcome) → length ks + n ≤ l → Rises l o → Rises n (behind ks met o)
-rises_behind ks n l met (legalised p js deep) h r = let e = length-append ks js in omega (arith, h, r, e)
-rises_behind ks n l met (failed deep) h r = tt
-rises_behind ks n l met (stopped e) h r = tt
+rises_trailing : (ks : List AppliedRule) (n l : ℕ) (limit_reached : Bool) (o : Outcome) → length ks + n ≤ l → Rises l o → Rises n (trailing ks limit_reached o)
+rises_trailing ks n l limit_reached (legalised p js deep) h r = let e = length-append ks js in omega (arith, h, r, e)
+rises_trailing ks n l limit_reached (failed deep) h r = tt
+rises_trailing ks n l limit_reached (stopped e) h r = tt
 
 rises_then : (n : ℕ) (f : Module → Outcome) (o : Outcome) → Rises n o → ((m : Module) → Rises m.next (f m)) → Rises n (and_then f o)
-rises_then n f (legalised p ks met) r h = rises_behind ks n p.next met (f p) r (h p)
-rises_then n f (failed met) r h = tt
+rises_then n f (legalised p ks limit_reached) r h = rises_trailing ks n p.next limit_reached (f p) r (h p)
+rises_then n f (failed limit_reached) r h = tt
 rises_then n f (stopped e) r h = tt
 
 rises_else : (n : ℕ) (o p : Outcome) → Rises n o → Rises n p → Rises n (or_else o p)
-rises_else n (legalised m ks met) p r h = r
-rises_else n (failed met) p r h = rises_behind [] n n met p (omega arith) h
+rises_else n (legalised m ks limit_reached) p r h = r
+rises_else n (failed limit_reached) p r h = rises_trailing [] n n limit_reached p (omega arith) h
 rises_else n (stopped e) p r h = tt
 
 module _ (go : Module → ℕ → Outcome) (goes : (m : Module) (x : ℕ) → Rises m.next (go m x)) where
@@ -53,7 +53,7 @@ module _ (go : Module → ℕ → Outcome) (goes : (m : Module) (x : ℕ) → Ri
   rises_after : (r : Rule) (x : ℕ) (m : Module) (a : Rewrite) → ((n : Module) → a ≡ becomes n → m.next < n.next) → Rises m.next (after_rule go r x m a)
   rises_after r x m none h = tt
   rises_after r x m (refused e) h = tt
-  rises_after r x m (becomes n) h = let l = h n refl in rises_behind (stood r x m n ∷ []) m.next n.next false _ (omega (arith, l)) (rises_each (made_since m.next n) n)
+  rises_after r x m (becomes n) h = let l = h n refl in rises_trailing (applied_rule r x m n ∷ []) m.next n.next false _ (omega (arith, l)) (rises_each (made_since m.next n) n)
 
   rises_first : Makes → (rs : List Rule) → list_all is_converting rs ≡ true → (m : Module) (x : ℕ) → Rises m.next (first_rule go rs m x)
   rises_first makes [] a m x = tt
@@ -70,11 +70,11 @@ rises_legalization makes g a zero m x = rises_unless (is_legal g x m.tree) m (fa
 rises_legalization makes g a (suc d) m x =
     rises_unless (is_legal g x m.tree) m _ (rises_first (legalization_of g d) (rises_legalization makes g a d) makes g.rules a m x)
 
--- so what is told of a try that went well is no more than the ids that it gave out
-pub few_told : (go : Module → ℕ → Outcome) → ((m : Module) (x : ℕ) → Rises m.next (go m x)) → (m : Module) (x : ℕ) (t : Tried) (n : Module) → Told (standing go m x) t m n → t.legal ≡ true → length t.fired.items + m.next ≤ n.next
+-- a successful attempt has at most as many applied rules as it gave out ids
+pub few_told : (go : Module → ℕ → Outcome) → ((m : Module) (x : ℕ) → Rises m.next (go m x)) → (m : Module) (x : ℕ) (t : Legalization) (n : Module) → IsLegalization (standing go m x) t m n → t.legal ≡ true → length t.applied.items + m.next ≤ n.next
 few_told go goes m x t n = few (standing go m x) (rises_standing go goes m x)
   where
-    few : (o : Outcome) → Rises m.next o → Told o t m n → t.legal ≡ true → length t.fired.items + m.next ≤ n.next
+    few : (o : Outcome) → Rises m.next o → IsLegalization o t m n → t.legal ≡ true → length t.applied.items + m.next ≤ n.next
     few (legalised p ks deep) r c is = let e = ap (λ (q : Module). q.next) c.1.1.1 in let l = ap length c.1.0 in omega (arith, r, l, e)
     few (failed deep) r c is = absurd (true≢false (sym is ∙ c.0))
     few (stopped e) r c is = absurd c

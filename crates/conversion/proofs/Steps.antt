@@ -1,5 +1,5 @@
--- What a step at a cast leaves of the others: casting back applies to none of those before it, and no other is freed but those that
--- give its operands.
+-- What a step at a cast keeps for the other casts: casting back still applies to none of the earlier casts, and only
+-- the defining operations of its operands lose a use.
 use Rattle.std.proofs.Common.{◌≡◌, refl, ap, sym, ◌∙◌, subst, inl, inr, ◌⊎◌, ℕ, ◌+◌, Bool, true, false, true≢false, cond, not, ◌&&◌, eqb, eqb-true, List, [], ◌∷◌, map, Option, Some, None}
 use Rattle.std.specs.Prelude.{nat_le}
 use Rattle.std.specs.List.{IsDistinct}
@@ -19,7 +19,7 @@ use Rattle.ir_event.specs.trees.WellFormed.{IsWellFormed}
 use Rattle.ir_event.proofs.of_trees.Replaced.{same_value_true}
 use Rattle.ir_event.specs.tree_laws.Members.{In}
 use Rattle.ir_event.specs.tree_laws.Reads.{precedes}
-use Rattle.ir_event.specs.tree_laws.Stands.{StandOf, sees, dropping}
+use Rattle.ir_event.specs.tree_laws.Stands.{StandOf, dominated_by, dropping}
 use Rattle.ir_event.proofs.of_tree_laws.Around.{left_apart}
 use Rattle.ir_event.proofs.of_tree_laws.Formed.{from_formed}
 use Rattle.ir_event.proofs.of_tree_laws.Heads.{each_id}
@@ -29,8 +29,8 @@ use Rattle.ir_event.proofs.of_tree_laws.Members.{found_stands}
 use Rattle.ir_event.proofs.of_tree_laws.Without.{member_left, same_head}
 use Rattle.ir_event.specs.Modules.{Module}
 use Rattle.effects.specs.Dead.{is_unused}
-use Rattle.patterns_edits.specs.Contents.{Edit, all_edited, edited}
-use Rattle.patterns_edits.specs.Edits.{Erase}
+use Rattle.patterns_base.specs.Contents.{Edit, all_edited, edited}
+use Rattle.patterns_base.specs.Edits.{Erase}
 use Rattle.patterns_base.specs.declared.rule.Rule.TheVariants.{CastBack}
 use Rattle.patterns_base.specs.Looks.{Header}
 use Rattle.patterns_base.specs.Makes.{give, made_by}
@@ -40,7 +40,7 @@ use Rattle.conversion_base.specs.Reconciling.{collapse, is_cast, is_cast_found, 
 use Rattle.conversion_base.specs.Targets.{cast_name}
 use Rattle.conversion_base.proofs.Falls.{cast_there, found_id, given_at}
 use Rattle.conversion_base.proofs.Makes.{applies, rewritten}
-use Rattle.conversion.specs.Givers.{givers_of}
+use Rattle.conversion.specs.DefiningOps.{defining_ops_of}
 use Rattle.conversion.specs.Walks.{is_inner, NoRule}
 use Rattle.conversion.proofs.From.{From, from_both, from_edited, from_left}
 use Rattle.conversion.proofs.Kept.{rule_back}
@@ -92,7 +92,7 @@ no_edits m (Some es) e = absurd (go (nat_le (op_count m.tree + made_by es) most_
     go true false e = absurd cc
     go false b e = absurd cc
 
--- one that isn't taken away is no such cast, or used, and casting back doesn't apply to it
+-- a cast that isn't erased is used, and casting back doesn't apply to it
 pub none_parts : (m : Module) (x : ℕ) → collapse m x ≡ none → is_inner x m ≡ true → (is_unused x m.tree ≡ false) × (edits_of CastBack m x ≡ None)
 none_parts m x e i = used (is_unused x m.tree) refl (sym (ap (λ b. cond b (rewrite_or (unused_erased m x) (rewrite_of CastBack m x)) none) i) ∙ e)
   where
@@ -111,7 +111,7 @@ none_of_parts m x f = go (is_inner x m) refl
         ∙ ap (λ b. rewrite_or (cond b (becomes (edited (Erase x) m)) none) (rewrite_of CastBack m x)) p.0
         ∙ rewrite_is m x ∙ ap (λ o. rewrite_by o m) p.1)
 
--- one that casting back doesn't collapse goes since it isn't used
+-- a cast that casting back doesn't collapse is erased because it is unused
 pub only_erased : (m n : Module) (x : ℕ) → NoRule x m → collapse m x ≡ becomes n → is_unused x m.tree ≡ true
 only_erased m n x r e = elim (bool_cases (is_unused x m.tree)) [
   | inl u ↦ u
@@ -121,9 +121,9 @@ only_erased m n x r e = elim (bool_cases (is_unused x m.tree)) [
     no_becomes : (n : Module) → none ≡ becomes n → ⊥
     no_becomes n e = absurd cc
 
--- ---- what a step leaves
+-- ---- what a step keeps
 
--- a value that an operation doesn't have as operand may be replaced
+-- replacing a value keeps the operands of an operation without that value
 kept_operands : (v w : Value) (vs : List Value) → (In v vs → ⊥) → map (put_value v w) vs ≡ vs
 kept_operands v w [] f = refl
 kept_operands v w (u ∷ us) f = λ i. here i ∷ kept_operands v w us (λ h. f (inr h)) i
@@ -132,19 +132,19 @@ kept_operands v w (u ∷ us) f = λ i. here i ∷ kept_operands v w us (λ h. f 
     here = elim (bool_cases (same_value v u)) [ inl e ↦ absurd (f (inl (same_value_true v u e))) | inr e ↦ ap (λ b. cond b w u) e ]
 
 module _ (m : Module) (w : IsWellFormed is_isolated m) where
-  -- who uses a result of an operation comes behind it
-  user_behind : (y k z : ℕ) (p : Operation) → find z m.tree ≡ Some p → In (Result y k) (head p).operands → precedes y z m.tree ≡ true
-  user_behind y k z p e h =
+  -- a user of an operation's result comes after the operation
+  user_after : (y k z : ℕ) (p : Operation) → find z m.tree ≡ Some p → In (Result y k) (head p).operands → precedes y z m.tree ≡ true
+  user_after y k z p e h =
       let s = found_stands z m.tree p e in
-      let own = (from_formed is_isolated m.tree w.formed).sees_own s.0 s.1 in
-      let seen = all_each (sees is_isolated s.0.path) (head s.0.here).operands own (Result y k) (subst (λ (q : Operation). In (Result y k) (head q).operands) (sym s.3) h) in
+      let own = (from_formed is_isolated m.tree w.formed).dominated_by_own s.0 s.1 in
+      let seen = all_each (dominated_by is_isolated s.0.path) (head s.0.here).operands own (Result y k) (subst (λ (q : Operation). In (Result y k) (head q).operands) (sym s.3) h) in
       subst (λ i. precedes y i m.tree ≡ true) s.2 (seen_precedes m.tree w.distinct is_isolated s.0.path s.0.here s.1 y k seen)
 
   module _ (n : Module) (x : ℕ) (root : eqb (head m.tree).id x ≡ false) where
-    -- no head before it changes where its result is replaced
+    -- replacing its result changes no earlier head
     unchanged : (v : Value) (z : ℕ) (p : Operation) → find z m.tree ≡ Some p → precedes z x m.tree ≡ true → put_values (Result x 0) v (head p) ≡ head p
     unchanged v z p e before =
-        let kept = kept_operands (Result x 0) v (head p).operands (λ h. never_both m.tree w.distinct z x before (user_behind x 0 z p e h)) in
+        let kept = kept_operands (Result x 0) v (head p).operands (λ h. never_both m.tree w.distinct z x before (user_after x 0 z p e h)) in
         λ i. record (head p) { operands = kept i }
 
     from_erased : n.tree ≡ without x m.tree → From (λ h. h) m.tree n.tree
@@ -157,7 +157,7 @@ module _ (m : Module) (w : IsWellFormed is_isolated m) where
         let distinct : HasDistinctIds u = subst (IsDistinct eqb) (sym (edit_ids f (λ h. record { id = refl; name = refl; results = refl }) m.tree)) w.distinct in
         subst (From f m.tree) (sym is) (from_both f m.tree u (without x u) (from_edited f (λ h. refl) m.tree w.distinct) (from_left x u distinct))
 
-    -- the operation that goes isn't there any more
+    -- the erased operation is no longer in the tree
     gone_from : (u : Operation) → eqb (head u).id x ≡ false → (o : Operation) → find x (without x u) ≡ Some o → ⊥
     gone_from u r o e =
         let s = found_stands x (without x u) o e in
@@ -194,7 +194,7 @@ module _ (m : Module) (w : IsWellFormed is_isolated m) where
     inner_back (by_erasing u is) z i = inner_was (λ h. h) (λ h. refl) (λ h. refl) (from_erased is) (root_kept (by_erasing u is)) z i
     inner_back (by_rule u v is) z i = inner_was (put_values (Result x 0) v) (λ h. refl) (λ h. refl) (from_replaced v is) (root_kept (by_rule u v is)) z i
 
-    -- casting back comes to apply to none, where the step erases; else to none before
+    -- if the step only erases, casting back starts to apply nowhere; otherwise it starts to apply to no earlier cast
     no_rule_kept : (s : Step m n x) → (z : ℕ) → (is_unused x m.tree ≡ true) ⊎ (precedes z x m.tree ≡ true) → NoRule z m → NoRule z n
     no_rule_kept (by_erasing u is) z h r i =
         let b = inner_back (by_erasing u is) z i in
@@ -206,7 +206,7 @@ module _ (m : Module) (w : IsWellFormed is_isolated m) where
         let inner : is_inner z m ≡ true = λ j. b.1 j && not (b.2 j) in
         rule_back (put_values (Result x 0) v) (λ h. refl) m n (from_replaced v is) w.distinct z
         (λ p e. unchanged v z p e h)
-        (λ p e g k l q f. unchanged v g q f (precedes_through m.tree w.distinct g z x (user_behind g k z p e l) h))
+        (λ p e g k l q f. unchanged v g q f (precedes_through m.tree w.distinct g z x (user_after g k z p e l) h))
         b.0 b.1 b.2 (r inner)
 
     gone_now : (s : Step m n x) → is_inner x n ≡ true → ⊥
@@ -216,18 +216,18 @@ module _ (m : Module) (w : IsWellFormed is_isolated m) where
         let o = cast_there x n.tree b.0 in
         gone_from (with_value_replaced (Result x 0) v m.tree) (ap (λ y. eqb y x) (root_replaced v) ∙ root) o.0 (ap (find x) (sym is) ∙ o.1)
 
-    -- and none is freed but those that give an operand
-    freed : (s : Step m n x) → (o : Operation) → find x m.tree ≡ Some o → regions o ≡ no_regions → (z : ℕ) → eqb x z ≡ false → is_unused z m.tree ≡ false → is_unused z n.tree ≡ true → In z (givers_of (head o).operands)
+    -- only the defining operations of its operands lose a use
+    freed : (s : Step m n x) → (o : Operation) → find x m.tree ≡ Some o → regions o ≡ no_regions → (z : ℕ) → eqb x z ≡ false → is_unused z m.tree ≡ false → is_unused z n.tree ≡ true → In z (defining_ops_of (head o).operands)
     freed (by_erasing u is) o e bare z apart used unused = freed_erased x m.tree o w.distinct e bare z used (ap (is_unused z) (sym is) ∙ unused)
     freed (by_rule u v is) o e bare z apart used unused = freed_replaced x m.tree o w.distinct e bare v z apart used (ap (is_unused z) (sym is) ∙ unused)
 
--- ---- so
+-- ---- conclusions
 
 module _ (m n : Module) (x : ℕ) (w : IsWellFormed is_isolated m) (e : collapse m x ≡ becomes n) where
   abbrev root : eqb (head m.tree).id x ≡ false
   root = not_false (eqb (head m.tree).id x) (both (is_cast x m.tree) (not (eqb (head m.tree).id x)) (step_of m n x e).0).1
 
-  -- casting back applies to none to which it didn't apply, where the step erases; else to none before
+  -- if the step only erases, casting back still applies to no cast where it didn't; otherwise to no earlier cast
   pub still_stuck : (z : ℕ) → (is_unused x m.tree ≡ true) ⊎ (precedes z x m.tree ≡ true) → NoRule z m → NoRule z n
   still_stuck z h r = no_rule_kept m w n x root (step_of m n x e).1 z h r
 
@@ -237,8 +237,8 @@ module _ (m n : Module) (x : ℕ) (w : IsWellFormed is_isolated m) (e : collapse
   pub step_gone : is_inner x n ≡ true → ⊥
   step_gone i = gone_now m w n x root (step_of m n x e).1 i
 
-  -- what wasn't taken away isn't now, if it gives no operand
-  pub still_none : (o : Operation) → find x m.tree ≡ Some o → regions o ≡ no_regions → (z : ℕ) → (In z (givers_of (head o).operands) → ⊥) → NoRule z n → collapse m z ≡ none → collapse n z ≡ none
+  -- an operation that couldn't be erased still can't be, unless it is a defining operation of an operand
+  pub still_none : (o : Operation) → find x m.tree ≡ Some o → regions o ≡ no_regions → (z : ℕ) → (In z (defining_ops_of (head o).operands) → ⊥) → NoRule z n → collapse m z ≡ none → collapse n z ≡ none
   still_none o f bare z apart r c = none_of_parts n z (λ i.
       let p = none_parts m z c (was_inner z i) in (
         elim (bool_cases (is_unused z n.tree)) [

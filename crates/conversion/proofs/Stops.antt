@@ -1,54 +1,54 @@
--- Why an operation stays, as operations are legalised in turn.
+-- The reason why an operation can't be legalized, as operations are legalized in turn.
 use Rattle.std.proofs.Common.{◌≡◌, refl, ap, sym, ◌∙◌, subst, inl, inr, true≢false, ℕ, ◌-◌, ◌<◌, ◌≤◌, Bool, true, false, List, [], ◌∷◌, length, take, drop, get_or, if◌then◌else◌, Option, Some, None, Ok, Err, arith}
-use Rattle.ir_event.specs.types.Things.{Things}
+use Rattle.ir_event.specs.types.Things.{ContextModel}
 use Rattle.ir_event.specs.types.declared.refusal.Refusal.TheVariants.{BadTarget}
 use Rattle.ir_event.specs.trees.Ids.{ids}
 use Rattle.ir_event.specs.Modules.{Module}
 use Rattle.ir_event.proofs.of_types.Truths.{rest_at}
 use Rattle.conversion_base.specs.Targets.{Aim, is_accepted}
 use Rattle.conversion_base.specs.Legalization.{Outcome, legalised, failed, stopped, legalization_of, standing}
-use Rattle.conversion_base.specs.Conversion.{Ended, given_up, all_parts, conversion_of, ended_at, ended_behind, failing, in_turn, later_parts, legalised_at, next_part}
+use Rattle.conversion_base.specs.Conversion.{Ended, given_up, all_parts, conversion_of, ended_at, ended_after, failing, in_turn, later_parts, legalised_at, next_part}
 use Rattle.conversion_base.specs.Rule.{Rule}
-use Rattle.conversion_base.specs.declared.stood.Stood.{Stood}
+use Rattle.conversion_base.specs.declared.applied_rule.AppliedRule.{AppliedRule}
 use Rattle.conversion.specs.declared.fault.Fault.{Fault}
-use Rattle.conversion.specs.declared.stay.Stay.{Stay}
-use Rattle.conversion.specs.declared.stopped.Stopped.{Stopped}
-use Rattle.conversion.specs.declared.tried.Tried.{Tried}
+use Rattle.conversion.specs.declared.match_failure.MatchFailure.{MatchFailure}
+use Rattle.conversion.specs.declared.conversion_error.ConversionError.{ConversionError}
+use Rattle.conversion.specs.declared.legalization.Legalization.{Legalization}
 use Rattle.conversion.specs.Converting.{conversion_to, stay_to}
 use Rattle.conversion.specs.States.{State, Comes, Ends, Faults, StopsAt}
-use Rattle.conversion.specs.Staying.{last_rule, stay_by, stay_of, stay_told, staying, stays_on}
+use Rattle.conversion.specs.MatchFailures.{last_rule, match_failure_by, unlegalised_op, reported_failure, staying, stays_on}
 use Rattle.conversion.proofs.Turns.{failed_ends, wanted}
 
--- a refusal that is for no operation
-pub none_stays : (e : Stopped) (z : Option (ℕ × Stay)) → e.fault.id ≡ None → e.stay ≡ None → e.stay ≡ stay_told e.fault.id z
-none_stays e z i s = s ∙ sym (ap (λ (x : Option ℕ). stay_told x z) i)
+-- a refusal that isn't about an operation
+pub none_stays : (e : ConversionError) (z : Option (ℕ × MatchFailure)) → e.fault.id ≡ None → e.failure ≡ None → e.failure ≡ reported_failure e.fault.id z
+none_stays e z i s = s ∙ sym (ap (λ (x : Option ℕ). reported_failure x z) i)
 
--- one where none stays
-told_none : (i : Option ℕ) → stay_told i None ≡ None
+-- a refusal without a match failure
+told_none : (i : Option ℕ) → reported_failure i None ≡ None
 told_none None = refl
 told_none (Some x) = refl
 
-pub behind_stays : (e : Stopped) (z : Option (ℕ × Stay)) → z ≡ None → e.stay ≡ None → e.stay ≡ stay_told e.fault.id z
-behind_stays e z n s = s ∙ sym (told_none e.fault.id) ∙ ap (λ (y : Option (ℕ × Stay)). stay_told e.fault.id y) (sym n)
+pub after_stays : (e : ConversionError) (z : Option (ℕ × MatchFailure)) → z ≡ None → e.failure ≡ None → e.failure ≡ reported_failure e.fault.id z
+after_stays e z n s = s ∙ sym (told_none e.fault.id) ∙ ap (λ (y : Option (ℕ × MatchFailure)). reported_failure e.fault.id y) (sym n)
 
 -- ---- at an operation
 
--- no rule helped
-pub failed_stays : (next : Module → Option (ℕ × Stay)) (by : Module → Stay) (x : ℕ) (o : Outcome) (t : Tried) (a b : State) (e : Stopped) → Comes o (Ok t) a b → t.legal ≡ false → StopsAt t.met x (by b.held) e
-    → e.stay ≡ stay_told e.fault.id (stays_on next x (by a.held) o)
+-- no rule succeeded
+pub failed_stays : (next : Module → Option (ℕ × MatchFailure)) (by : Module → MatchFailure) (x : ℕ) (o : Outcome) (t : Legalization) (a b : State) (e : ConversionError) → Comes o (Ok t) a b → t.legal ≡ false → StopsAt t.limit_reached x (by b.held) e
+    → e.failure ≡ reported_failure e.fault.id (stays_on next x (by a.held) o)
 failed_stays next by x (legalised p ks deep) t a b e c is h = absurd (true≢false (sym c.0 ∙ is))
 failed_stays next by x (failed deep) t a b e c is (inl h) =
-    h.1.1 ∙ sym (ap (λ (i : Option ℕ). stay_told i (Some (x, by b.held))) h.1.0) ∙ ap (λ (m : Module). stay_told e.fault.id (Some (x, by m))) c.1.1
+    h.1.1 ∙ sym (ap (λ (i : Option ℕ). reported_failure i (Some (x, by b.held))) h.1.0) ∙ ap (λ (m : Module). reported_failure e.fault.id (Some (x, by m))) c.1.1
 failed_stays next by x (failed deep) t a b e c is (inr h) = none_stays e _ h.1.0 h.1.1
 failed_stays next by x (stopped r) t a b e c is h = absurd c
 
-pub failed_at : (x : ℕ) (o : Outcome) (t : Tried) (a b : State) (s : Stay) (e : Stopped) → Comes o (Ok t) a b → t.legal ≡ false → StopsAt t.met x s e → Ends (ended_at x o) (Err e.fault) b
+pub failed_at : (x : ℕ) (o : Outcome) (t : Legalization) (a b : State) (s : MatchFailure) (e : ConversionError) → Comes o (Ok t) a b → t.legal ≡ false → StopsAt t.limit_reached x s e → Ends (ended_at x o) (Err e.fault) b
 failed_at x o t a b s e c is (inl h) = failed_ends x o t a b e.fault c is h.0 h.1.0
 failed_at x o t a b s e c is (inr h) = wanted (ended_at x o) e.fault b.things (h.1.0, inl h.0)
 
 -- ---- operations in turn
 
-goes_stay : (f : Module → Option (ℕ × Stay)) (x : ℕ) (s : Stay) (o : Outcome) (ks : List Stood) (n : State) → Ends (ended_at x o) (Ok ks) n → f n.held ≡ stays_on f x s o
+goes_stay : (f : Module → Option (ℕ × MatchFailure)) (x : ℕ) (s : MatchFailure) (o : Outcome) (ks : List AppliedRule) (n : State) → Ends (ended_at x o) (Ok ks) n → f n.held ≡ stays_on f x s o
 goes_stay f x s (legalised p js deep) ks n h = ap f h.1
 goes_stay f x s (failed deep) ks n h = absurd h
 goes_stay f x s (stopped e) ks n h = absurd h
@@ -60,15 +60,15 @@ module _ (g : Aim) (all : List ℕ) (start : State) where
   same_rest : (xs : List ℕ) (x : ℕ) (here : State) → 1 ≤ length xs → x ≡ get_or xs 0 x → StillStays xs here → StillStays (x ∷ take (length xs - 1) (drop 1 xs)) here
   same_rest xs x here l z h = sym (ap (λ ys. staying g ys here.held) (rest_at xs x x l z)) ∙ h
 
-  pub stays_more : (xs : List ℕ) (x : ℕ) (ks : List Stood) (here next : State) → 1 ≤ length xs → x ≡ get_or xs 0 x → StillStays xs here → Ends (legalised_at g here.held x) (Ok ks) next → StillStays (take (length xs - 1) (drop 1 xs)) next
+  pub stays_more : (xs : List ℕ) (x : ℕ) (ks : List AppliedRule) (here next : State) → 1 ≤ length xs → x ≡ get_or xs 0 x → StillStays xs here → Ends (legalised_at g here.held x) (Ok ks) next → StillStays (take (length xs - 1) (drop 1 xs)) next
   stays_more xs x ks here next l z h c =
-      goes_stay (staying g (take (length xs - 1) (drop 1 xs))) x (stay_by (last_rule g.rules) here.held x) (standing (legalization_of g g.depth) here.held x) ks next c ∙ same_rest xs x here l z h
+      goes_stay (staying g (take (length xs - 1) (drop 1 xs))) x (match_failure_by (last_rule g.rules) here.held x) (standing (legalization_of g g.depth) here.held x) ks next c ∙ same_rest xs x here l z h
 
-  pub stays_stops : (xs : List ℕ) (x : ℕ) (here : State) (e : Stopped) → 1 ≤ length xs → x ≡ get_or xs 0 x → StillStays xs here
-      → ((next : Module → Option (ℕ × Stay)) → e.stay ≡ stay_told e.fault.id (stays_on next x (stay_by (last_rule g.rules) here.held x) (standing (legalization_of g g.depth) here.held x)))
-      → e.stay ≡ stay_told e.fault.id (staying g all start.held)
+  pub stays_stops : (xs : List ℕ) (x : ℕ) (here : State) (e : ConversionError) → 1 ≤ length xs → x ≡ get_or xs 0 x → StillStays xs here
+      → ((next : Module → Option (ℕ × MatchFailure)) → e.failure ≡ reported_failure e.fault.id (stays_on next x (match_failure_by (last_rule g.rules) here.held x) (standing (legalization_of g g.depth) here.held x)))
+      → e.failure ≡ reported_failure e.fault.id (staying g all start.held)
   stays_stops xs x here e l z h k =
-      k (staying g (take (length xs - 1) (drop 1 xs))) ∙ ap (λ (y : Option (ℕ × Stay)). stay_told e.fault.id y) (same_rest xs x here l z h)
+      k (staying g (take (length xs - 1) (drop 1 xs))) ∙ ap (λ (y : Option (ℕ × MatchFailure)). reported_failure e.fault.id y) (same_rest xs x here l z h)
 
   pub stays_done : (xs : List ℕ) (here : State) → length xs < 1 → StillStays xs here → staying g all start.held ≡ None
   stays_done [] here l h = sym h
@@ -81,43 +81,43 @@ last_more r s xs all l z h = sym (ap (λ ys. last_rule (r ∷ ys)) (rest_at xs s
 
 -- ---- of a module
 
-pub stay_accepted : (g : Aim) (m : Module) → is_accepted g ≡ true → stay_of g m ≡ staying g (ids m.tree) m
+pub stay_accepted : (g : Aim) (m : Module) → is_accepted g ≡ true → unlegalised_op g m ≡ staying g (ids m.tree) m
 stay_accepted g m a = ap (λ b. if b then staying g (ids m.tree) m else None) a
 
--- ---- the operation that stays is that of the fault
+-- ---- the operation of the match failure is that of the fault
 
-stay_step : (f : Module → Option (ℕ × Stay)) (k : Module → Ended) (x : ℕ) (by : Stay) (s : ℕ × Stay) → ((m : Module) → f m ≡ Some s → (met : Bool) × (k m ≡ given_up (failing met) (Some s.0)))
-    → (o : Outcome) → stays_on f x by o ≡ Some s → (met : Bool) × (next_part k (ended_at x o) ≡ given_up (failing met) (Some s.0))
-stay_step f k x by s h (legalised n ks met) e = let r = h n e in (r.0, ap (ended_behind ks) r.1)
-stay_step f k x by s h (failed met) e =
+stay_step : (f : Module → Option (ℕ × MatchFailure)) (k : Module → Ended) (x : ℕ) (by : MatchFailure) (s : ℕ × MatchFailure) → ((m : Module) → f m ≡ Some s → (limit_reached : Bool) × (k m ≡ given_up (failing limit_reached) (Some s.0)))
+    → (o : Outcome) → stays_on f x by o ≡ Some s → (limit_reached : Bool) × (next_part k (ended_at x o) ≡ given_up (failing limit_reached) (Some s.0))
+stay_step f k x by s h (legalised n ks limit_reached) e = let r = h n e in (r.0, ap (ended_after ks) r.1)
+stay_step f k x by s h (failed limit_reached) e =
     let is : (x, by) ≡ s = cc in
-    (met, ap (λ (z : ℕ × Stay). given_up (failing met) (Some z.0)) is)
+    (limit_reached, ap (λ (z : ℕ × MatchFailure). given_up (failing limit_reached) (Some z.0)) is)
 stay_step f k x by s h (stopped r) e = absurd cc
 
-pub stay_ends : (g : Aim) (xs : List ℕ) (m : Module) (s : ℕ × Stay) → staying g xs m ≡ Some s → (met : Bool) × (in_turn (legalised_at g) xs m ≡ given_up (failing met) (Some s.0))
+pub stay_ends : (g : Aim) (xs : List ℕ) (m : Module) (s : ℕ × MatchFailure) → staying g xs m ≡ Some s → (limit_reached : Bool) × (in_turn (legalised_at g) xs m ≡ given_up (failing limit_reached) (Some s.0))
 stay_ends g [] m s e = absurd cc
 stay_ends g (x ∷ xs) m s e =
-    stay_step (staying g xs) (in_turn (legalised_at g) xs) x (stay_by (last_rule g.rules) m x) s (λ n. stay_ends g xs n s) (standing (legalization_of g g.depth) m x) e
+    stay_step (staying g xs) (in_turn (legalised_at g) xs) x (match_failure_by (last_rule g.rules) m x) s (λ n. stay_ends g xs n s) (standing (legalization_of g g.depth) m x) e
 
-all_stay_ends : (g : Aim) (m : Module) (s : ℕ × Stay) → stay_of g m ≡ Some s → (met : Bool) × (conversion_of g m ≡ given_up (failing met) (Some s.0))
+all_stay_ends : (g : Aim) (m : Module) (s : ℕ × MatchFailure) → unlegalised_op g m ≡ Some s → (limit_reached : Bool) × (conversion_of g m ≡ given_up (failing limit_reached) (Some s.0))
 all_stay_ends g m s e = go (is_accepted g) e
   where
-    go : (b : Bool) → (if b then staying g (ids m.tree) m else None) ≡ Some s → (met : Bool) × ((if b then all_parts g m else given_up BadTarget None) ≡ given_up (failing met) (Some s.0))
+    go : (b : Bool) → (if b then staying g (ids m.tree) m else None) ≡ Some s → (limit_reached : Bool) × ((if b then all_parts g m else given_up BadTarget None) ≡ given_up (failing limit_reached) (Some s.0))
     go true h = (let r = stay_ends g (ids m.tree) m s h in (r.0, ap (later_parts g) r.1))
     go false h = absurd cc
 
--- one that is told beside a fault is why the operation stays that the fault is for
-pub fault_is_for : (o : Option Aim) (m : Module) (f : Fault) (c : Things) (x : ℕ) (s : ℕ × Stay) → Faults (conversion_to o m) f c → f.id ≡ Some x → stay_to o m ≡ Some s → s.0 ≡ x
+-- a reported match failure is about the operation of the fault
+pub fault_is_for : (o : Option Aim) (m : Module) (f : Fault) (c : ContextModel) (x : ℕ) (s : ℕ × MatchFailure) → Faults (conversion_to o m) f c → f.id ≡ Some x → stay_to o m ≡ Some s → s.0 ≡ x
 fault_is_for None m f c x s h i k = absurd cc
 fault_is_for (Some g) m f c x s h i k =
     let e = all_stay_ends g m s k in
     go e.0 (subst (λ (d : Ended). Faults d f c) e.1 h)
   where
-    go : (met : Bool) → Faults (given_up (failing met) (Some s.0)) f c → s.0 ≡ x
-    go met (inl (p, q)) = (let same : Some s.0 ≡ Some x = sym q ∙ i in cc)
-    go met (inr w) = absurd (let none : None ≡ Some x = sym w.0 ∙ i in cc)
+    go : (limit_reached : Bool) → Faults (given_up (failing limit_reached) (Some s.0)) f c → s.0 ≡ x
+    go limit_reached (inl (p, q)) = (let same : Some s.0 ≡ Some x = sym q ∙ i in cc)
+    go limit_reached (inr w) = absurd (let none : None ≡ Some x = sym w.0 ∙ i in cc)
 
--- ---- what is told beside a fault
+-- ---- the match failure that is reported with a fault
 
-pub untold : (P : Option Stay → Type 0) (f : Fault) (z : Option (ℕ × Stay)) → f.id ≡ None → P None → P (stay_told f.id z)
-untold P f z i h = subst (λ (x : Option ℕ). P (stay_told x z)) (sym i) h
+pub untold : (P : Option MatchFailure → Type 0) (f : Fault) (z : Option (ℕ × MatchFailure)) → f.id ≡ None → P None → P (reported_failure f.id z)
+untold P f z i h = subst (λ (x : Option ℕ). P (reported_failure x z)) (sym i) h

@@ -1,4 +1,4 @@
--- Which operations lose their last use when an operation goes: those alone that give its operands.
+-- When an operation is erased, only the defining operations of its operands can lose their last use.
 use Rattle.std.proofs.Common.{◌≡◌, refl, ap, sym, ◌∙◌, subst, ℕ, Bool, true, false, true≢false, cond, not, ◌&&◌, ◌||◌, eqb, eqb-true, List, [], ◌∷◌, map, Some, inl, inr}
 use Rattle.std.specs.List.{list_all}
 use Rattle.ir_event.specs.trees.declared.value.Value.{Value}
@@ -16,10 +16,10 @@ use Rattle.ir_event.proofs.of_tree_laws.Members.{stand, stand_found}
 use Rattle.ir_event.proofs.of_tree_laws.Readings.{stands_every}
 use Rattle.ir_event.proofs.of_tree_laws.Without.{left_member, same_head}
 use Rattle.effects.specs.Dead.{is_result_of, is_unused}
-use Rattle.conversion.specs.Givers.{givers_of}
+use Rattle.conversion.specs.DefiningOps.{defining_ops_of}
 use Rattle.std.proofs.lemmas.Bool.{not-false}
 
--- one of a list for which a test fails
+-- an element of a list that fails a test
 some_fails : {X : Type 0} (p : X → Bool) (xs : List X) → list_all p xs ≡ false → (x : X) × In x xs × (p x ≡ false)
 some_fails p [] e = absurd (true≢false e)
 some_fails {X} p (x ∷ xs) e = go (p x) refl e (some_fails p xs)
@@ -28,16 +28,16 @@ some_fails {X} p (x ∷ xs) e = go (p x) refl e (some_fails p xs)
     go true i k rest = let w = rest k in (w.0, inr w.1, w.2)
     go false i k rest = (x, inl refl, i)
 
--- a result that is used is given
-given_among : (z : ℕ) (v : Value) (vs : List Value) → is_result_of z v ≡ true → In v vs → In z (givers_of vs)
+-- a used result has its defining operation in the list
+given_among : (z : ℕ) (v : Value) (vs : List Value) → is_result_of z v ≡ true → In v vs → In z (defining_ops_of vs)
 given_among z v [] e h = absurd h
-given_among z (Result y k) (u ∷ vs) e (inl i) = subst (λ w. In z (givers_of (w ∷ vs))) i (inl (sym (eqb-true y z e)))
+given_among z (Result y k) (u ∷ vs) e (inl i) = subst (λ w. In z (defining_ops_of (w ∷ vs))) i (inl (sym (eqb-true y z e)))
 given_among z (Arg y r k) (u ∷ vs) e (inl i) = absurd (true≢false (sym e))
 given_among z v (Result y k ∷ vs) e (inr h) = inr (given_among z v vs e h)
 given_among z v (Arg y r k ∷ vs) e (inr h) = given_among z v vs e h
 
 module _ {N T A : Type 0} where
-  -- who uses it
+  -- a user of the operation
   pub record User (z : ℕ) (t : OpOf N T A) : Type 0 where
     pub at : StandOf N T A
     pub there : In at (stands [] t)
@@ -58,14 +58,14 @@ module _ {N T A : Type 0} where
       let all = all_each (λ (s : StandOf N T A). list_all p (head s.here).operands) (stands [] t) (stands_every (λ o. list_all p (head o).operands) [] t ∙ e) s h in
       true≢false (sym (all_each p (head s.here).operands all v k) ∙ ap not i)
 
-  -- what used it went, where none uses it any more
+  -- if no operation uses it any more, its user was erased
   gone_left : (x z : ℕ) (t : OpOf N T A) → is_unused z (without x t) ≡ true → (s : StandOf N T A) → In s (stands [] t) → (v : Value) → In v (head s.here).operands → is_result_of z v ≡ true → is_gone x s ≡ true
   gone_left x z t e s h v k i = elim (bool_cases (is_gone x s)) [
     | inl g ↦ g
     | inr g ↦ absurd (none_of z (without x t) e (left_stand x s) (left_member x t s h g) v (subst (λ (w : HeadOf N T A). In v w.operands) (sym (same_head x (dropping x) s.here)) k) i)
   ]
 
-  -- and, where it had nothing inside, was the operation that was taken out
+  -- a user with nothing inside is the erased operation itself
   bare_gone : (x : ℕ) (t o : OpOf N T A) → HasDistinctIds t → find x t ≡ Some o → regions o ≡ no_regions → (s : StandOf N T A) → In s (stands [] t) → is_gone x s ≡ true → s.here ≡ o
   bare_gone x t o d f bare s h g = go w.here (w.step_in ∷ w.path) (ap (λ (z : OpOf N T A). regions z) same ∙ bare) w.inner ∙ same
     where
@@ -81,13 +81,13 @@ module _ {N T A : Type 0} where
       go (op k (region g rs)) path e i = absurd cc
 
   module _ (x : ℕ) (t o : OpOf N T A) (d : HasDistinctIds t) (f : find x t ≡ Some o) (bare : regions o ≡ no_regions) where
-    pub freed_erased : (z : ℕ) → is_unused z t ≡ false → is_unused z (without x t) ≡ true → In z (givers_of (head o).operands)
+    pub freed_erased : (z : ℕ) → is_unused z t ≡ false → is_unused z (without x t) ≡ true → In z (defining_ops_of (head o).operands)
     freed_erased z e k =
         let u = user z t e in
         let same = bare_gone x t o d f bare u.at u.there (gone_left x z t k u.at u.there u.value u.among u.of) in
         given_among z u.value (head o).operands u.of (subst (λ (p : OpOf N T A). In u.value (head p).operands) same u.among)
 
-    -- the same where its result was replaced first
+    -- the same after its result was replaced
     module _ (v : Value) where
       abbrev g : HeadOf N T A → HeadOf N T A
       g = put_values (Result x 0) v
@@ -103,7 +103,7 @@ module _ {N T A : Type 0} where
       kept_use z (Result y k) n e = ap (λ b. cond (b && eqb 0 k) v (Result y k)) (ap (eqb x) (eqb-true y z e) ∙ n)
       kept_use z (Arg y r k) n e = absurd (true≢false (sym e))
 
-      pub freed_replaced : (z : ℕ) → eqb x z ≡ false → is_unused z t ≡ false → is_unused z (without x (with_value_replaced (Result x 0) v t)) ≡ true → In z (givers_of (head o).operands)
+      pub freed_replaced : (z : ℕ) → eqb x z ≡ false → is_unused z t ≡ false → is_unused z (without x (with_value_replaced (Result x 0) v t)) ≡ true → In z (defining_ops_of (head o).operands)
       freed_replaced z n e k =
           let u = user z t e in
           let s = edit_stand g u.at in

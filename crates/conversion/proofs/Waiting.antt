@@ -1,4 +1,4 @@
--- What calls of a walk over a list leave of the places that wait.
+-- What the calls of a walk over a list keep of the waiting indices.
 use Rattle.std.proofs.Common.{◌≡◌, refl, ap, sym, ◌∙◌, subst, inl, inr, ◌⊎◌, ℕ, zero, suc, ◌+◌, ◌-◌, ◌<◌, ◌≤◌, Bool, true, false, true≢false, cond, ◌||◌, eqb, eqb-true, eq-eqb, List, [], ◌∷◌, length, take, drop, get_or, Option, Some, None, arith}
 use Rattle.std.specs.Prelude.{slice_get}
 use Rattle.std.specs.List.{All, IsDistinct, list_any}
@@ -70,7 +70,7 @@ waits_so p passed old new l e = record {
 pub waits_later : (p passed : ℕ) (again : List ℕ) → passed ≤ p → Waits p passed again passed again
 waits_later p passed again l = record { same = refl; more = λ q h. h; within = λ q h. inl h; added = λ k. absurd (omega (arith, l, k)) }
 
--- ---- operations by their places
+-- ---- operations by their indices
 
 pub again_one : (x p : ℕ) (f : ℕ → Option ℕ) (passed : ℕ) (again : List ℕ) (passed2 : ℕ) (again2 : List ℕ) → f x ≡ Some p → Waits p passed again passed2 again2 → Again (x ∷ []) f passed again passed2 again2
 again_one x p f passed again passed2 again2 e w = record {
@@ -97,7 +97,7 @@ again_none x f passed again e = record {
   ];
 }
 
--- some of a list are left
+-- the entries of a list that are still to be added
 pub record Adding (all rest : List ℕ) (f : ℕ → Option ℕ) (passed : ℕ) (again : List ℕ) (passed2 : ℕ) (again2 : List ℕ) : Type 0 where
   pub same : passed2 ≡ passed
   pub more : (q : ℕ) → In q again → In q again2
@@ -129,7 +129,7 @@ pub adding_done : (all rest : List ℕ) (f : ℕ → Option ℕ) (passed : ℕ) 
 adding_done all [] f passed again passed2 again2 l a = record { same = a.same; more = a.more; within = a.within; added = λ g q h k j. elim (a.added g q h k j) [ inl i ↦ absurd i | inr i ↦ i ] }
 adding_done all (x ∷ rest) f passed again passed2 again2 l a = absurd (omega (arith, l))
 
--- ---- places noted
+-- ---- recorded indices
 
 pub there_at : (zs : List ℕ) (p z : ℕ) → slice_get zs p ≡ Some z → list_any (λ u. eqb u z) zs ≡ true
 there_at [] p z e = absurd cc
@@ -150,7 +150,7 @@ distinct_at (y ∷ xs) d zero (suc p) x e f = absurd (first_once y xs d p x (sam
 distinct_at (y ∷ xs) d (suc q) zero x e f = absurd (first_once y xs d q x (same_Some y x f) e)
 distinct_at (y ∷ xs) d (suc q) (suc p) x e f = ap suc (distinct_at xs (IsDistinct-tail eqb y xs d) q p x e f)
 
--- a list, of which so many are noted at their places
+-- a list with a number of entries recorded at their indices
 pub record Noting (all rest : List ℕ) (place : ℕ) (f : ℕ → Option ℕ) : Type 0 where
   pub count : place + length rest ≡ length all
   pub rests : (k : ℕ) → slice_get all (place + k) ≡ slice_get rest k

@@ -1,4 +1,4 @@
--- What calls of a walk leave.
+-- What the calls of a walk keep.
 use Rattle.std.proofs.Common.{◌≡◌, refl, ap, sym, ◌∙◌, subst, inl, inr, ◌⊎◌, ℕ, zero, suc, ◌<◌, ◌≤◌, Bool, true, false, true≢false, cond, not, ◌||◌, eqb, eqb-true, eq-eqb, List, [], ◌∷◌, filter, length, Option, Some, None, arith}
 use Rattle.std.specs.Prelude.{slice_get}
 use Rattle.std.specs.List.{list_any}
@@ -26,7 +26,7 @@ use Rattle.std.proofs.lemmas.Option.{slice_get_within}
 
 -- ---- lists
 
--- one at a place comes before those at later places
+-- an entry comes before the entries at later indices
 after_at : (xs : List ℕ) (q p y x : ℕ) → q < p → slice_get xs q ≡ Some y → slice_get xs p ≡ Some x → comes_after y x xs ≡ true
 after_at [] q p y x l e f = absurd cc
 after_at (u ∷ xs) q zero y x l e f = absurd (omega (arith, l))
@@ -37,7 +37,7 @@ after_at (u ∷ xs) (suc q) (suc p) y x l e f = go (eqb u y) (there_at xs p x f)
     go true h k = h
     go false h k = k
 
--- of those that pass a test too
+-- so it does among the entries that pass a test
 filter_there : (c : ℕ → Bool) (x : ℕ) → c x ≡ true → (xs : List ℕ) → list_any (λ z. eqb z x) (filter c xs) ≡ list_any (λ z. eqb z x) xs
 filter_there c x h [] = refl
 filter_there c x h (u ∷ xs) = go (c u) refl (filter_there c x h xs)
@@ -65,7 +65,7 @@ filter_after c y x h k (u ∷ xs) = go (c u) refl (filter_after c y x h k xs)
         other false j = j
         other true j = absurd (true≢false (sym h ∙ ap c (sym (eqb-true u y j)) ∙ e))
 
--- casts of a list are in pre-order
+-- the casts of a list are in pre-order
 listed_before : (xs : List ℕ) (t : Operation) → HaveCasts xs t → (q p y x : ℕ) → q < p → slice_get xs q ≡ Some y → slice_get xs p ≡ Some x → is_cast y t ≡ true → is_cast x t ≡ true → precedes y x t ≡ true
 listed_before xs t h q p y x l e f cy cx =
     let c = λ (z : ℕ). is_cast z t in
@@ -90,18 +90,18 @@ rewrite_none f (u ∷ xs) h = ap (λ a. rewrite_or a (first_rewrite f xs)) (h ze
 pub walked_none : (xs : List ℕ) (m : Module) → Walked xs 0 [] m
 walked_none xs m = record { within = λ q h. absurd h; stuck = λ q x l e. absurd (omega (arith, l)); settled = λ q x l e. absurd (omega (arith, l)) }
 
--- where no place waits, no cast is taken away
+-- no index waits: no cast is erased
 pub none_waits : (xs : List ℕ) (passed : ℕ) (again : List ℕ) (m : Module) → HaveCasts xs m.tree → Walked xs passed again m → again ≡ [] → length xs ≤ passed → next_collapse m ≡ none
 none_waits xs passed again m h w e l = sym (next_listed m xs h) ∙ rewrite_none (collapse m) xs (λ q y g.
     let n = slice_get_within xs q y g in
     elim (w.settled q y (omega (arith, n, l)) g) [ inl k ↦ absurd (subst (In q) e k) | inr k ↦ k ])
 
 module _ (xs : List ℕ) (passed : ℕ) (again : List ℕ) (passed2 : ℕ) (again2 : List ℕ) (p : ℕ) (m : Module) (w : Walked xs passed again m) where
-  -- those before the place that is taken aren't taken away
+  -- no cast before the taken index is erased
   before_none : Took passed again passed2 again2 p → (q y : ℕ) → q < p → slice_get xs q ≡ Some y → collapse m y ≡ none
-  before_none (of_again is same behind) q y l e = elim (w.settled q y (omega (arith, l, w.within p (subst (In p) (sym is) (inl refl)))) e) [
+  before_none (of_again is same trailing) q y l e = elim (w.settled q y (omega (arith, l, w.within p (subst (In p) (sym is) (inl refl)))) e) [
     | inr k ↦ k
-    | inl k ↦ elim (subst (In q) is k) [ inl i ↦ absurd (omega (arith, l, i)) | inr i ↦ absurd (omega (arith, l, behind q i)) ]
+    | inl k ↦ elim (subst (In q) is k) [ inl i ↦ absurd (omega (arith, l, i)) | inr i ↦ absurd (omega (arith, l, trailing q i)) ]
   ]
   before_none (of_next is empty at more) q y l e = elim (w.settled q y (omega (arith, l, at)) e) [ inr k ↦ k | inl k ↦ absurd (subst (In q) is k) ]
 
@@ -115,9 +115,9 @@ module _ (xs : List ℕ) (passed : ℕ) (again : List ℕ) (passed2 : ℕ) (agai
   stuck_none : (y : ℕ) → collapse m y ≡ none → NoRule y m
   stuck_none y c i = (none_parts m y c i).1
 
-  -- where the cast at it isn't either, the walk goes on
+  -- if the cast at the taken index isn't erased either, the walk continues
   pub walked_on : Took passed again passed2 again2 p → collapse_at m (slice_get xs p) ≡ none → Walked xs passed2 again2 m
-  walked_on (of_again is same behind) c = record {
+  walked_on (of_again is same trailing) c = record {
     within = λ q h. subst (λ k. q < k) (sym same) (w.within q (subst (In q) (sym is) (inr h)));
     stuck = λ q y l e. w.stuck q y (omega (arith, l, same)) e;
     settled = λ q y l e. elim (w.settled q y (omega (arith, l, same)) e) [
@@ -142,7 +142,7 @@ module _ (xs : List ℕ) (passed : ℕ) (again : List ℕ) (passed2 : ℕ) (agai
     ];
   }
 
-  -- the cast at it is the first that is taken away, if it is
+  -- if the cast at the taken index is erased, it is the first one
   pub taken_first : HaveCasts xs m.tree → Took passed again passed2 again2 p → (x : ℕ) → slice_get xs p ≡ Some x → (r : Rewrite) × (next_collapse m ≡ rewrite_or (collapse m x) r)
   taken_first h k x e = let r = rewrite_after (collapse m) xs p x e (before_none k) in (r.0, sym (next_listed m xs h) ∙ r.1)
 
@@ -150,9 +150,9 @@ module _ (xs : List ℕ) (passed : ℕ) (again : List ℕ) (passed2 : ℕ) (agai
     inner_x : is_inner x m ≡ true
     inner_x = (step_of m n x e).0
 
-    -- those that were passed stay as they are
+    -- the passed casts stay as they are
     passed_stuck : Took passed again passed2 again2 p → (q y : ℕ) → q < passed2 → slice_get xs q ≡ Some y → NoRule y n
-    passed_stuck (of_again is same behind) q y l f =
+    passed_stuck (of_again is same trailing) q y l f =
         still_stuck m n x formed e y (inl (only_erased m n x (w.stuck p x (w.within p (subst (In p) (sym is) (inl refl))) at_p) e)) (w.stuck q y (omega (arith, l, same)) f)
     passed_stuck (of_next is empty at more) q y l f = elim (cases_order q passed) [
       | inl i ↦ (λ j. absurd (step_gone m n x formed e (subst (λ z. is_inner z n ≡ true) (same_at q x y (i ∙ sym at) f at_p) j)))
@@ -168,11 +168,11 @@ module _ (xs : List ℕ) (passed : ℕ) (again : List ℕ) (passed2 : ℕ) (agai
     gone_x = none_of_parts n x (λ i. absurd (step_gone m n x formed e i))
 
     taken_within : Took passed again passed2 again2 p → (q : ℕ) → In q again2 → q < passed2
-    taken_within (of_again is same behind) q h = subst (λ k. q < k) (sym same) (w.within q (subst (In q) (sym is) (inr h)))
+    taken_within (of_again is same trailing) q h = subst (λ k. q < k) (sym same) (w.within q (subst (In q) (sym is) (inr h)))
     taken_within (of_next is empty at more) q h = absurd (subst (In q) empty h)
 
     module _ (gs : List ℕ) (gives : Gives gs x m.tree) where
-      -- one that gives no operand isn't taken away where it wasn't
+      -- a cast that is no defining operation of an operand still isn't erased
       other_none : (q y : ℕ) → q < passed2 → (Took passed again passed2 again2 p) → slice_get xs q ≡ Some y → (In y gs → ⊥) → collapse m y ≡ none → collapse n y ≡ none
       other_none q y l k f apart c =
           let o = cast_there x m.tree (both (is_cast x m.tree) (not (eqb (head m.tree).id x)) inner_x).0 in
@@ -186,8 +186,8 @@ module _ (xs : List ℕ) (passed : ℕ) (again : List ℕ) (passed2 : ℕ) (agai
       ]
         where
           other : (k : Took passed again passed2 again2 p) → (q ≡ p → ⊥) → In q again2 ⊎ (collapse n y ≡ none)
-          other (of_again is same behind) ne = elim (w.settled q y (omega (arith, l, same)) f) [
-            | inr c ↦ inr (other_none q y l (of_again is same behind) f apart c)
+          other (of_again is same trailing) ne = elim (w.settled q y (omega (arith, l, same)) f) [
+            | inr c ↦ inr (other_none q y l (of_again is same trailing) f apart c)
             | inl h ↦ elim (subst (In q) is h) [ inl i ↦ absurd (ne i) | inr i ↦ inl i ]
           ]
           other (of_next is empty at more) ne = elim (cases_order q passed) [
@@ -196,7 +196,7 @@ module _ (xs : List ℕ) (passed : ℕ) (again : List ℕ) (passed2 : ℕ) (agai
             | inr (inr i) ↦ absurd (omega (arith, l, more, i))
           ]
 
-    -- where the cast at it is taken away, what gave its operands is looked at again
+    -- if the cast at the taken index is erased, the defining operations of its operands wait again
     pub walked_after : Took passed again passed2 again2 p → (gs : Option (List ℕ)) → ((l : List ℕ) → gs ≡ Some l → Gives l x m.tree) → (f : ℕ → Option ℕ) → ArePlaces xs f → (passed3 : ℕ) (again3 : List ℕ) → Freed gs f passed2 again2 passed3 again3 → Walked xs passed3 again3 n
     walked_after k None gives f places passed3 again3 freed = subst (λ l. Walked xs passed3 l n) (sym freed.1) (subst (λ j. Walked xs j [] n) (sym freed.0) (walked_none xs n))
     walked_after k (Some gs) gives f places passed3 again3 freed = record {

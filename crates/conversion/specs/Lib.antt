@@ -1,8 +1,8 @@
 pub mod States
 pub mod Benches
 pub mod Converting
-pub mod Staying
-pub mod Givers
+pub mod MatchFailures
+pub mod DefiningOps
 pub mod Waiting
 pub mod Walks
 pub use Rattle.conversion_base.specs.Targets

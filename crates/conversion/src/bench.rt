@@ -1,4 +1,4 @@
-//! A bench, for conversions.
+//! Implements the conversion traits for the rewriter (`Bench`).
 ghost use Rattle.std.specs.Prelude.{◌≡◌};
 ghost use Rattle.patterns.specs.Held.{module_held};
 ghost use Rattle.conversion_base.specs.Makes.{made_by};
@@ -6,36 +6,36 @@ ghost use Rattle.conversion_base.specs.Contents.{edited};
 ghost use Rattle.conversion_base.specs.Edits.{Erase};
 ghost use Rattle.conversion_base.specs.Lists.{AllFit, edits_meaning};
 ghost use Rattle.conversion_base.specs.Rewrites.{becomes, carried_out, rewrite_of};
-ghost use Rattle.conversion.specs.Benches.{LedOn, desk_of, seen};
+ghost use Rattle.conversion.specs.Benches.{LedOn, transaction_of, seen};
 ghost use Rattle.conversion.specs.States.{Answers, Leads};
 
-use crate::givers::givers;
-use crate::rewriting::Rewriting;
+use crate::conversion_rewriter::ConversionRewriter;
+use crate::defining_ops::defining_ops;
 use conversion_base::casts::{index_edits, is_cast, is_inner_cast, is_unused};
 use conversion_base::rule::Rule;
 use conversion_base::target::Target;
-use conversion_base::{accepted, legal};
+use conversion_base::{legal, target_checks};
 use ir_event::analysis::Analysis;
 use ir_event::types::ids::OpId;
 use ir_event::types::refusal::Refusal;
 use patterns::apply::apply;
 use patterns::limits::limit_reason;
-use patterns::rewriter::finish::finish;
+use patterns::rewriter::finish::close_mark;
 use patterns::runs::Bench;
-use patterns::runs::carry::carry_whole;
+use patterns::runs::apply_edits::apply_edits;
 use patterns::runs::edit::Edit;
 use std::alloc::Global;
 
-/// Applies a rule at an operation, if it is there. The answer is whether it applied.
+/// Applies a rule at `op`, if `op` is in the module. Returns whether the rule applied.
 pub(crate) fn apply_rule<L: Analysis>(
     alloc: Global,
     bench: &mut Bench<L>,
     rule: Rule,
     op: OpId,
 ) -> Result<bool, Refusal>
-    ensures answers { Answers (rewrite_of rule (module_held bench.old.desk) op) result (seen bench.old)
+    ensures answers { Answers (rewrite_of rule (module_held bench.old.transaction) op) result (seen bench.old)
         (seen bench.new) }
-    ensures leads { Leads seen desk_of (LedOn L.meaning) bench.old bench.new }
+    ensures leads { Leads seen transaction_of (LedOn L.meaning) bench.old bench.new }
 {
     if !bench.world().store.in_tree(op) {
         return Ok(false);
@@ -45,11 +45,11 @@ pub(crate) fn apply_rule<L: Analysis>(
     applied
 }
 
-/// Erases an operation.
+/// Erases `op` and returns true.
 fn erase<L: Analysis>(bench: &mut Bench<L>, op: OpId) -> Result<bool, Refusal>
-    ensures answers { Answers (becomes (edited (Erase op) (module_held bench.old.desk))) result (seen bench.old)
+    ensures answers { Answers (becomes (edited (Erase op) (module_held bench.old.transaction))) result (seen bench.old)
         (seen bench.new) }
-    ensures leads { Leads seen desk_of (LedOn L.meaning) bench.old bench.new }
+    ensures leads { Leads seen transaction_of (LedOn L.meaning) bench.old bench.new }
 {
     let erased = bench.erase(op);
     bench.is_formed();
@@ -59,19 +59,19 @@ fn erase<L: Analysis>(bench: &mut Bench<L>, op: OpId) -> Result<bool, Refusal>
     }
 }
 
-/// Makes edits that make one operation, all of them or none.
+/// Makes edits that insert one operation: all edits or none.
 fn carry<L: Analysis>(bench: &mut Bench<L>, edits: &[Edit]) -> Result<bool, Refusal>
-    requires fit { AllFit bench.old.desk.ctx edits.now }
-    requires one { made_by (edits_meaning bench.old.desk.ctx edits.now) ≡ 1 }
+    requires fit { AllFit bench.old.transaction.ctx edits.now }
+    requires one { made_by (edits_meaning bench.old.transaction.ctx edits.now) ≡ 1 }
     ensures answers { Answers
-        (carried_out (edits_meaning bench.old.desk.ctx edits.now) (module_held bench.old.desk)) result (seen bench.old)
+        (carried_out (edits_meaning bench.old.transaction.ctx edits.now) (module_held bench.old.transaction)) result (seen bench.old)
         (seen bench.new) }
-    ensures leads { Leads seen desk_of (LedOn L.meaning) bench.old bench.new }
+    ensures leads { Leads seen transaction_of (LedOn L.meaning) bench.old bench.new }
 {
     if let Some(refusal) = limit_reason(bench.world(), 1) {
         return Err(refusal);
     }
-    let carried = carry_whole(bench, edits);
+    let carried = apply_edits(bench, edits);
     bench.is_formed();
     match carried {
         Ok(()) => Ok(true),
@@ -79,12 +79,12 @@ fn carry<L: Analysis>(bench: &mut Bench<L>, edits: &[Edit]) -> Result<bool, Refu
     }
 }
 
-impl<L: Analysis> Rewriting for Bench<L> {
-    ghost use Rattle.conversion.specs.Benches.{LedOn, desk_of, led_more, led_none, seen};
+impl<L: Analysis> ConversionRewriter for Bench<L> {
+    ghost use Rattle.conversion.specs.Benches.{LedOn, transaction_of, led_more, led_none, seen};
 
     ghost state = { seen };
 
-    ghost desk = { desk_of };
+    ghost transaction = { transaction_of };
 
     ghost led = { LedOn L.meaning };
 
@@ -105,7 +105,7 @@ impl<L: Analysis> Rewriting for Bench<L> {
     }
 
     fn is_accepted(&self, target: &Target) -> bool {
-        accepted::is_accepted(&self.world().ctx, target)
+        target_checks::is_accepted(&self.world().ctx, target)
     }
 
     fn is_legal(&self, target: &Target, op: OpId) -> bool {
@@ -120,8 +120,8 @@ impl<L: Analysis> Rewriting for Bench<L> {
         is_cast(self.world(), op)
     }
 
-    fn givers(&self, alloc: Global, op: OpId) -> Result<Option<Vec<OpId>>, Refusal> {
-        match givers(alloc, self.world(), op) {
+    fn defining_ops(&self, alloc: Global, op: OpId) -> Result<Option<Vec<OpId>>, Refusal> {
+        match defining_ops(alloc, self.world(), op) {
             Ok(found) => Ok(found),
             Err(_) => Err(Refusal::Memory),
         }
@@ -157,12 +157,12 @@ impl<L: Analysis> Rewriting for Bench<L> {
     }
 
     fn commit(&mut self) {
-        finish(self, true);
+        close_mark(self, true);
         self.is_formed();
     }
 
     fn rollback(&mut self) {
-        finish(self, false);
+        close_mark(self, false);
         self.is_formed();
     }
 }

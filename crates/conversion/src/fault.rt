@@ -1,23 +1,23 @@
-//! Why a conversion is refused.
+//! The error of a conversion.
 ghost use Rattle.std.specs.Prelude.{◌≡◌, Some, None};
 
 use ir_event::types::ids::OpId;
 use ir_event::types::refusal::Refusal;
 use thiserror::Error;
 
-/// Why a conversion is refused, and for which operation, if it is for one.
+/// The error of a conversion: a refusal and, if it is about one, an operation.
 #[derive(Clone, Copy, Debug, PartialEq, Eq, Error)]
 #[error("{refusal}")]
 pub struct Fault {
-    /// Why.
+    /// The refusal.
     pub refusal: Refusal,
-    /// The operation.
+    /// The operation that the refusal is about.
     pub id: Option<OpId>,
 }
 
 impl Fault {
-    /// A refusal for an operation.
-    pub(crate) fn at(refusal: Refusal, op: OpId) -> Fault
+    /// Returns a fault about an operation.
+    pub(crate) fn for_op(refusal: Refusal, op: OpId) -> Fault
         ensures refusal { result.refusal ≡ refusal }
         ensures id { result.id ≡ Some op }
     {
@@ -27,8 +27,8 @@ impl Fault {
         }
     }
 
-    /// A refusal that is for none.
-    pub(crate) fn of(refusal: Refusal) -> Fault
+    /// Returns a fault that isn't about an operation.
+    pub(crate) fn without_op(refusal: Refusal) -> Fault
         ensures refusal { result.refusal ≡ refusal }
         ensures id { result.id ≡ None }
     {

@@ -1,87 +1,88 @@
-//! Operations are legalised: a rule is tried, and what it makes is legalised in turn, or all of it is undone.
+//! Legalizes operations. It applies a rule, then legalizes the operations that the rule made, or undoes all of it.
 ghost use Rattle.std.specs.Prelude.{◌≡◌, ◌≢◌, [], ◌∷◌, ◌++◌, true, false, ◌||◌, IfErr, IfOk, OnOk};
 ghost use Rattle.ir_event.specs.types.declared.refusal.Refusal.TheVariants.{Memory as NoMemory};
 ghost use Rattle.patterns.specs.rewriter.Rolling.{Dropped};
 ghost use Rattle.conversion_base.specs.Rewrites.{rewrite_of};
-ghost use Rattle.conversion_base.specs.Legalization.{after_rule as rule_outcome, behind, each_of};
+ghost use Rattle.conversion_base.specs.Legalization.{after_rule as rule_outcome, trailing, each_of};
 ghost use Rattle.conversion_base.specs.Legalization.{first_rule as rules_outcome, legalization_of, made_since};
 ghost use Rattle.conversion_base.specs.Legalization.{standing};
 ghost use Rattle.conversion_base.specs.RuleNames.{is_converting};
-ghost use Rattle.conversion.specs.States.{Closed, Comes, ComesBehind, Leads, stood_since, went_well};
-ghost use Rattle.conversion_base.specs.Targets.{IsAimIn, aim_of};
+ghost use Rattle.conversion.specs.States.{Closed, Comes, ComesAfter, Leads, applied_since, went_well};
+ghost use Rattle.conversion_base.specs.Targets.{IsAimIn, target_model};
 
-use crate::rewriting::{Rewriting, Rules};
-use crate::tried::Tried;
+use crate::conversion_rewriter::{ConversionRewriter, RuleApplier};
+use crate::legalization::Legalization;
+use conversion_base::applied_rule::AppliedRule;
 use conversion_base::rule::Rule;
-use conversion_base::stood::Stood;
 use conversion_base::target::Target;
 use ir_event::types::ids::OpId;
 use ir_event::types::refusal::Refusal;
 use std::alloc::Global;
 
-/// A try that made nothing.
-fn nothing(alloc: Global, legal: bool, met: bool) -> Tried
+/// Returns the result of an attempt without applied rules.
+fn nothing(alloc: Global, legal: bool, limit_reached: bool) -> Legalization
     ensures legal { result.legal ≡ legal }
-    ensures fired { result.fired.items ≡ [] }
-    ensures met { result.met ≡ met }
+    ensures applied { result.applied.items ≡ [] }
+    ensures limit_reached { result.limit_reached ≡ limit_reached }
 {
-    Tried {
+    Legalization {
         legal,
-        fired: Vec::new(alloc),
-        met,
+        applied: Vec::new(alloc),
+        limit_reached,
     }
 }
 
-/// A try behind others, of which some met the depth or none did.
-fn joined(met: bool, tried: Tried) -> Tried
-    ensures legal { result.legal ≡ tried.legal }
-    ensures fired { result.fired.items ≡ tried.fired.items }
-    ensures met { result.met ≡ (met || tried.met) }
+/// Returns the result of an attempt after earlier ones. `limit_reached` says whether an earlier attempt reached the
+/// depth limit.
+fn joined(limit_reached: bool, legalization: Legalization) -> Legalization
+    ensures legal { result.legal ≡ legalization.legal }
+    ensures applied { result.applied.items ≡ legalization.applied.items }
+    ensures limit_reached { result.limit_reached ≡ (limit_reached || legalization.limit_reached) }
 {
-    Tried {
-        legal: tried.legal,
-        fired: tried.fired,
-        met: met || tried.met,
+    Legalization {
+        legal: legalization.legal,
+        applied: legalization.applied,
+        limit_reached: limit_reached || legalization.limit_reached,
     }
 }
 
-/// A list of one rule that stands.
-fn only(alloc: Global, stood: Stood) -> Result<Vec<Stood>, Refusal>
-    ensures ok { IfOk result (λ v. v.items ≡ stood ∷ []) }
+/// Returns a list with one applied rule.
+fn only(alloc: Global, rule: AppliedRule) -> Result<Vec<AppliedRule>, Refusal>
+    ensures ok { IfOk result (λ v. v.items ≡ rule ∷ []) }
     ensures refused { IfErr result (λ e. e ≡ NoMemory) }
 {
-    let mut fired = Vec::new(alloc);
-    match fired.push(stood) {
-        Ok(()) => Ok(fired),
+    let mut applied = Vec::new(alloc);
+    match applied.push(rule) {
+        Ok(()) => Ok(applied),
         Err(_) => Err(Refusal::Memory),
     }
 }
 
-/// Appends rules that stand.
-pub(crate) fn append(fired: &mut Vec<Stood>, more: &[Stood]) -> Result<(), Refusal>
-    ensures ok { OnOk result (fired.new.items ≡ fired.old.items ++ more.now) }
+/// Appends applied rules to a list.
+pub(crate) fn append(applied: &mut Vec<AppliedRule>, more: &[AppliedRule]) -> Result<(), Refusal>
+    ensures ok { OnOk result (applied.new.items ≡ applied.old.items ++ more.now) }
     ensures refused { IfErr result (λ e. e ≡ NoMemory) }
 {
-    match fired.extend_from_slice(more) {
+    match applied.extend_from_slice(more) {
         Ok(()) => Ok(()),
         Err(_) => Err(Refusal::Memory),
     }
 }
 
-/// Legalises an operation, if it still stands, where what rules make may be so many levels below it. Where it fails, or
-/// is refused, the module is as it was.
+/// Legalizes `op`, if it is still in the module. The operations that rules make are legalized up to `below` levels
+/// deep. If the attempt fails or is refused, the module stays the same.
 #[cycle(legalise)]
-pub(crate) fn legalise<B: Rules>(
+pub(crate) fn legalise<B: RuleApplier>(
     alloc: Global,
     bench: &mut B,
     target: &Target,
     below: u32,
     op: OpId,
-) -> Result<Tried, Refusal>
+) -> Result<Legalization, Refusal>
     requires aim { IsAimIn (B.state bench.old).things target.now }
-    ensures comes { Comes (standing (legalization_of (aim_of (B.state bench.old).things target.now) below)
+    ensures comes { Comes (standing (legalization_of (target_model (B.state bench.old).things target.now) below)
         (B.state bench.old).held op) result (B.state bench.old) (B.state bench.new) }
-    ensures leads { Leads B.state B.desk B.led bench.old bench.new }
+    ensures leads { Leads B.state B.transaction B.led bench.old bench.new }
 {
     if !bench.in_tree(op) {
         return Ok(nothing(alloc, true, false));
@@ -95,78 +96,78 @@ pub(crate) fn legalise<B: Rules>(
     first_rule(alloc, bench, target, below - 1, op)
 }
 
-/// Tries the rules of a target, up to the first after which all goes well.
+/// Tries the rules of a target until one succeeds.
 #[cycle(legalise)]
-fn first_rule<B: Rules>(
+fn first_rule<B: RuleApplier>(
     alloc: Global,
     bench: &mut B,
     target: &Target,
     below: u32,
     op: OpId,
-) -> Result<Tried, Refusal>
+) -> Result<Legalization, Refusal>
     requires aim { IsAimIn (B.state bench.old).things target.now }
     ensures comes { Comes (rules_outcome
-        (legalization_of (aim_of (B.state bench.old).things target.now) below) target.now.rules
+        (legalization_of (target_model (B.state bench.old).things target.now) below) target.now.rules
         (B.state bench.old).held op) result (B.state bench.old) (B.state bench.new) }
-    ensures leads { Leads B.state B.desk B.led bench.old bench.new }
+    ensures leads { Leads B.state B.transaction B.led bench.old bench.new }
 {
-    let mut met = false;
+    let mut limit_reached = false;
     let mut rest = target.rules.as_slice();
     'rules: while let [rule, tail @ ..] = rest {
         match try_rule(alloc, bench, target, below, *rule, op) {
-            Ok(tried) => {
-                let tried = joined(met, tried);
-                if tried.legal {
-                    return Ok(tried);
+            Ok(legalization) => {
+                let legalization = joined(limit_reached, legalization);
+                if legalization.legal {
+                    return Ok(legalization);
                 }
-                met = tried.met;
+                limit_reached = legalization.limit_reached;
             }
             Err(refusal) => return Err(refusal),
         }
         rest = tail;
     }
-    Ok(nothing(alloc, false, met))
+    Ok(nothing(alloc, false, limit_reached))
 }
 
-/// Tries a rule behind a mark: where it fails, or is refused, the module is as it was.
+/// Tries a rule under a mark. If the attempt fails or is refused, the module stays the same.
 #[cycle(legalise)]
-fn try_rule<B: Rules>(
+fn try_rule<B: RuleApplier>(
     alloc: Global,
     bench: &mut B,
     target: &Target,
     below: u32,
     rule: Rule,
     op: OpId,
-) -> Result<Tried, Refusal>
+) -> Result<Legalization, Refusal>
     requires aim { IsAimIn (B.state bench.old).things target.now }
     requires rule { is_converting rule ≡ true }
-    ensures comes { Comes (rule_outcome (legalization_of (aim_of (B.state bench.old).things target.now) below)
+    ensures comes { Comes (rule_outcome (legalization_of (target_model (B.state bench.old).things target.now) below)
         rule op (B.state bench.old).held (rewrite_of rule (B.state bench.old).held op)) result (B.state bench.old)
         (B.state bench.new) }
-    ensures leads { Leads B.state B.desk B.led bench.old bench.new }
+    ensures leads { Leads B.state B.transaction B.led bench.old bench.new }
 {
     if let Err(refusal) = bench.step() {
         return Err(refusal);
     }
-    let tried = after_rule(alloc, bench, target, below, rule, op);
-    close(bench, is_well(&tried));
-    tried
+    let legalization = after_rule(alloc, bench, target, below, rule, op);
+    close(bench, is_well(&legalization));
+    legalization
 }
 
-/// Whether a try went well.
-fn is_well(tried: &Result<Tried, Refusal>) -> bool
-    ensures { result ≡ went_well tried.now }
+/// Returns whether an attempt succeeded.
+fn is_well(legalization: &Result<Legalization, Refusal>) -> bool
+    ensures { result ≡ went_well legalization.now }
 {
-    match tried {
-        Ok(tried) => tried.legal,
+    match legalization {
+        Ok(legalization) => legalization.legal,
         Err(_) => false,
     }
 }
 
-/// Drops the newest mark. The module stays, or the one of the mark is held again.
-pub(crate) fn close<B: Rewriting>(bench: &mut B, stays: bool)
+/// Closes the newest mark. If `stays` is true the module is kept, and otherwise the mark's module is restored.
+pub(crate) fn close<B: ConversionRewriter>(bench: &mut B, stays: bool)
     ensures closed { Closed stays (B.state bench.old) (B.state bench.new) }
-    ensures dropped { (B.desk bench.old).marks ≢ [] → Dropped stays (B.desk bench.old) (B.desk bench.new) }
+    ensures dropped { (B.transaction bench.old).marks ≢ [] → Dropped stays (B.transaction bench.old) (B.transaction bench.new) }
     ensures led { B.led bench.old bench.new }
 {
     if stays {
@@ -176,36 +177,36 @@ pub(crate) fn close<B: Rewriting>(bench: &mut B, stays: bool)
     bench.rollback();
 }
 
-/// Applies a rule and legalises what it made.
+/// Applies a rule and legalizes the operations that it made.
 #[cycle(legalise)]
-fn after_rule<B: Rules>(
+fn after_rule<B: RuleApplier>(
     alloc: Global,
     bench: &mut B,
     target: &Target,
     below: u32,
     rule: Rule,
     op: OpId,
-) -> Result<Tried, Refusal>
+) -> Result<Legalization, Refusal>
     requires aim { IsAimIn (B.state bench.old).things target.now }
     requires rule { is_converting rule ≡ true }
-    ensures comes { ComesBehind
-        (rule_outcome (legalization_of (aim_of (B.state bench.old).things target.now) below) rule op
+    ensures comes { ComesAfter
+        (rule_outcome (legalization_of (target_model (B.state bench.old).things target.now) below) rule op
         (B.state bench.old).held (rewrite_of rule (B.state bench.old).held op)) result (B.state bench.new) }
-    ensures leads { Leads B.state B.desk B.led bench.old bench.new }
+    ensures leads { Leads B.state B.transaction B.led bench.old bench.new }
 {
     let from = bench.next_id();
-    match bench.apply(alloc, rule, op) {
+    match bench.apply_rule(alloc, rule, op) {
         Ok(true) => each_made(alloc, bench, target, below, rule, op, from),
         Ok(false) => Ok(nothing(alloc, false, false)),
         Err(refusal) => Err(refusal),
     }
 }
 
-/// That a rule was applied at an operation, where an id was the next one before.
-fn stood_now<B: Rewriting>(bench: &B, rule: Rule, op: OpId, from: u32) -> Stood
-    ensures { result ≡ stood_since rule op from (B.state bench.now).held }
+/// Returns the record of a rule that was applied at `op`, where `from` was the next id before.
+fn stood_now<B: ConversionRewriter>(bench: &B, rule: Rule, op: OpId, from: u32) -> AppliedRule
+    ensures { result ≡ applied_since rule op from (B.state bench.now).held }
 {
-    Stood {
+    AppliedRule {
         rule,
         op,
         from,
@@ -214,10 +215,10 @@ fn stood_now<B: Rewriting>(bench: &B, rule: Rule, op: OpId, from: u32) -> Stood
     }
 }
 
-/// Legalises the operations that a rule made at another, from an id on, by rising id. The rule stands in front of
-/// those that do then.
+/// Legalizes the operations that an applied rule made, from an id on, in ascending order of their ids. The result
+/// lists that rule before the rules applied to those operations.
 #[cycle(legalise)]
-fn each_made<B: Rules>(
+fn each_made<B: RuleApplier>(
     alloc: Global,
     bench: &mut B,
     target: &Target,
@@ -225,30 +226,30 @@ fn each_made<B: Rules>(
     rule: Rule,
     op: OpId,
     from: u32,
-) -> Result<Tried, Refusal>
+) -> Result<Legalization, Refusal>
     requires aim { IsAimIn (B.state bench.old).things target.now }
-    ensures comes { ComesBehind
-        (behind (stood_since rule op from (B.state bench.old).held ∷ []) false
-        (each_of (legalization_of (aim_of (B.state bench.old).things target.now) below)
+    ensures comes { ComesAfter
+        (trailing (applied_since rule op from (B.state bench.old).held ∷ []) false
+        (each_of (legalization_of (target_model (B.state bench.old).things target.now) below)
         (made_since from (B.state bench.old).held) (B.state bench.old).held)) result (B.state bench.new) }
-    ensures leads { Leads B.state B.desk B.led bench.old bench.new }
+    ensures leads { Leads B.state B.transaction B.led bench.old bench.new }
 {
     let end = bench.next_id();
     let mut id = from;
-    let mut fired = match only(alloc, stood_now(bench, rule, op, from)) {
-        Ok(fired) => fired,
+    let mut applied = match only(alloc, stood_now(bench, rule, op, from)) {
+        Ok(applied) => applied,
         Err(refusal) => return Err(refusal),
     };
-    let mut met = false;
+    let mut limit_reached = false;
     'made: while id < end {
         match legalise(alloc, bench, target, below, OpId::new(id)) {
-            Ok(tried) => {
-                let tried = joined(met, tried);
-                if !tried.legal {
-                    return Ok(tried);
+            Ok(legalization) => {
+                let legalization = joined(limit_reached, legalization);
+                if !legalization.legal {
+                    return Ok(legalization);
                 }
-                met = tried.met;
-                if let Err(refusal) = append(&mut fired, &tried.fired) {
+                limit_reached = legalization.limit_reached;
+                if let Err(refusal) = append(&mut applied, &legalization.applied) {
                     return Err(refusal);
                 }
             }
@@ -256,9 +257,9 @@ fn each_made<B: Rules>(
         }
         id += 1;
     }
-    Ok(Tried {
+    Ok(Legalization {
         legal: true,
-        fired,
-        met,
+        applied,
+        limit_reached,
     })
 }

@@ -1,25 +1,24 @@
-//! Dialect conversion: the operations of a module are legalised for a target by rules, and casts between types are
-//! reconciled.
+//! Dialect conversion. Rules legalize the operations of a module for a target, and casts between types are reconciled.
 #![tactic(auto)]
 
 mod bench;
 mod collapsing;
+mod conversion_error;
+mod conversion_rewriter;
 pub mod convert;
+mod defining_ops;
 pub mod fault;
-mod givers;
 mod legalise;
+mod legalization;
+pub mod match_failure;
 mod parts;
 mod places;
-mod rewriting;
 mod rules;
-pub mod stay;
-mod stopped;
-pub mod teller;
-mod tried;
+pub mod tracer;
 mod walk;
 mod why;
 
-pub use conversion_base::{laws, names, rule, stood, target};
+pub use conversion_base::{applied_rule, laws, names, rule, target};
 pub use patterns;
 pub use patterns::rewriter;
 pub use patterns_reasons as reasons;

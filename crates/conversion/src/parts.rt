@@ -1,4 +1,4 @@
-//! Dialect conversion: the operations of a module are legalised in turn, then casts are reconciled.
+//! The parts of a dialect conversion. The operations of a module are legalized in turn, then casts are reconciled.
 ghost use Rattle.std.specs.Prelude.{◌≡◌, ℕ, ◌+◌, ◌≤◌, [], length, true, Option, IfErr, IfOk, OnErr, OnOk, is_ok};
 ghost use Rattle.ir_event.specs.trees.Ids.{ids};
 ghost use Rattle.ir_event.specs.Modules.{Module};
@@ -6,98 +6,104 @@ ghost use Rattle.patterns.specs.rewriter.Moves.{Recorded};
 ghost use Rattle.conversion_base.specs.Conversion.{all_parts, cast_at as cast_end, casts_left, checked, converted};
 ghost use Rattle.conversion_base.specs.Conversion.{conversion_of, failing as failing_of, first_illegal, has_no_cast};
 ghost use Rattle.conversion_base.specs.Conversion.{in_turn, later_parts, legalised_at as legalised_end};
-ghost use Rattle.conversion.specs.Converting.{stood_in};
+ghost use Rattle.conversion.specs.Converting.{applied_rules};
 ghost use Rattle.conversion_base.specs.Legalization.{legalization_of, standing};
-ghost use Rattle.conversion.specs.States.{Converts, Ends, EndsBehind, Leads, Stays, StopsAt, listed, most_rules};
+ghost use Rattle.conversion.specs.States.{Converts, Ends, EndsAfter, Leads, Stays, StopsAt, listed, most_rules};
 ghost use Rattle.conversion.specs.States.{none_of};
-ghost use Rattle.conversion.specs.Staying.{last_rule, stay_by, stay_of, stay_told, staying, stays_on};
-ghost use Rattle.conversion.specs.declared.stay.Stay.{Stay as Why};
-ghost use Rattle.conversion_base.specs.Targets.{IsAimIn, IsNamedIn, aim_of};
+ghost use Rattle.conversion.specs.MatchFailures.{last_rule, match_failure_by, unlegalised_op, reported_failure, staying, stays_on};
+ghost use Rattle.conversion.specs.declared.match_failure.MatchFailure.{MatchFailure as Why};
+ghost use Rattle.conversion_base.specs.Targets.{IsAimIn, IsNamedIn, target_model};
 
-use crate::collapsing::collapse_all;
+use crate::collapsing::fold_casts;
+use crate::conversion_error::ConversionError;
+use crate::conversion_rewriter::{ConversionRewriter, RuleApplier};
 use crate::fault::Fault;
 use crate::legalise::{append, close, legalise};
-use crate::rewriting::{Rewriting, Rules};
-use crate::stay::Stay;
-use crate::stopped::Stopped;
-use crate::teller::Teller;
-use crate::why::stay_at;
-use conversion_base::stood::Stood;
+use crate::match_failure::MatchFailure;
+use crate::tracer::Tracer;
+use crate::why::match_failure_at;
+use conversion_base::applied_rule::AppliedRule;
 use conversion_base::target::Target;
 use ir_event::types::ids::OpId;
 use ir_event::types::refusal::Refusal;
 use std::alloc::Global;
 
-/// Why an operation of the start isn't legalised.
-fn failing(met: bool) -> Refusal
-    ensures { result ≡ failing_of met }
+/// Returns the refusal for an operation of the original module that can't be legalized.
+fn failing(limit_reached: bool) -> Refusal
+    ensures { result ≡ failing_of limit_reached }
 {
-    if met {
+    if limit_reached {
         return Refusal::ChainTooDeep;
     }
     Refusal::NotLegalised
 }
 
-/// How a conversion stops at an operation of the start that can't be legalised.
-fn stopped_at<B: Rules>(alloc: Global, bench: &B, target: &Target, op: OpId, met: bool) -> Stopped
-    ensures { StopsAt met op (stay_by (last_rule target.now.rules) (B.state bench.now).held op) result }
+/// Returns the error of a conversion that can't legalize an operation of the original module.
+fn stopped_at<B: RuleApplier>(
+    alloc: Global,
+    bench: &B,
+    target: &Target,
+    op: OpId,
+    limit_reached: bool,
+) -> ConversionError
+    ensures { StopsAt limit_reached op (match_failure_by (last_rule target.now.rules) (B.state bench.now).held op) result }
 {
-    match stay_at(alloc, bench, target, op) {
-        Ok(stay) => Stopped::at(failing(met), op, stay),
-        Err(refusal) => Stopped::of(refusal),
+    match match_failure_at(alloc, bench, target, op) {
+        Ok(failure) => ConversionError::for_op(failing(limit_reached), op, failure),
+        Err(refusal) => ConversionError::without_op(refusal),
     }
 }
 
-/// Legalises an operation of the start, if it still stands. The answer is the rules that stand.
-fn legalise_at<B: Rules>(
+/// Legalizes an operation of the original module, if it is still in the module. Returns the applied rules.
+fn legalise_at<B: RuleApplier>(
     alloc: Global,
     bench: &mut B,
     target: &Target,
     op: OpId,
-) -> Result<Vec<Stood>, Stopped>
+) -> Result<Vec<AppliedRule>, ConversionError>
     requires aim { IsAimIn (B.state bench.old).things target.now }
-    ensures ends { Ends (legalised_end (aim_of (B.state bench.old).things target.now)
+    ensures ends { Ends (legalised_end (target_model (B.state bench.old).things target.now)
         (B.state bench.old).held op) (listed result) (B.state bench.new) }
-    ensures stays { (next : Module → Option (ℕ × Why)) → IfErr result (λ e. e.stay ≡ stay_told e.fault.id
-        (stays_on next op (stay_by (last_rule target.now.rules) (B.state bench.old).held op)
-        (standing (legalization_of (aim_of (B.state bench.old).things target.now) target.now.depth)
+    ensures stays { (next : Module → Option (ℕ × Why)) → IfErr result (λ e. e.failure ≡ reported_failure e.fault.id
+        (stays_on next op (match_failure_by (last_rule target.now.rules) (B.state bench.old).held op)
+        (standing (legalization_of (target_model (B.state bench.old).things target.now) target.now.depth)
         (B.state bench.old).held op))) }
     ensures few { IfOk result (λ v. length v.items + (B.state bench.old).held.next ≤ (B.state bench.new).held.next) }
-    ensures leads { Leads B.state B.desk B.led bench.old bench.new }
+    ensures leads { Leads B.state B.transaction B.led bench.old bench.new }
 {
     match legalise(alloc, bench, target, target.depth, op) {
-        Ok(tried) => {
-            if tried.legal {
-                return Ok(tried.fired);
+        Ok(legalization) => {
+            if legalization.legal {
+                return Ok(legalization.applied);
             }
-            Err(stopped_at(alloc, bench, target, op, tried.met))
+            Err(stopped_at(alloc, bench, target, op, legalization.limit_reached))
         }
-        Err(refusal) => Err(Stopped::of(refusal)),
+        Err(refusal) => Err(ConversionError::without_op(refusal)),
     }
 }
 
-/// Legalises operations in turn. The answer is the rules that stand, in the order in which they were applied.
-fn legalise_each<B: Rules>(
+/// Legalizes operations in turn. Returns the applied rules, in the order in which they were applied.
+fn legalise_each<B: RuleApplier>(
     alloc: Global,
     bench: &mut B,
     target: &Target,
     ops: &[OpId],
-) -> Result<Vec<Stood>, Stopped>
+) -> Result<Vec<AppliedRule>, ConversionError>
     requires aim { IsAimIn (B.state bench.old).things target.now }
-    ensures ends { Ends (in_turn (legalised_end (aim_of (B.state bench.old).things target.now)) ops.now
+    ensures ends { Ends (in_turn (legalised_end (target_model (B.state bench.old).things target.now)) ops.now
         (B.state bench.old).held) (listed result) (B.state bench.new) }
-    ensures stays { Stays (staying (aim_of (B.state bench.old).things target.now) ops.now (B.state bench.old).held)
+    ensures stays { Stays (staying (target_model (B.state bench.old).things target.now) ops.now (B.state bench.old).held)
         result }
     ensures few { IfOk result (λ v. length v.items ≤ most_rules) }
-    ensures leads { Leads B.state B.desk B.led bench.old bench.new }
+    ensures leads { Leads B.state B.transaction B.led bench.old bench.new }
 {
-    let mut fired = Vec::new(alloc);
+    let mut applied = Vec::new(alloc);
     let mut rest = ops;
     'ops: while let [op, tail @ ..] = rest {
         match legalise_at(alloc, bench, target, *op) {
             Ok(more) => {
-                if let Err(refusal) = append(&mut fired, &more) {
-                    return Err(Stopped::of(refusal));
+                if let Err(refusal) = append(&mut applied, &more) {
+                    return Err(ConversionError::without_op(refusal));
                 }
             }
             Err(stopped) => return Err(stopped),
@@ -105,28 +111,29 @@ fn legalise_each<B: Rules>(
         rest = tail;
     }
     let _free = bench.next_id();
-    Ok(fired)
+    Ok(applied)
 }
 
-/// Puts an `arith.index_cast` in the place of an operation, if it still stands and is a cast.
-fn cast_at<B: Rewriting>(alloc: Global, bench: &mut B, op: OpId) -> Result<(), Fault>
+/// Replaces `op` with an `arith.index_cast`, if `op` is still in the module and is a cast.
+fn cast_at<B: ConversionRewriter>(alloc: Global, bench: &mut B, op: OpId) -> Result<(), Fault>
     ensures ends { Ends (cast_end (B.state bench.old).held op) (none_of result) (B.state bench.new) }
-    ensures leads { Leads B.state B.desk B.led bench.old bench.new }
+    ensures leads { Leads B.state B.transaction B.led bench.old bench.new }
 {
     if !bench.is_cast(op) {
         return Ok(());
     }
     match bench.cast_index(alloc, op) {
         Ok(true) => Ok(()),
-        Ok(false) => Err(Fault::at(Refusal::Unreconciled, op)),
-        Err(refusal) => Err(Fault::of(refusal)),
+        Ok(false) => Err(Fault::for_op(Refusal::Unreconciled, op)),
+        Err(refusal) => Err(Fault::without_op(refusal)),
     }
 }
 
-/// Puts an `arith.index_cast` in the place of each of some operations in turn, if it still stands and is a cast.
-fn cast_each<B: Rewriting>(alloc: Global, bench: &mut B, ops: &[OpId]) -> Result<(), Fault>
+/// Replaces each of some operations in turn with an `arith.index_cast`, if the operation is still in the module and is
+/// a cast.
+fn cast_each<B: ConversionRewriter>(alloc: Global, bench: &mut B, ops: &[OpId]) -> Result<(), Fault>
     ensures ends { Ends (in_turn cast_end ops.now (B.state bench.old).held) (none_of result) (B.state bench.new) }
-    ensures leads { Leads B.state B.desk B.led bench.old bench.new }
+    ensures leads { Leads B.state B.transaction B.led bench.old bench.new }
 {
     let mut rest = ops;
     'ops: while let [op, tail @ ..] = rest {
@@ -139,23 +146,23 @@ fn cast_each<B: Rewriting>(alloc: Global, bench: &mut B, ops: &[OpId]) -> Result
     Ok(())
 }
 
-/// Puts an `arith.index_cast` in the place of each cast.
-fn cast_all<B: Rewriting>(alloc: Global, bench: &mut B) -> Result<(), Fault>
+/// Replaces every cast with an `arith.index_cast`.
+fn cast_all<B: ConversionRewriter>(alloc: Global, bench: &mut B) -> Result<(), Fault>
     ensures ends { Ends (casts_left (B.state bench.old).held) (none_of result) (B.state bench.new) }
     ensures none { OnOk result (has_no_cast (B.state bench.new).held.tree ≡ true) }
-    ensures leads { Leads B.state B.desk B.led bench.old bench.new }
+    ensures leads { Leads B.state B.transaction B.led bench.old bench.new }
 {
     bench.is_whole();
     match bench.operations() {
         Ok(ops) => cast_each(alloc, bench, &ops),
-        Err(_) => Err(Fault::of(Refusal::Memory)),
+        Err(_) => Err(Fault::without_op(Refusal::Memory)),
     }
 }
 
-/// The first of some operations that isn't legal.
-fn illegal_of<B: Rewriting>(bench: &B, target: &Target, ops: &[OpId]) -> Option<OpId>
+/// Returns the first of some operations that isn't legal.
+fn illegal_of<B: ConversionRewriter>(bench: &B, target: &Target, ops: &[OpId]) -> Option<OpId>
     requires aim { IsAimIn (B.state bench.now).things target.now }
-    ensures { result ≡ first_illegal (aim_of (B.state bench.now).things target.now)
+    ensures { result ≡ first_illegal (target_model (B.state bench.now).things target.now)
         (B.state bench.now).held.tree ops.now }
 {
     let mut rest = ops;
@@ -168,10 +175,10 @@ fn illegal_of<B: Rewriting>(bench: &B, target: &Target, ops: &[OpId]) -> Option<
     None
 }
 
-/// In full mode every operation has to be legal.
-fn check<B: Rewriting>(bench: &B, target: &Target) -> Result<(), Fault>
+/// Checks that every operation is legal, if the target is in full mode.
+fn check<B: ConversionRewriter>(bench: &B, target: &Target) -> Result<(), Fault>
     requires aim { IsAimIn (B.state bench.now).things target.now }
-    ensures ends { Ends (checked (aim_of (B.state bench.now).things target.now) (B.state bench.now).held)
+    ensures ends { Ends (checked (target_model (B.state bench.now).things target.now) (B.state bench.now).held)
         (none_of result) (B.state bench.now) }
 {
     if !target.full {
@@ -179,67 +186,72 @@ fn check<B: Rewriting>(bench: &B, target: &Target) -> Result<(), Fault>
     }
     match bench.operations() {
         Ok(ops) => match illegal_of(bench, target, &ops) {
-            Some(op) => Err(Fault::at(Refusal::NotLegalised, op)),
+            Some(op) => Err(Fault::for_op(Refusal::NotLegalised, op)),
             None => Ok(()),
         },
-        Err(_) => Err(Fault::of(Refusal::Memory)),
+        Err(_) => Err(Fault::without_op(Refusal::Memory)),
     }
 }
 
-/// Converts a module behind a mark: where it is refused, the module may be any. The answer is the rules that stand.
-fn convert_parts<B: Rules>(
+/// Converts a module under a mark and returns the applied rules. If it is refused, the module is unspecified until the
+/// mark is rolled back.
+fn convert_parts<B: RuleApplier>(
     alloc: Global,
     bench: &mut B,
     target: &Target,
-) -> Result<Vec<Stood>, Stopped>
+) -> Result<Vec<AppliedRule>, ConversionError>
     requires aim { IsAimIn (B.state bench.old).things target.now }
-    ensures ends { Ends (all_parts (aim_of (B.state bench.old).things target.now) (B.state bench.old).held)
+    ensures ends { Ends (all_parts (target_model (B.state bench.old).things target.now) (B.state bench.old).held)
         (listed result) (B.state bench.new) }
-    ensures stays { Stays (staying (aim_of (B.state bench.old).things target.now)
+    ensures stays { Stays (staying (target_model (B.state bench.old).things target.now)
         (ids (B.state bench.old).held.tree) (B.state bench.old).held) result }
     ensures few { IfOk result (λ v. length v.items ≤ most_rules) }
     ensures none { OnOk result (has_no_cast (B.state bench.new).held.tree ≡ true) }
-    ensures leads { Leads B.state B.desk B.led bench.old bench.new }
+    ensures leads { Leads B.state B.transaction B.led bench.old bench.new }
 {
-    let fired = match legalise_all(alloc, bench, target) {
-        Ok(fired) => fired,
+    let applied = match legalise_all(alloc, bench, target) {
+        Ok(applied) => applied,
         Err(stopped) => return Err(stopped),
     };
     match reconcile(alloc, bench, target) {
-        Ok(()) => Ok(fired),
-        Err(fault) => Err(Stopped::behind(fault)),
+        Ok(()) => Ok(applied),
+        Err(fault) => Err(ConversionError::from_fault(fault)),
     }
 }
 
-/// Legalises the operations of the module, as they are at the start, in pre-order. The answer is the rules that stand.
-fn legalise_all<B: Rules>(
+/// Legalizes the operations of the original module, in pre-order. Returns the applied rules.
+fn legalise_all<B: RuleApplier>(
     alloc: Global,
     bench: &mut B,
     target: &Target,
-) -> Result<Vec<Stood>, Stopped>
+) -> Result<Vec<AppliedRule>, ConversionError>
     requires aim { IsAimIn (B.state bench.old).things target.now }
-    ensures ends { Ends (in_turn (legalised_end (aim_of (B.state bench.old).things target.now))
+    ensures ends { Ends (in_turn (legalised_end (target_model (B.state bench.old).things target.now))
         (ids (B.state bench.old).held.tree) (B.state bench.old).held) (listed result) (B.state bench.new) }
-    ensures stays { Stays (staying (aim_of (B.state bench.old).things target.now)
+    ensures stays { Stays (staying (target_model (B.state bench.old).things target.now)
         (ids (B.state bench.old).held.tree) (B.state bench.old).held) result }
     ensures few { IfOk result (λ v. length v.items ≤ most_rules) }
-    ensures leads { Leads B.state B.desk B.led bench.old bench.new }
+    ensures leads { Leads B.state B.transaction B.led bench.old bench.new }
 {
     match bench.operations() {
         Ok(ops) => legalise_each(alloc, bench, target, &ops),
-        Err(_) => Err(Stopped::of(Refusal::Memory)),
+        Err(_) => Err(ConversionError::without_op(Refusal::Memory)),
     }
 }
 
-/// Reconciles casts, and checks.
-fn reconcile<B: Rewriting>(alloc: Global, bench: &mut B, target: &Target) -> Result<(), Fault>
+/// Reconciles casts, and checks a full conversion.
+fn reconcile<B: ConversionRewriter>(
+    alloc: Global,
+    bench: &mut B,
+    target: &Target,
+) -> Result<(), Fault>
     requires aim { IsAimIn (B.state bench.old).things target.now }
-    ensures ends { Ends (later_parts (aim_of (B.state bench.old).things target.now)
+    ensures ends { Ends (later_parts (target_model (B.state bench.old).things target.now)
         (converted (B.state bench.old).held [])) (none_of result) (B.state bench.new) }
     ensures none { OnOk result (has_no_cast (B.state bench.new).held.tree ≡ true) }
-    ensures leads { Leads B.state B.desk B.led bench.old bench.new }
+    ensures leads { Leads B.state B.transaction B.led bench.old bench.new }
 {
-    if let Err(fault) = collapse_all(alloc, bench) {
+    if let Err(fault) = fold_casts(alloc, bench) {
         return Err(fault);
     }
     if let Err(fault) = cast_all(alloc, bench) {
@@ -248,97 +260,97 @@ fn reconcile<B: Rewriting>(alloc: Global, bench: &mut B, target: &Target) -> Res
     check(bench, target)
 }
 
-/// How many rules stand.
-fn count_of(fired: &[Stood]) -> u32
-    requires { length fired.now ≤ most_rules }
-    ensures { result ≡ length fired.now }
+/// Returns the number of applied rules.
+fn count_of(applied: &[AppliedRule]) -> u32
+    requires { length applied.now ≤ most_rules }
+    ensures { result ≡ length applied.now }
 {
-    fired.len() as u32
+    applied.len() as u32
 }
 
-/// Tells why an operation stays, if one does.
-fn tell_stay<T: Teller>(teller: &mut T, stay: Option<Stay>)
-    ensures { T.stayed stay teller.old teller.new }
+/// Reports to `tracer` why an operation couldn't be legalized, if one couldn't.
+fn tell_stay<T: Tracer>(tracer: &mut T, failure: Option<MatchFailure>)
+    ensures { T.stayed failure tracer.old tracer.new }
 {
-    if let Some(stay) = stay {
-        teller.stay(stay);
+    if let Some(failure) = failure {
+        tracer.match_failed(failure);
     }
 }
 
-/// Converts a module behind a mark, and tells of it: where it is refused, the module may be any. The answer is how many
-/// rules stand.
-fn convert_marked<B: Rules, T: Teller>(
+/// Converts a module under a mark and reports to `tracer`. Returns the number of applied rules. If it is refused, the
+/// module is unspecified until the mark is rolled back.
+fn convert_marked<B: RuleApplier, T: Tracer>(
     alloc: Global,
     bench: &mut B,
     target: &Target,
-    teller: &mut T,
+    tracer: &mut T,
 ) -> Result<u32, Fault>
     requires aim { IsAimIn (B.state bench.old).things target.now }
     ensures told { OnOk result (T.told
-        (stood_in (all_parts (aim_of (B.state bench.old).things target.now) (B.state bench.old).held)) teller.old
-        teller.new) }
+        (applied_rules (all_parts (target_model (B.state bench.old).things target.now) (B.state bench.old).held)) tracer.old
+        tracer.new) }
     ensures stays { IfErr result (λ f. T.stayed
-        (stay_told f.id (staying (aim_of (B.state bench.old).things target.now) (ids (B.state bench.old).held.tree)
-        (B.state bench.old).held)) teller.old teller.new) }
-    ensures ends { EndsBehind (all_parts (aim_of (B.state bench.old).things target.now) (B.state bench.old).held) result
+        (reported_failure f.id (staying (target_model (B.state bench.old).things target.now) (ids (B.state bench.old).held.tree)
+        (B.state bench.old).held)) tracer.old tracer.new) }
+    ensures ends { EndsAfter (all_parts (target_model (B.state bench.old).things target.now) (B.state bench.old).held) result
         (B.state bench.new) }
     ensures none { OnOk result (has_no_cast (B.state bench.new).held.tree ≡ true) }
-    ensures leads { Leads B.state B.desk B.led bench.old bench.new }
+    ensures leads { Leads B.state B.transaction B.led bench.old bench.new }
 {
     match convert_parts(alloc, bench, target) {
-        Ok(fired) => match teller.tell(&fired) {
-            Ok(()) => Ok(count_of(&fired)),
-            Err(refusal) => Err(Fault::of(refusal)),
+        Ok(applied) => match tracer.record_rules(&applied) {
+            Ok(()) => Ok(count_of(&applied)),
+            Err(refusal) => Err(Fault::without_op(refusal)),
         },
         Err(stopped) => {
-            tell_stay(teller, stopped.stay);
+            tell_stay(tracer, stopped.failure);
             Err(stopped.fault)
         }
     }
 }
 
-/// Whether a conversion went well.
+/// Returns whether a conversion succeeded.
 fn is_converted(made: &Result<u32, Fault>) -> bool
     ensures { result ≡ is_ok made.now }
 {
     made.is_ok()
 }
 
-/// Converts the module of a bench: each of its operations that isn't legal for a target is legalised by rules, then
-/// casts between types are reconciled, and in full mode every operation has to be legal then. The answer is how many
-/// rules stand; these are told. It is whole or not made at all; where an operation couldn't be legalised, it is told
-/// why.
+/// Converts the module of a rewriter. Rules legalize each operation that isn't legal for the target, then casts
+/// between types are reconciled. In full mode every operation must be legal in the end. Returns the number of applied
+/// rules and reports them to `tracer`. If the conversion is refused, the module stays the same. If an operation
+/// couldn't be legalized, `tracer` receives the reason.
 ///
-/// Refusals: `BadTarget`; `NotLegalised` or `ChainTooDeep` for an operation of the start, and `Unreconciled` for a
-/// cast, and `NotLegalised` in full mode, each with its id; `Full` and `IdsExhausted`, where a rule has no room; and
-/// `Memory`.
-pub(crate) fn convert_with<B: Rules, T: Teller>(
+/// Errors: `BadTarget`; `NotLegalised` or `ChainTooDeep` for an operation of the original module; `Unreconciled` for a
+/// cast; `NotLegalised` in full mode. Each of these except `BadTarget` has the operation's id. Also `Full` or
+/// `IdsExhausted` if a rule would exceed the limit of operations or of ids; `Memory` if memory runs out.
+pub(crate) fn convert_with<B: RuleApplier, T: Tracer>(
     alloc: Global,
     bench: &mut B,
     target: &Target,
-    teller: &mut T,
+    tracer: &mut T,
 ) -> Result<u32, Fault>
     requires names { IsNamedIn (B.state bench.old).things target.now }
     ensures told { OnOk result (T.told
-        (stood_in (conversion_of (aim_of (B.state bench.old).things target.now) (B.state bench.old).held)) teller.old
-        teller.new) }
+        (applied_rules (conversion_of (target_model (B.state bench.old).things target.now) (B.state bench.old).held)) tracer.old
+        tracer.new) }
     ensures stays { IfErr result (λ f. T.stayed
-        (stay_told f.id (stay_of (aim_of (B.state bench.old).things target.now) (B.state bench.old).held)) teller.old
-        teller.new) }
+        (reported_failure f.id (unlegalised_op (target_model (B.state bench.old).things target.now) (B.state bench.old).held)) tracer.old
+        tracer.new) }
     ensures converts { Converts
-        (conversion_of (aim_of (B.state bench.old).things target.now) (B.state bench.old).held) result
+        (conversion_of (target_model (B.state bench.old).things target.now) (B.state bench.old).held) result
         (B.state bench.old) (B.state bench.new) }
     ensures none { OnOk result (has_no_cast (B.state bench.new).held.tree ≡ true) }
-    ensures leads { Leads B.state B.desk B.led bench.old bench.new }
-    ensures left { OnErr result (Recorded [] (B.desk bench.old) (B.desk bench.new)) }
+    ensures leads { Leads B.state B.transaction B.led bench.old bench.new }
+    ensures left { OnErr result (Recorded [] (B.transaction bench.old) (B.transaction bench.new)) }
 {
     if !bench.is_accepted(target) {
-        return Err(Fault::of(Refusal::BadTarget));
+        return Err(Fault::without_op(Refusal::BadTarget));
     }
     if let Err(refusal) = bench.step() {
-        return Err(Fault::of(refusal));
+        return Err(Fault::without_op(refusal));
     }
-    let made = convert_marked(alloc, bench, target, teller);
+    let made = convert_marked(alloc, bench, target, tracer);
     close(bench, is_converted(&made));
     made
 }

@@ -1,4 +1,4 @@
-//! Where operations stand in a list.
+//! The indices of operations in a list.
 ghost use Rattle.std.specs.Prelude.{◌≡◌, OnOk, IfOk, nat_eq, eqb, ℕ, Some};
 ghost use Rattle.std.specs.List.{IsDistinct};
 ghost use Rattle.std.specs.HashMap.{get};
@@ -9,7 +9,7 @@ use ir_event::types::ids::OpId;
 use std::alloc::{AllocError, Global};
 use std::collections::HashMap;
 
-/// Notes where an operation stands.
+/// Records the index of an operation.
 fn note(places: &mut HashMap<u32, usize>, op: OpId, place: usize) -> Result<(), AllocError>
     ensures { OnOk result ((q : ℕ) → get nat_eq places.new q ≡ update eqb (get nat_eq places.old) op (Some place) q) }
 {
@@ -19,7 +19,7 @@ fn note(places: &mut HashMap<u32, usize>, op: OpId, place: usize) -> Result<(), 
     }
 }
 
-/// The place of each operation of a list, by its number.
+/// Returns the index of each operation of a list, keyed by the operation's number.
 pub(crate) fn places_of(alloc: Global, ops: &[OpId]) -> Result<HashMap<u32, usize>, AllocError>
     requires distinct { IsDistinct eqb ops.now }
     ensures { IfOk result (λ m. ArePlaces ops.now (get nat_eq m)) }
@@ -35,7 +35,7 @@ pub(crate) fn places_of(alloc: Global, ops: &[OpId]) -> Result<HashMap<u32, usiz
     Ok(places)
 }
 
-/// The place of an operation, if it is in the list.
+/// Returns the index of `op`, or `None` if it isn't in the list.
 pub(crate) fn place_of(places: &HashMap<u32, usize>, op: OpId) -> Option<usize>
     ensures { result ≡ get nat_eq places.now op }
 {

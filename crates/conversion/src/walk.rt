@@ -1,4 +1,4 @@
-//! Walks over lists, which go back to places that were passed.
+//! A walk over the indices of a list that can return to earlier indices.
 ghost use Rattle.std.specs.Prelude.{◌≡◌, ◌≤◌, ◌<◌, ◌+◌, ◌-◌, OnOk, MatchOption, nat_eq, [], ◌∷◌, length, option_map};
 ghost use Rattle.std.specs.HashMap.{get};
 ghost use Rattle.conversion.specs.Waiting.{Again, Freed, Took, Waits};
@@ -8,28 +8,28 @@ use ir_event::types::ids::OpId;
 use std::alloc::{AllocError, Global};
 use std::collections::{BTreeSet, HashMap};
 
-/// How far a walk came. Each place from `passed` on waits, and those of `again`.
+/// The progress of a walk. Each index from `passed` on waits, and so does each index of `again`.
 #[derive(Drop)]
-pub(crate) struct Walk {
-    /// How many places were passed.
+pub(crate) struct Worklist {
+    /// The number of indices that the walk has passed.
     pub(crate) passed: usize,
-    /// Those that are to be looked at again.
+    /// The passed indices that the walk visits again.
     pub(crate) again: BTreeSet<usize>,
 }
 
-/// A walk that begins.
-pub(crate) fn start(alloc: Global) -> Walk
+/// Returns a walk at its start.
+pub(crate) fn start(alloc: Global) -> Worklist
     ensures passed { result.passed ≡ 0 }
     ensures again { result.again.keys ≡ [] }
 {
-    Walk {
+    Worklist {
         passed: 0,
         again: BTreeSet::new(alloc),
     }
 }
 
-/// Takes the first place that waits, of a list of so many.
-pub(crate) fn take(walk: &mut Walk, count: usize) -> Option<usize>
+/// Removes the first waiting index and returns it. The list has `count` entries.
+pub(crate) fn pop(walk: &mut Worklist, count: usize) -> Option<usize>
     ensures taken { MatchOption result ((walk.old.again.keys ≡ []) × (count ≤ walk.old.passed))
         (λ p. Took walk.old.passed walk.old.again.keys walk.new.passed walk.new.again.keys p) }
     ensures fewer { MatchOption result (walk.new ≡ walk.old)
@@ -47,8 +47,8 @@ pub(crate) fn take(walk: &mut Walk, count: usize) -> Option<usize>
     Some(place)
 }
 
-/// Lets a place wait again that was passed.
-fn add(walk: &mut Walk, place: usize) -> Result<(), AllocError>
+/// Puts a passed index back on the worklist. An index that wasn't passed still waits.
+fn add(walk: &mut Worklist, place: usize) -> Result<(), AllocError>
     ensures { OnOk result (Waits place walk.old.passed walk.old.again.keys walk.new.passed walk.new.again.keys) }
 {
     if place >= walk.passed {
@@ -60,8 +60,8 @@ fn add(walk: &mut Walk, place: usize) -> Result<(), AllocError>
     }
 }
 
-/// Lets the place of an operation wait again, if it was passed.
-fn add_op(walk: &mut Walk, places: &HashMap<u32, usize>, op: OpId) -> Result<(), AllocError>
+/// Puts the index of `op` back on the worklist, if it was passed.
+fn add_op(walk: &mut Worklist, places: &HashMap<u32, usize>, op: OpId) -> Result<(), AllocError>
     ensures { OnOk result (Again (op ∷ [])
         (get nat_eq places.now) walk.old.passed walk.old.again.keys walk.new.passed walk.new.again.keys) }
 {
@@ -71,8 +71,12 @@ fn add_op(walk: &mut Walk, places: &HashMap<u32, usize>, op: OpId) -> Result<(),
     }
 }
 
-/// Lets the places of operations wait again that were passed.
-fn look_again(walk: &mut Walk, places: &HashMap<u32, usize>, ops: &[OpId]) -> Result<(), AllocError>
+/// Puts the indices of some operations back on the worklist, if they were passed.
+fn look_again(
+    walk: &mut Worklist,
+    places: &HashMap<u32, usize>,
+    ops: &[OpId],
+) -> Result<(), AllocError>
     ensures { OnOk result (Again ops.now
         (get nat_eq places.now) walk.old.passed walk.old.again.keys walk.new.passed walk.new.again.keys) }
 {
@@ -84,17 +88,17 @@ fn look_again(walk: &mut Walk, places: &HashMap<u32, usize>, ops: &[OpId]) -> Re
     Ok(())
 }
 
-/// After an operation was taken away: those that gave operands of it are looked at again, or all, where it isn't known
-/// which they are.
-pub(crate) fn free(
-    walk: &mut Walk,
+/// After an operation was erased, puts the defining operations of its operands back on the worklist. If those aren't
+/// known, the walk starts again.
+pub(crate) fn revisit_defining_ops(
+    walk: &mut Worklist,
     places: &HashMap<u32, usize>,
-    givers: &Option<Vec<OpId>>,
+    found_defining_ops: &Option<Vec<OpId>>,
 ) -> Result<(), AllocError>
-    ensures { OnOk result (Freed (option_map (λ v. v.items) givers.now)
+    ensures { OnOk result (Freed (option_map (λ v. v.items) found_defining_ops.now)
         (get nat_eq places.now) walk.old.passed walk.old.again.keys walk.new.passed walk.new.again.keys) }
 {
-    match givers {
+    match found_defining_ops {
         Some(ops) => look_again(walk, places, ops),
         None => {
             walk.passed = 0;

@@ -1,4 +1,4 @@
--- What becomes of an operation, by what is read of it.
+-- The rewrite of a cast, from queries of the module.
 use Rattle.std.proofs.Common.{◌≡◌, refl, ap, sym, ◌∙◌, ℕ, Bool, true, false, List, Some, if◌then◌else◌}
 use Rattle.std.specs.Prelude.{◌&&◌, codes, eqb, not}
 use Rattle.ir_event.specs.trees.Tree.{head}
@@ -6,36 +6,36 @@ use Rattle.ir_event.specs.trees.Ids.{find, has_id}
 use Rattle.ir_event.proofs.of_tree_laws.Around.{absent_find}
 use Rattle.ir_event.specs.Modules.{Module}
 use Rattle.effects.specs.Dead.{is_unused}
-use Rattle.patterns_edits.specs.Contents.{Edit, edited}
-use Rattle.patterns_edits.specs.Edits.{Erase}
+use Rattle.patterns_base.specs.Contents.{Edit, edited}
+use Rattle.patterns_base.specs.Edits.{Erase}
 use Rattle.patterns_base.specs.declared.rule.Rule.TheVariants.{CastBack}
 use Rattle.patterns_base.specs.Keeps.{given}
 use Rattle.patterns_base.specs.Looks.{when, front_of, one}
 use Rattle.patterns_base.specs.Made.{cast}
 use Rattle.patterns_base.specs.Makes.{give_new, made_by}
 use Rattle.patterns_base.specs.declared.rule.Rule.{Rule}
-use Rattle.patterns_base.specs.Rewrites.{none, becomes, edits_of, rewrite_by, rewrite_of, suits}
+use Rattle.patterns_base.specs.Rewrites.{none, becomes, edits_of, rewrite_by, rewrite_of, eligible}
 use Rattle.patterns_base.specs.Rules.{rule}
 use Rattle.conversion_base.specs.Reconciling.{collapse, index_edits, is_cast, rewrite_or, takes_index, unused_erased}
 use Rattle.conversion_base.proofs.Makes.{given_some}
 use Rattle.patterns_base.proofs.Facts.{edits_are, rewrite_is, when_some}
 
--- no rule applies at an operation that isn't there
+-- no rule applies at an operation that isn't in the module
 pub none_there : (r : Rule) (m : Module) (x : ℕ) → has_id x m.tree ≡ false → rewrite_of r m x ≡ none
 none_there r m x e =
     rewrite_is r m x
-    ∙ ap (λ o. rewrite_by o m) (edits_are r m x ∙ ap (λ o. given o (λ o. given (front_of x m.tree) (λ front. when (suits r m.tree (head o)) (rule r m.tree m.next front o)))) (absent_find x m.tree e))
+    ∙ ap (λ o. rewrite_by o m) (edits_are r m x ∙ ap (λ o. given o (λ o. given (front_of x m.tree) (λ front. when (eligible r m.tree (head o)) (rule r m.tree m.next front o)))) (absent_find x m.tree e))
 
 -- ---- casts
 
--- whether it is one, and not the root
+-- whether the operation is a cast, and not the root
 abbrev pub is_inner : ℕ → Module → Bool
 is_inner x m = is_cast x m.tree && not (eqb (head m.tree).id x)
 
 collapse_is : (m : Module) (x : ℕ) (b : Bool) → b ≡ is_inner x m → collapse m x ≡ (if b then rewrite_or (unused_erased m x) (rewrite_of CastBack m x) else none)
 collapse_is m x b e = ap (λ c. if c then rewrite_or (unused_erased m x) (rewrite_of CastBack m x) else none) (sym e)
 
--- a module that is read, and the one that is meant
+-- the module that is read, and the module that it means
 module _ (m n : Module) (same : m ≡ n) (x : ℕ) (b : Bool) (is : b ≡ is_inner x m) where
   inner : b ≡ is_inner x n
   inner = is ∙ ap (is_inner x) same
@@ -56,7 +56,7 @@ module _ (m n : Module) (same : m ≡ n) (x : ℕ) (b : Bool) (is : b ≡ is_inn
     pub collapse_rule : u ≡ false → collapse n x ≡ rewrite_of CastBack n x
     collapse_rule e = either_is ∙ ap (λ c. rewrite_or (if c then becomes (edited (Erase x) n) else none) (rewrite_of CastBack n x)) e
 
--- what puts an `arith.index_cast` in the place of one makes an operation
+-- the edits that replace a cast with an `arith.index_cast` make one operation
 pub one_made : (m : Module) (x : ℕ) (es : List Edit) → index_edits m x ≡ Some es → made_by es ≡ 1
 one_made m x es e =
     let o = given_some (find x m.tree) _ es e in

@@ -1,4 +1,4 @@
--- As many steps as there are operations are enough, where each takes an operation away.
+-- As many steps as there are operations are enough, if each step erases an operation.
 use Rattle.std.proofs.Common.{◌≡◌, refl, subst, ℕ, zero, suc, ◌<◌, ◌≤◌, List, [], ◌∷◌, arith}
 use Rattle.ir_event.specs.types.declared.refusal.Refusal.{Refusal}
 use Rattle.ir_event.specs.trees.Tree.{op}
@@ -17,7 +17,7 @@ none_becomes n e = absurd cc
 refused_becomes : (r : Refusal) (n : Module) → refused r ≡ becomes n → ⊥
 refused_becomes r n e = absurd cc
 
--- each cast that is taken away takes an operation away
+-- each erased cast makes the module smaller
 abbrev pub Falls : Type 0
 Falls = (m n : Module) (x : ℕ) → collapse m x ≡ becomes n → op_count n.tree < op_count m.tree
 
@@ -43,6 +43,6 @@ pub enough : Falls → (k : ℕ) (m n : Module) → op_count m.tree ≤ k → co
 enough falls zero m n l e = absurd (some_operation m.tree l)
 enough falls (suc k) m n l e = enough_at k m n (λ p. falls_first falls m p (ids m.tree)) (λ p. enough falls k p n) l (next_collapse m) refl e
 
--- so no cast is left that isn't used or that collapses
+-- so every remaining cast is used and doesn't collapse
 pub none_is_left : Falls → (m n : Module) → all_collapsed m ≡ becomes n → next_collapse n ≡ none
 none_is_left falls m n e = enough falls (op_count m.tree) m n (omega arith) e

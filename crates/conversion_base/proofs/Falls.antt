@@ -1,4 +1,4 @@
--- A cast that is taken away takes an operation away.
+-- Erasing a cast makes the module smaller.
 use Rattle.std.proofs.Common.{◌≡◌, refl, ap, sym, ◌∙◌, subst, ℕ, suc, ◌<◌, ◌≤◌, Bool, true, false, true≢false, cond, not, ◌&&◌, eqb, List, [], ◌∷◌, length, map, filter, Option, Some, None, inl, inr, arith}
 use Rattle.std.specs.List.{list_any}
 use Rattle.ir_event.specs.types.Terms.{TypeTerm}
@@ -21,8 +21,8 @@ use Rattle.ir_event.proofs.of_tree_laws.Heads.{each_id}
 use Rattle.ir_event.proofs.of_tree_laws.HeadForm.{edit_ids}
 use Rattle.ir_event.specs.Modules.{Module}
 use Rattle.effects.specs.Dead.{is_unused}
-use Rattle.patterns_edits.specs.Contents.{Edit, all_edited, edited}
-use Rattle.patterns_edits.specs.Edits.{Erase}
+use Rattle.patterns_base.specs.Contents.{Edit, all_edited, edited}
+use Rattle.patterns_base.specs.Edits.{Erase}
 use Rattle.patterns_base.specs.declared.rule.Rule.TheVariants.{CastBack}
 use Rattle.patterns_base.specs.Casting.{cast_back, unrealized, back_from}
 use Rattle.patterns_base.specs.Keeps.{given}
@@ -100,7 +100,7 @@ one_name name (a ∷ []) (ty ∷ []) p e = (let same : record { name = name; fir
 one_name name (a ∷ []) (ty ∷ u ∷ ts) p e = absurd cc
 one_name name (a ∷ b ∷ vs) ts p e = absurd cc
 
--- casting back at a cast gives a value for its result
+-- casting back at a cast gives a replacement for its result
 pub given_at : (t : Operation) (n : ℕ) (front : Place) (o : Operation) (es : List Edit) → named cast_name (head o).name ≡ true → rule CastBack t n front o ≡ Some es → (v : Value) × (es ≡ give (head o).id v)
 given_at t n front o es c e =
     let p = given_some (one (head o)) _ es (sym (rule_is t n front o) ∙ e) in
@@ -120,7 +120,7 @@ given_at t n front o es c e =
     by_test p true r c e = from_unrealized p (is_of_type t p.ty p.first) e
     by_test p false r c e = absurd (true≢false (sym c))
 
--- what is a cast is there
+-- a cast is in the module
 pub cast_there : (x : ℕ) (t : Operation) → is_cast x t ≡ true → (o : Operation) × (find x t ≡ Some o) × (named cast_name (head o).name ≡ true)
 cast_there x t e = go (find x t) refl e
   where
@@ -150,7 +150,7 @@ module _ (m n : Module) (x : ℕ) (root : eqb (head m.tree).id x ≡ false) (cas
       let is : n ≡ all_edited (give x v.0) m = w.2 ∙ ap (λ es. all_edited es m) (v.1 ∙ ap (λ y. give y v.0) id) in
       subst (λ (q : Module). op_count q.tree < op_count m.tree) (sym is) (falls_replaced x (Result x 0) v.0 m.tree root there)
 
--- each cast that is taken away takes an operation away
+-- each erased cast makes the module smaller
 pub falls_collapse : (m n : Module) (x : ℕ) → collapse m x ≡ becomes n → op_count n.tree < op_count m.tree
 falls_collapse m n x e = go (is_cast x m.tree && not (eqb (head m.tree).id x)) refl e
   where

@@ -1,4 +1,4 @@
--- Where all casts are made anew or were refused, none is left.
+-- If all casts are replaced, or one is refused, no cast is left.
 use Rattle.std.proofs.Common.{◌≡◌, refl, ap, sym, ◌∙◌, subst, ℕ, ◌+◌, Bool, true, false, true≢false, cond, not, ◌&&◌, ◌||◌, eqb, eqb-true, List, [], ◌∷◌, ◌++◌, Option, Some, None, option_map, inl, inr, arith, leb-true, lt-ltb}
 use Rattle.std.specs.Prelude.{codes, nat_le, nat_lt}
 use Rattle.std.specs.List.{list_all, list_any}
@@ -19,7 +19,7 @@ use Rattle.ir_event.specs.trees.Meaning.{Operation}
 use Rattle.ir_event.specs.trees.WellFormed.{IsWellFormed}
 use Rattle.ir_event.proofs.of_trees.Heads.{head_find}
 use Rattle.ir_event.specs.tree_laws.Members.{In}
-use Rattle.ir_event.specs.tree_laws.Stands.{StandOf, stand_id, stands, sees, dropping, left_stand}
+use Rattle.ir_event.specs.tree_laws.Stands.{StandOf, stand_id, stands, dominated_by, dropping, left_stand}
 use Rattle.ir_event.specs.tree_laws.Reads.{is_within}
 use Rattle.ir_event.specs.tree_laws.Reasons.{with_id, leaves_within, unused_outside}
 use Rattle.ir_event.proofs.of_tree_laws.Listed.{bool_cases, all_each, each_all, in_map, both, either, neither}
@@ -29,31 +29,31 @@ use Rattle.ir_event.proofs.of_tree_laws.Around.{stand_present, left_apart}
 use Rattle.ir_event.proofs.of_tree_laws.Without.{member_left, left_member, same_head}
 use Rattle.ir_event.proofs.of_tree_laws.Edited.{put_order}
 use Rattle.ir_event.proofs.of_tree_laws.Formed.{from_formed, left_well_formed, Spared}
-use Rattle.ir_event.proofs.of_tree_laws.Sees.{visible_there}
+use Rattle.ir_event.proofs.of_tree_laws.DominatedBy.{visible_there}
 use Rattle.ir_event.specs.Modules.{Module}
-use Rattle.patterns_edits.specs.Contents.{Edit, all_edited, edited}
-use Rattle.patterns_edits.specs.Edits.{Make, Replace}
-use Rattle.patterns_edits.proofs.Made.{Stood, stood}
-use Rattle.patterns_edits.proofs.Made as made
-use Rattle.patterns_edits.proofs.Give as give
-use Rattle.patterns_edits.proofs.Headed as headed
-use Rattle.patterns_base.specs.Looks.{Header, One, front_of, in_front, one, one_from}
+use Rattle.patterns_base.specs.Contents.{Edit, all_edited, edited}
+use Rattle.patterns_base.specs.Edits.{Make, Replace}
+use Rattle.patterns_base.proofs.Made.{Stood, stood}
+use Rattle.patterns_base.proofs.Made as made
+use Rattle.patterns_base.proofs.Give as give
+use Rattle.patterns_base.proofs.Headed as headed
+use Rattle.patterns_base.specs.Looks.{Header, One, front_of, insertion_point, one, one_from}
 use Rattle.patterns_base.specs.Made.{cast}
 use Rattle.patterns_base.specs.Makes.{give_new, made_by}
 use Rattle.patterns_base.specs.Rewrites.{Rewrite, none, refused, becomes, rewrite_by, carried_out}
 use Rattle.patterns_base.specs.Words.{named}
 use Rattle.conversion_base.specs.Targets.{cast_name}
 use Rattle.conversion_base.specs.Reconciling.{index_edits, index_rewrite, is_cast, is_cast_found, takes_index}
-use Rattle.conversion_base.specs.Conversion.{Ended, converted, given_up, ended_behind, next_part, in_turn, cast_ended, cast_at, casts_left, has_no_cast}
-use Rattle.conversion_base.specs.declared.stood.Stood.{Stood as Applied}
+use Rattle.conversion_base.specs.Conversion.{Ended, converted, given_up, ended_after, next_part, in_turn, cast_ended, cast_at, casts_left, has_no_cast}
+use Rattle.conversion_base.specs.declared.applied_rule.AppliedRule.{AppliedRule as Applied}
 use Rattle.conversion_base.proofs.Makes.{given_some, carried}
 use Rattle.conversion_base.proofs.Falls.{cast_there, found_id}
 use Rattle.patterns_base.proofs.Facts.{when_some}
 
--- ---- an `arith.index_cast` in the place of an operation
+-- ---- an `arith.index_cast` that replaces an operation
 
--- where it is put
-pub record Anew (m n : Module) (x : ℕ) : Type 0 where
+-- its insertion point
+pub record Again (m n : Module) (x : ℕ) : Type 0 where
   pub front : Place
   pub place : Place
   pub placed : place_of x m.tree ≡ Some place
@@ -75,9 +75,9 @@ ends_of name (a ∷ []) (ty ∷ []) p e = (let same : record { name = name; firs
 ends_of name (a ∷ []) (ty ∷ u ∷ ts) p e = absurd cc
 ends_of name (a ∷ b ∷ vs) ts p e = absurd cc
 
-placed_in : (x : ℕ) (f : Option Place) (front : Place) → option_map (in_front x) f ≡ Some front → (place : Place) × (f ≡ Some place) × (front ≡ record place { before = Some x })
+placed_in : (x : ℕ) (f : Option Place) (front : Place) → option_map (insertion_point x) f ≡ Some front → (place : Place) × (f ≡ Some place) × (front ≡ record place { before = Some x })
 placed_in x None front e = absurd cc
-placed_in x (Some p) front e = (p, refl, (let same : in_front x p ≡ front = cc in sym same))
+placed_in x (Some p) front e = (p, refl, (let same : insertion_point x p ≡ front = cc in sym same))
 
 roomy : (m n : Module) (es : List Edit) → made_by es ≡ 1 → carried_out es m ≡ becomes n → (nat_lt (op_count m.tree) most_ops ≡ true) × (nat_lt m.next most_next ≡ true)
 roomy m n es one e = go (nat_le (op_count m.tree + made_by es) most_ops) refl (nat_le (m.next + made_by es) most_next) refl e
@@ -91,10 +91,10 @@ roomy m n es one e = go (nat_le (op_count m.tree + made_by es) most_ops) refl (n
     go true p false q e = absurd cc
     go false p b q e = absurd cc
 
-anew : (m n : Module) (x : ℕ) → index_rewrite m x ≡ becomes n → Anew m n x
-anew m n x e = go (index_edits m x) refl e
+again : (m n : Module) (x : ℕ) → index_rewrite m x ≡ becomes n → Again m n x
+again m n x e = go (index_edits m x) refl e
   where
-    go : (o : Option (List Edit)) → index_edits m x ≡ o → rewrite_by o m ≡ becomes n → Anew m n x
+    go : (o : Option (List Edit)) → index_edits m x ≡ o → rewrite_by o m ≡ becomes n → Again m n x
     go None f e = absurd cc
     go (Some es) f e =
         (let h = given_some (find x m.tree) _ es f in
@@ -121,7 +121,7 @@ anew m n x e = go (index_edits m x) refl e
           is = carried es m n e ∙ ap (λ l. all_edited l m) (sym same);
         })
 
--- by heads
+-- whether an operation is a cast, by its head
 abbrev is_cast_head : Option Header → Bool
 is_cast_head None = false
 is_cast_head (Some h) = named cast_name h.name
@@ -130,12 +130,12 @@ by_head : (f : Option Operation) → is_cast_found f ≡ is_cast_head (option_ma
 by_head None = refl
 by_head (Some o) = refl
 
--- a module is left well-formed, and each cast of it was one
+-- the module stays well-formed, and each of its casts was a cast before
 pub record Fewer (m n : Module) (x : ℕ) : Type 0 where
   pub formed : IsWellFormed is_isolated n
   pub was : (y : ℕ) → is_cast y n.tree ≡ true → (is_cast y m.tree ≡ true) × (y ≡ x → ⊥)
 
-module _ (m : Module) (w : IsWellFormed is_isolated m) (n : Module) (x : ℕ) (a : Anew m n x) where
+module _ (m : Module) (w : IsWellFormed is_isolated m) (n : Module) (x : ℕ) (a : Again m n x) where
   abbrev new : Operation
   new = cast (codes "arith.index_cast") a.ty a.value
 
@@ -149,8 +149,8 @@ module _ (m : Module) (w : IsWellFormed is_isolated m) (n : Module) (x : ℕ) (a
   seen =
       let s = standing.at in
       let at : StandOf (List ℕ) TypeTerm AttrTerm = stand s.here (s.step_in ∷ s.path) in
-      let own : list_all (sees is_isolated at.path) (a.value ∷ []) ≡ true = ap (list_all (sees is_isolated at.path)) (sym (ap (λ (z : Operation). (head z).operands) same_here ∙ a.operands)) ∙ (from_formed is_isolated m.tree w.formed).sees_own at s.there in
-      let one = (both (sees is_isolated at.path a.value) true own).0 in
+      let own : list_all (dominated_by is_isolated at.path) (a.value ∷ []) ≡ true = ap (list_all (dominated_by is_isolated at.path)) (sym (ap (λ (z : Operation). (head z).operands) same_here ∙ a.operands)) ∙ (from_formed is_isolated m.tree w.formed).dominated_by_own at s.there in
+      let one = (both (dominated_by is_isolated at.path a.value) true own).0 in
       ap (λ b. b && true) (ap (λ z. visible is_isolated m.tree z a.value) (sym s.id) ∙ visible_there is_isolated m.tree w.distinct at s.there a.value ∙ one)
 
   abbrev after_make : Module
@@ -159,14 +159,14 @@ module _ (m : Module) (w : IsWellFormed is_isolated m) (n : Module) (x : ℕ) (a
   made_stands : Stood is_isolated x a.front after_make
   made_stands = made.make_stood is_isolated x a.front m standing new refl seen refl a.room a.more
 
-  sees_it : visible is_isolated after_make.tree x (Result m.next 0) ≡ true
-  sees_it = made.sees_new is_isolated x a.front m standing new refl 0 refl
+  dominated_by_it : visible is_isolated after_make.tree x (Result m.next 0) ≡ true
+  dominated_by_it = made.dominated_by_new is_isolated x a.front m standing new refl 0 refl
 
   abbrev after_replace : Module
   after_replace = edited (Replace (Result x 0) (Result m.next 0)) after_make
 
   replaced_stands : Stood is_isolated x a.front after_replace
-  replaced_stands = headed.replaced_stood is_isolated x a.front after_make made_stands (Result m.next 0) sees_it 0
+  replaced_stands = headed.replaced_stood is_isolated x a.front after_make made_stands (Result m.next 0) dominated_by_it 0
 
   there : has_id x m.tree ≡ true
   there = give.there_is is_isolated x a.front m standing
@@ -181,7 +181,7 @@ module _ (m : Module) (w : IsWellFormed is_isolated m) (n : Module) (x : ℕ) (a
       ap (λ (h : HeadOf (List ℕ) TypeTerm AttrTerm). h.results) heads ∙ ap (λ (z : Operation). (head z).results) same_here ∙ a.results
 
   nobody : unused_outside x after_replace.tree ≡ true
-  nobody = give.given_spared is_isolated x a.front after_make made_stands (Result m.next 0) sees_it a.ty one_after
+  nobody = give.given_spared is_isolated x a.front after_make made_stands (Result m.next 0) dominated_by_it a.ty one_after
 
   root : eqb (head after_replace.tree).id x ≡ false
   root = headed.not_root is_isolated x a.front after_replace replaced_stands
@@ -205,7 +205,7 @@ module _ (m : Module) (w : IsWellFormed is_isolated m) (n : Module) (x : ℕ) (a
   last_formed : IsWellFormed is_isolated (record after_replace { tree = without x after_replace.tree })
   last_formed = left_well_formed is_isolated x after_replace replaced_stands.formed spared
 
-  -- the casts that are left
+  -- the remaining casts
   of_erased : (y : ℕ) → is_cast y (without x after_replace.tree) ≡ true → (is_cast y after_replace.tree ≡ true) × (y ≡ x → ⊥)
   of_erased y c =
       let o = cast_there y (without x after_replace.tree) c in
@@ -268,11 +268,11 @@ among_all m w = record {
       subst (λ z. In z (ids m.tree)) s.2 (subst (In (stand_id s.0)) (stands_ids [] m.tree) (in_map (λ (u : StandOf (List ℕ) TypeTerm AttrTerm). stand_id u) s.0 (stands [] m.tree) s.1));
 }
 
--- one that ends a part ends what comes before it
+-- if a part succeeds after other parts, the other parts succeeded
 pub ended_before : (f : Module → Ended) (e : Ended) (n : Module) (ks : List Applied) → next_part f e ≡ converted n ks → (p : Module) × (js : List Applied) × (e ≡ converted p js) × (is : List Applied) × (f p ≡ converted n is)
 ended_before f (converted p js) n ks e = (let r = go (f p) refl e in (p, js, refl, r.0, r.1))
   where
-    go : (d : Ended) → f p ≡ d → ended_behind js d ≡ converted n ks → (is : List Applied) × (f p ≡ converted n is)
+    go : (d : Ended) → f p ≡ d → ended_after js d ≡ converted n ks → (is : List Applied) × (f p ≡ converted n is)
     go (converted q is) g e = (is, g ∙ (let same : q ≡ n = cc in ap (λ r. converted r is) same))
     go (given_up r x) g e = absurd cc
 ended_before f (given_up r x) n ks e = absurd cc
@@ -285,7 +285,7 @@ one_less x xs m n ks a e = go (is_cast x m.tree) refl e
     index_step (refused r) f e = absurd cc
     index_step (becomes p) f e =
         (let same : p ≡ n = cc in
-        let w = fewer m a.formed n x (anew m n x (f ∙ ap becomes same)) in
+        let w = fewer m a.formed n x (again m n x (f ∙ ap becomes same)) in
         record {
           formed = w.formed;
           among = λ y c. let was = w.was y c in elim (a.among y was.0) [ inl e ↦ absurd (was.1 e) | inr h ↦ h ];

@@ -1,4 +1,4 @@
--- A list of casts stays one as they are taken away.
+-- A list with the casts of a module still has them after casts are erased.
 use Rattle.std.proofs.Common.{◌≡◌, refl, ap, sym, ◌∙◌, subst, ℕ, Bool, true, false, true≢false, cond, not, ◌&&◌, eqb, List, [], ◌∷◌, map, filter, Option, Some, None, option_map, inl, inr}
 use Rattle.std.specs.List.{IsDistinct}
 use Rattle.ir_event.specs.trees.declared.value.Value.{Value}
@@ -19,8 +19,8 @@ use Rattle.ir_event.proofs.of_tree_laws.Without.{member_left, same_head, without
 use Rattle.ir_event.specs.types.Terms.{TypeTerm, AttrTerm}
 use Rattle.ir_event.specs.Modules.{Module}
 use Rattle.effects.specs.Dead.{is_unused}
-use Rattle.patterns_edits.specs.Contents.{all_edited, edited}
-use Rattle.patterns_edits.specs.Edits.{Erase}
+use Rattle.patterns_base.specs.Contents.{all_edited, edited}
+use Rattle.patterns_base.specs.Edits.{Erase}
 use Rattle.patterns_base.specs.declared.rule.Rule.TheVariants.{CastBack}
 use Rattle.patterns_base.specs.Looks.{Header}
 use Rattle.patterns_base.specs.Makes.{give}
@@ -34,7 +34,7 @@ use Rattle.conversion_base.proofs.Makes.{applies, rewritten}
 use Rattle.conversion_base.proofs.Enough.{becomes_is}
 use Rattle.std.proofs.lemmas.Bool.{not-false}
 
--- ---- lists of which some are left out
+-- ---- sublists
 
 abbrev Stand : Type 0
 Stand = StandOf (List ℕ) TypeTerm AttrTerm
@@ -43,7 +43,7 @@ no_is : (a b : Bool) → (b ≡ true → a ≡ true) → a ≡ false → b ≡ f
 no_is a true h e = absurd (true≢false (sym (h refl) ∙ e))
 no_is a false h e = refl
 
--- what passes one test passes the other
+-- an entry that passes one test passes the other
 filter_within : (p q : ℕ → Bool) → ((y : ℕ) → q y ≡ true → p y ≡ true) → (xs : List ℕ) → filter q (filter p xs) ≡ filter q xs
 filter_within p q h [] = refl
 filter_within p q h (x ∷ xs) = go (p x) refl (filter_within p q h xs)
@@ -52,7 +52,7 @@ filter_within p q h (x ∷ xs) = go (p x) refl (filter_within p q h xs)
     go true e r = ap (λ l. cond (q x) (x ∷ l) l) r
     go false e r = r ∙ sym (ap (λ c. cond c (x ∷ filter q xs) (filter q xs)) (no_is (p x) (q x) (h x) e))
 
--- what is left out doesn't pass
+-- the dropped entries fail the test
 filter_dropped : {X : Type 0} (p : ℕ → Bool) (f : X → ℕ) (k : X → Bool) (xs : List X) → ((s : X) → In s xs → k s ≡ false → p (f s) ≡ false) → filter p (map f xs) ≡ filter p (map f (filter k xs))
 filter_dropped p f k [] h = refl
 filter_dropped {X} p f k (s ∷ ss) h = go (k s) refl (filter_dropped p f k ss (λ u i. h u (inr i)))
@@ -61,7 +61,7 @@ filter_dropped {X} p f k (s ∷ ss) h = go (k s) refl (filter_dropped p f k ss (
     go true e r = ap (λ l. cond (p (f s)) (f s ∷ l) l) r
     go false e r = ap (λ c. cond c (f s ∷ filter p (map f ss)) (filter p (map f ss))) (h s (inl refl) e) ∙ r
 
--- ---- the casts of a tree, and of one from which some were taken
+-- ---- the casts of a tree, and of a tree after casts are erased
 
 record Fewer (t u : Operation) : Type 0 where
   was : (y : ℕ) → is_cast y u ≡ true → is_cast y t ≡ true
@@ -137,7 +137,7 @@ module _ (v w : Value) (t : Operation) where
         left = ap (λ xs. casts_among xs (without x (with_value_replaced v w t))) (sym same_ids) ∙ f.left;
       }
 
--- ---- a cast is taken away
+-- ---- a cast is erased
 
 module _ (m n : Module) (x : ℕ) (d : HasDistinctIds m.tree) where
   by_unused : unused_erased m x ≡ becomes n → Fewer m.tree n.tree
@@ -174,11 +174,11 @@ by_first : (m n : Module) → HasDistinctIds m.tree → (xs : List ℕ) → firs
 by_first m n d [] e = absurd cc
 by_first m n d (x ∷ xs) e = by_either m n x d (collapse m x) (first_rewrite (collapse m) xs) (by_collapse m n x d) (by_first m n d xs) e
 
--- a list with the casts of a tree still has them when one of it was taken away
+-- a list with the casts of a tree still has them after one of them is erased
 pub casts_stay : (m n : Module) (xs : List ℕ) → HasDistinctIds m.tree → HaveCasts xs m.tree → first_rewrite (collapse m) xs ≡ becomes n → HaveCasts xs n.tree
 casts_stay m n xs d h e = still xs m.tree n.tree h (by_first m n d xs e)
 
--- ---- the first one that is taken away
+-- ---- the first cast that is erased
 
 not_taken : (m : Module) (x : ℕ) → is_cast x m.tree ≡ false → collapse m x ≡ none
 not_taken m x e = ap (λ b. cond (b && not (eqb (head m.tree).id x)) (rewrite_or (unused_erased m x) (rewrite_of CastBack m x)) none) e
@@ -192,10 +192,10 @@ first_cast m (x ∷ xs) = go (is_cast x m.tree) refl (first_cast m xs)
     go true e r = ap (rewrite_or (collapse m x)) r
     go false e r = r ∙ sym (ap (λ w. rewrite_or w (first_rewrite (collapse m) xs)) (not_taken m x e))
 
--- is that of the list
+-- it is the first one of the list
 pub next_listed : (m : Module) (xs : List ℕ) → HaveCasts xs m.tree → first_rewrite (collapse m) xs ≡ next_collapse m
 next_listed m xs h = sym (first_cast m xs) ∙ ap (first_rewrite (collapse m)) h ∙ first_cast m (ids m.tree)
 
--- the casts of a tree are such a list
+-- the list of a tree's casts has the casts of the tree
 pub casts_have : (t : Operation) (xs : List ℕ) → xs ≡ casts_among (ids t) t → HaveCasts xs t
 casts_have t xs e = ap (λ ys. casts_among ys t) e ∙ filter_within (λ x. is_cast x t) (λ x. is_cast x t) (λ y h. h) (ids t)

@@ -1,4 +1,4 @@
--- Where a rule applies that conversion may try, ids are given out.
+-- A rule that a conversion may try gives out ids if it applies.
 use Rattle.std.proofs.Common.{◌≡◌, refl, ap, sym, ◌∙◌, ℕ, ◌+◌, ◌<◌, ◌≤◌, Bool, true, false, List, [], ◌∷◌, Option, Some, None, cond, arith}
 use Rattle.std.specs.Prelude.{nat_le}
 use Rattle.ir_event.specs.types.declared.refusal.Refusal.TheVariants.{Full, IdsExhausted}
@@ -8,15 +8,15 @@ use Rattle.ir_event.specs.trees.Ids.{find, op_count}
 use Rattle.ir_event.specs.trees.Limits.{most_ops, most_next}
 use Rattle.ir_event.specs.trees.Meaning.{Operation}
 use Rattle.ir_event.specs.Modules.{Module}
-use Rattle.patterns_edits.specs.Contents.{Edit, all_edited, edited}
-use Rattle.patterns_edits.specs.Edits.{Insert, Make, Erase, Move, SetOperand, Replace, SetAttr, DropAttr}
+use Rattle.patterns_base.specs.Contents.{Edit, all_edited, edited}
+use Rattle.patterns_base.specs.Edits.{Insert, Make, Erase, Move, SetOperand, Replace, SetAttr, DropAttr}
 use Rattle.patterns_base.specs.Keeps.{given}
 use Rattle.patterns_base.specs.Looks.{when, front_of}
 use Rattle.patterns_base.specs.Makes.{makes, made_by}
 use Rattle.patterns_base.specs.declared.rule.Rule.{Rule}
 use Rattle.patterns_base.specs.RuleNames.{is_converting}
 use Rattle.patterns_base.specs.Rules.{rule}
-use Rattle.patterns_base.specs.Rewrites.{refused, becomes, edits_of, rewrite_of, rewrite_by, carried_out, suits}
+use Rattle.patterns_base.specs.Rewrites.{refused, becomes, edits_of, rewrite_of, rewrite_by, carried_out, eligible}
 use Rattle.patterns_base.proofs.Making.{converting_rules_make}
 use Rattle.patterns_base.proofs.Facts.{edits_are, rewrite_is, when_some}
 
@@ -24,7 +24,7 @@ pub given_some : {X Y : Type 0} (o : Option X) (f : X → Option Y) (y : Y) → 
 given_some None f y e = absurd cc
 given_some (Some x) f y e = (x, refl, e)
 
--- where a rule applies at an operation
+-- a rule applies at an operation with these edits
 pub record Applies (r : Rule) (m : Module) (x : ℕ) (es : List Edit) : Type 0 where
   pub here : Operation
   pub front : Place
@@ -36,9 +36,9 @@ pub applies : (r : Rule) (m : Module) (x : ℕ) (es : List Edit) → edits_of r 
 applies r m x es e =
     let o = given_some (find x m.tree) _ es (sym (edits_are r m x) ∙ e) in
     let f = given_some (front_of x m.tree) _ es o.2 in
-    record { here = o.0; front = f.0; found = o.1; at = f.1; is = (when_some (suits r m.tree (head o.0)) _ es f.2).1 }
+    record { here = o.0; front = f.0; found = o.1; at = f.1; is = (when_some (eligible r m.tree (head o.0)) _ es f.2).1 }
 
--- what is carried out
+-- the module after the edits
 pub carried : (es : List Edit) (m n : Module) → carried_out es m ≡ becomes n → n ≡ all_edited es m
 carried es m n e = go (nat_le (op_count m.tree + made_by es) most_ops) (nat_le (m.next + made_by es) most_next) e
   where
@@ -54,7 +54,7 @@ rewritten r m n x e = go (edits_of r m x) refl (sym (rewrite_is r m x) ∙ e)
     go None f e = absurd cc
     go (Some es) f e = (es, f, carried es m n e)
 
--- ids that edits give out
+-- the ids that edits give out
 rises : (e : Edit) (m : Module) → makes e + m.next ≤ (edited e m).next
 rises (Insert place o) m = omega arith
 rises (Make place o) m = omega arith

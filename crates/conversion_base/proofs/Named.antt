@@ -1,10 +1,10 @@
--- Names by their numbers, and names that stand once.
+-- Interned names, and names that are listed once.
 use Rattle.std.proofs.Common.{◌≡◌, refl, sym, ap, ◌∙◌, ℕ, Bool, true, false, true≢false, not, ◌&&◌, ◌||◌, eqb, eq-eqb, eqb-true, List, [], ◌∷◌, ◌++◌, map, inl, inr}
 use Rattle.std.specs.List.{All, list_any}
 use Rattle.std.specs.Str.{bytes_eq}
 use Rattle.std.proofs.lemmas.List.Elements.{All-head, All-tail}
 use Rattle.std.proofs.lemmas.List.Folds.{list_all-append, list_any-append}
-use Rattle.ir_event.specs.types.Things.{Things, IsName}
+use Rattle.ir_event.specs.types.Things.{ContextModel, IsName}
 use Rattle.ir_event.specs.types.Terms.{name_term}
 use Rattle.ir_event.specs.types.Sound.{IsSound}
 use Rattle.ir_event.proofs.of_types.Growth.{name_is, name_refl}
@@ -15,8 +15,8 @@ use Rattle.conversion_base.specs.Targets.{Aim, each_once, names_of}
 use Rattle.conversion_base.specs.Numbers.{are_apart, lists_apart, lists_once}
 use Rattle.conversion_base.specs.Repeats.{stands_twice}
 
-module _ (c : Things) (sound : IsSound c) where
-  -- two names are one where their numbers are
+module _ (c : ContextModel) (sound : IsSound c) where
+  -- two names are equal exactly if their numbers are
   same_numbers : (m n : ℕ) → IsName c m → IsName c n → eqb m n ≡ bytes_eq (name_term c m) (name_term c n)
   same_numbers m n h k = go (bytes_eq (name_term c m) (name_term c n)) refl
     where
@@ -32,7 +32,7 @@ module _ (c : Things) (sound : IsSound c) where
   same_among n [] h a = refl
   same_among n (m ∷ ns) h a = λ i. same_numbers n m h (All-head (IsName c) m ns a) i || same_among n ns h (All-tail (IsName c) m ns a) i
 
-  -- none stands twice where each stands once
+  -- a list has no duplicate exactly if each name is listed once
   pub same_once : (ns : List ℕ) → All (IsName c) ns → not (stands_twice ns) ≡ each_once (map (name_term c) ns)
   same_once [] a = refl
   same_once (n ∷ ns) a =
@@ -56,7 +56,7 @@ once_joined (n ∷ ns) ms =
     go false true false d e = refl
     go false false c d e = refl
 
--- names of the three of a target
+-- the names of the three lists of a target
 pub all_once : (g : Aim) → (lists_once g && lists_apart g) ≡ each_once (names_of g)
 all_once g =
     let a = g.legal in

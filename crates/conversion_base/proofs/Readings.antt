@@ -1,10 +1,10 @@
--- What is read of a module, in contents.
+-- Queries of a module give the results that the tree of terms defines.
 use Rattle.std.proofs.Common.{◌≡◌, refl, ap, sym, ◌∙◌, subst, ℕ, ◌+◌, ◌<◌, Bool, true, false, true≢false, ◌||◌, not, eqb, eqb-true, List, [], ◌∷◌, length, map, drop, Option, Some, None, option_map, zero, suc, inl, inr, arith}
 use Rattle.std.specs.Prelude.{MatchOption, is_some, slice_get, option_and_then}
 use Rattle.std.specs.List.{list_any, list_all}
 use Rattle.std.specs.Option.{option_eq}
 use Rattle.std.specs.Str.{bytes_eq}
-use Rattle.ir_event.specs.types.Things.{Things}
+use Rattle.ir_event.specs.types.Things.{ContextModel}
 use Rattle.ir_event.specs.types.Terms.{TypeTerm, name_term, type_term, attr_term}
 use Rattle.ir_event.specs.types.SameTypes.{same_type}
 use Rattle.ir_event.specs.trees.declared.value.Value.{Value}
@@ -62,7 +62,7 @@ module _ (x : ℕ) (t : Op) (d : HasDistinctIds t) (known : has_id x t ≡ true)
         cc)
   ]
 
-  pub root_is : (c : Things) (r : Option Place) → r ≡ place_of x t → (b : Bool) → is_some r ≡ not b → b ≡ eqb (head (meaning c t)).id x
+  pub root_is : (c : ContextModel) (r : Option Place) → r ≡ place_of x t → (b : Bool) → is_some r ≡ not b → b ≡ eqb (head (meaning c t)).id x
   root_is c r e b f = go r e b f ∙ ap (λ y. eqb y x) (sym (root_id t))
     where
       root_id : (o : Op) → (head (meaning c o)).id ≡ (head o).id
@@ -82,14 +82,14 @@ module _ (x : ℕ) (t : Op) (d : HasDistinctIds t) (known : has_id x t ≡ true)
 
 -- ---- casts
 
-pub cast_none : (c : Things) (x : ℕ) (t : Op) → None ≡ option_map node_of (find x t) → false ≡ is_cast x (meaning c t)
+pub cast_none : (c : ContextModel) (x : ℕ) (t : Op) → None ≡ option_map node_of (find x t) → false ≡ is_cast x (meaning c t)
 cast_none c x t e = go (find x t) e ∙ sym (ap is_cast_found (map_find (name_term c) (type_term c) (attr_term c) x t))
   where
     go : (o : Option Op) → None ≡ option_map node_of o → false ≡ is_cast_found (option_map (meaning c) o)
     go None e = refl
     go (Some o) e = absurd cc
 
-pub cast_some : (c : Things) (x : ℕ) (t : Op) (n : Node) → Some n ≡ option_map node_of (find x t) → (name : ℕ) → name ≡ n.head.name → (b : Bool) → b ≡ bytes_eq (name_term c name) cast_name → b ≡ is_cast x (meaning c t)
+pub cast_some : (c : ContextModel) (x : ℕ) (t : Op) (n : Node) → Some n ≡ option_map node_of (find x t) → (name : ℕ) → name ≡ n.head.name → (b : Bool) → b ≡ bytes_eq (name_term c name) cast_name → b ≡ is_cast x (meaning c t)
 cast_some c x t n e name f b g =
     let w = found x t n e in
     g ∙ ap (λ k. bytes_eq (name_term c k) cast_name) (f ∙ ap (λ (k : Node). k.head.name) w.same) ∙ go w.here
@@ -98,14 +98,14 @@ cast_some c x t n e name f b g =
     go : (o : Op) → bytes_eq (name_term c (node_of o).head.name) cast_name ≡ is_cast_found (Some (meaning c o))
     go (op h rs) = refl
 
-pub cast_is_there : (c : Things) (x : ℕ) (t : Op) (b : Bool) → b ≡ is_cast x (meaning c t) → b ≡ true → has_id x t ≡ true
+pub cast_is_there : (c : ContextModel) (x : ℕ) (t : Op) (b : Bool) → b ≡ is_cast x (meaning c t) → b ≡ true → has_id x t ≡ true
 cast_is_there c x t b e f =
     let o = cast_there x (meaning c t) (sym e ∙ f) in
     sym (map_has_id (name_term c) (type_term c) (attr_term c) x t) ∙ (found_id x (meaning c t) o.0 o.1).0
 
 -- ---- uses
 
-pub unused_meant : (c : Things) (x : ℕ) (t : Op) → is_unused x (meaning c t) ≡ is_unused x t
+pub unused_meant : (c : ContextModel) (x : ℕ) (t : Op) → is_unused x (meaning c t) ≡ is_unused x t
 unused_meant c x t = map_every (name_term c) (type_term c) (attr_term c) _ _ own t
   where
     own : (o : Op) → list_all (λ v. not (is_result_of x v)) (head (meaning c o)).operands ≡ list_all (λ v. not (is_result_of x v)) (head o).operands
@@ -121,10 +121,10 @@ some_used x k t (Some u) m b e f = go (uses_of (Result x k) t) refl m
 
 -- ---- types
 
-pub of_type_some : (c : Things) (t : Op) (v : Value) (ty : ℕ) (u : TypeTerm) → Some ty ≡ type_of_value v t → (b : Bool) → b ≡ same_type (type_term c ty) u → b ≡ is_of_type (meaning c t) u v
+pub of_type_some : (c : ContextModel) (t : Op) (v : Value) (ty : ℕ) (u : TypeTerm) → Some ty ≡ type_of_value v t → (b : Bool) → b ≡ same_type (type_term c ty) u → b ≡ is_of_type (meaning c t) u v
 of_type_some c t v ty u e b f = f ∙ sym (ap (λ f. option_eq same_type f (Some u)) (map_type_of_value (name_term c) (type_term c) (attr_term c) v t ∙ ap (option_map (type_term c)) (sym e)))
 
-pub of_type_none : (c : Things) (t : Op) (v : Value) (u : TypeTerm) → None ≡ type_of_value v t → false ≡ is_of_type (meaning c t) u v
+pub of_type_none : (c : ContextModel) (t : Op) (v : Value) (u : TypeTerm) → None ≡ type_of_value v t → false ≡ is_of_type (meaning c t) u v
 of_type_none c t v u e = sym (ap (λ f. option_eq same_type f (Some u)) (map_type_of_value (name_term c) (type_term c) (attr_term c) v t ∙ ap (option_map (type_term c)) (sym e)))
 
 -- ---- arguments, region by region
@@ -150,8 +150,8 @@ module _ {X Y : Type 0} (p : Option Y → Bool) (f : Option X → Option Y) (xs 
 
 -- ---- legal operations
 
-pub legal_none : (g : Aim) (c : Things) (x : ℕ) (t : Op) → None ≡ option_map node_of (find x t) → false ≡ is_legal g x (meaning c t)
+pub legal_none : (g : Aim) (c : ContextModel) (x : ℕ) (t : Op) → None ≡ option_map node_of (find x t) → false ≡ is_legal g x (meaning c t)
 legal_none g c x t e = sym (ap (is_legal_found g (meaning c t)) (meant c x t ∙ ap (option_map _) (sym e)))
 
-pub legal_some : (g : Aim) (c : Things) (x : ℕ) (t : Op) (n : Node) → Some n ≡ option_map node_of (find x t) → is_legal_found g (meaning c t) (option_map (node_meaning c) (Some n)) ≡ is_legal g x (meaning c t)
+pub legal_some : (g : Aim) (c : ContextModel) (x : ℕ) (t : Op) (n : Node) → Some n ≡ option_map node_of (find x t) → is_legal_found g (meaning c t) (option_map (node_meaning c) (Some n)) ≡ is_legal g x (meaning c t)
 legal_some g c x t n e = sym (ap (is_legal_found g (meaning c t)) (meant c x t ∙ ap (option_map (node_meaning c)) (sym e)))

@@ -1,4 +1,4 @@
--- Names that a set knows, and one that stands twice.
+-- The set of a list's names, and duplicates in the list.
 use Rattle.std.proofs.Common.{◌≡◌, refl, sym, ap, ◌∙◌, subst, ◌<◌, ℕ, Bool, true, false, true≢false, not, ◌||◌, cond, eqb, eq-eqb, List, [], ◌∷◌, ◌++◌, arith}
 use Rattle.std.specs.List.{list_any}
 use Rattle.std.specs.Cmp.{ranks}
@@ -14,7 +14,7 @@ use Rattle.conversion_base.specs.Repeats.{AreKnown, stands_twice}
 use Rattle.ir_event.proofs.of_types.Sorting.{flips_eq}
 use Rattle.ir_event.proofs.of_types.Truths.{same_test}
 
--- one more name at the end
+-- a list with one more name at the end
 any_last : (p : ℕ → Bool) (ns : List ℕ) (n : ℕ) → list_any p (ns ++ n ∷ []) ≡ cond (p n) true (list_any p ns)
 any_last p ns n = list_any-append p ns (n ∷ []) ∙ go (list_any p ns) (p n)
   where
@@ -37,7 +37,7 @@ twice_last (m ∷ ns) n = (λ i. (any_last (eqb m) ns n ∙ ap (λ b. cond b tru
     go false false false true = refl
     go false false false false = refl
 
--- the names after one more
+-- the set and the flag after one more name
 pub known_more : (ns : List ℕ) (old new : BTreeSet ℕ) (n : ℕ) (r s : Bool) → AreKnown ns old r → ((q : ℕ) → set.contains nat_cmp new q ≡ cond (is_at (nat_cmp n) q) true (set.contains nat_cmp old q))
     → s ≡ (r || set.contains nat_cmp old n) → AreKnown (ns ++ n ∷ []) new s
 known_more ns old new n r s h up is = record {
@@ -45,7 +45,7 @@ known_more ns old new n r s h up is = record {
   twice = is ∙ (λ i. h.twice i || h.has n i) ∙ sym (twice_last ns n);
 }
 
--- one that is new leaves it as it was, and one that isn't stands twice
+-- a new name keeps the flag, and a known name is a duplicate
 pub new_one : (r k a : Bool) → a ≡ true → a ≡ not k → r ≡ (r || k)
 new_one true k a e f = refl
 new_one false true a e f = absurd (true≢false (sym e ∙ f))

@@ -1,14 +1,14 @@
--- What is shown of an operation, in numbers and in contents.
+-- The node that the store shows for an operation, with interned numbers and with terms.
 use Rattle.std.proofs.Common.{◌≡◌, refl, ap, sym, ◌∙◌, subst, ℕ, ◌<◌, ◌≤◌, Bool, true, false, true≢false, ◌&&◌, length, Option, Some, None, option_map, arith, leb-true}
 use Rattle.std.specs.Prelude.{nat_le, slice_get, is_some, option_and_then}
-use Rattle.ir_event.specs.types.Things.{Things}
+use Rattle.ir_event.specs.types.Things.{ContextModel}
 use Rattle.ir_event.specs.types.Terms.{name_term, type_term, attr_term}
 use Rattle.ir_event.specs.trees.declared.value.Value.TheVariants.{Result}
 use Rattle.ir_event.specs.trees.Tree.{Op, op, RegionsOf, no_regions, region, head, region_count}
 use Rattle.ir_event.specs.trees.Ids.{find}
 use Rattle.ir_event.specs.trees.Limits.{most_items, most_regions, items_fit, head_fits, all_arguments_pass, op_fits}
 use Rattle.ir_event.specs.trees.Meaning.{meaning}
-use Rattle.ir_event.specs.trees.WellFormed.{IsFormed}
+use Rattle.ir_event.specs.trees.WellFormed.{IsValidTree}
 use Rattle.ir_event.proofs.of_trees.Mapped.{map_find}
 use Rattle.ir_event.specs.tree_laws.Values.{has_value}
 use Rattle.ir_event.proofs.of_tree_laws.Formed.{from_formed}
@@ -19,8 +19,8 @@ use Rattle.ir_event.specs.Modules.{node_meaning}
 use Rattle.ir_event.proofs.Nodes.{node_shown}
 use Rattle.std.proofs.lemmas.Option.{slice_get_within}
 
--- what it stands for
-pub meant : (c : Things) (x : ℕ) (t : Op) → option_map node_of (find x (meaning c t)) ≡ option_map (node_meaning c) (option_map node_of (find x t))
+-- the meaning of the shown node
+pub meant : (c : ContextModel) (x : ℕ) (t : Op) → option_map node_of (find x (meaning c t)) ≡ option_map (node_meaning c) (option_map node_of (find x t))
 meant c x t = ap (option_map node_of) (map_find (name_term c) (type_term c) (attr_term c) x t) ∙ go (find x t)
   where
     go : (o : Option Op) → option_map node_of (option_map (meaning c) o) ≡ option_map (node_meaning c) (option_map node_of o)
@@ -53,7 +53,7 @@ few (op h rs) e =
     let results = leb-true (length h.results) most_items (both (items_fit h.results) (items_fit h.properties && items_fit h.attributes) rest).0 in
     (omega (arith, regions, count), results)
 
-pub few_shown : (isolated : ℕ → Bool) (x : ℕ) (t : Op) → IsFormed isolated t → (n : Node) → Some n ≡ option_map node_of (find x t) → (length n.arguments ≤ 16) × (length n.head.results ≤ 256)
+pub few_shown : (isolated : ℕ → Bool) (x : ℕ) (t : Op) → IsValidTree isolated t → (n : Node) → Some n ≡ option_map node_of (find x t) → (length n.arguments ≤ 16) × (length n.head.results ≤ 256)
 few_shown isolated x t formed n e =
     let w = found x t n e in
     let s = found_stands x t w.here w.is in

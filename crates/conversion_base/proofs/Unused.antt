@@ -8,23 +8,23 @@ use Rattle.ir_event.specs.trees.Ids.{HasDistinctIds}
 use Rattle.ir_event.specs.trees.Uses.{uses_of, operand_uses}
 use Rattle.ir_event.specs.trees.Sites.{operands_visible}
 use Rattle.ir_event.proofs.of_trees.Replaced.{same_value_refl}
-use Rattle.ir_event.specs.tree_laws.Stands.{StandOf, stand_id, stands, sees}
+use Rattle.ir_event.specs.tree_laws.Stands.{StandOf, stand_id, stands, dominated_by}
 use Rattle.ir_event.specs.tree_laws.Members.{In}
 use Rattle.ir_event.specs.tree_laws.Values.{has_value}
 use Rattle.ir_event.proofs.of_tree_laws.Listed.{bool_cases, all_each, each_all}
 use Rattle.ir_event.proofs.of_tree_laws.Readings.{stands_every, stands_uses}
 use Rattle.ir_event.proofs.of_tree_laws.HeadForm.{used_here, in_gather}
-use Rattle.ir_event.proofs.of_tree_laws.Sees.{stands_operands}
+use Rattle.ir_event.proofs.of_tree_laws.DominatedBy.{stands_operands}
 use Rattle.ir_event.proofs.of_tree_laws.Values.{seen_by}
-use Rattle.patterns_edits.proofs.Given.{user}
+use Rattle.patterns_base.proofs.Given.{user}
 use Rattle.effects.specs.Dead.{is_result_of, is_unused}
 
 module _ {N T A : Type 0} (isolated : N → Bool) (x : ℕ) (t : OpOf N T A) (d : HasDistinctIds t) (formed : operands_visible isolated t ≡ true) where
-  -- where each that there is has no use, none is used
+  -- if none of the results has a use, the operation is unused
   module _ (none : (k : ℕ) → has_value (Result x k) t ≡ true → uses_of (Result x k) t ≡ []) where
     not_there : (k : ℕ) (s : StandOf N T A) → In s (stands [] t) → In (Result x k) (head s.here).operands → ⊥
     not_there k s h m =
-        let e = all_each (sees isolated s.path) (head s.here).operands (all_each (λ (z : StandOf N T A). list_all (sees isolated z.path) (head z.here).operands) (stands [] t) (sym (stands_operands isolated t) ∙ formed) s h) (Result x k) m in
+        let e = all_each (dominated_by isolated s.path) (head s.here).operands (all_each (λ (z : StandOf N T A). list_all (dominated_by isolated z.path) (head z.here).operands) (stands [] t) (sym (stands_operands isolated t) ∙ formed) s h) (Result x k) m in
         let there = (seen_by isolated t d s h (Result x k) e).is in
         let n = used_here (Result x k) (stand_id s) 0 (head s.here).operands (Result x k) m (same_value_refl (Result x k)) in
         subst (In (stand_id s, n.0)) (stands_uses (Result x k) [] t ∙ none k there) (in_gather (λ (z : StandOf N T A). operand_uses (Result x k) (stand_id z) 0 (head z.here).operands) (stand_id s, n.0) s (stands [] t) h n.1)
@@ -41,7 +41,7 @@ module _ {N T A : Type 0} (isolated : N → Bool) (x : ℕ) (t : OpOf N T A) (d 
         sym (stands_every (λ o. list_all (λ v. not (is_result_of x v)) (head o).operands) [] t)
         ∙ each_all (λ (s : StandOf N T A). list_all (λ v. not (is_result_of x v)) (head s.here).operands) (stands [] t) (λ s h. each_all (λ v. not (is_result_of x v)) (head s.here).operands (spared s h))
 
--- where one has a use, one is used
+-- if one result has a use, the operation is used
 module _ {N T A : Type 0} (x k : ℕ) (t : OpOf N T A) where
   pub one_used : (u : ℕ × ℕ) → In u (uses_of (Result x k) t) → is_unused x t ≡ false
   one_used u h = elim (bool_cases (is_unused x t)) [

@@ -13,22 +13,22 @@ use Rattle.patterns_base.specs.Words.{named}
 use Rattle.conversion_base.specs.Targets.{Aim, cast_name, is_accepted, is_legal}
 use Rattle.conversion_base.specs.Legalization.{Outcome, legalised, failed, stopped, legalization_of, standing}
 use Rattle.conversion_base.specs.Reconciling.{all_collapsed, index_rewrite, is_cast}
-use Rattle.conversion_base.specs.declared.stood.Stood.{Stood}
+use Rattle.conversion_base.specs.declared.applied_rule.AppliedRule.{AppliedRule}
 
--- how a conversion ends: with a module, and the rules that stand in it, in the order in which they were applied; or with
--- a refusal, and the id of an operation, if it is for one
+-- the end of a conversion: the new module with the applied rules, in the order in which they were applied; or a
+-- refusal with the id of an operation, if the refusal is about one
 pub data Ended : Type 0 where
-  converted : Module → List Stood → Ended
+  converted : Module → List AppliedRule → Ended
   given_up : Refusal → Option ℕ → Ended
 
--- an end behind rules that stand
-abbrev pub ended_behind : List Stood → Ended → Ended
-ended_behind ks (converted m ns) = converted m (ks ++ ns)
-ended_behind ks (given_up e x) = given_up e x
+-- an end, after earlier applied rules
+abbrev pub ended_after : List AppliedRule → Ended → Ended
+ended_after ks (converted m ns) = converted m (ks ++ ns)
+ended_after ks (given_up e x) = given_up e x
 
--- what comes next, where it wasn't given up
+-- the next part, if the earlier parts succeeded
 abbrev pub next_part : (Module → Ended) → Ended → Ended
-next_part f (converted m ks) = ended_behind ks (f m)
+next_part f (converted m ks) = ended_after ks (f m)
 next_part f (given_up e x) = given_up e x
 
 -- some operations in turn
@@ -36,19 +36,19 @@ abbrev pub in_turn : (Module → ℕ → Ended) → List ℕ → Module → Ende
 in_turn f [] m = converted m []
 in_turn f (x ∷ xs) m = next_part (in_turn f xs) (f m x)
 
--- ---- legalising
+-- ---- legalizing
 
--- how an operation of the module at the start fails
+-- the refusal for an operation of the original module that can't be legalized
 abbrev pub failing : Bool → Refusal
 failing true = ChainTooDeep
 failing false = NotLegalised
 
 abbrev pub ended_at : ℕ → Outcome → Ended
-ended_at x (legalised m ks met) = converted m ks
-ended_at x (failed met) = given_up (failing met) (Some x)
+ended_at x (legalised m ks limit_reached) = converted m ks
+ended_at x (failed limit_reached) = given_up (failing limit_reached) (Some x)
 ended_at x (stopped e) = given_up e None
 
--- an operation of the start legalised; one that is gone is skipped
+-- the end of legalizing an operation of the original module; an erased operation is skipped
 abbrev pub legalised_at : Aim → Module → ℕ → Ended
 legalised_at g m x = ended_at x (standing (legalization_of g g.depth) m x)
 
@@ -59,13 +59,13 @@ ended none m = converted m []
 ended (refused e) m = given_up e None
 ended (becomes n) m = converted n []
 
--- a cast that is left becomes an `arith.index_cast`, or can't be reconciled
+-- a remaining cast becomes an `arith.index_cast`, or can't be reconciled
 abbrev pub cast_ended : ℕ → Rewrite → Ended
 cast_ended x none = given_up Unreconciled (Some x)
 cast_ended x (refused e) = given_up e None
 cast_ended x (becomes n) = converted n []
 
--- an operation, if it is still there and a cast
+-- the end of replacing an operation, if it is still in the module and is a cast
 abbrev pub cast_at : Module → ℕ → Ended
 cast_at m x = if is_cast x m.tree then cast_ended x (index_rewrite m x) else converted m []
 
@@ -73,7 +73,7 @@ cast_at m x = if is_cast x m.tree then cast_ended x (index_rewrite m x) else con
 abbrev pub casts_left : Module → Ended
 casts_left m = in_turn cast_at (ids m.tree) m
 
--- whether no operation of a tree is such a cast
+-- whether no operation of a tree is an unrealized cast
 abbrev pub has_no_cast : Operation → Bool
 has_no_cast t = every (λ o. not (named cast_name (head o).name)) t
 
@@ -88,20 +88,20 @@ abbrev pub ended_full : Option ℕ → Module → Ended
 ended_full None m = converted m []
 ended_full (Some x) m = given_up NotLegalised (Some x)
 
--- in full mode every operation has to be legal
+-- in full mode every operation must be legal
 abbrev pub checked : Aim → Module → Ended
 checked g m = if g.full then ended_full (first_illegal g m.tree (ids m.tree)) m else converted m []
 
 -- ---- conversion
 
--- behind what legalising came to, casts are reconciled; then comes the check
+-- after legalization, casts are reconciled and the result is checked
 abbrev pub later_parts : Aim → Ended → Ended
 later_parts g e = next_part (checked g) (next_part casts_left (next_part (λ n. ended (all_collapsed n) n) e))
 
--- its parts: the operations of a module, as they are at the start, are legalised in pre-order first
+-- all parts: first the operations of the original module are legalized in pre-order
 abbrev pub all_parts : Aim → Module → Ended
 all_parts g m = later_parts g (in_turn (legalised_at g) (ids m.tree) m)
 
--- a module converted
+-- the conversion of a module
 abbrev pub conversion_of : Aim → Module → Ended
 conversion_of g m = if is_accepted g then all_parts g m else given_up BadTarget None

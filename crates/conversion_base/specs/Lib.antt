@@ -11,7 +11,7 @@ pub use Rattle.patterns_base.specs.Rewrites
 pub use Rattle.patterns_base.specs.RuleNames
 pub use Rattle.patterns_base.specs.declared.rule.Rule
 pub use Rattle.patterns_base.specs.Words
-pub use Rattle.patterns_edits.specs.Contents
-pub use Rattle.patterns_edits.specs.Edits
-pub use Rattle.patterns_edits.specs.Lists
-pub use Rattle.patterns_edits.specs.Machine
+pub use Rattle.patterns_base.specs.Contents
+pub use Rattle.patterns_base.specs.Edits
+pub use Rattle.patterns_base.specs.Lists
+pub use Rattle.patterns_base.specs.Machine

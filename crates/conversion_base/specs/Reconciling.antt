@@ -1,4 +1,4 @@
--- Casts between types that a conversion left are reconciled (Dialect Conversion, "Type Conversion", on unrealized
+-- Reconciling the casts between types that a conversion leaves (Dialect Conversion, "Type Conversion", on unrealized
 -- casts).
 use Rattle.std.specs.Prelude.{ℕ, zero, suc, List, [], ◌∷◌, codes, Bool, false, not, ◌&&◌, ◌||◌, eqb, if◌then◌else◌}
 use Rattle.std.specs.Prelude.{Option, Some, None}
@@ -10,8 +10,8 @@ use Rattle.ir_event.specs.trees.Ids.{ids, find, op_count}
 use Rattle.ir_event.specs.trees.Meaning.{Operation}
 use Rattle.ir_event.specs.Modules.{Module}
 use Rattle.effects.specs.Dead.{is_unused}
-use Rattle.patterns_edits.specs.Contents.{Edit, edited}
-use Rattle.patterns_edits.specs.Edits.{Erase}
+use Rattle.patterns_base.specs.Contents.{Edit, edited}
+use Rattle.patterns_base.specs.Edits.{Erase}
 use Rattle.patterns_base.specs.declared.rule.Rule.TheVariants.{CastBack}
 use Rattle.patterns_base.specs.Keeps.{given}
 use Rattle.patterns_base.specs.Looks.{when, front_of, is_index, is_index_value, is_of_type, one}
@@ -21,28 +21,28 @@ use Rattle.patterns_base.specs.Rewrites.{Rewrite, none, refused, becomes, rewrit
 use Rattle.patterns_base.specs.Words.{named}
 use Rattle.conversion_base.specs.Targets.{cast_name}
 
--- ---- casts that aren't used, or collapse
+-- ---- casts that are unused or that collapse
 
--- whether an operation that may be there is such a cast
+-- whether an optional operation is an unrealized cast
 abbrev pub is_cast_found : Option Operation → Bool
 is_cast_found None = false
 is_cast_found (Some o) = named cast_name (head o).name
 
--- whether operation x of a tree is
+-- whether operation x of a tree is an unrealized cast
 abbrev pub is_cast : ℕ → Operation → Bool
 is_cast x t = is_cast_found (find x t)
 
--- the first of two rewrites that there is
+-- the first rewrite, or the second if there is no first
 abbrev pub rewrite_or : Rewrite → Rewrite → Rewrite
 rewrite_or none b = b
 rewrite_or (refused e) b = refused e
 rewrite_or (becomes n) b = becomes n
 
--- an operation of which no result is used is erased
+-- an operation is erased if none of its results is used
 abbrev pub unused_erased : Module → ℕ → Rewrite
 unused_erased m x = if is_unused x m.tree then becomes (edited (Erase x) m) else none
 
--- what becomes of operation x where it is a cast and not the root: it is erased, or casting back collapses it
+-- the rewrite of operation x if it is a cast and not the root: it is erased, or casting back collapses it
 abbrev pub collapse : Module → ℕ → Rewrite
 collapse m x =
     if is_cast x m.tree && not (eqb (head m.tree).id x) then rewrite_or (unused_erased m x) (rewrite_of CastBack m x)
@@ -53,38 +53,38 @@ abbrev pub first_rewrite : (ℕ → Rewrite) → List ℕ → Rewrite
 first_rewrite f [] = none
 first_rewrite f (x ∷ xs) = rewrite_or (f x) (first_rewrite f xs)
 
--- the first such cast, in pre-order
+-- the rewrite of the first such cast, in pre-order
 abbrev pub next_collapse : Module → Rewrite
 next_collapse m = first_rewrite (collapse m) (ids m.tree)
 
--- going on as long as there is a rewrite
+-- repeated rewrites, as long as there is one
 abbrev pub go_on : (Module → Rewrite) → Module → Rewrite → Rewrite
 go_on f m none = becomes m
 go_on f m (refused e) = refused e
 go_on f m (becomes n) = f n
 
--- so many of them, one after another
+-- a number of steps, one after another
 abbrev pub collapsed : ℕ → Module → Rewrite
 collapsed zero m = becomes m
 collapsed (suc k) m = go_on (collapsed k) m (next_collapse m)
 
--- all of them: each takes an operation away at least, so there are no more than operations
+-- all steps: each erases at least one operation, so there are at most as many steps as operations
 abbrev pub all_collapsed : Module → Rewrite
 all_collapsed m = collapsed (op_count m.tree) m
 
 -- ---- casts between index and i64
 
--- whether a value of index is taken to i64, or one of i64 to index
+-- whether a cast is from index to i64, or from i64 to index
 abbrev pub takes_index : Operation → Value → TypeTerm → Bool
 takes_index t v ty = is_index_value t v && same_type ty i64 || is_of_type t i64 v && is_index ty
 
--- the edits that put an `arith.index_cast` in the place of operation x, where it has one operand and one result and
--- takes index to i64 or back
+-- the edits that replace operation x with an `arith.index_cast`, if x has one operand and one result and casts between
+-- index and i64
 abbrev pub index_edits : Module → ℕ → Option (List Edit)
-index_edits m x = given (find x m.tree) (λ o. given (front_of x m.tree) (λ front. given (one (head o)) (λ p.
+index_edits m x = given (find x m.tree) (λ o. given (front_of x m.tree) (λ point. given (one (head o)) (λ p.
     when (takes_index m.tree p.first p.ty)
-    (Some (give_new front m.next x (cast (codes "arith.index_cast") p.ty p.first))))))
+    (Some (give_new point m.next x (cast (codes "arith.index_cast") p.ty p.first))))))
 
--- what becomes of operation x then
+-- the rewrite of operation x
 abbrev pub index_rewrite : Module → ℕ → Rewrite
 index_rewrite m x = rewrite_by (index_edits m x) m

@@ -1,6 +1,6 @@
-//! Casts between types that a conversion left: what is read of them, and the edits that reconcile them.
+//! Queries of the unrealized casts that a conversion leaves between types, and the edits that reconcile them.
 ghost use Rattle.std.specs.Prelude.{◌≡◌, ◌<◌, ◌&&◌, ℕ, true, not, eqb, IfOk, IfSome, option_map};
-ghost use Rattle.ir_event.specs.types.Things.{Things, IsType};
+ghost use Rattle.ir_event.specs.types.Things.{ContextModel, IsType};
 ghost use Rattle.ir_event.specs.types.Terms.{type_term};
 ghost use Rattle.ir_event.specs.types.SameTypes.{same_type};
 ghost use Rattle.ir_event.specs.trees.Tree.{head};
@@ -9,7 +9,7 @@ ghost use Rattle.ir_event.specs.trees.declared.value.Value.TheVariants.{Result a
 ghost use Rattle.ir_event.specs.tree_laws.Values.{has_value};
 ghost use Rattle.ir_event.specs.Modules.{NodeIsOf, module_in};
 ghost use Rattle.effects.specs.Dead.{is_unused};
-ghost use Rattle.patterns_edits.specs.Lists.{AllFit, edits_meaning};
+ghost use Rattle.patterns_base.specs.Lists.{AllFit, edits_meaning};
 ghost use Rattle.patterns_base.specs.Looks.{is_of_type};
 ghost use Rattle.patterns_base.specs.Made.{i64};
 ghost use Rattle.conversion_base.specs.Reconciling.{index_edits, is_cast, takes_index};
@@ -25,10 +25,10 @@ use ir_event::types::ids::{OpId, TypeId};
 use ir_event::types::word::Word;
 use ir_event::world::World;
 use ir_verify_base::types::width_of;
-use patterns_edits::edit::Edit;
+use patterns_base::edit::Edit;
 use std::alloc::{AllocError, Global};
 
-/// Whether an operation of the module is a cast between types that was left for the time being.
+/// Returns whether `op` is an unrealized cast of the module.
 pub fn is_cast(world: &World, op: OpId) -> bool
     ensures { result ≡ is_cast op (module_in world.now).tree }
 {
@@ -40,7 +40,7 @@ pub fn is_cast(world: &World, op: OpId) -> bool
         .is_word(node.name(), Word::BuiltinUnrealizedConversionCast)
 }
 
-/// Whether an operation of the module is the root.
+/// Returns whether an operation of the module is its root.
 fn is_root(world: &World, op: OpId) -> bool
     requires { has_id op world.now.store.module_of.tree ≡ true }
     ensures { result ≡ eqb (head (module_in world.now).tree).id op }
@@ -48,14 +48,14 @@ fn is_root(world: &World, op: OpId) -> bool
     world.store.place(op).is_none()
 }
 
-/// Whether an operation of the module is such a cast, and not the root.
+/// Returns whether `op` is an unrealized cast of the module, and not the root.
 pub fn is_inner_cast(world: &World, op: OpId) -> bool
     ensures { result ≡ (is_cast op (module_in world.now).tree && not (eqb (head (module_in world.now).tree).id op)) }
 {
     is_cast(world, op) && !is_root(world, op)
 }
 
-/// How many results an operation of the module has.
+/// Returns the number of results of an operation of the module.
 fn result_count(world: &World, op: OpId) -> u32
     ensures { (k : ℕ) → has_value (result_of op k) world.now.store.module_of.tree ≡ true → k < result }
 {
@@ -65,7 +65,7 @@ fn result_count(world: &World, op: OpId) -> u32
     }
 }
 
-/// Whether no result of an operation of the module is used.
+/// Returns whether no result of `op` has a use.
 pub fn is_unused(world: &World, op: OpId) -> bool
     ensures { result ≡ is_unused op (module_in world.now).tree }
 {
@@ -80,7 +80,7 @@ pub fn is_unused(world: &World, op: OpId) -> bool
     true
 }
 
-/// Whether a type is `i64`.
+/// Returns whether a type is `i64`.
 fn is_i64(ctx: &Context, ty: TypeId) -> bool
     requires { IsType ctx.now ty }
     ensures { result ≡ same_type (type_term ctx.now ty) i64 }
@@ -91,7 +91,7 @@ fn is_i64(ctx: &Context, ty: TypeId) -> bool
     }
 }
 
-/// Whether a value of the module is of type `i64`.
+/// Returns whether a value of the module has type `i64`.
 fn is_i64_value(world: &World, value: &Value) -> bool
     ensures { result ≡ is_of_type (module_in world.now).tree i64 value.now }
 {
@@ -101,17 +101,17 @@ fn is_i64_value(world: &World, value: &Value) -> bool
     }
 }
 
-/// The operand, and the result's type, of an operation that has one of each.
+/// The operand and the result type of an operation with one operand and one result.
 #[derive(Clone, Copy)]
-pub struct Ends {
+pub struct CastTypes {
     pub operand: Value,
     pub ty: TypeId,
 }
 
-/// Those of an operation of which this is shown, if it has one of each.
-fn ends_of(node: &Node<'_>) -> Option<Ends>
+/// Returns the operand and the result type of an operation, or `None` unless it has one of each.
+fn ends_of(node: &Node<'_>) -> Option<CastTypes>
     ensures ends { result ≡ ends_from node.now.head.operands node.now.head.results }
-    ensures of { (c : Things) → NodeIsOf c node.now → IfSome result (λ e. IsType c e.ty) }
+    ensures of { (c : ContextModel) → NodeIsOf c node.now → IfSome result (λ e. IsType c e.ty) }
 {
     let [operand] = node.operands() else {
         return None;
@@ -119,14 +119,14 @@ fn ends_of(node: &Node<'_>) -> Option<Ends>
     let [ty] = node.results() else {
         return None;
     };
-    Some(Ends {
+    Some(CastTypes {
         operand: *operand,
         ty: *ty,
     })
 }
 
-/// Whether a value of index is taken to i64, or one of i64 to index.
-fn takes_index(world: &World, ends: &Ends) -> bool
+/// Returns whether a cast is from index to i64, or from i64 to index.
+fn takes_index(world: &World, ends: &CastTypes) -> bool
     requires { IsType world.now.ctx ends.now.ty }
     ensures { result ≡ takes_index (module_in world.now).tree ends.now.operand (type_term world.now.ctx ends.now.ty) }
 {
@@ -134,8 +134,8 @@ fn takes_index(world: &World, ends: &Ends) -> bool
         || is_i64_value(world, &ends.operand) && is_index(&world.ctx, ends.ty)
 }
 
-/// An `arith.index_cast` of a value, to a type.
-fn index_cast(alloc: Global, ends: &Ends) -> Result<TreeOp, AllocError>
+/// Returns an `arith.index_cast` of a value to a type.
+fn index_cast(alloc: Global, ends: &CastTypes) -> Result<TreeOp, AllocError>
     ensures { IfOk result (λ o. o ≡ new_cast ends.now.operand ends.now.ty) }
 {
     let operands = [ends.operand].to_vec(alloc)?;
@@ -151,21 +151,21 @@ fn index_cast(alloc: Global, ends: &Ends) -> Result<TreeOp, AllocError>
     })
 }
 
-/// The edits that put an `arith.index_cast` in the place of an operation. A place is in front of the operation, and an
-/// id is the next free one.
+/// Returns the edits that replace `op` with an `arith.index_cast`. `point` is the place before `op`, and `next` is the
+/// next free id.
 fn cast_edits(
     alloc: Global,
-    front: Place,
+    point: Place,
     next: OpId,
     op: OpId,
-    ends: &Ends,
+    ends: &CastTypes,
 ) -> Result<Vec<Edit>, AllocError>
-    ensures { IfOk result (λ es. es.items ≡ cast_edits front next op ends.now.operand ends.now.ty) }
+    ensures { IfOk result (λ es. es.items ≡ cast_edits point next op ends.now.operand ends.now.ty) }
 {
     let made = index_cast(alloc, ends)?;
     let mut edits = Vec::new(alloc);
     edits.push(Edit::Make {
-        place: front,
+        place: point,
         op: made,
     })?;
     edits.push(Edit::Replace {
@@ -176,8 +176,8 @@ fn cast_edits(
     Ok(edits)
 }
 
-/// The edits that put an `arith.index_cast` in the place of an operation of the module, if it has one operand and one
-/// result and takes index to i64 or back.
+/// Returns the edits that replace `op` with an `arith.index_cast`, or `None` unless `op` has one operand and one
+/// result and casts between index and i64.
 pub fn index_edits(alloc: Global, world: &World, op: OpId) -> Result<Option<Vec<Edit>>, AllocError>
     ensures edits { IfOk result
         (λ p. option_map (λ es. edits_meaning world.now.ctx es.items) p ≡ index_edits (module_in world.now) op) }
@@ -196,12 +196,12 @@ pub fn index_edits(alloc: Global, world: &World, op: OpId) -> Result<Option<Vec<
     if !takes_index(world, &ends) {
         return Ok(None);
     }
-    let front = Place {
+    let point = Place {
         parent: place.parent,
         region: place.region,
         before: Some(op),
     };
     let next = OpId::new(world.store.next_id());
-    let edits = cast_edits(alloc, front, next, op, &ends)?;
+    let edits = cast_edits(alloc, point, next, op, &ends)?;
     Ok(Some(edits))
 }

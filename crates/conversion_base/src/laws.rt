@@ -1,4 +1,4 @@
-//! Laws of conversion. Each is a function that does nothing: its contract is the law.
+//! Theorems about conversion. Each is a function that does nothing; its contract states the theorem.
 ghost use Rattle.std.specs.Prelude.{◌≡◌, ◌<◌, ℕ, List, true};
 ghost use Rattle.std.specs.List.{list_all};
 ghost use Rattle.ir_event.specs.types.Words.{is_isolated};
@@ -9,23 +9,23 @@ ghost use Rattle.patterns_base.specs.Rewrites.{becomes, none};
 ghost use Rattle.conversion_base.specs.Conversion.{casts_left, conversion_of, converted, has_no_cast};
 ghost use Rattle.conversion_base.specs.Reconciling.{all_collapsed, collapse, next_collapse};
 ghost use Rattle.conversion_base.specs.Targets.{Aim, is_legal};
-ghost use Rattle.conversion_base.specs.declared.stood.Stood.{Stood};
+ghost use Rattle.conversion_base.specs.declared.applied_rule.AppliedRule.{AppliedRule};
 
-/// A cast that is taken away takes an operation away; so as many steps as there are operations are enough, and behind
-/// them no cast is left that isn't used or that collapses.
+/// Each step that erases or collapses a cast makes the module smaller. So as many steps as there are operations are
+/// enough, and after them every cast is used and none collapses.
 pub fn none_is_left()
     ensures falls { (m n : Module) (x : ℕ) → collapse m x ≡ becomes n → op_count n.tree < op_count m.tree }
     ensures none { (m n : Module) → all_collapsed m ≡ becomes n → next_collapse n ≡ none }
 {}
 
-/// Where all casts of a well-formed module became others, no cast is left.
+/// If all casts of a well-formed module were replaced, no cast is left.
 pub fn no_cast_is_left()
-    ensures { (m n : Module) (ks : List Stood) → IsWellFormed is_isolated m → casts_left m ≡ converted n ks
+    ensures { (m n : Module) (ks : List AppliedRule) → IsWellFormed is_isolated m → casts_left m ≡ converted n ks
         → has_no_cast n.tree ≡ true }
 {}
 
 /// After a full conversion every operation is legal.
 pub fn full_conversions_are_legal()
-    ensures { (g : Aim) (m n : Module) (ks : List Stood) → g.full ≡ true → conversion_of g m ≡ converted n ks
+    ensures { (g : Aim) (m n : Module) (ks : List AppliedRule) → g.full ≡ true → conversion_of g m ≡ converted n ks
         → list_all (λ x. is_legal g x n.tree) (ids n.tree) ≡ true }
 {}

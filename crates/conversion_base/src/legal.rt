@@ -1,4 +1,4 @@
-//! Which operations are legal for a target.
+//! The legality of operations for a target.
 ghost use Rattle.std.specs.Prelude.{◌≡◌, ◌≤◌, length, map, option_and_then, slice_get};
 ghost use Rattle.std.specs.List.{All, list_any};
 ghost use Rattle.ir_event.specs.types.Things.{IsName, IsType};
@@ -6,11 +6,11 @@ ghost use Rattle.ir_event.specs.types.Terms.{name_term, type_term};
 ghost use Rattle.ir_event.specs.Modules.{NodeIsOf, module_in, node_meaning};
 ghost use Rattle.patterns_base.specs.Looks.{is_index, is_index_value};
 ghost use Rattle.patterns_base.specs.Words.{among};
-ghost use Rattle.conversion_base.specs.Targets.{IsNamedIn, aim_of, has_index, index_argument, is_legal, is_legal_node};
+ghost use Rattle.conversion_base.specs.Targets.{IsNamedIn, target_model, has_index, index_argument, is_legal, is_legal_node};
 ghost use Rattle.conversion_base.specs.Targets.{names_of};
 
-use crate::accepted::is_among;
 use crate::target::Target;
+use crate::target_checks::is_among;
 use ir_event::store::node::Node;
 use ir_event::trees::value::Value;
 use ir_event::types::context::Context;
@@ -19,7 +19,7 @@ use ir_event::types::word::Word;
 use ir_event::world::World;
 use ir_verify_base::types;
 
-/// Whether a type is `index`.
+/// Returns whether a type is `index`.
 pub(crate) fn is_index(ctx: &Context, ty: TypeId) -> bool
     requires { IsType ctx.now ty }
     ensures { result ≡ is_index (type_term ctx.now ty) }
@@ -27,7 +27,7 @@ pub(crate) fn is_index(ctx: &Context, ty: TypeId) -> bool
     types::is_index(ctx, ty)
 }
 
-/// Whether one of some types is `index`.
+/// Returns whether any of some types is `index`.
 fn any_index(ctx: &Context, types: &[TypeId]) -> bool
     requires { All (IsType ctx.now) types.now }
     ensures { result ≡ list_any is_index (map (type_term ctx.now) types.now) }
@@ -42,7 +42,7 @@ fn any_index(ctx: &Context, types: &[TypeId]) -> bool
     false
 }
 
-/// Whether a value of the module is of type `index`.
+/// Returns whether a value of the module has type `index`.
 pub(crate) fn is_index_value(world: &World, value: &Value) -> bool
     ensures { result ≡ is_index_value (module_in world.now).tree value.now }
 {
@@ -52,7 +52,7 @@ pub(crate) fn is_index_value(world: &World, value: &Value) -> bool
     }
 }
 
-/// Whether one of some values of the module is of type `index`.
+/// Returns whether any of some values of the module has type `index`.
 fn any_index_value(world: &World, values: &[Value]) -> bool
     ensures { result ≡ list_any (is_index_value (module_in world.now).tree) values.now }
 {
@@ -66,7 +66,7 @@ fn any_index_value(world: &World, values: &[Value]) -> bool
     false
 }
 
-/// Whether the block of a region of an operation, of which this is shown, has an argument of type `index`.
+/// Returns whether the block of a region of an operation has an argument of type `index`.
 fn has_index_argument(ctx: &Context, node: &Node<'_>, region: u32) -> bool
     requires of { NodeIsOf ctx.now node.now }
     ensures { result ≡ index_argument
@@ -78,7 +78,7 @@ fn has_index_argument(ctx: &Context, node: &Node<'_>, region: u32) -> bool
     }
 }
 
-/// Whether the block of any of its regions has one.
+/// Returns whether the block of any region of an operation has an argument of type `index`.
 fn any_index_argument(ctx: &Context, node: &Node<'_>) -> bool
     requires of { NodeIsOf ctx.now node.now }
     requires few { length node.now.arguments ≤ 16 }
@@ -95,7 +95,7 @@ fn any_index_argument(ctx: &Context, node: &Node<'_>) -> bool
     false
 }
 
-/// Whether an operation of the module, of which this is shown, has an operand, a result or an argument of type `index`.
+/// Returns whether an operation of the module has an operand, a result or a block argument of type `index`.
 fn has_index(world: &World, node: &Node<'_>) -> bool
     requires of { NodeIsOf world.now.ctx node.now }
     requires few { length node.now.arguments ≤ 16 }
@@ -106,23 +106,23 @@ fn has_index(world: &World, node: &Node<'_>) -> bool
         || any_index_argument(&world.ctx, node)
 }
 
-/// Whether a target names an operation's name.
+/// Returns whether a target lists an operation name.
 fn is_named(ctx: &Context, target: &Target, name: NameId) -> bool
     requires names { IsNamedIn ctx.now target.now }
     requires name { IsName ctx.now name }
-    ensures { result ≡ among (names_of (aim_of ctx.now target.now)) (name_term ctx.now name) }
+    ensures { result ≡ among (names_of (target_model ctx.now target.now)) (name_term ctx.now name) }
 {
     is_among(ctx, &target.legal, name)
         || is_among(ctx, &target.illegal, name)
         || is_among(ctx, &target.dynamic, name)
 }
 
-/// Whether an operation of the module, of which this is shown, is legal for a target.
+/// Returns whether an operation of the module is legal for a target.
 fn is_legal_node(world: &World, target: &Target, node: &Node<'_>) -> bool
     requires names { IsNamedIn world.now.ctx target.now }
     requires of { NodeIsOf world.now.ctx node.now }
     requires few { length node.now.arguments ≤ 16 }
-    ensures { result ≡ is_legal_node (aim_of world.now.ctx target.now) (module_in world.now).tree
+    ensures { result ≡ is_legal_node (target_model world.now.ctx target.now) (module_in world.now).tree
         (node_meaning world.now.ctx node.now) }
 {
     let ctx = &world.ctx;
@@ -133,10 +133,10 @@ fn is_legal_node(world: &World, target: &Target, node: &Node<'_>) -> bool
         || !target.full && !is_named(ctx, target, name)
 }
 
-/// Whether an operation of the module is legal for a target.
+/// Returns whether `op` is in the module and is legal for `target`.
 pub fn is_legal(world: &World, target: &Target, op: OpId) -> bool
     requires names { IsNamedIn world.now.ctx target.now }
-    ensures { result ≡ is_legal (aim_of world.now.ctx target.now) op (module_in world.now).tree }
+    ensures { result ≡ is_legal (target_model world.now.ctx target.now) op (module_in world.now).tree }
 {
     let Some(node) = world.shown(op) else {
         return false;

@@ -1,4 +1,4 @@
-//! The names of a list of a target.
+//! The names of a target's list.
 ghost use Rattle.std.specs.Prelude.{◌≡◌, ◌++◌, [], ◌∷◌, eqb, OnOk, OnErr};
 ghost use Rattle.std.specs.List.{list_any};
 ghost use Rattle.conversion_base.specs.Repeats.{stands_twice};
@@ -8,13 +8,13 @@ use std::alloc::{AllocError, Global};
 use std::collections::BTreeSet;
 use std::marker::Model;
 
-/// The names of a list of a target, in its order: a contract sees their numbers.
+/// The names of a target's list, in the order of the list. In contracts it is the list of the interned names.
 #[derive(Drop)]
 pub struct Names {
     list: Vec<NameId>,
-    /// Those in the list.
+    /// The set of the names in the list.
     known: BTreeSet<NameId>,
-    /// Whether one of them stands twice.
+    /// Whether the list has a duplicate.
     repeats: bool,
 }
 
@@ -31,7 +31,7 @@ impl Model for Names {
 }
 
 impl Names {
-    /// No names.
+    /// Returns an empty list.
     pub fn new(alloc: Global) -> Names
         ensures { result ≡ [] }
     {
@@ -42,7 +42,7 @@ impl Names {
         }
     }
 
-    /// Adds a name at the end.
+    /// Appends a name.
     pub fn push(&mut self, name: NameId) -> Result<(), AllocError>
         ensures added { OnOk result (self.new ≡ self.old ++ name ∷ []) }
         ensures kept { OnErr result (self.new ≡ self.old) }
@@ -64,21 +64,21 @@ impl Names {
         }
     }
 
-    /// The names, in the list's order.
+    /// Returns the names, in the order of the list.
     pub fn list(&self) -> &[NameId]
         ensures { result.now ≡ self.now }
     {
         &self.list
     }
 
-    /// Whether a name is one of them.
+    /// Returns whether `name` is in the list.
     pub fn has(&self, name: NameId) -> bool
         ensures { result ≡ list_any (eqb name) self.now }
     {
         self.known.contains(&name)
     }
 
-    /// Whether one of them stands twice.
+    /// Returns whether the list has a duplicate.
     pub fn repeats(&self) -> bool
         ensures { result ≡ stands_twice self.now }
     {

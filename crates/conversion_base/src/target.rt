@@ -1,22 +1,22 @@
-//! What a conversion aims at.
+//! The target of a conversion.
 use crate::names::Names;
 use patterns_base::rule::Rule;
 use std::marker::Model;
 
-/// What a conversion aims at (Dialect Conversion, "Conversion Target").
+/// The target of a conversion (Dialect Conversion, "Conversion Target").
 #[derive(Drop)]
 pub struct Target {
-    /// Whether each operation has to be legal in the end.
+    /// Whether every operation must be legal in the end.
     pub full: bool,
-    /// The names of operations that are legal.
+    /// The names of legal operations.
     pub legal: Names,
-    /// The names of those that aren't.
+    /// The names of illegal operations.
     pub illegal: Names,
-    /// The names of those that are where they have no value of type index.
+    /// The names of operations that are legal if they have no value of type index.
     pub dynamic: Names,
-    /// The rules to be tried, in this order.
+    /// The rules to try, in this order.
     pub rules: Vec<Rule>,
-    /// How deep the operations that rules make are legalised.
+    /// The depth to which the operations that rules make are legalized.
     pub depth: u32,
 }
 

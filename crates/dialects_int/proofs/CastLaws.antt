@@ -1,4 +1,4 @@
--- Laws of casts, of comparisons, and of the operations that others stand for.
+-- Theorems about casts, comparisons, and operations expressed by others.
 use Rattle.std.proofs.Common.{◌≡◌, ℕ, zero, suc, lit<, ◌+◌, ◌-◌, ◌*◌, ◌/◌, ◌%◌, ◌^◌, ◌<◌, ◌≤◌, ℤ, pos, negsuc, sym, ap, refl, ◌∙◌, ⊎_elim, arith, Bool, true, false, Some, None}
 use Rattle.std.specs.Prelude.{◌==◌, bit_xor, nat_lt, int_lt, int_le, if◌then◌else◌}
 use Rattle.std.proofs.lemmas.Nat.{mod_below, pow_pos, pow-add, xor_block}
@@ -22,7 +22,7 @@ use Rattle.dialects_int.proofs.PairLaws.{reading_apart, picked, picked_number}
 grows : (u v : ℕ) → u ≤ v → 2 ^ u ≤ 2 ^ v
 grows u v h = pow-le-pow_right {n = 2} (lit< tt) {i = u} {j = v} h
 
--- a reading of u bits is one of v bits
+-- the signed value of u bits is a signed value of v bits
 reading_kept : (u v a : ℕ) → 1 ≤ u → u ≤ v → a < 2 ^ u → signed_of v (wrapped v (signed_of u a)) ≡ signed_of u a
 reading_kept u v a some h k = signed_back v (signed_of u a) (omega arith) (⊎_elim
     (λ (l : a < 2 ^ (u - 1)). rw (signed_low u a l) (low a (omega (arith, grows (u - 1) (v - 1) (omega arith)))))
@@ -63,7 +63,7 @@ cut_twice v w a h =
     let e : v - w + w ≡ v = omega arith in
     ap (λ k. a % 2 ^ k % 2 ^ w) (sym e) ∙ mod-mod-pow a (v - w) w
 
--- cut to fewer bits, a number is what it is modulo them
+-- truncating a number takes it modulo a power of 2
 cut_high : (n v w : ℕ) → w ≤ v → (2 ^ v - 1 - n % 2 ^ v) % 2 ^ w ≡ 2 ^ w - 1 - n % 2 ^ w
 cut_high n v w h =
     let e : v - w + w ≡ v = omega arith in
@@ -189,7 +189,7 @@ truncated_zeros_back u w a h k =
     let lower : nat_lt u w ≡ true = grind (arith, nat_tests) in
     rw lower (ap Some (cut_of_zeros u w a (omega arith) k))
 
--- the greater and the lesser by comparison and choice
+-- the maximum and the minimum by a comparison and a select
 pub signed_maximum_chosen : (w a b : ℕ) → 1 ≤ w → a < 2 ^ w → b < 2 ^ w → signed_maximum_of w a b ≡ choice_of (truth (comparison_of w asks.SignedGreater a b)) a b
 unfolding comparison_of signed_maximum_of
 signed_maximum_chosen w a b some ha hb = as_choice (int_lt (signed_of w b) (signed_of w a)) a b (picked (signed_of w a) (signed_of w b) a b (reading_apart w a b some ha hb))
@@ -221,7 +221,7 @@ low_bit zero h = refl
 low_bit (suc zero) h = refl
 low_bit (suc (suc r)) h = absurd (omega arith)
 
--- the complement of b has the other bits
+-- the complement of b has the inverted bits
 xor_ones : (w b : ℕ) → b < 2 ^ w → bit_xor b (2 ^ w - 1) ≡ 2 ^ w - 1 - b
 xor_ones zero b h = let e : b ≡ 0 = omega arith in rw e refl
 xor_ones (suc w) b h =

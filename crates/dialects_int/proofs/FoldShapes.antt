@@ -1,4 +1,4 @@
--- Folds of operations without one result.
+-- Folds of operations that don't have exactly one result.
 use Rattle.std.proofs.Common.{◌≡◌, ℕ, ◌≤◌, List, [], ◌∷◌, length, map, None, refl, arith}
 use Rattle.ir_types.specs.Terms.{TypeTerm, AttrTerm}
 use Rattle.std.specs.Prelude.{Option}

@@ -1,4 +1,4 @@
--- To know more operands doesn't change what is known of the result.
+-- More constant operands don't change a known result.
 use Rattle.std.proofs.Common.{◌≡◌, ℕ, List, [], ◌∷◌, Bool, true, false, Some, None, refl, ap, ◌∙◌, arith}
 use Rattle.std.specs.Prelude.{◌==◌, Option, if◌then◌else◌}
 use Rattle.std.specs.List.{list_all}
@@ -17,7 +17,7 @@ use Rattle.dialects_int.specs.declared.operations.Rule.TheVariants as rule
 use Rattle.dialects_int.specs.Arithmetic.{absorbs, cast_of, choice_of}
 use Rattle.dialects_int.specs.Folds.{Known, IsWithin, KnowsMore, bits_at, or_else, alone, together, pair_value, pair_fold, compared, both, with, compare_fold, select_fold, resized, resize_fold, index_cast_fold, constant_fold, fold_by, rule_of, kind_of, same_kind, is_property, fold_of}
 
--- what is there in one is there in the other
+-- an item of one list is in the other
 abbrev Stays : {A : Type 0} → Option A → Option A → Type 0
 Stays {A} x y = (v : A) → x ≡ Some v → y ≡ Some v
 
@@ -32,7 +32,7 @@ bits_stay : (k : BitsKind) (x y : Option Known) → IsWithin x y → Stays (bits
 bits_stay k None y h v e = absurd (cc e)
 bits_stay k (Some known) y h v e = ap (bits_at k) (h known refl) ∙ e
 
--- only one value is enough for a result
+-- two absorbing operands are equal
 enough_is_one : (o : Arithmetic) (w a b : ℕ) → absorbs o w a ≡ true → absorbs o w b ≡ true → a ≡ b
 unfolding absorbs
 enough_is_one op.Multiply w a b h k = grind (arith, nat_tests)
@@ -53,7 +53,7 @@ enough_is_one op.MaximumUnsigned w a b h k = absurd (cc h)
 enough_is_one op.MinimumSigned w a b h k = absurd (cc h)
 enough_is_one op.MinimumUnsigned w a b h k = absurd (cc h)
 
--- where the second alone gives the result, so it does beside a first
+-- if the second operand alone determines the result, it also does with a constant first operand
 second_enough : (o : Arithmetic) (w b v : ℕ) (x : Option ℕ) → or_else (alone o w (Some b)) None ≡ Some v → pair_value o w x (Some b) ≡ Some v
 second_enough o w b v x = by (absorbs o w b) refl x
   where
@@ -150,10 +150,10 @@ constant_more value k (x ∷ xs) ys h v e = absurd (cc e)
 
 rule_more : (r : Rule) (props : List (List ℕ × AttrTerm)) (k : BitsKind) (xs ys : List (Option Known)) → KnowsMore xs ys → Stays (fold_by r props k xs) (fold_by r props k ys)
 rule_more rule.Constant props k xs ys h = constant_more _ k xs ys h
-rule_more (rule.Pair o) props k xs ys h = pair_more o k xs ys h
+rule_more (rule.Binary o) props k xs ys h = pair_more o k xs ys h
 rule_more rule.Compare props k xs ys h = compare_more _ k xs ys h
 rule_more rule.Select props k xs ys h = select_more k xs ys h
-rule_more (rule.Resize c) props k xs ys h = resize_more c k xs ys h
+rule_more (rule.IntegerCast c) props k xs ys h = resize_more c k xs ys h
 rule_more (rule.IndexCast c) props k xs ys h = index_cast_more c k xs ys h
 
 pub knowing_more : (name : List ℕ) (props : List (List ℕ × AttrTerm)) (xs ys : List (Option Known)) (results : List TypeTerm) (known : Known) → KnowsMore xs ys → fold_of name props xs results ≡ Some known → fold_of name props ys results ≡ Some known

@@ -1,4 +1,4 @@
--- Laws of operations on two values.
+-- Theorems about operations on two values.
 use Rattle.std.proofs.Common.{◌≡◌, ℕ, zero, suc, ◌+◌, ◌-◌, ◌*◌, ◌/◌, ◌%◌, ◌^◌, ◌<◌, ◌≤◌, ℤ, pos, negsuc, neg_ℤ, ◌-ℤ◌, max, sym, ap, refl, ◌∙◌, arith, Bool, true, false, Some, None}
 use Rattle.std.specs.Prelude.{bit_and, bit_or, bit_xor, nat_lt, int_lt, int_div, int_rem, if◌then◌else◌}
 use Rattle.std.specs.Int.{int_shr}
@@ -27,7 +27,7 @@ either : {A : Type 0} (t : Bool) (x : A) → (if t then x else x) ≡ x
 either true x = refl
 either false x = refl
 
--- one value has one signed reading
+-- values with the same signed value are equal
 pub reading_apart : (w a b : ℕ) → 1 ≤ w → a < 2 ^ w → b < 2 ^ w → signed_of w a ≡ signed_of w b → a ≡ b
 reading_apart w a b some ha hb e = sym (bits_back w a some ha) ∙ ap (wrapped w) e ∙ bits_back w b some hb
 
@@ -37,7 +37,7 @@ less x y h = grind (arith, ints)
 not_less : (x y : ℤ) → y ≤ℤ x → int_lt x y ≡ false
 not_less x y h = grind (arith, ints)
 
--- which of two is picked doesn't depend on their order
+-- the selected value doesn't depend on the order of the two
 pub picked : (x y : ℤ) (a b : ℕ) → (x ≡ y → a ≡ b) → (if int_lt x y then b else a) ≡ (if int_lt y x then a else b)
 picked x y a b h =
     by_lt_z x y
@@ -84,7 +84,7 @@ or_again : (a b c : ℕ) → bit_or (bit_or a b) c ≡ bit_or a (bit_or b c)
 or_again a b c = same_from_bits (bit_or (bit_or a b) c) (bit_or a (bit_or b c)) (λ i.
     bit_at_or (bit_or a b) c i ∙ ap (λ n. max n (bit_at c i)) (bit_at_or a b i) ∙ omega arith ∙ sym (ap (max (bit_at a i)) (bit_at_or b c i)) ∙ sym (bit_at_or a (bit_or b c) i))
 
--- (a o b) o c is a o (b o c)
+-- associativity: (a o b) o c is a o (b o c)
 pub brackets : (o : Arithmetic) (w a b c ab bc : ℕ) → associates o ≡ true → value_of o w a b ≡ Some ab → value_of o w b c ≡ Some bc → value_of o w ab c ≡ value_of o w a bc
 brackets op.Add w a b c ab bc h e f = let g : sum_of w a b ≡ ab = cc in let k : sum_of w b c ≡ bc = cc in rw (← g, ← k) (ap Some (sum_again w a b c))
 brackets op.Subtract w a b c ab bc h e f = absurd (cc h)
@@ -250,7 +250,7 @@ ones_or w b h =
     let e : bit_and (all_ones w) b ≡ b = and_comm (all_ones w) b ∙ and_mask b w ∙ mod-eq_of_lt h in
     omega (arith, or_add_and (all_ones w) b)
 
--- an operand that alone gives the result
+-- an absorbing operand
 pub absorbed : (o : Arithmetic) (w a b : ℕ) → b < 2 ^ w → absorbs o w a ≡ true → value_of o w a b ≡ Some a
 unfolding absorbs product_of
 absorbed op.Add w a b hb h = absurd (cc h)

@@ -1,4 +1,4 @@
--- Quotients of signed readings.
+-- Quotients of signed values.
 use Rattle.std.proofs.Common.{◌≡◌, ℕ, zero, suc, to_z, of_z, ◌-◌, ◌/◌, ◌^◌, ◌<◌, ◌≤◌, true, ℤ, pos, negsuc, neg_ℤ, sym, subst, refl, ◌∙◌, ◌⊎◌, inl, inr, ⊎_elim, arith}
 use Rattle.std.specs.Prelude.{int_div}
 use Rattle.std.specs.Int.{w128}
@@ -14,7 +14,7 @@ use Rattle.dialects_int.specs.Arithmetic.{divides_signed}
 use Rattle.ir_types.proofs.Widths.{signed_low, high_is, halves}
 use Rattle.dialects_int.proofs.Widths.{half_le}
 
--- a value reads as itself, or as less than 0
+-- the signed value of a value is the value, or negative
 pub signed_cases : (w v : ℕ) → v < 2 ^ w → ((v < 2 ^ (w - 1)) × (signed_of w v ≡ pos v)) ⊎ ((2 ^ (w - 1) ≤ v) × (signed_of w v ≡ negsuc (2 ^ w - 1 - v)))
 signed_cases w v h = ⊎_elim (λ l. inl (l, signed_low w v l)) (λ l. inr (l, high_is w v l h)) (cases_lt v (2 ^ (w - 1)))
 
@@ -45,7 +45,7 @@ neg_within : (r m : ℕ) → r ≤ suc m → mag (neg_ℤ (pos r)) ≤ m
 neg_within zero m h = omega arith
 neg_within (suc r) m h = omega arith
 
--- a quotient is no greater than the dividend, but for the least one by -1
+-- a quotient isn't greater than the dividend, except for the least value by -1
 quotient_within : (z d : ℤ) → mag z < 2 ^ 127 → ((a : ℕ) → z ≡ negsuc a → d ≡ negsuc 0 → suc a < 2 ^ 127) → mag (int_div z d) < 2 ^ 127
 quotient_within (pos a) (pos b) h e = omega (arith, div-le_self a b)
 quotient_within (pos a) (negsuc b) h e =
@@ -86,14 +86,14 @@ quotient_fits w a b low high k l can =
           (signed_cases w a k));
     }
 
--- what the division of an i128 asks
+-- the precondition of the division of an i128
 pub divides_at : (w a b : ℕ) (x y : ℤ) → 1 ≤ w → w ≤ 128 → a < 2 ^ w → b < 2 ^ w → divides_signed w a b ≡ true → x ≡ signed_of w a → y ≡ signed_of w b → (0 < of_z w128 y) × SFits w128 (int_div (to_z w128 (of_z w128 x)) (to_z w128 (of_z w128 y)))
 divides_at w a b x y low high k l can e f = (
   rw f (signed_nonzero w b low high (divides_nonzero w a b can) l),
   rw (e, f, to_z-of_z w128 (signed_of w a) (signed_fits w a low high k), to_z-of_z w128 (signed_of w b) (signed_fits w b low high l)) (quotient_fits w a b low high k l can),
 )
 
--- what it gives
+-- the result of the division of an i128
 pub quotient_at : (w a b : ℕ) (x y : ℤ) → 1 ≤ w → w ≤ 128 → a < 2 ^ w → b < 2 ^ w → divides_signed w a b ≡ true → x ≡ signed_of w a → y ≡ signed_of w b
     → to_z w128 (of_z w128 (int_div (to_z w128 (of_z w128 x)) (to_z w128 (of_z w128 y)))) ≡ int_div (signed_of w a) (signed_of w b)
 quotient_at w a b x y low high k l can e f = rw (e, f) (quot_is w128 (signed_of w a) (signed_of w b) (signed_fits w a low high k) (signed_fits w b low high l) (quotient_fits w a b low high k l can))

@@ -10,7 +10,7 @@ use Rattle.ir_types.proofs.ReadingLaws.{bits_back, bits_below}
 use Rattle.dialects_int.specs.Arithmetic.{difference_of, product_of, divides_signed, signed_quotient_of, signed_remainder_of}
 use Rattle.dialects_int.proofs.Widths.{difference_is}
 
--- sums and products of numbers that are the same modulo n, and a part that both have
+-- sums and products of numbers that are equal modulo n, and a common summand
 module _ (n : ℕ) where
   sums_same : (x y u v : ℕ) → x % n ≡ y % n → u % n ≡ v % n → (x + u) % n ≡ (y + v) % n
   sums_same x y u v e f = add-mod x u n ∙ ap (λ k. (k + u % n) % n) e ∙ ap (λ k. (y % n + k) % n) f ∙ sym (add-mod y v n)
@@ -29,7 +29,7 @@ module _ (n : ℕ) where
   cancelled : (x y c : ℕ) → 0 < n → (x + c) % n ≡ (y + c) % n → x % n ≡ y % n
   cancelled x y c some e = sym (filled x c some) ∙ sums_same (x + c) (y + c) (n - c % n) (n - c % n) e refl ∙ filled y c some
 
--- a number's bits are the number
+-- a number's bits represent the number
 bits_same : (w : ℕ) (z : ℤ) → (wrapped w z + down z) % 2 ^ w ≡ up z % 2 ^ w
 unfolding wrapped
 bits_same w (pos a) = let e : a % 2 ^ w + 0 ≡ a % 2 ^ w = omega arith in ap (λ k. k % 2 ^ w) e ∙ mod-mod a (2 ^ w)
@@ -82,7 +82,7 @@ divided_same w a x d q r h is whole =
     ap (λ k. k % n) order ∙ left ∙ ap (λ k. k % n) turn ∙ sym right ∙ ap (λ k. k % n) back in
     sym (mod-eq_of_lt h) ∙ sym (cancelled n (s + wrapped w r) a (down p + down r + down x) (pow_pos w) same)
 
--- what is left of a sum when one part is taken off
+-- the rest of a sum after one summand is subtracted
 part_left : (w a p r : ℕ) → p < 2 ^ w → r < 2 ^ w → a ≡ (p + r) % 2 ^ w → difference_of w a p ≡ r
 part_left w a p r h k e =
     let n = 2 ^ w in

@@ -1,4 +1,4 @@
--- Remainders by powers of 2, and signed readings.
+-- Remainders by powers of 2, and signed values.
 use Rattle.std.proofs.Common.{◌≡◌, ℕ, zero, suc, lit<, ◌+◌, ◌-◌, ◌*◌, ◌%◌, ◌^◌, ◌<◌, ◌≤◌, pos, ◌-ℤ◌, ◌+ℤ◌, sym, ap, refl, ◌∙◌, arith}
 use Rattle.std.specs.Prelude.{bit_and, unsigned_abs}
 use Rattle.std.proofs.lemmas.Nat.{and_mask, pow_pos, pow-add}
@@ -18,7 +18,7 @@ one_less : (k m : ℕ) → 0 < k → (k - 1) * m + m ≡ k * m
 one_less zero m h = absurd (omega arith)
 one_less (suc k) m h = grind arith
 
--- what is taken off 2 ^ 128 may be taken off 2 ^ w
+-- subtracting from 2 ^ 128 equals subtracting from 2 ^ w, modulo 2 ^ w
 pub less_at : (a b w : ℕ) → w ≤ 128 → b ≤ 2 ^ w → (a + (2 ^ 128 - b)) % 2 ^ w ≡ (a + (2 ^ w - b)) % 2 ^ w
 less_at a b w h k =
     let e : 128 - w + w ≡ 128 = omega arith in
@@ -27,7 +27,7 @@ less_at a b w h k =
     let split : a + (2 ^ 128 - b) ≡ a + (2 ^ w - b) + (2 ^ (128 - w) - 1) * 2 ^ w = omega arith in
     ap (λ n. n % 2 ^ w) split ∙ add-mul-mod_self_right (a + (2 ^ w - b)) (2 ^ (128 - w) - 1) (2 ^ w)
 
--- a difference, without a number below 0
+-- a difference without negative numbers
 pub difference_is : (w a b : ℕ) → b ≤ 2 ^ w → difference_of w a b ≡ (a + (2 ^ w - b)) % 2 ^ w
 unfolding difference_of wrapped
 difference_is w a b h =
@@ -35,6 +35,6 @@ difference_is w a b h =
     let up : pos a -ℤ pos b +ℤ pos (1 * 2 ^ w) ≡ pos (a + (2 ^ w - b)) = rw one (omega (arith, ints)) in
     ap unsigned_abs (int_rem_euclid_is (pos a -ℤ pos b) (pos (2 ^ w)) (2 ^ w) 1 (a + (2 ^ w - b)) (pow_pos w) refl up)
 
--- half a width's values are numbers of an i128
+-- half the number of values of a width fits an i128
 pub half_le : (w : ℕ) → w ≤ 128 → 2 ^ (w - 1) ≤ 2 ^ 127
 half_le w h = pow-le-pow_right {n = 2} (lit< tt) {i = w - 1} {j = 127} (omega arith)

@@ -1,4 +1,4 @@
--- The folds: what is known of an operation's result where its operands are known (`arith` Dialect).
+-- Constant folding: the result of an operation with constant operands (`arith` Dialect).
 use Rattle.std.specs.Prelude.{◌≡◌, ℕ, List, [], ◌∷◌, codes, Bool, true, false, ◌==◌, ◌&&◌, if◌then◌else◌, Option, Some, None, map, slice_get}
 use Rattle.std.specs.List.{list_all}
 use Rattle.std.specs.Option.{option_map}
@@ -6,7 +6,7 @@ use Rattle.ir_types.specs.declared.node.Sign.TheVariants.{Signless}
 use Rattle.ir_types.specs.declared.bits.Bits.{Bits}
 use Rattle.ir_types.specs.declared.bits.BitsKind.{BitsKind}
 use Rattle.ir_types.specs.declared.bits.BitsKind.TheVariants as kind
-use Rattle.ir_types.specs.Things.{Things}
+use Rattle.ir_types.specs.Things.{ContextModel}
 use Rattle.ir_types.specs.Terms.{TypeTerm, AttrTerm, attr_term, name_term}
 use Rattle.ir_types.specs.Terms as term
 use Rattle.ir_types.specs.Bits.{width_of}
@@ -23,32 +23,32 @@ use Rattle.dialects_int.specs.declared.operations.Rule.{Rule}
 use Rattle.dialects_int.specs.declared.operations.Rule.TheVariants as rule
 use Rattle.dialects_int.specs.Arithmetic.{value_of, absorbs, cast_of, comparison_of, truth, choice_of}
 
--- the operations that fold, each with how
+-- the operations that fold, each with its rule
 unfoldable pub rules : List (List ℕ × Rule)
 rules =
     (codes "arith.constant", rule.Constant)
-    ∷ (codes "arith.addi", rule.Pair op.Add)
-    ∷ (codes "arith.subi", rule.Pair op.Subtract)
-    ∷ (codes "arith.muli", rule.Pair op.Multiply)
-    ∷ (codes "arith.shli", rule.Pair op.ShiftLeft)
-    ∷ (codes "arith.divsi", rule.Pair op.DivideSigned)
-    ∷ (codes "arith.divui", rule.Pair op.DivideUnsigned)
-    ∷ (codes "arith.remsi", rule.Pair op.RemainderSigned)
-    ∷ (codes "arith.remui", rule.Pair op.RemainderUnsigned)
-    ∷ (codes "arith.andi", rule.Pair op.And)
-    ∷ (codes "arith.ori", rule.Pair op.Or)
-    ∷ (codes "arith.xori", rule.Pair op.ExclusiveOr)
-    ∷ (codes "arith.shrsi", rule.Pair op.ShiftRightSigned)
-    ∷ (codes "arith.shrui", rule.Pair op.ShiftRightUnsigned)
-    ∷ (codes "arith.maxsi", rule.Pair op.MaximumSigned)
-    ∷ (codes "arith.maxui", rule.Pair op.MaximumUnsigned)
-    ∷ (codes "arith.minsi", rule.Pair op.MinimumSigned)
-    ∷ (codes "arith.minui", rule.Pair op.MinimumUnsigned)
+    ∷ (codes "arith.addi", rule.Binary op.Add)
+    ∷ (codes "arith.subi", rule.Binary op.Subtract)
+    ∷ (codes "arith.muli", rule.Binary op.Multiply)
+    ∷ (codes "arith.shli", rule.Binary op.ShiftLeft)
+    ∷ (codes "arith.divsi", rule.Binary op.DivideSigned)
+    ∷ (codes "arith.divui", rule.Binary op.DivideUnsigned)
+    ∷ (codes "arith.remsi", rule.Binary op.RemainderSigned)
+    ∷ (codes "arith.remui", rule.Binary op.RemainderUnsigned)
+    ∷ (codes "arith.andi", rule.Binary op.And)
+    ∷ (codes "arith.ori", rule.Binary op.Or)
+    ∷ (codes "arith.xori", rule.Binary op.ExclusiveOr)
+    ∷ (codes "arith.shrsi", rule.Binary op.ShiftRightSigned)
+    ∷ (codes "arith.shrui", rule.Binary op.ShiftRightUnsigned)
+    ∷ (codes "arith.maxsi", rule.Binary op.MaximumSigned)
+    ∷ (codes "arith.maxui", rule.Binary op.MaximumUnsigned)
+    ∷ (codes "arith.minsi", rule.Binary op.MinimumSigned)
+    ∷ (codes "arith.minui", rule.Binary op.MinimumUnsigned)
     ∷ (codes "arith.cmpi", rule.Compare)
     ∷ (codes "arith.select", rule.Select)
-    ∷ (codes "arith.extsi", rule.Resize cast.ExtendSigned)
-    ∷ (codes "arith.extui", rule.Resize cast.ExtendUnsigned)
-    ∷ (codes "arith.trunci", rule.Resize cast.Truncate)
+    ∷ (codes "arith.extsi", rule.IntegerCast cast.ExtendSigned)
+    ∷ (codes "arith.extui", rule.IntegerCast cast.ExtendUnsigned)
+    ∷ (codes "arith.trunci", rule.IntegerCast cast.Truncate)
     ∷ (codes "arith.index_cast", rule.IndexCast cast.ExtendSigned)
     ∷ (codes "arith.index_castui", rule.IndexCast cast.ExtendUnsigned)
     ∷ []
@@ -56,7 +56,7 @@ rules =
 unfoldable pub rule_of : List ℕ → Option Rule
 rule_of name = beside name rules
 
--- the kind of a type's values: a signless integer type and index have one
+-- the kind of a type's constants: signless integer types and index have one
 abbrev pub kind_of : TypeTerm → Option BitsKind
 kind_of (term.Integer Signless w) = Some (kind.Int w)
 kind_of term.Index = Some kind.Index
@@ -67,7 +67,7 @@ same_kind (kind.Int v) (kind.Int w) = v == w
 same_kind kind.Index kind.Index = true
 same_kind _ _ = false
 
--- a known value by its kind and its bits, and its bits where it is of a kind
+-- a constant by its kind and its bits, and the bits if it is of a kind
 abbrev pub Known : Type 0
 Known = BitsKind × ℕ
 
@@ -75,16 +75,16 @@ abbrev pub bits_at : BitsKind → Option Known → Option ℕ
 bits_at k None = None
 bits_at k (Some known) = if same_kind known.0 k then Some known.1 else None
 
--- those of the code
+-- an operand of the code as a `Known`
 abbrev pub known_of : Option Bits → Option Known
 known_of bits = option_map (λ (b : Bits). (b.kind, b.value)) bits
 
--- the first that is there
+-- the first of two optional results that isn't none
 abbrev pub or_else : {A : Type 0} → Option A → Option A → Option A
 or_else (Some x) next = Some x
 or_else None next = next
 
--- two operands of the result's kind: where one alone gives the result, the other isn't looked at
+-- two operands of the result's kind: if one is absorbing, the other isn't read
 abbrev pub alone : Arithmetic → ℕ → Option ℕ → Option ℕ
 alone o w None = None
 alone o w (Some a) = if absorbs o w a then Some a else None
@@ -143,12 +143,12 @@ abbrev pub compare_fold : Option Predicate → BitsKind → List (Option Known) 
 compare_fold p k (x ∷ y ∷ []) = if same_kind k (kind.Int 1) then with (λ q. both (compared q) x y) p else None
 compare_fold p k _ = None
 
--- the operand that a known condition of i1 chooses; the other isn't looked at
+-- the operand that a constant condition of i1 selects; the other one isn't read
 abbrev pub select_fold : BitsKind → List (Option Known) → Option ℕ
 select_fold k (c ∷ x ∷ y ∷ []) = with (λ condition. bits_at k (choice_of condition x y)) (bits_at (kind.Int 1) c)
 select_fold k _ = None
 
--- an operand of an integer type, for a result of one
+-- an operand of an integer type, for a result of an integer type
 abbrev pub resized : Cast → BitsKind → Known → Option ℕ
 resized c (kind.Int w) (kind.Int v, a) = cast_of c v w a
 resized c _ _ = None
@@ -162,25 +162,25 @@ abbrev pub index_cast_fold : Cast → BitsKind → List (Option Known) → Optio
 index_cast_fold c k (x ∷ []) = with (λ (known : Known). cast_of c (width_of known.0) (width_of k) known.1) x
 index_cast_fold c k _ = None
 
--- the property `value`, where it is of the result's type
+-- the property `value`, if it is of the result's type
 abbrev pub constant_fold : Option (TypeTerm × ℕ) → BitsKind → List (Option Known) → Option ℕ
 constant_fold value k [] = with (λ (integer : TypeTerm × ℕ). bits_at k (option_map (λ l. (l, integer.1)) (kind_of integer.0))) value
 constant_fold value k _ = None
 
 abbrev pub fold_by : Rule → List (List ℕ × AttrTerm) → BitsKind → List (Option Known) → Option ℕ
 fold_by rule.Constant props k operands = constant_fold (property_of (codes "value") props) k operands
-fold_by (rule.Pair o) props k operands = pair_fold o k operands
+fold_by (rule.Binary o) props k operands = pair_fold o k operands
 fold_by rule.Compare props k operands = compare_fold (asked (property_of (codes "predicate") props)) k operands
 fold_by rule.Select props k operands = select_fold k operands
-fold_by (rule.Resize c) props k operands = resize_fold c k operands
+fold_by (rule.IntegerCast c) props k operands = resize_fold c k operands
 fold_by (rule.IndexCast c) props k operands = index_cast_fold c k operands
 
--- a property must be of the operation's row, and its attribute one that the key may have
+-- an allowed property: its key is inherent to the operation, and its attribute is allowed for the key
 abbrev pub is_property : List ℕ → List ℕ × AttrTerm → Bool
 is_property name entry = is_inherent name entry.0 && is_allowed entry.0 entry.1
 
--- the fold of an operation of a name, with properties, operands as far as they are known, and results: a known value of
--- the one result's kind
+-- the fold of an operation, by its name, its properties, its operands as far as they are constants, and the types of
+-- its results: a constant of the one result's kind
 unfoldable pub fold_of : List ℕ → List (List ℕ × AttrTerm) → List (Option Known) → List TypeTerm → Option Known
 fold_of name props operands (ty ∷ []) =
     if list_all (is_property name) props then
@@ -188,11 +188,11 @@ fold_of name props operands (ty ∷ []) =
     else None
 fold_of name props operands _ = None
 
--- a dictionary of numbers as one of bytes and attributes
-abbrev pub entries_of : Things → List (ℕ × ℕ) → List (List ℕ × AttrTerm)
+-- a dictionary of ids as one of bytes and attributes
+abbrev pub entries_of : ContextModel → List (ℕ × ℕ) → List (List ℕ × AttrTerm)
 entries_of c entries = map (λ (e : ℕ × ℕ). (name_term c e.0, attr_term c e.1)) entries
 
--- what is known in one list of operands is known in another of the same length
+-- the constants in one list of operands are the same constants in another
 abbrev pub IsWithin : Option Known → Option Known → Type 0
 IsWithin x y = (known : Known) → x ≡ Some known → y ≡ Some known
 

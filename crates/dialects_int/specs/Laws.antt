@@ -1,4 +1,4 @@
--- What laws of the folds speak of.
+-- Definitions for the theorems of arithmetic.
 use Rattle.std.specs.Prelude.{ℕ, ◌^◌, ◌<◌, Bool, true, false}
 use Rattle.dialects_int.specs.declared.operations.Arithmetic.{Arithmetic}
 use Rattle.dialects_int.specs.declared.operations.Arithmetic.TheVariants as op
@@ -9,7 +9,7 @@ use Rattle.dialects_int.specs.declared.operations.Predicate.TheVariants as asks
 abbrev pub IsValue : ℕ → ℕ → Type 0
 IsValue w a = a < 2 ^ w
 
--- operations whose operands may be swapped
+-- commutative operations
 abbrev pub commutes : Arithmetic → Bool
 commutes op.Add = true
 commutes op.Multiply = true
@@ -22,7 +22,7 @@ commutes op.MinimumSigned = true
 commutes op.MinimumUnsigned = true
 commutes _ = false
 
--- operations that may be bracketed in either way
+-- associative operations
 abbrev pub associates : Arithmetic → Bool
 associates op.Add = true
 associates op.Multiply = true
@@ -31,7 +31,7 @@ associates op.Or = true
 associates op.ExclusiveOr = true
 associates _ = false
 
--- operations to which 0 as second operand does nothing
+-- operations with 0 as a neutral second operand
 abbrev pub ignores_zero : Arithmetic → Bool
 ignores_zero op.Add = true
 ignores_zero op.Subtract = true
@@ -42,14 +42,14 @@ ignores_zero op.ShiftRightSigned = true
 ignores_zero op.ShiftRightUnsigned = true
 ignores_zero _ = false
 
--- operations to which 1 as second operand does nothing
+-- operations with 1 as a neutral second operand
 abbrev pub ignores_one : Arithmetic → Bool
 ignores_one op.Multiply = true
 ignores_one op.DivideSigned = true
 ignores_one op.DivideUnsigned = true
 ignores_one _ = false
 
--- operations of a value with itself that give the value
+-- idempotent operations
 abbrev pub keeps_itself : Arithmetic → Bool
 keeps_itself op.And = true
 keeps_itself op.Or = true
@@ -59,7 +59,7 @@ keeps_itself op.MinimumSigned = true
 keeps_itself op.MinimumUnsigned = true
 keeps_itself _ = false
 
--- the predicate that asks the same of swapped operands
+-- the predicate with the same result for swapped operands
 abbrev pub mirrored : Predicate → Predicate
 mirrored asks.Equal = asks.Equal
 mirrored asks.NotEqual = asks.NotEqual
@@ -72,7 +72,7 @@ mirrored asks.UnsignedLessOrEqual = asks.UnsignedGreaterOrEqual
 mirrored asks.UnsignedGreater = asks.UnsignedLess
 mirrored asks.UnsignedGreaterOrEqual = asks.UnsignedLessOrEqual
 
--- predicates that a value and itself meet
+-- reflexive predicates
 abbrev pub holds_of_itself : Predicate → Bool
 holds_of_itself asks.Equal = true
 holds_of_itself asks.SignedLessOrEqual = true

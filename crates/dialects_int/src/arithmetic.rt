@@ -6,7 +6,7 @@ ghost use Rattle.dialects_int.specs.Arithmetic.{sum_of, difference_of, product_o
 use crate::operations::{Arithmetic, Cast, Predicate};
 use ir_types::readings::{mask, signed_number, wrapped};
 
-/// What an operation computes of two values of some bits (`arith` Dialect), if anything.
+/// Returns the result of an operation on two values of a width (`arith` Dialect), or `None` if it has none.
 pub fn compute(operation: Arithmetic, width: u32, a: u128, b: u128) -> Option<u128>
     requires low { 1 ≤ width }
     requires high { width ≤ most_width }
@@ -36,7 +36,7 @@ pub fn compute(operation: Arithmetic, width: u32, a: u128, b: u128) -> Option<u1
     }
 }
 
-/// The sum modulo 2^width (`arith` Dialect, "arith.addi").
+/// Returns the sum modulo 2^width (`arith` Dialect, "arith.addi").
 fn add(width: u32, a: u128, b: u128) -> u128
     requires low { 1 ≤ width }
     requires high { width ≤ most_width }
@@ -46,7 +46,7 @@ fn add(width: u32, a: u128, b: u128) -> u128
     a.wrapping_add(b) & mask(width)
 }
 
-/// The difference modulo 2^width (`arith` Dialect, "arith.subi").
+/// Returns the difference modulo 2^width (`arith` Dialect, "arith.subi").
 fn subtract(width: u32, a: u128, b: u128) -> u128
     requires low { 1 ≤ width }
     requires high { width ≤ most_width }
@@ -57,7 +57,7 @@ fn subtract(width: u32, a: u128, b: u128) -> u128
     a.wrapping_sub(b) & mask(width)
 }
 
-/// The product modulo 2^width (`arith` Dialect, "arith.muli").
+/// Returns the product modulo 2^width (`arith` Dialect, "arith.muli").
 fn multiply(width: u32, a: u128, b: u128) -> u128
     requires low { 1 ≤ width }
     requires high { width ≤ most_width }
@@ -67,7 +67,7 @@ fn multiply(width: u32, a: u128, b: u128) -> u128
     a.wrapping_mul(b) & mask(width)
 }
 
-/// The quotient of the signed readings, rounded towards zero.
+/// Returns the quotient of the signed values, rounded towards zero, or `None` if it isn't a value of the width.
 #[tactic(auto, unfolding(crate::specs::Arithmetic::signed_quotient_of))]
 fn divide_signed(width: u32, a: u128, b: u128) -> Option<u128>
     requires low { 1 ≤ width }
@@ -85,8 +85,8 @@ fn divide_signed(width: u32, a: u128, b: u128) -> Option<u128>
     Some(wrapped(width, dividend / divisor))
 }
 
-/// The remainder of the signed readings, with the sign of the dividend, or none where their quotient is no value of
-/// the width.
+/// Returns the remainder of the signed values, with the sign of the dividend, or `None` if their quotient isn't a value
+/// of the width.
 #[tactic(auto, unfolding(crate::specs::Arithmetic::signed_remainder_of))]
 fn remainder_signed(width: u32, a: u128, b: u128) -> Option<u128>
     requires low { 1 ≤ width }
@@ -104,7 +104,7 @@ fn remainder_signed(width: u32, a: u128, b: u128) -> Option<u128>
     Some(wrapped(width, dividend % divisor))
 }
 
-/// Whether the quotient of the signed readings is a value of the width.
+/// Returns whether the quotient of the signed values is a value of the width.
 fn divides(width: u32, a: u128, b: u128) -> bool
     requires low { 1 ≤ width }
     requires high { width ≤ most_width }
@@ -114,7 +114,7 @@ fn divides(width: u32, a: u128, b: u128) -> bool
     b != 0 && !(a == mask / 2 + 1 && b == mask)
 }
 
-/// The quotient of the unsigned readings, rounded down, or none by 0.
+/// Returns the quotient of the unsigned values, rounded down, or `None` for the divisor 0.
 #[tactic(auto, unfolding(crate::specs::Arithmetic::quotient_of))]
 fn divide(width: u32, a: u128, b: u128) -> Option<u128>
     requires left { a < 2 ^ width }
@@ -124,7 +124,7 @@ fn divide(width: u32, a: u128, b: u128) -> Option<u128>
     if b == 0 { None } else { Some(a / b) }
 }
 
-/// The remainder of the unsigned readings, or none by 0.
+/// Returns the remainder of the unsigned values, or `None` for the divisor 0.
 #[tactic(auto, unfolding(crate::specs::Arithmetic::remainder_of))]
 fn remainder(width: u32, a: u128, b: u128) -> Option<u128>
     requires left { a < 2 ^ width }
@@ -134,8 +134,8 @@ fn remainder(width: u32, a: u128, b: u128) -> Option<u128>
     if b == 0 { None } else { Some(a % b) }
 }
 
-/// The value shifted left, with zeros at the right and what passes the width cut off, or none where the shift is not
-/// below the width.
+/// Returns the value shifted left modulo 2^width, filled with zeros, or `None` if the shift amount isn't below the
+/// width.
 #[tactic(auto, unfolding(crate::specs::Arithmetic::left_shift_of))]
 fn shift_left(width: u32, a: u128, b: u128) -> Option<u128>
     requires low { 1 ≤ width }
@@ -150,7 +150,7 @@ fn shift_left(width: u32, a: u128, b: u128) -> Option<u128>
     }
 }
 
-/// The value shifted right, with zeros at the left, or none where the shift is not below the width.
+/// Returns the value shifted right, filled with zeros, or `None` if the shift amount isn't below the width.
 #[tactic(auto, unfolding(crate::specs::Arithmetic::right_shift_of))]
 fn shift_right(width: u32, a: u128, b: u128) -> Option<u128>
     requires high { width ≤ most_width }
@@ -165,7 +165,7 @@ fn shift_right(width: u32, a: u128, b: u128) -> Option<u128>
     }
 }
 
-/// A shift of the signed reading, so that the sign fills in.
+/// Returns the value shifted right, filled with the sign bit, or `None` if the shift amount isn't below the width.
 #[tactic(auto, unfolding(crate::specs::Arithmetic::signed_right_shift_of))]
 fn shift_right_signed(width: u32, a: u128, b: u128) -> Option<u128>
     requires low { 1 ≤ width }
@@ -181,7 +181,7 @@ fn shift_right_signed(width: u32, a: u128, b: u128) -> Option<u128>
     }
 }
 
-/// The conjunction, bit by bit.
+/// Returns the bitwise conjunction.
 fn and(width: u32, a: u128, b: u128) -> u128
     requires left { a < 2 ^ width }
     ensures value { result ≡ bit_and a b }
@@ -190,7 +190,7 @@ fn and(width: u32, a: u128, b: u128) -> u128
     a & b
 }
 
-/// The disjunction, bit by bit.
+/// Returns the bitwise disjunction.
 fn or(width: u32, a: u128, b: u128) -> u128
     requires left { a < 2 ^ width }
     requires right { b < 2 ^ width }
@@ -200,7 +200,7 @@ fn or(width: u32, a: u128, b: u128) -> u128
     a | b
 }
 
-/// The exclusive disjunction, bit by bit.
+/// Returns the bitwise exclusive disjunction.
 fn exclusive_or(width: u32, a: u128, b: u128) -> u128
     requires left { a < 2 ^ width }
     requires right { b < 2 ^ width }
@@ -210,7 +210,7 @@ fn exclusive_or(width: u32, a: u128, b: u128) -> u128
     a ^ b
 }
 
-/// The value whose signed reading is the greater.
+/// Returns the greater value by the signed order.
 #[tactic(auto, unfolding(crate::specs::Arithmetic::signed_maximum_of))]
 fn maximum_signed(width: u32, a: u128, b: u128) -> u128
     requires low { 1 ≤ width }
@@ -227,7 +227,7 @@ fn maximum_signed(width: u32, a: u128, b: u128) -> u128
     }
 }
 
-/// The value whose unsigned reading is the greater.
+/// Returns the greater value by the unsigned order.
 #[tactic(auto, unfolding(crate::specs::Arithmetic::maximum_of))]
 fn maximum(width: u32, a: u128, b: u128) -> u128
     requires left { a < 2 ^ width }
@@ -238,7 +238,7 @@ fn maximum(width: u32, a: u128, b: u128) -> u128
     if a < b { b } else { a }
 }
 
-/// The value whose signed reading is the smaller.
+/// Returns the smaller value by the signed order.
 #[tactic(auto, unfolding(crate::specs::Arithmetic::signed_minimum_of))]
 fn minimum_signed(width: u32, a: u128, b: u128) -> u128
     requires low { 1 ≤ width }
@@ -255,7 +255,7 @@ fn minimum_signed(width: u32, a: u128, b: u128) -> u128
     }
 }
 
-/// The value whose unsigned reading is the smaller.
+/// Returns the smaller value by the unsigned order.
 #[tactic(auto, unfolding(crate::specs::Arithmetic::minimum_of))]
 fn minimum(width: u32, a: u128, b: u128) -> u128
     requires left { a < 2 ^ width }
@@ -266,7 +266,7 @@ fn minimum(width: u32, a: u128, b: u128) -> u128
     if b < a { b } else { a }
 }
 
-/// Whether two values of some bits are as a predicate asks (`arith` Dialect, "arith.cmpi").
+/// Returns whether two values satisfy a predicate (`arith` Dialect, "arith.cmpi").
 #[tactic(auto, unfolding(crate::specs::Arithmetic::comparison_of))]
 pub fn compare(predicate: Predicate, width: u32, a: u128, b: u128) -> bool
     requires low { 1 ≤ width }
@@ -289,7 +289,7 @@ pub fn compare(predicate: Predicate, width: u32, a: u128, b: u128) -> bool
     }
 }
 
-/// A value of some bits as one of others, if the cast has one.
+/// Returns a value converted to another width, or `None` if the cast has no result.
 pub fn resize(cast: Cast, from: u32, to: u32, a: u128) -> Option<u128>
     requires from_low { 1 ≤ from }
     requires from_high { from ≤ most_width }
@@ -306,7 +306,7 @@ pub fn resize(cast: Cast, from: u32, to: u32, a: u128) -> Option<u128>
     }
 }
 
-/// The signed reading of a value as a value of `to` bits, modulo 2^to.
+/// Returns the signed value modulo 2^to.
 #[tactic(auto, unfolding(crate::specs::Arithmetic::sign_extended))]
 fn extend_signed(from: u32, to: u32, a: u128) -> u128
     requires from_low { 1 ≤ from }
@@ -320,7 +320,7 @@ fn extend_signed(from: u32, to: u32, a: u128) -> u128
     wrapped(to, signed_number(from, a))
 }
 
-/// The unsigned reading of a value as a value of `to` bits, modulo 2^to.
+/// Returns the unsigned value modulo 2^to.
 fn extend(to: u32, a: u128) -> u128
     requires low { 1 ≤ to }
     requires high { to ≤ most_width }
@@ -330,7 +330,7 @@ fn extend(to: u32, a: u128) -> u128
     a & mask(to)
 }
 
-/// The low `to` bits of a value, or none where that is not a smaller width.
+/// Returns the low `to` bits of a value, or `None` if that isn't a smaller width.
 #[tactic(auto, unfolding(crate::specs::Arithmetic::truncated, crate::specs::Arithmetic::zero_extended))]
 fn truncate(from: u32, to: u32, a: u128) -> Option<u128>
     requires low { 1 ≤ to }

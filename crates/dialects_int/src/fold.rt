@@ -1,4 +1,4 @@
-//! The fold of an operation over known operands.
+//! The constant folder.
 ghost use Rattle.std.specs.Prelude.{◌≡◌, ◌<◌, ◌≤◌, ◌^◌, IfSome, List, map};
 ghost use Rattle.std.specs.List.{All};
 ghost use Rattle.std.specs.Option.{option_map};
@@ -19,13 +19,13 @@ use ir_types::ids::{AttrId, NameId, TypeId};
 use ir_types::readings::mask;
 use ir_types::word::Word;
 
-/// What is known of an operation's result, from its name, its properties, its operands as far as they
-/// are known, and the types of its results (`arith` Dialect).
+/// Returns the constant that an operation folds to, from its name, its properties, its operands as far as they are
+/// constants, and the types of its results (`arith` Dialect); or `None`.
 ///
-/// An operation folds where it has one result, its row's number of operands, no property that is not
-/// of its row or not as its key asks, and operands that are known and of the row's kinds. There are
-/// four exceptions, in which no other operand is looked at: a product or a conjunction with an operand
-/// 0, a disjunction with an operand of all ones, and a select with a known condition. No memory.
+/// An operation folds if it has one result, the number of operands in its row, only properties that are allowed for it,
+/// and constant operands of the kinds in its row. In four cases the other operands aren't read: a product or a
+/// conjunction with an operand 0, a disjunction with an operand of all ones, and a select with a constant condition.
+/// Needs no memory.
 #[tactic(auto, unfolding(crate::specs::Folds::fold_of))]
 pub fn fold(
     ctx: &Context,
@@ -51,7 +51,7 @@ pub fn fold(
     Some(Bits { kind, value })
 }
 
-/// The bits of the result of a rule.
+/// Returns the bits of the result of a rule.
 fn fold_by(
     ctx: &Context,
     rule: Rule,
@@ -67,15 +67,15 @@ fn fold_by(
 {
     match rule {
         Rule::Constant => constant_fold(ctx, props, kind, operands),
-        Rule::Pair(operation) => pair_fold(operation, kind, operands),
+        Rule::Binary(operation) => pair_fold(operation, kind, operands),
         Rule::Compare => compare_fold(ctx, props, kind, operands),
         Rule::Select => select_fold(kind, operands),
-        Rule::Resize(cast) => resize_fold(cast, kind, operands),
+        Rule::IntegerCast(cast) => resize_fold(cast, kind, operands),
         Rule::IndexCast(cast) => index_cast_fold(cast, kind, operands),
     }
 }
 
-/// The bits of an arithmetic operation's result, of two operands of the result's kind.
+/// Returns the bits of the result of an arithmetic operation on two operands of the result's kind.
 fn pair_fold(operation: Arithmetic, kind: BitsKind, operands: &[Option<Bits>]) -> Option<u128>
     requires low { 1 ≤ width_of kind }
     requires high { width_of kind ≤ most_width }
@@ -88,7 +88,7 @@ fn pair_fold(operation: Arithmetic, kind: BitsKind, operands: &[Option<Bits>]) -
     pair_value(operation, width(kind), bits_at(kind, x), bits_at(kind, y))
 }
 
-/// The result of two operands, of which one alone may give it.
+/// Returns the result of two operands, of which one may be absorbing.
 fn pair_value(operation: Arithmetic, width: u32, x: Option<u128>, y: Option<u128>) -> Option<u128>
     requires low { 1 ≤ width }
     requires high { width ≤ most_width }
@@ -110,7 +110,7 @@ fn pair_value(operation: Arithmetic, width: u32, x: Option<u128>, y: Option<u128
     compute(operation, width, x?, y?)
 }
 
-/// Whether an operand alone gives the result, which is its value.
+/// Returns whether an operand is absorbing: it is then the result.
 #[tactic(auto, unfolding(crate::specs::Arithmetic::absorbs))]
 fn absorbs(operation: Arithmetic, width: u32, a: u128) -> bool
     requires low { 1 ≤ width }
@@ -138,7 +138,7 @@ fn absorbs(operation: Arithmetic, width: u32, a: u128) -> bool
     }
 }
 
-/// 1 or 0, as two known operands of one kind are as the property `predicate` asks or not.
+/// Compares two constant operands of one kind by the property `predicate`: 1 if they satisfy it, and 0 otherwise.
 fn compare_fold(
     ctx: &Context,
     props: &[(NameId, AttrId)],
@@ -159,7 +159,7 @@ fn compare_fold(
     both_compared(predicate_at(number)?, x, y)
 }
 
-/// 1 or 0, as two operands are as a predicate asks or not, where both are known and of one kind.
+/// Compares two operands by a predicate, if both are constants of one kind: 1 if they satisfy it, and 0 otherwise.
 fn both_compared(predicate: Predicate, x: &Option<Bits>, y: &Option<Bits>) -> Option<u128>
     ensures value { result ≡ both (folds.compared predicate) (known_of x.now) (known_of y.now) }
     ensures below { IfSome result (λ v. v < 2 ^ 1) }
@@ -173,7 +173,7 @@ fn both_compared(predicate: Predicate, x: &Option<Bits>, y: &Option<Bits>) -> Op
     }
 }
 
-/// 1 or 0, as two values of one kind are as a predicate asks or not.
+/// Compares two constants of one kind by a predicate: 1 if they satisfy it, and 0 otherwise.
 fn compared(predicate: Predicate, x: &Bits, y: &Bits) -> Option<u128>
     ensures value { result ≡ folds.compared predicate (x.now.kind, x.now.value) (y.now.kind, y.now.value) }
     ensures below { IfSome result (λ v. v < 2 ^ 1) }
@@ -184,7 +184,7 @@ fn compared(predicate: Predicate, x: &Bits, y: &Bits) -> Option<u128>
     Some(compare(predicate, width(x.kind), x.value, y.value) as u128)
 }
 
-/// The bits of the operand that a known condition chooses: the second operand by 1, the third by 0.
+/// Returns the bits of the operand that a constant condition selects: the second operand for 1, the third for 0.
 fn select_fold(kind: BitsKind, operands: &[Option<Bits>]) -> Option<u128>
     ensures value { result ≡ folds.select_fold kind (map known_of operands.now) }
     ensures below { IfSome result (λ v. v < 2 ^ width_of kind) }
@@ -199,7 +199,7 @@ fn select_fold(kind: BitsKind, operands: &[Option<Bits>]) -> Option<u128>
     }
 }
 
-/// The bits of a cast from one integer type to another, of one known operand.
+/// Returns the bits of a constant operand converted from one integer type to another.
 fn resize_fold(cast: Cast, kind: BitsKind, operands: &[Option<Bits>]) -> Option<u128>
     requires low { 1 ≤ width_of kind }
     requires high { width_of kind ≤ most_width }
@@ -215,7 +215,7 @@ fn resize_fold(cast: Cast, kind: BitsKind, operands: &[Option<Bits>]) -> Option<
     }
 }
 
-/// A value of an integer type as one of another.
+/// Returns a value of an integer type converted to another.
 fn resized(cast: Cast, kind: BitsKind, x: &Bits) -> Option<u128>
     requires low { 1 ≤ width_of kind }
     requires high { width_of kind ≤ most_width }
@@ -230,7 +230,7 @@ fn resized(cast: Cast, kind: BitsKind, x: &Bits) -> Option<u128>
     }
 }
 
-/// The bits of a cast between an integer type and index, of one known operand.
+/// Returns the bits of a constant operand converted between an integer type and index.
 fn index_cast_fold(cast: Cast, kind: BitsKind, operands: &[Option<Bits>]) -> Option<u128>
     requires low { 1 ≤ width_of kind }
     requires high { width_of kind ≤ most_width }
@@ -246,7 +246,7 @@ fn index_cast_fold(cast: Cast, kind: BitsKind, operands: &[Option<Bits>]) -> Opt
     }
 }
 
-/// The bits of a constant's property `value`, where it is of the result's kind.
+/// Returns the bits of a constant's property `value`, if it is of the result's kind.
 fn constant_fold(
     ctx: &Context,
     props: &[(NameId, AttrId)],

@@ -1,4 +1,4 @@
-//! What a fold reads: kinds of types, values of operands, and properties.
+//! The inputs of a fold: kinds of types, constant operands, and properties.
 ghost use Rattle.std.specs.Prelude.{◌≡◌, ◌<◌, ◌≤◌, ◌^◌, IfSome, Some, List, map, true, codes};
 ghost use Rattle.std.specs.List.{All, list_all};
 ghost use Rattle.std.specs.Option.{option_map};
@@ -21,7 +21,7 @@ use ir_types::word::Word;
 use op_registry::property::{allows, integer_of};
 use op_registry::things::type_of;
 
-/// The kind of a type's values, if it has any: that of a signless integer type or of index.
+/// Returns the kind of a type's constants, or `None` if the type isn't a signless integer type or index.
 pub(crate) fn kind_of(ctx: &Context, ty: TypeId) -> Option<BitsKind>
     requires { IsType ctx.now ty }
     ensures kind { result ≡ folds.kind_of (type_term ctx.now ty) }
@@ -32,7 +32,7 @@ pub(crate) fn kind_of(ctx: &Context, ty: TypeId) -> Option<BitsKind>
     kind_in(type_of(ctx, ty))
 }
 
-/// The kind of the values of a type's node, if they have any.
+/// Returns the kind of the constants of a type's node, or `None` if it has none.
 fn kind_in(node: &TypeNode) -> Option<BitsKind>
     ensures { (known : List TypeTerm) → result ≡ folds.kind_of (type_from known node.now) }
 {
@@ -49,7 +49,7 @@ fn kind_in(node: &TypeNode) -> Option<BitsKind>
     }
 }
 
-/// Whether two kinds are one.
+/// Returns whether two kinds are equal.
 pub(crate) fn same_kind(a: BitsKind, b: BitsKind) -> bool
     ensures { result ≡ folds.same_kind a b }
 {
@@ -61,7 +61,7 @@ pub(crate) fn same_kind(a: BitsKind, b: BitsKind) -> bool
     }
 }
 
-/// The bits of an operand that is known to be of a kind.
+/// Returns the bits of an operand if it is a constant of the kind, and otherwise `None`.
 pub(crate) fn bits_at(kind: BitsKind, operand: &Option<Bits>) -> Option<u128>
     ensures value { result ≡ folds.bits_at kind (known_of operand.now) }
     ensures below { IfSome result (λ v. v < 2 ^ width_of kind) }
@@ -78,7 +78,7 @@ pub(crate) fn bits_at(kind: BitsKind, operand: &Option<Bits>) -> Option<u128>
     }
 }
 
-/// Whether all entries are properties of an operation's row that may be so.
+/// Returns whether all entries are allowed properties of an operation.
 pub(crate) fn are_properties(ctx: &Context, name: NameId, props: &[(NameId, AttrId)]) -> bool
     requires { All (λ e. IsAttr ctx.now e.1) props.now }
     ensures { result ≡ list_all (is_property (name_term ctx.now name)) (entries_of ctx.now props.now) }
@@ -93,7 +93,7 @@ pub(crate) fn are_properties(ctx: &Context, name: NameId, props: &[(NameId, Attr
     true
 }
 
-/// The type and the bits of the integer that is the property of a key, if there is one.
+/// Returns the type and the bits of the integer property of a key, or `None` if there is none.
 pub(crate) fn property_of(
     ctx: &Context,
     key: Word,
@@ -114,7 +114,7 @@ pub(crate) fn property_of(
     None
 }
 
-/// Whether a name is that of a key.
+/// Returns whether a name is a key.
 fn is_key(ctx: &Context, name: NameId, key: Word) -> bool
     ensures { result ≡ bytes_eq (word_bytes key) (name_term ctx.now name) }
 {

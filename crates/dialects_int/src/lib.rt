@@ -1,4 +1,5 @@
-//! What the operations on integers compute: a fold over known values, and the table's registry.
+//! The semantics of operations on integers: a constant folder, the registry of the operation table, and theorems of
+//! arithmetic for rewrite rules.
 #![tactic(auto)]
 
 pub mod arithmetic;

@@ -1,6 +1,6 @@
 //! The operations that fold, by what they compute (`arith` Dialect).
 ghost use Rattle.std.specs.Prelude.{◌≡◌, ℕ, List, map, slice_get};
-ghost use Rattle.ir_types.specs.Things.{Things};
+ghost use Rattle.ir_types.specs.Things.{ContextModel};
 ghost use Rattle.ir_types.specs.Terms.{name_term};
 ghost use Rattle.ir_types.specs.Sound.{IsSound};
 ghost use Rattle.dialects_int.specs.Folds.{rules, predicates};
@@ -8,7 +8,7 @@ ghost use Rattle.dialects_int.specs.Folds as folds;
 
 use ir_types::ids::NameId;
 
-/// An operation on two values of one type, which is that of its result.
+/// An operation on two values of the type of its result.
 #[derive(Clone, Copy)]
 pub enum Arithmetic {
     /// `arith.addi`.
@@ -47,7 +47,7 @@ pub enum Arithmetic {
     MinimumUnsigned,
 }
 
-/// What `arith.cmpi` asks, in the order of the numbers that its property `predicate` gives it.
+/// The predicates of `arith.cmpi`, in the order of their numbers in the property `predicate`.
 #[derive(Clone, Copy)]
 pub enum Predicate {
     /// 0, `eq`.
@@ -72,77 +72,77 @@ pub enum Predicate {
     UnsignedGreaterOrEqual,
 }
 
-/// How a value of one width becomes one of another.
+/// A conversion of a value to another width.
 #[derive(Clone, Copy)]
 pub enum Cast {
-    /// By its sign, or cut: `arith.extsi`, `arith.index_cast`.
+    /// Sign extension, or truncation: `arith.extsi`, `arith.index_cast`.
     ExtendSigned,
-    /// By zeros, or cut: `arith.extui`, `arith.index_castui`.
+    /// Zero extension, or truncation: `arith.extui`, `arith.index_castui`.
     ExtendUnsigned,
-    /// Cut to a smaller width: `arith.trunci`.
+    /// Truncation to a smaller width: `arith.trunci`.
     Truncate,
 }
 
-/// How an operation folds.
+/// The fold rule of an operation.
 #[derive(Clone, Copy)]
 pub enum Rule {
-    /// To its property `value`: `arith.constant`.
+    /// Folds to the property `value`: `arith.constant`.
     Constant,
-    /// By two operands of the result's type.
-    Pair(Arithmetic),
-    /// By two operands of one type, to an `i1`: `arith.cmpi`.
+    /// Folds two operands of the result's type.
+    Binary(Arithmetic),
+    /// Folds two operands of one type to an `i1`: `arith.cmpi`.
     Compare,
-    /// To the operand that an `i1` chooses: `arith.select`.
+    /// Folds to the operand that an `i1` selects: `arith.select`.
     Select,
-    /// From one integer type to another: `arith.extsi`, `arith.extui`, `arith.trunci`.
-    Resize(Cast),
-    /// Between integer types and index: `arith.index_cast`, `arith.index_castui`.
+    /// Converts from one integer type to another: `arith.extsi`, `arith.extui`, `arith.trunci`.
+    IntegerCast(Cast),
+    /// Converts between integer types and index: `arith.index_cast`, `arith.index_castui`.
     IndexCast(Cast),
 }
 
-/// The rules, from the number of `arith.constant` on.
+/// The rules, from the id of `arith.constant` on.
 static RULES: [Rule; 25] = [
     Rule::Constant,
     // addi, subi, muli, shli
-    Rule::Pair(Arithmetic::Add),
-    Rule::Pair(Arithmetic::Subtract),
-    Rule::Pair(Arithmetic::Multiply),
-    Rule::Pair(Arithmetic::ShiftLeft),
+    Rule::Binary(Arithmetic::Add),
+    Rule::Binary(Arithmetic::Subtract),
+    Rule::Binary(Arithmetic::Multiply),
+    Rule::Binary(Arithmetic::ShiftLeft),
     // divsi, divui, remsi, remui
-    Rule::Pair(Arithmetic::DivideSigned),
-    Rule::Pair(Arithmetic::DivideUnsigned),
-    Rule::Pair(Arithmetic::RemainderSigned),
-    Rule::Pair(Arithmetic::RemainderUnsigned),
+    Rule::Binary(Arithmetic::DivideSigned),
+    Rule::Binary(Arithmetic::DivideUnsigned),
+    Rule::Binary(Arithmetic::RemainderSigned),
+    Rule::Binary(Arithmetic::RemainderUnsigned),
     // andi, ori, xori
-    Rule::Pair(Arithmetic::And),
-    Rule::Pair(Arithmetic::Or),
-    Rule::Pair(Arithmetic::ExclusiveOr),
+    Rule::Binary(Arithmetic::And),
+    Rule::Binary(Arithmetic::Or),
+    Rule::Binary(Arithmetic::ExclusiveOr),
     // shrsi, shrui
-    Rule::Pair(Arithmetic::ShiftRightSigned),
-    Rule::Pair(Arithmetic::ShiftRightUnsigned),
+    Rule::Binary(Arithmetic::ShiftRightSigned),
+    Rule::Binary(Arithmetic::ShiftRightUnsigned),
     // maxsi, maxui, minsi, minui
-    Rule::Pair(Arithmetic::MaximumSigned),
-    Rule::Pair(Arithmetic::MaximumUnsigned),
-    Rule::Pair(Arithmetic::MinimumSigned),
-    Rule::Pair(Arithmetic::MinimumUnsigned),
+    Rule::Binary(Arithmetic::MaximumSigned),
+    Rule::Binary(Arithmetic::MaximumUnsigned),
+    Rule::Binary(Arithmetic::MinimumSigned),
+    Rule::Binary(Arithmetic::MinimumUnsigned),
     // cmpi, select
     Rule::Compare,
     Rule::Select,
     // extsi, extui, trunci
-    Rule::Resize(Cast::ExtendSigned),
-    Rule::Resize(Cast::ExtendUnsigned),
-    Rule::Resize(Cast::Truncate),
+    Rule::IntegerCast(Cast::ExtendSigned),
+    Rule::IntegerCast(Cast::ExtendUnsigned),
+    Rule::IntegerCast(Cast::Truncate),
     // index_cast, index_castui
     Rule::IndexCast(Cast::ExtendSigned),
     Rule::IndexCast(Cast::ExtendUnsigned),
 ];
 
-/// The number of the first word that has a rule, `arith.constant`.
+/// The id of the first word that has a rule, `arith.constant`.
 const FIRST: u32 = 5;
 
-/// How an operation folds, if it does.
+/// Returns the fold rule of an operation, or `None` if it doesn't fold.
 pub(crate) fn rule_of(name: NameId) -> Option<Rule>
-    ensures { (c : Things) → IsSound c → result ≡ folds.rule_of (name_term c name) }
+    ensures { (c : ContextModel) → IsSound c → result ≡ folds.rule_of (name_term c name) }
 {
     let number = name.number();
     if number < FIRST {
@@ -151,14 +151,14 @@ pub(crate) fn rule_of(name: NameId) -> Option<Rule>
     rule_at((number - FIRST) as usize)
 }
 
-/// The rule at a place among the rules.
+/// Returns the rule at an index among the rules.
 fn rule_at(place: usize) -> Option<Rule>
     ensures { result ≡ slice_get (map (λ (row : List ℕ × Rule). row.1) rules) place }
 {
     entry(&RULES, place)
 }
 
-/// The item at a place of a table, or none past its end.
+/// Returns the item at an index of a table, or `None` beyond its end.
 fn entry<T: Copy>(table: &[T], place: usize) -> Option<T>
     ensures { result ≡ slice_get table.now place }
 {
@@ -183,7 +183,7 @@ static PREDICATES: [Predicate; 10] = [
     Predicate::UnsignedGreaterOrEqual,
 ];
 
-/// The predicate of a number (`arith` Dialect, "arith.cmpi").
+/// Returns the predicate with a number, or `None` if there is none (`arith` Dialect, "arith.cmpi").
 pub fn predicate_at(number: u128) -> Option<Predicate>
     ensures { result ≡ slice_get predicates number }
 {

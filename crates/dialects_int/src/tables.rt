@@ -1,12 +1,12 @@
-//! The table of the operations that the workbench knows.
+//! The registry of the operation table.
 ghost use Rattle.std.specs.Prelude.{IsOk};
 
 use ir_types::context::Context;
 use ir_types::refusal::Refusal;
 use op_registry::registry::Registry;
 
-/// The rows of the listed operations, for the names of a context. Every context has their words at the
-/// same numbers, so nothing is added to it, and nothing is refused.
+/// Returns the registry, for the names of a context. Every context has the registered names at the same ids, so the
+/// context isn't changed, and the call is never refused.
 pub fn registry(_ctx: &Context) -> Result<Registry, Refusal>
     ensures { IsOk result }
 {

@@ -1,5 +1,5 @@
-//! The answer to a line.
-use crate::parts::{first, operands, properties, types};
+//! Computes the answer to a line.
+use crate::parts::{first_word, operands, properties, types};
 use dialects_int::fold::fold;
 use ir_types::bits::{Bits, BitsKind};
 use ir_types::context::Context;
@@ -10,7 +10,7 @@ use op_registry::own::{EffectSet, Own};
 use op_registry::registry::Registry;
 use std::alloc::{AllocError, Global};
 
-/// The fold, or `None` where a number is not the context's.
+/// Returns the fold, or `None` if an id isn't of the context.
 pub fn checked_fold(
     context: &Context,
     name: NameId,
@@ -38,7 +38,7 @@ fn told(alloc: Global, bits: Option<Bits>) -> Result<String, AllocError> {
     }
 }
 
-/// The fold of an operation of a name, with its results and properties.
+/// Answers a fold of an operation, given its name, results and properties.
 fn folded_by(
     alloc: Global,
     context: &Context,
@@ -51,8 +51,7 @@ fn folded_by(
     told(alloc, checked_fold(context, name, props, &known, results))
 }
 
-/// The fold of an operation of a name, with its results, by a text of its operands and properties: `OPERANDS
-/// PROPERTIES`.
+/// Answers a fold of an operation, given its name and results, and a text `OPERANDS PROPERTIES`.
 fn folded_to(
     alloc: Global,
     context: &mut Context,
@@ -60,26 +59,26 @@ fn folded_to(
     results: &[TypeId],
     text: &str,
 ) -> Result<String, Refusal> {
-    let (known, props) = first(text);
+    let (known, props) = first_word(text);
     let props = properties(alloc, context, props)?;
     Ok(folded_by(alloc, context, name, results, &props, known)?)
 }
 
-/// `NAME RESULTS OPERANDS PROPERTIES`.
+/// Answers a fold, given a text `NAME RESULTS OPERANDS PROPERTIES`.
 fn folded(alloc: Global, context: &mut Context, text: &str) -> Result<String, Refusal> {
-    let (name, text) = first(text);
-    let (results, text) = first(text);
+    let (name, text) = first_word(text);
+    let (results, text) = first_word(text);
     let name = context.name(name.as_bytes())?;
     let results = types(alloc, context, results)?;
     folded_to(alloc, context, name, &results, text)
 }
 
-/// How many types are wanted, and whether there may be more.
+/// Returns the number of fixed types, and whether more are allowed.
 fn width(types: &Types) -> (usize, bool) {
     (types.first.len(), types.more.is_some())
 }
 
-/// How many there are of what a row says.
+/// Returns the counts of a row.
 fn counts(alloc: Global, def: &OpDef) -> Result<String, AllocError> {
     let (operands, more_operands) = width(&def.operands);
     let (results, more_results) = width(&def.results);
@@ -147,14 +146,14 @@ fn traits(
     Ok(format!(in alloc; "{terminator} {isolated} {symbol_table} {symbol} {recursive}")?)
 }
 
-/// The answer to a line; what is no call is given back.
+/// Returns the answer to a line. A line that isn't a call is returned unchanged.
 pub fn answer(
     alloc: Global,
     context: &mut Context,
     table: &Registry,
     line: &str,
 ) -> Result<String, Refusal> {
-    let (call, rest) = first(line);
+    let (call, rest) = first_word(line);
     match call {
         "fold" => folded(alloc, context, rest),
         "row" => row(alloc, context, table, rest),

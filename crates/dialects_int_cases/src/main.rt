@@ -1,6 +1,6 @@
-//! Answers the calls of the operation table and of folds that standard input has, one a line, one answer
-//! a line. With a number as argument it folds each operation on two operands so many times, and prints
-//! the nanoseconds of one fold.
+//! Answers calls of the operation table and of folds. Standard input has one call a line, and each is answered with one
+//! line. With a number as argument, it folds each operation on two operands that many times, and prints the nanoseconds
+//! of one fold.
 #![tactic(auto)]
 
 mod answers;
@@ -27,7 +27,7 @@ fn print_answer(
     Ok(())
 }
 
-/// Prints the answer to each line.
+/// Prints the answer to each line of `text`.
 fn print_answers(
     rt: &HostRuntime,
     context: &mut Context,
@@ -52,7 +52,7 @@ fn answer_all(rt: &HostRuntime, text: &str) -> Result<(), Refusal> {
     answer_in(rt, &mut context, text)
 }
 
-/// How often each operation is to be folded, if it is to be timed.
+/// Returns how often to fold each operation for timing, or `None` if timing isn't requested.
 fn wanted(rt: &(impl Env + Alloc)) -> Option<u32> {
     let mut args = env::args(rt).ok()?;
     args.next();

@@ -1,4 +1,4 @@
-//! The parts of a line: operands, types and properties.
+//! Parses the parts of a line: operands, types and properties.
 use ir_types::bits::{Bits, BitsKind};
 use ir_types::context::Context;
 use ir_types::ids::{AttrId, NameId, TypeId};
@@ -6,12 +6,12 @@ use ir_types::node::{AttrNode, Sign, TypeNode};
 use ir_types::refusal::Refusal;
 use std::alloc::{AllocError, Global};
 
-/// The first word of a text, and what stands behind it.
-pub fn first(text: &str) -> (&str, &str) {
+/// Returns the first word of a text, and the rest of the text after it.
+pub fn first_word(text: &str) -> (&str, &str) {
     text.split_once(' ').unwrap_or((text, ""))
 }
 
-/// A number, or 0 where the word is none.
+/// Parses a number. Returns 0 if the word isn't a number.
 fn number(word: &str) -> u32 {
     word.parse::<u32>().unwrap_or(0)
 }
@@ -28,13 +28,13 @@ fn kind(word: &str) -> BitsKind {
     }
 }
 
-/// An operand: `i8:5`, or `?` where it isn't known.
+/// Parses an operand: `i8:5`, or `?` for an operand that isn't constant.
 fn operand(word: &str) -> Option<Bits> {
     let (ty, value) = word.split_once(':')?;
     Bits::new(kind(ty), wide(value))
 }
 
-/// Operands, parted by commas; `-` where there is none.
+/// Parses operands, separated by commas; `-` for none.
 pub fn operands(alloc: Global, text: &str) -> Result<Vec<Option<Bits>>, AllocError> {
     let mut items = Vec::new(alloc);
     if text != "-" {
@@ -73,7 +73,7 @@ fn type_id(context: &mut Context, word: &str) -> Result<TypeId, Refusal> {
     }
 }
 
-/// Types, parted by commas; `-` where there is none.
+/// Parses types, separated by commas; `-` for none.
 pub fn types(alloc: Global, context: &mut Context, text: &str) -> Result<Vec<TypeId>, Refusal> {
     let mut items = Vec::new(alloc);
     if text != "-" {
@@ -95,7 +95,7 @@ fn integer_attr(context: &mut Context, ty: &str, value: &str) -> Result<AttrId, 
     })
 }
 
-/// An attribute: `i8:5`, `flags`, or `unit`.
+/// Parses an attribute: `i8:5`, `flags`, or `unit`.
 fn attr(context: &mut Context, word: &str) -> Result<AttrId, Refusal> {
     if let Some((ty, value)) = word.split_once(':') {
         return integer_attr(context, ty, value);
@@ -109,7 +109,7 @@ fn attr(context: &mut Context, word: &str) -> Result<AttrId, Refusal> {
     context.attr(AttrNode::Unit)
 }
 
-/// A property: `value=i8:5`.
+/// Parses a property: `value=i8:5`.
 fn property(context: &mut Context, word: &str) -> Result<(NameId, AttrId), Refusal> {
     let (key, value) = word.split_once('=').unwrap_or((word, ""));
     let name = context.name(key.as_bytes())?;
@@ -117,7 +117,7 @@ fn property(context: &mut Context, word: &str) -> Result<(NameId, AttrId), Refus
     Ok((name, attr))
 }
 
-/// Properties, parted by commas; `-` where there is none.
+/// Parses properties, separated by commas; `-` for none.
 pub fn properties(
     alloc: Global,
     context: &mut Context,

@@ -1,4 +1,4 @@
-//! How long a fold takes.
+//! Measures the time of a fold.
 use crate::answers::checked_fold;
 use ir_types::bits::{Bits, BitsKind};
 use ir_types::context::Context;
@@ -8,7 +8,7 @@ use ir_types::refusal::Refusal;
 use std::rt::Clock;
 use std::time::Instant;
 
-/// The names of operations on two operands. The first is none, so that its time is that of the loop.
+/// The names of operations on two operands. The first one isn't an operation, so its time is that of the loop.
 const NAMES: [&str; 7] = [
     "test.loop",
     "arith.addi",
@@ -26,7 +26,7 @@ fn value(bits: Option<Bits>) -> u128 {
     }
 }
 
-/// Folds an operation so many times, on other operands each time, and answers the sum of the results.
+/// Folds an operation `count` times, with other operands each time, and returns the sum of the results.
 fn sum(context: &Context, name: NameId, ty: TypeId, kind: BitsKind, count: u32) -> u128 {
     let mut sum = 0u128;
     for index in 0..count {

@@ -1,4 +1,4 @@
--- One step of a walk up.
+-- One step of a walk up the parents.
 use Rattle.std.proofs.Common.{◌≡◌, ℕ, ◌+◌, ◌-◌, ◌≤◌, ◌<◌, List, [], ◌∷◌, Bool, true, false, true≢false, Option, Some, None, inl, inr, refl, sym, ap, ◌∙◌, subst, arith, cond, eqb, ◌&&◌, ◌||◌, not}
 use Rattle.std.specs.Prelude.{nat_lt}
 use Rattle.std.specs.Map.{lookup, set_value}
@@ -8,9 +8,9 @@ use Rattle.op_registry.specs.declared.own.Own.{Own}
 use Rattle.effects.specs.declared.row.Counts.{Counts}
 use Rattle.effects.specs.declared.row.Row.{Row}
 use Rattle.effects.specs.Effects.{Effect, unknown, allocate, free, read, write, has, none, own_kinds, is_recursive, is_none, union}
-use Rattle.effects.specs.Spots.{Spot, one_if, Apart, given, count_of, Rows, count_at, row_count, with_row, Holds}
+use Rattle.effects.specs.Points.{Point, one_if, Apart, given, count_of, Rows, count_at, row_count, with_row, Holds}
 use Rattle.effects.specs.Walks.{minus, both, present, lowered, raised, lost_row, gained_row, size, room, total}
-use Rattle.effects.proofs.Tables.{has_none, spot_of, climbed}
+use Rattle.effects.proofs.Tables.{has_none, point_of, climbed}
 use Rattle.effects.proofs.Laws.{has_union, some_of_sum, one_counts}
 
 -- ---- a map's entries
@@ -141,10 +141,10 @@ lost_shown r less o is was e = go (is_recursive o) refl is
         ∙ ap (λ b. cond b (nat_lt 0 (count_of e r.counts)) (has e (own_kinds o))) rec
         ∙ sym (ap (λ b. cond b (nat_lt 0 (count_of e (lowered r.counts less))) (has e (own_kinds o))) rec)
 
-pub lose_step : (rows after : Rows) (p : ℕ) (less : EffectKinds) (r : Row) → rows p ≡ Some r → ((x : ℕ) → after x ≡ with_row p (Some (lost_row r less)) rows x) → (ns : List Spot) → Apart ns → Holds rows ns (Some p) none less
+pub lose_step : (rows after : Rows) (p : ℕ) (less : EffectKinds) (r : Row) → rows p ≡ Some r → ((x : ℕ) → after x ≡ with_row p (Some (lost_row r less)) rows x) → (ns : List Point) → Apart ns → Holds rows ns (Some p) none less
     → Holds after ns r.parent none (minus r.has (lost_row r less).has)
 lose_step rows after p less r here is ns apart h =
-    let enough : (e : Effect) → one_if (has e less) ≤ count_of e r.counts = λ e. elim (spot_of p ns) [
+    let enough : (e : Effect) → one_if (has e less) ≤ count_of e r.counts = λ e. elim (point_of p ns) [
       | inl l ↦ let bad : None ≡ Some r = sym (h.only p l) ∙ here in absurd cc
       | inr m ↦ let c = h.counts e m.0 m.1 in
           let t : eqb p m.0.id ≡ true = eq-eqb p m.0.id (sym m.2) in
@@ -202,7 +202,7 @@ gained_shown r more o is was e = go (is_recursive o) refl is
         ∙ ap (λ b. cond b (nat_lt 0 (count_of e r.counts)) (has e (own_kinds o))) rec
         ∙ sym (ap (λ b. cond b (nat_lt 0 (count_of e (raised r.counts more))) (has e (own_kinds o))) rec)
 
-pub gain_step : (rows after : Rows) (p : ℕ) (more : EffectKinds) (r : Row) → rows p ≡ Some r → ((x : ℕ) → after x ≡ with_row p (Some (gained_row r more)) rows x) → (ns : List Spot) → Apart ns → Holds rows ns (Some p) more none
+pub gain_step : (rows after : Rows) (p : ℕ) (more : EffectKinds) (r : Row) → rows p ≡ Some r → ((x : ℕ) → after x ≡ with_row p (Some (gained_row r more)) rows x) → (ns : List Point) → Apart ns → Holds rows ns (Some p) more none
     → Holds after ns r.parent (minus (gained_row r more).has r.has) none
 gain_step rows after p more r here is ns apart h =
     subst (λ (z : Rows). Holds z ns r.parent (minus (gained_row r more).has r.has) none) (sym (λ i x. is x i))
@@ -240,10 +240,10 @@ gained_room r more h =
       one_not r.has.write,
     )
 
--- ---- as the loops read them
+-- ---- in the form of the loops
 
 pub lose_on : (rows after : Rows) (at : Option ℕ) (p : ℕ) (less s : EffectKinds) (r next : Row) → at ≡ Some p → rows p ≡ Some r → next ≡ lost_row r less → s ≡ minus r.has next.has
-    → ((k : Row) → rows p ≡ Some k → (x : ℕ) → after x ≡ with_row p (Some next) rows x) → (ns : List Spot) → Apart ns → Holds rows ns at none less → Holds after ns r.parent none s
+    → ((k : Row) → rows p ≡ Some k → (x : ℕ) → after x ≡ with_row p (Some next) rows x) → (ns : List Point) → Apart ns → Holds rows ns at none less → Holds after ns r.parent none s
 lose_on rows after at p less s r next here is made gone written ns apart h =
     let step = lose_step rows after p less r is (λ x. written r is x ∙ ap (λ k. with_row p (Some k) rows x) made) ns apart (subst (λ q. Holds rows ns q none less) here h) in
     subst (λ z. Holds after ns r.parent none z) (sym (gone ∙ ap (λ (k : Row). minus r.has k.has) made)) step
@@ -255,7 +255,7 @@ lose_smaller new old less s r next made gone some sum =
     omega (arith, fewer, same, sum)
 
 pub gain_on : (rows after : Rows) (at : Option ℕ) (p : ℕ) (more s : EffectKinds) (r next : Row) → at ≡ Some p → rows p ≡ Some r → next ≡ gained_row r more → s ≡ minus next.has r.has
-    → ((k : Row) → rows p ≡ Some k → (x : ℕ) → after x ≡ with_row p (Some next) rows x) → (ns : List Spot) → Apart ns → Holds rows ns at more none → Holds after ns r.parent s none
+    → ((k : Row) → rows p ≡ Some k → (x : ℕ) → after x ≡ with_row p (Some next) rows x) → (ns : List Point) → Apart ns → Holds rows ns at more none → Holds after ns r.parent s none
 gain_on rows after at p more s r next here is made gone written ns apart h =
     let step = gain_step rows after p more r is (λ x. written r is x ∙ ap (λ k. with_row p (Some k) rows x) made) ns apart (subst (λ q. Holds rows ns q more none) here h) in
     subst (λ z. Holds after ns r.parent z none) (sym (gone ∙ ap (λ (k : Row). minus k.has r.has) made)) step

@@ -1,4 +1,4 @@
--- A walk down a tree: the first of a block has all of it from it on, and the next of an operation the rest.
+-- A walk down a tree: from the first operation of a block all operations follow, and from a next operation the rest.
 use Rattle.std.proofs.Common.{◌≡◌, refl, ap, sym, ◌∙◌, subst, ℕ, zero, suc, ◌+◌, ◌<◌, ◌≤◌, List, [], ◌∷◌, ◌++◌, length, length-append, Option, Some, None, option_map, arith}
 use Rattle.std.specs.Prelude.{option_and_then}
 use Rattle.ir_event.specs.trees.declared.place.Place.{Place}
@@ -14,15 +14,15 @@ use Rattle.ir_event.proofs.of_tree_laws.Members.{stand, within, ops_child, joine
 use Rattle.ir_event.proofs.of_tree_laws.Around.{around_there, place_of_member, member_of_place}
 use Rattle.ir_event.proofs.of_tree_laws.Put.{child}
 use Rattle.ir_event.proofs.of_tree_laws.Values.{shape}
-use Rattle.effects.specs.Within.{behind, some_ops, onward, ops_from, list_at, list_size, op_size}
+use Rattle.effects.specs.Within.{trailing, some_ops, onward, ops_from, list_at, list_size, op_size}
 use Rattle.ir_event.proofs.Facts.{joined_more}
 
 module _ {N T A : Type 0} (t : OpOf N T A) (d : HasDistinctIds t) where
-  -- one that stands somewhere has there what is behind it
+  -- the operations from one on are the operation and those after it in its block
   onward_is : (s : StandOf N T A) → In s (stands [] t) → ops_from (Some (stand_id s)) t ≡ onward s
   onward_is s h = ap (λ o. some_ops (option_map onward o)) (stand_of_member t d s h)
 
-  -- what is left of a list of a block of an operation that stands in the tree
+  -- the rest of a block of an operation in the tree
   left_onward : (p : OpOf N T A) (q : List (StepOf N T A)) (r : ℕ) (args : List T) (front : List (OpOf N T A)) (os : OpsOf N T A) → In (stand p q) (stands [] t) → region_at r (regions p) ≡ Some (block args (joined_ops front os)) → ops_from (first_id os) t ≡ os
   left_onward p q r args front no_ops h e = refl
   left_onward p q r args front (next z zs) h e =
@@ -46,9 +46,9 @@ module _ {N T A : Type 0} (t : OpOf N T A) (d : HasDistinctIds t) where
       go None e = refl
       go (Some o) e = in_region o e (region_at r (regions o)) refl
 
-  -- what is behind an operation
-  behind_onward : (o : OpOf N T A) (q : List (StepOf N T A)) → In (stand o q) (stands [] t) → ops_from (next_of (head o).id t) t ≡ behind q
-  behind_onward o [] h = go (place_of (head o).id t) refl
+  -- the operations after an operation
+  after_onward : (o : OpOf N T A) (q : List (StepOf N T A)) → In (stand o q) (stands [] t) → ops_from (next_of (head o).id t) t ≡ trailing q
+  after_onward o [] h = go (place_of (head o).id t) refl
     where
       go : (place : Option Place) → place_of (head o).id t ≡ place → ops_from (option_and_then (λ p. p.before) place) t ≡ no_ops
       go None e = refl
@@ -58,7 +58,7 @@ module _ {N T A : Type 0} (t : OpOf N T A) (d : HasDistinctIds t) where
           let root : List (StepOf N T A) = [] in
           let bad : place_in root ≡ Some place = ap (λ (z : StandOf N T A). place_in z.path) (sym same) ∙ w.3 in
           absurd cc
-  behind_onward o (a ∷ q) h =
+  after_onward o (a ∷ q) h =
       ap (λ (p : Option Place). ops_from (option_and_then (λ p. p.before) p) t) (place_of_member t d o a q h)
       ∙ left_onward a.parent q a.region a.args (a.front ++ o ∷ []) a.rest (around_there t o a q h).1 (shape t o a q h ∙ ap (λ z. Some (block a.args z)) (joined_more a.front o a.rest))
 
@@ -69,8 +69,8 @@ module _ {N T A : Type 0} (t : OpOf N T A) (d : HasDistinctIds t) where
       go None k h = absurd cc
       go (Some s) k h =
           let m = member x (stands [] t) s k in
-          let rest : behind s.path ≡ os = cc in
-          ap (λ y. ops_from (next_of y t) t) (sym m.1) ∙ behind_onward s.here s.path m.0 ∙ rest
+          let rest : trailing s.path ≡ os = cc in
+          ap (λ y. ops_from (next_of y t) t) (sym m.1) ∙ after_onward s.here s.path m.0 ∙ rest
 
   pub onward_there : (x : ℕ) (o : OpOf N T A) (os : OpsOf N T A) → ops_from (Some x) t ≡ next o os → find x t ≡ Some o
   onward_there x o os e = go (stand_of x t) refl e
@@ -79,7 +79,7 @@ module _ {N T A : Type 0} (t : OpOf N T A) (d : HasDistinctIds t) where
       go None k h = absurd cc
       go (Some s) k h = let one : s.here ≡ o = cc in sym (stands_find x [] t) ∙ ap (option_map (λ (z : StandOf N T A). z.here)) k ∙ ap Some one
 
-  -- a list from one on begins with that one
+  -- the list of a block begins with its first operation
   pub first_starts : (p r : ℕ) → first_id (list_at p r t) ≡ first_at p r t
   first_starts p r = go (ops_at p r t)
     where
@@ -90,7 +90,7 @@ module _ {N T A : Type 0} (t : OpOf N T A) (d : HasDistinctIds t) where
   pub next_starts : (x : ℕ) (o : OpOf N T A) (os : OpsOf N T A) → ops_from (Some x) t ≡ next o os → first_id os ≡ next_of x t
   next_starts x o os e = go (stand_of x t) refl e
     where
-      place : (u : OpOf N T A) (q : List (StepOf N T A)) → In (stand u q) (stands [] t) → first_id (behind q) ≡ next_of (head u).id t
+      place : (u : OpOf N T A) (q : List (StepOf N T A)) → In (stand u q) (stands [] t) → first_id (trailing q) ≡ next_of (head u).id t
       place u [] h = root (place_of (head u).id t) refl
         where
           root : (place : Option Place) → place_of (head u).id t ≡ place → None ≡ option_and_then (λ p. p.before) place
@@ -107,14 +107,14 @@ module _ {N T A : Type 0} (t : OpOf N T A) (d : HasDistinctIds t) where
       go None k h = absurd cc
       go (Some s) k h =
           let m = member x (stands [] t) s k in
-          let rest : behind s.path ≡ os = cc in
+          let rest : trailing s.path ≡ os = cc in
           ap first_id (sym rest) ∙ place s.here s.path m.0 ∙ ap (λ y. next_of y t) m.1
 
   pub starts_with : (x : ℕ) (os : OpsOf N T A) → first_id os ≡ Some x → (o : OpOf N T A) × (rest : OpsOf N T A) × (os ≡ next o rest)
   starts_with x no_ops e = absurd cc
   starts_with x (next o rest) e = (o, rest, refl)
 
-  -- sizes
+  -- sizes of lists
   pub size_next : (o : OpOf N T A) (os : OpsOf N T A) → list_size (next o os) ≡ op_count o + list_size os
   size_next o os = length-append (ids o) (ops_ids os)
 

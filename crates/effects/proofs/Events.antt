@@ -1,4 +1,4 @@
--- A table that follows an event keeps the tree after it.
+-- A table that is updated after an event keeps the tree after it.
 use Rattle.std.proofs.Common.{◌≡◌, ℕ, ◌+◌, List, [], ◌∷◌, ◌++◌, Bool, Option, Some, None, inl, inr, refl, sym, ap, ◌∙◌, subst, arith, eqb, ◌&&◌, ◌||◌}
 use Rattle.std.proofs.lemmas.Bool.{ne_eqb}
 use Rattle.std.specs.List.{IsDistinct}
@@ -12,29 +12,29 @@ use Rattle.ir_event.specs.tree_laws.Changes.{HoldNone, Takes, Shifts}
 use Rattle.effects.specs.declared.kinds.EffectKinds.{EffectKinds}
 use Rattle.op_registry.specs.declared.own.Own.{Own}
 use Rattle.ir_event.specs.tree_laws.Members.{In}
-use Rattle.effects.specs.Spots.{Spot, spots, regions_spots, region_spots, ops_spots, one_if, is_in, weight, Lacks, Childless, Apart, Rows, has_at, Holds}
+use Rattle.effects.specs.Points.{Point, points, regions_points, region_points, ops_points, one_if, is_in, weight, Lacks, Childless, Apart, Rows, has_at, Holds}
 use Rattle.effects.specs.Following.{Whole, PutIn, TakenOut, ShiftedTo}
 use Rattle.ir_event.proofs.of_tree_laws.Listed.{in_left, in_right, in_parts}
-use Rattle.effects.proofs.Spotted.{weight_joined, lacks_joined, lacks_parts, spot_ids, apart_distinct, spots_ids, childless_op}
+use Rattle.effects.proofs.Spotted.{weight_joined, lacks_joined, lacks_parts, point_ids, apart_distinct, points_ids, childless_op}
 use Rattle.effects.proofs.Cuts.{cut}
 use Rattle.std.proofs.lemmas.Option.{same_Some}
 
 -- ---- the same operations in another order
 
-pub record Alike (ns ms : List Spot) : Type 0 where
-  pub there : (n : Spot) → In n ns → In n ms
-  pub back : (n : Spot) → In n ms → In n ns
+pub record Alike (ns ms : List Point) : Type 0 where
+  pub there : (n : Point) → In n ns → In n ms
+  pub back : (n : Point) → In n ms → In n ns
   pub weights : (f : ℕ → Bool) (x : ℕ) → weight f x ns ≡ weight f x ms
 
-lacks_if : (x : ℕ) (ns : List Spot) → ((n : Spot) → In n ns → n.id ≡ x → ⊥) → Lacks x ns
+lacks_if : (x : ℕ) (ns : List Point) → ((n : Point) → In n ns → n.id ≡ x → ⊥) → Lacks x ns
 lacks_if x [] h = tt
 lacks_if x (n ∷ ns) h = (h n (inl refl), lacks_if x ns (λ m a. h m (inr a)))
 
-pub lacks_then : (x : ℕ) (ns : List Spot) (n : Spot) → Lacks x ns → In n ns → n.id ≡ x → ⊥
+pub lacks_then : (x : ℕ) (ns : List Point) (n : Point) → Lacks x ns → In n ns → n.id ≡ x → ⊥
 lacks_then x [] n l a e = absurd a
-lacks_then x (m ∷ ms) n l a e = elim a [ inl eq ↦ l.0 (ap (λ (s : Spot). s.id) (sym eq) ∙ e) | inr b ↦ lacks_then x ms n l.1 b e ]
+lacks_then x (m ∷ ms) n l a e = elim a [ inl eq ↦ l.0 (ap (λ (s : Point). s.id) (sym eq) ∙ e) | inr b ↦ lacks_then x ms n l.1 b e ]
 
-pub holds_alike : (rows : Rows) (ns ms : List Spot) (p : Option ℕ) (more less : EffectKinds) → Alike ns ms → Holds rows ns p more less → Holds rows ms p more less
+pub holds_alike : (rows : Rows) (ns ms : List Point) (p : Option ℕ) (more less : EffectKinds) → Alike ns ms → Holds rows ns p more less → Holds rows ms p more less
 holds_alike rows ns ms p more less s h = record {
   known = λ n a. h.known n (s.back n a);
   only = λ x l. h.only x (lacks_if x ns (λ n a. lacks_then x ms n l (s.there n a)));
@@ -42,20 +42,20 @@ holds_alike rows ns ms p more less s h = record {
   each = λ e n a. h.each e n (s.back n a);
 }
 
-pub alike_sym : (ns ms : List Spot) → Alike ns ms → Alike ms ns
+pub alike_sym : (ns ms : List Point) → Alike ns ms → Alike ms ns
 alike_sym ns ms s = record { there = s.back; back = s.there; weights = λ f x. sym (s.weights f x) }
 
-pub alike_join : (ls ms ns : List Spot) → Alike ls ms → Alike ms ns → Alike ls ns
+pub alike_join : (ls ms ns : List Point) → Alike ls ms → Alike ms ns → Alike ls ns
 alike_join ls ms ns s t = record { there = λ n a. t.there n (s.there n a); back = λ n a. s.back n (t.back n a); weights = λ f x. s.weights f x ∙ t.weights f x }
 
-pub alike_cons : (m : Spot) (ls ns : List Spot) → Alike ls ns → Alike (m ∷ ls) (m ∷ ns)
+pub alike_cons : (m : Point) (ls ns : List Point) → Alike ls ns → Alike (m ∷ ls) (m ∷ ns)
 alike_cons m ls ns s = record {
   there = λ n a. elim a [ inl e ↦ inl e | inr b ↦ inr (s.there n b) ];
   back = λ n a. elim a [ inl e ↦ inl e | inr b ↦ inr (s.back n b) ];
   weights = λ f x. ap (λ w. one_if (is_in x m.parent && f m.id) + w) (s.weights f x);
 }
 
-pub alike_moved : (front mid back : List Spot) → Alike (front ++ (mid ++ back)) (mid ++ (front ++ back))
+pub alike_moved : (front mid back : List Point) → Alike (front ++ (mid ++ back)) (mid ++ (front ++ back))
 alike_moved front mid back = record {
   there = λ n a. elim (in_parts n front (mid ++ back) a) [
     | inl b ↦ in_right n mid (front ++ back) (in_left n front back b)
@@ -68,83 +68,83 @@ alike_moved front mid back = record {
   weights = λ f x. let a = weight_joined f x front (mid ++ back) in let b = weight_joined f x mid back in let d = weight_joined f x mid (front ++ back) in let e = weight_joined f x front back in omega (arith, a, b, d, e);
 }
 
--- ids that are told apart
-apart_less : (front : List Spot) (n : Spot) (back : List Spot) → Apart (front ++ (n ∷ back)) → Apart (front ++ back)
+-- distinct ids
+apart_less : (front : List Point) (n : Point) (back : List Point) → Apart (front ++ (n ∷ back)) → Apart (front ++ back)
 apart_less [] n back d = d.1
 apart_less (f ∷ fs) n back d = let l = lacks_parts f.id fs (n ∷ back) d.0 in (lacks_joined f.id fs back l.0 l.1.1, apart_less fs n back d.1)
 
-lacks_middle : (front : List Spot) (n : Spot) (back : List Spot) → Apart (front ++ (n ∷ back)) → Lacks n.id (front ++ back)
+lacks_middle : (front : List Point) (n : Point) (back : List Point) → Apart (front ++ (n ∷ back)) → Lacks n.id (front ++ back)
 lacks_middle [] n back d = d.0
 lacks_middle (f ∷ fs) n back d = let l = lacks_parts f.id fs (n ∷ back) d.0 in ((λ e. l.1.0 (sym e)), lacks_middle fs n back d.1)
 
-pub apart_first : (front : List Spot) (n : Spot) (back : List Spot) → Apart (front ++ (n ∷ back)) → Apart (n ∷ (front ++ back))
+pub apart_first : (front : List Point) (n : Point) (back : List Point) → Apart (front ++ (n ∷ back)) → Apart (n ∷ (front ++ back))
 apart_first front n back d = (lacks_middle front n back d, apart_less front n back d)
 
-pub absent_lacks : (x : ℕ) (ns : List Spot) → Lacks x ns → Absent x (spot_ids ns)
+pub absent_lacks : (x : ℕ) (ns : List Point) → Lacks x ns → Absent x (point_ids ns)
 absent_lacks x [] l = refl
 absent_lacks x (n ∷ ns) l = λ i. ne_eqb n.id x l.0 i || absent_lacks x ns l.1 i
 
 -- ---- events
 
 module _ {N T A : Type 0} (own : N → Own) where
-  pub apart_spots : (t : OpOf N T A) → HasDistinctIds t → Apart (spots own None t)
-  apart_spots t d = apart_distinct (spots own None t) (subst (IsDistinct eqb) (sym (spots_ids own None t)) d)
+  pub apart_points : (t : OpOf N T A) → HasDistinctIds t → Apart (points own None t)
+  apart_points t d = apart_distinct (points own None t) (subst (IsDistinct eqb) (sym (points_ids own None t)) d)
 
   -- blocks without operations
-  no_spots : (p : ℕ) (rs : RegionsOf N T A) → HoldNone rs → regions_spots own p rs ≡ []
-  no_spots p no_regions h = refl
-  no_spots p (region empty rs) h = no_spots p rs h
-  no_spots p (region (block args no_ops) rs) h = no_spots p rs h
-  no_spots p (region (block args (next o os)) rs) h = absurd h
+  no_points : (p : ℕ) (rs : RegionsOf N T A) → HoldNone rs → regions_points own p rs ≡ []
+  no_points p no_regions h = refl
+  no_points p (region empty rs) h = no_points p rs h
+  no_points p (region (block args no_ops) rs) h = no_points p rs h
+  no_points p (region (block args (next o os)) rs) h = absurd h
 
-  abbrev spot_at : Option ℕ → OpOf N T A → Spot
-  spot_at p o = record { id = (head o).id; parent = p; own = own (head o).name }
+  abbrev point_at : Option ℕ → OpOf N T A → Point
+  point_at p o = record { id = (head o).id; parent = p; own = own (head o).name }
 
-  one_spot : (p : Option ℕ) (o : OpOf N T A) → HoldNone (regions o) → spots own p o ≡ spot_at p o ∷ []
-  one_spot p (op h rs) e = ap (λ l. record { id = h.id; parent = p; own = own h.name } ∷ l) (no_spots h.id rs e)
+  one_point : (p : Option ℕ) (o : OpOf N T A) → HoldNone (regions o) → points own p o ≡ point_at p o ∷ []
+  one_point p (op h rs) e = ap (λ l. record { id = h.id; parent = p; own = own h.name } ∷ l) (no_points h.id rs e)
 
-  abbrev inside : OpOf N T A → List Spot
-  inside o = regions_spots own (head o).id (regions o)
+  abbrev inside : OpOf N T A → List Point
+  inside o = regions_points own (head o).id (regions o)
 
-  spots_are : (p : Option ℕ) (o : OpOf N T A) → spots own p o ≡ spot_at p o ∷ inside o
-  spots_are p (op h rs) = refl
+  points_are : (p : Option ℕ) (o : OpOf N T A) → points own p o ≡ point_at p o ∷ inside o
+  points_are p (op h rs) = refl
 
   pub put_follows : (x : ℕ) (place : Place) (fresh : Bool) (m n : ModuleOf N T A) (a b : Rows) → HasDistinctIds n.tree → Takes x place fresh n m
-      → ((o : OpOf N T A) → find x n.tree ≡ Some o → PutIn x (Some place.parent) (own (head o).name) a b) → Whole a (spots own None m.tree) → Whole b (spots own None n.tree)
+      → ((o : OpOf N T A) → find x n.tree ≡ Some o → PutIn x (Some place.parent) (own (head o).name) a b) → Whole a (points own None m.tree) → Whole b (points own None n.tree)
   put_follows x place fresh m n a b d takes put h =
       let c = cut own x n.tree place d takes.there in
-      let s = spot_at (Some place.parent) c.here in
-      let whole : spots own None n.tree ≡ c.front ++ (s ∷ c.back) = c.was ∙ ap (λ l. c.front ++ (l ++ c.back)) (one_spot (Some place.parent) c.here (takes.empty c.here c.is)) in
-      let left : spots own None m.tree ≡ c.front ++ c.back = ap (spots own None) takes.left ∙ c.rest in
-      let apart = apart_first c.front s c.back (subst Apart whole (apart_spots n.tree d)) in
-      let absent : Absent x (ids m.tree) = subst (Absent x) (ap spot_ids (sym left) ∙ spots_ids own None m.tree) (subst (λ y. Absent y (spot_ids (c.front ++ c.back))) c.id (absent_lacks s.id (c.front ++ c.back) apart.0)) in
+      let s = point_at (Some place.parent) c.here in
+      let whole : points own None n.tree ≡ c.front ++ (s ∷ c.back) = c.was ∙ ap (λ l. c.front ++ (l ++ c.back)) (one_point (Some place.parent) c.here (takes.empty c.here c.is)) in
+      let left : points own None m.tree ≡ c.front ++ c.back = ap (points own None) takes.left ∙ c.rest in
+      let apart = apart_first c.front s c.back (subst Apart whole (apart_points n.tree d)) in
+      let absent : Absent x (ids m.tree) = subst (Absent x) (ap point_ids (sym left) ∙ points_ids own None m.tree) (subst (λ y. Absent y (point_ids (c.front ++ c.back))) c.id (absent_lacks s.id (c.front ++ c.back) apart.0)) in
       let childless : Childless s.id (c.front ++ c.back) = subst (λ y. Childless y (c.front ++ c.back)) (sym c.id) (subst (Childless x) left (childless_op own x None m.tree refl absent)) in
       let now = put c.here c.is s (c.front ++ c.back) c.id refl refl apart childless (subst (Whole a) left h) in
       subst (Whole b) (sym whole) (holds_alike b _ _ None _ _ (alike_sym _ _ (alike_moved c.front (s ∷ []) c.back)) now)
 
-  pub take_follows : (x : ℕ) (place : Place) (fresh : Bool) (m n : ModuleOf N T A) (a b : Rows) → HasDistinctIds m.tree → Takes x place fresh m n → TakenOut x a b → Whole a (spots own None m.tree) → Whole b (spots own None n.tree)
+  pub take_follows : (x : ℕ) (place : Place) (fresh : Bool) (m n : ModuleOf N T A) (a b : Rows) → HasDistinctIds m.tree → Takes x place fresh m n → TakenOut x a b → Whole a (points own None m.tree) → Whole b (points own None n.tree)
   take_follows x place fresh m n a b d takes taken h =
       let c = cut own x m.tree place d takes.there in
-      let s = spot_at (Some place.parent) c.here in
-      let whole : spots own None m.tree ≡ c.front ++ (s ∷ c.back) = c.was ∙ ap (λ l. c.front ++ (l ++ c.back)) (one_spot (Some place.parent) c.here (takes.empty c.here c.is)) in
-      let left : spots own None n.tree ≡ c.front ++ c.back = ap (spots own None) takes.left ∙ c.rest in
-      let apart = apart_first c.front s c.back (subst Apart whole (apart_spots m.tree d)) in
+      let s = point_at (Some place.parent) c.here in
+      let whole : points own None m.tree ≡ c.front ++ (s ∷ c.back) = c.was ∙ ap (λ l. c.front ++ (l ++ c.back)) (one_point (Some place.parent) c.here (takes.empty c.here c.is)) in
+      let left : points own None n.tree ≡ c.front ++ c.back = ap (points own None) takes.left ∙ c.rest in
+      let apart = apart_first c.front s c.back (subst Apart whole (apart_points m.tree d)) in
       let before = holds_alike a _ _ None _ _ (alike_moved c.front (s ∷ []) c.back) (subst (Whole a) whole h) in
       subst (Whole b) (sym left) (taken s (c.front ++ c.back) c.id apart before)
 
   pub shift_follows : (is_table : N → Bool) (x : ℕ) (old new : Place) (m n : ModuleOf N T A) (a b : Rows) → HasDistinctIds m.tree → HasDistinctIds n.tree → Shifts is_table x old new m n → ShiftedTo x (Some new.parent) a b
-      → Whole a (spots own None m.tree) → Whole b (spots own None n.tree)
+      → Whole a (points own None m.tree) → Whole b (points own None n.tree)
   shift_follows is_table x old new m n a b d e shifts shifted h =
       let c = cut own x m.tree old d shifts.was in
       let k = cut own x n.tree new e shifts.is in
       let same : k.here ≡ c.here = same_Some k.here c.here (sym k.is ∙ shifts.same ∙ c.is) in
       let rest = inside c.here in
-      let s = spot_at (Some old.parent) c.here in
-      let t = spot_at (Some new.parent) c.here in
-      let was : spots own None m.tree ≡ c.front ++ (s ∷ (rest ++ c.back)) = c.was ∙ ap (λ l. c.front ++ (l ++ c.back)) (spots_are (Some old.parent) c.here) in
-      let is : spots own None n.tree ≡ k.front ++ (t ∷ (rest ++ k.back)) = k.was ∙ ap (λ o. k.front ++ (spots own (Some new.parent) o ++ k.back)) same ∙ ap (λ l. k.front ++ (l ++ k.back)) (spots_are (Some new.parent) c.here) in
-      let left : c.front ++ c.back ≡ k.front ++ k.back = sym c.rest ∙ ap (spots own None) (sym shifts.rest) ∙ k.rest in
-      let apart = apart_first c.front s (rest ++ c.back) (subst Apart was (apart_spots m.tree d)) in
+      let s = point_at (Some old.parent) c.here in
+      let t = point_at (Some new.parent) c.here in
+      let was : points own None m.tree ≡ c.front ++ (s ∷ (rest ++ c.back)) = c.was ∙ ap (λ l. c.front ++ (l ++ c.back)) (points_are (Some old.parent) c.here) in
+      let is : points own None n.tree ≡ k.front ++ (t ∷ (rest ++ k.back)) = k.was ∙ ap (λ o. k.front ++ (points own (Some new.parent) o ++ k.back)) same ∙ ap (λ l. k.front ++ (l ++ k.back)) (points_are (Some new.parent) c.here) in
+      let left : c.front ++ c.back ≡ k.front ++ k.back = sym c.rest ∙ ap (points own None) (sym shifts.rest) ∙ k.rest in
+      let apart = apart_first c.front s (rest ++ c.back) (subst Apart was (apart_points m.tree d)) in
       let before = holds_alike a _ _ None _ _ (alike_moved c.front (s ∷ []) (rest ++ c.back)) (subst (Whole a) was h) in
       let after = shifted s (c.front ++ (rest ++ c.back)) c.id apart before in
       let others : Alike (c.front ++ (rest ++ c.back)) (k.front ++ (rest ++ k.back)) =
@@ -155,17 +155,17 @@ module _ {N T A : Type 0} (own : N → Own) where
   -- an edit of heads that keeps ids and names
   module _ (f : HeadOf N T A → HeadOf N T A) (id : (h : HeadOf N T A) → (f h).id ≡ h.id) (name : (h : HeadOf N T A) → (f h).name ≡ h.name) where
     mutual
-      pub head_spots : (p : Option ℕ) (t : OpOf N T A) → spots own p (each_head f t) ≡ spots own p t
-      head_spots p (op h rs) = λ i. record { id = id h i; parent = p; own = own (name h i) } ∷ (ap (λ x. regions_spots own x (regions_each_head f rs)) (id h) ∙ regions_head_spots h.id rs) i
+      pub head_points : (p : Option ℕ) (t : OpOf N T A) → points own p (each_head f t) ≡ points own p t
+      head_points p (op h rs) = λ i. record { id = id h i; parent = p; own = own (name h i) } ∷ (ap (λ x. regions_points own x (regions_each_head f rs)) (id h) ∙ regions_head_points h.id rs) i
 
-      regions_head_spots : (p : ℕ) (rs : RegionsOf N T A) → regions_spots own p (regions_each_head f rs) ≡ regions_spots own p rs
-      regions_head_spots p no_regions = refl
-      regions_head_spots p (region r rs) = λ i. region_head_spots p r i ++ regions_head_spots p rs i
+      regions_head_points : (p : ℕ) (rs : RegionsOf N T A) → regions_points own p (regions_each_head f rs) ≡ regions_points own p rs
+      regions_head_points p no_regions = refl
+      regions_head_points p (region r rs) = λ i. region_head_points p r i ++ regions_head_points p rs i
 
-      region_head_spots : (p : ℕ) (r : RegionOf N T A) → region_spots own p (region_each_head f r) ≡ region_spots own p r
-      region_head_spots p empty = refl
-      region_head_spots p (block args os) = ops_head_spots p os
+      region_head_points : (p : ℕ) (r : RegionOf N T A) → region_points own p (region_each_head f r) ≡ region_points own p r
+      region_head_points p empty = refl
+      region_head_points p (block args os) = ops_head_points p os
 
-      ops_head_spots : (p : ℕ) (os : OpsOf N T A) → ops_spots own p (ops_each_head f os) ≡ ops_spots own p os
-      ops_head_spots p no_ops = refl
-      ops_head_spots p (next o os) = λ i. head_spots (Some p) o i ++ ops_head_spots p os i
+      ops_head_points : (p : ℕ) (os : OpsOf N T A) → ops_points own p (ops_each_head f os) ≡ ops_points own p os
+      ops_head_points p no_ops = refl
+      ops_head_points p (next o os) = λ i. head_points (Some p) o i ++ ops_head_points p os i

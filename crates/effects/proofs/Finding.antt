@@ -15,27 +15,27 @@ use Rattle.ir_event.proofs.of_tree_laws.Members.{same_stand, stand, stand_found}
 use Rattle.ir_event.specs.store.Nodes.{Node, node_of}
 use Rattle.ir_event.specs.store.Stored.{Stored}
 use Rattle.op_registry.specs.declared.own.Own.{Own}
-use Rattle.effects.specs.Spots.{Spot, spots}
+use Rattle.effects.specs.Points.{Point, points}
 use Rattle.ir_event.specs.Heads.{heads}
-use Rattle.effects.specs.Found.{head_at, parent_at, with_head, heads_by, with_spot, spots_by}
-use Rattle.effects.proofs.Cuts.{around, spot_in, stand_spots}
+use Rattle.effects.specs.Found.{head_at, parent_at, with_head, heads_by, with_point, points_by}
+use Rattle.effects.proofs.Cuts.{around, point_in, stand_points}
 use Rattle.ir_event.proofs.Flat.{heads_ids}
 use Rattle.effects.proofs.Headed.{head_in, stand_heads}
-use Rattle.effects.proofs.Spotted.{spots_ids}
+use Rattle.effects.proofs.Spotted.{points_ids}
 
--- ---- one in front of others
+-- ---- one more at the front
 
 pub head_joined : (x : ℕ) (o : Option Head) (hs : List Head) → with_head x o hs ≡ with_head x o [] ++ hs
 head_joined x None hs = refl
 head_joined x (Some h) hs = refl
 
-pub spot_joined : (own : ℕ → Own) (x : ℕ) (p : Option ℕ) (o : Option Head) (ns : List Spot) → with_spot own x p o ns ≡ with_spot own x p o [] ++ ns
-spot_joined own x p None ns = refl
-spot_joined own x p (Some h) ns = refl
+pub point_joined : (own : ℕ → Own) (x : ℕ) (p : Option ℕ) (o : Option Head) (ns : List Point) → with_point own x p o ns ≡ with_point own x p o [] ++ ns
+point_joined own x p None ns = refl
+point_joined own x p (Some h) ns = refl
 
--- ---- what stands in a tree
+-- ---- operations of a tree
 
--- what is around an operation is what it stands in
+-- the parent of an operation is the innermost operation on its path
 module _ {N T A : Type 0} (own : N → Own) where
   pub around_is : (t : OpOf N T A) → HasDistinctIds t → (s : StandOf N T A) → In s (stands [] t) → parent_of (stand_id s) t ≡ around own s.path
   around_is t d s m = go s.here s.path m
@@ -52,7 +52,7 @@ module _ {N T A : Type 0} (own : N → Own) where
               let bad : None ≡ Some place = sym (ap (λ (s : StandOf N T A). place_in s.path) same) ∙ u.3 in
               absurd cc
 
--- an operation that is found in a store's module has its head
+-- an operation of a store's module has its head
 shown : (s : Stored) (x : ℕ) (o : Op) → find x s.module_of.tree ≡ Some o → head_at s x ≡ Some (head o)
 shown s x o e = ap (λ q. option_map (λ (n : Node). n.head) (option_map node_of (first_of q (finmap.get s.held x)))) e ∙ own_head o
   where
@@ -75,28 +75,28 @@ heads_found s xs d e = ap (heads_by (head_at s)) (e ∙ sym (heads_ids s.module_
         let w = in_mapped head_in h (stands [] t) (subst (In h) (sym (stand_heads [] t)) m) in
         subst (λ (g : Head). head_at s g.id ≡ Some g) (sym w.2) (shown s (stand_id w.0) w.0.here (stand_found t d w.0 w.1))
 
--- ---- operations with what they stand in
+-- ---- operations with their parents
 
-record Found (own : ℕ → Own) (p : ℕ → Option ℕ) (f : ℕ → Option Head) (n : Spot) : Type 0 where
+record Found (own : ℕ → Own) (p : ℕ → Option ℕ) (f : ℕ → Option Head) (n : Point) : Type 0 where
   here : Head
   is : f n.id ≡ Some here
   owns : own here.name ≡ n.own
   parent : p n.id ≡ n.parent
 
-along_spots : (own : ℕ → Own) (p : ℕ → Option ℕ) (f : ℕ → Option Head) (ns : List Spot) → ((n : Spot) → In n ns → Found own p f n) → spots_by own p f (map (λ (n : Spot). n.id) ns) ≡ ns
-along_spots own p f [] k = refl
-along_spots own p f (n ∷ ns) k =
+along_points : (own : ℕ → Own) (p : ℕ → Option ℕ) (f : ℕ → Option Head) (ns : List Point) → ((n : Point) → In n ns → Found own p f n) → points_by own p f (map (λ (n : Point). n.id) ns) ≡ ns
+along_points own p f [] k = refl
+along_points own p f (n ∷ ns) k =
     let w = k n (inl refl) in
-    (λ i. with_spot own n.id (w.parent i) (w.is i) (along_spots own p f ns (λ m h. k m (inr h)) i)) ∙ ap (λ o. record { id = n.id; parent = n.parent; own = o } ∷ ns) w.owns
+    (λ i. with_point own n.id (w.parent i) (w.is i) (along_points own p f ns (λ m h. k m (inr h)) i)) ∙ ap (λ o. record { id = n.id; parent = n.parent; own = o } ∷ ns) w.owns
 
 -- those of a store's module
-pub spots_found : (own : ℕ → Own) (s : Stored) (xs : List ℕ) → HasDistinctIds s.module_of.tree → xs ≡ ids s.module_of.tree → spots_by own (parent_at s) (head_at s) xs ≡ spots own None s.module_of.tree
-spots_found own s xs d e =
-    ap (spots_by own (parent_at s) (head_at s)) (e ∙ sym (spots_ids own None s.module_of.tree)) ∙ along_spots own (parent_at s) (head_at s) (spots own None s.module_of.tree) there
+pub points_found : (own : ℕ → Own) (s : Stored) (xs : List ℕ) → HasDistinctIds s.module_of.tree → xs ≡ ids s.module_of.tree → points_by own (parent_at s) (head_at s) xs ≡ points own None s.module_of.tree
+points_found own s xs d e =
+    ap (points_by own (parent_at s) (head_at s)) (e ∙ sym (points_ids own None s.module_of.tree)) ∙ along_points own (parent_at s) (head_at s) (points own None s.module_of.tree) there
   where
-    there : (n : Spot) → In n (spots own None s.module_of.tree) → Found own (parent_at s) (head_at s) n
+    there : (n : Point) → In n (points own None s.module_of.tree) → Found own (parent_at s) (head_at s) n
     there n m =
         let t = s.module_of.tree in
-        let w = in_mapped (spot_in own) n (stands [] t) (subst (In n) (sym (stand_spots own [] t)) m) in
+        let w = in_mapped (point_in own) n (stands [] t) (subst (In n) (sym (stand_points own [] t)) m) in
         subst (Found own (parent_at s) (head_at s)) (sym w.2)
         record { here = head w.0.here; is = shown s (stand_id w.0) w.0.here (stand_found t d w.0 w.1); owns = refl; parent = around_is own t d w.0 w.1 }

@@ -1,9 +1,9 @@
--- A table of counts that follows an event counts the tree after it.
+-- A table of counts that is updated after an event counts the tree after it.
 use Rattle.std.proofs.Common.{◌≡◌, ℕ, ◌+◌, List, [], ◌∷◌, ◌++◌, Bool, true, false, true≢false, ◌⊎◌, inl, inr, ◌||◌, Option, Some, None, refl, sym, ap, ◌∙◌, subst, eqb, slice_get, map}
 use Rattle.std.specs.Prelude.{option_map, option_and_then, not}
 use Rattle.std.specs.Bool.{OnTrue}
 use Rattle.std.specs.List.{IsDistinct}
-use Rattle.ir_event.specs.types.Things.{Things}
+use Rattle.ir_event.specs.types.Things.{ContextModel}
 use Rattle.ir_event.specs.types.Terms.{TypeTerm, AttrTerm, name_term, type_term, attr_term}
 use Rattle.ir_event.specs.types.Words.{is_table}
 use Rattle.ir_event.specs.trees.declared.value.Value.{Value}
@@ -27,7 +27,7 @@ use Rattle.effects.proofs.Agreed.{ShowsAll}
 use Rattle.ir_event.specs.Step.{Step}
 use Rattle.ir_event.specs.Bounds.{op_of}
 use Rattle.effects.proofs.Changes.{on_true_is}
-use Rattle.effects.specs.Spots.{one_if}
+use Rattle.effects.specs.Points.{one_if}
 use Rattle.effects.specs.Dead.{stays}
 use Rattle.ir_event.specs.Heads.{heads, regions_heads, all_operands}
 use Rattle.effects.specs.Counts.{Counts, results_among, Counted, Raised, AllEntered, EnteredWith, LeftWith, Exchanged, CountsFollowed, kept_by}
@@ -51,7 +51,7 @@ module _ {N T A : Type 0} where
   one_head : (o : OpOf N T A) → HoldNone (regions o) → heads o ≡ head o ∷ []
   one_head (op h rs) e = ap (λ l. h ∷ l) (no_heads rs e)
 
-  -- the head of the operation that has an operand is one of the heads
+  -- the head of the operation with the operand is one of the heads
   pub record Holder (x k : ℕ) (old : Value) (t : OpOf N T A) : Type 0 where
     pub here : HeadOf N T A
     pub there : In here (heads t)
@@ -73,7 +73,7 @@ module _ {N T A : Type 0} where
           }
 
 module _ (t : Operation) where
-  -- a table counts a tree where it counts its heads
+  -- a table that counts the heads of a tree counts the tree
   counts_heads : (x : ℕ) → option_map (λ (o : Operation). results_among x (all_operands (heads t)) + one_if (stays (head o).name)) (find x t) ≡ tallied stays (heads t) x
   counts_heads x =
       twice (find x t)
@@ -142,7 +142,7 @@ shift_counts is_table x old new m n a b d e shifts same was =
 pub node_head : (o : Operation) → (node_of o).head ≡ head o
 node_head (op h rs) = refl
 
-pub followed_counts : (c : Things) (e : Event) (m n : Module) (shown : ℕ → Option Node) (a b : Counts) → Step c e m n → ShowsAll shown n → ShowsTaken e m shown → CountsFollowed shown e a b → Counted a m.tree → Counted b n.tree
+pub followed_counts : (c : ContextModel) (e : Event) (m n : Module) (shown : ℕ → Option Node) (a b : Counts) → Step c e m n → ShowsAll shown n → ShowsTaken e m shown → CountsFollowed shown e a b → Counted a m.tree → Counted b n.tree
 followed_counts c (Put x place fresh) m n shown a b s all taken f was =
     put_counts x place fresh m n a b s.after.distinct s.changes (λ o there. subst (λ (h : HeadOf (List ℕ) TypeTerm AttrTerm). EnteredWith x (stays h.name) h.operands a b) (node_head o) (f (node_of o) (all x o there))) was
 followed_counts c (Take x place fresh) m n shown a b s all taken f was =
@@ -158,23 +158,23 @@ followed_counts c (SetEntry x part key old new) m n shown a b s all taken f was 
     ∙ ap (λ l. tallied stays l y) (sym after))
 followed_counts c (Shift x old new) m n shown a b s all taken f was = shift_counts is_table x old new m n a b s.before.distinct s.after.distinct s.changes f was
 
--- a table that was made for a tree of numbers counts what it stands for
-pub begun_counts : (c : Things) (t : Op) (a m b : Counts) → HasDistinctIds t → ((y : ℕ) → a y ≡ None) → AllEntered (kept_by c) (heads t) a m → Raised (all_operands (heads t)) m b → Counted b (meaning c t)
+-- a table built for a tree of numbers counts the tree of terms
+pub begun_counts : (c : ContextModel) (t : Op) (a m b : Counts) → HasDistinctIds t → ((y : ℕ) → a y ≡ None) → AllEntered (kept_by c) (heads t) a m → Raised (all_operands (heads t)) m b → Counted b (meaning c t)
 begun_counts c t a m b d vacant entered raised =
     counted_heads (meaning c t) b (λ y. begun_tally (kept_by c) (heads t) a m b (different (kept_by c) t d) vacant entered raised y
     ∙ sym (mapped_tally (name_term c) (type_term c) (attr_term c) stays (heads t) y)
     ∙ ap (λ l. tallied stays l y) (sym (mapped_heads (name_term c) (type_term c) (attr_term c) t)))
 
--- an operation that is taken is shown
-taken_shown : (c : Things) (e : Event) (m n : Module) (shown : ℕ → Option Node) → is_take e ≡ true → Step c e m n → ShowsTaken e m shown → (k : Node) × (shown (op_of e) ≡ Some k)
+-- the view shows a removed operation
+taken_shown : (c : ContextModel) (e : Event) (m n : Module) (shown : ℕ → Option Node) → is_take e ≡ true → Step c e m n → ShowsTaken e m shown → (k : Node) × (shown (op_of e) ≡ Some k)
 taken_shown c (Put x place fresh) m n shown take s taken = absurd (true≢false (sym take))
 taken_shown c (Take x place fresh) m n shown take s taken = let cut = cut_heads x m.tree place s.before.distinct s.changes.there in (node_of cut.here, taken ∙ ap (option_map node_of) cut.is)
 taken_shown c (SetOperand x k old new) m n shown take s taken = absurd (true≢false (sym take))
 taken_shown c (SetEntry x part key old new) m n shown take s taken = absurd (true≢false (sym take))
 taken_shown c (Shift x old new) m n shown take s taken = absurd (true≢false (sym take))
 
--- what became of the counts, beside a listener that agrees or is stale
-module _ (c : Things) (e : Event) (m n : Module) (shown : ℕ → Option Node) (a b : Counts) (step : Step c e m n) (all : ShowsAll shown n) (taken : ShowsTaken e m shown) (was : Counted a m.tree) (E : Type 0) (stale followed : Bool)
+-- the counts after the event, for a listener that agrees or is stale
+module _ (c : ContextModel) (e : Event) (m n : Module) (shown : ℕ → Option Node) (a b : Counts) (step : Step c e m n) (all : ShowsAll shown n) (taken : ShowsTaken e m shown) (was : Counted a m.tree) (E : Type 0) (stale followed : Bool)
     (counts : OnTrue followed (CountsFollowed shown e a b)) (fresh : E → stale ≡ false) where
   pub both_followed : E ⊎ (stale ≡ true) → (((stale || not followed) ≡ false) × (E × Counted b n.tree)) ⊎ ((stale || not followed) ≡ true)
   both_followed (inr s) = inr (ap (λ b. b || not followed) s)
@@ -184,7 +184,7 @@ module _ (c : Things) (e : Event) (m n : Module) (shown : ℕ → Option Node) (
       go true is = inl ((λ i. fresh h i || not (is i)), (h, followed_counts c e m n shown a b step all taken (on_true_is followed _ is counts) was))
       go false is = inr (λ i. fresh h i || not (is i))
 
-  -- a Take is always followed
+  -- the table is always updated after a `Take`
   pub take_followed : ((k : Node) → is_take e ≡ true → shown (op_of e) ≡ Some k → followed ≡ true) → is_take e ≡ true → E → ((stale || not followed) ≡ false) × (E × Counted b n.tree)
   take_followed shows take h =
       let k = taken_shown c e m n shown take step taken in

@@ -1,4 +1,4 @@
--- The heads of a tree in a list, as the tree changes.
+-- The list of a tree's heads, as the tree changes.
 use Rattle.std.proofs.Common.{◌≡◌, ℕ, ◌+◌, List, [], ◌∷◌, ◌++◌, Bool, true, false, true≢false, Option, Some, refl, sym, ap, ◌∙◌, subst, cond, eqb, eq-eqb, ◌&&◌, map, arith, inl, inr}
 use Rattle.std.specs.Prelude.{nat_lt, not}
 use Rattle.std.specs.List.{list_all}
@@ -22,7 +22,7 @@ use Rattle.ir_event.proofs.of_tree_laws.Members.{stand, stand_found}
 use Rattle.ir_event.proofs.of_tree_laws.Around.{member_of_place}
 use Rattle.ir_event.proofs.of_tree_laws.Without.{same_head}
 use Rattle.ir_event.proofs.of_tree_laws.Stretches.{part}
-use Rattle.effects.specs.Spots.{one_if}
+use Rattle.effects.specs.Points.{one_if}
 use Rattle.effects.specs.Dead.{is_result_of, is_unused}
 use Rattle.ir_event.specs.Heads.{heads, regions_heads, region_heads, ops_heads, all_operands}
 use Rattle.effects.specs.Counts.{results_among}
@@ -30,8 +30,8 @@ use Rattle.effects.specs.Reports.{of_each}
 use Rattle.effects.proofs.Shown.{says}
 use Rattle.ir_event.proofs.of_trees.Replaced.{same_value_refl}
 
--- the operation that is found stands at a place; the heads are its own and those inside it between a front and a
--- back, and what is left is these two
+-- the operation is found; its head and the heads of its subtree are in the list between `front` and `back`, and these
+-- two are the list without them
 pub record HeadCut {N T A : Type 0} (x : ℕ) (found : Option (OpOf N T A)) (whole left : List (HeadOf N T A)) : Type 0 where
   pub here : OpOf N T A
   pub is : found ≡ Some here
@@ -41,7 +41,7 @@ pub record HeadCut {N T A : Type 0} (x : ℕ) (found : Option (OpOf N T A)) (who
   pub was : whole ≡ front ++ (heads here ++ back)
   pub rest : left ≡ front ++ back
 
--- each head's id, with what is said of the head
+-- each head's id, with the value of a function of the head
 abbrev pub tagged : {N T A V : Type 0} → (HeadOf N T A → V) → List (HeadOf N T A) → List (ℕ × V)
 tagged k [] = []
 tagged k (h ∷ hs) = (h.id, k h) ∷ tagged k hs
@@ -94,7 +94,7 @@ module _ {N T A : Type 0} where
             rest = sym (stand_heads [] (without (head o).id t)) ∙ ap (map head_in) w.left ∙ left_heads (head o).id (w.front ++ w.back) ∙ map-append head_in w.front w.back;
           }
 
-  -- what is said of each operation by its head
+  -- the value of each operation is that of its head
   tagged_in : {V : Type 0} (k : HeadOf N T A → V) (ss : List (StandOf N T A)) → tagged k (map head_in ss) ≡ map (says (λ (o : OpOf N T A). k (head o))) ss
   tagged_in k [] = refl
   tagged_in k (s ∷ ss) = ap (λ l. (stand_id s, k (head s.here)) ∷ l) (tagged_in k ss)
@@ -102,7 +102,7 @@ module _ {N T A : Type 0} where
   pub heads_tagged : {V : Type 0} (k : HeadOf N T A → V) (t : OpOf N T A) → tagged k (heads t) ≡ of_each (λ o. k (head o)) t
   heads_tagged k t = ap (tagged k) (sym (stand_heads [] t)) ∙ tagged_in k (stands [] t)
 
-  -- values that nobody uses
+  -- values without uses
   used_in : (v : Value) (ss : List (StandOf N T A)) → gather (λ (h : HeadOf N T A). operand_uses v h.id 0 h.operands) (map head_in ss) ≡ gather (λ s. operand_uses v (stand_id s) 0 (head s.here).operands) ss
   used_in v [] = refl
   used_in v (s ∷ ss) = ap (λ l. operand_uses v (stand_id s) 0 (head s.here).operands ++ l) (used_in v ss)
@@ -126,7 +126,7 @@ owned : (x : ℕ) (v : Value) → is_result_of x v ≡ true → eqb (owner_of v)
 owned x (Result y k) e = e
 owned x (Arg y r k) e = absurd (true≢false (sym e))
 
--- operands none of which is a value of x
+-- operands that aren't results of x
 none_used : (x user k : ℕ) (vs : List Value) → ((v : Value) → eqb (owner_of v).0 x ≡ true → operand_uses v user k vs ≡ []) → results_among x vs ≡ 0
 none_used x user k [] h = refl
 none_used x user k (v ∷ vs) h = go (is_result_of x v) refl (none_used x user (k + 1) vs (λ w o. later w (same_value w v) (h w o)))

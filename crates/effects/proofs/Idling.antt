@@ -1,4 +1,4 @@
--- Effects that nobody would miss, as a walk comes to them.
+-- Effects that are only allocations and reads, along a walk.
 use Rattle.std.proofs.Common.{◌≡◌, refl, ap, sym, ◌∙◌, ℕ, zero, suc, ◌+◌, ◌*◌, ◌<◌, ◌≤◌, if◌then◌else◌, Bool, true, false, ◌&&◌, ◌||◌, not, Option, Some, None, option_map, arith}
 use Rattle.std.specs.Prelude.{option_and_then}
 use Rattle.ir_event.specs.trees.Tree.{OpOf, op, OpsOf, next, RegionsOf, no_regions, region, RegionOf, empty, block, head, regions, region_count}
@@ -14,7 +14,7 @@ use Rattle.effects.specs.Idle.{idle_in, idle_at, idle_ops, idle_regions}
 use Rattle.effects.specs.Within.{some_ops, ops_from, list_at, regions_of, regions_from, list_size, op_size}
 use Rattle.effects.proofs.Down.{onward_there, next_onward, first_onward, first_starts, next_starts, starts_with, size_next, some_size, list_smaller}
 
--- two sets together
+-- the union of two sets
 both_go : (a b : EffectKinds) → may_go (union a b) ≡ (may_go a && may_go b)
 both_go a b = go a.unknown a.free a.write b.unknown b.free b.write
   where
@@ -28,7 +28,7 @@ both_go a b = go a.unknown a.free a.write b.unknown b.free b.write
     go false false false v g x = refl
 
 module _ {N T A : Type 0} (own : N → Own) where
-  -- regions, one after another
+  -- regions in order
   from_start : (rs : RegionsOf N T A) → regions_from 0 rs ≡ rs
   from_start no_regions = refl
   from_start (region g rs) = refl
@@ -59,7 +59,7 @@ module _ {N T A : Type 0} (own : N → Own) where
       ap (λ r. may_go (regions_effects own r)) (from_start rs)
       ∙ sym (ap (λ v. may_go (if is_recursive v then regions_effects own rs else own_kinds v)) (sym e) ∙ ap (λ b. may_go (if b then regions_effects own rs else own_kinds w)) f)
 
-  -- an operation with what is inside it
+  -- an operation with its subtree
   module _ (x : ℕ) (t : OpOf N T A) where
     pub none_idle : (f : OpOf N T A → Own) → None ≡ option_map f (find x t) → true ≡ idle_at own x t
     none_idle f e = go (find x t) e
@@ -105,7 +105,7 @@ module _ {N T A : Type 0} (own : N → Own) where
         go None i j = absurd cc
         go (Some o) i j = let l = list_smaller t d x k o i in omega (arith, l)
 
-  -- a list, one operation after another
+  -- a list, operation by operation
   module _ (t : OpOf N T A) (d : HasDistinctIds t) where
     idle_on : (x : ℕ) (o : OpOf N T A) (os : OpsOf N T A) → ops_from (Some x) t ≡ next o os → idle_ops own (ops_from (Some x) t) ≡ (idle_at own x t && idle_ops own (ops_from (next_of x t) t))
     idle_on x o os e =
@@ -122,7 +122,7 @@ module _ {N T A : Type 0} (own : N → Own) where
         let size = ap list_size all in
         (ap (idle_ops own) all, ap first_id all ∙ first_starts t d p r ∙ sym e, omega (arith, size))
 
-    -- where one is left
+    -- the walk at an operation
     module _ (p r x : ℕ) (a : Option ℕ) (is : a ≡ Some x) (w : Walking p r a) where
       here : (o : OpOf N T A) × (os : OpsOf N T A) × (ops_from (Some x) t ≡ next o os)
       here = starts_with t d x (ops_from (Some x) t) (ap (λ z. first_id (ops_from z t)) (sym is) ∙ w.1 ∙ is)

@@ -1,4 +1,4 @@
--- A table that is right at each operation has the effects of each.
+-- A table that is right at each operation has the effects of each operation.
 use Rattle.std.proofs.Common.{◌≡◌, ℕ, ◌+◌, List, [], ◌∷◌, ◌++◌, Bool, true, false, Option, Some, None, inl, inr, refl, sym, ap, ◌∙◌, arith, cond, eqb, ◌&&◌, ◌||◌}
 use Rattle.std.specs.Prelude.{nat_lt}
 use Rattle.std.proofs.lemmas.Bool.{eq-eqb, cases_eq, or_parts}
@@ -11,7 +11,7 @@ use Rattle.ir_event.proofs.of_trees.Returns.{Present, halves, differ, absent_fir
 use Rattle.effects.specs.declared.kinds.EffectKinds.{EffectKinds}
 use Rattle.op_registry.specs.declared.own.Own.{Own}
 use Rattle.effects.specs.Effects.{Effect, unknown, allocate, free, read, write, has, union, effects_by, effects, regions_effects, region_effects, ops_effects, own_kinds, is_recursive}
-use Rattle.effects.specs.Spots.{Spot, spots, regions_spots, region_spots, ops_spots, one_if, is_in, weight, Childless, given}
+use Rattle.effects.specs.Points.{Point, points, regions_points, region_points, ops_points, one_if, is_in, weight, Childless, given}
 use Rattle.effects.proofs.Tables.{has_none, weight_childless}
 use Rattle.effects.proofs.Spotted.{present_left, present_right, flipped, weight_joined, childless_op, childless_regions, childless_region, childless_ops}
 use Rattle.ir_event.proofs.of_tree_laws.Listed.{or_right}
@@ -70,76 +70,76 @@ present_first x xs = ap (λ b. b || list_any (λ y. eqb y x) xs) (eq-eqb x x ref
 
 module _ (e : Effect) (f : ℕ → Bool) (c : ℕ → ℕ) where
   -- each operation has the effect by its count
-  abbrev pub Each : List Spot → Type 0
-  Each ns = AllByRecursion (λ (n : Spot). f n.id ≡ given e n.own (c n.id)) ns
+  abbrev pub Each : List Point → Type 0
+  Each ns = AllByRecursion (λ (n : Point). f n.id ≡ given e n.own (c n.id)) ns
 
   -- the counts are those of a list
-  abbrev pub Counted : List ℕ → List Spot → Type 0
+  abbrev pub Counted : List ℕ → List Point → Type 0
   Counted xs ns = (x : ℕ) → Present x xs → c x ≡ weight f x ns
 
   abbrev pub Says : List (ℕ × EffectKinds) → Type 0
   Says ls = AllByRecursion (λ (l : ℕ × EffectKinds). f l.0 ≡ has e l.1) ls
 
-  front_counted : (xs ys : List ℕ) (ms ns : List Spot) → ((x : ℕ) → Present x xs → Childless x ns) → Counted (xs ++ ys) (ms ++ ns) → Counted xs ms
+  front_counted : (xs ys : List ℕ) (ms ns : List Point) → ((x : ℕ) → Present x xs → Childless x ns) → Counted (xs ++ ys) (ms ++ ns) → Counted xs ms
   front_counted xs ys ms ns h k x p =
       let a = k x (present_left x xs ys p) in let b = weight_joined f x ms ns in let z = weight_childless f x ns (h x p) in omega (arith, a, b, z)
 
-  back_counted : (xs ys : List ℕ) (ms ns : List Spot) → ((x : ℕ) → Present x ys → Childless x ms) → Counted (xs ++ ys) (ms ++ ns) → Counted ys ns
+  back_counted : (xs ys : List ℕ) (ms ns : List Point) → ((x : ℕ) → Present x ys → Childless x ms) → Counted (xs ++ ys) (ms ++ ns) → Counted ys ns
   back_counted xs ys ms ns h k x p =
       let a = k x (present_right x xs ys p) in let b = weight_joined f x ms ns in let z = weight_childless f x ms (h x p) in omega (arith, a, b, z)
 
   module _ {N T A : Type 0} (own : N → Own) where
-    -- what is inside an operation, and then the operation
-    inside_counted : (p : Option ℕ) (h : HeadOf N T A) (rs : RegionsOf N T A) → ((x : ℕ) → Present x (ids (op h rs)) → is_in x p ≡ false) → Counted (ids (op h rs)) (spots own p (op h rs)) → Counted (regions_ids rs) (regions_spots own h.id rs)
+    -- the subtree of an operation, and then the operation
+    inside_counted : (p : Option ℕ) (h : HeadOf N T A) (rs : RegionsOf N T A) → ((x : ℕ) → Present x (ids (op h rs)) → is_in x p ≡ false) → Counted (ids (op h rs)) (points own p (op h rs)) → Counted (regions_ids rs) (regions_points own h.id rs)
     inside_counted p h rs apart counted x q =
         let r : Present x (ids (op h rs)) = or_right (eqb h.id x) _ q in
         let z : one_if (is_in x p && f h.id) ≡ 0 = ap (λ b. one_if (b && f h.id)) (apart x r) in
         let k = counted x r in
         omega (arith, z, k)
 
-    law_around : (p : Option ℕ) (h : HeadOf N T A) (rs : RegionsOf N T A) → ((x : ℕ) → Present x (ids (op h rs)) → is_in x p ≡ false) → Each (spots own p (op h rs)) → Counted (ids (op h rs)) (spots own p (op h rs))
-        → (nat_lt 0 (weight f h.id (regions_spots own h.id rs)) ≡ has e (regions_effects own rs)) × Says (regions_listed own rs)
+    law_around : (p : Option ℕ) (h : HeadOf N T A) (rs : RegionsOf N T A) → ((x : ℕ) → Present x (ids (op h rs)) → is_in x p ≡ false) → Each (points own p (op h rs)) → Counted (ids (op h rs)) (points own p (op h rs))
+        → (nat_lt 0 (weight f h.id (regions_points own h.id rs)) ≡ has e (regions_effects own rs)) × Says (regions_listed own rs)
         → (f h.id ≡ has e (effects own (op h rs))) × Says (listed own (op h rs))
     law_around p h rs apart each counted inner =
         let here : Present h.id (ids (op h rs)) = present_first h.id (regions_ids rs) in
         let z : one_if (is_in h.id p && f h.id) ≡ 0 = ap (λ b. one_if (b && f h.id)) (apart h.id here) in
         let k = counted h.id here in
-        let count : c h.id ≡ weight f h.id (regions_spots own h.id rs) = omega (arith, z, k) in
+        let count : c h.id ≡ weight f h.id (regions_points own h.id rs) = omega (arith, z, k) in
         let says : f h.id ≡ has e (effects own (op h rs)) = each.0 ∙ ap (given e (own h.name)) count ∙ given_effects e (own h.name) _ (regions_effects own rs) inner.0 in
         (says, (says, inner.1))
 
     mutual
-      law_regions : (p : ℕ) (rs : RegionsOf N T A) → IsDistinct eqb (regions_ids rs) → Absent p (regions_ids rs) → Each (regions_spots own p rs) → Counted (regions_ids rs) (regions_spots own p rs)
-          → (nat_lt 0 (weight f p (regions_spots own p rs)) ≡ has e (regions_effects own rs)) × Says (regions_listed own rs)
+      law_regions : (p : ℕ) (rs : RegionsOf N T A) → IsDistinct eqb (regions_ids rs) → Absent p (regions_ids rs) → Each (regions_points own p rs) → Counted (regions_ids rs) (regions_points own p rs)
+          → (nat_lt 0 (weight f p (regions_points own p rs)) ≡ has e (regions_effects own rs)) × Says (regions_listed own rs)
       law_regions p no_regions d a each counted = (sym (has_none e), tt)
       law_regions p (region r rs) d a each counted =
           let half = halves (region_ids r) (regions_ids rs) d in
           let b = absent_parts p (region_ids r) (regions_ids rs) a in
           let xs = region_ids r in
           let ys = regions_ids rs in
-          let ms = region_spots own p r in
-          let ns = regions_spots own p rs in
+          let ms = region_points own p r in
+          let ns = regions_points own p rs in
           let first = law_region p r half.left b.0 (all_front _ ms ns each) (front_counted xs ys ms ns (λ x q. childless_regions own x p rs (differ p x xs b.0 q) (half.disjoint x q)) counted) in
           let rest = law_regions p rs half.right b.1 (all_back _ ms ns each) (back_counted xs ys ms ns (λ x q. childless_region own x p r (differ p x ys b.1 q) (flipped xs ys half x q)) counted) in (
             ap (nat_lt 0) (weight_joined f p ms ns) ∙ some_of_sum (weight f p ms) (weight f p ns) ∙ (λ i. first.0 i || rest.0 i) ∙ sym (has_union e (region_effects own r) (regions_effects own rs)),
             all_joined _ (region_listed own r) (regions_listed own rs) first.1 rest.1,
           )
 
-      law_region : (p : ℕ) (r : RegionOf N T A) → IsDistinct eqb (region_ids r) → Absent p (region_ids r) → Each (region_spots own p r) → Counted (region_ids r) (region_spots own p r)
-          → (nat_lt 0 (weight f p (region_spots own p r)) ≡ has e (region_effects own r)) × Says (region_listed own r)
+      law_region : (p : ℕ) (r : RegionOf N T A) → IsDistinct eqb (region_ids r) → Absent p (region_ids r) → Each (region_points own p r) → Counted (region_ids r) (region_points own p r)
+          → (nat_lt 0 (weight f p (region_points own p r)) ≡ has e (region_effects own r)) × Says (region_listed own r)
       law_region p empty d a each counted = (sym (has_none e), tt)
       law_region p (block args os) d a each counted = law_ops p os d a each counted
 
-      law_ops : (p : ℕ) (os : OpsOf N T A) → IsDistinct eqb (ops_ids os) → Absent p (ops_ids os) → Each (ops_spots own p os) → Counted (ops_ids os) (ops_spots own p os)
-          → (nat_lt 0 (weight f p (ops_spots own p os)) ≡ has e (ops_effects own os)) × Says (ops_listed own os)
+      law_ops : (p : ℕ) (os : OpsOf N T A) → IsDistinct eqb (ops_ids os) → Absent p (ops_ids os) → Each (ops_points own p os) → Counted (ops_ids os) (ops_points own p os)
+          → (nat_lt 0 (weight f p (ops_points own p os)) ≡ has e (ops_effects own os)) × Says (ops_listed own os)
       law_ops p no_ops d a each counted = (sym (has_none e), tt)
       law_ops p (next (op h rs) os) d a each counted =
           let half = halves (ids (op h rs)) (ops_ids os) d in
           let b = absent_parts p (ids (op h rs)) (ops_ids os) a in
           let xs = ids (op h rs) in
           let ys = ops_ids os in
-          let ms = spots own (Some p) (op h rs) in
-          let ns = ops_spots own p os in
+          let ms = points own (Some p) (op h rs) in
+          let ns = ops_points own p os in
           let first = (let mine = all_front _ ms ns each in
           let counts = front_counted xs ys ms ns (λ x q. childless_ops own x p os (differ p x xs b.0 q) (half.disjoint x q)) counted in
           let apart : (x : ℕ) → Present x xs → is_in x (Some p) ≡ false = λ x q. differ p x xs b.0 q in
@@ -147,14 +147,14 @@ module _ (e : Effect) (f : ℕ → Bool) (c : ℕ → ℕ) where
           let rest = law_ops p os half.right b.1 (all_back _ ms ns each) (back_counted xs ys ms ns (λ x q. childless_op own x (Some p) (op h rs) (differ p x ys b.1 q) (flipped xs ys half x q)) counted) in
           let inside = or_parts _ _ b.0 in
           let one : weight f p ms ≡ one_if (f h.id) =
-          (let z = weight_childless f p (regions_spots own h.id rs) (childless_regions own p h.id rs inside.0 inside.1) in
+          (let z = weight_childless f p (regions_points own h.id rs) (childless_regions own p h.id rs inside.0 inside.1) in
           let t : one_if (eqb p p && f h.id) ≡ one_if (f h.id) = ap (λ b. one_if (b && f h.id)) (eq-eqb p p refl) in
           omega (arith, z, t)) in (
             ap (nat_lt 0) (weight_joined f p ms ns) ∙ some_of_sum (weight f p ms) (weight f p ns) ∙ (λ i. (ap (nat_lt 0) one ∙ one_counts (f h.id) ∙ first.0) i || rest.0 i) ∙ sym (has_union e (effects own (op h rs)) (ops_effects own os)),
             all_joined _ (listed own (op h rs)) (ops_listed own os) first.1 rest.1,
           )
 
-    -- a list of operations that is a whole tree's: what is right at each is the analysis
-    pub law : (t : OpOf N T A) → IsDistinct eqb (ids t) → Each (spots own None t) → Counted (ids t) (spots own None t) → Says (listed own t)
+    -- for the list of a whole tree, a table that is right at each operation has the effects of the analysis
+    pub law : (t : OpOf N T A) → IsDistinct eqb (ids t) → Each (points own None t) → Counted (ids t) (points own None t) → Says (listed own t)
     law (op h rs) d each counted =
         (law_around None h rs (λ x q. refl) each counted (law_regions h.id rs (IsDistinct-tail eqb h.id (regions_ids rs) d) (absent_first h.id (regions_ids rs) d) each.1 (inside_counted None h rs (λ x q. refl) counted))).1

@@ -1,8 +1,8 @@
--- The set of those of whose entry something is true follows a table.
+-- The set of operations whose entry passes a test, as the table changes.
 use Rattle.std.proofs.Common.{◌≡◌, ℕ, ◌*◌, ◌<◌, ◌≤◌, List, length, Bool, true, false, Option, Some, None, refl, sym, ap, ◌∙◌, subst, arith, cond, eqb, inl, inr, ltb-true}
 use Rattle.std.specs.Prelude.{nat_lt, IsSome}
 use Rattle.std.proofs.lemmas.Bool.{lt-ltb, eq-eqb, ne_eqb, cases_eq}
-use Rattle.bit_set.specs.Bits.{has, has_with}
+use Rattle.listeners_support.specs.Bits.{has, has_with}
 use Rattle.effects.specs.Marks.{AreMarked, HasRoom}
 
 module _ {V : Type 0} (f g : ℕ → Option V) (set new : List ℕ) (x : ℕ) (n : Option V) (is : (y : ℕ) → g y ≡ cond (eqb x y) n (f y)) where
@@ -23,7 +23,7 @@ module _ {V : Type 0} (f g : ℕ → Option V) (set new : List ℕ) (x : ℕ) (n
     | inr ne ↦ let same : g y ≡ f y = is y ∙ ap (λ b. cond b n (f y)) (ne_eqb x y ne) in wider y l (room y (subst IsSome same some))
   ]
 
--- a set with more room
+-- a set with more capacity
 pub more_room : {V : Type 0} (f : ℕ → Option V) (set new : List ℕ) → HasRoom f set → length set ≤ length new → HasRoom f new
 more_room f set new room l y some = lt-ltb y (64 * length new) (let m = ltb-true y (64 * length set) (room y some) in omega (arith, l, m))
 

@@ -15,7 +15,7 @@ use Rattle.std.proofs.lemmas.Bool.{not-true}
 abbrev Named : Type 0
 Named = List ℕ × Row
 
--- no name of a list is this one, and none stands twice
+-- no name of the list is this one, and the names are distinct
 abbrev others : List ℕ → List Named → Bool
 others n rs = list_all (λ (r : Named). not (bytes_eq n r.0)) rs
 
@@ -33,7 +33,7 @@ module _ (wanted : Trait) (n : List ℕ) where
       let b = both _ _ a in
       (λ i. (ap (λ z. bytes_eq z r.0) e ∙ not-true (bytes_eq m r.0) b.0) i && is_among wanted r.1.traits || none_later m rs e b.1 i)
 
-  -- the row of a name has a trait where one of the rows with that trait has that name
+  -- the row of a name has a trait if one of the rows with that trait has that name
   among_rows : (rs : List Named) → apart rs ≡ true → trait_in wanted (beside n rs) ≡ list_any (λ (r : Named). bytes_eq n r.0 && is_among wanted r.1.traits) rs
   among_rows [] a = refl
   among_rows (r ∷ rs) a = let b = both _ _ a in go b.0 (among_rows rs b.1) (bytes_eq n r.0) refl
@@ -89,6 +89,6 @@ symbols_are n =
     or_nothing true = refl
     or_nothing false = refl
 
--- an operation is kept where it has one of the two traits
+-- an operation is never dead if it has one of the two traits
 pub kept_is : (n : List ℕ) → (has_trait Terminator n || has_trait Symbol n) ≡ is_kept n
 kept_is n = ap (λ b. has_trait Terminator n || b) (symbols_are n)

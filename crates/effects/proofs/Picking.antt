@@ -1,30 +1,30 @@
--- What a function says of numbers, as a list that rises.
+-- The defined values of a partial function, as an ascending list.
 use Rattle.std.proofs.Common.{◌≡◌, ℕ, zero, suc, ◌+◌, ◌-◌, ◌<◌, ◌≤◌, List, [], ◌∷◌, ◌++◌, Bool, true, false, Option, Some, None, refl, sym, ap, ◌∙◌, subst, arith, cond, eqb, ◌&&◌, map, inl, inr, append_assoc}
 use Rattle.std.specs.Prelude.{not}
 use Rattle.std.specs.Prelude.{option_map}
 use Rattle.std.specs.Ordering.{nat_cmp}
-use Rattle.id_map.specs.Map.{IdMap}
-use Rattle.id_map.specs.Map as idmap
+use Rattle.listeners_support.specs.Map.{IdMap}
+use Rattle.listeners_support.specs.Map as idmap
 use Rattle.std.proofs.lemmas.Bool.{eq-eqb, ne_eqb, cases_eq}
 use Rattle.std.proofs.lemmas.List.{map-append}
-use Rattle.bit_set.specs.Bits.{has, IsNone, IsNext}
+use Rattle.listeners_support.specs.Bits.{has, IsNone, IsNext}
 use Rattle.ir_event.proofs.ById.{look, Above, Rising, rising_same}
 use Rattle.effects.specs.declared.row.Row.{Row}
 use Rattle.effects.specs.Dead.{may_go}
-use Rattle.effects.specs.Spots.{Rows}
+use Rattle.effects.specs.Points.{Rows}
 use Rattle.effects.specs.Walks.{rows_at}
 use Rattle.effects.specs.Marks.{is_zero, acts, AreMarked}
 use Rattle.effects.specs.Counts.{Counts}
 use Rattle.effects.specs.declared.kinds.EffectKinds.{EffectKinds}
 use Rattle.effects.specs.Effects.{is_none}
 use Rattle.effects.specs.Reports.{those, having}
-use Rattle.effects.specs.Listed.{said, judged}
+use Rattle.effects.specs.Listed.{said, checked}
 use Rattle.effects.specs.Picked.{with_said, picked, if_true, idle_row, idle_in_set, idle_numbers, if_some, effects_in, said_row, effects_in_set, acting_numbers}
-use Rattle.effects.proofs.Judging.{judged_rising, look_judged}
+use Rattle.effects.proofs.Judging.{checked_rising, look_checked}
 use Rattle.effects.proofs.Reporting.{said_rising, look_said}
 
 module _ {V : Type 0} (f : ℕ → Option V) where
-  -- where nothing is said of the first numbers they may be left out
+  -- undefined numbers at the start may be left out
   pub picked_past : (from k n : ℕ) → ((y : ℕ) → from ≤ y → y < from + k → f y ≡ None) → picked f from (k + n) ≡ picked f (from + k) n
   picked_past from zero n none = let a : 0 + n ≡ n = omega arith in let b : from ≡ from + 0 = omega arith in ap (picked f from) a ∙ ap (λ x. picked f x n) b
   picked_past from (suc k) n none =
@@ -67,14 +67,14 @@ module _ {V : Type 0} (f : ℕ → Option V) where
     | inr ne ↦ with_other x from (f from) (picked f (suc from) n) ne ∙ picked_look x (suc from) n (omega (arith, l, ne)) (λ y m. none y (omega (arith, m)))
   ]
 
-  -- a list that rises and says what the function says is what is picked
+  -- an ascending list with the values of the function is the list of its defined values
   pub picked_is : (n : ℕ) (ps : List (ℕ × V)) → ((y : ℕ) → n ≤ y → f y ≡ None) → Rising ps → ((x : ℕ) → look x ps ≡ f x) → picked f 0 n ≡ ps
   picked_is n ps none rising is =
       rising_same (picked f 0 n) ps (picked_rising 0 n) rising (λ x. picked_look x 0 n (omega arith) (λ y l. none y (omega (arith, l))) ∙ sym (is x))
 
--- ---- those of which something is true
+-- ---- the numbers with the value `true`
 
--- what is said of a number, where it is true
+-- the value, if it is true
 abbrev only : Option Bool → Option Bool
 only None = None
 only (Some b) = if_true b
@@ -117,7 +117,7 @@ module _ (set : List ℕ) (rows : Rows) where
   one_said x true ps = refl
   one_said x false ps = refl
 
-  -- the next one of the set
+  -- the next number of the set
   pub next_idle : (from x n : ℕ) → IsNext set from x → idle_numbers set rows from ((x - from) + (1 + n)) ≡ those ((x, idle_row (rows x)) ∷ []) ++ idle_numbers set rows (x + 1) n
   next_idle from x n next =
       let f = idle_in_set set rows in
@@ -133,10 +133,10 @@ module _ (set : List ℕ) (rows : Rows) where
       )
       ∙ one_said x (idle_row (rows x)) (picked f (x + 1) n)
 
--- where the set has the operations whose count is 0, these are the dead ones
+-- if the set has the operations whose count is 0, these are the dead ones
 module _ (set : List ℕ) (counts : Counts) (m : IdMap Row) (unused : AreMarked is_zero counts set) (ordered : idmap.IsOrdered m) where
-  said_dead : (x : ℕ) → only (look x (judged counts m.entries)) ≡ idle_in_set set (rows_at m) x
-  said_dead x = ap only (look_judged counts x m.entries) ∙ go (rows_at m x) ∙ ap (λ b. if_true (b && idle_row (rows_at m x))) (sym (unused x))
+  said_dead : (x : ℕ) → only (look x (checked counts m.entries)) ≡ idle_in_set set (rows_at m) x
+  said_dead x = ap only (look_checked counts x m.entries) ∙ go (rows_at m x) ∙ ap (λ b. if_true (b && idle_row (rows_at m x))) (sym (unused x))
     where
       go : (r : Option Row) → only (option_map (λ (r : Row). is_zero (counts x) && may_go r.has) r) ≡ if_true (is_zero (counts x) && idle_row r)
       go None = none (is_zero (counts x))
@@ -146,15 +146,15 @@ module _ (set : List ℕ) (counts : Counts) (m : IdMap Row) (unused : AreMarked 
           none false = refl
       go (Some r) = refl
 
-  pub dead_numbers : (n : ℕ) → IsNone set n → idle_numbers set (rows_at m) 0 n ≡ those (judged counts m.entries)
+  pub dead_numbers : (n : ℕ) → IsNone set n → idle_numbers set (rows_at m) 0 n ≡ those (checked counts m.entries)
   dead_numbers n none =
       let f = idle_in_set set (rows_at m) in
-      let ps = judged counts m.entries in
-      let rising = judged_rising counts m.entries ordered in
+      let ps = checked counts m.entries in
+      let rising = checked_rising counts m.entries ordered in
       ap (map (λ (p : ℕ × Bool). p.0)) (picked_is f n (true_ones ps) (λ y l. not_there set (rows_at m) y (none y l)) (true_rising f ps rising) (λ x. true_look f x ps rising ∙ said_dead x))
       ∙ sym (those_true ps)
 
--- a list that grew by the first of those that are left
+-- a list that grew by the first of the remaining items
 pub one_more : {X Y : Type 0} (f : X → Y) (a b z : List Y) (now one rest : List X) → b ≡ a ++ map f one → now ≡ one ++ rest → a ++ map f now ≡ z → b ++ map f rest ≡ z
 one_more f a b z now one rest grown split is =
     ap (λ xs. xs ++ map f rest) grown ∙ append_assoc a (map f one) (map f rest) ∙ ap (λ xs. a ++ xs) (sym (map-append f one rest)) ∙ ap (λ xs. a ++ map f xs) (sym split) ∙ is
@@ -199,7 +199,7 @@ module _ (set : List ℕ) (rows : Rows) where
       go true = refl
       go false = refl
 
-  -- the next one of the set
+  -- the next number of the set
   pub next_acting : (from x n : ℕ) → IsNext set from x → acting_numbers set rows from ((x - from) + (1 + n)) ≡ said_row x (rows x) ++ acting_numbers set rows (x + 1) n
   next_acting from x n next =
       let f = effects_in_set set rows in
@@ -213,7 +213,7 @@ module _ (set : List ℕ) (rows : Rows) where
       ∙ ap (λ y. with_said x (effects_in (rows x)) (picked f y n)) on
       ∙ one_row x (rows x) (picked f (x + 1) n)
 
--- where the set has the operations with an effect, these are those of the table
+-- if the set has the operations with an effect, these are those of the table
 module _ (set : List ℕ) (m : IdMap Row) (acting : AreMarked acts (rows_at m) set) (ordered : idmap.IsOrdered m) where
   said_acting : (x : ℕ) → if_effects (look x (said m.entries)) ≡ effects_in_set set (rows_at m) x
   said_acting x = ap if_effects (look_said x m.entries) ∙ go (rows_at m x) ∙ ap (λ b. cond b (effects_in (rows_at m x)) None) (sym (acting x))

@@ -1,8 +1,8 @@
--- Uses counted one after another.
+-- Uses counted in order.
 use Rattle.std.proofs.Common.{◌≡◌, ℕ, ◌+◌, ◌-◌, List, [], ◌∷◌, ◌++◌, Option, Some, None, refl, sym, ap, ◌∙◌, subst, arith, Bool, true, false, eqb, cond}
 use Rattle.std.proofs.lemmas.Bool.{eqb-true}
 use Rattle.ir_event.specs.trees.declared.value.Value.TheVariants.{Result}
-use Rattle.effects.specs.Spots.{one_if}
+use Rattle.effects.specs.Points.{one_if}
 use Rattle.effects.specs.Dead.{is_result_of}
 use Rattle.std.specs.Prelude.{option_map}
 use Rattle.ir_event.specs.trees.declared.value.Value.{Value}
@@ -38,7 +38,7 @@ lowered_joined vs ws a b c h k y = k y ∙ ap (option_map (λ n. n - results_amo
     go None = refl
     go (Some n) = let w = among_joined y vs ws in ap Some (omega (arith, w))
 
--- operations put in one after another
+-- operations inserted in order
 pub entered_joined : (kept : ℕ → Bool) (hs gs : List (HeadOf ℕ ℕ ℕ)) (a b c : Counts) → AllEntered kept hs a b → AllEntered kept gs b c → AllEntered kept (hs ++ gs) a c
 entered_joined kept [] gs a b c h k = subst (λ (z : Counts). AllEntered kept gs z c) (λ i y. h y i) k
 entered_joined kept (p ∷ ps) gs a b c h k = (h.0, h.1, entered_joined kept ps gs h.0 b c h.2 k)

@@ -1,4 +1,4 @@
--- What a store shows of an operation of its module, and how many regions that has.
+-- The view that a store gives of an operation of its module, and the number of its regions.
 use Rattle.std.proofs.Common.{◌≡◌, refl, ap, sym, ◌∙◌, ℕ, ◌≤◌, true, [], length, Option, Some, None, option_map, arith}
 use Rattle.std.specs.FinMap as finmap
 use Rattle.std.proofs.lemmas.Bool.{leb-true}

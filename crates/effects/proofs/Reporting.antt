@@ -1,4 +1,4 @@
--- What a report shows.
+-- The rows of a report.
 use Rattle.std.proofs.Common.{◌≡◌, ℕ, ◌<◌, List, [], ◌∷◌, ◌++◌, Bool, true, false, Some, None, refl, sym, ap, ◌∙◌, subst, arith, cond, eqb, map}
 use Rattle.std.specs.Prelude.{option_map}
 use Rattle.std.specs.List.{AllByRecursion, All}
@@ -9,12 +9,12 @@ use Rattle.std.specs.declared.cmp.Ordering.{Ordering}
 use Rattle.std.specs.declared.cmp.Ordering.TheVariants.{Less, Equal, Greater}
 use Rattle.std.specs.Map.{lookup, keys_of}
 use Rattle.std.specs.BTreeMap.{is_at}
-use Rattle.id_map.specs.Map.{IdMap}
-use Rattle.id_map.specs.Map as idmap
+use Rattle.listeners_support.specs.Map.{IdMap}
+use Rattle.listeners_support.specs.Map as idmap
 use Rattle.std.proofs.lemmas.Bool.{eq-eqb, ne_eqb}
 use Rattle.std.proofs.lemmas.List.{map-append}
 use Rattle.std.proofs.lemmas.List.Elements.{All-cons, All-nil, All-append}
-use Rattle.ir_event.specs.types.Things.{Things}
+use Rattle.ir_event.specs.types.Things.{ContextModel}
 use Rattle.ir_event.specs.trees.Ids.{HasDistinctIds}
 use Rattle.ir_event.specs.trees.Meaning.{Operation}
 use Rattle.ir_event.specs.declared.row.Cell.{Cell}
@@ -24,7 +24,7 @@ use Rattle.ir_event.specs.Rows.{CellTerm, Op, Tag, cell_meaning, rows_meaning, C
 use Rattle.effects.specs.declared.kinds.EffectKinds.{EffectKinds}
 use Rattle.effects.specs.declared.row.Row.{Row}
 use Rattle.effects.specs.Effects.{effects}
-use Rattle.effects.specs.Spots.{spots}
+use Rattle.effects.specs.Points.{points}
 use Rattle.effects.specs.Walks.{rows_at}
 use Rattle.op_registry.specs.Registry.{own_of}
 use Rattle.effects.specs.Following.{Whole}
@@ -54,14 +54,14 @@ look_said x (e ∷ es) =
     ∙ elim (is_eq (nat_cmp x e.0)) as (λ b. cond b (Some e.1.has) (option_map (λ (r : Row). r.has) (lookup (is_at (nat_cmp x)) es)) ≡ option_map (λ (r : Row). r.has) (cond b (Some e.1) (lookup (is_at (nat_cmp x)) es)))
     [ true ↦ refl | false ↦ refl ]
 
-pub said_listed : (m : IdMap Row) (t : Operation) → idmap.IsOrdered m → HasDistinctIds t → Whole (rows_at m) (spots own_of None t) → said m.entries ≡ by_id (of_each (effects own_of) t)
+pub said_listed : (m : IdMap Row) (t : Operation) → idmap.IsOrdered m → HasDistinctIds t → Whole (rows_at m) (points own_of None t) → said m.entries ≡ by_id (of_each (effects own_of) t)
 said_listed m t ordered d h =
     rising_same (said m.entries) (by_id (of_each (effects own_of) t)) (said_rising m.entries ordered) (each_rising (effects own_of) t d)
     (λ x. look_said x m.entries ∙ sym (each_look (effects own_of) t d x ∙ shown_found own_of t (rows_at m) d h x))
 
 -- ---- rows
 
-module _ (c : Things) where
+module _ (c : ContextModel) where
   term_tag : (b : Bool) (n : ℕ) → map (cell_meaning c) (tag_if cell.Tag b n) ≡ tag_if Tag b n
   term_tag true n = refl
   term_tag false n = refl
@@ -116,7 +116,7 @@ module _ (c : Things) where
       All-cons (RowIsOf c) r rs (subst (All (CellIsOf c)) (sym one) (row_known p)) (rows_known rs ps rest)
 
   pub shows_effects : (m : IdMap Row) (rows : List Line) (t : Operation) → idmap.IsOrdered m → map (λ (r : Line). r.cells.items) rows ≡ map (cells_of cell.Op cell.Tag) (having (said m.entries))
-      → HasDistinctIds t → Whole (rows_at m) (spots own_of None t) → Shows c rows (effects_rows t)
+      → HasDistinctIds t → Whole (rows_at m) (points own_of None t) → Shows c rows (effects_rows t)
   shows_effects m rows t ordered is d h =
       let e = is ∙ ap (λ l. map (cells_of cell.Op cell.Tag) (having l)) (said_listed m t ordered d h) in
       record { says = rows_say rows (effects_of t) e; known = rows_known rows (effects_of t) e }

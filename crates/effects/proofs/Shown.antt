@@ -1,4 +1,4 @@
--- The rows of a table are those of the analysis.
+-- The entries of a table are those of the analysis.
 use Rattle.std.proofs.Common.{◌≡◌, ℕ, ◌+◌, List, [], ◌∷◌, ◌++◌, true, false, true≢false, Option, Some, None, ◌⊎◌, inl, inr, refl, sym, ap, ◌∙◌, subst, arith, cond, eqb, map, ◌||◌}
 use Rattle.std.specs.Prelude.{option_map}
 use Rattle.std.specs.List.{IsDistinct, AllByRecursion, list_any}
@@ -15,13 +15,13 @@ use Rattle.op_registry.specs.declared.own.Own.{Own}
 use Rattle.effects.specs.declared.row.Row.{Row}
 use Rattle.effects.specs.Effects.{Effect, unknown, allocate, free, read, write, has}
 use Rattle.ir_event.specs.tree_laws.Members.{In}
-use Rattle.effects.specs.Spots.{Spot, spots, Lacks, Rows, has_at, count_at, row_has, weight}
+use Rattle.effects.specs.Points.{Point, points, Lacks, Rows, has_at, count_at, row_has, weight}
 use Rattle.effects.specs.Following.{Whole}
 use Rattle.effects.specs.Effects.{effects}
 use Rattle.ir_event.specs.Rows.{by_id}
 use Rattle.effects.specs.Reports.{of_each}
-use Rattle.effects.proofs.Tables.{spot_of}
-use Rattle.effects.proofs.Spotted.{spot_ids, spots_ids}
+use Rattle.effects.proofs.Tables.{point_of}
+use Rattle.effects.proofs.Spotted.{point_ids, points_ids}
 use Rattle.effects.proofs.Laws.{listed, regions_listed, region_listed, ops_listed, law}
 use Rattle.ir_event.proofs.ById.{look, Rising, NotIn, AllApart, by_id_rising, by_id_look}
 
@@ -31,7 +31,7 @@ Pair = ℕ × EffectKinds
 kinds_same : (a b : EffectKinds) → ((e : Effect) → has e a ≡ has e b) → a ≡ b
 kinds_same a b h = λ i. record { unknown = h unknown i; allocate = h allocate i; free = h free i; read = h read i; write = h write i }
 
--- ---- the ids of what is listed
+-- ---- the ids of a list
 
 abbrev pair_ids : List Pair → List ℕ
 pair_ids ps = map (λ (p : Pair). p.0) ps
@@ -62,16 +62,16 @@ module _ {V : Type 0} where
   all_apart [] d = tt
   all_apart (p ∷ ps) d = (apart_all p.0 ps (IsDistinct-head eqb p.0 _ d), all_apart ps (IsDistinct-tail eqb p.0 _ d))
 
--- lists of spots and of pairs with the same ids
-lacks_not_in : (x : ℕ) (ns : List Spot) (ps : List Pair) → pair_ids ps ≡ spot_ids ns → NotIn x ps → Lacks x ns
+-- lists of operations and of pairs with the same ids
+lacks_not_in : (x : ℕ) (ns : List Point) (ps : List Pair) → pair_ids ps ≡ point_ids ns → NotIn x ps → Lacks x ns
 lacks_not_in x [] ps e n = tt
 lacks_not_in x (s ∷ ns) [] e n = absurd cc
 lacks_not_in x (s ∷ ns) (p ∷ ps) e n =
     let one : p.0 ≡ s.id = cc in
-    let rest : pair_ids ps ≡ spot_ids ns = cc in
+    let rest : pair_ids ps ≡ point_ids ns = cc in
     ((λ q. n.0 (sym q ∙ sym one)), lacks_not_in x ns ps rest n.1)
 
--- ---- what a table says of what is listed
+-- ---- a table's entries for a list
 
 abbrev shown_at : Rows → ℕ → Option EffectKinds
 shown_at rows x = option_map (λ (r : Row). r.has) (rows x)
@@ -84,7 +84,7 @@ look_in rows (p ∷ ps) a x = elim (cases_eq x p.0) [
       elim (look_in rows ps a.1 x) [ inl h ↦ inl (past ∙ h) | inr h ↦ inr ((ne, h.0), past ∙ h.1) ])
 ]
 
--- each effect of each operation is right, so each set is
+-- each effect of each operation is right, and so each set is right
 all_sets : (rows : Rows) (ps : List Pair) → ((e : Effect) → AllByRecursion (λ (p : Pair). has_at e rows p.0 ≡ has e p.1) ps) → AllByRecursion (λ (p : Pair). (r : Row) × (rows p.0 ≡ Some r)) ps
     → AllByRecursion (λ (p : Pair). shown_at rows p.0 ≡ Some p.1) ps
 all_sets rows [] h k = tt
@@ -95,20 +95,20 @@ all_sets rows (p ∷ ps) h k =
       all_sets rows ps (λ e. (h e).1) k.1,
     )
 
-all_kept : (rows : Rows) (ns : List Spot) (ps : List Pair) → pair_ids ps ≡ spot_ids ns → ((n : Spot) → In n ns → (r : Row) × (rows n.id ≡ Some r)) → AllByRecursion (λ (p : Pair). (r : Row) × (rows p.0 ≡ Some r)) ps
+all_kept : (rows : Rows) (ns : List Point) (ps : List Pair) → pair_ids ps ≡ point_ids ns → ((n : Point) → In n ns → (r : Row) × (rows n.id ≡ Some r)) → AllByRecursion (λ (p : Pair). (r : Row) × (rows p.0 ≡ Some r)) ps
 all_kept rows ns [] e h = tt
 all_kept rows [] (p ∷ ps) e h = absurd cc
 all_kept rows (s ∷ ns) (p ∷ ps) e h =
     let one : p.0 ≡ s.id = cc in
-    let rest : pair_ids ps ≡ spot_ids ns = cc in
+    let rest : pair_ids ps ≡ point_ids ns = cc in
     let k = h s (inl refl) in
     ((k.0, ap rows one ∙ k.1), all_kept rows ns ps rest (λ n a. h n (inr a)))
 
-each_all : (P : Spot → Type 0) (ns : List Spot) → ((n : Spot) → In n ns → P n) → AllByRecursion P ns
+each_all : (P : Point → Type 0) (ns : List Point) → ((n : Point) → In n ns → P n) → AllByRecursion P ns
 each_all P [] h = tt
 each_all P (n ∷ ns) h = (h n (inl refl), each_all P ns (λ m a. h m (inr a)))
 
--- ---- what is said of each operation of a tree
+-- ---- a value for each operation of a tree
 
 module _ {N T A V : Type 0} (f : OpOf N T A → V) where
   abbrev pub says : StandOf N T A → ℕ × V
@@ -161,33 +161,33 @@ module _ {N T A : Type 0} (own : N → Own) where
         map-append (says (effects own)) (stands (step p r args front os ∷ path) o) (ops_stands p path r args (front ++ o ∷ []) os)
         ∙ λ i. each_listed (step p r args front os ∷ path) o i ++ ops_each_listed p path r args (front ++ o ∷ []) os i
 
-module _ {N T A : Type 0} (own : N → Own) (t : OpOf N T A) (rows : Rows) (d : HasDistinctIds t) (h : Whole rows (spots own None t)) where
-  same_ids : pair_ids (listed own t) ≡ spot_ids (spots own None t)
-  same_ids = listed_ids own t ∙ sym (spots_ids own None t)
+module _ {N T A : Type 0} (own : N → Own) (t : OpOf N T A) (rows : Rows) (d : HasDistinctIds t) (h : Whole rows (points own None t)) where
+  same_ids : pair_ids (listed own t) ≡ point_ids (points own None t)
+  same_ids = listed_ids own t ∙ sym (points_ids own None t)
 
-  counted : (e : Effect) (ns : List Spot) (xs : List ℕ) → ((n : Spot) → In n ns → count_at e rows n.id ≡ weight (has_at e rows) n.id (spots own None t)) → spot_ids ns ≡ xs → (x : ℕ) → list_any (λ y. eqb y x) xs ≡ true
-      → count_at e rows x ≡ weight (has_at e rows) x (spots own None t)
-  counted e ns xs k q x p = elim (spot_of x ns) [
+  counted : (e : Effect) (ns : List Point) (xs : List ℕ) → ((n : Point) → In n ns → count_at e rows n.id ≡ weight (has_at e rows) n.id (points own None t)) → point_ids ns ≡ xs → (x : ℕ) → list_any (λ y. eqb y x) xs ≡ true
+      → count_at e rows x ≡ weight (has_at e rows) x (points own None t)
+  counted e ns xs k q x p = elim (point_of x ns) [
     | inl l ↦ absurd (true≢false (sym p ∙ ap (list_any (λ y. eqb y x)) (sym q) ∙ absent x ns l))
-    | inr m ↦ subst (λ y. count_at e rows y ≡ weight (has_at e rows) y (spots own None t)) m.2 (k m.0 m.1)
+    | inr m ↦ subst (λ y. count_at e rows y ≡ weight (has_at e rows) y (points own None t)) m.2 (k m.0 m.1)
   ]
     where
-      absent : (x : ℕ) (ms : List Spot) → Lacks x ms → list_any (λ y. eqb y x) (spot_ids ms) ≡ false
+      absent : (x : ℕ) (ms : List Point) → Lacks x ms → list_any (λ y. eqb y x) (point_ids ms) ≡ false
       absent x [] l = refl
-      absent x (m ∷ ms) l = ap (λ b. b || list_any (λ y. eqb y x) (spot_ids ms)) (ne_eqb m.id x l.0) ∙ absent x ms l.1
+      absent x (m ∷ ms) l = ap (λ b. b || list_any (λ y. eqb y x) (point_ids ms)) (ne_eqb m.id x l.0) ∙ absent x ms l.1
 
   all_said : (e : Effect) → AllByRecursion (λ (p : Pair). has_at e rows p.0 ≡ has e p.1) (listed own t)
   all_said e =
-      law e (has_at e rows) (count_at e rows) own t d (each_all _ (spots own None t) (λ n a. h.each e n a))
-      (counted e (spots own None t) (ids t) (λ n a. let c = h.counts e n a in omega (arith, c)) (spots_ids own None t))
+      law e (has_at e rows) (count_at e rows) own t d (each_all _ (points own None t) (λ n a. h.each e n a))
+      (counted e (points own None t) (ids t) (λ n a. let c = h.counts e n a in omega (arith, c)) (points_ids own None t))
 
-  -- the table says of each operation what the analysis says
+  -- the table has the effects of the analysis for each operation
   look_listed : (x : ℕ) → look x (listed own t) ≡ shown_at rows x
   look_listed x =
-      let sets = all_sets rows (listed own t) all_said (all_kept rows (spots own None t) (listed own t) same_ids (λ n a. let k = h.known n a in (k.row, k.is))) in
+      let sets = all_sets rows (listed own t) all_said (all_kept rows (points own None t) (listed own t) same_ids (λ n a. let k = h.known n a in (k.row, k.is))) in
       elim (look_in rows (listed own t) sets x) [
         | inl e ↦ e
-        | inr n ↦ n.1 ∙ sym (ap (option_map (λ (r : Row). r.has)) (h.only x (lacks_not_in x (spots own None t) (listed own t) same_ids n.0)))
+        | inr n ↦ n.1 ∙ sym (ap (option_map (λ (r : Row). r.has)) (h.only x (lacks_not_in x (points own None t) (listed own t) same_ids n.0)))
       ]
 
   pub shown_found : (x : ℕ) → option_map (effects own) (find x t) ≡ option_map (λ (r : Row). r.has) (rows x)

@@ -1,11 +1,11 @@
--- Tables that hold lists of operations, as these change.
+-- Tables of lists of operations, as the lists change.
 use Rattle.std.proofs.Common.{◌≡◌, ℕ, ◌+◌, List, [], ◌∷◌, Bool, true, false, Option, Some, None, ◌⊎◌, inl, inr, refl, sym, ap, ◌∙◌, subst, arith, cond, eqb, ◌&&◌}
 use Rattle.std.proofs.lemmas.Bool.{eq-eqb, ne_eqb, cases_eq}
 use Rattle.effects.specs.declared.kinds.EffectKinds.{EffectKinds}
 use Rattle.effects.specs.declared.row.Row.{Row}
 use Rattle.effects.specs.Effects.{Effect, unknown, allocate, free, read, write, has, none, is_recursive}
 use Rattle.ir_event.specs.tree_laws.Members.{In}
-use Rattle.effects.specs.Spots.{Spot, one_if, is_in, weight, Lacks, Childless, Apart, given, count_of, Rows, row_has, row_count, has_at, count_at, with_row, Keeps, Holds}
+use Rattle.effects.specs.Points.{Point, one_if, is_in, weight, Lacks, Childless, Apart, given, count_of, Rows, row_has, row_count, has_at, count_at, with_row, Keeps, Holds}
 use Rattle.effects.proofs.Events.{lacks_then}
 
 -- ---- tables
@@ -30,27 +30,27 @@ and_none true c h = ap one_if h
 and_none false c h = refl
 
 -- the operation with an id, if it is there
-pub spot_of : (x : ℕ) (ns : List Spot) → Lacks x ns ⊎ ((n : Spot) × In n ns × (n.id ≡ x))
-spot_of x [] = inl tt
-spot_of x (n ∷ ns) = elim (cases_eq n.id x) [
+pub point_of : (x : ℕ) (ns : List Point) → Lacks x ns ⊎ ((n : Point) × In n ns × (n.id ≡ x))
+point_of x [] = inl tt
+point_of x (n ∷ ns) = elim (cases_eq n.id x) [
   | inl e ↦ inr (n, inl refl, e)
-  | inr ne ↦ elim (spot_of x ns) [ inl l ↦ inl (ne, l) | inr s ↦ inr (s.0, inr s.1, s.2) ]
+  | inr ne ↦ elim (point_of x ns) [ inl l ↦ inl (ne, l) | inr s ↦ inr (s.0, inr s.1, s.2) ]
 ]
 
-pub weight_same : (f g : ℕ → Bool) (x : ℕ) (ns : List Spot) → ((n : Spot) → In n ns → g n.id ≡ f n.id) → weight g x ns ≡ weight f x ns
+pub weight_same : (f g : ℕ → Bool) (x : ℕ) (ns : List Point) → ((n : Point) → In n ns → g n.id ≡ f n.id) → weight g x ns ≡ weight f x ns
 weight_same f g x [] h = refl
 weight_same f g x (n ∷ ns) h = λ i. one_if (is_in x n.parent && h n (inl refl) i) + weight_same f g x ns (λ m a. h m (inr a)) i
 
-pub weight_childless : (f : ℕ → Bool) (x : ℕ) (ns : List Spot) → Childless x ns → weight f x ns ≡ 0
+pub weight_childless : (f : ℕ → Bool) (x : ℕ) (ns : List Point) → Childless x ns → weight f x ns ≡ 0
 weight_childless f x [] c = refl
 weight_childless f x (n ∷ ns) c = (λ i. one_if (c.0 i && f n.id) + weight_childless f x ns c.1 i)
 
--- where one operation's effect changes, what directly holds it is one off
-pub weight_change : (f g : ℕ → Bool) (y : ℕ) (ns : List Spot) (n : Spot) → Apart ns → In n ns → ((x : ℕ) → (x ≡ n.id → ⊥) → g x ≡ f x) →
+-- if the effect of one operation changes, the count of its parent is one off
+pub weight_change : (f g : ℕ → Bool) (y : ℕ) (ns : List Point) (n : Point) → Apart ns → In n ns → ((x : ℕ) → (x ≡ n.id → ⊥) → g x ≡ f x) →
     weight g y ns + one_if (is_in y n.parent && f n.id) ≡ weight f y ns + one_if (is_in y n.parent && g n.id)
 weight_change f g y [] n d a same = absurd a
 weight_change f g y (m ∷ ms) n d a same = elim a [
-  | inl e ↦ let lacks : Lacks n.id ms = subst (λ (s : Spot). Lacks s.id ms) (sym e) d.0 in
+  | inl e ↦ let lacks : Lacks n.id ms = subst (λ (s : Point). Lacks s.id ms) (sym e) d.0 in
       let rest = weight_same f g y ms (λ k b. same k.id (lacks_then n.id ms k lacks b)) in
       let was : one_if (is_in y m.parent && f m.id) ≡ one_if (is_in y n.parent && f n.id) = λ i. one_if (is_in y (sym e i).parent && f (sym e i).id) in
       let is : one_if (is_in y m.parent && g m.id) ≡ one_if (is_in y n.parent && g n.id) = λ i. one_if (is_in y (sym e i).parent && g (sym e i).id) in
@@ -63,7 +63,7 @@ weight_change f g y (m ∷ ms) n d a same = elim a [
 
 -- ---- the end of a walk
 
-pub settle : (rows : Rows) (ns : List Spot) (p : Option ℕ) (more less : EffectKinds) → ((e : Effect) → has e more ≡ false) → ((e : Effect) → has e less ≡ false) → Holds rows ns p more less → Holds rows ns None none none
+pub settle : (rows : Rows) (ns : List Point) (p : Option ℕ) (more less : EffectKinds) → ((e : Effect) → has e more ≡ false) → ((e : Effect) → has e less ≡ false) → Holds rows ns p more less → Holds rows ns None none none
 settle rows ns p more less m l h = record {
   known = h.known;
   only = h.only;
@@ -71,10 +71,10 @@ settle rows ns p more less m l h = record {
   each = h.each;
 }
 
-pub rooted : (rows : Rows) (ns : List Spot) (more less : EffectKinds) → Holds rows ns None more less → Holds rows ns None none none
+pub rooted : (rows : Rows) (ns : List Point) (more less : EffectKinds) → Holds rows ns None more less → Holds rows ns None none none
 rooted rows ns more less h = record { known = h.known; only = h.only; counts = h.counts; each = h.each }
 
-pub missing : (rows : Rows) (ns : List Spot) (p : ℕ) (more less : EffectKinds) → rows p ≡ None → Holds rows ns (Some p) more less → Holds rows ns None none none
+pub missing : (rows : Rows) (ns : List Point) (p : ℕ) (more less : EffectKinds) → rows p ≡ None → Holds rows ns (Some p) more less → Holds rows ns None none none
 missing rows ns p more less gone h = record {
   known = h.known;
   only = h.only;
@@ -94,10 +94,10 @@ masked : (b h i m l : Bool) → one_if i + one_if l ≡ one_if h + one_if m → 
 masked true h i m l e = e
 masked false h i m l e = refl
 
-module _ (rows : Rows) (ns : List Spot) (p : ℕ) (more less next lost : EffectKinds) (r s : Row) (apart : Apart ns) (h : Holds rows ns (Some p) more less) (here : rows p ≡ Some r)
+module _ (rows : Rows) (ns : List Point) (p : ℕ) (more less next lost : EffectKinds) (r s : Row) (apart : Apart ns) (h : Holds rows ns (Some p) more less) (here : rows p ≡ Some r)
     (parent : s.parent ≡ r.parent) (recursive : s.recursive ≡ r.recursive)
     (counts : (e : Effect) → count_of e s.counts + one_if (has e less) ≡ count_of e r.counts + one_if (has e more))
-    (shown : (n : Spot) → r.recursive ≡ is_recursive n.own → ((e : Effect) → has e r.has ≡ given e n.own (count_of e r.counts)) → (e : Effect) → has e s.has ≡ given e n.own (count_of e s.counts))
+    (shown : (n : Point) → r.recursive ≡ is_recursive n.own → ((e : Effect) → has e r.has ≡ given e n.own (count_of e r.counts)) → (e : Effect) → has e s.has ≡ given e n.own (count_of e s.counts))
     (changed : (e : Effect) → one_if (has e s.has) + one_if (has e lost) ≡ one_if (has e r.has) + one_if (has e next)) where
   abbrev after : Rows
   after = with_row p (Some s) rows
@@ -105,11 +105,11 @@ module _ (rows : Rows) (ns : List Spot) (p : ℕ) (more less next lost : EffectK
   now : after p ≡ Some s
   now = at_here p (Some s) rows
 
-  same_row : (n : Spot) (k : Row) → rows n.id ≡ Some k → n.id ≡ p → k ≡ r
+  same_row : (n : Point) (k : Row) → rows n.id ≡ Some k → n.id ≡ p → k ≡ r
   same_row n k is e = let both : Some k ≡ Some r = sym is ∙ ap rows e ∙ here in cc
 
-  -- the counts are now right as the effects were before
-  count_now : (e : Effect) (n : Spot) → In n ns → count_at e after n.id ≡ weight (has_at e rows) n.id ns
+  -- the counts now agree with the effects before
+  count_now : (e : Effect) (n : Point) → In n ns → count_at e after n.id ≡ weight (has_at e rows) n.id ns
   count_now e n a =
       let c = h.counts e n a in
       elim (cases_eq n.id p) [
@@ -126,7 +126,7 @@ module _ (rows : Rows) (ns : List Spot) (p : ℕ) (more less next lost : EffectK
             omega (arith, c, i, x, y)
       ]
 
-  the_counts : (m : Spot) → In m ns → m.id ≡ p → (e : Effect) (n : Spot) → In n ns →
+  the_counts : (m : Point) → In m ns → m.id ≡ p → (e : Effect) (n : Point) → In n ns →
       count_at e after n.id + one_if (is_in n.id r.parent && has e next) ≡ weight (has_at e after) n.id ns + one_if (is_in n.id r.parent && has e lost)
   the_counts m b is e n a =
       let k = h.known m b in
@@ -155,7 +155,7 @@ module _ (rows : Rows) (ns : List Spot) (p : ℕ) (more less next lost : EffectK
       | inl q ↦ let bad : None ≡ Some r = sym (h.only x l) ∙ ap rows q ∙ here in absurd cc
       | inr q ↦ at_other p (Some s) rows x q ∙ h.only x l
     ];
-    counts = λ e n a. elim (spot_of p ns) [
+    counts = λ e n a. elim (point_of p ns) [
       | inl l ↦ let bad : None ≡ Some r = sym (h.only p l) ∙ here in absurd cc
       | inr m ↦ the_counts m.0 m.1 m.2 e n a
     ];
@@ -169,16 +169,16 @@ module _ (rows : Rows) (ns : List Spot) (p : ℕ) (more less next lost : EffectK
     ];
   }
 
--- ---- an operation taken out, put in, moved
+-- ---- an operation removed, inserted, moved
 
--- its row is taken out: the count of what it stood in has one too many for each of its effects
-pub taken : (rows : Rows) (n : Spot) (ns : List Spot) (r : Row) → Apart (n ∷ ns) → rows n.id ≡ Some r → Holds rows (n ∷ ns) None none none → Holds (with_row n.id None rows) ns r.parent none r.has
+-- an entry is removed: the count of the parent has one too many for each of its effects
+pub taken : (rows : Rows) (n : Point) (ns : List Point) (r : Row) → Apart (n ∷ ns) → rows n.id ≡ Some r → Holds rows (n ∷ ns) None none none → Holds (with_row n.id None rows) ns r.parent none r.has
 taken rows n ns r apart here h =
     let k = h.known n (inl refl) in
     let both : Some k.row ≡ Some r = sym k.is ∙ here in
     let same : k.row ≡ r = cc in
     let up : n.parent ≡ r.parent = sym k.parent ∙ ap (λ (x : Row). x.parent) same in
-    let other : (m : Spot) → In m ns → with_row n.id None rows m.id ≡ rows m.id = λ m a. at_other n.id None rows m.id (lacks_then n.id ns m apart.0 a) in
+    let other : (m : Point) → In m ns → with_row n.id None rows m.id ≡ rows m.id = λ m a. at_other n.id None rows m.id (lacks_then n.id ns m apart.0 a) in
     record {
       known = λ m a. let j = h.known m (inr a) in record { row = j.row; is = other m a ∙ j.is; parent = j.parent; recursive = j.recursive };
       only = λ x l. elim (cases_eq x n.id) [
@@ -195,16 +195,16 @@ taken rows n ns r apart here h =
       each = λ e m a. ap (row_has e) (other m a) ∙ h.each e m (inr a) ∙ sym (ap (λ x. given e m.own (row_count e x)) (other m a));
     }
 
--- a row is put in: the count of what the operation stands in lacks one for each of its effects
-pub put_in : (rows : Rows) (n : Spot) (ns : List Spot) (r : Row) → Lacks n.id ns → Childless n.id ns → r.parent ≡ n.parent → r.recursive ≡ is_recursive n.own → ((e : Effect) → count_of e r.counts ≡ 0) → ((e : Effect) → has e r.has ≡ given e n.own 0)
+-- an entry is inserted: the count of the parent lacks one for each of its effects
+pub put_in : (rows : Rows) (n : Point) (ns : List Point) (r : Row) → Lacks n.id ns → Childless n.id ns → r.parent ≡ n.parent → r.recursive ≡ is_recursive n.own → ((e : Effect) → count_of e r.counts ≡ 0) → ((e : Effect) → has e r.has ≡ given e n.own 0)
     → Holds rows ns None none none → Holds (with_row n.id (Some r) rows) (n ∷ ns) r.parent r.has none
 put_in rows n ns r lacks childless parent recursive empty own h =
     let after : Rows = with_row n.id (Some r) rows in
     let now : after n.id ≡ Some r = at_here n.id (Some r) rows in
-    let other : (m : Spot) → In m ns → after m.id ≡ rows m.id = λ m a. at_other n.id (Some r) rows m.id (lacks_then n.id ns m lacks a) in
+    let other : (m : Point) → In m ns → after m.id ≡ rows m.id = λ m a. at_other n.id (Some r) rows m.id (lacks_then n.id ns m lacks a) in
     record {
       known = λ m a. elim a [
-        | inl q ↦ record { row = r; is = ap (λ (s : Spot). after s.id) q ∙ now; parent = parent ∙ ap (λ (s : Spot). s.parent) (sym q); recursive = recursive ∙ ap (λ (s : Spot). is_recursive s.own) (sym q) }
+        | inl q ↦ record { row = r; is = ap (λ (s : Point). after s.id) q ∙ now; parent = parent ∙ ap (λ (s : Point). s.parent) (sym q); recursive = recursive ∙ ap (λ (s : Point). is_recursive s.own) (sym q) }
         | inr b ↦ let j = h.known m b in record { row = j.row; is = other m b ∙ j.is; parent = j.parent; recursive = j.recursive }
       ];
       only = λ x l. at_other n.id (Some r) rows x (λ q. l.0 (sym q)) ∙ h.only x l.1;
@@ -213,21 +213,21 @@ put_in rows n ns r lacks childless parent recursive empty own h =
           let v : one_if (is_in m.id n.parent && has_at e after n.id) ≡ one_if (is_in m.id r.parent && has e r.has) = λ i. one_if (is_in m.id (sym parent i) && row_has e (now i)) in
           let z = and_none (is_in m.id r.parent) (has e none) (has_none e) in
           elim a [
-            | inl q ↦ let i : count_at e after m.id ≡ 0 = ap (λ (s : Spot). row_count e (after s.id)) q ∙ ap (row_count e) now ∙ empty e in
-                let c : weight (has_at e rows) m.id ns ≡ 0 = ap (λ (s : Spot). weight (has_at e rows) s.id ns) q ∙ weight_childless (has_at e rows) n.id ns childless in
+            | inl q ↦ let i : count_at e after m.id ≡ 0 = ap (λ (s : Point). row_count e (after s.id)) q ∙ ap (row_count e) now ∙ empty e in
+                let c : weight (has_at e rows) m.id ns ≡ 0 = ap (λ (s : Point). weight (has_at e rows) s.id ns) q ∙ weight_childless (has_at e rows) n.id ns childless in
                 omega (arith, w, v, z, i, c)
             | inr b ↦ let i : count_at e after m.id ≡ count_at e rows m.id = ap (row_count e) (other m b) in
                 let c = h.counts e m b in
                 omega (arith, w, v, z, i, c)
           ];
       each = λ e m a. elim a [
-        | inl q ↦ ap (λ (s : Spot). row_has e (after s.id)) q ∙ ap (row_has e) now ∙ own e ∙ sym (ap (given e n.own) (ap (row_count e) now ∙ empty e)) ∙ sym (λ i. given e (q i).own (row_count e (after (q i).id)))
+        | inl q ↦ ap (λ (s : Point). row_has e (after s.id)) q ∙ ap (row_has e) now ∙ own e ∙ sym (ap (given e n.own) (ap (row_count e) now ∙ empty e)) ∙ sym (λ i. given e (q i).own (row_count e (after (q i).id)))
         | inr b ↦ ap (row_has e) (other m b) ∙ h.each e m b ∙ sym (ap (λ x. given e m.own (row_count e x)) (other m b))
       ];
     }
 
--- an operation stands in another one: the counts of both may be off
-module _ (rows : Rows) (n m : Spot) (ns : List Spot) (r s : Row) (id : m.id ≡ n.id) (own : m.own ≡ n.own) (apart : Lacks n.id ns) (here : rows n.id ≡ Some r)
+-- an operation gets another parent: the counts of both parents may be off
+module _ (rows : Rows) (n m : Point) (ns : List Point) (r s : Row) (id : m.id ≡ n.id) (own : m.own ≡ n.own) (apart : Lacks n.id ns) (here : rows n.id ≡ Some r)
     (parent : s.parent ≡ m.parent) (recursive : s.recursive ≡ r.recursive) (counts : s.counts ≡ r.counts) (effects : s.has ≡ r.has)
     (h : Holds rows (n ∷ ns) None none none) where
   abbrev later : Rows
@@ -242,7 +242,7 @@ module _ (rows : Rows) (n m : Spot) (ns : List Spot) (r s : Row) (id : m.id ≡ 
   same_kept : was.row ≡ r
   same_kept = let both : Some was.row ≡ Some r = sym was.is ∙ here in cc
 
-  elsewhere : (k : Spot) → In k ns → later k.id ≡ rows k.id
+  elsewhere : (k : Point) → In k ns → later k.id ≡ rows k.id
   elsewhere k a = at_other n.id (Some s) rows k.id (lacks_then n.id ns k apart a)
 
   has_later : (e : Effect) (x : ℕ) → has_at e later x ≡ has_at e rows x
@@ -257,10 +257,10 @@ module _ (rows : Rows) (n m : Spot) (ns : List Spot) (r s : Row) (id : m.id ≡ 
     | inr q ↦ ap (row_count e) (at_other n.id (Some s) rows x q)
   ]
 
-  -- each operation of the list after the move was one of the list before, but for where it stands
-  before : (k : Spot) → In k (m ∷ ns) → (j : Spot) × In j (n ∷ ns) × (j.id ≡ k.id) × (j.own ≡ k.own)
+  -- each operation of the list after the move was in the list before, except for its parent
+  before : (k : Point) → In k (m ∷ ns) → (j : Point) × In j (n ∷ ns) × (j.id ≡ k.id) × (j.own ≡ k.own)
   before k a = elim a [
-    | inl q ↦ (n, inl refl, sym id ∙ ap (λ (x : Spot). x.id) (sym q), sym own ∙ ap (λ (x : Spot). x.own) (sym q))
+    | inl q ↦ (n, inl refl, sym id ∙ ap (λ (x : Point). x.id) (sym q), sym own ∙ ap (λ (x : Point). x.own) (sym q))
     | inr b ↦ (k, inr b, refl, refl)
   ]
 
@@ -271,9 +271,9 @@ module _ (rows : Rows) (n m : Spot) (ns : List Spot) (r s : Row) (id : m.id ≡ 
     known = λ k a. elim a [
       | inl q ↦ record {
         row = s;
-        is = ap (λ (x : Spot). later x.id) q ∙ ap later id ∙ now_later;
-        parent = parent ∙ ap (λ (x : Spot). x.parent) (sym q);
-        recursive = recursive ∙ ap (λ (x : Row). x.recursive) (sym same_kept) ∙ was.recursive ∙ ap is_recursive (sym own ∙ ap (λ (x : Spot). x.own) (sym q));
+        is = ap (λ (x : Point). later x.id) q ∙ ap later id ∙ now_later;
+        parent = parent ∙ ap (λ (x : Point). x.parent) (sym q);
+        recursive = recursive ∙ ap (λ (x : Row). x.recursive) (sym same_kept) ∙ was.recursive ∙ ap is_recursive (sym own ∙ ap (λ (x : Point). x.own) (sym q));
       }
       | inr b ↦ let j = h.known k (inr b) in record { row = j.row; is = elsewhere k b ∙ j.is; parent = j.parent; recursive = j.recursive }
     ];

@@ -1,4 +1,4 @@
--- Counts of uses as the heads of a tree change.
+-- Use counts, as the heads of a tree change.
 use Rattle.std.proofs.Common.{◌≡◌, ℕ, zero, suc, ◌+◌, ◌-◌, ◌⊎◌, List, [], ◌∷◌, ◌++◌, Bool, true, false, true≢false, Option, Some, None, refl, sym, ap, ◌∙◌, subst, cond, eqb, eq-eqb, map, arith, inl, inr}
 use Rattle.std.specs.Prelude.{option_map, slice_get, slice_set}
 use Rattle.std.specs.List.{IsDistinct, AllByRecursion}
@@ -10,7 +10,7 @@ use Rattle.ir_event.specs.trees.Ids.{first_of}
 use Rattle.ir_event.specs.trees.Edits.{at, put_operand}
 use Rattle.ir_event.specs.trees.Maps.{map_head}
 use Rattle.ir_event.specs.tree_laws.Members.{In}
-use Rattle.effects.specs.Spots.{one_if}
+use Rattle.effects.specs.Points.{one_if}
 use Rattle.effects.specs.Dead.{is_result_of}
 use Rattle.ir_event.specs.Heads.{all_operands}
 use Rattle.effects.specs.Counts.{Counts, results_among, with_count, Raised, AllEntered, EnteredWith, LeftWith, Exchanged}
@@ -34,20 +34,20 @@ module _ {V : Type 0} where
   apart_parts : (ps qs : List (ℕ × V)) → AllApart (ps ++ qs) → (y : ℕ) → (look y ps ≡ None) ⊎ (look y qs ≡ None)
   apart_parts [] qs a y = inl refl
   apart_parts (p ∷ ps) qs a y = elim (cases_eq y p.0) [
-    | inl e ↦ inr (ap (λ z. look z qs) e ∙ look_missing p.0 qs (behind ps a.0))
+    | inl e ↦ inr (ap (λ z. look z qs) e ∙ look_missing p.0 qs (trailing ps a.0))
     | inr ne ↦ elim (apart_parts ps qs a.1 y) [ inl h ↦ inl (ap (λ b. cond b (Some p.1) (look y ps)) (ne_eqb y p.0 ne) ∙ h) | inr h ↦ inr h ]
   ]
     where
-      behind : (rs : List (ℕ × V)) → NotIn p.0 (rs ++ qs) → NotIn p.0 qs
-      behind [] n = n
-      behind (r ∷ rs) n = behind rs n.1
+      trailing : (rs : List (ℕ × V)) → NotIn p.0 (rs ++ qs) → NotIn p.0 qs
+      trailing [] n = n
+      trailing (r ∷ rs) n = trailing rs n.1
 
   crossed : (a b c : Option V) → (a ≡ None) ⊎ (first_of b c ≡ None) → first_of a (first_of b c) ≡ first_of b (first_of a c)
   crossed a b c (inl e) = ap (λ z. first_of z (first_of b c)) e ∙ sym (ap (λ z. first_of b (first_of z c)) e)
   crossed a None c (inr e) = refl
   crossed a (Some b) c (inr e) = absurd cc
 
--- one operand is another
+-- one operand is replaced
 set_among : (y k : ℕ) (old new : Value) (vs : List Value) → slice_get vs k ≡ Some old → results_among y (slice_set vs k new) + one_if (is_result_of y old) ≡ results_among y vs + one_if (is_result_of y new)
 set_among y zero old new [] e = absurd cc
 set_among y (suc k) old new [] e = absurd cc
@@ -63,7 +63,7 @@ module _ {N T A : Type 0} (kept : N → Bool) where
   abbrev marks : List (HeadOf N T A) → List (ℕ × Bool)
   marks hs = tagged (λ (h : HeadOf N T A). kept h.name) hs
 
-  -- the count of y that a table has that counts the heads
+  -- the count of y in a table that counts the heads
   abbrev pub tallied : List (HeadOf N T A) → ℕ → Option ℕ
   tallied hs y = option_map (λ k. results_among y (all_operands hs) + one_if k) (look y (tagged (λ (h : HeadOf N T A). kept h.name) hs))
 
@@ -128,7 +128,7 @@ module _ {N T A : Type 0} (kept : N → Bool) where
       look_gone : look h.id (marks (front ++ back)) ≡ None
       look_gone = look_rest h.id ∙ λ i. first_of (front_none i) (back_none i)
 
-      -- put in, where no value of it is used
+      -- a head is inserted whose results have no uses
       pub put_tally : (a b : Counts) → results_among h.id (all_operands (front ++ (h ∷ back))) ≡ 0 → ((y : ℕ) → a y ≡ tallied (front ++ back) y) → EnteredWith h.id (kept h.name) h.operands a b → (y : ℕ) → b y ≡ tallied (front ++ (h ∷ back)) y
       put_tally a b unused was entered y = entered y ∙ elim (cases_eq y h.id) [
         | inl e ↦ subst (λ z. option_map (λ n. n + results_among z h.operands) (with_count h.id (Some (one_if (kept h.name))) a z) ≡ tallied (front ++ (h ∷ back)) z) (sym e)
@@ -147,7 +147,7 @@ module _ {N T A : Type 0} (kept : N → Bool) where
           more y None = refl
           more y (Some k) = let w = among_whole y in ap Some (omega (arith, w))
 
-      -- taken out
+      -- a head is removed
       pub take_tally : (a b : Counts) → ((y : ℕ) → a y ≡ tallied (front ++ (h ∷ back)) y) → LeftWith h.id h.operands a b → (y : ℕ) → b y ≡ tallied (front ++ back) y
       take_tally a b was left y = left y ∙ elim (cases_eq y h.id) [
         | inl e ↦ subst (λ z. option_map (λ n. n - results_among z h.operands) (with_count h.id None a z) ≡ tallied (front ++ back) z) (sym e)
@@ -236,7 +236,7 @@ module _ {N T A : Type 0} (kept : N → Bool) where
         sums None = refl
         sums (Some j) = let w = set_at y g hs there id d has in ap Some (omega (arith, w))
 
--- ---- a table that is made
+-- ---- a table that is built
 
 entered_all : (kept : ℕ → Bool) (hs : List (HeadOf ℕ ℕ ℕ)) (a b : Counts) → Different kept hs → AllEntered kept hs a b → (y : ℕ) → b y ≡ first_of (option_map one_if (look y (tagged (λ (h : HeadOf ℕ ℕ ℕ). kept h.name) hs))) (a y)
 entered_all kept [] a b d e y = e y

@@ -1,9 +1,9 @@
--- Which results of an operation are used, and what is dead, read in numbers.
+-- Used results and dead operations, by numbers.
 use Rattle.std.proofs.Common.{◌≡◌, refl, ap, sym, ◌∙◌, subst, ℕ, ◌+◌, ◌<◌, ◌≤◌, Bool, true, false, true≢false, cond, ◌&&◌, not, eqb, eq-eqb, eqb-true, List, [], ◌∷◌, ◌++◌, length, map, Option, Some, None, option_map, inl, inr, arith}
 use Rattle.std.specs.Prelude.{slice_get, is_some, option_and_then, nat_lt, nat_le}
 use Rattle.std.specs.List.{list_all}
 use Rattle.std.proofs.lemmas.Bool.{leb-true}
-use Rattle.ir_event.specs.types.Things.{Things}
+use Rattle.ir_event.specs.types.Things.{ContextModel}
 use Rattle.ir_event.specs.types.Terms.{name_term, type_term, attr_term}
 use Rattle.ir_event.specs.trees.declared.value.Value.{Value}
 use Rattle.ir_event.specs.trees.declared.value.Value.TheVariants.{Result, Arg}
@@ -16,7 +16,7 @@ use Rattle.ir_event.specs.trees.Maps.{map_head, map_tree, map_regions, map_regio
 use Rattle.ir_event.specs.trees.Meaning.{meaning, isolated_in}
 use Rattle.ir_event.proofs.of_trees.Mapped.{map_find}
 use Rattle.ir_event.proofs.of_trees.Replaced.{same_value_refl, same_value_true}
-use Rattle.ir_event.specs.tree_laws.Stands.{StandOf, stand_id, stands, sees, gather}
+use Rattle.ir_event.specs.tree_laws.Stands.{StandOf, stand_id, stands, dominated_by, gather}
 use Rattle.ir_event.specs.tree_laws.Members.{In}
 use Rattle.ir_event.proofs.of_tree_laws.Listed.{bool_cases, all_each, each_all, both}
 use Rattle.ir_event.proofs.of_tree_laws.Readings.{stands_every, stands_uses}
@@ -65,8 +65,8 @@ module _ {N T A : Type 0} where
       go false e = refl
       go true e = absurd (some (no_uses x k t e))
 
-  -- results of which none is
-  module _ (isolated : N → Bool) (t : OpOf N T A) (d : HasDistinctIds t) (formed : (s : StandOf N T A) → In s (stands [] t) → list_all (sees isolated s.path) (head s.here).operands ≡ true) (x : ℕ) (o : OpOf N T A) (found : find x t ≡ Some o)
+  -- results without uses
+  module _ (isolated : N → Bool) (t : OpOf N T A) (d : HasDistinctIds t) (formed : (s : StandOf N T A) → In s (stands [] t) → list_all (dominated_by isolated s.path) (head s.here).operands ≡ true) (x : ℕ) (o : OpOf N T A) (found : find x t ≡ Some o)
       (unused : (k : ℕ) → k < length (head o).results → uses_of (Result x k) t ≡ []) where
     few : (k : ℕ) → is_some (option_and_then (λ z. slice_get (head z).results k) (find x t)) ≡ true → k < length (head o).results
     few k e = go (slice_get (head o).results k) refl (sym (ap (λ f. is_some (option_and_then (λ z. slice_get (head z).results k) f)) found) ∙ e)
@@ -77,7 +77,7 @@ module _ {N T A : Type 0} where
 
     not_used : (s : StandOf N T A) → In s (stands [] t) → (k : ℕ) → In (Result x k) (head s.here).operands → ⊥
     not_used s h k m =
-        let e = all_each (sees isolated s.path) (head s.here).operands (formed s h) (Result x k) m in
+        let e = all_each (dominated_by isolated s.path) (head s.here).operands (formed s h) (Result x k) m in
         let l = few k (seen_by isolated t d s h (Result x k) e).is in
         let n = used_here (Result x k) (stand_id s) 0 (head s.here).operands (Result x k) m (same_value_refl (Result x k)) in
         subst (In (stand_id s, n.0)) (stands_uses (Result x k) [] t ∙ unused k l) (in_gather (λ (z : StandOf N T A). operand_uses (Result x k) (stand_id z) 0 (head z.here).operands) (stand_id s, n.0) s (stands [] t) h n.1)
@@ -95,7 +95,7 @@ module _ {N T A : Type 0} where
         sym (sym (stands_every (λ o. list_all (λ v. not (is_result_of x v)) (head o).operands) [] t)
         ∙ each_all (λ (s : StandOf N T A). list_all (λ v. not (is_result_of x v)) (head s.here).operands) (stands [] t) (λ s h. each_all (λ v. not (is_result_of x v)) (head s.here).operands (λ v m. one_unused s h v m)))
 
--- in contents
+-- in terms of the module's contents
 module _ {N T A M U B : Type 0} (f : N → M) (g : T → U) (h : A → B) where
   mapped_operands : (hs : List (HeadOf N T A)) → all_operands (map (map_head f g h) hs) ≡ all_operands hs
   mapped_operands [] = refl
@@ -125,11 +125,11 @@ module _ {N T A M U B : Type 0} (f : N → M) (g : T → U) (h : A → B) where
       mapped_ops no_ops = refl
       mapped_ops (next o os) = λ i. union (mapped_effects o i) (mapped_ops os i)
 
-module _ (c : Things) (x : ℕ) (t : Op) where
+module _ (c : ContextModel) (x : ℕ) (t : Op) where
   dead_is : dead_at x (meaning c t) ≡ dead_in (meaning c t) (option_map (meaning c) (find x t))
   dead_is = ap (dead_in (meaning c t)) (map_find (name_term c) (type_term c) (attr_term c) x t)
 
-  -- what is shown of x decides
+  -- the view of x decides
   module _ (n : Node) (shown : Some n ≡ option_map node_of (find x t)) where
     pub dead_shown : (kept unused idle : Bool) → kept ≡ is_kept (name_term c n.head.name) → unused ≡ is_unused x t → idle ≡ idle_at (own_by c) x t → dead_at x (meaning c t) ≡ (unused && (not kept && idle))
     dead_shown kept unused idle e f k = dead_is ∙ go (find x t) refl
@@ -172,7 +172,7 @@ few_results w x n e = go (find x w.store.module_of.tree) refl e
         let count = ap (λ (m : Node). length m.head.results) one in
         omega (arith, small, same, count)
 
--- no result of x that is shown is used
+-- no result of x in the view is used
 pub none_used : (w : World) (x : ℕ) (n : Node) → Some n ≡ option_map node_of (find x w.store.module_of.tree) → ((k : ℕ) → k < length n.head.results → uses_of (Result x k) w.store.module_of.tree ≡ []) → true ≡ is_unused x w.store.module_of.tree
 none_used w x n e u = go (find x w.store.module_of.tree) refl e
   where
@@ -184,4 +184,4 @@ none_used w x n e u = go (find x w.store.module_of.tree) refl e
     go (Some o) i k =
         let one : n ≡ node_of o = cc in
         let count : length n.head.results ≡ length (head o).results = ap (λ (m : Node). length m.head.results) one ∙ results o in
-        unused_results (isolated_in w.ctx) w.store.module_of.tree w.formed.distinct (λ s h. (from_formed (isolated_in w.ctx) w.store.module_of.tree w.formed.formed).sees_own s h) x o i (λ j l. u j (omega (arith, l, count)))
+        unused_results (isolated_in w.ctx) w.store.module_of.tree w.formed.distinct (λ s h. (from_formed (isolated_in w.ctx) w.store.module_of.tree w.formed.formed).dominated_by_own s h) x o i (λ j l. u j (omega (arith, l, count)))

@@ -1,4 +1,4 @@
--- Operations that are dead: they have no effect that anyone would miss, and nobody uses what they give (Operation
+-- Dead operations: their effects are only allocations and reads, and their results have no uses (Operation
 -- Canonicalization, "General Design").
 use Rattle.std.specs.Prelude.{ℕ, List, codes, eqb, Bool, false, ◌||◌, ◌&&◌, not, Option, Some, None}
 use Rattle.std.specs.List.{list_all}
@@ -24,20 +24,20 @@ is_result_of x (Arg y r k) = false
 abbrev pub is_unused : {N T A : Type 0} → ℕ → OpOf N T A → Bool
 is_unused x t = every (λ o. list_all (λ v. not (is_result_of x v)) (head o).operands) t
 
--- terminators, modules and functions stay whatever they do
+-- terminators, modules and functions are never dead
 abbrev pub is_kept : List ℕ → Bool
 is_kept name =
     has_trait Terminator name || (bytes_eq name (codes "builtin.module") || bytes_eq name (codes "func.func"))
 
--- whether there is no effect but those that nobody would miss: an allocation and a read
+-- whether the effects are only allocations and reads
 abbrev pub may_go : EffectKinds → Bool
 may_go s = not (s.unknown || (s.free || s.write))
 
--- whether someone would miss what an operation has by itself
+-- whether the own effects of an operation are others than allocations and reads
 abbrev pub is_missed : Own → Bool
 is_missed own = not (is_recursive own || may_go (own_kinds own))
 
--- whether an operation of a name is never dead: it stays whatever it does, or has by itself what someone would miss
+-- whether operations with that name are never dead, because of the name or of their own effects
 abbrev pub stays : List ℕ → Bool
 stays name = is_kept name || is_missed (own_of name)
 
@@ -45,7 +45,7 @@ stays name = is_kept name || is_missed (own_of name)
 abbrev pub is_dead : Operation → Operation → Bool
 is_dead whole o = is_unused (head o).id whole && (not (is_kept (head o).name) && may_go (effects own_of o))
 
--- whether operation x of a tree is there, and dead
+-- whether operation x is in the tree and dead
 abbrev pub dead_in : Operation → Option Operation → Bool
 dead_in t None = false
 dead_in t (Some o) = is_dead t o

@@ -1,6 +1,6 @@
 -- The effects of operations (Rationale, "Side Effects & Speculation"; Traits, "RecursiveMemoryEffects").
 use Rattle.std.specs.Prelude.{ℕ, Bool, true, false, ◌||◌, not, if◌then◌else◌}
-use Rattle.ir_event.specs.types.Things.{Things}
+use Rattle.ir_event.specs.types.Things.{ContextModel}
 use Rattle.ir_event.specs.types.Terms.{name_term}
 use Rattle.ir_event.specs.trees.Tree.{OpOf, op, RegionsOf, no_regions, region}
 use Rattle.ir_event.specs.trees.Tree.{RegionOf, empty, block, OpsOf, no_ops, next}
@@ -17,7 +17,7 @@ pub data Effect : Type 0 where
   read : Effect
   write : Effect
 
--- whether a set has it
+-- whether a set has the effect
 abbrev pub has : Effect → EffectKinds → Bool
 has unknown s = s.unknown
 has allocate s = s.allocate
@@ -33,7 +33,7 @@ none = record { unknown = false; allocate = false; free = false; read = false; w
 abbrev pub is_none : EffectKinds → Bool
 is_none a = not (a.unknown || (a.allocate || (a.free || (a.read || a.write))))
 
--- what is in one of two sets
+-- the union of two sets
 abbrev pub union : EffectKinds → EffectKinds → EffectKinds
 union a b =
     record {
@@ -44,29 +44,29 @@ union a b =
       write = a.write || b.write;
     }
 
--- what an operation has by itself, as a set; where that is what others have it is empty
+-- the own effects as a set, which is empty if the operation has the effects of its children
 abbrev pub own_kinds : Own → EffectKinds
 own_kinds Pure = none
 own_kinds (Only s) = record { unknown = false; allocate = s.allocate; free = s.free; read = s.read; write = s.write }
 own_kinds Recursive = none
 own_kinds Unknown = record none { unknown = true }
 
--- whether it has what the operations directly inside have
+-- whether an operation has the effects of its children
 abbrev pub is_recursive : Own → Bool
 is_recursive Pure = false
 is_recursive (Only s) = false
 is_recursive Recursive = true
 is_recursive Unknown = false
 
--- what an operation has, where this is what the operations directly inside have
+-- the effects of an operation, given those of its children
 abbrev pub effects_by : Own → EffectKinds → EffectKinds
 effects_by own inner = if is_recursive own then inner else own_kinds own
 
--- what an operation has by itself, by the number of its name in a context
-abbrev pub own_by : Things → ℕ → Own
+-- the own effects of an operation, by the number of its name in a context
+abbrev pub own_by : ContextModel → ℕ → Own
 own_by c n = own_of (name_term c n)
 
--- the effects of an operation: its own, or those of the operations directly inside
+-- the effects of an operation: its own, or those of its children
 abbrev mutual
   pub effects : {N T A : Type 0} → (N → Own) → OpOf N T A → EffectKinds
   effects own (op h rs) = effects_by (own h.name) (regions_effects own rs)

@@ -1,7 +1,7 @@
 pub mod Effects
 pub mod Dead
 pub mod Reports
-pub mod Spots
+pub mod Points
 pub mod Walks
 pub mod Following
 pub mod Found

@@ -1,4 +1,4 @@
--- The reports: what is true of each operation of a tree, in order of the ids.
+-- The reports: a property of each operation of a tree, ordered by id.
 use Rattle.std.specs.Prelude.{ℕ, List, [], ◌∷◌, ◌++◌, map, Bool, if◌then◌else◌}
 use Rattle.ir_event.specs.trees.Tree.{OpOf}
 use Rattle.ir_event.specs.trees.Meaning.{Operation}
@@ -11,29 +11,29 @@ use Rattle.effects.specs.declared.kinds.EffectKinds.{EffectKinds}
 use Rattle.effects.specs.Effects.{effects, is_none}
 use Rattle.effects.specs.Dead.{is_dead}
 
--- each operation of a tree, by its id, with what a function says of it
+-- each operation of a tree, by its id, with the value of a function
 abbrev pub of_each : {N T A V : Type 0} → (OpOf N T A → V) → OpOf N T A → List (ℕ × V)
 of_each f t = map (λ s. (stand_id s, f s.here)) (stands [] t)
 
--- those that have an effect
+-- the operations that have an effect
 abbrev pub having : List (ℕ × EffectKinds) → List (ℕ × EffectKinds)
 having [] = []
 having (p ∷ ps) = if is_none p.1 then having ps else p ∷ having ps
 
--- each operation of a tree that has effects, with what it has, by id
+-- the operations of a tree that have effects, with their effects, ordered by id
 abbrev pub effects_of : Operation → List (ℕ × EffectKinds)
 effects_of t = having (by_id (of_each (effects own_of) t))
 
--- those of which something is true
+-- the operations with the value `true`
 abbrev pub those : List (ℕ × Bool) → List ℕ
 those [] = []
 those (p ∷ ps) = if p.1 then p.0 ∷ those ps else those ps
 
--- the dead operations of a tree, by id
+-- the dead operations of a tree, ordered by id
 abbrev pub dead_of : Operation → List ℕ
 dead_of t = those (by_id (of_each (is_dead t) t))
 
--- a word, where it holds
+-- a word, if b
 abbrev pub tag_if : {C : Type 0} → (ℕ → C) → Bool → ℕ → List C
 tag_if tag b n = if b then tag n ∷ [] else []
 
@@ -45,7 +45,7 @@ cells_of op tag p =
     ++ tag_if tag p.1.read (tag_number word.Read))
     ++ tag_if tag p.1.write (tag_number word.Write)
 
--- the row of an operation alone
+-- the row of a dead operation
 abbrev pub cell_of : {C : Type 0} → (ℕ → C) → ℕ → List C
 cell_of op x = op x ∷ []
 

@@ -1,17 +1,17 @@
--- A walk up the operations around one, that changes their counts and effects.
+-- The arithmetic of entries, counts and sets of effects.
 use Rattle.std.specs.Prelude.{ℕ, ◌+◌, ◌-◌, List, [], ◌∷◌, nat_lt, ◌&&◌, not, if◌then◌else◌, Option}
 use Rattle.std.specs.Ordering.{nat_cmp}
-use Rattle.id_map.specs.Map.{IdMap}
-use Rattle.id_map.specs.Map as idmap
+use Rattle.listeners_support.specs.Map.{IdMap}
+use Rattle.listeners_support.specs.Map as idmap
 use Rattle.effects.specs.declared.kinds.EffectKinds.{EffectKinds}
 use Rattle.op_registry.specs.declared.own.Own.{Own}
 use Rattle.effects.specs.declared.row.Counts.{Counts}
 use Rattle.effects.specs.declared.row.Row.{Row}
 use Rattle.effects.specs.declared.effect_rows.EffectRows.{EffectRows}
 use Rattle.effects.specs.Effects.{union, own_kinds, is_recursive}
-use Rattle.effects.specs.Spots.{one_if, Rows}
+use Rattle.effects.specs.Points.{one_if, Rows}
 
--- what is in one set and not in another
+-- the difference of two sets
 abbrev pub minus : EffectKinds → EffectKinds → EffectKinds
 minus a b =
     record {
@@ -22,7 +22,7 @@ minus a b =
       write = a.write && not b.write;
     }
 
--- what is in both of two sets
+-- the intersection of two sets
 abbrev pub both : EffectKinds → EffectKinds → EffectKinds
 both a b =
     record {
@@ -33,7 +33,7 @@ both a b =
       write = a.write && b.write;
     }
 
--- the effects that are counted
+-- the effects whose count isn't 0
 abbrev pub present : Counts → EffectKinds
 present c =
     record {
@@ -44,7 +44,7 @@ present c =
       write = nat_lt 0 c.write;
     }
 
--- one less, or one more, of each effect of a set
+-- the counts, one less or one more for each effect of a set
 abbrev pub lowered : Counts → EffectKinds → Counts
 lowered c s =
     record {
@@ -65,15 +65,15 @@ raised c s =
       write = c.write + one_if s.write;
     }
 
--- no effect is counted
+-- all counts are 0
 abbrev pub no_counts : Counts
 no_counts = record { unknown = 0; allocate = 0; free = 0; read = 0; write = 0 }
 
--- the row of an operation that stands in p, if in any, and holds none
+-- the entry of an operation without children, with parent p if there is one
 abbrev pub new_row : Option ℕ → Own → Row
 new_row p own = record { parent = p; recursive = is_recursive own; has = own_kinds own; counts = no_counts }
 
--- a row where one operation less, or one more, directly inside has each of these effects
+-- the entry after a child lost, or gained, these effects
 abbrev pub lost_row : Row → EffectKinds → Row
 lost_row r s =
     record {
@@ -92,25 +92,25 @@ gained_row r s =
       counts = raised r.counts s;
     }
 
--- what a map keeps of an operation
+-- the entry of an operation in a map
 abbrev pub rows_at : IdMap Row → Rows
 rows_at m = idmap.get m
 
--- what a table keeps of it
+-- the entry of an operation in a table
 abbrev pub row_at : EffectRows → Rows
 row_at t = rows_at t.rows
 
--- how many effects a set has
+-- the number of effects in a set
 abbrev pub size : EffectKinds → ℕ
 size a = one_if a.unknown + (one_if a.allocate + (one_if a.free + (one_if a.read + one_if a.write)))
 
--- and how many it lacks
+-- the number of effects that a set lacks
 abbrev pub room : EffectKinds → ℕ
 room a =
     one_if (not a.unknown) + (one_if (not a.allocate)
     + (one_if (not a.free) + (one_if (not a.read) + one_if (not a.write))))
 
--- the sum of such a number over all entries
+-- the sum of f over the effects of all entries
 abbrev pub total : (EffectKinds → ℕ) → List (ℕ × Row) → ℕ
 total f [] = 0
 total f (e ∷ es) = f e.1.has + total f es

@@ -1,24 +1,24 @@
-//! The counts follow an event.
+//! Updates the use counts after an event.
 ghost use Rattle.std.specs.Prelude.{◌≡◌, ◌≤◌, ◌+◌, Some, true};
 ghost use Rattle.std.specs.Bool.{OnTrue};
 ghost use Rattle.ir_event.specs.Looks.{one_more};
-ghost use Rattle.ir_event.specs.Modules.{Node as Shown, shown_in};
+ghost use Rattle.ir_event.specs.Modules.{Node as Shown, node_of_op};
 ghost use Rattle.ir_event.specs.Bounds.{op_of};
 ghost use Rattle.ir_event.specs.Listener.{is_take};
 ghost use Rattle.effects.specs.Dead.{stays};
 ghost use Rattle.effects.specs.Counts.{counts_in, EnteredWith, LeftWith, CountsFollowed};
 
-use crate::counts::{exchange, put, take};
+use crate::counts::{exchange, insert_unused, take};
 use crate::tally::stays;
 use crate::use_counts::UseCounts;
 use ir_event::event::Event;
 use ir_event::types::ids::OpId;
 use ir_event::view::View;
 
-/// Puts in an operation that is shown. It is false where it isn't, or memory was refused.
+/// Inserts an operation that the view shows. Returns `false` if the view doesn't show it or memory ran out.
 fn put_shown(counts: &mut UseCounts, view: &mut View<'_>, op: OpId) -> bool
     ensures put { OnTrue result
-        ((n : Shown) → shown_in view.old.world.now op ≡ Some n
+        ((n : Shown) → node_of_op view.old.world.now op ≡ Some n
         → EnteredWith op (stays n.head.name) n.head.operands (counts_in counts.old) (counts_in counts.new)) }
     ensures world { view.new.world.now ≡ view.old.world.now }
     ensures looks { view.new.looks ≡ one_more view.old.looks }
@@ -27,15 +27,15 @@ fn put_shown(counts: &mut UseCounts, view: &mut View<'_>, op: OpId) -> bool
         return false;
     };
     let kept = stays(view.context(), view.registry(), node.name());
-    put(counts, op, kept, node.operands())
+    insert_unused(counts, op, kept, node.operands())
 }
 
-/// Takes out an operation that is shown. It is false where it isn't.
+/// Removes an operation that the view shows. Returns `false` if the view doesn't show it.
 fn take_shown(counts: &mut UseCounts, view: &mut View<'_>, op: OpId) -> bool
     ensures taken { OnTrue result
-        ((n : Shown) → shown_in view.old.world.now op ≡ Some n
+        ((n : Shown) → node_of_op view.old.world.now op ≡ Some n
         → LeftWith op n.head.operands (counts_in counts.old) (counts_in counts.new)) }
-    ensures shown { (n : Shown) → shown_in view.old.world.now op ≡ Some n → result ≡ true }
+    ensures shown { (n : Shown) → node_of_op view.old.world.now op ≡ Some n → result ≡ true }
     ensures world { view.new.world.now ≡ view.old.world.now }
     ensures looks { view.new.looks ≡ one_more view.old.looks }
 {
@@ -46,13 +46,14 @@ fn take_shown(counts: &mut UseCounts, view: &mut View<'_>, op: OpId) -> bool
     true
 }
 
-/// Follows an event. It is false where memory was refused, or an operation that was put or taken isn't shown.
+/// Updates the counts after an event. Returns `false` if memory ran out, or the view doesn't show an inserted or
+/// removed operation.
 pub(crate) fn follow_counts(counts: &mut UseCounts, view: &mut View<'_>, event: &Event) -> bool
     ensures followed { OnTrue result
-        (CountsFollowed (shown_in view.old.world.now) event.now (counts_in counts.old) (counts_in counts.new)) }
+        (CountsFollowed (node_of_op view.old.world.now) event.now (counts_in counts.old) (counts_in counts.new)) }
     ensures world { view.new.world.now ≡ view.old.world.now }
     ensures looks { view.new.looks ≤ view.old.looks + 1 }
-    ensures take { (n : Shown) → is_take event.now ≡ true → shown_in view.old.world.now (op_of event.now) ≡ Some n
+    ensures take { (n : Shown) → is_take event.now ≡ true → node_of_op view.old.world.now (op_of event.now) ≡ Some n
         → result ≡ true }
 {
     match event {

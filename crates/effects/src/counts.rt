@@ -1,22 +1,21 @@
-//! How many uses the results of operations have: a count for each operation, which is one higher where the
-//! operation stays whatever it does.
+//! The number of uses of each operation's results: a count for each operation, which is one higher for an operation
+//! that is never dead.
 ghost use Rattle.std.specs.Prelude.{◌≡◌, ℕ, ◌*◌, ◌<◌, nat_lt, length, Some, None, [], ◌∷◌, IsTrue, false};
 ghost use Rattle.std.specs.Ordering.{nat_cmp};
-ghost use Rattle.id_map.specs.Map as idmap;
-ghost use Rattle.bit_set.specs.Bits.{has, has_with};
+ghost use Rattle.listeners_support.specs.Map as idmap;
+ghost use Rattle.listeners_support.specs.Bits.{has, has_with};
 ghost use Rattle.std.specs.Bool.{OnTrue};
 ghost use Rattle.effects.specs.Counts.{counts_in, with_count, Raised, Lowered, Entered, EnteredWith, LeftWith};
 ghost use Rattle.effects.specs.Counts.{Exchanged};
-ghost use Rattle.effects.specs.Spots.{one_if};
+ghost use Rattle.effects.specs.Points.{one_if};
 
 use crate::use_counts::UseCounts;
-use bit_set::BitSet;
-use id_map::IdMap;
 use ir_event::trees::value::Value;
 use ir_event::types::ids::OpId;
+use listeners_support::{BitSet, IdMap};
 use std::alloc::Global;
 
-/// No operation has a count.
+/// Returns an empty table.
 pub(crate) fn no_counts(alloc: Global) -> UseCounts
     ensures { (y : ℕ) → counts_in result y ≡ None }
 {
@@ -26,14 +25,14 @@ pub(crate) fn no_counts(alloc: Global) -> UseCounts
     }
 }
 
-/// The count of an operation.
+/// Returns the count of an operation, if it has one.
 pub(crate) fn count_of(counts: &UseCounts, op: OpId) -> Option<u32>
     ensures { result ≡ counts_in counts.now op }
 {
     counts.counts.get(op.number()).copied()
 }
 
-/// Adds an operation to the set of those that nobody uses, or takes it out of it, by its count.
+/// Adds the operation to the set of unused operations if its count is 0, and removes it otherwise.
 fn mark(unused: &mut BitSet, op: OpId, count: u32)
     requires { op < 64 * length unused.old }
     ensures room { length unused.new ≡ length unused.old }
@@ -46,7 +45,7 @@ fn mark(unused: &mut BitSet, op: OpId, count: u32)
     }
 }
 
-/// Gives an operation a count. It is false where memory was refused.
+/// Writes the count of an operation. Returns `false` if memory ran out.
 fn record_count(counts: &mut IdMap<u32>, op: OpId, count: u32) -> bool
     ensures there { OnTrue result
         ((y : ℕ) → idmap.get counts.new y ≡ with_count op (Some count) (idmap.get counts.old) y) }
@@ -55,14 +54,14 @@ fn record_count(counts: &mut IdMap<u32>, op: OpId, count: u32) -> bool
     counts.insert(op.number(), count).is_ok()
 }
 
-/// Takes a count out. This needs no memory.
+/// Removes the count of an operation. Needs no memory.
 fn drop_count(counts: &mut IdMap<u32>, op: OpId)
     ensures { (y : ℕ) → idmap.get counts.new y ≡ with_count op None (idmap.get counts.old) y }
 {
     counts.remove(op.number());
 }
 
-/// Writes a count in place of another.
+/// Replaces the count of an operation that has one.
 fn write(counts: &mut UseCounts, op: OpId, count: u32)
     ensures { (n : ℕ) → counts_in counts.old op ≡ Some n → (y : ℕ)
         → counts_in counts.new y ≡ with_count op (Some count) (counts_in counts.old) y }
@@ -72,8 +71,8 @@ fn write(counts: &mut UseCounts, op: OpId, count: u32)
     }
 }
 
-/// Counts a use more of a value, where it is a result of an operation that has a count. It is false where the
-/// count would pass its type.
+/// Counts one more use of a value if the value is the result of an operation in the table. Returns `false` if the count
+/// overflows.
 fn raise(counts: &mut UseCounts, value: &Value) -> bool
     ensures { OnTrue result (Raised (value.now ∷ []) (counts_in counts.old) (counts_in counts.new)) }
 {
@@ -90,7 +89,7 @@ fn raise(counts: &mut UseCounts, value: &Value) -> bool
     true
 }
 
-/// Counts a use less of a value.
+/// Counts one use less of a value.
 fn lower(counts: &mut UseCounts, value: &Value)
     ensures { Lowered (value.now ∷ []) (counts_in counts.old) (counts_in counts.new) }
 {
@@ -103,7 +102,7 @@ fn lower(counts: &mut UseCounts, value: &Value)
     write(counts, op, count.saturating_sub(1));
 }
 
-/// Counts a use more of each of these values. It is false where a count would pass its type.
+/// Counts one more use of each value. Returns `false` if a count overflows.
 pub(crate) fn raise_all(counts: &mut UseCounts, values: &[Value]) -> bool
     ensures { OnTrue result (Raised values.now (counts_in counts.old) (counts_in counts.new)) }
 {
@@ -115,7 +114,7 @@ pub(crate) fn raise_all(counts: &mut UseCounts, values: &[Value]) -> bool
     true
 }
 
-/// Counts a use less of each of these values.
+/// Counts one use less of each value.
 fn lower_all(counts: &mut UseCounts, values: &[Value])
     ensures { Lowered values.now (counts_in counts.old) (counts_in counts.new) }
 {
@@ -124,7 +123,7 @@ fn lower_all(counts: &mut UseCounts, values: &[Value])
     }
 }
 
-/// Gives an operation that nobody uses its count. It is false where memory was refused.
+/// Inserts an operation without uses. Returns `false` if memory ran out.
 pub(crate) fn enter(counts: &mut UseCounts, op: OpId, kept: bool) -> bool
     ensures { OnTrue result (Entered op kept (counts_in counts.old) (counts_in counts.new)) }
 {
@@ -139,9 +138,13 @@ pub(crate) fn enter(counts: &mut UseCounts, op: OpId, kept: bool) -> bool
     true
 }
 
-/// Puts in an operation that nobody uses, with its operands. It is false where memory was refused, or a count
-/// would pass its type.
-pub(crate) fn put(counts: &mut UseCounts, op: OpId, kept: bool, operands: &[Value]) -> bool
+/// Inserts an operation without uses, and counts its operands. Returns `false` if memory ran out or a count overflows.
+pub(crate) fn insert_unused(
+    counts: &mut UseCounts,
+    op: OpId,
+    kept: bool,
+    operands: &[Value],
+) -> bool
     ensures { OnTrue result (EnteredWith op kept operands.now (counts_in counts.old) (counts_in counts.new)) }
 {
     if !enter(counts, op, kept) {
@@ -150,7 +153,7 @@ pub(crate) fn put(counts: &mut UseCounts, op: OpId, kept: bool, operands: &[Valu
     raise_all(counts, operands)
 }
 
-/// Takes out an operation that nobody uses, with its operands. This needs no memory.
+/// Removes an operation without uses, and uncounts its operands. Needs no memory.
 pub(crate) fn take(counts: &mut UseCounts, op: OpId, operands: &[Value])
     ensures { LeftWith op operands.now (counts_in counts.old) (counts_in counts.new) }
 {
@@ -159,7 +162,7 @@ pub(crate) fn take(counts: &mut UseCounts, op: OpId, operands: &[Value])
     lower_all(counts, operands);
 }
 
-/// Counts a use more of one value and a use less of another. It is false where a count would pass its type.
+/// Counts one more use of the new value and one use less of the old value. Returns `false` if a count overflows.
 pub(crate) fn exchange(counts: &mut UseCounts, old: &Value, new: &Value) -> bool
     ensures { OnTrue result (Exchanged old.now new.now (counts_in counts.old) (counts_in counts.new)) }
 {

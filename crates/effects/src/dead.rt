@@ -1,9 +1,9 @@
-//! The listener that keeps the dead operations.
+//! The listener of dead operations.
 ghost use Rattle.std.specs.Prelude.{◌≡◌, ◌≤◌, ◌+◌, ℕ, None, true};
 ghost use Rattle.std.specs.Bool.{OnTrue};
-ghost use Rattle.ir_event.specs.Modules.{Module, things_in, module_in, shown_in};
+ghost use Rattle.ir_event.specs.Modules.{Module, context_model, module_in, node_of_op};
 ghost use Rattle.ir_event.specs.Listener.{ShowsTaken, is_take};
-ghost use Rattle.ir_event.specs.Hearing.{Hears};
+ghost use Rattle.ir_event.specs.Notification.{IsNotified};
 ghost use Rattle.ir_event.specs.Step.{Step};
 ghost use Rattle.effects.specs.Counts.{counts_in, Counted};
 
@@ -21,9 +21,11 @@ use ir_event::view::View;
 use ir_event::world::World;
 use std::alloc::Global;
 
-/// The analysis `dead`: which operations nobody would miss (Operation Canonicalization, "General Design").
+/// The analysis `dead`: the operations that can be erased without a difference (Operation Canonicalization, "General
+/// Design").
 ///
-/// It keeps the effects of operations, as the listener of effects does, and for each how many uses its results have.
+/// It keeps the effects of operations, like the listener of effects, and the number of uses of each operation's
+/// results.
 #[derive(Drop)]
 pub struct Dead {
     alloc: Global,
@@ -35,7 +37,7 @@ pub struct Dead {
 impl Dead {
     ghost use Rattle.effects.specs.Listeners.{dead_listener};
 
-    /// A listener that has not begun, and is stale.
+    /// Returns a listener that hasn't begun and is stale.
     pub fn new(alloc: Global) -> Dead
         ensures { (dead_listener result).stale ≡ true }
     {
@@ -48,8 +50,7 @@ impl Dead {
     }
 }
 
-/// Counts the uses of results in a world's module, where no operation has a count so far. It is false where memory
-/// was refused.
+/// Counts the uses of results in the module, given an empty table. Returns `false` if memory ran out.
 fn tally(world: &World, counts: &mut UseCounts) -> bool
     ensures { ((y : ℕ) → counts_in counts.old y ≡ None)
         → OnTrue result (Counted (counts_in counts.new) (module_in world.now).tree) }
@@ -73,7 +74,7 @@ impl Analysis for Dead {
     }
 
     fn begin(&mut self, world: &World) -> Result<(), Memory> {
-        // What was kept goes first, so that there is room for what is kept now.
+        // The old table is dropped first, to free its memory.
         self.counts = no_counts(self.alloc);
         self.stale = true;
         self.effects.begin(world)?;
@@ -84,15 +85,15 @@ impl Analysis for Dead {
         Ok(())
     }
 
-    /// Where it agreed before an operation was taken, and that one is shown, it agrees afterwards, and isn't stale. It
-    /// looks at most twice, at an operation that was put or taken.
+    /// If the listener agreed before an operation was removed, and the view shows the operation, the listener agrees
+    /// afterwards and isn't stale. The listener looks at most twice, at an inserted or removed operation.
     fn told<'a>(&mut self, view: View<'a>, event: Event) -> View<'a>
-        ensures heard { Hears event view.entry result (dead_listener self.old) (dead_listener self.new) }
+        ensures notified { IsNotified event view.entry result (dead_listener self.old) (dead_listener self.new) }
         ensures twice { result.looks ≤ view.entry.looks + 2 }
-        ensures take { (m : Module) → is_take event ≡ true → Step (things_in view.entry.world.now) event m
-            (module_in view.entry.world.now) → ShowsTaken event m (shown_in view.entry.world.now)
-            → (dead_listener self.old).agrees (things_in view.entry.world.now) m
-            → (dead_listener self.new).agrees (things_in view.entry.world.now) (module_in view.entry.world.now) }
+        ensures take { (m : Module) → is_take event ≡ true → Step (context_model view.entry.world.now) event m
+            (module_in view.entry.world.now) → ShowsTaken event m (node_of_op view.entry.world.now)
+            → (dead_listener self.old).agrees (context_model view.entry.world.now) m
+            → (dead_listener self.new).agrees (context_model view.entry.world.now) (module_in view.entry.world.now) }
     {
         if self.stale {
             return view;

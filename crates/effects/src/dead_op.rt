@@ -1,4 +1,4 @@
-//! Whether one operation of a module is dead, without a listener and without memory.
+//! Tests whether one operation is dead, without a listener and without memory.
 ghost use Rattle.std.specs.Prelude.{◌≡◌, ◌≤◌, IfSome, option_map};
 ghost use Rattle.ir_event.specs.trees.Tree.{region_count, head};
 ghost use Rattle.ir_event.specs.trees.Ids.{find};
@@ -17,15 +17,15 @@ use ir_event::types::ids::OpId;
 use ir_event::world::World;
 use op_registry::own::Own;
 
-/// Whether nobody would miss what an operation has by itself.
+/// Returns whether the own effects of an operation are only allocations and reads.
 fn may_go(own: &Own) -> bool
     ensures { result ≡ may_go (own_kinds own.now) }
 {
-    let kinds = EffectKinds::of(own);
+    let kinds = EffectKinds::from_own(own);
     !(kinds.unknown || kinds.free || kinds.write)
 }
 
-/// What an operation of the module has by itself, and how many regions, if it is there.
+/// Returns the own effects of an operation and the number of its regions, or `None` if it isn't in the module.
 fn own_at(world: &World, op: OpId) -> Option<(Own, u32)>
     ensures own { option_map (λ l. l.0) result
         ≡ option_map (λ o. own_by world.now.ctx (head o).name) (find op world.now.store.module_of.tree) }
@@ -38,7 +38,8 @@ fn own_at(world: &World, op: OpId) -> Option<(Own, u32)>
     Some((own, node.region_count() as u32))
 }
 
-/// Whether nobody would miss what an operation of the module does, if it is there.
+/// Returns whether an operation has only allocations and reads as effects. The answer is `true` if it isn't in the
+/// module.
 #[cycle(idle)]
 fn is_idle(world: &World, op: OpId) -> bool
     ensures { result ≡ idle_at (own_by world.now.ctx) op world.now.store.module_of.tree }
@@ -59,7 +60,7 @@ fn is_idle(world: &World, op: OpId) -> bool
     true
 }
 
-/// Whether nobody would miss what the operations of the block of a region do.
+/// Returns whether all operations of the block of a region have only allocations and reads as effects.
 #[cycle(idle)]
 fn is_list_idle(world: &World, op: OpId, region: u32) -> bool
     ensures { result ≡ idle_ops (own_by world.now.ctx) (list_at op region world.now.store.module_of.tree) }
@@ -74,7 +75,7 @@ fn is_list_idle(world: &World, op: OpId, region: u32) -> bool
     true
 }
 
-/// Whether no operation of the module has one of the first so many results of an operation as an operand.
+/// Returns whether the first `count` results of the operation have no uses.
 fn is_unused(world: &World, op: OpId, count: u32) -> bool
     ensures { AreUnused op count world.now.store.module_of.tree result }
 {
@@ -88,8 +89,9 @@ fn is_unused(world: &World, op: OpId, count: u32) -> bool
     true
 }
 
-/// Whether an operation is in the module and dead: nobody uses what it gives, it isn't kept whatever it does, and
-/// nobody would miss what it does (Operation Canonicalization, "General Design"). It takes no memory.
+/// Returns whether the operation is in the module and dead: its results have no uses, it isn't a terminator, module or
+/// function, and its effects are only allocations and reads (Operation Canonicalization, "General Design"). Needs no
+/// memory.
 pub fn dead_op(world: &World, op: OpId) -> bool
     ensures { result ≡ dead_at op (module_in world.now).tree }
 {

@@ -1,13 +1,12 @@
-//! The effects of operations.
+//! The table of effects.
 ghost use Rattle.std.specs.Ordering.{nat_cmp};
-ghost use Rattle.id_map.specs.Map as idmap;
+ghost use Rattle.listeners_support.specs.Map as idmap;
 ghost use Rattle.effects.specs.Marks.{acts, AreMarked, AreMarked-prop, HasRoom, HasRoom-prop};
 
 use crate::row::Row;
-use bit_set::BitSet;
-use id_map::IdMap;
+use listeners_support::{BitSet, IdMap};
 
-/// A row for each operation, and the set of those that have an effect.
+/// An entry for each operation, and the set of operations that have an effect.
 #[derive(Drop)]
 pub struct EffectRows {
     pub(crate) rows: IdMap<Row>,

@@ -1,11 +1,11 @@
-//! The listener that keeps the effects of operations.
+//! The listener of effects.
 ghost use Rattle.std.specs.Prelude.{◌≡◌, ◌≤◌, ◌+◌, true};
-ghost use Rattle.ir_event.specs.Modules.{Module, things_in, module_in};
+ghost use Rattle.ir_event.specs.Modules.{Module, context_model, module_in};
 ghost use Rattle.ir_event.specs.Listener.{is_take};
-ghost use Rattle.ir_event.specs.Hearing.{Hears};
+ghost use Rattle.ir_event.specs.Notification.{IsNotified};
 ghost use Rattle.ir_event.specs.Step.{Step};
 
-use crate::collect::put_module;
+use crate::collect::insert_module;
 use crate::effect_rows::EffectRows;
 use crate::follow::follow;
 use crate::report::lines;
@@ -18,10 +18,10 @@ use ir_event::view::View;
 use ir_event::world::World;
 use std::alloc::Global;
 
-/// The analysis `effects`: which effects each operation has (Rationale, "Side Effects & Speculation").
+/// The analysis `effects`: the effects of each operation (Rationale, "Side Effects & Speculation").
 ///
-/// It keeps of each operation the one around it, its effects, and how many of the operations directly inside have each
-/// effect; where one of these gains or loses an effect, what is around it follows as far as that changes anything.
+/// It keeps for each operation its parent, its effects, and how many of its children have each effect. If a child gains
+/// or loses an effect, the parents are updated as far up as an effect changes.
 #[derive(Drop)]
 pub struct Effects {
     alloc: Global,
@@ -32,7 +32,7 @@ pub struct Effects {
 impl Effects {
     ghost use Rattle.effects.specs.Listeners.{effects_listener};
 
-    /// A listener that has not begun, and is stale.
+    /// Returns a listener that hasn't begun and is stale.
     pub fn new(alloc: Global) -> Effects
         ensures { (effects_listener result).stale ≡ true }
     {
@@ -43,7 +43,7 @@ impl Effects {
         }
     }
 
-    /// The table.
+    /// Returns the table.
     pub(crate) fn rows(&self) -> &EffectRows
         ensures { result.now ≡ self.now.rows }
     {
@@ -61,25 +61,25 @@ impl Analysis for Effects {
     }
 
     fn begin(&mut self, world: &World) -> Result<(), Memory> {
-        // What was kept goes first, so that there is room for what is kept now.
+        // The old table is dropped first, to free its memory.
         self.rows = no_rows(self.alloc);
         self.stale = true;
-        if !put_module(world, &mut self.rows) {
+        if !insert_module(world, &mut self.rows) {
             return Err(Memory);
         }
         self.stale = false;
         Ok(())
     }
 
-    /// Where it agreed before an operation was taken it agrees afterwards, and isn't stale. It looks once, at an
-    /// operation that was put.
+    /// If the listener agreed before an operation was removed, it agrees afterwards and isn't stale. The listener looks
+    /// once, at an inserted operation.
     fn told<'a>(&mut self, view: View<'a>, event: Event) -> View<'a>
-        ensures heard { Hears event view.entry result (effects_listener self.old) (effects_listener self.new) }
+        ensures notified { IsNotified event view.entry result (effects_listener self.old) (effects_listener self.new) }
         ensures once { result.looks ≤ view.entry.looks + 1 }
         ensures take { (m : Module) → is_take event ≡ true
-            → Step (things_in view.entry.world.now) event m (module_in view.entry.world.now)
-            → (effects_listener self.old).agrees (things_in view.entry.world.now) m
-            → (effects_listener self.new).agrees (things_in view.entry.world.now) (module_in view.entry.world.now) }
+            → Step (context_model view.entry.world.now) event m (module_in view.entry.world.now)
+            → (effects_listener self.old).agrees (context_model view.entry.world.now) m
+            → (effects_listener self.new).agrees (context_model view.entry.world.now) (module_in view.entry.world.now) }
     {
         if self.stale {
             return view;

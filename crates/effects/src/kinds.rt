@@ -5,7 +5,7 @@ ghost use Rattle.effects.specs.Walks.{minus};
 
 use op_registry::own::Own;
 
-/// Which effects an operation has (Rationale, "Side Effects & Speculation").
+/// The effects of an operation (Rationale, "Side Effects & Speculation").
 #[derive(Clone, Copy)]
 pub struct EffectKinds {
     pub unknown: bool,
@@ -15,7 +15,7 @@ pub struct EffectKinds {
     pub write: bool,
 }
 
-/// Whether an operation has the effects of the operations directly inside it.
+/// Returns whether an operation has the effects of its children.
 pub(crate) fn recursive(own: &Own) -> bool
     ensures { result ≡ is_recursive own.now }
 {
@@ -23,7 +23,7 @@ pub(crate) fn recursive(own: &Own) -> bool
 }
 
 impl EffectKinds {
-    /// The empty set.
+    /// Returns the empty set.
     pub fn none() -> EffectKinds
         ensures { result ≡ none }
     {
@@ -36,8 +36,9 @@ impl EffectKinds {
         }
     }
 
-    /// What an operation has by itself.
-    pub fn of(own: &Own) -> EffectKinds
+    /// Returns the own effects of an operation as a set, which is empty if the operation has the effects of its
+    /// children.
+    pub fn from_own(own: &Own) -> EffectKinds
         ensures { result ≡ own_kinds own.now }
     {
         match own {
@@ -59,14 +60,14 @@ impl EffectKinds {
         }
     }
 
-    /// Whether it is empty.
+    /// Returns whether the set is empty.
     pub fn is_none(&self) -> bool
         ensures { result ≡ is_none self.now }
     {
         !(self.unknown || self.allocate || self.free || self.read || self.write)
     }
 
-    /// What is in it and not in another.
+    /// Returns the effects of this set that aren't in `other`.
     pub fn minus(&self, other: &EffectKinds) -> EffectKinds
         ensures { result ≡ minus self.now other.now }
     {

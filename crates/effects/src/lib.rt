@@ -1,5 +1,5 @@
-//! The listeners that keep the effects of operations and the dead operations: where one agreed with a module before
-//! an event it agrees with the module after it, or is stale.
+//! The effects of operations, and dead operations: two listeners (`effects`, `dead`), and a test of one operation
+//! (`dead_op`).
 #![tactic(auto)]
 
 mod collect;

@@ -1,4 +1,4 @@
-//! What an operation has by itself, by its name in a context.
+//! The own effects of an operation, by its name.
 ghost use Rattle.std.specs.Prelude.{◌≡◌};
 ghost use Rattle.effects.specs.Effects.{own_by};
 
@@ -7,7 +7,7 @@ use ir_event::types::ids::NameId;
 use op_registry::own::Own;
 use op_registry::registry::Registry;
 
-/// What an operation of a name has by itself.
+/// Returns the own effects of operations with that name.
 pub(crate) fn own(ctx: &Context, registry: &Registry, name: NameId) -> Own
     ensures { result ≡ own_by ctx.now name }
 {

@@ -1,6 +1,6 @@
-//! What is kept of one operation.
+//! The table entry of an operation.
 ghost use Rattle.std.specs.Prelude.{◌≡◌, ◌-◌, ◌+◌, IfSome};
-ghost use Rattle.effects.specs.Spots.{one_if};
+ghost use Rattle.effects.specs.Points.{one_if};
 ghost use Rattle.effects.specs.Walks.{lowered, lost_row, raised, gained_row, present, both, new_row};
 ghost use Rattle.effects.specs.Effects.{union};
 
@@ -8,7 +8,7 @@ use crate::kinds::{EffectKinds, recursive};
 use ir_event::types::ids::OpId;
 use op_registry::own::Own;
 
-/// How many of some operations have each effect.
+/// How many operations have each effect.
 #[derive(Clone, Copy)]
 pub struct Counts {
     pub unknown: u32,
@@ -18,8 +18,8 @@ pub struct Counts {
     pub write: u32,
 }
 
-/// An operation: the one around it, whether it is recursive, its effects, and how many of the operations directly
-/// inside have each.
+/// The entry of an operation: its parent, whether it has the effects of its children, its effects, and how many of its
+/// children have each effect.
 #[derive(Clone, Copy)]
 pub struct Row {
     pub parent: Option<OpId>,
@@ -28,14 +28,14 @@ pub struct Row {
     pub counts: Counts,
 }
 
-/// One less, where one goes.
+/// Returns the count, one less if `less`.
 fn lower(count: u32, less: bool) -> u32
     ensures { result ≡ count - one_if less }
 {
     if less { count.saturating_sub(1) } else { count }
 }
 
-/// One more, where one comes, unless the count would pass its type.
+/// Returns the count, one more if `more`, or `None` if it overflows.
 fn raise(count: u32, more: bool) -> Option<u32>
     ensures { IfSome result (λ c. c ≡ count + one_if more) }
 {
@@ -47,7 +47,7 @@ fn raise(count: u32, more: bool) -> Option<u32>
 }
 
 impl Counts {
-    /// One less of each of these effects.
+    /// Returns the counts, one less for each effect in `less`.
     fn lowered(&self, less: &EffectKinds) -> Counts
         ensures { result ≡ lowered self.now less.now }
     {
@@ -60,7 +60,7 @@ impl Counts {
         }
     }
 
-    /// One more of each of these effects, unless a count would pass its type.
+    /// Returns the counts, one more for each effect in `more`, or `None` if a count overflows.
     fn raised(&self, more: &EffectKinds) -> Option<Counts>
         ensures { IfSome result (λ c. c ≡ raised self.now more.now) }
     {
@@ -78,7 +78,7 @@ impl Counts {
         })
     }
 
-    /// The effects that are counted.
+    /// Returns the effects whose count isn't 0.
     fn present(&self) -> EffectKinds
         ensures { result ≡ present self.now }
     {
@@ -92,7 +92,7 @@ impl Counts {
     }
 }
 
-/// What is in both of two sets.
+/// Returns the intersection of two sets.
 fn both(a: &EffectKinds, b: &EffectKinds) -> EffectKinds
     ensures { result ≡ both a.now b.now }
 {
@@ -105,7 +105,7 @@ fn both(a: &EffectKinds, b: &EffectKinds) -> EffectKinds
     }
 }
 
-/// What is in one of two sets.
+/// Returns the union of two sets.
 fn union_of(a: &EffectKinds, b: &EffectKinds) -> EffectKinds
     ensures { result ≡ union a.now b.now }
 {
@@ -119,7 +119,7 @@ fn union_of(a: &EffectKinds, b: &EffectKinds) -> EffectKinds
 }
 
 impl Row {
-    /// The row of an operation that holds none.
+    /// Returns the entry of an operation without children.
     pub fn leaf(parent: Option<OpId>, own: &Own) -> Row
         ensures { result ≡ new_row parent own.now }
     {
@@ -133,12 +133,12 @@ impl Row {
         Row {
             parent,
             recursive: recursive(own),
-            has: EffectKinds::of(own),
+            has: EffectKinds::from_own(own),
             counts,
         }
     }
 
-    /// The row where the operation stands in another.
+    /// Returns the entry with another parent.
     pub fn moved(&self, parent: Option<OpId>) -> Row
         ensures { result ≡ record self.now { parent = parent } }
     {
@@ -150,7 +150,7 @@ impl Row {
         }
     }
 
-    /// The row where one operation less directly inside has each of these effects.
+    /// Returns the entry after a child lost these effects.
     pub fn without(&self, less: &EffectKinds) -> Row
         ensures { result ≡ lost_row self.now less.now }
     {
@@ -168,7 +168,7 @@ impl Row {
         }
     }
 
-    /// The row where one operation more directly inside has each of these effects.
+    /// Returns the entry after a child gained these effects, or `None` if a count overflows.
     pub fn with(&self, more: &EffectKinds) -> Option<Row>
         ensures { IfSome result (λ r. r ≡ gained_row self.now more.now) }
     {

@@ -1,21 +1,20 @@
 //! Changes of the table.
-ghost use Rattle.id_map.specs.Map as idmap;
+ghost use Rattle.listeners_support.specs.Map as idmap;
 ghost use Rattle.std.specs.Prelude.{◌≡◌, false, Some, None, ℕ, List, ◌∷◌};
 ghost use Rattle.std.specs.Bool.{OnTrue};
-ghost use Rattle.effects.specs.Spots.{Spot, Apart, with_row};
+ghost use Rattle.effects.specs.Points.{Point, Apart, with_row};
 ghost use Rattle.effects.specs.Walks.{rows_at, row_at};
 ghost use Rattle.effects.specs.Following.{Whole, PutIn, TakenOut, ShiftedTo};
 
 use crate::effect_rows::EffectRows;
 use crate::row::Row;
 use crate::walk::{drop_row, gain, lose, mark, row_of, write};
-use bit_set::BitSet;
-use id_map::IdMap;
 use ir_event::types::ids::OpId;
+use listeners_support::{BitSet, IdMap};
 use op_registry::own::Own;
 use std::alloc::Global;
 
-/// No operation has a row.
+/// Returns an empty table.
 pub(crate) fn no_rows(alloc: Global) -> EffectRows
     ensures { (x : ℕ) → row_at result x ≡ None }
 {
@@ -25,7 +24,7 @@ pub(crate) fn no_rows(alloc: Global) -> EffectRows
     }
 }
 
-/// Adds a row to a map, or writes it in place of another. It is false where memory was refused.
+/// Writes an entry of a map. Returns `false` if memory ran out.
 fn record_row(rows: &mut IdMap<Row>, op: OpId, row: Row) -> bool
     ensures there { OnTrue result ((x : ℕ) → rows_at rows.new x ≡ with_row op (Some row) (rows_at rows.old) x) }
     ensures same { result ≡ false → idmap.IsUnchanged rows.old rows.new }
@@ -33,7 +32,7 @@ fn record_row(rows: &mut IdMap<Row>, op: OpId, row: Row) -> bool
     rows.insert(op.number(), row).is_ok()
 }
 
-/// Adds a row, or writes it in place of another. It is false where memory was refused.
+/// Writes an entry of the table. Returns `false` if memory ran out.
 fn add(rows: &mut EffectRows, op: OpId, row: Row) -> bool
     ensures { OnTrue result ((x : ℕ) → row_at rows.new x ≡ with_row op (Some row) (row_at rows.old) x) }
 {
@@ -48,8 +47,8 @@ fn add(rows: &mut EffectRows, op: OpId, row: Row) -> bool
     true
 }
 
-/// Puts in an operation that holds none. It is false where memory was refused.
-pub(crate) fn put(rows: &mut EffectRows, op: OpId, parent: Option<OpId>, own: &Own) -> bool
+/// Inserts an operation without children. Returns `false` if memory ran out or a count overflows.
+pub(crate) fn insert_leaf(rows: &mut EffectRows, op: OpId, parent: Option<OpId>, own: &Own) -> bool
     ensures { OnTrue result (PutIn op parent own.now (row_at rows.old) (row_at rows.new)) }
 {
     let row = Row::leaf(parent, own);
@@ -61,7 +60,7 @@ pub(crate) fn put(rows: &mut EffectRows, op: OpId, parent: Option<OpId>, own: &O
     gain(rows, from, &has)
 }
 
-/// Takes out an operation that holds none. This needs no memory.
+/// Removes an operation without children. Needs no memory.
 pub(crate) fn take(rows: &mut EffectRows, op: OpId)
     ensures { TakenOut op (row_at rows.old) (row_at rows.new) }
 {
@@ -70,7 +69,7 @@ pub(crate) fn take(rows: &mut EffectRows, op: OpId)
     }
 }
 
-/// Takes an operation out of the one around it.
+/// Removes an operation from its parent.
 fn detach(rows: &mut EffectRows, op: OpId)
     ensures { ShiftedTo op None (row_at rows.old) (row_at rows.new) }
 {
@@ -81,9 +80,9 @@ fn detach(rows: &mut EffectRows, op: OpId)
     }
 }
 
-/// Puts an operation that stands in none into another. It is false where a count would pass its type.
+/// Gives an operation without a parent a parent. Returns `false` if a count overflows.
 fn attach(rows: &mut EffectRows, op: OpId, parent: OpId) -> bool
-    ensures { OnTrue result ((n : Spot) (ns : List Spot) → n.id ≡ op → n.parent ≡ None → Apart (n ∷ ns)
+    ensures { OnTrue result ((n : Point) (ns : List Point) → n.id ≡ op → n.parent ≡ None → Apart (n ∷ ns)
         → Whole (row_at rows.old) (n ∷ ns) → Whole (row_at rows.new) (record n { parent = Some parent } ∷ ns)) }
 {
     let Some(row) = row_of(rows, op) else {
@@ -94,7 +93,7 @@ fn attach(rows: &mut EffectRows, op: OpId, parent: OpId) -> bool
     gain(rows, Some(parent), &row.has)
 }
 
-/// Moves an operation, with what is inside it, into another. It is false where a count would pass its type.
+/// Moves an operation with its subtree to another parent. Returns `false` if a count overflows.
 pub(crate) fn shift(rows: &mut EffectRows, op: OpId, parent: OpId) -> bool
     ensures { OnTrue result (ShiftedTo op (Some parent) (row_at rows.old) (row_at rows.new)) }
 {

@@ -1,4 +1,4 @@
-//! The counts of a module, by two walks: one gives each operation a count, and one counts the operands.
+//! Counts the uses of a module in two passes: one gives each operation a count, and one counts the operands.
 ghost use Rattle.std.specs.Prelude.{◌≡◌, []};
 ghost use Rattle.std.specs.Bool.{OnTrue};
 ghost use Rattle.ir_event.specs.types.Terms.{name_term};
@@ -19,8 +19,8 @@ use op_registry::definition::Trait;
 use op_registry::own::Own;
 use op_registry::registry::Registry;
 
-/// Whether an operation of a name stays whatever it does: a terminator, or what defines a symbol, as modules and
-/// functions do.
+/// Returns whether operations with that name are never dead: terminators, and operations that define symbols, which are
+/// modules and functions.
 #[tactic(auto, using(crate::proofs::Names::kept_is))]
 pub(crate) fn is_kept(ctx: &Context, registry: &Registry, name: NameId) -> bool
     ensures { result ≡ is_kept (name_term ctx.now name) }
@@ -29,22 +29,22 @@ pub(crate) fn is_kept(ctx: &Context, registry: &Registry, name: NameId) -> bool
     registry.has(name, Trait::Terminator) || registry.has(name, Trait::Symbol)
 }
 
-/// Whether someone would miss what an operation has by itself.
+/// Returns whether the own effects are others than allocations and reads.
 fn is_missed(own: &Own) -> bool
     ensures { result ≡ is_missed own.now }
 {
-    let kinds = EffectKinds::of(own);
+    let kinds = EffectKinds::from_own(own);
     !(recursive(own) || !(kinds.unknown || kinds.free || kinds.write))
 }
 
-/// Whether an operation of a name is never dead: it stays whatever it does, or has by itself what someone would miss.
+/// Returns whether operations with that name are never dead, because of the name or of their own effects.
 pub(crate) fn stays(ctx: &Context, registry: &Registry, name: NameId) -> bool
     ensures { result ≡ stays (name_term ctx.now name) }
 {
     is_kept(ctx, registry, name) || is_missed(&own(ctx, registry, name))
 }
 
-/// Gives operations their counts. It is false where memory was refused.
+/// Gives each operation its initial count. Returns `false` if memory ran out.
 pub(crate) fn enter_all(world: &World, ops: &[OpId], counts: &mut UseCounts) -> bool
     ensures { OnTrue result (AllEntered (kept_by world.now.ctx) (heads_by (head_at world.now.store) ops.now)
         (counts_in counts.old) (counts_in counts.new)) }
@@ -57,7 +57,7 @@ pub(crate) fn enter_all(world: &World, ops: &[OpId], counts: &mut UseCounts) -> 
     true
 }
 
-/// Gives an operation its count, if it is there.
+/// Gives an operation its initial count if it is in the module. Returns `false` if memory ran out.
 fn enter_found(world: &World, op: OpId, counts: &mut UseCounts) -> bool
     ensures { OnTrue result (AllEntered (kept_by world.now.ctx) (with_head op (head_at world.now.store op) [])
         (counts_in counts.old) (counts_in counts.new)) }
@@ -69,7 +69,7 @@ fn enter_found(world: &World, op: OpId, counts: &mut UseCounts) -> bool
     enter(counts, op, kept)
 }
 
-/// Counts the operands of operations. It is false where a count would pass its type.
+/// Counts the operands of the operations. Returns `false` if a count overflows.
 pub(crate) fn raise_each(store: &Store, ops: &[OpId], counts: &mut UseCounts) -> bool
     ensures { OnTrue result (Raised (all_operands (heads_by (head_at store.now) ops.now)) (counts_in counts.old)
         (counts_in counts.new)) }
@@ -82,7 +82,7 @@ pub(crate) fn raise_each(store: &Store, ops: &[OpId], counts: &mut UseCounts) ->
     true
 }
 
-/// Counts the operands of an operation, if it is there.
+/// Counts the operands of an operation if it is in the module. Returns `false` if a count overflows.
 fn raise_found(store: &Store, op: OpId, counts: &mut UseCounts) -> bool
     ensures { OnTrue result (Raised (all_operands (with_head op (head_at store.now op) [])) (counts_in counts.old)
         (counts_in counts.new)) }

@@ -1,13 +1,12 @@
-//! How many uses the results of operations have.
+//! The table of use counts.
 ghost use Rattle.std.specs.Ordering.{nat_cmp};
-ghost use Rattle.id_map.specs.Map as idmap;
+ghost use Rattle.listeners_support.specs.Map as idmap;
 ghost use Rattle.effects.specs.Marks.{is_zero, AreMarked, AreMarked-prop, HasRoom, HasRoom-prop};
 
-use bit_set::BitSet;
-use id_map::IdMap;
+use listeners_support::{BitSet, IdMap};
 
-/// A count for each operation, and the set of those whose count is 0. A count is one higher where the operation stays
-/// whatever it does.
+/// A count for each operation, and the set of operations whose count is 0. The count of an operation that is never dead
+/// is one higher.
 #[derive(Drop)]
 pub struct UseCounts {
     pub(crate) counts: IdMap<u32>,

@@ -4,7 +4,7 @@ use Rattle.std.specs.Prelude.{OnOk, IfOk}
 use Rattle.std.proofs.lemmas.List.{drop_all}
 use Rattle.ir_event.specs.tree_laws.Members.{In}
 use Rattle.ir_event.proofs.of_tree_laws.Listed.{any_one, one_any, in_left, in_right}
-use Rattle.greedy.specs.Sights.{is_listed}
+use Rattle.greedy.specs.LocalContext.{is_listed}
 use Rattle.greedy.specs.Adding.{Adds, Adding, Grown, OneOf}
 use Rattle.ir_event.proofs.of_types.Truths.{none_left}
 
@@ -23,7 +23,7 @@ in_listed x ys h = any_one (λ y. eqb y x) ys x h (eq-eqb x x refl)
 pub listed_in : (x : ℕ) (ys : List ℕ) → is_listed x ys ≡ true → In x ys
 listed_in x ys h = let w = one_any (λ y. eqb y x) ys h in subst (λ z. In z ys) (eqb-true w.0 x w.2) w.1
 
--- what stands at a place of a list is in it
+-- the entry at an index of a list is in the list
 pub got_listed : (x : ℕ) (ys : List ℕ) (n : ℕ) → slice_get ys n ≡ Some x → is_listed x ys ≡ true
 got_listed x ys n e = in_listed x ys (go ys n e)
   where
@@ -32,7 +32,7 @@ got_listed x ys n e = in_listed x ys (go ys n e)
     go (y ∷ ys) zero e = let same : x ≡ y = cc in inl same
     go (y ∷ ys) (suc n) e = inr (go ys n e)
 
--- the first of a list, and what is behind it
+-- a list is its first entry followed by the rest
 pub from_item : {X : Type 0} (xs : List X) (x d : X) (n : ℕ) → 1 ≤ length xs → x ≡ slice_index_or xs 0 d → n ≡ length xs → xs ≡ x ∷ take (n - 1) (drop 1 xs)
 from_item [] x d n l e m = absurd (omega (arith, l))
 from_item (y ∷ ys) x d n l e m = λ i. sym e i ∷ sym (take_all (n - 1) ys (omega (arith, m))) i
@@ -44,7 +44,8 @@ grown_none xs = ([], sym (append-nil xs))
 pub grown_more : (xs ys zs : List ℕ) → Grown xs ys → Grown ys zs → Grown xs zs
 grown_more xs ys zs g h = (g.0 ++ h.0, h.1 ∙ ap (λ l. l ++ h.0) g.1 ∙ append_assoc xs g.0 h.0)
 
--- what stands at a place of the list as it was, and what is behind it there
+-- the entries of the old list from an index on are the entry at that index in the new list and the old entries after
+-- it
 pub at_place : (xs ys : List ℕ) (n d : ℕ) → Grown xs ys → n < length xs → drop n xs ≡ slice_index_or ys n d ∷ drop (n + 1) xs
 at_place xs ys n d g l = go xs n l ∙ (λ i. slice_index_or (sym g.1 i) n d ∷ drop (step i) xs)
   where
@@ -80,7 +81,7 @@ adds_pushed x xs ys e = record {
   added = λ y i. ap (is_listed y) e ∙ in_listed y (xs ++ x ∷ []) (in_right y xs (x ∷ []) (inl i));
 }
 
--- ---- what is still to come
+-- ---- what is still to be added
 pub adding_none : (P Q : ℕ → Type 0) (xs : List ℕ) → ((x : ℕ) → P x → Q x) → Adding P Q xs xs
 adding_none P Q xs f = record { grown = grown_none xs; kept = λ x h. h; added = λ x h. inr (f x h) }
 
@@ -101,7 +102,7 @@ adding_done P Q xs ys f a = record {
   added = λ x h. elim (a.added x h) [ inl i ↦ i | inr q ↦ absurd (f x q) ];
 }
 
--- by a walk over a list
+-- added by a walk over a list
 module _ {X : Type 0} (R : X → ℕ → Type 0) (whole : List X) (xs : List ℕ) where
   pub rest_all : Adding (OneOf R whole) (OneOf R whole) xs xs
   rest_all = adding_none (OneOf R whole) (OneOf R whole) xs (λ x h. h)
@@ -118,7 +119,7 @@ module _ {X : Type 0} (R : X → ℕ → Type 0) (whole : List X) (xs : List ℕ
   pub rest_done : (rest : List X) (ys : List ℕ) → rest ≡ [] → Adding (OneOf R whole) (OneOf R rest) xs ys → Adds (OneOf R whole) xs ys
   rest_done rest ys e a = adding_done (OneOf R whole) (OneOf R []) xs ys (λ x q. q.1) (subst (λ l. Adding (OneOf R whole) (OneOf R l) xs ys) e a)
 
--- by a walk over what a list that grows had at first, from a place on
+-- added by a walk over the entries that a growing list had at first, from an index on
 module _ (R : ℕ → ℕ → Type 0) (whole xs : List ℕ) where
   pub place_more : (ys zs : List ℕ) (n x d : ℕ) → n < length xs → x ≡ slice_index_or ys n d → Adding (OneOf R whole) (OneOf R (drop n xs)) xs ys → Adds (R x) ys zs → Adding (OneOf R whole) (OneOf R (drop (n + 1) xs)) xs zs
   place_more ys zs n x d l e a b = rest_more R whole xs (drop n xs) (drop (n + 1) xs) x ys zs (at_place xs ys n d a.grown l ∙ ap (λ y. y ∷ drop (n + 1) xs) (sym e)) a b

@@ -1,4 +1,4 @@
--- Laws of benches under the driver.
+-- Lemmas about rewriters under the driver.
 use Rattle.std.proofs.Common.{◌≡◌, refl, ap, sym, ◌∙◌, subst, ℕ, ◌+◌, ◌<◌, ◌≤◌, Bool, true, false, true≢false, ◌||◌, ◌&&◌, cond, eqb, eq-eqb, eqb-true, List, [], ◌∷◌, length, length-append, inl, inr, ◌⊎◌, arith, le-leb}
 use Rattle.std.specs.Prelude.{All, map, reverse, nat_le, ◌≢◌}
 use Rattle.std.specs.List.{IsDistinct, list_any}
@@ -18,38 +18,38 @@ use Rattle.ir_event.proofs.of_tree_laws.Listed.{both}
 use Rattle.ir_event.proofs.of_tree_laws.Members.{stand, itself, found_stands}
 use Rattle.ir_event.proofs.of_tree_laws.Formed.{from_formed, ids_below}
 use Rattle.ir_event.specs.Listener.{Listener}
-use Rattle.patterns.specs.Benched.{Benched, Led, Journaled}
-use Rattle.patterns.specs.Held.{Held, module_held, module_at, open_marks, open_mark}
+use Rattle.patterns.specs.RewriterCalls.{Benched, Led, Journaled}
+use Rattle.patterns.specs.Held.{TransactionModel, module_held, module_at, open_marks, open_mark}
 use Rattle.patterns.specs.rewriter.Journals.{before}
 use Rattle.patterns.specs.rewriter.Moves.{all_noted}
-use Rattle.patterns.specs.rewriter.Mark.{Mark}
+use Rattle.patterns.specs.rewriter.declared.mark.JournalMark.{JournalMark}
 use Rattle.greedy.proofs.Listed.{after_at, after_past, second_there}
 use Rattle.greedy.specs.Benches.{Formed, Onward}
 use Rattle.greedy.specs.Following.{HasFewRegions, comes_next, following}
 
--- ---- the module of contents and the one of numbers
-pub held_ids : (h : Held) → ids (module_held h).tree ≡ ids h.store.module_of.tree
+-- ---- the module with terms, and the module with interned numbers
+pub held_ids : (h : TransactionModel) → ids (module_held h).tree ≡ ids h.store.module_of.tree
 held_ids h = map_ids (name_term h.ctx) (type_term h.ctx) (attr_term h.ctx) h.store.module_of.tree
 
-pub held_root : (h : Held) → (head (module_held h).tree).id ≡ (head h.store.module_of.tree).id
+pub held_root : (h : TransactionModel) → (head (module_held h).tree).id ≡ (head h.store.module_of.tree).id
 held_root h = go h.store.module_of.tree
   where
     go : (t : Op) → (head (meaning h.ctx t)).id ≡ (head t).id
     go (op x rs) = refl
 
-pub held_has : (h : Held) (x : ℕ) → has_id x (module_held h).tree ≡ has_id x h.store.module_of.tree
+pub held_has : (h : TransactionModel) (x : ℕ) → has_id x (module_held h).tree ≡ has_id x h.store.module_of.tree
 held_has h x = ap (list_any (λ y. eqb y x)) (held_ids h)
 
-pub held_precedes : (h : Held) (a b : ℕ) → precedes a b (module_held h).tree ≡ precedes a b h.store.module_of.tree
+pub held_precedes : (h : TransactionModel) (a b : ℕ) → precedes a b (module_held h).tree ≡ precedes a b h.store.module_of.tree
 held_precedes h a b = ap (comes_after a b) (held_ids h)
 
-pub held_formed : (h : Held) → IsWellFormed (isolated_in h.ctx) h.store.module_of → Formed (module_held h)
+pub held_formed : (h : TransactionModel) → IsWellFormed (isolated_in h.ctx) h.store.module_of → Formed (module_held h)
 held_formed h w = record { distinct = subst (IsDistinct eqb) (sym (held_ids h)) w.distinct; below = subst (All (λ y. y < h.store.module_of.next)) (sym (held_ids h)) w.below }
 
-pub held_following : (h : Held) (x : ℕ) → following x h.store.module_of.tree ≡ following x (module_held h).tree
+pub held_following : (h : TransactionModel) (x : ℕ) → following x h.store.module_of.tree ≡ following x (module_held h).tree
 held_following h x = ap (comes_next x) (sym (held_ids h))
 
--- ---- no operation has more regions than so many
+-- ---- no operation has more than `most_regions` regions
 module _ {N T A : Type 0} where
   fits : (o : OpOf N T A) → op_fits o ≡ true → region_count (regions o) ≤ 16
   fits (op h rs) f = leb-true (region_count rs) most_regions (both (nat_le (region_count rs) most_regions) (all_arguments_pass items_fit rs) (both (head_fits h) (nat_le (region_count rs) most_regions && all_arguments_pass items_fit rs) f).1).0
@@ -60,22 +60,22 @@ module _ {N T A : Type 0} where
       fits o (ap op_fits (sym s.3) ∙ (from_formed isolated m.tree w.formed).fits s.0 s.1)
 
 module _ {B : Type 0} (meaning : B → Listener) where
-  pub led_onward : (a b : Benched B) → Holds b.desk.ctx → Led meaning a b → Onward meaning a b
+  pub led_onward : (a b : Benched B) → Holds b.transaction.ctx → Led meaning a b → Onward meaning a b
   led_onward a b h l = record { grows = l.1.grows; led = λ k. (h, l) }
 
-  -- a call whose events the journal has
-  pub noted_before : (a b : Benched B) → open_marks a.desk ≢ [] → Journaled meaning a b → (length a.desk.journal ≤ length b.desk.journal) × (module_at (length a.desk.journal) b.desk ≡ module_held a.desk)
-  noted_before a b marked j = go a.desk.marks refl
+  -- a call whose events the journal records
+  pub noted_before : (a b : Benched B) → open_marks a.transaction ≢ [] → Journaled meaning a b → (length a.transaction.journal ≤ length b.transaction.journal) × (module_at (length a.transaction.journal) b.transaction ≡ module_held a.transaction)
+  noted_before a b marked j = go a.transaction.marks refl
     where
-      unmarked : a.desk.marks ≡ [] → open_marks a.desk ≡ []
-      unmarked e = ap (λ l. reverse (map (open_mark a.desk) l)) e
+      unmarked : a.transaction.marks ≡ [] → open_marks a.transaction ≡ []
+      unmarked e = ap (λ l. reverse (map (open_mark a.transaction) l)) e
 
-      some : a.desk.marks ≢ []
+      some : a.transaction.marks ≢ []
       some e = marked (unmarked e)
 
-      go : (ks : List Mark) → a.desk.marks ≡ ks → (length a.desk.journal ≤ length b.desk.journal) × (module_at (length a.desk.journal) b.desk ≡ module_held a.desk)
+      go : (ks : List JournalMark) → a.transaction.marks ≡ ks → (length a.transaction.journal ≤ length b.transaction.journal) × (module_at (length a.transaction.journal) b.transaction ≡ module_held a.transaction)
       go [] e = absurd (some e)
       go (k ∷ ks) e = (
-        (let n = ap length (j.2.journal ∙ ap (λ l. all_noted l a.desk.journal j.0) e) in let m = length-append a.desk.journal j.0 in omega (arith, n, m)),
-        j.2.behind some (length a.desk.journal) (omega arith) ∙ ap (λ l. before a.desk.ctx l a.desk.store) (drop-length a.desk.journal),
+        (let n = ap length (j.2.journal ∙ ap (λ l. all_noted l a.transaction.journal j.0) e) in let m = length-append a.transaction.journal j.0 in omega (arith, n, m)),
+        j.2.trailing some (length a.transaction.journal) (omega arith) ∙ ap (λ l. before a.transaction.ctx l a.transaction.store) (drop-length a.transaction.journal),
       )

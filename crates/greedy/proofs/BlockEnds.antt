@@ -1,4 +1,4 @@
--- Operations that end blocks, by what is read of them.
+-- Operations that end blocks, as the store reads them.
 use Rattle.std.proofs.Common.{◌≡◌, refl, ap, sym, ◌∙◌, subst, ℕ, zero, suc, ◌<◌, Bool, true, true≢false, eqb-true, List, [], ◌∷◌, Option, Some, None, arith}
 use Rattle.std.specs.Prelude.{option_map, option_and_then}
 use Rattle.ir_event.specs.trees.Tree.{HeadOf, OpOf, op, RegionsOf, no_regions, region, RegionOf, OpsOf, no_ops, next, head, regions, region_count}
@@ -11,14 +11,14 @@ use Rattle.ir_event.specs.tree_laws.Stands.{StepOf, StandOf, stand_id, stands, s
 use Rattle.ir_event.specs.tree_laws.Members.{In}
 use Rattle.ir_event.proofs.of_tree_laws.Members.{stand, member}
 use Rattle.ir_event.proofs.of_tree_laws.Around.{place_of_member}
-use Rattle.listeners_surroundings.specs.Surroundings.{surround, ended_by}
-use Rattle.listeners_surroundings.proofs.Spots.{last_is}
+use Rattle.listeners_support.specs.Surroundings.{surround, ended_by}
+use Rattle.listeners_support.proofs.Points.{last_is}
 use Rattle.greedy.specs.Reached.{ends, ends_of}
-use Rattle.listeners_surroundings.proofs.Reading.{head_shown}
+use Rattle.listeners_support.proofs.Reading.{head_shown}
 use Rattle.ir_event.proofs.of_tree_laws.Facts.{region_below}
 
 module _ {N T A : Type 0} where
-  -- what ends a block stands there with nothing behind it
+  -- an operation that ends a block is in that block, with no operation after it
   pub record Ending (p y : ℕ) (t : OpOf N T A) : Type 0 where
     pub here : OpOf N T A
     pub step : StepOf N T A
@@ -57,7 +57,7 @@ module _ {N T A : Type 0} where
           by_path s m.0 m.1 s.path refl (sym (ap (λ f. ends_of p (option_map (surround t) f)) i) ∙ e)
 
   module _ (t : OpOf N T A) (d : HasDistinctIds t) where
-    -- where it stands
+    -- the place of such an operation
     pub ending_place : (p y : ℕ) → ends p y t ≡ true → (r : ℕ) × (place_of y t ≡ Some (record { parent = p; region = r; before = None }))
     ending_place p y e =
         let z = ending p y t e in (
@@ -65,13 +65,13 @@ module _ {N T A : Type 0} where
           ap (λ k. place_of k t) (sym z.id) ∙ place_of_member t d z.here z.step z.path z.there ∙ (λ i. Some (record { parent = z.parent i; region = z.step.region; before = first_id (z.last i) })),
         )
 
-    -- and how it is read
+    -- the store reads it as the last operation of its region
     pub ending_last : (p y : ℕ) → ends p y t ≡ true → (r : ℕ) × (last_at p r t ≡ Some y)
     ending_last p y e =
         let z = ending p y t e in
         (z.step.region, ap (λ k. last_at k z.step.region t) (sym z.parent) ∙ last_is t d z.here z.step z.path z.there z.last ∙ ap Some z.id)
 
-  -- a block that has a last operation is there
+  -- if a block has a last operation, the operation around the block is in the tree
   pub last_below : (p r y : ℕ) (t : OpOf N T A) → last_at p r t ≡ Some y → (o : OpOf N T A) × (find p t ≡ Some o) × (r < region_count (regions o))
   last_below p r y t e = go (find p t) refl e
     where

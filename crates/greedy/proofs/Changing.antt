@@ -1,4 +1,5 @@
--- A run of the driver is what the machine has of a canonicalization, and of a rewriting by what is tried.
+-- A run of the driver is the transformation that the state machine defines for a canonicalization or for a rewriting
+-- by a pattern set.
 use Rattle.std.proofs.Common.{◌≡◌, refl, ap, sym, ◌∙◌, ◌⊎◌, inl, inr, ℕ, true, false, cond, Result, Ok, Err}
 use Rattle.std.specs.Prelude.{IfOk, IfErr, OnErr}
 use Rattle.ir_event.specs.types.declared.refusal.Refusal.{Refusal}
@@ -8,7 +9,7 @@ use Rattle.ir_event.specs.Listener.{Listener}
 use Rattle.ir_event.specs.Modules.{Module}
 use Rattle.rewriter_machine.specs.Machine.{State, Answer, Change, Reply, DoneWith, Refused, Nothing, Transformation, due, due_change, IsAnswer, IsFullSo}
 use Rattle.rewriter_machine.specs.Panels.{AllAge}
-use Rattle.patterns.specs.rewriter.Benched.{Benched, Does, state_of}
+use Rattle.patterns.specs.rewriter.RewriterCalls.{Benched, Does, state_of}
 use Rattle.patterns.specs.rewriter.Held.{module_held, open_marks}
 use Rattle.patterns_base.specs.Canonicalization.{Canonical, ended, stopped, canonical_from, canonicalization_of}
 use Rattle.greedy.specs.declared.outcome.Outcome.{Outcome as Ended}
@@ -16,7 +17,7 @@ use Rattle.greedy.specs.declared.outcome.Outcome.TheVariants.{Converged, Limit}
 use Rattle.greedy.specs.Outcomes.{count_of, ending_of, is_limit, IsCanonical, IsReason, IsReasonBy, IsReasonFor, IsRewriting}
 use Rattle.greedy.specs.Changes.{outcome_of, made_of, canonicalizing, outcome_meaning, canonical_reply, rewriting}
 use Rattle.greedy.specs.Rewriting.{rewriting_of, rewritten_from}
-use Rattle.greedy.specs.Trial.{Trial}
+use Rattle.greedy.specs.PatternSet.{PatternSetModel}
 
 outcomes : (o : Ended) → outcome_of (count_of o) (ending_of o) ≡ outcome_meaning o
 outcomes (Converged k) = refl
@@ -26,11 +27,11 @@ no_limit : (limit : ℕ) (m : Module) → is_limit limit ≡ false → canonical
 unfolding canonicalization_of
 no_limit limit m e = ap (λ b. cond b (canonical_from limit 0 m) (stopped BadLimit)) e
 
-no_limit_by : (tries : Trial) (limit : ℕ) (m : Module) → is_limit limit ≡ false → rewriting_of tries limit m ≡ stopped BadLimit
+no_limit_by : (pattern_set : PatternSetModel) (limit : ℕ) (m : Module) → is_limit limit ≡ false → rewriting_of pattern_set limit m ≡ stopped BadLimit
 unfolding rewriting_of
-no_limit_by tries limit m e = ap (λ b. cond b (rewritten_from tries limit 0 m) (stopped BadLimit)) e
+no_limit_by pattern_set limit m e = ap (λ b. cond b (rewritten_from pattern_set limit 0 m) (stopped BadLimit)) e
 
--- runs of which a definition says what is due
+-- runs whose result a definition gives
 module _ (made : Module → Canonical) (limit : ℕ) (bad : (m : Module) → is_limit limit ≡ false → made m ≡ stopped BadLimit) where
   abbrev change : Transformation
   change = record { transformed = λ m. made_of (made m); interns = true }
@@ -59,12 +60,12 @@ module _ (made : Module → Canonical) (limit : ℕ) (bad : (m : Module) → is_
       ]
     ]
 
-  pub run_changes : {B : Type 0} (meaning : B → Listener) (a b : Benched B) (r : Result Ended Refusal) (full : Type 0) → IfOk r (λ o. made (module_held a.desk) ≡ ended (module_held b.desk) (count_of o) (ending_of o)) → OnErr r (module_held b.desk ≡ module_held a.desk) → IfErr r (λ e. IsReasonFor (made (module_held a.desk)) limit full e)
-      → open_marks b.desk ≡ open_marks a.desk → AllAge (state_of meaning a).panel (state_of meaning b).panel → Does meaning (Change change) (canonical_reply r) a b
+  pub run_changes : {B : Type 0} (meaning : B → Listener) (a b : Benched B) (r : Result Ended Refusal) (full : Type 0) → IfOk r (λ o. made (module_held a.transaction) ≡ ended (module_held b.transaction) (count_of o) (ending_of o)) → OnErr r (module_held b.transaction ≡ module_held a.transaction) → IfErr r (λ e. IsReasonFor (made (module_held a.transaction)) limit full e)
+      → open_marks b.transaction ≡ open_marks a.transaction → AllAge (state_of meaning a).panel (state_of meaning b).panel → Does meaning (Change change) (canonical_reply r) a b
   run_changes meaning a b (Ok o) full ok err why marks ages = record { answer = done_answer (state_of meaning a) (state_of meaning b) marks o ok; panel = ages }
   run_changes meaning a b (Err e) full ok err why marks ages = record { answer = err_answer (state_of meaning a) (state_of meaning b) marks e full why err; panel = ages }
 
-  -- one is refused with 31 only where that is due, or the context is full
+  -- a run is refused with 31 only if the definition says so, or if the context is full
   pub run_full : (s : State) (r : Result Ended Refusal) (full : Type 0) → IfErr r (λ e. IsReasonFor (made s.held) limit full e) → IsFullSo full s change (canonical_reply r)
   run_full s (Ok (Converged k)) full why is = absurd cc
   run_full s (Ok (Limit k)) full why is = absurd cc
@@ -86,16 +87,16 @@ module _ (made : Module → Canonical) (limit : ℕ) (bad : (m : Module) → is_
       no_want e = absurd cc
 
 module _ {B : Type 0} (meaning : B → Listener) where
-  pub changes : (limit : ℕ) (a b : Benched B) (r : Result Ended Refusal) (full : Type 0) → IfOk r (λ o. IsCanonical limit (module_held a.desk) o (module_held b.desk)) → OnErr r (module_held b.desk ≡ module_held a.desk) → IfErr r (λ e. IsReason limit (module_held a.desk) full e)
-      → open_marks b.desk ≡ open_marks a.desk → AllAge (state_of meaning a).panel (state_of meaning b).panel → Does meaning (Change (canonicalizing limit)) (canonical_reply r) a b
+  pub changes : (limit : ℕ) (a b : Benched B) (r : Result Ended Refusal) (full : Type 0) → IfOk r (λ o. IsCanonical limit (module_held a.transaction) o (module_held b.transaction)) → OnErr r (module_held b.transaction ≡ module_held a.transaction) → IfErr r (λ e. IsReason limit (module_held a.transaction) full e)
+      → open_marks b.transaction ≡ open_marks a.transaction → AllAge (state_of meaning a).panel (state_of meaning b).panel → Does meaning (Change (canonicalizing limit)) (canonical_reply r) a b
   changes limit a b r full ok err why marks ages = run_changes (canonicalization_of limit) limit (no_limit limit) meaning a b r full ok err why marks ages
 
-  pub changes_by : (tries : Trial) (limit : ℕ) (a b : Benched B) (r : Result Ended Refusal) (full : Type 0) → IfOk r (λ o. IsRewriting tries limit (module_held a.desk) o (module_held b.desk)) → OnErr r (module_held b.desk ≡ module_held a.desk) → IfErr r (λ e. IsReasonBy tries limit (module_held a.desk) full e)
-      → open_marks b.desk ≡ open_marks a.desk → AllAge (state_of meaning a).panel (state_of meaning b).panel → Does meaning (Change (rewriting tries limit)) (canonical_reply r) a b
-  changes_by tries limit a b r full ok err why marks ages = run_changes (rewriting_of tries limit) limit (no_limit_by tries limit) meaning a b r full ok err why marks ages
+  pub changes_by : (pattern_set : PatternSetModel) (limit : ℕ) (a b : Benched B) (r : Result Ended Refusal) (full : Type 0) → IfOk r (λ o. IsRewriting pattern_set limit (module_held a.transaction) o (module_held b.transaction)) → OnErr r (module_held b.transaction ≡ module_held a.transaction) → IfErr r (λ e. IsReasonBy pattern_set limit (module_held a.transaction) full e)
+      → open_marks b.transaction ≡ open_marks a.transaction → AllAge (state_of meaning a).panel (state_of meaning b).panel → Does meaning (Change (rewriting pattern_set limit)) (canonical_reply r) a b
+  changes_by pattern_set limit a b r full ok err why marks ages = run_changes (rewriting_of pattern_set limit) limit (no_limit_by pattern_set limit) meaning a b r full ok err why marks ages
 
 pub canon_full : (limit : ℕ) (s : State) (r : Result Ended Refusal) (full : Type 0) → IfErr r (λ e. IsReason limit s.held full e) → IsFullSo full s (canonicalizing limit) (canonical_reply r)
 canon_full limit s r full why = run_full (canonicalization_of limit) limit (no_limit limit) s r full why
 
-pub full_by : (tries : Trial) (limit : ℕ) (s : State) (r : Result Ended Refusal) (full : Type 0) → IfErr r (λ e. IsReasonBy tries limit s.held full e) → IsFullSo full s (rewriting tries limit) (canonical_reply r)
-full_by tries limit s r full why = run_full (rewriting_of tries limit) limit (no_limit_by tries limit) s r full why
+pub full_by : (pattern_set : PatternSetModel) (limit : ℕ) (s : State) (r : Result Ended Refusal) (full : Type 0) → IfErr r (λ e. IsReasonBy pattern_set limit s.held full e) → IsFullSo full s (rewriting pattern_set limit) (canonical_reply r)
+full_by pattern_set limit s r full why = run_full (rewriting_of pattern_set limit) limit (no_limit_by pattern_set limit) s r full why

@@ -1,7 +1,7 @@
--- The climb from an operation up.
+-- The climb from an operation to its parents.
 use Rattle.std.proofs.Common.{◌≡◌, refl, ap, sym, ◌∙◌, subst, ℕ, zero, suc, Bool, false, true≢false, ◌<◌, List, [], ◌∷◌, length, Option, Some, None, inl, inr, ◌⊎◌, arith}
 use Rattle.std.specs.Prelude.{option_map}
-use Rattle.ir_event.specs.types.Things.{Things}
+use Rattle.ir_event.specs.types.Things.{ContextModel}
 use Rattle.ir_event.specs.types.Terms.{name_term, type_term, attr_term}
 use Rattle.ir_event.specs.trees.declared.place.Place.{Place}
 use Rattle.ir_event.specs.trees.Tree.{OpOf, Op, op, head}
@@ -30,7 +30,7 @@ module _ {N T A : Type 0} (own : N → Own) where
   pub recursive_absent : (t : OpOf N T A) (x : ℕ) → find x t ≡ None → recursive_at own x t ≡ false
   recursive_absent t x e = ap (λ z. elim z as (λ _. Bool) [ None ↦ false | Some o ↦ is_recursive (own (head o).name) ]) e
 
--- as it is read
+-- the climb as the store reads it
 pub recursive_none : (own : ℕ → Own) (x : ℕ) (t : Op) → None ≡ option_map node_of (find x t) → false ≡ recursive_at own x t
 recursive_none own x t e = go (find x t) refl
   where
@@ -51,8 +51,8 @@ recursive_found own x t n e = go (find x t) refl
         let same : n ≡ node_of o = cc in
         ap (λ z. is_recursive (own z)) (ap (λ (m : Node). m.head.name) same ∙ shown o) ∙ sym (recursive_there own t o x i)
 
--- a climb in contents is one in numbers
-module _ (c : Things) (t : Op) where
+-- a climb in the tree of terms is a climb in the tree of interned numbers
+module _ (c : ContextModel) (t : Op) where
   same_recursive : (x : ℕ) → recursive_at own_of x (meaning c t) ≡ recursive_at (own_by c) x t
   same_recursive x = go (find x t) refl
     where
@@ -77,7 +77,7 @@ module _ (w : World) where
   pub climb_none : (y : ℕ) (xs : List ℕ) → Adding (IsClimbed w y) (IsClimbed w y) xs xs
   climb_none y xs = adding_none (IsClimbed w y) (IsClimbed w y) xs (λ x h. h)
 
-  -- a step up
+  -- one step to the parent
   pub climb_more : (P : ℕ → Type 0) (y : ℕ) (place : Place) (xs ys zs : List ℕ) → place_of y w.store.module_of.tree ≡ Some place → Adding P (IsClimbed w y) xs ys → Adds (λ x. x ≡ y) ys zs → Adding P (IsClimbed w place.parent) xs zs
   climb_more P y place xs ys zs e a b = adding_more P (IsClimbed w y) (λ x. x ≡ y) (IsClimbed w place.parent) xs ys zs (λ x q. step x q.0 q.1) a b
     where
@@ -95,7 +95,7 @@ module _ (w : World) where
       step x zero c = inl (sym c.1)
       step x (suc k) c = let no : None ≡ Some c.1.0 = sym (ap (option_map (λ (p : Place). p.parent)) e) ∙ c.1.1 in absurd cc
 
-  -- one that hasn't the effects of what is inside
+  -- an operation without recursive memory effects ends the climb
   pub climb_end : (P : ℕ → Type 0) (y : ℕ) (xs ys : List ℕ) → recursive_at (own_by w.ctx) y w.store.module_of.tree ≡ false → Adding P (IsClimbed w y) xs ys → Adds P xs ys
   climb_end P y xs ys e a = adding_done P (IsClimbed w y) xs ys (λ x q. not x q.0 q.1) a
     where
@@ -103,7 +103,7 @@ module _ (w : World) where
       not x zero c = true≢false (sym c.0 ∙ e)
       not x (suc k) c = true≢false (sym c.0 ∙ e)
 
--- ---- the way up ends
+-- ---- the climb ends
 abbrev pub height_of : {N T A : Type 0} → Option (StandOf N T A) → ℕ
 height_of None = 0
 height_of (Some s) = length s.path

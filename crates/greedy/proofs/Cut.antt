@@ -1,4 +1,4 @@
--- The ids of a tree with an operation taken out, and with one put in front of another.
+-- The ids of a tree after one operation is taken out, and after one is inserted before another.
 use Rattle.std.proofs.Common.{◌≡◌, refl, ap, sym, ◌∙◌, subst, ℕ, ◌+◌, ◌≤◌, true, false, true≢false, cond, ◌||◌, eqb, eq-eqb, eqb-true, List, [], ◌∷◌, ◌++◌, length, map, append_assoc, length-append, Some, inl, inr, ◌⊎◌, arith}
 use Rattle.std.specs.List.{list_any, IsDistinct}
 use Rattle.std.proofs.lemmas.List.{append_cancel_left}
@@ -20,17 +20,17 @@ use Rattle.ir_event.proofs.of_tree_laws.Stretches.{Parted, part, parted_ids, lef
 use Rattle.ir_event.proofs.of_tree_laws.Shift.{Inner, inner_of, own_distinct}
 use Rattle.ir_event.proofs.of_tree_laws.Cuts.{one_cut, absent_before}
 use Rattle.std.proofs.lemmas.Bool.{cases_Bool}
-use Rattle.rewriter_laws.proofs.Trees.{found_id}
+use Rattle.rewriter_machine.proofs.Trees.{found_id}
 use Rattle.ir_event.proofs.of_trees.Facts.{ids_head}
 
--- a list with others put in front of one of it
+-- a list after other entries are inserted before one entry
 pub record Came (b : ℕ) (others xs ys : List ℕ) : Type 0 where
   pub front : List ℕ
   pub back : List ℕ
   pub was : xs ≡ front ++ (b ∷ back)
   pub is : ys ≡ front ++ (others ++ (b ∷ back))
 
--- or as it was
+-- a list with such an insertion, or unchanged
 abbrev pub MayCome : ℕ → List ℕ → List ℕ → List ℕ → Type 0
 MayCome b others xs ys = (ys ≡ xs) ⊎ Came b others xs ys
 
@@ -63,9 +63,9 @@ joined b others xs ys us vs d (inl e) (inr c) = inr (come_right b others xs ys u
 joined b others xs ys us vs d (inr c) (inl f) = inr (come_left b others xs ys us vs c f)
 joined b others xs ys us vs d (inr c) (inr k) = absurd (true≢false (sym (come_there b others us vs k) ∙ (halves xs us d).disjoint b (come_there b others xs ys c)))
 
-behind : (b x : ℕ) (others xs ys : List ℕ) → MayCome b others xs ys → MayCome b others (x ∷ xs) (x ∷ ys)
-behind b x others xs ys (inl e) = inl (ap (λ l. x ∷ l) e)
-behind b x others xs ys (inr c) = inr (come_right b others (x ∷ []) (x ∷ []) xs ys refl c)
+trailing : (b x : ℕ) (others xs ys : List ℕ) → MayCome b others xs ys → MayCome b others (x ∷ xs) (x ∷ ys)
+trailing b x others xs ys (inl e) = inl (ap (λ l. x ∷ l) e)
+trailing b x others xs ys (inr c) = inr (come_right b others (x ∷ []) (x ∷ []) xs ys refl c)
 
 module _ {N T A : Type 0} (place : Place) (o : OpOf N T A) (b : ℕ) (before : place.before ≡ Some b) where
   put_before_ids : (os : OpsOf N T A) → MayCome b (ids o) (ops_ids os) (ops_ids (put_before b o os))
@@ -96,7 +96,7 @@ module _ {N T A : Type 0} (place : Place) (o : OpOf N T A) (b : ℕ) (before : p
 
   mutual
     put_op : (t : OpOf N T A) → IsDistinct eqb (ids t) → MayCome b (ids o) (ids t) (ids (each_list (put_here place o) t))
-    put_op (op h rs) d = behind b h.id (ids o) (regions_ids rs) (regions_ids (regions_each_list (put_here place o) h.id 0 rs)) (put_regions h.id 0 rs (absent_first h.id (regions_ids rs) d) (IsDistinct-tail eqb h.id (regions_ids rs) d))
+    put_op (op h rs) d = trailing b h.id (ids o) (regions_ids rs) (regions_ids (regions_each_list (put_here place o) h.id 0 rs)) (put_regions h.id 0 rs (absent_first h.id (regions_ids rs) d) (IsDistinct-tail eqb h.id (regions_ids rs) d))
 
     put_regions : (p r : ℕ) (rs : RegionsOf N T A) → Absent p (regions_ids rs) → IsDistinct eqb (regions_ids rs) → MayCome b (ids o) (regions_ids rs) (regions_ids (regions_each_list (put_here place o) p r rs))
     put_regions p r no_regions a d = inl refl
@@ -115,11 +115,11 @@ module _ {N T A : Type 0} (place : Place) (o : OpOf N T A) (b : ℕ) (before : p
         let hv = halves (ids q) (ops_ids os) d in
         joined b (ids o) (ids q) (ids (each_list (put_here place o) q)) (ops_ids os) (ops_ids (ops_each_list (put_here place o) os)) d (put_op q hv.left) (put_ops os hv.right)
 
-  -- the ids come in front of b, or nothing is put in
+  -- the ids are inserted before b, or nothing is inserted
   pub put_may : (t : OpOf N T A) → HasDistinctIds t → MayCome b (ids o) (ids t) (ids (put place o t))
   put_may t d = put_op t d
 
-  -- nothing is, where b isn't inside
+  -- nothing is inserted if b isn't inside
   pub put_outside : (t : OpOf N T A) → HasDistinctIds t → Absent b (regions_ids (regions t)) → ids (put place o t) ≡ ids t
   put_outside (op h rs) d a = go (put_regions h.id 0 rs (absent_first h.id (regions_ids rs) d) (IsDistinct-tail eqb h.id (regions_ids rs) d))
     where
@@ -131,7 +131,7 @@ module _ {N T A : Type 0} where
   pub found_present : (x : ℕ) (t o : OpOf N T A) → find x t ≡ Some o → Present x (ids t)
   found_present x t o e = let s = found_stands x t o e in subst (λ z. Present z (ids t)) s.2 (stand_present [] t s.0 s.1)
 
-  -- it isn't the root, where something stands before it
+  -- an operation with another operation before it isn't the root
   pub not_root : (y : ℕ) (t o : OpOf N T A) (xs ys : List ℕ) → find y t ≡ Some o → ids t ≡ xs ++ (ids o ++ ys) → 1 ≤ length xs → eqb (head t).id y ≡ false
   not_root y t o xs ys e is l = elim (cases_Bool (eqb (head t).id y)) [
     | inr k ↦ k
@@ -147,7 +147,7 @@ module _ {N T A : Type 0} where
       root_found : (t : OpOf N T A) → eqb (head t).id y ≡ true → find y t ≡ Some t
       root_found (op h rs) k = ap (λ b. cond b (Some (op h rs)) (regions_find y rs)) k
 
-  -- without an operation its ids go
+  -- taking an operation out takes its ids out
   pub without_ids : (y : ℕ) (t o : OpOf N T A) (xs ys : List ℕ) → HasDistinctIds t → find y t ≡ Some o → eqb (head t).id y ≡ false → ids t ≡ xs ++ (ids o ++ ys) → ids (without y t) ≡ xs ++ ys
   without_ids y t o xs ys d e root is =
       ap (λ z. ids (without z t)) (sym i.id) ∙ left_ids (head o).id (i.step_in ∷ i.path) o t w ∙ (λ j. fronts j ++ backs j)
@@ -180,7 +180,7 @@ module _ {N T A : Type 0} where
       backs : vs ≡ ys
       backs = append_cancel_left (ids o) vs ys (append_cancel_left us (ids o ++ vs) (ids o ++ ys) (sym cut ∙ is ∙ ap (λ l. l ++ (ids o ++ ys)) (sym fronts)))
 
-  -- what stands elsewhere is found as before
+  -- an operation outside the removed one is found as before
   pub without_found : (y z : ℕ) (t o v : OpOf N T A) → HasDistinctIds t → find y t ≡ Some o → find z t ≡ Some v → Absent z (ids o) → find z (without y t) ≡ Some (without y v)
   without_found y z t o v d e f a = elim (cases_Bool (is_gone y s.0)) [
     | inl k ↦ absurd (
@@ -197,7 +197,7 @@ module _ {N T A : Type 0} where
       s : (s : StandOf N T A) × In s (stands [] t) × (stand_id s ≡ z) × (s.here ≡ v)
       s = found_stands z t v f
 
-  -- what is found in an operation of a tree is found in the tree
+  -- an operation that is found inside an operation of a tree is found in the tree
   pub found_within : (x y : ℕ) (t u o : OpOf N T A) → HasDistinctIds t → find x t ≡ Some u → find y u ≡ Some o → find y t ≡ Some o
   found_within x y t u o d e f =
       let s = found_stands x t u e in

@@ -1,5 +1,5 @@
--- A rewrite that stays within the stretch of an operation is orderly: in pre-order, what stood there, the operation first,
--- is replaced by other operations, of which the old ones keep their order.
+-- A rewrite that stays within the pre-order range of an operation is orderly: it replaces that range with other
+-- operations, and the old operations that remain keep their order.
 use Rattle.std.proofs.Common.{◌≡◌, refl, ap, sym, ◌∙◌, subst, ℕ, inl, inr, ◌⊎◌, Bool, true, false, eqb, eq-eqb, List, [], ◌∷◌, ◌++◌, true≢false}
 use Rattle.std.specs.List.{IsDistinct}
 use Rattle.ir_event.specs.trees.Ids.{ids, HasDistinctIds}
@@ -29,7 +29,7 @@ in_either x (z ∷ xs) ys h = elim (bool_cases (eqb z x)) [
   | inr e ↦ elim (in_either x xs ys (listed_past z x (xs ++ ys) e h)) [ inl k ↦ inl (listed_more z x xs k) | inr k ↦ inr k ]
 ]
 
--- in none of two parts at once
+-- no element is in both of two disjoint parts
 apart : (x : ℕ) (xs ys : List ℕ) → IsDistinct eqb (xs ++ ys) → Listed x xs → Listed x ys → ⊥
 apart x xs ys d h k = true≢false (sym k ∙ (halves xs ys d).disjoint x h)
 
@@ -61,7 +61,7 @@ first_part a b (z ∷ xs) ys n m = elim (bool_cases (eqb z a)) [
 backwards : (a b : ℕ) (xs ys : List ℕ) → IsDistinct eqb (xs ++ ys) → Listed a ys → Listed b xs → comes_after a b (xs ++ ys) ≡ false
 backwards a b xs ys d h k = second a b xs ys (λ l. apart a xs ys d l h) ∙ false_from_ne_true (comes_after a b ys) (λ e. apart b xs ys d k (second_there a b ys e))
 
--- two lists that share a part, where the order in the other parts is the same
+-- two lists that share a part, with the other parts in the same order
 module _ (a b : ℕ) where
   -- the second part is replaced
   same_back : (xs ys zs : List ℕ) → IsDistinct eqb (xs ++ ys) → IsDistinct eqb (xs ++ zs) → Listed a (xs ++ ys) → Listed b (xs ++ ys) → Listed a (xs ++ zs) → Listed b (xs ++ zs)

@@ -1,4 +1,4 @@
--- What lists of edits near an operation leave of the order.
+-- Edits near an operation keep the order of the other operations.
 use Rattle.std.proofs.Common.{◌≡◌, refl, ap, sym, ◌∙◌, subst, ℕ, ◌+◌, ◌<◌, ◌≤◌, false, true≢false, ◌||◌, eqb, eqb-true, List, [], ◌∷◌, ◌++◌, append_assoc, append-nil, Some, None, inl, inr, arith}
 use Rattle.std.specs.List.{IsDistinct}
 use Rattle.ir_event.specs.types.Terms.{TypeTerm, AttrTerm}
@@ -22,10 +22,10 @@ use Rattle.greedy.specs.Orders.{Orderly}
 use Rattle.greedy.proofs.Cuts.{second, in_either, stretch_orderly}
 use Rattle.greedy.proofs.Nearby.{Wide, widths, Near, near_headed, near_erased, near_put, near_moved}
 use Rattle.greedy.proofs.Listed.{Listed, is_listed}
-use Rattle.greedy.proofs.Parts.{Part, part_before, part_behind, part_joined, part_order}
+use Rattle.greedy.proofs.Parts.{Part, part_before, part_after, part_joined, part_order}
 use Rattle.std.proofs.lemmas.Bool.{cases_Bool}
 
--- what stands where operation x stood: of what was there, it is in the order in which it was
+-- the range of operation x after edits: the old operations that remain in it keep their order
 pub record Stays (front stretch back : List ℕ) (n : Operation) : Type 0 where
   pub kept : List ℕ
   pub is : ids n ≡ front ++ (kept ++ back)
@@ -54,7 +54,7 @@ module _ (x : ℕ) (front back rest : List ℕ) (place : Place) (before : place.
   abbrev Holds : List ℕ → Module → Type 0
   Holds more m = Near x (front ++ more) back [] rest [] m.tree
 
-  -- of what is put in front nothing was there
+  -- the inserted operations are new
   abbrev Fresh : List ℕ → Type 0
   Fresh more = (z : ℕ) → Listed z more → first ≤ z
 
@@ -125,7 +125,7 @@ abbrev pub names : Wide → List ℕ
 names [] = []
 names (y ∷ ys) = y.0 ∷ names ys
 
--- what is left of x and what was in it
+-- what remains of x and of the operations that were in it
 pub record Left (front back all : List ℕ) (n : Operation) : Type 0 where
   pub kept : List ℕ
   pub is : ids n ≡ front ++ (kept ++ back)
@@ -166,5 +166,5 @@ module _ (x : ℕ) (front back inner outer : List ℕ) (place : Place) (before :
         kept = l.kept;
         is = l.is;
         distinct = l.distinct;
-        order = λ a b h k i j. part_order a b l.kept (x ∷ (inner ++ (widths ys ++ outer))) d (part_behind (x ∷ inner) l.kept (widths ys ++ outer) (part_before outer l.kept (widths ys) l.part)) i j;
+        order = λ a b h k i j. part_order a b l.kept (x ∷ (inner ++ (widths ys ++ outer))) d (part_after (x ∷ inner) l.kept (widths ys ++ outer) (part_before outer l.kept (widths ys) l.part)) i j;
       }

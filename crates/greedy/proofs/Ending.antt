@@ -10,12 +10,12 @@ use Rattle.ir_event.specs.tree_laws.Stands.{StepOf, stands, stand_of}
 use Rattle.ir_event.specs.tree_laws.Members.{In}
 use Rattle.ir_event.proofs.of_tree_laws.Readings.{step}
 use Rattle.ir_event.proofs.of_tree_laws.Members.{stand, stand_of_member, found_stands}
-use Rattle.listeners_surroundings.specs.Surroundings.{surround}
-use Rattle.listeners_surroundings.proofs.Lasts.{split_last, last_stands}
+use Rattle.listeners_support.specs.Surroundings.{surround}
+use Rattle.listeners_support.proofs.Lasts.{split_last, last_stands}
 use Rattle.greedy.specs.Reached.{ends, ends_of}
 
 module _ {N T A : Type 0} (t : OpOf N T A) (d : HasDistinctIds t) where
-  -- the last of a block ends it
+  -- the last operation of a block ends it
   pub last_ends : (p : OpOf N T A) (path : List (StepOf N T A)) (r : ℕ) (args : List T) (os : OpsOf N T A) (y : ℕ) → In (stand p path) (stands [] t) → region_at r (regions p) ≡ Some (block args os) → last_id os ≡ Some y
       → ends (head p).id y t ≡ true
   last_ends p path r args os y h f e =
@@ -27,7 +27,7 @@ module _ {N T A : Type 0} (t : OpOf N T A) (d : HasDistinctIds t) where
       same : (p : OpOf N T A) → eqb (node_of p).head.id (head p).id ≡ true
       same (op g rs) = eq-eqb g.id g.id refl
 
-  -- by the reading call
+  -- the same, for the operation that the store reads as the last
   pub last_at_ends : (p r y : ℕ) → last_at p r t ≡ Some y → ends p y t ≡ true
   last_at_ends p r y e = go (find p t) refl e
     where

@@ -1,4 +1,4 @@
--- An operation that is taken out changes the effects of those alone that are made of its own.
+-- Taking an operation out changes only the effects of operations whose effects include its effects.
 use Rattle.std.proofs.Common.{◌≡◌, refl, ap, sym, ◌∙◌, subst, ℕ, zero, suc, ◌+◌, Bool, true, false, true≢false, cond, ◌||◌, ◌&&◌, eqb, eqb-true, List, [], ◌∷◌, ◌++◌, Option, Some, None, inl, inr, ◌⊎◌}
 use Rattle.ir_event.specs.trees.Tree.{HeadOf, OpOf, op, RegionsOf, no_regions, region, empty, block, OpsOf, no_ops, next, head}
 use Rattle.ir_event.specs.trees.Ids.{HasDistinctIds}
@@ -14,9 +14,9 @@ use Rattle.ir_event.proofs.of_tree_laws.Around.{place_of_member}
 use Rattle.op_registry.specs.declared.own.Own.{Own}
 use Rattle.effects.specs.declared.kinds.EffectKinds.{EffectKinds}
 use Rattle.effects.specs.Effects.{none, union, own_kinds, is_recursive, effects_by, effects, regions_effects, ops_effects}
-use Rattle.listeners_surroundings.proofs.Left.{left_list}
+use Rattle.listeners_support.proofs.Left.{left_list}
 use Rattle.greedy.specs.Climbs.{recursive_at, Climbs, feels, regions_feel, ops_feel}
-use Rattle.listeners_surroundings.proofs.Locality.{kept_next}
+use Rattle.listeners_support.proofs.Locality.{kept_next}
 use Rattle.std.proofs.lemmas.Bool.{and_parts, or_cases}
 
 and_rest : (a b : Bool) → (a && b) ≡ false → a ≡ true → b ≡ false
@@ -52,7 +52,7 @@ module _ {N T A : Type 0} (own : N → Own) where
           let v = neither (feels own x o) (ops_feel own x os) w.1 in
           ap (ops_effects own) (kept_next x o os w.0) ∙ λ i. union (left_effects o v.0 i) (left_ops os v.1 i)
 
-  -- other heads with the same names
+  -- heads that change but keep their names
   module _ (g : HeadOf N T A → HeadOf N T A) (names : (h : HeadOf N T A) → (g h).name ≡ h.name) where
     mutual
       pub edit_effects : (o : OpOf N T A) → effects own (each_head g o) ≡ effects own o
@@ -67,7 +67,7 @@ module _ {N T A : Type 0} (own : N → Own) where
       edit_ops no_ops = refl
       edit_ops (next o os) = λ i. union (edit_effects o i) (edit_ops os i)
 
-  -- what feels an operation is reached from what is around that
+  -- an operation that feels x is reached by a climb from the parent of x
   module _ (x : ℕ) (t : OpOf N T A) (dist : HasDistinctIds t) where
     abbrev pub Climbed : ℕ → Type 0
     Climbed y = (w : ℕ) × (parent_of x t ≡ Some w) × ((k : ℕ) × Climbs own k y w t)

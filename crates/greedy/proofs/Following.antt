@@ -1,4 +1,4 @@
--- What comes behind an operation in pre-order.
+-- The operations after an operation in pre-order.
 use Rattle.std.proofs.Common.{◌≡◌, refl, ap, sym, ◌∙◌, subst, ℕ, zero, suc, ◌+◌, ◌≤◌, ◌<◌, Bool, true, false, true≢false, cond, ◌||◌, eqb, eq-eqb, eqb-true, List, [], ◌∷◌, ◌++◌, append_assoc, arith, length, map, Option, Some, None, inl, inr}
 use Rattle.std.specs.Prelude.{option_map, option_and_then}
 use Rattle.std.specs.List.{list_any, IsDistinct}
@@ -23,16 +23,16 @@ use Rattle.ir_event.proofs.of_tree_laws.Neighbours.{prev_there}
 use Rattle.ir_event.proofs.of_tree_laws.Around.{around_there, place_of_member, member_of_place}
 use Rattle.ir_event.proofs.of_tree_laws.Values.{shape, joined_more}
 use Rattle.greedy.proofs.Order.{rises}
-use Rattle.greedy.specs.Following.{first_id, comes_next, following, regions_from, first_inside, behind, behind_of, height_of, HasFewRegions, count_of}
+use Rattle.greedy.specs.Following.{first_id, comes_next, following, regions_from, first_inside, trailing, after_of, height_of, HasFewRegions, count_of}
 use Rattle.ir_event.proofs.of_types.Truths.{append_none, list_later}
 use Rattle.ir_event.proofs.of_trees.Facts.{ids_head}
 use Rattle.ir_event.proofs.of_tree_laws.Facts.{region_below}
-use Rattle.listeners_surroundings.proofs.Reading.{regions_counted}
+use Rattle.listeners_support.proofs.Reading.{regions_counted}
 
 there : ℕ → List ℕ → Bool
 there x xs = list_any (λ y. eqb y x) xs
 
--- in a list without doubles, the one behind x
+-- the entry after x in a list without duplicates
 next_first : (x : ℕ) (xs : List ℕ) → comes_next x (x ∷ xs) ≡ first_id xs
 next_first x xs = ap (λ b. cond b (first_id xs) (comes_next x xs)) (eq-eqb x x refl)
 
@@ -43,7 +43,7 @@ next_at x (y ∷ front) back d = elim (bool_cases (eqb y x)) [
   | inr e ↦ ap (λ b. cond b (first_id (front ++ x ∷ back)) (comes_next x (front ++ x ∷ back))) e ∙ next_at x front back (IsDistinct-tail eqb y (front ++ x ∷ back) d)
 ]
 
--- the first of two lists
+-- the first entry of two joined lists
 pub first_joined : (xs ys : List ℕ) (y : ℕ) → first_id xs ≡ Some y → first_id (xs ++ ys) ≡ Some y
 first_joined [] ys y e = absurd cc
 first_joined (x ∷ xs) ys y e = e
@@ -59,49 +59,49 @@ module _ {N T A : Type 0} where
   from_more (suc k) g rs no_regions e = absurd cc
   from_more (suc k) g rs (region h os) e = let one : suc (k + 1) ≡ suc k + 1 = omega arith in subst (λ j. regions_from j (region h os) ≡ rs) one (from_more k g rs os e)
 
-  -- the ids of a tree, cut where what is inside an operation ends
+  -- the ids of a tree, split after the contents of an operation
   abbrev Cut : List ℕ → StandOf N T A → Type 0
-  Cut all s = (front : List ℕ) × (all ≡ front ++ (ids s.here ++ behind s.path))
+  Cut all s = (front : List ℕ) × (all ≡ front ++ (ids s.here ++ trailing s.path))
 
   cut_more : (more xs : List ℕ) (s : StandOf N T A) → Cut xs s → Cut (more ++ xs) s
-  cut_more more xs s c = (more ++ c.0, ap (λ l. more ++ l) c.1 ∙ sym (append_assoc more c.0 (ids s.here ++ behind s.path)))
+  cut_more more xs s c = (more ++ c.0, ap (λ l. more ++ l) c.1 ∙ sym (append_assoc more c.0 (ids s.here ++ trailing s.path)))
 
   mutual
-    cut_op : (b : List (StepOf N T A)) (t : OpOf N T A) (s : StandOf N T A) → In s (stands b t) → Cut (ids t ++ behind b) s
-    cut_op b (op h rs) s (inl e) = ([], ap (λ (z : StandOf N T A). ids z.here ++ behind z.path) (sym e))
-    cut_op b (op h rs) s (inr k) = cut_more (h.id ∷ []) (regions_ids rs ++ behind b) s (cut_regions (op h rs) b 0 rs s refl k)
+    cut_op : (b : List (StepOf N T A)) (t : OpOf N T A) (s : StandOf N T A) → In s (stands b t) → Cut (ids t ++ trailing b) s
+    cut_op b (op h rs) s (inl e) = ([], ap (λ (z : StandOf N T A). ids z.here ++ trailing z.path) (sym e))
+    cut_op b (op h rs) s (inr k) = cut_more (h.id ∷ []) (regions_ids rs ++ trailing b) s (cut_regions (op h rs) b 0 rs s refl k)
 
-    cut_regions : (p : OpOf N T A) (b : List (StepOf N T A)) (r : ℕ) (rs : RegionsOf N T A) (s : StandOf N T A) → regions_from r (regions p) ≡ rs → In s (regions_stands p b r rs) → Cut (regions_ids rs ++ behind b) s
+    cut_regions : (p : OpOf N T A) (b : List (StepOf N T A)) (r : ℕ) (rs : RegionsOf N T A) (s : StandOf N T A) → regions_from r (regions p) ≡ rs → In s (regions_stands p b r rs) → Cut (regions_ids rs ++ trailing b) s
     cut_regions p b r no_regions s e k = absurd k
     cut_regions p b r (region g rs) s e k =
         let later = from_more r g rs (regions p) e in
         elim (in_parts s (region_stands p b r g) (regions_stands p b (r + 1) rs) k) [
-          | inl l ↦ subst (λ xs. Cut xs s) (sym (append_assoc (region_ids g) (regions_ids rs) (behind b)) ∙ refl)
-              (subst (λ us. Cut (region_ids g ++ (regions_ids us ++ behind b)) s) later (cut_region p b r g s l))
-          | inr l ↦ subst (λ xs. Cut xs s) (sym (append_assoc (region_ids g) (regions_ids rs) (behind b)))
-              (cut_more (region_ids g) (regions_ids rs ++ behind b) s (cut_regions p b (r + 1) rs s later l))
+          | inl l ↦ subst (λ xs. Cut xs s) (sym (append_assoc (region_ids g) (regions_ids rs) (trailing b)) ∙ refl)
+              (subst (λ us. Cut (region_ids g ++ (regions_ids us ++ trailing b)) s) later (cut_region p b r g s l))
+          | inr l ↦ subst (λ xs. Cut xs s) (sym (append_assoc (region_ids g) (regions_ids rs) (trailing b)))
+              (cut_more (region_ids g) (regions_ids rs ++ trailing b) s (cut_regions p b (r + 1) rs s later l))
         ]
 
-    cut_region : (p : OpOf N T A) (b : List (StepOf N T A)) (r : ℕ) (g : RegionOf N T A) (s : StandOf N T A) → In s (region_stands p b r g) → Cut (region_ids g ++ (regions_ids (regions_from (r + 1) (regions p)) ++ behind b)) s
+    cut_region : (p : OpOf N T A) (b : List (StepOf N T A)) (r : ℕ) (g : RegionOf N T A) (s : StandOf N T A) → In s (region_stands p b r g) → Cut (region_ids g ++ (regions_ids (regions_from (r + 1) (regions p)) ++ trailing b)) s
     cut_region p b r empty s k = absurd k
     cut_region p b r (block args os) s k = cut_ops p b r args [] os s k
 
-    cut_ops : (p : OpOf N T A) (b : List (StepOf N T A)) (r : ℕ) (args : List T) (front : List (OpOf N T A)) (os : OpsOf N T A) (s : StandOf N T A) → In s (ops_stands p b r args front os) → Cut (ops_ids os ++ (regions_ids (regions_from (r + 1) (regions p)) ++ behind b)) s
+    cut_ops : (p : OpOf N T A) (b : List (StepOf N T A)) (r : ℕ) (args : List T) (front : List (OpOf N T A)) (os : OpsOf N T A) (s : StandOf N T A) → In s (ops_stands p b r args front os) → Cut (ops_ids os ++ (regions_ids (regions_from (r + 1) (regions p)) ++ trailing b)) s
     cut_ops p b r args front no_ops s k = absurd k
     cut_ops p b r args front (next o os) s k =
         let a = step p r args front os in
-        let end = regions_ids (regions_from (r + 1) (regions p)) ++ behind b in
+        let end = regions_ids (regions_from (r + 1) (regions p)) ++ trailing b in
         elim (in_parts s (stands (a ∷ b) o) (ops_stands p b r args (front ++ o ∷ []) os) k) [
           | inl l ↦ subst (λ xs. Cut xs s) (sym (append_assoc (ids o) (ops_ids os) end)) (cut_op (a ∷ b) o s l)
           | inr l ↦ subst (λ xs. Cut xs s) (sym (append_assoc (ids o) (ops_ids os) end)) (cut_more (ids o) (ops_ids os ++ end) s (cut_ops p b r args (front ++ o ∷ []) os s l))
         ]
 
-  -- the one after an operation: the first inside it, else the first behind it
-  pub follows : (t : OpOf N T A) → HasDistinctIds t → (s : StandOf N T A) → In s (stands [] t) → following (stand_id s) t ≡ first_id (regions_ids (regions s.here) ++ behind s.path)
+  -- the operation after an operation: the first one inside it, or else the first one after all its contents
+  pub follows : (t : OpOf N T A) → HasDistinctIds t → (s : StandOf N T A) → In s (stands [] t) → following (stand_id s) t ≡ first_id (regions_ids (regions s.here) ++ trailing s.path)
   follows t d s h =
       let c = cut_op [] t s h in
-      let is : ids t ≡ c.0 ++ (stand_id s ∷ (regions_ids (regions s.here) ++ behind s.path)) = sym (append_none (ids t)) ∙ c.1 ∙ ap (λ l. c.0 ++ (l ++ behind s.path)) (ids_head s.here) in
-      ap (comes_next (stand_id s)) is ∙ next_at (stand_id s) c.0 (regions_ids (regions s.here) ++ behind s.path) (subst (IsDistinct eqb) is d)
+      let is : ids t ≡ c.0 ++ (stand_id s ∷ (regions_ids (regions s.here) ++ trailing s.path)) = sym (append_none (ids t)) ∙ c.1 ∙ ap (λ l. c.0 ++ (l ++ trailing s.path)) (ids_head s.here) in
+      ap (comes_next (stand_id s)) is ∙ next_at (stand_id s) c.0 (regions_ids (regions s.here) ++ trailing s.path) (subst (IsDistinct eqb) is d)
 
   -- ---- the regions of an operation, one after another
   first_ops : (os : OpsOf N T A) → first_id (ops_ids os) ≡ first_op os
@@ -129,7 +129,7 @@ module _ {N T A : Type 0} where
   step_past zero (region g rs) l = absurd (omega (arith, l))
   step_past (suc r) (region g rs) l = step_past r rs (omega (arith, l))
 
-  -- of an operation that there may be
+  -- the same for an optional operation
   pub inside_found : (r : ℕ) (f : Option (OpOf N T A)) (y : ℕ) → option_and_then first_op (option_and_then (λ o. option_and_then ops_in (region_at r (regions o))) f) ≡ Some y → first_inside r f ≡ Some y
   inside_found r None y e = absurd cc
   inside_found r (Some o) y e = step_found r (regions o) y e
@@ -142,7 +142,7 @@ module _ {N T A : Type 0} where
   inside_past r None l = refl
   inside_past r (Some o) l = step_past r (regions o) l
 
-  -- ---- from an operation up
+  -- ---- from an operation to its parents
 
   find_stand : (x : ℕ) (ss : List (StandOf N T A)) → list_any (λ y. eqb y x) (map (λ (s : StandOf N T A). stand_id s) ss) ≡ true → (s : StandOf N T A) × (stand_in x ss ≡ Some s)
   find_stand x [] h = absurd (true≢false (sym h))
@@ -169,25 +169,25 @@ module _ {N T A : Type 0} where
         let m = member x (stands [] t) w.0 w.1 in
         (w.0, w.1, m.0, m.1)
 
-    -- nothing is inside: what follows is behind
-    pub from_behind : (x : ℕ) → has_id x t ≡ true → first_inside 0 (find x t) ≡ None → following x t ≡ first_id (behind_of (stand_of x t))
-    from_behind x h e =
+    -- nothing is inside: the next operation is the first one after its contents
+    pub from_after : (x : ℕ) → has_id x t ≡ true → first_inside 0 (find x t) ≡ None → following x t ≡ first_id (after_of (stand_of x t))
+    from_after x h e =
         let s = stood x h in
         let found : find x t ≡ Some s.0.here = ap (λ y. find y t) (sym s.3) ∙ stand_found t d s.0 s.2 in
-        ap (λ y. following y t) (sym s.3) ∙ follows t d s.0 s.2 ∙ none_joined (regions_ids (regions s.0.here)) (behind s.0.path) (ap (first_inside 0) (sym found) ∙ e) ∙ ap (λ o. first_id (behind_of o)) (sym s.1)
+        ap (λ y. following y t) (sym s.3) ∙ follows t d s.0 s.2 ∙ none_joined (regions_ids (regions s.0.here)) (trailing s.0.path) (ap (first_inside 0) (sym found) ∙ e) ∙ ap (λ o. first_id (after_of o)) (sym s.1)
 
     pub from_inside : (x y : ℕ) → has_id x t ≡ true → first_inside 0 (find x t) ≡ Some y → following x t ≡ Some y
     from_inside x y h e =
         let s = stood x h in
         let found : find x t ≡ Some s.0.here = ap (λ z. find z t) (sym s.3) ∙ stand_found t d s.0 s.2 in
-        ap (λ z. following z t) (sym s.3) ∙ follows t d s.0 s.2 ∙ first_joined (regions_ids (regions s.0.here)) (behind s.0.path) y (ap (first_inside 0) (sym found) ∙ e)
+        ap (λ z. following z t) (sym s.3) ∙ follows t d s.0 s.2 ∙ first_joined (regions_ids (regions s.0.here)) (trailing s.0.path) y (ap (first_inside 0) (sym found) ∙ e)
 
-    -- at the root nothing is behind
-    pub behind_root : (x : ℕ) → has_id x t ≡ true → place_of x t ≡ None → first_id (behind_of (stand_of x t)) ≡ None
-    behind_root x h e = let s = stood x h in ap (λ o. first_id (behind_of o)) s.1 ∙ go s.0 s.0.path refl s.2 s.3
+    -- no operation comes after the contents of the root
+    pub after_root : (x : ℕ) → has_id x t ≡ true → place_of x t ≡ None → first_id (after_of (stand_of x t)) ≡ None
+    after_root x h e = let s = stood x h in ap (λ o. first_id (after_of o)) s.1 ∙ go s.0 s.0.path refl s.2 s.3
       where
-        go : (s : StandOf N T A) (p : List (StepOf N T A)) → s.path ≡ p → In s (stands [] t) → stand_id s ≡ x → first_id (behind s.path) ≡ None
-        go s [] q k i = ap (λ l. first_id (behind l)) q
+        go : (s : StandOf N T A) (p : List (StepOf N T A)) → s.path ≡ p → In s (stands [] t) → stand_id s ≡ x → first_id (trailing s.path) ≡ None
+        go s [] q k i = ap (λ l. first_id (trailing l)) q
         go s (a ∷ p) q k i =
             let at = place_of_member t d s.here a p (subst (λ l. In (stand s.here l) (stands [] t)) q k) in
             let no : None ≡ Some (record { parent = (head a.parent).id; region = a.region; before = first_op a.rest }) = sym e ∙ ap (λ z. place_of z t) (sym i) ∙ at in
@@ -195,9 +195,9 @@ module _ {N T A : Type 0} where
 
     -- the step from an operation that has a place
     pub record Up (x : ℕ) (place : Place) : Type 0 where
-      pub next : (y : ℕ) → place.before ≡ Some y → first_id (behind_of (stand_of x t)) ≡ Some y
-      pub later : (y : ℕ) → place.before ≡ None → first_inside (place.region + 1) (find place.parent t) ≡ Some y → first_id (behind_of (stand_of x t)) ≡ Some y
-      pub around : place.before ≡ None → first_inside (place.region + 1) (find place.parent t) ≡ None → first_id (behind_of (stand_of x t)) ≡ first_id (behind_of (stand_of place.parent t))
+      pub next : (y : ℕ) → place.before ≡ Some y → first_id (after_of (stand_of x t)) ≡ Some y
+      pub later : (y : ℕ) → place.before ≡ None → first_inside (place.region + 1) (find place.parent t) ≡ Some y → first_id (after_of (stand_of x t)) ≡ Some y
+      pub around : place.before ≡ None → first_inside (place.region + 1) (find place.parent t) ≡ None → first_id (after_of (stand_of x t)) ≡ first_id (after_of (stand_of place.parent t))
       pub there : has_id place.parent t ≡ true
       pub lower : height_of (stand_of place.parent t) < height_of (stand_of x t)
       pub few : HasFewRegions t → place.region < 16
@@ -215,20 +215,20 @@ module _ {N T A : Type 0} where
             let around = (around_there t s.here a p mem).1 in
             let found : find place.parent t ≡ Some a.parent = ap (λ (z : Place). find z.parent t) one ∙ stand_found t d (stand a.parent p) around in
             let outer : stand_of place.parent t ≡ Some (stand a.parent p) = ap (λ (z : Place). stand_of z.parent t) one ∙ stand_of_member t d (stand a.parent p) around in
-            let here : behind_of (stand_of x t) ≡ ops_ids a.rest ++ (regions_ids (regions_from (a.region + 1) (regions a.parent)) ++ behind p) = ap behind_of f ∙ ap behind q in
+            let here : after_of (stand_of x t) ≡ ops_ids a.rest ++ (regions_ids (regions_from (a.region + 1) (regions a.parent)) ++ trailing p) = ap after_of f ∙ ap trailing q in
             let rest : first_id (ops_ids a.rest) ≡ place.before = first_ops a.rest ∙ ap (λ (z : Place). z.before) (sym one) in
             let inside : first_inside (place.region + 1) (find place.parent t) ≡ first_id (regions_ids (regions_from (a.region + 1) (regions a.parent))) = (λ j. first_inside ((one j).region + 1) (found j)) in
             let more = regions_ids (regions_from (a.region + 1) (regions a.parent)) in
             record {
-              next = λ y b. ap first_id here ∙ first_joined (ops_ids a.rest) (more ++ behind p) y (rest ∙ b);
-              later = λ y b g. ap first_id here ∙ none_joined (ops_ids a.rest) (more ++ behind p) (rest ∙ b) ∙ first_joined more (behind p) y (sym inside ∙ g);
-              around = λ b g. ap first_id here ∙ none_joined (ops_ids a.rest) (more ++ behind p) (rest ∙ b) ∙ none_joined more (behind p) (sym inside ∙ g) ∙ ap (λ o. first_id (behind_of o)) (sym outer);
+              next = λ y b. ap first_id here ∙ first_joined (ops_ids a.rest) (more ++ trailing p) y (rest ∙ b);
+              later = λ y b g. ap first_id here ∙ none_joined (ops_ids a.rest) (more ++ trailing p) (rest ∙ b) ∙ first_joined more (trailing p) y (sym inside ∙ g);
+              around = λ b g. ap first_id here ∙ none_joined (ops_ids a.rest) (more ++ trailing p) (rest ∙ b) ∙ none_joined more (trailing p) (sym inside ∙ g) ∙ ap (λ o. first_id (after_of o)) (sym outer);
               there = subst (λ z. has_id z t ≡ true) (ap (λ (z : Place). z.parent) (sym one)) (stands_there t (stand a.parent p) around);
               lower = let l : height_of (stand_of place.parent t) ≡ length p = ap height_of outer in let g : height_of (stand_of x t) ≡ suc (length p) = ap height_of f ∙ ap length q in omega (arith, l, g);
               few = λ fw. let l = region_below a.region (regions a.parent) (block a.args (joined_ops a.front (next s.here a.rest))) (shape t s.here a p mem) in let c = fw place.parent a.parent found in let r : place.region ≡ a.region = ap (λ (z : Place). z.region) one in omega (arith, l, c, r);
             }
 
-    -- how many regions an operation shows
+    -- the number of regions of an operation
     found_op : (x : ℕ) → has_id x t ≡ true → (o : OpOf N T A) × (find x t ≡ Some o)
     found_op x h = let s = stood x h in (s.0.here, ap (λ y. find y t) (sym s.3) ∙ stand_found t d s.0 s.2)
 
@@ -242,7 +242,7 @@ module _ {N T A : Type 0} where
     pub few_shown : (x : ℕ) → HasFewRegions t → has_id x t ≡ true → count_of (find x t) ≤ 16
     few_shown x f h = let w = found_op x h in subst (λ o. count_of o ≤ 16) (sym w.1) (f x w.0 w.1)
 
--- ---- what comes before an operation
+-- ---- the operations before an operation
 after_cut : (a x : ℕ) (front back : List ℕ) → IsDistinct eqb (front ++ a ∷ back) → list_any (λ y. eqb y x) back ≡ true → comes_after a x (front ++ a ∷ back) ≡ true
 after_cut a x [] back d h = ap (λ b. cond b (list_any (λ y. eqb y x) back) (comes_after a x back)) (eq-eqb a a refl) ∙ h
 after_cut a x (y ∷ front) back d h = elim (bool_cases (eqb y a)) [
@@ -265,7 +265,7 @@ any_right x (z ∷ xs) ys h = elim (bool_cases (eqb z x)) [
 ]
 
 module _ {N T A : Type 0} where
-  -- a list's last, split off
+  -- a list split before its last entry
   front_split : (y : ℕ) (front : List (OpOf N T A)) → last_id (ops_of front) ≡ Some y → (f : List (OpOf N T A)) × (u : OpOf N T A) × (front ≡ f ++ u ∷ []) × ((head u).id ≡ y)
   front_split y [] e = absurd cc
   front_split y (o ∷ []) e = ([], o, refl, let i : (head o).id ≡ y = cc in i)
@@ -280,7 +280,7 @@ module _ {N T A : Type 0} where
       later : (u : OpOf N T A) (us : List (OpOf N T A)) → last_id (ops_of (o ∷ (u ∷ us))) ≡ last_id (ops_of (u ∷ us))
       later u us = let w = some_last u us in ap (λ l. first_of l (Some (head o).id)) w.1 ∙ sym w.1
 
-  -- a list in which x stands behind y, up to the first y
+  -- a list in which x comes after y, split before the first y
   first_split : (y x : ℕ) (os : OpsOf N T A) → goes_before y x os ≡ true → (pre : List (OpOf N T A)) × (g : OpOf N T A) × (rest : OpsOf N T A) × ((head g).id ≡ y) × (is_among x rest ≡ true) × (os ≡ joined_ops pre (next g rest))
   first_split y x no_ops h = absurd (true≢false (sym h))
   first_split y x (next o os) h = go (eqb (head o).id y) refl h (first_split y x os)
@@ -302,14 +302,14 @@ module _ {N T A : Type 0} where
   ]
 
   module _ (t : OpOf N T A) (d : HasDistinctIds t) where
-    -- what is inside an operation or behind it comes after it
-    pub comes_later : (s : StandOf N T A) (x : ℕ) → In s (stands [] t) → list_any (λ y. eqb y x) (regions_ids (regions s.here) ++ behind s.path) ≡ true → precedes (stand_id s) x t ≡ true
+    -- operations inside or after an operation follow it in pre-order
+    pub comes_later : (s : StandOf N T A) (x : ℕ) → In s (stands [] t) → list_any (λ y. eqb y x) (regions_ids (regions s.here) ++ trailing s.path) ≡ true → precedes (stand_id s) x t ≡ true
     comes_later s x h k =
         let c = cut_op [] t s h in
-        let is : ids t ≡ c.0 ++ (stand_id s ∷ (regions_ids (regions s.here) ++ behind s.path)) = sym (append_none (ids t)) ∙ c.1 ∙ ap (λ l. c.0 ++ (l ++ behind s.path)) (ids_head s.here) in
-        ap (comes_after (stand_id s) x) is ∙ after_cut (stand_id s) x c.0 (regions_ids (regions s.here) ++ behind s.path) (subst (IsDistinct eqb) is d) k
+        let is : ids t ≡ c.0 ++ (stand_id s ∷ (regions_ids (regions s.here) ++ trailing s.path)) = sym (append_none (ids t)) ∙ c.1 ∙ ap (λ l. c.0 ++ (l ++ trailing s.path)) (ids_head s.here) in
+        ap (comes_after (stand_id s) x) is ∙ after_cut (stand_id s) x c.0 (regions_ids (regions s.here) ++ trailing s.path) (subst (IsDistinct eqb) is d) k
 
-    -- the one before it in its block
+    -- the previous operation in the block comes before it
     pub prev_precedes : (x y : ℕ) → prev_of x t ≡ Some y → precedes y x t ≡ true
     prev_precedes x y e = placed (place_of x t) refl
       where
@@ -323,7 +323,7 @@ module _ {N T A : Type 0} where
             let there : In u (stands [] t) = within a.parent p u (child a.parent p a.region a.args (joined_ops w.0 (next w.1 (next s.here a.rest))) u shaped (ops_child a.parent p a.region a.args [] w.0 w.1 (next s.here a.rest))) [] t (around_there t s.here a p mem).1 in
             let x_in : list_any (λ z. eqb z x) (ids s.here) ≡ true = subst (λ z. list_any (λ v. eqb v z) (ids s.here) ≡ true) i (own_listed s.here) in
             subst (λ z. precedes z x t ≡ true) w.3 (comes_later u x there
-            (any_right x (regions_ids (regions w.1)) (behind u.path) (any_left x (ops_ids (next s.here a.rest)) (regions_ids (regions_from (a.region + 1) (regions a.parent)) ++ behind p) (any_left x (ids s.here) (ops_ids a.rest) x_in))))
+            (any_right x (regions_ids (regions w.1)) (trailing u.path) (any_left x (ops_ids (next s.here a.rest)) (regions_ids (regions_from (a.region + 1) (regions a.parent)) ++ trailing p) (any_left x (ids s.here) (ops_ids a.rest) x_in))))
 
         placed : (f : Option Place) → place_of x t ≡ f → precedes y x t ≡ true
         placed None f =
@@ -340,7 +340,7 @@ module _ {N T A : Type 0} where
     inside_regions x zero (region g rs) k e h = let same : g ≡ k = cc in any_left x (region_ids g) (regions_ids rs) (subst (λ v. list_any (λ z. eqb z x) (region_ids v) ≡ true) (sym same) h)
     inside_regions x (suc r) (region g rs) k e h = any_right x (region_ids g) (regions_ids rs) (inside_regions x r rs k e h)
 
-    -- the one around it
+    -- the parent comes before it
     pub parent_precedes : (x y : ℕ) → parent_of x t ≡ Some y → precedes y x t ≡ true
     parent_precedes x y e = placed (place_of x t) refl
       where
@@ -353,7 +353,7 @@ module _ {N T A : Type 0} where
             let is : (head a.parent).id ≡ y = ap (λ (z : Place). z.parent) one ∙ g in
             let x_in : list_any (λ z. eqb z x) (ids s.here) ≡ true = subst (λ z. list_any (λ v. eqb v z) (ids s.here) ≡ true) i (own_listed s.here) in
             let held = inside_regions x a.region (regions a.parent) (block a.args (joined_ops a.front (next s.here a.rest))) (shape t s.here a p mem) (inside_joined x a.front s.here a.rest x_in) in
-            subst (λ z. precedes z x t ≡ true) is (comes_later (stand a.parent p) x (around_there t s.here a p mem).1 (any_left x (regions_ids (regions a.parent)) (behind p) held))
+            subst (λ z. precedes z x t ≡ true) is (comes_later (stand a.parent p) x (around_there t s.here a p mem).1 (any_left x (regions_ids (regions a.parent)) (trailing p) held))
 
         placed : (f : Option Place) → place_of x t ≡ f → precedes y x t ≡ true
         placed None f = let no : Some y ≡ None = sym e ∙ ap (option_map (λ (p : Place). p.parent)) f in absurd cc
@@ -363,7 +363,7 @@ module _ {N T A : Type 0} where
             let parent : place.parent ≡ y = cc in
             go w.0 place w.0.path refl w.1 w.2 w.3 parent
 
-    -- one before it in its block
+    -- an earlier operation of the same block comes before it
     pub before_precedes : (y x : ℕ) → is_before y x t ≡ true → precedes y x t ≡ true
     before_precedes y x e = placed (place_of y t) refl
       where
@@ -380,17 +380,17 @@ module _ {N T A : Type 0} where
             let u = stand w.1 (step a.parent a.region a.args w.0 w.2 ∷ p) in
             let there : In u (stands [] t) = within a.parent p u (child a.parent p a.region a.args (joined_ops w.0 (next w.1 w.2)) u (shaped ∙ ap (λ l. Some (block a.args l)) w.5) (ops_child a.parent p a.region a.args [] w.0 w.1 w.2)) [] t up in
             subst (λ z. precedes z x t ≡ true) w.3 (comes_later u x there
-            (any_right x (regions_ids (regions w.1)) (behind u.path) (any_left x (ops_ids w.2) (regions_ids (regions_from (a.region + 1) (regions a.parent)) ++ behind p) (among_ids x w.2 w.4))))
+            (any_right x (regions_ids (regions w.1)) (trailing u.path) (any_left x (ops_ids w.2) (regions_ids (regions_from (a.region + 1) (regions a.parent)) ++ trailing p) (among_ids x w.2 w.4))))
 
         placed : (f : Option Place) → place_of y t ≡ f → precedes y x t ≡ true
         placed None f = absurd (true≢false (sym e ∙ ap (λ (g : Option Place). in_list (goes_before y x) (option_and_then (λ (p : Place). ops_at p.parent p.region t) g)) f))
         placed (Some place) f = let w = member_of_place y place t f in go w.0 place w.0.path refl w.1 w.2 w.3
 
-    -- of two operations one alone comes before the other
-    pub not_behind : (x y : ℕ) → precedes x y t ≡ true → precedes y x t ≡ false
-    not_behind x y h = elim (bool_cases (precedes y x t)) [ inr k ↦ k | inl k ↦ absurd (omega (arith, rises x y (ids t) d h, rises y x (ids t) d k)) ]
+    -- of two operations, only one comes before the other
+    pub not_after : (x y : ℕ) → precedes x y t ≡ true → precedes y x t ≡ false
+    not_after x y h = elim (bool_cases (precedes y x t)) [ inr k ↦ k | inl k ↦ absurd (omega (arith, rises x y (ids t) d h, rises y x (ids t) d k)) ]
 
-    -- the root alone has none around it
+    -- only the root has no parent
     pub rootless : (x : ℕ) → has_id x t ≡ true → parent_of x t ≡ None → x ≡ (head t).id
     rootless x h e = let s = stood t d x h in go s.0 s.0.path refl s.2 s.3
       where

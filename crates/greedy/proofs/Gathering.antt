@@ -1,8 +1,8 @@
--- What is listed after events, put together.
+-- The list of operations after events, assembled from its parts.
 use Rattle.std.proofs.Common.{◌≡◌, refl, ap, sym, ◌∙◌, subst, ℕ, true, false, true≢false, ◌||◌, ◌&&◌, eqb, List, [], ◌∷◌, length, drop, Option, Some, None, inl, inr}
 use Rattle.std.specs.Prelude.{option_map}
 use Rattle.std.specs.List.{list_any, IsDistinct}
-use Rattle.ir_event.specs.types.Things.{Things}
+use Rattle.ir_event.specs.types.Things.{ContextModel}
 use Rattle.ir_event.specs.types.Terms.{name_term, type_term, attr_term}
 use Rattle.ir_event.specs.trees.Tree.{Op}
 use Rattle.ir_event.specs.trees.Ids.{HasDistinctIds, ids}
@@ -16,13 +16,13 @@ use Rattle.ir_event.specs.declared.event.Event.{Event}
 use Rattle.ir_event.specs.declared.event.Event.TheVariants.{Put, Take, SetOperand, SetEntry, Shift}
 use Rattle.ir_event.specs.declared.world.World.{World}
 use Rattle.ir_event.specs.Modules.{Module, module_in}
-use Rattle.listeners_surroundings.specs.Surroundings.{SurroundingsOf, OuterOf, surroundings}
-use Rattle.listeners_surroundings.specs.Mapped.{map_node, map_outer, map_surroundings}
-use Rattle.listeners_surroundings.proofs.Meanings.{mapped_surroundings}
+use Rattle.listeners_support.specs.Surroundings.{SurroundingsOf, OuterOf, surroundings}
+use Rattle.listeners_support.specs.Mapped.{map_node, map_outer, map_surroundings}
+use Rattle.listeners_support.proofs.Meanings.{mapped_surroundings}
 use Rattle.greedy.specs.Listing.{Lists, Touched}
 use Rattle.greedy.specs.Near.{Leads}
 use Rattle.greedy.specs.Reached.{ends, ends_of, is_end, reaches, any_reaches}
-use Rattle.greedy.specs.Sights.{Uses, is_listed, operands_of}
+use Rattle.greedy.specs.LocalContext.{Uses, is_listed, operands_of}
 use Rattle.greedy.proofs.Applying.{touched_all}
 use Rattle.greedy.specs.Adding.{Adds, Grown, OneOf}
 use Rattle.greedy.specs.Parts.{IsAround, IsReached, IsBeside, puts_last, any_puts_last}
@@ -30,7 +30,7 @@ use Rattle.greedy.specs.Shown.{shown_operands}
 use Rattle.greedy.proofs.Adding.{grown_more, in_listed, listed_in}
 use Rattle.greedy.proofs.Climbing.{same_climbs}
 
--- ---- what is read of contents is what is read of numbers
+-- ---- reading the tree of terms agrees with reading the tree of interned numbers
 module _ {N T A M U B : Type 0} (f : N → M) (g : T → U) (h : A → B) where
   same_end : (p : ℕ) (s : Option (SurroundingsOf N T A)) → ends_of p (option_map (map_surroundings f g h) s) ≡ ends_of p s
   same_end p None = refl
@@ -48,7 +48,7 @@ module _ {N T A M U B : Type 0} (f : N → M) (g : T → U) (h : A → B) where
   same_operands None = refl
   same_operands (Some s) = refl
 
-module _ (c : Things) (t : Op) where
+module _ (c : ContextModel) (t : Op) where
   meant : (y : ℕ) → surroundings y (meaning c t) ≡ option_map (map_surroundings (name_term c) (type_term c) (attr_term c)) (surroundings y t)
   meant y = mapped_surroundings (name_term c) (type_term c) (attr_term c) y t
 
@@ -74,8 +74,7 @@ module _ (c : Things) (t : Op) where
         | inr k ↦ (let w = one_reaches es n.1 y k in (w.0, inr w.1, w.2))
       ]
 
--- ---- all parts
--- what results are used by is told of by numbers
+-- ---- all parts the users of results, by interned numbers
 abbrev used_by : World → ℕ → ℕ → Type 0
 used_by w y x = Uses x y w.store.module_of.tree
 
@@ -88,7 +87,7 @@ module _ (w : World) (es : List Event) (inner : any_puts_last es ≡ false) (non
   reached_one : (y : ℕ) → any_reaches es y (module_in w).tree ≡ true → is_listed y reached ≡ true
   reached_one y h = at_reached.added y (one_reaches w.ctx w.store.module_of.tree es inner y h)
 
-  -- what is seen stays
+  -- operations that are seen stay listed
   stays : (x : ℕ) → is_listed x seen ≡ true → is_listed x listed ≡ true
   stays x h = at_beside.kept x (at_users.kept x (at_around.kept x h))
 
@@ -98,18 +97,18 @@ module _ (w : World) (es : List Event) (inner : any_puts_last es ≡ false) (non
   user_one : (y x : ℕ) → is_listed y reached ≡ true → used_by w y x → is_listed x seen ≡ true
   user_one y x h u = at_seen.added x (y, listed_in y reached h, u)
 
-  -- the users of what was there first are seen, and those of what came are listed then
+  -- the users of the first operations are seen, and the users of the new ones are listed next
   user_next : (y x : ℕ) → is_listed y seen ≡ true → used_by w y x → is_listed x listed ≡ true
   user_next y x h u = elim (in_parts y reached more.0 (subst (In y) more.1 (listed_in y second (at_around.kept y h)))) [
     | inl i ↦ stays x (user_one y x (in_listed y reached i) u)
-    | inr i ↦ at_beside.kept x (at_users.added x (y, subst (In y) (sym behind) i, u))
+    | inr i ↦ at_beside.kept x (at_users.added x (y, subst (In y) (sym trailing) i, u))
   ]
     where
       more : Grown reached second
       more = grown_more reached seen second at_seen.grown at_around.grown
 
-      behind : drop n second ≡ more.0
-      behind = (λ j. drop (from j) (more.1 j)) ∙ drop-append_seam reached more.0
+      trailing : drop n second ≡ more.0
+      trailing = (λ j. drop (from j) (more.1 j)) ∙ drop-append_seam reached more.0
 
   around_one : (y x : ℕ) → is_listed y seen ≡ true → ends x y (module_in w).tree ≡ true → is_listed x listed ≡ true
   around_one y x h k = at_beside.kept x (at_users.kept x (at_around.added x (y, listed_in y seen h, sym (same_ends w.ctx w.store.module_of.tree x y) ∙ k)))
@@ -125,7 +124,7 @@ module _ (w : World) (es : List Event) (inner : any_puts_last es ≡ false) (non
       around = λ l x h e. around_one l x (at_seen.kept l (reached_one l h)) e;
       around_users = λ z l x h u e. around_one l x (user_one z l (reached_one z h) (used l z u)) e;
     };
-    givers = λ e h v k y g. at_beside.added y (e, h, inl (v, k, g));
+    found_defining_ops = λ e h v k y g. at_beside.added y (e, h, inl (v, k, g));
     climbs = λ e h o k n y c. at_beside.added y (e, h, inr (o, k, (n, same_climbs w.ctx w.store.module_of.tree n y o c)));
   }
 
@@ -135,7 +134,7 @@ all_touched w listed e m x h none =
     let is : is_listed x listed ≡ true = ap (list_any (λ y. eqb y x)) (e ∙ sym (map_ids (name_term w.ctx) (type_term w.ctx) (attr_term w.ctx) w.store.module_of.tree)) ∙ h in
     absurd (true≢false (sym is ∙ none))
 
--- what the law makes of that
+-- the theorem, applied to the list of operations near the events
 pub near_touched : (w : World) (es : List Event) (listed : List ℕ) → Lists (shown_operands w.store) es listed (module_in w).tree → (m : Module) → Leads (shown_operands w.store) w.ctx es m (module_in w) → Touched m (module_in w) listed
 near_touched w es listed k m l = touched_all (shown_operands w.store) w.ctx es m (module_in w) l distinct listed k
   where

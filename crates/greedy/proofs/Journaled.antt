@@ -1,22 +1,22 @@
--- What the law makes of the events of a journal from one on.
+-- The theorem, applied to the events of a journal from an index on.
 use Rattle.std.proofs.Common.{◌≡◌, sym, subst, ℕ, List, drop}
-use Rattle.ir_event.specs.types.Things.{Things}
+use Rattle.ir_event.specs.types.Things.{ContextModel}
 use Rattle.ir_event.specs.store.Stored.{Stored}
 use Rattle.ir_event.specs.declared.event.Event.{Event}
 use Rattle.ir_event.specs.declared.world.World.{World}
 use Rattle.ir_event.specs.Modules.{Module, module_in, module_meaning}
-use Rattle.rewriter_laws.specs.Journals.{IsJournal}
-use Rattle.patterns.specs.rewriter.Held.{Held, module_at, module_held}
+use Rattle.rewriter_machine.specs.Journals.{IsJournal}
+use Rattle.patterns.specs.rewriter.Held.{TransactionModel, module_at, module_held}
 use Rattle.greedy.specs.Listing.{Touched}
 use Rattle.greedy.specs.Near.{Leads}
 use Rattle.greedy.specs.Shown.{shown_operands}
 use Rattle.greedy.proofs.Leading.{leads_from}
 
-pub journal_touched : (w : World) (h : Held) (from : ℕ) (es : List Event) (listed : List ℕ) → w.ctx ≡ h.ctx → w.store ≡ h.store → es ≡ drop from h.journal → IsJournal h.ctx h.journal h.store
+pub journal_touched : (w : World) (h : TransactionModel) (from : ℕ) (es : List Event) (listed : List ℕ) → w.ctx ≡ h.ctx → w.store ≡ h.store → es ≡ drop from h.journal → IsJournal h.ctx h.journal h.store
     → ((m : Module) → Leads (shown_operands w.store) w.ctx es m (module_in w) → Touched m (module_in w) listed) → Touched (module_at from h) (module_held h) listed
 journal_touched w h from es listed ec est el j f = subst (λ n. Touched (module_at from h) n listed) same (f (module_at from h) back)
   where
-    leading : Things → Stored → List Event → Type 0
+    leading : ContextModel → Stored → List Event → Type 0
     leading c s l = Leads (shown_operands s) c l (module_at from h) (module_meaning c s.module_of)
 
     back : Leads (shown_operands w.store) w.ctx es (module_at from h) (module_in w)

@@ -1,7 +1,7 @@
--- Which operations end an operation's blocks stays, where events don't reach it.
+-- An operation that events don't reach keeps the operations that end its blocks.
 use Rattle.std.proofs.Common.{◌≡◌, refl, ap, sym, ◌∙◌, ℕ, zero, suc, false, ◌||◌, eqb, List, [], ◌∷◌, Option, Some, None, inl, inr}
 use Rattle.std.specs.Prelude.{option_map, option_and_then}
-use Rattle.ir_event.specs.types.Things.{Things}
+use Rattle.ir_event.specs.types.Things.{ContextModel}
 use Rattle.ir_event.specs.types.Terms.{TypeTerm, AttrTerm, name_term, attr_term}
 use Rattle.ir_event.specs.trees.declared.place.Place.{Place}
 use Rattle.ir_event.specs.trees.Tree.{HeadOf, OpOf, RegionsOf, no_regions, region, no_ops, head, regions}
@@ -23,9 +23,9 @@ use Rattle.ir_event.specs.Modules.{Module}
 use Rattle.ir_event.specs.Step.{Step, Steps}
 use Rattle.op_registry.specs.Registry.{own_of}
 use Rattle.greedy.specs.Reached.{is_end, at_end, ends, reaches, any_reaches}
-use Rattle.greedy.specs.Sights.{last_ids}
+use Rattle.greedy.specs.LocalContext.{last_ids}
 use Rattle.greedy.specs.Near.{subject}
-use Rattle.listeners_surroundings.proofs.Lasts.{split_last, last_stands}
+use Rattle.listeners_support.proofs.Lasts.{split_last, last_stands}
 use Rattle.greedy.proofs.Reaching.{not_end, at_end_parts, same_reach, all_far}
 use Rattle.greedy.proofs.Still.{Unlast, Like, Goes, goes_out, goes_in, goes_on, all_edited}
 use Rattle.greedy.proofs.Tracked.{operand_id, operand_name, part_name, gone_found}
@@ -33,7 +33,7 @@ use Rattle.ir_event.proofs.of_trees.Facts.{part_id}
 use Rattle.ir_event.proofs.of_types.Truths.{unlike}
 
 module _ {N T A : Type 0} (t : OpOf N T A) (d : HasDistinctIds t) where
-  -- an operation ends no block but where its place is the end
+  -- an operation ends a block only if its place is the end of that block
   unlast_placed : (x : ℕ) (place : Place) → place_of x t ≡ Some place → (p : OpOf N T A) (path : List (StepOf N T A)) → In (stand p path) (stands [] t) → (place.before ≡ None → (head p).id ≡ place.parent → ⊥) → Unlast x p
   unlast_placed x place at p path h apart k args os e l =
       let s = split_last x os l in
@@ -42,13 +42,13 @@ module _ {N T A : Type 0} (t : OpOf N T A) (d : HasDistinctIds t) where
       let one : record { parent = (head p).id; region = k; before = None } ≡ place = cc in
       apart (sym (ap (λ (z : Place). z.before) one)) (ap (λ (z : Place). z.parent) one)
 
-  -- one that isn't there ends none
+  -- an operation that isn't in the tree ends no block
   unlast_gone : (x : ℕ) → ((s : StandOf N T A) → In s (stands [] t) → stand_id s ≡ x → ⊥) → (p : OpOf N T A) (path : List (StepOf N T A)) → In (stand p path) (stands [] t) → Unlast x p
   unlast_gone x none p path h k args os e l =
       let s = split_last x os l in
       none (stand s.last (step p k args s.front no_ops ∷ path)) (last_stands t d p path k args os x h e l) s.id
 
--- by the operation's stands in both trees
+-- by the positions of the operation in both trees
 by_like : (x : ℕ) (t u : Operation) → HasDistinctIds u → Goes (Like own_of x) x t u → (y : ℕ) → (y ≡ x → ⊥)
     → ((s : StandOf (List ℕ) TypeTerm AttrTerm) → In s (stands [] t) → stand_id s ≡ y → Unlast x s.here) → ((r : StandOf (List ℕ) TypeTerm AttrTerm) → In r (stands [] u) → stand_id r ≡ y → Unlast x r.here)
     → (o : Operation) → find y t ≡ Some o → (q : Operation) × (find y u ≡ Some q) × (last_ids (regions q) ≡ last_ids (regions o))
@@ -68,7 +68,7 @@ by_edit x f ids names t u du is y o e =
     (w.0.here, ap (λ z. find z u) (sym (w.2 ∙ s.2)) ∙ stand_found u du w.0 w.1, sym w.3.lasts ∙ ap (λ (z : Operation). last_ids (regions z)) s.3)
 
 -- one event
-step_lasts : (c : Things) (e : Event) (m n : Module) → Step c e m n → (y : ℕ) → reaches e y n.tree ≡ false → (o : Operation) → find y m.tree ≡ Some o → (q : Operation) × (find y n.tree ≡ Some q) × (last_ids (regions q) ≡ last_ids (regions o))
+step_lasts : (c : ContextModel) (e : Event) (m n : Module) → Step c e m n → (y : ℕ) → reaches e y n.tree ≡ false → (o : Operation) → find y m.tree ≡ Some o → (q : Operation) × (find y n.tree ≡ Some q) × (last_ids (regions q) ≡ last_ids (regions o))
 step_lasts c (Put x place fresh) m n s y far o e =
     let t = s.changes in
     let f = neither (eqb x y) (is_end place) far in
@@ -96,8 +96,8 @@ step_lasts c (Shift x old new) m n s y far o e =
     (λ z h i. unlast_placed n.tree s.after.distinct x new t.is z.here z.path h (λ b j. not_end new g.0 b))
     o e
 
--- all of them, as told from the module after them
-pub lasts_stay : (c : Things) (es : List Event) (m n : Module) → Steps c es m n → (y : ℕ) → any_reaches es y n.tree ≡ false → (o : Operation) → find y m.tree ≡ Some o → (q : Operation) × (find y n.tree ≡ Some q) × (last_ids (regions q) ≡ last_ids (regions o))
+-- all events; the module after them determines which operations they reach
+pub lasts_stay : (c : ContextModel) (es : List Event) (m n : Module) → Steps c es m n → (y : ℕ) → any_reaches es y n.tree ≡ false → (o : Operation) → find y m.tree ≡ Some o → (q : Operation) × (find y n.tree ≡ Some q) × (last_ids (regions q) ≡ last_ids (regions o))
 lasts_stay c [] m n s y h o e = (o, ap (λ (p : Module). find y p.tree) s ∙ e, refl)
 lasts_stay c (e ∷ es) m n s y h o i =
     let f = neither (reaches e y n.tree) (any_reaches es y n.tree) h in

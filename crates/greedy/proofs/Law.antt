@@ -19,32 +19,32 @@ use Rattle.rewriter_machine.specs.Contents.{Edit, all_edited}
 use Rattle.patterns_base.specs.declared.rule.Rule.{Rule}
 use Rattle.patterns_base.specs.RuleNames.{all_rules, is_canonical}
 use Rattle.patterns_base.specs.Keeps.{given}
-use Rattle.patterns_base.specs.Looks.{when, in_front, front_of, ended_by}
+use Rattle.patterns_base.specs.Looks.{when, insertion_point, front_of, ended_by}
 use Rattle.patterns_base.specs.Makes.{made_by}
 use Rattle.patterns_base.specs.Rules.{rule}
-use Rattle.patterns_base.specs.Rewrites.{Rewrite, none, refused, becomes, edits_of, rewrite_by, rewrite_of, carried_out, suits}
+use Rattle.patterns_base.specs.Rewrites.{Rewrite, none, refused, becomes, edits_of, rewrite_by, rewrite_of, carried_out, eligible}
 use Rattle.patterns_base.proofs.Facts.{when_some}
-use Rattle.patterns_base.specs.Canonicalization.{or_else, first_rule, greedy_rules, lowest}
+use Rattle.patterns_base.specs.Canonicalization.{or_else, first_rule, greedy_rules, highest_priority}
 use Rattle.greedy.specs.Orders.{Orderly}
 use Rattle.greedy.proofs.Cuts.{left_in, right_in}
 use Rattle.greedy.proofs.Edits.{names, still_stays, opens_stays, stays_orderly}
 use Rattle.greedy.proofs.Nearby.{Near, widths}
 use Rattle.greedy.proofs.Listed.{Listed}
 use Rattle.greedy.proofs.Rootless.{unplaced}
-use Rattle.patterns.specs.facts.Facts.{IsNear}
+use Rattle.patterns.specs.facts.Soundness.{IsNear}
 use Rattle.patterns.specs.facts.Near.{AreNear, Opens, Still}
 use Rattle.patterns.proofs.of_facts.Facts.{facts, lowers_not}
 use Rattle.greedy.proofs.Starts.{Between, between, start, wide, Opened, opened}
 use Rattle.std.proofs.lemmas.Bool.{cases_Bool}
-use Rattle.rewriter_laws.proofs.Trees.{found_id}
+use Rattle.rewriter_machine.proofs.Trees.{found_id}
 use Rattle.ir_event.proofs.of_trees.Facts.{ids_head}
 
--- the operations of a block but the last
+-- the operations of a block without the last
 before_last : (o : Operation) (os : OpsOf (List ℕ) TypeTerm AttrTerm) → (ended_by o os).before ≡ names (wide o os)
 before_last o no_ops = refl
 before_last o (next p os) = ap (λ l. (head o).id ∷ l) (before_last p os)
 
--- edits of a rule at an operation
+-- the edits of a rule at an operation
 record Planned (r : Rule) (m : Module) (x : ℕ) (es : List Edit) : Type 0 where
   here : Operation
   place : Place
@@ -56,10 +56,10 @@ planned : (r : Rule) (m : Module) (x : ℕ) (es : List Edit) → edits_of r m x 
 unfolding edits_of
 planned r m x es e = go (find x m.tree) refl (front_of x m.tree) refl e
   where
-    go : (a : Option Operation) → find x m.tree ≡ a → (b : Option Place) → front_of x m.tree ≡ b → given a (λ o. given b (λ front. when (suits r m.tree (head o)) (rule r m.tree m.next front o))) ≡ Some es → Planned r m x es
+    go : (a : Option Operation) → find x m.tree ≡ a → (b : Option Place) → front_of x m.tree ≡ b → given a (λ o. given b (λ front. when (eligible r m.tree (head o)) (rule r m.tree m.next front o))) ≡ Some es → Planned r m x es
     go None k b l e = absurd cc
     go (Some o) k None l e = absurd cc
-    go (Some o) k (Some place) l e = record { here = o; place = place; found = k; front = l; by = (when_some (suits r m.tree (head o)) (rule r m.tree m.next place o) es e).1 }
+    go (Some o) k (Some place) l e = record { here = o; place = place; found = k; front = l; by = (when_some (eligible r m.tree (head o)) (rule r m.tree m.next place o) es e).1 }
 
 pub carried : (es : List Edit) (m n : Module) → carried_out es m ≡ becomes n → all_edited es m ≡ n
 carried es m n e = go (nat_le (op_count m.tree + made_by es) most_ops) (nat_le (m.next + made_by es) most_next) e
@@ -69,18 +69,18 @@ carried es m n e = go (nat_le (op_count m.tree + made_by es) most_ops) (nat_le (
     go true false e = absurd cc
     go false b e = absurd cc
 
--- the place in front of an operation, which isn't the root
+-- the place before an operation that isn't the root
 front_before : (x : ℕ) (t : Operation) (place : Place) → front_of x t ≡ Some place → place.before ≡ Some x
 front_before x t place e = go (place_of x t) e
   where
-    go : (p : Option Place) → option_map (in_front x) p ≡ Some place → place.before ≡ Some x
+    go : (p : Option Place) → option_map (insertion_point x) p ≡ Some place → place.before ≡ Some x
     go None e = absurd cc
-    go (Some p) e = (let same : in_front x p ≡ place = cc in ap (λ (q : Place). q.before) (sym same))
+    go (Some p) e = (let same : insertion_point x p ≡ place = cc in ap (λ (q : Place). q.before) (sym same))
 
 front_inner : (x : ℕ) (t : Operation) (place : Place) → HasDistinctIds t → front_of x t ≡ Some place → eqb (head t).id x ≡ false
 front_inner x t place d e = elim (cases_Bool (eqb (head t).id x)) [
   | inr k ↦ k
-  | inl k ↦ absurd (let bad : None ≡ Some place = sym (ap (option_map (in_front x)) (ap (λ y. place_of y t) (sym (eqb-true (head t).id x k)) ∙ unplaced t d)) ∙ e in cc)
+  | inl k ↦ absurd (let bad : None ≡ Some place = sym (ap (option_map (insertion_point x)) (ap (λ y. place_of y t) (sym (eqb-true (head t).id x k)) ∙ unplaced t d)) ∙ e in cc)
 ]
 
 module _ (m : Module) (d : HasDistinctIds m.tree) (below : All (λ y. y < m.next) (ids m.tree)) (x : ℕ) where
@@ -140,5 +140,5 @@ module _ (m : Module) (d : HasDistinctIds m.tree) (below : All (λ y. y < m.next
   pub rewrite_tried : (r : Rule) → is_canonical r ≡ true → (n : Module) → rewrite_of r m x ≡ becomes n → Orderly x m n
   rewrite_tried r h n e = rewrite_orderly r ((facts r).near (lowers_not r h)) n e
 
-  pub lowest_orderly : (n : Module) → lowest m x ≡ becomes n → Orderly x m n
+  pub lowest_orderly : (n : Module) → highest_priority m x ≡ becomes n → Orderly x m n
   lowest_orderly n e = first_orderly greedy_rules (filter_passes is_canonical all_rules) n e

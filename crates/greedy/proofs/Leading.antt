@@ -1,8 +1,8 @@
--- The events of a journal lead to what its store holds, and what they took is held since.
+-- The events of a journal lead to the module of its store, and the store holds the operations that they took out.
 use Rattle.std.proofs.Common.{◌≡◌, refl, ap, sym, ◌∙◌, ℕ, zero, suc, ◌<◌, true, false, true≢false, eqb, eq-eqb, eqb-true, List, [], ◌∷◌, Option, Some, None, inl, inr, arith}
 use Rattle.std.specs.Prelude.{option_map, drop}
 use Rattle.std.specs.FinMap as finmap
-use Rattle.ir_event.specs.types.Things.{Things}
+use Rattle.ir_event.specs.types.Things.{ContextModel}
 use Rattle.ir_event.specs.types.Terms.{TypeTerm, AttrTerm, name_term, type_term, attr_term}
 use Rattle.ir_event.specs.trees.Tree.{Op, op, head}
 use Rattle.ir_event.specs.trees.Ids.{find, first_of, has_id}
@@ -22,9 +22,9 @@ use Rattle.ir_event.specs.Modules.{Module, module_meaning}
 use Rattle.ir_event.specs.Step.{Step}
 use Rattle.ir_event.specs.Undoing.{CameFrom, undone}
 use Rattle.op_registry.specs.Registry.{own_of}
-use Rattle.rewriter_laws.specs.Journals.{IsForward, IsJournal, before, undone_all}
-use Rattle.rewriter_laws.proofs.Maps.{set_other, cut_here, cut_other}
-use Rattle.rewriter_laws.proofs.Undoings.{present_below}
+use Rattle.rewriter_machine.specs.Journals.{IsForward, IsJournal, before, undone_all}
+use Rattle.rewriter_machine.proofs.Maps.{set_other, cut_here, cut_other}
+use Rattle.rewriter_machine.proofs.Undoings.{present_below}
 use Rattle.greedy.specs.Near.{Leads, IsShown}
 use Rattle.greedy.proofs.Still.{goes_out, goes_in, goes_on, all_edited}
 use Rattle.greedy.proofs.Tracked.{operand_id, operand_name, part_name, gone_found}
@@ -34,8 +34,8 @@ use Rattle.ir_event.proofs.Steps.{meaning_operands}
 use Rattle.ir_event.proofs.of_trees.Facts.{part_id}
 use Rattle.std.proofs.lemmas.Option.{same_Some}
 
--- undoing one event leaves what is held under an older id, and the next free id doesn't rise by it
-one_held : (c : Things) (e : Event) (s : Stored) → IsForward e → CameFrom c e (module_meaning c (undone c e s).module_of) s → (x : ℕ) (o : Op) → x < (undone c e s).module_of.next → finmap.get (undone c e s).held x ≡ Some o
+-- undoing one event keeps the held operations with older ids and doesn't raise the next free id
+one_held : (c : ContextModel) (e : Event) (s : Stored) → IsForward e → CameFrom c e (module_meaning c (undone c e s).module_of) s → (x : ℕ) (o : Op) → x < (undone c e s).module_of.next → finmap.get (undone c e s).held x ≡ Some o
     → (finmap.get s.held x ≡ Some o) × (x < s.module_of.next)
 one_held c (Put y place true) s w f x o l h = (put_held (find y s.module_of.tree) h, omega (arith, l, f.step.changes.next.0))
   where
@@ -55,14 +55,14 @@ one_held c (SetOperand y k old new) s w f x o l h = (h, l)
 one_held c (SetEntry y part k old new) s w f x o l h = (h, l)
 one_held c (Shift y old new) s w f x o l h = (h, l)
 
-held_still : (c : Things) (es : List Event) (s : Stored) → IsJournal c es s → (x : ℕ) (o : Op) → x < (undone_all c es s).module_of.next → finmap.get (undone_all c es s).held x ≡ Some o → finmap.get s.held x ≡ Some o
+held_still : (c : ContextModel) (es : List Event) (s : Stored) → IsJournal c es s → (x : ℕ) (o : Op) → x < (undone_all c es s).module_of.next → finmap.get (undone_all c es s).held x ≡ Some o → finmap.get s.held x ≡ Some o
 held_still c [] s j x o l h = h
 held_still c (e ∷ es) s j x o l h =
     let w = one_held c e (undone_all c es s) j.1.0 j.1.1 x o l h in
     held_still c es s j.0 x o w.1 w.0
 
--- an operation that isn't there isn't put by an event that gives a newer id
-one_absent : (c : Things) (e : Event) (p n : Module) → Step c e p n → IsForward e → (x : ℕ) → x < p.next → ((s : StandOf (List ℕ) TypeTerm AttrTerm) → In s (stands [] p.tree) → stand_id s ≡ x → ⊥)
+-- an event that assigns newer ids doesn't insert an absent operation with an older id
+one_absent : (c : ContextModel) (e : Event) (p n : Module) → Step c e p n → IsForward e → (x : ℕ) → x < p.next → ((s : StandOf (List ℕ) TypeTerm AttrTerm) → In s (stands [] p.tree) → stand_id s ≡ x → ⊥)
     → (r : StandOf (List ℕ) TypeTerm AttrTerm) → In r (stands [] n.tree) → stand_id r ≡ x → ⊥
 one_absent c (Put y place true) p n s f x l none r h i =
     let t = s.changes in
@@ -85,8 +85,8 @@ one_absent c (Shift y old new) p n s f x l none r h i = elim (bool_cases (eqb (s
   | inr e ↦ (let w = goes_on own_of y n.tree p.tree s.after.distinct s.changes.rest s.changes.same r h (eqb-false (stand_id r) y e) in none w.0 w.1 (w.2 ∙ i))
 ]
 
--- the next free id only rises
-one_rises : (c : Things) (e : Event) (p n : Module) → Step c e p n → IsForward e → (x : ℕ) → x < p.next → x < n.next
+-- the next free id never falls
+one_rises : (c : ContextModel) (e : Event) (p n : Module) → Step c e p n → IsForward e → (x : ℕ) → x < p.next → x < n.next
 one_rises c (Put y place true) p n s f x l = let a = s.changes.next.0 in let b = s.changes.next.1 in omega (arith, l, a, b)
 one_rises c (Put y place false) p n s f x l = absurd (true≢false (sym f))
 one_rises c (Take y place true) p n s f x l = absurd (true≢false f)
@@ -95,26 +95,26 @@ one_rises c (SetOperand y k old new) p n s f x l = let a = s.changes.next in ome
 one_rises c (SetEntry y part key old new) p n s f x l = let a = s.changes.next in omega (arith, l, a)
 one_rises c (Shift y old new) p n s f x l = let a = s.changes.next in omega (arith, l, a)
 
-absent_still : (c : Things) (es : List Event) (s : Stored) → IsJournal c es s → (x : ℕ) → x < (before c es s).next → ((z : StandOf (List ℕ) TypeTerm AttrTerm) → In z (stands [] (before c es s).tree) → stand_id z ≡ x → ⊥)
+absent_still : (c : ContextModel) (es : List Event) (s : Stored) → IsJournal c es s → (x : ℕ) → x < (before c es s).next → ((z : StandOf (List ℕ) TypeTerm AttrTerm) → In z (stands [] (before c es s).tree) → stand_id z ≡ x → ⊥)
     → (r : StandOf (List ℕ) TypeTerm AttrTerm) → In r (stands [] (module_meaning c s.module_of).tree) → stand_id r ≡ x → ⊥
 absent_still c [] s j x l none = none
 absent_still c (e ∷ es) s j x l none =
     absent_still c es s j.0 x (one_rises c e (before c (e ∷ es) s) (before c es s) j.1.1.step j.1.0 x l) (one_absent c e (before c (e ∷ es) s) (before c es s) j.1.1.step j.1.0 x l none)
 
--- what is found in contents
-found_meant : (c : Things) (x : ℕ) (t : Op) → find x (meaning c t) ≡ option_map (meaning c) (find x t)
+-- the operations found in the tree of terms
+found_meant : (c : ContextModel) (x : ℕ) (t : Op) → find x (meaning c t) ≡ option_map (meaning c) (find x t)
 found_meant c x t = map_find (name_term c) (type_term c) (attr_term c) x t
 
--- an operation that isn't there is known as it is held
-held_known : (c : Things) (x : ℕ) (s : Stored) (q : Op) → ((r : StandOf (List ℕ) TypeTerm AttrTerm) → In r (stands [] (meaning c s.module_of.tree)) → stand_id r ≡ x → ⊥) → finmap.get s.held x ≡ Some q → known x s ≡ Some q
+-- an operation outside the tree is known as the store holds it
+held_known : (c : ContextModel) (x : ℕ) (s : Stored) (q : Op) → ((r : StandOf (List ℕ) TypeTerm AttrTerm) → In r (stands [] (meaning c s.module_of.tree)) → stand_id r ≡ x → ⊥) → finmap.get s.held x ≡ Some q → known x s ≡ Some q
 held_known c x s q none h = go (find x s.module_of.tree) refl
   where
     go : (a : Option Op) → find x s.module_of.tree ≡ a → known x s ≡ Some q
     go None e = ap (λ a. first_of a (finmap.get s.held x)) e ∙ h
     go (Some o) e = let r = found_stands x (meaning c s.module_of.tree) (meaning c o) (found_meant c x s.module_of.tree ∙ ap (option_map (meaning c)) e) in absurd (none r.0 r.1 r.2)
 
--- an operation of the module is known as it is there
-there_known : (c : Things) (x : ℕ) (s : Stored) (o : Operation) → find x (meaning c s.module_of.tree) ≡ Some o → (head o).operands ≡ shown_operands s x
+-- an operation of the module is known as the tree has it
+there_known : (c : ContextModel) (x : ℕ) (s : Stored) (o : Operation) → find x (meaning c s.module_of.tree) ≡ Some o → (head o).operands ≡ shown_operands s x
 there_known c x s o e = go (find x s.module_of.tree) refl
   where
     go : (a : Option Op) → find x s.module_of.tree ≡ a → (head o).operands ≡ shown_operands s x
@@ -124,7 +124,7 @@ there_known c x s o e = go (find x s.module_of.tree) refl
         let same : meaning c q ≡ o = cc in
         ap (λ (z : Operation). (head z).operands) (sym same) ∙ meaning_operands c q ∙ sym (ap (λ a. operands_found (first_of a (finmap.get s.held x))) i)
 
-shown_when_taken : (c : Things) (e : Event) (es : List Event) (s : Stored) → IsJournal c (e ∷ es) s → IsShown (shown_operands s) e (before c (e ∷ es) s)
+shown_when_taken : (c : ContextModel) (e : Event) (es : List Event) (s : Stored) → IsJournal c (e ∷ es) s → IsShown (shown_operands s) e (before c (e ∷ es) s)
 shown_when_taken c (Put x place fresh) es s j = tt
 shown_when_taken c (Take x place true) es s j = absurd (true≢false j.1.0)
 shown_when_taken c (Take x place false) es s j = λ o e.
@@ -141,12 +141,12 @@ shown_when_taken c (SetOperand x k old new) es s j = tt
 shown_when_taken c (SetEntry x part key old new) es s j = tt
 shown_when_taken c (Shift x old new) es s j = tt
 
-pub leads : (c : Things) (es : List Event) (s : Stored) → IsJournal c es s → Leads (shown_operands s) c es (before c es s) (module_meaning c s.module_of)
+pub leads : (c : ContextModel) (es : List Event) (s : Stored) → IsJournal c es s → Leads (shown_operands s) c es (before c es s) (module_meaning c s.module_of)
 leads c [] s j = (refl, λ x o e. there_known c x s o e)
 leads c (e ∷ es) s j = (before c es s, j.1.1.step, shown_when_taken c e es s j, leads c es s j.0)
 
--- and those from one on
-pub leads_from : (c : Things) (es : List Event) (s : Stored) → IsJournal c es s → (k : ℕ) → Leads (shown_operands s) c (drop k es) (before c (drop k es) s) (module_meaning c s.module_of)
+-- the same for the events from an index on
+pub leads_from : (c : ContextModel) (es : List Event) (s : Stored) → IsJournal c es s → (k : ℕ) → Leads (shown_operands s) c (drop k es) (before c (drop k es) s) (module_meaning c s.module_of)
 leads_from c es s j zero = leads c es s j
 leads_from c [] s j (suc k) = leads c [] s j
 leads_from c (e ∷ es) s j (suc k) = leads_from c es s j.0 k

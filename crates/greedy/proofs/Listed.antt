@@ -1,14 +1,14 @@
--- Which of a list comes after which.
+-- The order of the entries of a list.
 use Rattle.std.proofs.Common.{◌≡◌, ap, sym, ◌∙◌, ℕ, Bool, true, false, cond, ◌||◌, eqb, List, [], ◌∷◌, true≢false, inl, inr}
 use Rattle.std.specs.List.{list_any}
 use Rattle.ir_event.specs.tree_laws.Reads.{comes_after}
 use Rattle.std.proofs.lemmas.Bool.{cases_Bool}
 
--- whether a is one of a list
+-- whether a is in a list
 abbrev pub is_listed : ℕ → List ℕ → Bool
 is_listed a xs = list_any (λ y. eqb y a) xs
 
--- a is one of a list
+-- a is in a list
 abbrev pub Listed : ℕ → List ℕ → Type 0
 Listed a xs = is_listed a xs ≡ true
 
@@ -21,7 +21,7 @@ listed_at x a xs e = ap (λ b. b || list_any (λ y. eqb y a) xs) e
 pub listed_more : (x a : ℕ) (xs : List ℕ) → Listed a xs → Listed a (x ∷ xs)
 listed_more x a xs h = elim (cases_Bool (eqb x a)) [ inl e ↦ listed_at x a xs e | inr e ↦ ap (λ b. b || list_any (λ y. eqb y a) xs) e ∙ h ]
 
--- of which one stands behind another both stand there
+-- if one entry comes after another, both are in the list
 pub after_at : (a b x : ℕ) (xs : List ℕ) → eqb x a ≡ true → comes_after a b (x ∷ xs) ≡ list_any (λ y. eqb y b) xs
 after_at a b x xs e = ap (λ c. cond c (list_any (λ y. eqb y b) xs) (comes_after a b xs)) e
 

@@ -1,4 +1,4 @@
--- Edits near an operation x: what stood before it and behind it stays, and what is put in front of it stands between.
+-- Edits near an operation x. Everything before and after x stays, and the inserted operations come between.
 use Rattle.std.proofs.Common.{◌≡◌, refl, ap, sym, ◌∙◌, subst, ℕ, ◌≤◌, true≢false, cond, ◌||◌, eqb, eq-eqb, List, [], ◌∷◌, ◌++◌, length, append_assoc, append-nil, length-append, Some, None, option_map, inl, inr, ◌⊎◌, arith}
 use Rattle.std.specs.List.{list_any, IsDistinct}
 use Rattle.std.proofs.lemmas.List.{append_cancel_left}
@@ -18,10 +18,10 @@ use Rattle.ir_event.proofs.of_tree_laws.Put.{put_find}
 use Rattle.ir_event.proofs.of_tree_laws.Shift.{own_distinct}
 use Rattle.greedy.proofs.Cut.{MayCome, put_may, put_outside, found_present, not_root, without_ids, without_found, found_within}
 use Rattle.std.proofs.lemmas.Bool.{cases_Bool}
-use Rattle.rewriter_laws.proofs.Trees.{found_id}
+use Rattle.rewriter_machine.proofs.Trees.{found_id}
 use Rattle.ir_event.proofs.of_trees.Facts.{ids_head}
 
--- operations by their ids, each with the ids of what stands in it
+-- operations by their ids, each with the ids of the operations inside it
 abbrev pub Wide : Type 0
 Wide = List (ℕ × List ℕ)
 
@@ -29,7 +29,7 @@ abbrev pub widths : Wide → List ℕ
 widths [] = []
 widths (y ∷ ys) = y.1 ++ widths ys
 
--- where there is one, each of two parts
+-- absence from two joined parts fails if the element is in one of them
 absent_in : (x : ℕ) (xs ys : List ℕ) → Present x ys → Absent x (xs ++ ys) → ⊥
 absent_in x xs ys p a = true≢false (sym p ∙ (absent_parts x xs ys a).1)
 
@@ -37,13 +37,12 @@ apart_by : (x y : ℕ) (xs ys : List ℕ) → Apart xs ys → Present y ys → A
 apart_by x y xs ys f p = elim (cases_Bool (list_any (λ z. eqb z y) xs)) [ inr k ↦ k | inl k ↦ absurd (true≢false (sym p ∙ f y k)) ]
 
 module _ {N T A : Type 0} where
-  -- they stand in an operation
+  -- the operations are inside an operation
   abbrev pub Hold : OpOf N T A → Wide → Type 0
   Hold u [] = Unit {0}
   Hold u (y ∷ ys) = ((o : OpOf N T A) × (find y.0 u ≡ Some o) × (ids o ≡ y.1)) × Hold u ys
 
-  -- operation x stands between two parts of a tree; in it stand operations, one behind another, with others before and
-  -- behind
+  -- operation x is between two parts of a tree. Consecutive operations are inside x, with others before and after them
   pub record Near (x : ℕ) (front back inner outer : List ℕ) (ys : Wide) (t : OpOf N T A) : Type 0 where
     pub distinct : HasDistinctIds t
     pub at : OpOf N T A
@@ -51,7 +50,7 @@ module _ {N T A : Type 0} where
     pub is : ids t ≡ front ++ (ids at ++ back)
     pub own : ids at ≡ x ∷ (inner ++ (widths ys ++ outer))
     pub hold : Hold at ys
-    pub further : 1 ≤ length front
+    pub extra : 1 ≤ length front
 
   module _ (x : ℕ) (front back inner outer : List ℕ) (ys : Wide) (t : OpOf N T A) (w : Near x front back inner outer ys t) where
     at_distinct : HasDistinctIds w.at
@@ -66,7 +65,7 @@ module _ {N T A : Type 0} where
       is = head_ids f alike t ∙ w.is ∙ ap (λ l. front ++ (l ++ back)) (sym (head_ids f alike w.at));
       own = head_ids f alike w.at ∙ w.own;
       hold = holds ys w.hold;
-      further = w.further;
+      extra = w.extra;
     }
       where
         holds : (ys : Wide) → Hold w.at ys → Hold (each_head f w.at) ys
@@ -75,7 +74,7 @@ module _ {N T A : Type 0} where
 
     -- x is taken out
     pub near_erased : ids (without x t) ≡ front ++ back
-    near_erased = without_ids x t w.at front back w.distinct w.found (not_root x t w.at front back w.found w.is w.further) w.is
+    near_erased = without_ids x t w.at front back w.distinct w.found (not_root x t w.at front back w.found w.is w.extra) w.is
 
     x_once : Absent x (inner ++ (widths ys ++ outer))
     x_once = absent_first x (inner ++ (widths ys ++ outer)) (subst (IsDistinct eqb) w.own at_distinct)
@@ -86,7 +85,7 @@ module _ {N T A : Type 0} where
     x_regions : Absent x (regions_ids (regions w.at))
     x_regions = subst (Absent x) (sym (append_cancel_left (x ∷ []) (regions_ids (regions w.at)) (inner ++ (widths ys ++ outer)) (ap (λ y. y ∷ regions_ids (regions w.at)) (sym (found_id x t w.at w.found)) ∙ sym (ids_head w.at) ∙ w.own))) x_once
 
-    -- others are put in front of it, or nothing is
+    -- operations are inserted before x, or nothing is inserted
     module _ (place : Place) (o : OpOf N T A) (before : place.before ≡ Some x) (own : HasDistinctIds o) (apart : Apart (ids o) (ids t)) where
       out : (y : ℕ) (u v : OpOf N T A) → find y u ≡ Some v → find x t ≡ Some u → find y o ≡ None
       out y u v e f = absent_find y o (apart_by x y (ids o) (ids t) apart (found_present y t v (found_within x y t u v w.distinct f e)))
@@ -127,7 +126,7 @@ module _ {N T A : Type 0} where
         is = is ∙ ap (λ l. fronts ++ (l ++ back)) (sym put_own);
         own = put_own ∙ w.own;
         hold = put_holds ys x_absent w.hold;
-        further = l;
+        extra = l;
       }
 
       pub near_put : (more : List ℕ) × ((more ≡ []) ⊎ (more ≡ ids o)) × Near x (front ++ more) back inner outer ys (put place o t)
@@ -140,7 +139,7 @@ module _ {N T A : Type 0} where
           at_is = w.is ∙ ap (λ l. front ++ (l ++ back)) w.own
 
           go : MayCome x (ids o) (ids t) (ids (put place o t)) → (more : List ℕ) × ((more ≡ []) ⊎ (more ≡ ids o)) × Near x (front ++ more) back inner outer ys (put place o t)
-          go (inl e) = ([], inl refl, subst (λ l. Near x l back inner outer ys (put place o t)) (sym (append-nil front)) (near_with front w.further (e ∙ w.is)))
+          go (inl e) = ([], inl refl, subst (λ l. Near x l back inner outer ys (put place o t)) (sym (append-nil front)) (near_with front w.extra (e ∙ w.is)))
           go (inr c) = (
             ids o,
             inr refl,
@@ -152,7 +151,7 @@ module _ {N T A : Type 0} where
           )
             where
               longer : 1 ≤ length (front ++ ids o)
-              longer = let a = length-append front (ids o) in let b = w.further in omega (arith, a, b)
+              longer = let a = length-append front (ids o) in let b = w.extra in omega (arith, a, b)
 
               same : c.front ++ (x ∷ c.back) ≡ front ++ (x ∷ (rest ++ back))
               same = sym c.was ∙ at_is
@@ -163,7 +162,7 @@ module _ {N T A : Type 0} where
               backs : c.back ≡ rest ++ back
               backs = append_cancel_left (x ∷ []) c.back (rest ++ back) (append_cancel_left c.front (x ∷ c.back) (x ∷ (rest ++ back)) (same ∙ ap (λ l. l ++ (x ∷ (rest ++ back))) (sym fronts)))
 
-  -- the first of those that stand in x is taken out
+  -- the first of the operations inside x is taken out
   module _ (x : ℕ) (front back inner outer : List ℕ) (y : ℕ × List ℕ) (ys : Wide) (t : OpOf N T A) (w : Near x front back inner outer (y ∷ ys) t) where
     abbrev o : OpOf N T A
     o = w.hold.0.0
@@ -177,7 +176,7 @@ module _ {N T A : Type 0} where
     pub first_own : HasDistinctIds w.hold.0.0
     first_own = own_distinct y.0 t o w.distinct first_found
 
-    -- where they are in x, and in the tree
+    -- their positions in x and in the tree
     at_parts : ids w.at ≡ (x ∷ inner) ++ (ids w.hold.0.0 ++ (widths ys ++ outer))
     at_parts = w.own ∙ ap (λ l. x ∷ (inner ++ l)) (append_assoc y.1 (widths ys) outer ∙ ap (λ l. l ++ (widths ys ++ outer)) (sym w.hold.0.2))
 
@@ -193,7 +192,7 @@ module _ {N T A : Type 0} where
 
     left : ids (without y.0 t) ≡ (front ++ (x ∷ inner)) ++ ((widths ys ++ outer) ++ back)
     left = without_ids y.0 t o (front ++ (x ∷ inner)) ((widths ys ++ outer) ++ back) w.distinct first_found
-        (not_root y.0 t o (front ++ (x ∷ inner)) ((widths ys ++ outer) ++ back) first_found parts (let a = length-append front (x ∷ inner) in let b = w.further in omega (arith, a, b))) parts
+        (not_root y.0 t o (front ++ (x ∷ inner)) ((widths ys ++ outer) ++ back) first_found parts (let a = length-append front (x ∷ inner) in let b = w.extra in omega (arith, a, b))) parts
 
     d_at : IsDistinct eqb ((x ∷ inner) ++ (ids w.hold.0.0 ++ (widths ys ++ outer)))
     d_at = subst (IsDistinct eqb) at_parts (own_distinct x t w.at w.distinct w.found)
@@ -201,7 +200,7 @@ module _ {N T A : Type 0} where
     d_later : IsDistinct eqb (ids w.hold.0.0 ++ (widths ys ++ outer))
     d_later = (halves (x ∷ inner) (ids o ++ (widths ys ++ outer)) d_at).right
 
-    -- x isn't in the first, and the first is in no other
+    -- x isn't in the first operation, and the first operation is in no other
     x_out : Absent x (ids w.hold.0.0)
     x_out = (absent_parts x (ids o) (widths ys ++ outer) ((halves (x ∷ inner) (ids o ++ (widths ys ++ outer)) d_at).disjoint x (ap (λ b. b || list_any (λ z. eqb z x) inner) (eq-eqb x x refl)))).0
 
@@ -247,7 +246,7 @@ module _ {N T A : Type 0} where
       is = left ∙ append_assoc front (x ∷ inner) ((widths ys ++ outer) ++ back) ∙ ap (λ l. front ++ l) (sym (append_assoc (x ∷ inner) (widths ys ++ outer) back)) ∙ ap (λ l. front ++ (l ++ back)) (sym at_left);
       own = at_left;
       hold = left_holds ys y_out apart_width w.hold.1;
-      further = w.further;
+      extra = w.extra;
     }
 
     first_apart : Apart (ids w.hold.0.0) (ids (without y.0 t))
@@ -265,7 +264,7 @@ module _ {N T A : Type 0} where
           | inl k ↦ absurd (true≢false (sym p ∙ (absent_parts z (ids o) ((widths ys ++ outer) ++ back) ((halves (front ++ (x ∷ inner)) (ids o ++ ((widths ys ++ outer) ++ back)) two).disjoint z k)).0))
         ]
 
-    -- and is put in front of x, or nowhere
+    -- the first operation is inserted before x, or nowhere
     pub near_moved : (place : Place) → place.before ≡ Some x → (more : List ℕ) × ((more ≡ []) ⊎ (more ≡ y.1)) × Near x (front ++ more) back inner outer ys (shifted y.0 place t)
     near_moved place before =
         let n = near_put x front back inner outer ys (without y.0 t) near_left place o before first_own first_apart in

@@ -1,4 +1,4 @@
--- Lists without doubles by the ranks of what stands in them.
+-- Lists without duplicates, by the ranks of their entries.
 use Rattle.std.proofs.Common.{◌≡◌, refl, ap, sym, ◌∙◌, ℕ, zero, suc, ◌+◌, ◌<◌, inl, inr, Bool, true, false, cond, eqb, eqb-true, eq-eqb, List, [], ◌∷◌, true≢false, arith, length, Some, None}
 use Rattle.std.specs.List.{IsDistinct}
 use Rattle.std.proofs.lemmas.Map.Keys.{IsDistinct-tail}
@@ -8,9 +8,9 @@ use Rattle.ir_event.proofs.of_tree_laws.Listed.{bool_cases}
 use Rattle.greedy.specs.Following.{first_id, comes_next}
 use Rattle.greedy.specs.Work.{count_after}
 use Rattle.greedy.proofs.Listed.{listed_past, listed_at, listed_more, after_at, after_past, second_there}
-use Rattle.greedy.specs.Sights.{is_listed}
+use Rattle.greedy.specs.LocalContext.{is_listed}
 
--- where a number stands in a list
+-- the index of a number in a list
 abbrev pub rank : ℕ → List ℕ → ℕ
 rank a [] = zero
 rank a (x ∷ xs) = cond (eqb x a) zero (suc (rank a xs))
@@ -41,7 +41,7 @@ same_rank a b (x ∷ xs) h k e = elim (bool_cases (eqb x a)) [
   ]
 ]
 
--- the first of a list stands in it once
+-- the first entry of such a list occurs once
 once : (x b : ℕ) (xs : List ℕ) → IsDistinct eqb (x ∷ xs) → is_listed b xs ≡ true → eqb x b ≡ false
 once x b xs d h = elim (bool_cases (eqb x b)) [
   | inr e ↦ e
@@ -70,7 +70,7 @@ after_from_rank a b (x ∷ xs) h k l = elim (bool_cases (eqb x b)) [
   ]
 ]
 
--- the one that stands next
+-- the next entry
 pub first_next : (a y x : ℕ) (xs : List ℕ) → first_id (x ∷ xs) ≡ Some y → x ≡ y
 first_next a y x xs e = ap (λ o. elim o as (λ _. ℕ) [ None ↦ zero | Some z ↦ z ]) e
 

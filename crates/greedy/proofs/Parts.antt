@@ -1,4 +1,4 @@
--- Lists of which some are left out: the others keep their order.
+-- Sublists: the remaining entries keep their order.
 use Rattle.std.proofs.Common.{◌≡◌, refl, ap, sym, ◌∙◌, ℕ, true, false, eqb, eqb-true, List, [], ◌∷◌, ◌++◌, true≢false, inl, inr, ◌⊎◌}
 use Rattle.std.specs.List.{IsDistinct, list_any}
 use Rattle.std.proofs.lemmas.Map.Keys.{IsDistinct-tail}
@@ -7,7 +7,7 @@ use Rattle.ir_event.specs.tree_laws.Reads.{comes_after}
 use Rattle.greedy.proofs.Listed.{Listed, listed_at, listed_more, listed_past, second_there, after_at, after_past}
 use Rattle.std.proofs.lemmas.Bool.{cases_Bool}
 
--- a list with some of another, in its order
+-- a list that is a sublist of another
 abbrev pub Part : List ℕ → List ℕ → Type 0
 Part [] ys = Unit {0}
 Part (x ∷ xs) [] = ⊥
@@ -17,10 +17,10 @@ pub whole : (xs : List ℕ) → Part xs xs
 whole [] = tt
 whole (x ∷ xs) = inl (refl, whole xs)
 
-pub part_behind : (zs xs ys : List ℕ) → Part xs ys → Part xs (zs ++ ys)
-part_behind [] xs ys p = p
-part_behind (z ∷ zs) [] ys p = tt
-part_behind (z ∷ zs) (x ∷ xs) ys p = inr (part_behind zs (x ∷ xs) ys p)
+pub part_after : (zs xs ys : List ℕ) → Part xs ys → Part xs (zs ++ ys)
+part_after [] xs ys p = p
+part_after (z ∷ zs) [] ys p = tt
+part_after (z ∷ zs) (x ∷ xs) ys p = inr (part_after zs (x ∷ xs) ys p)
 
 pub part_before : (zs xs ys : List ℕ) → Part xs ys → Part xs (ys ++ zs)
 part_before zs [] ys p = tt
@@ -29,7 +29,7 @@ part_before zs (x ∷ xs) (y ∷ ys) (inl p) = inl (p.0, part_before zs xs ys p.
 part_before zs (x ∷ xs) (y ∷ ys) (inr p) = inr (part_before zs (x ∷ xs) ys p)
 
 pub part_joined : (zs xs ys : List ℕ) → Part xs ys → Part (xs ++ zs) (ys ++ zs)
-part_joined zs [] ys p = part_behind ys zs zs (whole zs)
+part_joined zs [] ys p = part_after ys zs zs (whole zs)
 part_joined zs (x ∷ xs) [] p = absurd p
 part_joined zs (x ∷ xs) (y ∷ ys) (inl p) = inl (p.0, part_joined zs xs ys p.1)
 part_joined zs (x ∷ xs) (y ∷ ys) (inr p) = inr (part_joined zs (x ∷ xs) ys p)
@@ -43,7 +43,7 @@ part_listed a (x ∷ xs) (y ∷ ys) (inl p) h = elim (cases_Bool (eqb x a)) [
 ]
 part_listed a (x ∷ xs) (y ∷ ys) (inr p) h = listed_more y a ys (part_listed a (x ∷ xs) ys p h)
 
--- the first of a list without doubles
+-- the first entry of a list without duplicates
 first_once : (x a : ℕ) (xs : List ℕ) → IsDistinct eqb (x ∷ xs) → eqb x a ≡ true → list_any (λ z. eqb z a) xs ≡ false
 first_once x a xs d e = ap (λ z. list_any (λ y. eqb y z) xs) (sym (eqb-true x a e)) ∙ absent_first x xs d
 

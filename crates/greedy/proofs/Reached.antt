@@ -1,4 +1,4 @@
--- What ends blocks, and what an event reaches, as it is listed.
+-- Block ends and the operations that an event reaches, as they are listed.
 use Rattle.std.proofs.Common.{◌≡◌, refl, ap, sym, ◌∙◌, subst, ℕ, ◌+◌, ◌<◌, ◌≤◌, true, true≢false, ◌||◌, eqb, eq-eqb, eqb-true, List, [], ◌∷◌, length, Option, Some, None, inl, inr, ◌⊎◌, arith}
 use Rattle.std.specs.Prelude.{option_map}
 use Rattle.ir_event.specs.trees.declared.value.Value.TheVariants.{Result, Arg}
@@ -17,7 +17,7 @@ use Rattle.greedy.proofs.BlockEnds.{ending_place, ending_last, last_below}
 use Rattle.std.proofs.lemmas.Option.{same_Some, none-some, same_Some}
 use Rattle.effects.proofs.Reached.{counted}
 
--- ---- what is around one that ends its block
+-- ---- the parent of an operation that ends its block
 module _ (t : Op) (d : HasDistinctIds t) where
   pub around_none : (y : ℕ) → None ≡ place_of y t → (x : ℕ) → IsAround t y x → ⊥
   around_none y e x k = let w = ending_place t d x y k in none-some (record { parent = x; region = w.0; before = None }) (e ∙ w.1)
@@ -33,7 +33,7 @@ module _ (t : Op) (d : HasDistinctIds t) where
 
 -- ---- the last operations of blocks
 
--- x ends the block of one of the regions of operation p from one on, of so many
+-- x ends the block of one of the regions of operation p, counting a number of regions from an index on
 abbrev pub IsLastAmong : ℕ → ℕ → ℕ → Op → ℕ → Type 0
 IsLastAmong p from count t x = (r : ℕ) × (from ≤ r) × (r < count) × (last_at p r t ≡ Some x)
 
@@ -92,7 +92,7 @@ at_no_end place b e t x k = go place.before e (both (is_end place) (eqb place.pa
 pub at_the_end : (place : Place) (t : Op) (x : ℕ) → at_end place x t ≡ true → IsOrEnds place.parent t x
 at_the_end place t x k = (both (is_end place) (eqb place.parent x || ends place.parent x t) k).1
 
--- ---- what gives values
+-- ---- the defining operations of values
 pub gives_one : (x k y : ℕ) → Gives (Result x k) y → y ≡ x
 gives_one x k y e = same_Some y x (sym e)
 

@@ -1,6 +1,6 @@
--- Each event, and each list of events, leaves the surroundings of all operations that it doesn't reach.
+-- Each event, and each list of events, keeps the surroundings of every operation that it doesn't reach.
 use Rattle.std.proofs.Common.{◌≡◌, refl, ap, sym, ◌∙◌, subst, ℕ, zero, suc, Bool, true, false, true≢false, ◌||◌, ◌&&◌, eqb, eq-eqb, List, [], ◌∷◌, map, Option, Some, None, inl, inr}
-use Rattle.ir_event.specs.types.Things.{Things}
+use Rattle.ir_event.specs.types.Things.{ContextModel}
 use Rattle.ir_event.specs.trees.declared.place.Place.{Place}
 use Rattle.ir_event.specs.trees.Tree.{HeadOf, OpOf, RegionsOf, no_regions, region, empty, block, OpsOf, head, regions}
 use Rattle.ir_event.specs.trees.Ids.{HasDistinctIds, find}
@@ -16,15 +16,15 @@ use Rattle.ir_event.specs.declared.event.Event.{Event}
 use Rattle.ir_event.specs.declared.event.Event.TheVariants.{Put, Take, SetOperand, SetEntry, Shift}
 use Rattle.ir_event.specs.Modules.{Module}
 use Rattle.ir_event.specs.Step.{Step, Steps}
-use Rattle.listeners_surroundings.specs.Surroundings.{surroundings}
-use Rattle.listeners_surroundings.specs.Near.{if_any, lasts_of, lasts_found, lasts_in}
-use Rattle.listeners_surroundings.proofs.Left.{left_head}
-use Rattle.listeners_surroundings.proofs.Spots.{next_in, last_is, placed_there}
-use Rattle.listeners_surroundings.proofs.Moves.{taken, left_id}
-use Rattle.listeners_surroundings.proofs.Near.{far_same}
+use Rattle.listeners_support.specs.Surroundings.{surroundings}
+use Rattle.listeners_support.specs.Near.{if_any, lasts_of, lasts_found, lasts_in}
+use Rattle.listeners_support.proofs.Left.{left_head}
+use Rattle.listeners_support.proofs.Points.{next_in, last_is, placed_there}
+use Rattle.listeners_support.proofs.Moves.{taken, left_id}
+use Rattle.listeners_support.proofs.Near.{far_same}
 use Rattle.greedy.specs.Reached.{ends, ends_of, is_end, at_end, reaches, any_reaches}
 use Rattle.greedy.proofs.Ending.{last_ends, last_at_ends}
-use Rattle.listeners_surroundings.proofs.Locality.{taken_leaves, moved_leaves}
+use Rattle.listeners_support.proofs.Locality.{taken_leaves, moved_leaves}
 use Rattle.ir_event.proofs.of_types.Truths.{unlike}
 
 -- a place that isn't the end of its block
@@ -43,7 +43,7 @@ end_of place n = go place.before n
     go (Some b) n = absurd cc
 
 module _ {N T A : Type 0} where
-  -- what an end of a block asks
+  -- what it means that a place is not an end of a block near y
   pub at_end_parts : (place : Place) (y : ℕ) (t : OpOf N T A) → at_end place y t ≡ false → place.before ≡ None → (eqb place.parent y ≡ false) × (ends place.parent y t ≡ false)
   at_end_parts place y t e n = neither (eqb place.parent y) (ends place.parent y t) (sym (ap (λ b. b && (eqb place.parent y || ends place.parent y t)) (end_of place n)) ∙ e)
 
@@ -91,7 +91,7 @@ module _ {N T A : Type 0} where
       let is : last_at place.parent place.region n.tree ≡ Some y = (λ w. last_at (sym id w) (sym at.1 w) n.tree) ∙ last ∙ ap Some (left_id x s ∙ i) in
       true≢false (sym (last_at_ends n.tree dn place.parent place.region y is) ∙ (at_end_parts place y n.tree f.1 e).1))
 
-pub far : (c : Things) (e : Event) (m n : Module) → Step c e m n → (y : ℕ) → reaches e y n.tree ≡ false → surroundings y n.tree ≡ surroundings y m.tree
+pub far : (c : ContextModel) (e : Event) (m n : Module) → Step c e m n → (y : ℕ) → reaches e y n.tree ≡ false → surroundings y n.tree ≡ surroundings y m.tree
 far c (Put x place fresh) m n s y h = put_leaves x place fresh m n s.before.distinct s.after.distinct s.changes y h
 far c (Take x place fresh) m n s y h = take_leaves x place fresh m n s.before.distinct s.after.distinct s.changes y h
 far c (SetOperand x k old new) m n s y h =
@@ -107,7 +107,7 @@ far c (Shift x old new) m n s y h =
     (unlike x y f.0) (λ e. unlike old.parent y (at_end_parts old y n.tree g.1 e).0) (λ e. not_end new g.0 e)
     (λ e i. true≢false (sym (last_at_ends n.tree s.after.distinct old.parent old.region y i) ∙ (at_end_parts old y n.tree g.1 e).1))
 
--- whether an event reaches an operation is told alike by any two trees in which its surroundings are the same
+-- two trees with the same surroundings of an operation agree on whether an event reaches it
 same_ends : (p y : ℕ) (t u : Module) → surroundings y t.tree ≡ surroundings y u.tree → ends p y t.tree ≡ ends p y u.tree
 same_ends p y t u e = ap (ends_of p) e
 
@@ -118,8 +118,8 @@ same_reach (SetOperand x k old new) y t u e = ap (λ b. eqb x y || b) (same_ends
 same_reach (SetEntry x part key old new) y t u e = ap (λ b. eqb x y || b) (same_ends x y t u e)
 same_reach (Shift x old new) y t u e = ap (λ b. eqb x y || (is_end new || (is_end old && (eqb old.parent y || b)))) (same_ends old.parent y t u e)
 
--- so a list of events is told from the module after all of them
-pub all_far : (c : Things) (es : List Event) (m n : Module) → Steps c es m n → (y : ℕ) → any_reaches es y n.tree ≡ false → surroundings y n.tree ≡ surroundings y m.tree
+-- the module after a list of events determines which operations the events reach
+pub all_far : (c : ContextModel) (es : List Event) (m n : Module) → Steps c es m n → (y : ℕ) → any_reaches es y n.tree ≡ false → surroundings y n.tree ≡ surroundings y m.tree
 all_far c [] m n s y h = ap (λ (k : Module). surroundings y k.tree) s
 all_far c (e ∷ es) m n s y h =
     let f = neither (reaches e y n.tree) (any_reaches es y n.tree) h in

@@ -13,12 +13,12 @@ use Rattle.ir_event.proofs.of_tree_laws.Around.{member_of_place}
 use Rattle.ir_event.specs.Modules.{Module}
 use Rattle.patterns_base.specs.declared.rule.Rule.{Rule}
 use Rattle.patterns_base.specs.Keeps.{given}
-use Rattle.patterns_base.specs.Looks.{when, in_front, front_of}
+use Rattle.patterns_base.specs.Looks.{when, insertion_point, front_of}
 use Rattle.patterns_base.specs.Rules.{rule}
-use Rattle.patterns_base.specs.Rewrites.{none, edits_of, rewrite_by, rewrite_of, suits}
-use Rattle.patterns_base.specs.Canonicalization.{or_else, first_rule, greedy_rules, lowest}
+use Rattle.patterns_base.specs.Rewrites.{none, edits_of, rewrite_by, rewrite_of, eligible}
+use Rattle.patterns_base.specs.Canonicalization.{or_else, first_rule, greedy_rules, highest_priority}
 
--- it stands at no place
+-- the root has no place
 pub unplaced : (t : Operation) → HasDistinctIds t → place_of (head t).id t ≡ None
 unplaced t d = go (place_of (head t).id t) refl
   where
@@ -32,16 +32,16 @@ unplaced t d = go (place_of (head t).id t) refl
 
 pub no_edits : (r : Rule) (m : Module) → HasDistinctIds m.tree → edits_of r m (head m.tree).id ≡ None
 unfolding edits_of
-no_edits r m d = go (find (head m.tree).id m.tree) (ap (option_map (in_front (head m.tree).id)) (unplaced m.tree d))
+no_edits r m d = go (find (head m.tree).id m.tree) (ap (option_map (insertion_point (head m.tree).id)) (unplaced m.tree d))
   where
-    go : (a : Option Operation) → front_of (head m.tree).id m.tree ≡ None → given a (λ o. given (front_of (head m.tree).id m.tree) (λ front. when (suits r m.tree (head o)) (rule r m.tree m.next front o))) ≡ None
+    go : (a : Option Operation) → front_of (head m.tree).id m.tree ≡ None → given a (λ o. given (front_of (head m.tree).id m.tree) (λ front. when (eligible r m.tree (head o)) (rule r m.tree m.next front o))) ≡ None
     go None e = refl
-    go (Some o) e = ap (λ f. given f (λ front. when (suits r m.tree (head o)) (rule r m.tree m.next front o))) e
+    go (Some o) e = ap (λ f. given f (λ front. when (eligible r m.tree (head o)) (rule r m.tree m.next front o))) e
 
 pub no_rules : (rs : List Rule) (m : Module) → HasDistinctIds m.tree → first_rule rs m (head m.tree).id ≡ none
 unfolding first_rule rewrite_of
 no_rules [] m d = refl
 no_rules (r ∷ rs) m d = ap (λ es. or_else (rewrite_by es m) (first_rule rs m (head m.tree).id)) (no_edits r m d) ∙ no_rules rs m d
 
-pub rootless : (m : Module) → HasDistinctIds m.tree → lowest m (head m.tree).id ≡ none
+pub rootless : (m : Module) → HasDistinctIds m.tree → highest_priority m (head m.tree).id ≡ none
 rootless m d = no_rules greedy_rules m d

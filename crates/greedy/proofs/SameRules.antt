@@ -5,14 +5,14 @@ use Rattle.ir_event.specs.types.declared.refusal.Refusal.TheVariants.{BadLimit}
 use Rattle.ir_event.specs.trees.Ids.{ids}
 use Rattle.ir_event.specs.Modules.{Module}
 use Rattle.patterns_base.specs.Rewrites.{Rewrite, none, refused, becomes}
-use Rattle.patterns_base.specs.Canonicalization.{Canonical, canonical_from, canonicalization_of, end_of, ended, first_among, go_on, greedy_rules, lowest, most_rewrites, next_rewrite, or_else, stopped}
-use Rattle.greedy.specs.Trial.{by_rules}
+use Rattle.patterns_base.specs.Canonicalization.{Canonical, canonical_from, canonicalization_of, end_of, ended, first_among, go_on, greedy_rules, highest_priority, most_rewrites, next_rewrite, or_else, stopped}
+use Rattle.greedy.specs.PatternSet.{by_rules}
 use Rattle.greedy.specs.Rewriting.{first_by, next_by, rewritten_from, rewriting_of}
 
 same_first : (xs : List ℕ) (m : Module) → first_by (by_rules greedy_rules) xs m ≡ first_among xs m
 unfolding first_by first_among
 same_first [] m = refl
-same_first (x ∷ xs) m = ap (or_else (lowest m x)) (same_first xs m)
+same_first (x ∷ xs) m = ap (or_else (highest_priority m x)) (same_first xs m)
 
 same_from : (left done : ℕ) (m : Module) → rewritten_from (by_rules greedy_rules) left done m ≡ canonical_from left done m
 unfolding rewritten_from canonical_from

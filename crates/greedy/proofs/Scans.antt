@@ -1,4 +1,4 @@
--- Scans for the first rewrite, and what runs come to.
+-- Scans for the first rewrite, and the results of runs.
 use Rattle.std.proofs.Common.{◌≡◌, ◌≢◌, refl, ap, sym, ◌∙◌, subst, ℕ, zero, suc, ◌+◌, ◌≤◌, ◌<◌, inl, inr, ◌⊎◌, Bool, true, false, ◌||◌, cond, eqb, eqb-true, eq-eqb, List, [], ◌∷◌, Option, Some, None, true≢false, arith}
 use Rattle.std.specs.Prelude.{nat_le}
 use Rattle.std.specs.List.{list_any}
@@ -21,13 +21,13 @@ use Rattle.patterns.specs.Rows.{AreCanonical}
 use Rattle.greedy.specs.Outcomes.{Applied, Refuses}
 use Rattle.greedy.specs.Rewriting.{first_by, next_by}
 use Rattle.greedy.specs.Work.{waits, IsWork, Right, CoversBut, StillWaits, Taken, NoneWaits}
-use Rattle.greedy.specs.Sights.{is_listed}
+use Rattle.greedy.specs.LocalContext.{is_listed}
 use Rattle.greedy.specs.Listing.{Touched}
-use Rattle.greedy.specs.Trial.{Trial}
+use Rattle.greedy.specs.PatternSet.{PatternSetModel}
 use Rattle.greedy.specs.Trials.{StaysAway}
 use Rattle.greedy.proofs.Listed.{first_there, listed_at, listed_more, listed_past}
 
--- a rewrite that there is
+-- a rewrite that exists
 pub becomes_none : (p : Module) → becomes p ≡ none → ⊥
 becomes_none p e = true≢false (ap (λ a. elim a as (λ _. Bool) [ none ↦ false | refused g ↦ true | becomes p ↦ true ]) e)
 
@@ -59,7 +59,7 @@ gave none b p n t h = absurd (true≢false (sym t ∙ h.0))
 gave (refused e) b p n t h = absurd h
 gave (becomes q) b p n t h = ap becomes (sym h.1)
 
--- a rule with edits rewrites or is refused
+-- a rule with edits makes a rewrite or is refused
 carried : (a b : Bool) (n : Module) (f g : Refusal) → cond a (cond b (becomes n) (refused f)) (refused g) ≡ none → ⊥
 carried true true n f g e = becomes_none n e
 carried true false n f g e = refused_none f e
@@ -81,7 +81,8 @@ module _ (m : Module) (x : ℕ) where
 abbrev pub IsTried : Rule → Type 0
 IsTried r = is_canonical r ≡ true
 
--- where none of some rules applies in one module, and none applies in another that didn't before, none applies there
+-- if none of some rules applies in one module, and no rule applies in another that didn't apply before, then none of
+-- them applies there
 pub none_still : (m n : Module) (x : ℕ) (rs : List Rule) → AreCanonical rs → ((r : Rule) → is_canonical r ≡ true → edits_of r m x ≡ None → edits_of r n x ≡ None) → first_rule rs m x ≡ none → first_rule rs n x ≡ none
 unfolding first_rule
 none_still m n x [] h still e = refl
@@ -90,9 +91,9 @@ none_still m n x (r ∷ rs) h still e =
     ap (λ a. or_else a (first_rule rs n x)) (no_rewrite n x r (still r (All-head IsTried r rs h) (no_edits m x r parts.0)))
     ∙ none_still m n x rs (All-tail IsTried r rs h) still parts.1
 
--- ---- the root, where no rule applies: all others come after it
-root_or_behind : (t : Operation) (z : ℕ) → has_id z t ≡ true → (z ≡ (head t).id) ⊎ (precedes (head t).id z t ≡ true)
-root_or_behind (op h rs) z e = elim (bool_cases (eqb h.id z)) [
+-- ---- no rule applies at the root, and all other operations come after the root
+root_or_after : (t : Operation) (z : ℕ) → has_id z t ≡ true → (z ≡ (head t).id) ⊎ (precedes (head t).id z t ≡ true)
+root_or_after (op h rs) z e = elim (bool_cases (eqb h.id z)) [
   | inl k ↦ inl (sym (eqb-true h.id z k))
   | inr k ↦ inr (before_here h.id z (regions_ids rs) (listed_past h.id z (regions_ids rs) k e))
 ]
@@ -100,31 +101,31 @@ root_or_behind (op h rs) z e = elim (bool_cases (eqb h.id z)) [
 root_there : (t : Operation) → has_id (head t).id t ≡ true
 root_there (op h rs) = ap (λ b. b || list_any (λ y. eqb y h.id) (regions_ids rs)) (eq-eqb h.id h.id refl)
 
--- ---- where something is tried
-module _ (tries : Trial) where
+-- ---- with a pattern set
+module _ (pattern_set : PatternSetModel) where
   module _ (m : Module) where
-    pub first_none : (xs : List ℕ) → ((z : ℕ) → is_listed z xs ≡ true → tries.comes m z ≡ none) → first_by tries xs m ≡ none
+    pub first_none : (xs : List ℕ) → ((z : ℕ) → is_listed z xs ≡ true → pattern_set.comes m z ≡ none) → first_by pattern_set xs m ≡ none
     unfolding first_by
     first_none [] h = refl
-    first_none (x ∷ xs) h = ap (λ a. or_else a (first_by tries xs m)) (h x (listed_at x x xs (eq-eqb x x refl))) ∙ first_none xs (λ z i. h z (listed_more x z xs i))
+    first_none (x ∷ xs) h = ap (λ a. or_else a (first_by pattern_set xs m)) (h x (listed_at x x xs (eq-eqb x x refl))) ∙ first_none xs (λ z i. h z (listed_more x z xs i))
 
-    -- nothing applies at those before y: the scan gives what applies at y, if there is any
-    pub first_at : (y : ℕ) (xs : List ℕ) → is_listed y xs ≡ true → ((z : ℕ) → comes_after z y xs ≡ true → tries.comes m z ≡ none) → tries.comes m y ≢ none → first_by tries xs m ≡ tries.comes m y
+    -- if nothing applies before y, the scan returns the rewrite at y, if there is one
+    pub first_at : (y : ℕ) (xs : List ℕ) → is_listed y xs ≡ true → ((z : ℕ) → comes_after z y xs ≡ true → pattern_set.comes m z ≡ none) → pattern_set.comes m y ≢ none → first_by pattern_set xs m ≡ pattern_set.comes m y
     unfolding first_by
     first_at y [] i h n = absurd (true≢false (sym i))
     first_at y (x ∷ xs) i h n = elim (bool_cases (eqb x y)) [
-      | inl e ↦ ap (λ z. or_else (tries.comes m z) (first_by tries xs m)) (eqb-true x y e) ∙ stops (tries.comes m y) (first_by tries xs m) n
+      | inl e ↦ ap (λ z. or_else (pattern_set.comes m z) (first_by pattern_set xs m)) (eqb-true x y e) ∙ stops (pattern_set.comes m y) (first_by pattern_set xs m) n
       | inr e ↦
           let k = listed_past x y xs e i in
-          ap (λ a. or_else a (first_by tries xs m)) (h x (before_here x y xs k)) ∙ first_at y xs k (λ z c. h z (before_later x z y xs k c)) n
+          ap (λ a. or_else a (first_by pattern_set xs m)) (h x (before_here x y xs k)) ∙ first_at y xs k (λ z c. h z (before_later x z y xs k c)) n
     ]
 
-  -- ---- after a rewrite at operation x all that may apply waits
+  -- ---- after a rewrite at operation x, every operation at which something may apply waits
   pub renewed : (m n : Module) (x : ℕ) (listed : List ℕ) (p : ℕ) (a : List ℕ) (p2 : ℕ) (a2 : List ℕ) (p3 : ℕ) (a3 : List ℕ) (p4 : ℕ) (a4 : List ℕ)
-      → StaysAway tries → Touched m n listed → CoversBut tries x p a m
+      → StaysAway pattern_set → Touched m n listed → CoversBut pattern_set x p a m
       → StillWaits p a m.tree p2 a2 n.tree → StillWaits p2 a2 n.tree p3 a3 n.tree → (has_id x n.tree ≡ true → waits p3 a3 n.tree x ≡ true)
       → StillWaits p3 a3 n.tree p4 a4 n.tree → ((z : ℕ) → is_listed z listed ≡ true → has_id z n.tree ≡ true → waits p4 a4 n.tree z ≡ true)
-      → IsWork p4 a4 n.tree → Right tries p4 a4 n
+      → IsWork p4 a4 n.tree → Right pattern_set p4 a4 n
   renewed m n x listed p a p2 a2 p3 a3 p4 a4 stays touched but s1 s2 here s3 all w = record {
     work = w;
     covers = λ z h v. elim (bool_cases (is_listed z listed)) [
@@ -141,57 +142,57 @@ module _ (tries : Trial) where
     ];
   }
 
-  -- ---- the worklist of the root alone
-  pub begun : (m : Module) → HasDistinctIds m.tree → tries.comes m (head m.tree).id ≡ none → Right tries (head m.tree).id [] m
+  -- ---- the worklist at the root
+  pub begun : (m : Module) → HasDistinctIds m.tree → pattern_set.comes m (head m.tree).id ≡ none → Right pattern_set (head m.tree).id [] m
   begun m d root = record {
-    work = record { there = root_there m.tree; inside = λ y k. absurd (true≢false (sym k)); behind = λ y k. absurd (true≢false (sym k)); falls = tt };
-    covers = λ z h w. elim (root_or_behind m.tree z h) [
-      | inl e ↦ subst (λ y. tries.comes m y ≡ none) (sym e) root
+    work = record { there = root_there m.tree; inside = λ y k. absurd (true≢false (sym k)); trailing = λ y k. absurd (true≢false (sym k)); falls = tt };
+    covers = λ z h w. elim (root_or_after m.tree z h) [
+      | inl e ↦ subst (λ y. pattern_set.comes m y ≡ none) (sym e) root
       | inr k ↦ absurd (true≢false (sym (ap (λ b. b || is_listed z []) k) ∙ w))
     ];
   }
 
   -- ---- taking from a worklist
-  module _ (m : Module) (x p : ℕ) (a : List ℕ) (p2 : ℕ) (a2 : List ℕ) (r : Right tries p a m) (k : Taken x p a p2 a2 m.tree) where
-    pub first_waits : (z : ℕ) → precedes z x m.tree ≡ true → tries.comes m z ≡ none
+  module _ (m : Module) (x p : ℕ) (a : List ℕ) (p2 : ℕ) (a2 : List ℕ) (r : Right pattern_set p a m) (k : Taken x p a p2 a2 m.tree) where
+    pub first_waits : (z : ℕ) → precedes z x m.tree ≡ true → pattern_set.comes m z ≡ none
     first_waits z h = r.covers z (first_there z x (ids m.tree) h) (k.first z h)
 
-    -- the first operation that waits is the next step's, if something applies there
-    pub is_step : tries.comes m x ≢ none → next_by tries m ≡ tries.comes m x
+    -- the first waiting operation is the site of the next step, if something applies there
+    pub is_step : pattern_set.comes m x ≢ none → next_by pattern_set m ≡ pattern_set.comes m x
     is_step n = first_at m x (ids m.tree) k.there first_waits n
 
-    pub took : CoversBut tries x p2 a2 m
+    pub took : CoversBut pattern_set x p2 a2 m
     took z h v = elim (bool_cases (waits p a m.tree z)) [
       | inl e ↦ elim (k.others z h e) [ inl s ↦ inl s | inr s ↦ absurd (true≢false (sym s ∙ v)) ]
       | inr e ↦ inr (r.covers z h e)
     ]
 
-    pub took_none : tries.comes m x ≡ none → Right tries p2 a2 m
-    took_none n = record { work = k.work; covers = λ z h v. elim (took z h v) [ inl s ↦ subst (λ y. tries.comes m y ≡ none) (sym s) n | inr s ↦ s ] }
+    pub took_none : pattern_set.comes m x ≡ none → Right pattern_set p2 a2 m
+    took_none n = record { work = k.work; covers = λ z h v. elim (took z h v) [ inl s ↦ subst (λ y. pattern_set.comes m y ≡ none) (sym s) n | inr s ↦ s ] }
 
-    -- what applying it said is said of the next step
-    pub said : (b : Bool) (n : Module) → b ≡ true → Applied (tries.comes m x) b m n → Applied (next_by tries m) true m n
-    said b n t h = subst (λ c. Applied c true m n) (sym (is_step (not_none b n t h))) (subst (λ c. Applied (tries.comes m x) c m n) t h)
+    -- the result of applying it is the result of the next step
+    pub said : (b : Bool) (n : Module) → b ≡ true → Applied (pattern_set.comes m x) b m n → Applied (next_by pattern_set m) true m n
+    said b n t h = subst (λ c. Applied c true m n) (sym (is_step (not_none b n t h))) (subst (λ c. Applied (pattern_set.comes m x) c m n) t h)
       where
-        not_none : (b : Bool) (n : Module) → b ≡ true → Applied (tries.comes m x) b m n → tries.comes m x ≢ none
+        not_none : (b : Bool) (n : Module) → b ≡ true → Applied (pattern_set.comes m x) b m n → pattern_set.comes m x ≢ none
         not_none b n t h e = true≢false (sym t ∙ (subst (λ c. Applied c b m n) e h).0)
 
-    pub said_none : (b : Bool) (n : Module) → b ≡ false → Applied (tries.comes m x) b m n → (tries.comes m x ≡ none) × (n ≡ m)
-    said_none b n f h = go (tries.comes m x) refl h
+    pub said_none : (b : Bool) (n : Module) → b ≡ false → Applied (pattern_set.comes m x) b m n → (pattern_set.comes m x ≡ none) × (n ≡ m)
+    said_none b n f h = go (pattern_set.comes m x) refl h
       where
-        go : (c : Rewrite) → tries.comes m x ≡ c → Applied c b m n → (tries.comes m x ≡ none) × (n ≡ m)
+        go : (c : Rewrite) → pattern_set.comes m x ≡ c → Applied c b m n → (pattern_set.comes m x ≡ none) × (n ≡ m)
         go none e h = (e, h.1)
         go (refused g) e h = absurd h
         go (becomes q) e h = absurd (true≢false (sym h.0 ∙ f))
 
-    pub said_refuses : (full : Type 0) (e : Refusal) → Refuses (tries.comes m x) full e → Refuses (next_by tries m) full e
+    pub said_refuses : (full : Type 0) (e : Refusal) → Refuses (pattern_set.comes m x) full e → Refuses (next_by pattern_set m) full e
     said_refuses full e (inl h) = inl h
     said_refuses full e (inr (inl h)) = inr (inl (is_step (λ n. refused_none e (sym h ∙ n)) ∙ h))
     said_refuses full e (inr (inr h)) = inr (inr (h.0, (λ n. h.1.0 (sym (is_step h.1.0) ∙ n), h.1.1)))
 
   -- no operation waits: nothing applies
-  pub all_none : (m : Module) (p : ℕ) (a : List ℕ) → Right tries p a m → NoneWaits p a m.tree → next_by tries m ≡ none
+  pub all_none : (m : Module) (p : ℕ) (a : List ℕ) → Right pattern_set p a m → NoneWaits p a m.tree → next_by pattern_set m ≡ none
   all_none m p a r n = first_none m (ids m.tree) (λ z h. r.covers z h (n z h))
 
-  pub rewrote : (m : Module) (x : ℕ) (b : Bool) (n : Module) → b ≡ true → Applied (tries.comes m x) b m n → tries.comes m x ≡ becomes n
-  rewrote m x b n t h = gave (tries.comes m x) b m n t h
+  pub rewrote : (m : Module) (x : ℕ) (b : Bool) (n : Module) → b ≡ true → Applied (pattern_set.comes m x) b m n → pattern_set.comes m x ≡ becomes n
+  rewrote m x b n t h = gave (pattern_set.comes m x) b m n t h

@@ -1,4 +1,4 @@
--- Where an operation stands in a tree, and the operations of a block in it.
+-- The position of an operation in a tree, and the operations of one of its blocks.
 use Rattle.std.proofs.Common.{◌≡◌, refl, ap, sym, ◌∙◌, ℕ, zero, suc, ◌≤◌, false, true≢false, eqb, eq-eqb, List, [], ◌∷◌, ◌++◌, length, map, append_assoc, append-nil, Some, arith}
 use Rattle.ir_event.specs.trees.Tree.{OpOf, RegionsOf, no_regions, region, RegionOf, block, OpsOf, no_ops, next, head, regions}
 use Rattle.ir_event.specs.trees.Ids.{ids, regions_ids, region_ids, ops_ids, HasDistinctIds, find}
@@ -14,15 +14,15 @@ use Rattle.ir_event.proofs.of_tree_laws.Values.{joined_more}
 use Rattle.ir_event.proofs.of_trees.Facts.{ids_head}
 
 module _ {N T A : Type 0} where
-  -- what comes before an operation and behind it
+  -- the ids before and after an operation
   pub record Between (x : ℕ) (t o : OpOf N T A) : Type 0 where
     pub front : List ℕ
     pub back : List ℕ
     pub is : ids t ≡ front ++ (ids o ++ back)
-    pub further : 1 ≤ length front
+    pub extra : 1 ≤ length front
 
   pub between : (x : ℕ) (t o : OpOf N T A) → HasDistinctIds t → find x t ≡ Some o → eqb (head t).id x ≡ false → Between x t o
-  between x t o d e root = record { front = us; back = vs; is = cut; further = some us refl }
+  between x t o d e root = record { front = us; back = vs; is = cut; extra = some us refl }
     where
       i : Inner x t o
       i = inner_of x t o e root
@@ -46,16 +46,16 @@ module _ {N T A : Type 0} where
           true≢false (sym (eq-eqb (head t).id x (same ∙ i.id)) ∙ root))
       some (y ∷ ys) k = let n = ap length k in omega (arith, n)
 
-  -- alone
+  -- without operations inside it
   pub start : (x : ℕ) (t o : OpOf N T A) → HasDistinctIds t → find x t ≡ Some o → (head o).id ≡ x → (b : Between x t o) → Near x b.front b.back [] (regions_ids (regions o)) [] t
-  start x t o d e id b = record { distinct = d; at = o; found = e; is = b.is; own = ids_head o ∙ ap (λ y. y ∷ regions_ids (regions o)) id; hold = tt; further = b.further }
+  start x t o d e id b = record { distinct = d; at = o; found = e; is = b.is; own = ids_head o ∙ ap (λ y. y ∷ regions_ids (regions o)) id; hold = tt; extra = b.extra }
 
-  -- ---- the operations of a block but the last
+  -- ---- the operations of a block without the last
   abbrev pub wide : OpOf N T A → OpsOf N T A → Wide
   wide o no_ops = []
   wide o (next p os) = ((head o).id, ids o) ∷ wide p os
 
-  -- and the last
+  -- and the last one
   abbrev pub final : OpOf N T A → OpsOf N T A → OpOf N T A
   final o no_ops = o
   final o (next p os) = final p os
@@ -83,7 +83,7 @@ module _ {N T A : Type 0} where
       holds (fs ++ o ∷ []) q os (e ∙ ap (λ z. Some (block args z)) (sym (joined_more fs o (next q os)))),
     )
 
-  -- x with the operations of a block of it but the last
+  -- x with the operations of one of its blocks, without the last
   pub record Opened (x : ℕ) (t p : OpOf N T A) (ys : Wide) : Type 0 where
     pub front : List ℕ
     pub back : List ℕ
@@ -101,7 +101,7 @@ module _ {N T A : Type 0} where
     outer = ids (final o os) ++ w.1;
     is = b.is ∙ ap (λ l. b.front ++ (l ++ b.back)) mine;
     own = mine;
-    near = record { distinct = d; at = p; found = e; is = b.is; own = mine; hold = holds p (own_distinct x t p d e) r args [] o os g; further = b.further };
+    near = record { distinct = d; at = p; found = e; is = b.is; own = mine; hold = holds p (own_distinct x t p d e) r args [] o os g; extra = b.extra };
   }
     where
       b : Between x t p

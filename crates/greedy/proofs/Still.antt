@@ -1,5 +1,4 @@
--- What each event leaves of the operations that it isn't about: what they have, the operation around them, and their
--- effects.
+-- Each event keeps, for the operations that it isn't about, their heads, their parents and their effects.
 use Rattle.std.proofs.Common.{◌≡◌, refl, ap, sym, ◌∙◌, subst, ℕ, zero, suc, ◌+◌, false, cond, eqb, eqb-true, List, [], ◌∷◌, ◌++◌, map, Option, Some, None, inl, inr, ◌⊎◌}
 use Rattle.ir_event.specs.trees.Tree.{HeadOf, OpOf, op, RegionsOf, no_regions, region, RegionOf, empty, block, OpsOf, no_ops, next, head, regions}
 use Rattle.ir_event.specs.trees.Ids.{HasDistinctIds, find, first_of}
@@ -19,11 +18,11 @@ use Rattle.ir_event.proofs.of_tree_laws.Without.{left_member, member_left}
 use Rattle.ir_event.proofs.of_tree_laws.Heads.{each_stands}
 use Rattle.op_registry.specs.declared.own.Own.{Own}
 use Rattle.effects.specs.Effects.{effects}
-use Rattle.listeners_surroundings.proofs.Left.{left_node, left_head}
-use Rattle.listeners_surroundings.proofs.Moves.{taken, left_id}
+use Rattle.listeners_support.proofs.Left.{left_node, left_head}
+use Rattle.listeners_support.proofs.Moves.{taken, left_id}
 use Rattle.greedy.specs.Climbs.{feels}
-use Rattle.greedy.specs.Sights.{last_ids}
-use Rattle.listeners_surroundings.proofs.Locality.{last_id_kept}
+use Rattle.greedy.specs.LocalContext.{last_ids}
+use Rattle.listeners_support.proofs.Locality.{last_id_kept}
 use Rattle.greedy.proofs.Feeling.{left_effects, edit_effects}
 
 module _ {N T A : Type 0} where
@@ -32,24 +31,24 @@ module _ {N T A : Type 0} where
   around_id [] = None
   around_id (a ∷ q) = Some (head a.parent).id
 
-  -- operation x ends none of an operation's blocks
+  -- operation x ends no block of the operation
   abbrev pub Unlast : ℕ → OpOf N T A → Type 0
   Unlast x o = (k : ℕ) (args : List T) (os : OpsOf N T A) → region_at k (regions o) ≡ Some (block args os) → last_id os ≡ Some x → ⊥
 
-  -- an operation that has the same in both trees, with the same operation around it; where operation x isn't felt, with
-  -- the same effects; where x ends none of its blocks, with the same operations that do
+  -- an operation with the same head and the same parent in both trees. If it doesn't feel operation x, its effects are
+  -- the same; if x ends none of its blocks, the same operations end them
   pub record Like (own : N → Own) (x : ℕ) (s r : StandOf N T A) : Type 0 where
     pub node : node_of s.here ≡ node_of r.here
     pub around : around_id s.path ≡ around_id r.path
     pub effects_of : feels own x s.here ≡ false → feels own x r.here ≡ false → effects own s.here ≡ effects own r.here
     pub lasts : Unlast x s.here → Unlast x r.here → last_ids (regions s.here) ≡ last_ids (regions r.here)
 
-  -- each operation of the first tree but x is in the second
+  -- each operation of the first tree except x is in the second
   abbrev pub Goes : (StandOf N T A → StandOf N T A → Type 0) → ℕ → OpOf N T A → OpOf N T A → Type 0
   Goes R x t u = (s : StandOf N T A) → In s (stands [] t) → (stand_id s ≡ x → ⊥) → (r : StandOf N T A) × In r (stands [] u) × (stand_id r ≡ stand_id s) × R s r
 
   module _ (own : N → Own) (x : ℕ) where
-    -- the last operations of what is left
+    -- the last operations of the remaining tree
     left_lasts : (p r : ℕ) (rs : RegionsOf N T A) → ((k : ℕ) (args : List T) (os : OpsOf N T A) → region_at k rs ≡ Some (block args os) → last_id os ≡ Some x → ⊥) → last_ids (regions_each_list (dropping x) p r rs) ≡ last_ids rs
     left_lasts p r no_regions f = refl
     left_lasts p r (region empty rs) f = ap (λ l. None ∷ l) (left_lasts p (r + 1) rs (λ k args os. f (suc k) args os))
@@ -62,7 +61,7 @@ module _ {N T A : Type 0} where
     left_around [] = refl
     left_around (a ∷ q) = ap (λ (h : HeadOf N T A). Some h.id) (left_head x a.parent)
 
-    -- taking it out
+    -- taking the operation out
     pub goes_out : (t w : OpOf N T A) → HasDistinctIds t → HasDistinctIds w → w ≡ without x t → ((o : OpOf N T A) → find x t ≡ Some o → HoldNone (regions o)) → Goes (Like own x) x t w
     goes_out t w dt dw is bare s h apart = (
       left_stand x s,
@@ -71,7 +70,7 @@ module _ {N T A : Type 0} where
       record { node = sym (left_node x s.here); around = sym (left_around s.path); effects_of = λ f g. sym (left_effects own x s.here f); lasts = λ f g. sym (left_lasts_op s.here f) },
     )
 
-    -- putting it in
+    -- putting the operation in
     pub goes_in : (t w : OpOf N T A) → w ≡ without x t → Goes (Like own x) x w t
     goes_in t w is r h apart =
         let b = member_left x t r (subst (λ z. In r (stands [] z)) is h) in
@@ -87,7 +86,7 @@ module _ {N T A : Type 0} where
           },
         )
 
-    -- what stands inside an operation has the same around it, whatever stands around that
+    -- operations inside an operation keep their parents, whatever is around the outer operation
     abbrev Again : StandOf N T A → List (StandOf N T A) → Type 0
     Again s us = (u : StandOf N T A) × In u us × (u.here ≡ s.here) × (around_id u.path ≡ around_id s.path)
 
@@ -133,7 +132,7 @@ module _ {N T A : Type 0} where
     top_found : (t : OpOf N T A) → HasDistinctIds t → (s : StandOf N T A) → (w : Within x t s) → find x t ≡ Some w.here
     top_found t d s w = ap (λ y. find y t) (sym w.id) ∙ stand_found t d (stand w.here (w.step_in ∷ w.path)) w.there
 
-    -- moving it, with what is inside it
+    -- moving the operation with everything inside it
     pub goes_on : (t u : OpOf N T A) → HasDistinctIds t → without x t ≡ without x u → find x t ≡ find x u → Goes (Like own x) x t u
     goes_on t u d is same s h apart = elim (left_or_within t s h) [
       | inl k ↦
@@ -217,7 +216,7 @@ module _ {N T A : Type 0} where
       record { node = edit_node s.here apart; around = edit_around s.path; effects_of = λ a b. sym (edit_effects own g names s.here); lasts = λ a b. sym (edit_lasts_op s.here) },
     )
 
-    -- of all operations the name, what is around them, and the effects stay
+    -- all operations keep their names, parents and effects
     pub record Named (s r : StandOf N T A) : Type 0 where
       pub name : (head r.here).name ≡ (head s.here).name
       pub around : around_id s.path ≡ around_id r.path

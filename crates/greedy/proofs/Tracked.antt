@@ -1,8 +1,8 @@
--- The effects of an operation, and whether its results are used, stay where no event is near it, as told from the module
--- after all events.
+-- An operation keeps its effects, and whether its results are used, if no event is near it. The module after all
+-- events determines which operations are near.
 use Rattle.std.proofs.Common.{◌≡◌, refl, ap, sym, ◌∙◌, subst, ℕ, Bool, true, false, cond, eqb, List, [], ◌∷◌, Option, Some, None, inl, inr, ◌⊎◌}
 use Rattle.std.specs.Prelude.{option_map}
-use Rattle.ir_event.specs.types.Things.{Things}
+use Rattle.ir_event.specs.types.Things.{ContextModel}
 use Rattle.ir_event.specs.trees.declared.place.Place.{Place}
 use Rattle.ir_event.specs.trees.declared.place.Part.{Part}
 use Rattle.ir_event.specs.trees.declared.place.Part.TheVariants.{Props, Attrs}
@@ -26,7 +26,7 @@ use Rattle.ir_event.specs.Step.{Step, Steps}
 use Rattle.op_registry.specs.declared.own.Own.{Own}
 use Rattle.op_registry.specs.Registry.{own_of}
 use Rattle.effects.specs.Effects.{is_recursive, effects}
-use Rattle.listeners_surroundings.proofs.Moves.{left_id}
+use Rattle.listeners_support.proofs.Moves.{left_id}
 use Rattle.greedy.specs.Climbs.{recursive_at, Climbs, feels}
 use Rattle.greedy.specs.Near.{subject, outer_ids, Unclimbed}
 use Rattle.greedy.proofs.Feeling.{climbed_from}
@@ -34,7 +34,7 @@ use Rattle.greedy.proofs.Still.{goes_out, goes_in, goes_on, all_edited}
 use Rattle.greedy.proofs.Tracking.{Kept, kept_by, kept_like, climbs_on, climbs_past, climbs_round, feels_up, same_effects}
 use Rattle.ir_event.proofs.of_trees.Facts.{part_id, part_operands}
 
--- heads of the two kinds of edits keep id and name
+-- heads keep their id and name under both kinds of edits
 pub operand_id : {N T A : Type 0} (x k : ℕ) (v : Value) (h : HeadOf N T A) → (at x (put_operand k v) h).id ≡ h.id
 operand_id x k v h = elim (eqb h.id x) as (λ b. (cond b (put_operand k v h) h).id ≡ h.id) [ true ↦ refl | false ↦ refl ]
 
@@ -48,7 +48,7 @@ part_name x part f h = elim (eqb h.id x) as (λ b. (cond b (change_part part f h
     by Props = refl
     by Attrs = refl
 
--- an operation that was taken out isn't there
+-- an operation that was taken out isn't in the tree
 pub gone_found : {N T A : Type 0} (x : ℕ) (t w : OpOf N T A) → w ≡ without x t → eqb (head t).id x ≡ false → (s : StandOf N T A) → In s (stands [] w) → stand_id s ≡ x → ⊥
 gone_found {N} {T} {A} x t w is root s h i =
     let b = member_left x t s (subst (λ z. In s (stands [] z)) is h) in
@@ -68,7 +68,7 @@ recursive_gone own x w none = go (find x w) refl
     go None i = ap (λ z. elim z as (λ _. Bool) [ None ↦ false | Some o ↦ is_recursive (own (head o).name) ]) i
     go (Some o) i = let s = found_stands x w o i in absurd (none s.0 s.1 s.2)
 
--- it isn't felt by what is there
+-- no operation of the tree feels it
 unfelt : {N T A : Type 0} (own : N → Own) (x : ℕ) (w : OpOf N T A) → HasDistinctIds w → ((s : StandOf N T A) → In s (stands [] w) → stand_id s ≡ x → ⊥) → (s : StandOf N T A) → In s (stands [] w) → feels own x s.here ≡ false
 unfelt own x w d none s h = elim (bool_cases (feels own x s.here)) [
   | inr e ↦ e
@@ -79,7 +79,7 @@ unfelt own x w d none s h = elim (bool_cases (feels own x s.here)) [
 place_parent : {N T A : Type 0} (x : ℕ) (t : OpOf N T A) (place : Place) → place_of x t ≡ Some place → parent_of x t ≡ Some place.parent
 place_parent x t place e = ap (option_map (λ (p : Place). p.parent)) e
 
--- heads that change leave all of it
+-- changes to heads keep all of it
 all_kept : {N T A : Type 0} (own : N → Own) (x : ℕ) (f : HeadOf N T A → HeadOf N T A) → ((h : HeadOf N T A) → (at x f h).id ≡ h.id) → ((h : HeadOf N T A) → (at x f h).name ≡ h.name)
     → (t u : OpOf N T A) → HasDistinctIds t → HasDistinctIds u → u ≡ each_head (at x f) t → (c : ℕ) → Kept own c t u
 all_kept own x f ids names t u dt du is c = kept_by own t u dt du c (λ s h i. let w = all_edited own x f ids names t u is s h in (w.0, w.1, w.2, w.3.name, w.3.around))
@@ -91,8 +91,8 @@ edit_found own x f ids names t u du is y o e =
     let w = all_edited own x f ids names t u is s.0 s.1 in
     (w.0.here, ap (λ z. find z u) (sym (w.2 ∙ s.2)) ∙ stand_found u du w.0 w.1, sym w.3.effects_of ∙ ap (effects own) s.3)
 
--- a climb goes on, or there is one from what was around the event's operation
-step_climbs : (c : Things) (e : Event) (m n : Module) → Step c e m n → (y : ℕ) → (y ≡ subject e → ⊥) → (k w : ℕ) → Climbs own_of k y w m.tree
+-- a climb continues, or there is a climb from the former parent of the event's operation
+step_climbs : (c : ContextModel) (e : Event) (m n : Module) → Step c e m n → (y : ℕ) → (y ≡ subject e → ⊥) → (k w : ℕ) → Climbs own_of k y w m.tree
     → ((j : ℕ) × Climbs own_of j y w n.tree) ⊎ ((v : ℕ) × In v (outer_ids e) × ((j : ℕ) × Climbs own_of j y v n.tree))
 step_climbs c (Put x place fresh) m n s y apart k w h =
     let t = s.changes in
@@ -118,8 +118,8 @@ step_climbs c (Shift x old new) m n s y apart k w h =
       | inr v ↦ inr (old.parent, inl refl, v)
     ]
 
--- a climb anywhere between is one at the end, where none begins around an event's places
-all_climb : (c : Things) (es : List Event) (m n : Module) → Steps c es m n → (y : ℕ) → ((e : Event) → In e es → y ≡ subject e → ⊥) → Unclimbed es y n.tree → (k w : ℕ) → Climbs own_of k y w m.tree → (j : ℕ) × Climbs own_of j y w n.tree
+-- a climb in any module between is a climb in the last one, if no climb begins around the place of an event
+all_climb : (c : ContextModel) (es : List Event) (m n : Module) → Steps c es m n → (y : ℕ) → ((e : Event) → In e es → y ≡ subject e → ⊥) → Unclimbed es y n.tree → (k w : ℕ) → Climbs own_of k y w m.tree → (j : ℕ) × Climbs own_of j y w n.tree
 all_climb c [] m n s y apart away k w h = (k, subst (λ (p : Module). Climbs own_of k y w p.tree) (sym s) h)
 all_climb c (e ∷ es) m n s y apart away k w h = elim (step_climbs c e m s.0 s.1 y (apart e (inl refl)) k w h) [
   | inl v ↦ all_climb c es s.0 n s.2 y (λ d i. apart d (inr i)) (λ d i. away d (inr i)) v.0 w v.1
@@ -128,8 +128,8 @@ all_climb c (e ∷ es) m n s y apart away k w h = elim (step_climbs c e m s.0 s.
       absurd (away e (inl refl) v.0 v.1 u.0 u.1)
 ]
 
--- one event leaves the effects
-step_effects : (c : Things) (e : Event) (m n : Module) → Step c e m n → (y : ℕ) → (y ≡ subject e → ⊥)
+-- one event keeps the effects
+step_effects : (c : ContextModel) (e : Event) (m n : Module) → Step c e m n → (y : ℕ) → (y ≡ subject e → ⊥)
     → ((w : ℕ) → In w (outer_ids e) → (k : ℕ) → Climbs own_of k y w m.tree → ⊥) → ((w : ℕ) → In w (outer_ids e) → (k : ℕ) → Climbs own_of k y w n.tree → ⊥)
     → (o : Operation) → find y m.tree ≡ Some o → (q : Operation) × (find y n.tree ≡ Some q) × (effects own_of q ≡ effects own_of o)
 step_effects c (Put x place fresh) m n s y apart was is o e =
@@ -155,8 +155,8 @@ step_effects c (Shift x old new) m n s y apart was is o e =
     (λ r h i. feels_up own_of x n.tree s.after.distinct new.parent (place_parent x n.tree new t.is) r h (λ k g. is new.parent (inr (inl refl)) k (subst (λ z. Climbs own_of k z new.parent n.tree) i g)))
     o e
 
--- and so do all of them
-pub effects_stay : (c : Things) (es : List Event) (m n : Module) → Steps c es m n → (y : ℕ) → ((e : Event) → In e es → y ≡ subject e → ⊥) → Unclimbed es y n.tree
+-- all events keep the effects
+pub effects_stay : (c : ContextModel) (es : List Event) (m n : Module) → Steps c es m n → (y : ℕ) → ((e : Event) → In e es → y ≡ subject e → ⊥) → Unclimbed es y n.tree
     → (o : Operation) → find y m.tree ≡ Some o → (q : Operation) × (find y n.tree ≡ Some q) × (effects own_of q ≡ effects own_of o)
 effects_stay c [] m n s y apart away o e = (o, ap (λ (p : Module). find y p.tree) s ∙ e, refl)
 effects_stay c (e ∷ es) m n s y apart away o f =

@@ -1,4 +1,4 @@
--- Which operations' effects events change is told from the module after them all.
+-- The module after all events determines which operations' effects the events change.
 use Rattle.std.proofs.Common.{◌≡◌, refl, ap, sym, ◌∙◌, subst, ℕ, zero, suc, Bool, true, false, true≢false, eqb, eq-eqb, eqb-true, List, [], ◌∷◌, Option, Some, None, inl, inr, ◌⊎◌}
 use Rattle.std.specs.Prelude.{option_map}
 use Rattle.ir_event.specs.trees.declared.place.Place.{Place}
@@ -22,14 +22,14 @@ use Rattle.greedy.proofs.Still.{around_id, Like, Goes}
 use Rattle.std.proofs.lemmas.Option.{same_Some}
 
 module _ {N T A : Type 0} (own : N → Own) where
-  -- ---- names and what is around, by the lists of stands
+  -- ---- names and parents, by the lists of positions
   node_name : (o q : OpOf N T A) → node_of o ≡ node_of q → (head o).name ≡ (head q).name
   node_name o q e = sym (shown o) ∙ ap (λ n. n.head.name) e ∙ shown q
     where
       shown : (o : OpOf N T A) → (node_of o).head.name ≡ (head o).name
       shown (op h rs) = refl
 
-  -- what is known of an operation that goes on under its name
+  -- what stays known of an operation that keeps its name
   pub record Kept (x : ℕ) (t u : OpOf N T A) : Type 0 where
     pub recursive : recursive_at own x t ≡ true → recursive_at own x u ≡ true
     pub parent : (p : ℕ) → parent_of x t ≡ Some p → parent_of x u ≡ Some p
@@ -47,7 +47,7 @@ module _ {N T A : Type 0} (own : N → Own) where
       go None i e = absurd cc
       go (Some place) i e = (place, i, cc)
 
-  -- one stand goes to another of the same name, around which is the same
+  -- a position corresponds to a position with the same name and the same parent
   pub kept_by : (t u : OpOf N T A) → HasDistinctIds t → HasDistinctIds u → (x : ℕ)
       → ((s : StandOf N T A) → In s (stands [] t) → stand_id s ≡ x → (r : StandOf N T A) × In r (stands [] u) × (stand_id r ≡ stand_id s) × ((head r.here).name ≡ (head s.here).name) × (around_id s.path ≡ around_id r.path))
       → Kept x t u
@@ -84,13 +84,12 @@ module _ {N T A : Type 0} (own : N → Own) where
   pub kept_like : (x : ℕ) (t u : OpOf N T A) → HasDistinctIds t → HasDistinctIds u → Goes (Like own x) x t u → (y : ℕ) → (y ≡ x → ⊥) → Kept y t u
   kept_like x t u dt du goes y apart = kept_by t u dt du y (λ s h i. let w = goes s h (λ e. apart (sym i ∙ e)) in (w.0, w.1, w.2, node_name w.0.here s.here (sym w.3.node), w.3.around))
 
-  -- ---- climbing
-  -- where all stay
+  -- ---- climbing if all operations stay
   pub climbs_on : (t u : OpOf N T A) → ((c : ℕ) → Kept c t u) → (k y c : ℕ) → Climbs own k y c t → Climbs own k y c u
   climbs_on t u kept zero y c h = ((kept c).recursive h.0, h.1)
   climbs_on t u kept (suc k) y c h = ((kept c).recursive h.0, (h.1.0, (kept c).parent h.1.0 h.1.1, climbs_on t u kept k y h.1.0 h.1.2))
 
-  -- where all stay but operation x, which isn't there
+  -- if all operations stay but x, which isn't in the tree
   pub climbs_past : (x : ℕ) (t u : OpOf N T A) → recursive_at own x t ≡ false → ((c : ℕ) → (c ≡ x → ⊥) → Kept c t u) → (k y c : ℕ) → Climbs own k y c t → Climbs own k y c u
   climbs_past x t u gone kept k y c h = go k c h
     where
@@ -101,7 +100,7 @@ module _ {N T A : Type 0} (own : N → Own) where
       go zero c h = ((kept c (apart c h.0)).recursive h.0, h.1)
       go (suc k) c h = ((kept c (apart c h.0)).recursive h.0, (h.1.0, (kept c (apart c h.0)).parent h.1.0 h.1.1, go k h.1.0 h.1.2))
 
-  -- where operation x leaves its place: the climb goes on, or there is one from what was around x
+  -- if operation x leaves its place: the climb continues, or there is a climb from the former parent of x
   pub climbs_round : (x w : ℕ) (t u : OpOf N T A) → parent_of x t ≡ Some w → ((c : ℕ) → (c ≡ x → ⊥) → Kept c t u) → (k y c : ℕ) → (y ≡ x → ⊥) → Climbs own k y c t
       → ((j : ℕ) × Climbs own j y c u) ⊎ ((j : ℕ) × Climbs own j y w u)
   climbs_round x w t u at kept zero y c apart h = inl (zero, ((kept c (λ e. apart (sym h.1 ∙ e))).recursive h.0, h.1))
@@ -133,7 +132,7 @@ module _ {N T A : Type 0} (own : N → Own) where
         absurd (away c.2.0 (subst (λ z. Climbs own c.2.0 (stand_id s) z t) same c.2.1))
   ]
 
-  -- what has no place isn't felt by what is there
+  -- no operation of the tree feels an operation that has no place
   pub same_effects : (x : ℕ) (t u : OpOf N T A) → HasDistinctIds t → HasDistinctIds u → Goes (Like own x) x t u → (y : ℕ) → (y ≡ x → ⊥)
       → ((s : StandOf N T A) → In s (stands [] t) → stand_id s ≡ y → feels own x s.here ≡ false) → ((r : StandOf N T A) → In r (stands [] u) → stand_id r ≡ y → feels own x r.here ≡ false)
       → (o : OpOf N T A) → find y t ≡ Some o → (q : OpOf N T A) × (find y u ≡ Some q) × (effects own q ≡ effects own o)

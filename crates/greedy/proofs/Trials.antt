@@ -1,4 +1,4 @@
--- What the driver tries is lawful.
+-- The pattern set of a run satisfies the driver's requirements.
 use Rattle.std.proofs.Common.{◌≡◌, ◌⊎◌, refl, ap, sym, ◌∙◌, subst, ℕ, ◌+◌, ◌<◌, inl, inr, Bool, true, false, true≢false, List, [], ◌∷◌, Option, Some, None}
 use Rattle.std.specs.Prelude.{All, option_map, if◌then◌else◌}
 use Rattle.std.proofs.lemmas.Bool.{cases_Bool}
@@ -9,29 +9,29 @@ use Rattle.ir_event.specs.types.declared.refusal.Refusal.TheVariants.{Full, IdsE
 use Rattle.ir_event.specs.trees.Tree.{head}
 use Rattle.ir_event.specs.trees.Ids.{ids, HasDistinctIds}
 use Rattle.ir_event.specs.Modules.{Module}
-use Rattle.rewriter_laws.proofs.Trees.{found_id}
+use Rattle.rewriter_machine.proofs.Trees.{found_id}
 use Rattle.rewriter_machine.specs.Contents.{Edit}
 use Rattle.patterns_base.specs.declared.rule.Rule.{Rule}
 use Rattle.patterns_base.specs.RuleNames.{is_canonical}
-use Rattle.patterns_base.specs.Looks.{front_of, in_front}
+use Rattle.patterns_base.specs.Looks.{front_of, insertion_point}
 use Rattle.patterns_base.specs.Rewrites.{Rewrite, none, refused, becomes, edits_of, rewrite_by, rewrite_of}
 use Rattle.patterns_base.specs.Canonicalization.{or_else, first_rule}
 use Rattle.patterns.proofs.Firsts.{none_then}
 use Rattle.patterns.specs.Firing.{firing, rule_or}
 use Rattle.patterns.specs.Rows.{AreCanonical}
 use Rattle.patterns.specs.facts.Near.{Still}
-use Rattle.patterns_book.specs.Shapes.{Shape}
-use Rattle.patterns_depth.specs.Depth.{is_shallow}
-use Rattle.patterns_own.specs.Own.{own_edits, own_rewrite}
+use Rattle.user_patterns_data.specs.Shapes.{PatternModel}
+use Rattle.user_patterns_data.specs.Depth.{is_shallow}
+use Rattle.user_patterns_apply.specs.Own.{own_edits, own_rewrite}
 use Rattle.greedy.specs.Listing.{Stayed}
 use Rattle.greedy.specs.Orders.{Orderly}
-use Rattle.greedy.specs.Ruled.{MayTry, rules_in, trial_of}
-use Rattle.greedy.specs.Trial.{AreAttempts, Attempt, MayAttempt, OfOwn, OfRule, attempted, attempts_of, by_attempts, by_or, by_rules, first_tried, firing_tried, told_by}
-use Rattle.greedy.specs.Trials.{IsFired, IsLawful}
-use Rattle.greedy.specs.declared.fired.By.{By}
-use Rattle.greedy.specs.declared.fired.By.TheVariants as by
-use Rattle.greedy.specs.declared.tried.Tries.{Tries}
-use Rattle.greedy.specs.declared.tried.Tries.TheVariants.{OfRules, OfTried}
+use Rattle.greedy.specs.Ruled.{MayTry, rules_in, pattern_set_of}
+use Rattle.greedy.specs.PatternSet.{AreAttempts, RuleOrPatternModel, MayAttempt, OfOwn, OfRule, attempted, patterns_of, by_attempts, by_or, by_rules, first_tried, firing_tried, traced_as}
+use Rattle.greedy.specs.Trials.{IsApplied, IsLawful}
+use Rattle.greedy.specs.declared.applied_rewrite.AppliedPattern.{AppliedPattern}
+use Rattle.greedy.specs.declared.applied_rewrite.AppliedPattern.TheVariants as by
+use Rattle.greedy.specs.declared.pattern_set.PatternSet.{PatternSet}
+use Rattle.greedy.specs.declared.pattern_set.PatternSet.TheVariants.{Rules, Patterns}
 use Rattle.greedy.proofs.Comings.{IsCount, edits_count, either_refused, not_refused, rules_count}
 use Rattle.greedy.proofs.Law.{carried, edits_orderly, first_orderly, rewrite_tried}
 use Rattle.greedy.proofs.OwnAlike.{own_planned, own_rootless}
@@ -39,8 +39,7 @@ use Rattle.greedy.proofs.Rootless.{no_edits as rootless_edits, no_rules, unplace
 use Rattle.greedy.proofs.Ruling.{canonical_rules}
 use Rattle.greedy.proofs.Scans.{by_none, no_edits, no_rewrite, none_still, or_none, becomes_none, refused_none}
 
--- ---- rules
--- where nothing comes of some rules, none of them fires
+-- ---- rules if rules make no rewrite, none of them applies
 unfired : (rs : List Rule) (m : Module) (x : ℕ) → first_rule rs m x ≡ none → firing rs m x ≡ None
 unfolding first_rule firing
 unfired [] m x e = refl
@@ -52,7 +51,7 @@ unmapped : (a : Option Rule) → option_map by.Rule a ≡ None → a ≡ None
 unmapped None e = refl
 unmapped (Some r) e = absurd (none-some (by.Rule r) (sym e))
 
-pub rules_fire : (rs : List Rule) → IsFired (by_rules rs)
+pub rules_fire : (rs : List Rule) → IsApplied (by_rules rs)
 rules_fire rs m x = (λ e. ap (option_map by.Rule) (unfired rs m x e), λ e. none_then rs m x (unmapped (firing rs m x) e))
 
 pub rules_lawful : (rs : List Rule) → AreCanonical rs → IsLawful (by_rules rs)
@@ -61,29 +60,29 @@ rules_lawful rs canonical = record {
   orderly = λ m d below x n e. first_orderly m d below x rs canonical n e;
   root = λ m d. no_rules rs m d;
   counts = λ m x e h. rules_count rs m x e h;
-  fired = rules_fire rs;
+  applied = rules_fire rs;
 }
 
--- ---- patterns, where they look no deeper
-abbrev own_tried : Bool → Shape → Module → ℕ → Rewrite
+-- ---- shallow user patterns
+abbrev own_tried : Bool → PatternModel → Module → ℕ → Rewrite
 own_tried b p m x = if b then own_rewrite p m x else none
 
-own_none : (p : Shape) (m : Module) (x : ℕ) → own_rewrite p m x ≡ none → own_edits p m x ≡ None
+own_none : (p : PatternModel) (m : Module) (x : ℕ) → own_rewrite p m x ≡ none → own_edits p m x ≡ None
 unfolding own_rewrite
 own_none p m x e = by_none (own_edits p m x) m e
 
-own_no_rewrite : (p : Shape) (m : Module) (x : ℕ) → own_edits p m x ≡ None → own_rewrite p m x ≡ none
+own_no_rewrite : (p : PatternModel) (m : Module) (x : ℕ) → own_edits p m x ≡ None → own_rewrite p m x ≡ none
 unfolding own_rewrite
 own_no_rewrite p m x e = ap (λ es. rewrite_by es m) e
 
-own_away : (p : Shape) (m n : Module) (x : ℕ) → Stayed m n x → attempted (OfOwn p) m x ≡ none → attempted (OfOwn p) n x ≡ none
+own_away : (p : PatternModel) (m n : Module) (x : ℕ) → Stayed m n x → attempted (OfOwn p) m x ≡ none → attempted (OfOwn p) n x ≡ none
 own_away p m n x s e = elim (cases_Bool (is_shallow p)) [
   | inl h ↦ ap (λ b. own_tried b p n x) h ∙ own_no_rewrite p n x ((s.own p h).1 (own_none p m x (sym (ap (λ b. own_tried b p m x) h) ∙ e)))
   | inr h ↦ ap (λ b. own_tried b p n x) h
 ]
 
 module _ (m : Module) (d : HasDistinctIds m.tree) (below : All (λ y. y < m.next) (ids m.tree)) (x : ℕ) where
-  own_orderly : (p : Shape) (n : Module) → own_rewrite p m x ≡ becomes n → Orderly x m n
+  own_orderly : (p : PatternModel) (n : Module) → own_rewrite p m x ≡ becomes n → Orderly x m n
   unfolding own_rewrite
   own_orderly p n e = go (own_edits p m x) refl e
     where
@@ -94,20 +93,20 @@ module _ (m : Module) (d : HasDistinctIds m.tree) (below : All (λ y. y < m.next
           let id = found_id x m.tree w.here w.found in
           subst (Orderly x m) (carried es m n e) (edits_orderly m d below x es w.here w.place w.found w.front (inl (subst (λ y. Still y w.place es) (sym id) w.still)))
 
-  tried_orderly : (a : Attempt) → MayAttempt a → (n : Module) → attempted a m x ≡ becomes n → Orderly x m n
+  tried_orderly : (a : RuleOrPatternModel) → MayAttempt a → (n : Module) → attempted a m x ≡ becomes n → Orderly x m n
   tried_orderly (OfRule r) h n e = rewrite_tried m d below x r h n e
   tried_orderly (OfOwn p) h n e = elim (cases_Bool (is_shallow p)) [
     | inl s ↦ own_orderly p n (sym (ap (λ b. own_tried b p m x) s) ∙ e)
     | inr s ↦ absurd (becomes_none n (sym e ∙ ap (λ b. own_tried b p m x) s))
   ]
 
-own_root : (p : Shape) (m : Module) → HasDistinctIds m.tree → attempted (OfOwn p) m (head m.tree).id ≡ none
+own_root : (p : PatternModel) (m : Module) → HasDistinctIds m.tree → attempted (OfOwn p) m (head m.tree).id ≡ none
 own_root p m d = elim (cases_Bool (is_shallow p)) [
-  | inl h ↦ ap (λ b. own_tried b p m (head m.tree).id) h ∙ own_no_rewrite p m (head m.tree).id (own_rootless p m (head m.tree).id (ap (option_map (in_front (head m.tree).id)) (unplaced m.tree d)))
+  | inl h ↦ ap (λ b. own_tried b p m (head m.tree).id) h ∙ own_no_rewrite p m (head m.tree).id (own_rootless p m (head m.tree).id (ap (option_map (insertion_point (head m.tree).id)) (unplaced m.tree d)))
   | inr h ↦ ap (λ b. own_tried b p m (head m.tree).id) h
 ]
 
-own_counts : (p : Shape) (m : Module) (x : ℕ) (e : Refusal) → own_rewrite p m x ≡ refused e → IsCount e
+own_counts : (p : PatternModel) (m : Module) (x : ℕ) (e : Refusal) → own_rewrite p m x ≡ refused e → IsCount e
 unfolding own_rewrite
 own_counts p m x e h = edits_count (own_edits p m x) m e h
 
@@ -115,8 +114,8 @@ rule_counts : (r : Rule) (m : Module) (x : ℕ) (e : Refusal) → rewrite_of r m
 unfolding rewrite_of
 rule_counts r m x e h = edits_count (edits_of r m x) m e h
 
--- ---- one or the other
-tried_away : (a : Attempt) → MayAttempt a → (m n : Module) (x : ℕ) → Stayed m n x → attempted a m x ≡ none → attempted a n x ≡ none
+-- ---- one rule or pattern
+tried_away : (a : RuleOrPatternModel) → MayAttempt a → (m n : Module) (x : ℕ) → Stayed m n x → attempted a m x ≡ none → attempted a n x ≡ none
 tried_away (OfRule r) h m n x s e = no_rewrite n x r ((s.applies r h).1 (no_edits m x r e))
 tried_away (OfOwn p) h m n x s e = own_away p m n x s e
 
@@ -124,26 +123,26 @@ rule_root : (r : Rule) (m : Module) → HasDistinctIds m.tree → rewrite_of r m
 unfolding rewrite_of
 rule_root r m d = ap (λ es. rewrite_by es m) (rootless_edits r m d)
 
-tried_root : (a : Attempt) (m : Module) → HasDistinctIds m.tree → attempted a m (head m.tree).id ≡ none
+tried_root : (a : RuleOrPatternModel) (m : Module) → HasDistinctIds m.tree → attempted a m (head m.tree).id ≡ none
 tried_root (OfRule r) m d = rule_root r m d
 tried_root (OfOwn p) m d = own_root p m d
 
-tried_counts : (a : Attempt) (m : Module) (x : ℕ) (e : Refusal) → attempted a m x ≡ refused e → IsCount e
+tried_counts : (a : RuleOrPatternModel) (m : Module) (x : ℕ) (e : Refusal) → attempted a m x ≡ refused e → IsCount e
 tried_counts (OfRule r) m x e h = rule_counts r m x e h
 tried_counts (OfOwn p) m x e h = elim (cases_Bool (is_shallow p)) [
   | inl s ↦ own_counts p m x e (sym (ap (λ b. own_tried b p m x) s) ∙ h)
   | inr s ↦ absurd (not_refused (attempted (OfOwn p) m x) e (ap (λ b. own_tried b p m x) s) h)
 ]
 
--- ---- of some
-all_away : (rest : List Attempt) → AreAttempts rest → (m n : Module) (x : ℕ) → Stayed m n x → first_tried rest m x ≡ none → first_tried rest n x ≡ none
+-- ---- a list of them
+all_away : (rest : List RuleOrPatternModel) → AreAttempts rest → (m n : Module) (x : ℕ) → Stayed m n x → first_tried rest m x ≡ none → first_tried rest n x ≡ none
 unfolding first_tried
 all_away [] h m n x s e = refl
 all_away (a ∷ rest) h m n x s e =
     let parts = or_none (attempted a m x) (first_tried rest m x) e in
     ap (λ w. or_else w (first_tried rest n x)) (tried_away a (All-head MayAttempt a rest h) m n x s parts.0) ∙ all_away rest (All-tail MayAttempt a rest h) m n x s parts.1
 
-all_orderly : (m : Module) → HasDistinctIds m.tree → All (λ y. y < m.next) (ids m.tree) → (x : ℕ) (rest : List Attempt) → AreAttempts rest → (n : Module) → first_tried rest m x ≡ becomes n → Orderly x m n
+all_orderly : (m : Module) → HasDistinctIds m.tree → All (λ y. y < m.next) (ids m.tree) → (x : ℕ) (rest : List RuleOrPatternModel) → AreAttempts rest → (n : Module) → first_tried rest m x ≡ becomes n → Orderly x m n
 unfolding first_tried
 all_orderly m d below x [] h n e = absurd (becomes_none n (sym e))
 all_orderly m d below x (a ∷ rest) h n e = go (attempted a m x) refl (all_orderly m d below x rest (All-tail MayAttempt a rest h) n) e
@@ -153,12 +152,12 @@ all_orderly m d below x (a ∷ rest) h n e = go (attempted a m x) refl (all_orde
     go (refused f) k later e = absurd cc
     go (becomes p) k later e = tried_orderly m d below x a (All-head MayAttempt a rest h) n (k ∙ e)
 
-all_root : (rest : List Attempt) (m : Module) → HasDistinctIds m.tree → first_tried rest m (head m.tree).id ≡ none
+all_root : (rest : List RuleOrPatternModel) (m : Module) → HasDistinctIds m.tree → first_tried rest m (head m.tree).id ≡ none
 unfolding first_tried
 all_root [] m d = refl
 all_root (a ∷ rest) m d = ap (λ w. or_else w (first_tried rest m (head m.tree).id)) (tried_root a m d) ∙ all_root rest m d
 
-all_counts : (rest : List Attempt) (m : Module) (x : ℕ) (e : Refusal) → first_tried rest m x ≡ refused e → IsCount e
+all_counts : (rest : List RuleOrPatternModel) (m : Module) (x : ℕ) (e : Refusal) → first_tried rest m x ≡ refused e → IsCount e
 unfolding first_tried
 all_counts [] m x e h = absurd (not_refused none e refl h)
 all_counts (a ∷ rest) m x e h = elim (either_refused (attempted a m x) (first_tried rest m x) e h) [
@@ -166,33 +165,33 @@ all_counts (a ∷ rest) m x e h = elim (either_refused (attempted a m x) (first_
   | inr k ↦ all_counts rest m x e k
 ]
 
-all_unfired : (k : ℕ) (rest : List Attempt) (m : Module) (x : ℕ) → first_tried rest m x ≡ none → firing_tried k rest m x ≡ None
+all_unfired : (k : ℕ) (rest : List RuleOrPatternModel) (m : Module) (x : ℕ) → first_tried rest m x ≡ none → firing_tried k rest m x ≡ None
 unfolding first_tried firing_tried
 all_unfired k [] m x e = refl
 all_unfired k (a ∷ rest) m x e =
     let parts = or_none (attempted a m x) (first_tried rest m x) e in
-    ap (λ w. by_or w (told_by k a) (firing_tried (k + 1) rest m x)) parts.0 ∙ all_unfired (k + 1) rest m x parts.1
+    ap (λ w. by_or w (traced_as k a) (firing_tried (k + 1) rest m x)) parts.0 ∙ all_unfired (k + 1) rest m x parts.1
 
-all_none : (k : ℕ) (rest : List Attempt) (m : Module) (x : ℕ) → firing_tried k rest m x ≡ None → first_tried rest m x ≡ none
+all_none : (k : ℕ) (rest : List RuleOrPatternModel) (m : Module) (x : ℕ) → firing_tried k rest m x ≡ None → first_tried rest m x ≡ none
 unfolding first_tried firing_tried
 all_none k [] m x e = refl
 all_none k (a ∷ rest) m x e = go (attempted a m x) (λ i. all_none (k + 1) rest m x i) e
   where
-    go : (w : Rewrite) → (firing_tried (k + 1) rest m x ≡ None → first_tried rest m x ≡ none) → by_or w (told_by k a) (firing_tried (k + 1) rest m x) ≡ None → or_else w (first_tried rest m x) ≡ none
+    go : (w : Rewrite) → (firing_tried (k + 1) rest m x ≡ None → first_tried rest m x ≡ none) → by_or w (traced_as k a) (firing_tried (k + 1) rest m x) ≡ None → or_else w (first_tried rest m x) ≡ none
     go none more e = more e
-    go (refused f) more e = absurd (none-some (told_by k a) (sym e))
-    go (becomes n) more e = absurd (none-some (told_by k a) (sym e))
+    go (refused f) more e = absurd (none-some (traced_as k a) (sym e))
+    go (becomes n) more e = absurd (none-some (traced_as k a) (sym e))
 
-pub attempts_lawful : (rest : List Attempt) → AreAttempts rest → IsLawful (by_attempts rest)
+pub attempts_lawful : (rest : List RuleOrPatternModel) → AreAttempts rest → IsLawful (by_attempts rest)
 attempts_lawful rest may = record {
   away = λ m n x s e. all_away rest may m n x s e;
   orderly = λ m d below x n e. all_orderly m d below x rest may n e;
   root = λ m d. all_root rest m d;
   counts = λ m x e h. all_counts rest m x e h;
-  fired = λ m x. (all_unfired 0 rest m x, all_none 0 rest m x);
+  applied = λ m x. (all_unfired 0 rest m x, all_none 0 rest m x);
 }
 
--- whatever a run tries
-pub tries_lawful : (t : Tries) → MayTry t → IsLawful (trial_of t)
-tries_lawful (OfRules rules) may = rules_lawful (rules_in rules) (canonical_rules rules may)
-tries_lawful (OfTried list) may = attempts_lawful (attempts_of list.now) may
+-- every pattern set of a run
+pub pattern_set_lawful : (t : PatternSet) → MayTry t → IsLawful (pattern_set_of t)
+pattern_set_lawful (Rules rules) may = rules_lawful (rules_in rules) (canonical_rules rules may)
+pattern_set_lawful (Patterns list) may = attempts_lawful (patterns_of list.now) may

@@ -1,4 +1,4 @@
--- Rules apply alike at the operations that aren't listed.
+-- Rules apply alike at operations that aren't listed.
 use Rattle.std.proofs.Common.{◌≡◌, refl, ap, sym, ◌∙◌, subst, ℕ, true, false, ◌&&◌, List, [], ◌∷◌, map, Option, Some, None}
 use Rattle.std.specs.Prelude.{option_map, option_and_then, is_some, if◌then◌else◌}
 use Rattle.std.specs.List.{list_all}
@@ -21,18 +21,18 @@ use Rattle.ir_event.proofs.of_tree_laws.Members.{stand, joined_ops, member, stan
 use Rattle.ir_event.proofs.of_tree_laws.Around.{place_of_member, member_of_place, present_stand, stand_present}
 use Rattle.ir_verify.specs.Beyond.{told}
 use Rattle.ir_verify.specs.Breaks.{broken}
-use Rattle.listeners_surroundings.specs.Surroundings.{SurroundingsOf, surround, surroundings, outer_of}
+use Rattle.listeners_support.specs.Surroundings.{SurroundingsOf, surround, surroundings, outer_of}
 use Rattle.patterns_laws.specs.Keeps.{given}
-use Rattle.patterns_base.specs.Looks.{Header, Ended, ended, ended_by, breaks_none, has_own_properties, is_clean, is_in_order, in_front, front_of}
-use Rattle.patterns_base.specs.Rewrites.{suits}
+use Rattle.patterns_base.specs.Looks.{Header, Ended, ended, ended_by, breaks_none, has_own_properties, is_verified, is_in_order, insertion_point, front_of}
+use Rattle.patterns_base.specs.Rewrites.{eligible}
 use Rattle.patterns_base.specs.RuleNames.{is_erasing}
 use Rattle.patterns_base.specs.declared.rule.Rule.{Rule}
-use Rattle.greedy.specs.Sights.{giver as giver_id}
+use Rattle.greedy.specs.LocalContext.{defining_op as defining_op_id}
 use Rattle.patterns.specs.facts.Alike.{ShowsAlike, last_of}
-use Rattle.listeners_surroundings.proofs.Lasts.{split_last, last_stands}
+use Rattle.listeners_support.proofs.Lasts.{split_last, last_stands}
 use Rattle.greedy.proofs.Lasting.{last_in}
 
--- ---- surroundings by what is found
+-- ---- surroundings, from the operation that is found
 module _ (t : Operation) where
   pub found_surroundings : (y : ℕ) (o : Operation) → find y t ≡ Some o → (s : SurroundingsOf (List ℕ) TypeTerm AttrTerm) × (surroundings y t ≡ Some s) × (s.node ≡ node_of o) × (s.types ≡ map (λ v. type_of_value v t) (head o).operands)
   found_surroundings y o e = go (stand_of y t) refl
@@ -57,7 +57,7 @@ module _ (t : Operation) where
   pub found_there : (x : ℕ) (o : Operation) → find x t ≡ Some o → has_id x t ≡ true
   found_there x o e = let s = found_stands x t o e in ap (λ z. has_id z t) (sym s.2) ∙ stand_present [] t s.0 s.1
 
-  -- the place in front of an operation is there where something is around it
+  -- an operation has an insertion point before it exactly if it has a parent
   pub outer_some : HasDistinctIds t → (x : ℕ) → is_some (front_of x t) ≡ is_some (option_and_then (λ (s : SurroundingsOf (List ℕ) TypeTerm AttrTerm). s.outer) (surroundings x t))
   outer_some d x = go (stand_of x t) refl
     where
@@ -65,7 +65,7 @@ module _ (t : Operation) where
       unplaced none = by (place_of x t) refl
         where
           by : (a : Option Place) → place_of x t ≡ a → is_some (front_of x t) ≡ false
-          by None e = ap (λ z. is_some (option_map (in_front x) z)) e
+          by None e = ap (λ z. is_some (option_map (insertion_point x) z)) e
           by (Some place) e = let u = member_of_place x place t e in absurd (none u.0 u.1 u.2 place u.3)
 
       root_unplaced : (s z : StandOf (List ℕ) TypeTerm AttrTerm) → z.path ≡ [] → s ≡ z → (place : Place) → place_in s.path ≡ Some place → ⊥
@@ -75,7 +75,7 @@ module _ (t : Operation) where
       by_path z h i [] j = unplaced (λ s k l place e. root_unplaced s z j (same_stand t d s z k h (l ∙ sym i)) place e)
       by_path z h i (a ∷ q) j =
           let at : place_of x t ≡ place_in (a ∷ q) = ap (λ k. place_of k t) (sym i) ∙ place_of_member t d z.here a q (subst (λ l. In (stand z.here l) (stands [] t)) j h) in
-          ap (λ k. is_some (option_map (in_front x) k)) at
+          ap (λ k. is_some (option_map (insertion_point x) k)) at
 
       go : (a : Option (StandOf (List ℕ) TypeTerm AttrTerm)) → stand_of x t ≡ a → is_some (front_of x t) ≡ is_some (option_and_then (λ (s : SurroundingsOf (List ℕ) TypeTerm AttrTerm). s.outer) (surroundings x t))
       go None i =
@@ -85,7 +85,7 @@ module _ (t : Operation) where
           let m = member x (stands [] t) z i in
           by_path z m.0 m.1 z.path refl ∙ sym (ap (λ a. is_some (option_and_then (λ (s : SurroundingsOf (List ℕ) TypeTerm AttrTerm). s.outer) (option_map (surround t) a))) i)
 
-  -- the last operation of a block stands there
+  -- the last operation of a block is in the tree
   pub last_header : HasDistinctIds t → (o : Operation) (path : List (StepOf (List ℕ) TypeTerm AttrTerm)) → In (stand o path) (stands [] t) → (r : ℕ)
       → last_of o r ≡ option_and_then (λ l. option_map head (find l t)) (last_in r (regions o))
   last_header d o path h r = go (region_at r (regions o)) refl
@@ -117,7 +117,7 @@ module _ (t : Operation) where
           ∙ sym (ap (option_and_then (λ l. option_map head (find l t))) k.1)
           ∙ sym (ap (λ a. option_and_then (λ l. option_map head (find l t)) (option_and_then last_id (option_and_then ops_in a))) e)
 
--- ---- what two trees with the same surroundings show
+-- ---- what two trees with the same surroundings have in common
 heads_of : (y : ℕ) (t : Operation) → option_map head (find y t) ≡ option_map (λ (s : SurroundingsOf (List ℕ) TypeTerm AttrTerm). s.node.head) (surroundings y t)
 heads_of y t = go (stand_of y t) refl
   where
@@ -129,14 +129,14 @@ heads_of y t = go (stand_of y t) refl
     go (Some z) i = ap (option_map head) (sym (stands_find y [] t) ∙ ap (option_map (λ (z : StandOf (List ℕ) TypeTerm AttrTerm). z.here)) i) ∙ ap Some (node_head z.here) ∙ sym (ap (λ a. option_map (λ (s : SurroundingsOf (List ℕ) TypeTerm AttrTerm). s.node.head) (option_map (surround t) a)) i)
 
 module _ (t u : Operation) where
-  pub clean_alike : (h : Header) → surroundings h.id t ≡ surroundings h.id u → is_clean t h ≡ is_clean u h
-  unfolding is_clean
-  clean_alike h e = ap (λ a. breaks_none (option_map broken a) && list_all (λ (k : List ℕ × AttrTerm). is_inherent h.name k.0) h.properties) e
+  pub verified_alike : (h : Header) → surroundings h.id t ≡ surroundings h.id u → is_verified t h ≡ is_verified u h
+  unfolding is_verified
+  verified_alike h e = ap (λ a. breaks_none (option_map broken a) && list_all (λ (k : List ℕ × AttrTerm). is_inherent h.name k.0) h.properties) e
 
-  pub suits_alike : (r : Rule) (h : Header) → surroundings h.id t ≡ surroundings h.id u → suits r t h ≡ suits r u h
-  unfolding suits is_in_order
-  suits_alike r h e =
-      let cleans = clean_alike h e in
+  pub eligible_alike : (r : Rule) (h : Header) → surroundings h.id t ≡ surroundings h.id u → eligible r t h ≡ eligible r u h
+  unfolding eligible is_in_order
+  eligible_alike r h e =
+      let cleans = verified_alike h e in
       let orders = ap (λ a. breaks_none (option_map told a) && has_own_properties h) e in
       λ i. if is_erasing r then orders i else cleans i
 
@@ -153,9 +153,9 @@ module _ (t u : Operation) where
           let same : head o ≡ h = cc in
           ap (λ (z : Header). z.id) (sym same) ∙ ap (λ (z : Operation). (head z).id) (sym s.3) ∙ s.2
 
-  pub shows_alike : (v : Value) → ((y : ℕ) → giver_id v ≡ Some y → surroundings y t ≡ surroundings y u) → ShowsAlike t u v
+  pub shows_alike : (v : Value) → ((y : ℕ) → defining_op_id v ≡ Some y → surroundings y t ≡ surroundings y u) → ShowsAlike t u v
   shows_alike (Result y k) f = record {
     gives = heads_alike y (f y refl);
-    clean = λ h e. clean_alike h (let i = head_id y h e in ap (λ z. surroundings z t) i ∙ f y refl ∙ ap (λ z. surroundings z u) (sym i));
+    verified = λ h e. verified_alike h (let i = head_id y h e in ap (λ z. surroundings z t) i ∙ f y refl ∙ ap (λ z. surroundings z u) (sym i));
   }
-  shows_alike (Arg x r k) f = record { gives = refl; clean = λ h e. absurd cc }
+  shows_alike (Arg x r k) f = record { gives = refl; verified = λ h e. absurd cc }

@@ -10,7 +10,7 @@ use Rattle.ir_event.specs.trees.Uses.{same_value, operand_uses, uses_of}
 use Rattle.ir_event.specs.store.Nodes.{Node, node_of}
 use Rattle.ir_event.specs.store.Using.{is_use, same_use, AreUses}
 use Rattle.ir_event.specs.tree_laws.Values.{has_value}
-use Rattle.ir_event.specs.tree_laws.Stands.{StandOf, stand_id, stands, stand_of, sees}
+use Rattle.ir_event.specs.tree_laws.Stands.{StandOf, stand_id, stands, stand_of, dominated_by}
 use Rattle.ir_event.specs.tree_laws.Members.{In}
 use Rattle.ir_event.proofs.of_tree_laws.Listed.{both_hold, bool_cases, all_each}
 use Rattle.ir_event.proofs.of_tree_laws.Readings.{stands_uses}
@@ -19,14 +19,14 @@ use Rattle.ir_event.proofs.of_tree_laws.HeadForm.{in_gather}
 use Rattle.ir_event.proofs.of_tree_laws.Values.{seen_by}
 use Rattle.ir_event.proofs.of_tree_laws.Formed.{from_formed}
 use Rattle.ir_event.specs.declared.world.World.{World}
-use Rattle.listeners_surroundings.specs.Surroundings.{surround}
-use Rattle.greedy.specs.Sights.{Uses, giver, operands_of}
+use Rattle.listeners_support.specs.Surroundings.{surround}
+use Rattle.greedy.specs.LocalContext.{Uses, defining_op, operands_of}
 use Rattle.greedy.specs.Adding.{Adding, Adds}
 use Rattle.greedy.specs.Parts.{IsIn, IsUser}
 use Rattle.greedy.proofs.Adding.{adding_none, adding_more, adding_done}
 use Rattle.ir_event.proofs.of_trees.Replaced.{same_value_refl}
 
--- a use is listed where its operand is
+-- the use of an operand is listed
 listed_use : (v : Value) (x k : ℕ) (vs : List Value) → In v vs → (j : ℕ) × In (x, j) (operand_uses v x k vs)
 listed_use v x k [] h = absurd h
 listed_use v x k (w ∷ ws) (inl e) = (k, subst (λ b. In (x, k) (cond b ((x, k) ∷ operand_uses v x (k + 1) ws) (operand_uses v x (k + 1) ws))) (sym (ap (λ z. same_value v z) (sym e) ∙ same_value_refl v)) (inl refl))
@@ -44,8 +44,8 @@ in_is_use x j (u ∷ us) (inr h) = later (same_use u (x, j)) (in_is_use x j us h
     later true e = refl
     later false e = e
 
--- an operand that a result gives
-gives_result : (v : Value) (y : ℕ) → giver v ≡ Some y → (k : ℕ) × (v ≡ Result y k)
+-- an operand that is a result of an operation
+gives_result : (v : Value) (y : ℕ) → defining_op v ≡ Some y → (k : ℕ) × (v ≡ Result y k)
 gives_result (Result z k) y e = let same : z ≡ y = cc in (k, ap (λ q. Result q k) same)
 gives_result (Arg z r k) y e = absurd cc
 
@@ -61,7 +61,7 @@ module _ (w : World) where
   results_shown : (o : Op) → (node_of o).head.results ≡ (head o).results
   results_shown (op h rs) = refl
 
-  -- a user stands in the module, has a result as an operand, and that is a value of the module
+  -- a user is in the module and has a result of the operation as an operand, which is a value of the module
   record Used (x y : ℕ) : Type 0 where
     number : ℕ
     user : IsUser (Result y number) w.store.module_of.tree x
@@ -76,8 +76,8 @@ module _ (w : World) where
           let g : In (stand_id s, l.0) (uses_of v w.store.module_of.tree) =
           subst (In (stand_id s, l.0)) (stands_uses v [] w.store.module_of.tree)
           (in_gather (λ (u : StandOf ℕ ℕ ℕ). operand_uses v (stand_id u) 0 (head u.here).operands) (stand_id s, l.0) s (stands [] w.store.module_of.tree) h l.1) in
-          let each = (from_formed (isolated_in w.ctx) w.store.module_of.tree w.formed.formed).sees_own s h in
-          let is = (seen_by (isolated_in w.ctx) w.store.module_of.tree w.formed.distinct s h v (all_each (sees (isolated_in w.ctx) s.path) (head s.here).operands each v k)).is in
+          let each = (from_formed (isolated_in w.ctx) w.store.module_of.tree w.formed.formed).dominated_by_own s h in
+          let is = (seen_by (isolated_in w.ctx) w.store.module_of.tree w.formed.distinct s h v (all_each (dominated_by (isolated_in w.ctx) s.path) (head s.here).operands each v k)).is in
           record {
             number = n;
             user = (
@@ -96,7 +96,7 @@ module _ (w : World) where
           let r = gives_result u.0 y u.2 in
           by_stand s m.0 m.1 u.0 h r.0 r.1
 
-  -- it uses one of the results of operation y from one on, of so many
+  -- x uses one of the results of operation y, counting a number of results from an index on
   abbrev pub IsUserAmong : ℕ → ℕ → ℕ → ℕ → Type 0
   IsUserAmong y from count x = (k : ℕ) × (from ≤ k) × (k < count) × IsUser (Result y k) w.store.module_of.tree x
 
@@ -136,7 +136,7 @@ module _ (w : World) where
   pub users_end : (P : ℕ → Type 0) (y from count : ℕ) (xs ys : List ℕ) → count ≤ from → Adding P (IsUserAmong y from count) xs ys → Adds P xs ys
   users_end P y from count xs ys l a = adding_done P (IsUserAmong y from count) xs ys (λ x q. let low = q.1 in let high = q.2 in omega (arith, low, high, l)) a
 
--- uses that are listed are those of the value
+-- the listed uses are the uses of the value
 pub are_users : (v : Value) (t : Op) (us : List (ℕ × ℕ)) → AreUses v t us → (x : ℕ) → IsUser v t x → IsIn us x
 are_users v t us a x u = (u.0, a.same x u.0 ∙ u.1)
 

@@ -1,9 +1,9 @@
--- Whether an operation's results are used stays, where no event puts or takes a use of them, as told from what the
--- operations show at the end.
+-- An operation keeps whether its results are used if no event adds or removes a use of them. The operands that the
+-- store shows at the end determine which uses events add or remove.
 use Rattle.std.proofs.Common.{◌≡◌, refl, ap, sym, ◌∙◌, subst, ℕ, zero, suc, Bool, true, false, true≢false, cond, ◌&&◌, not, eqb, eq-eqb, eqb-true, List, [], ◌∷◌, Some, inl, inr, ◌⊎◌, slice_get}
 use Rattle.std.specs.Prelude.{option_map, option_and_then, slice_set}
 use Rattle.std.specs.List.{list_all}
-use Rattle.ir_event.specs.types.Things.{Things}
+use Rattle.ir_event.specs.types.Things.{ContextModel}
 use Rattle.ir_event.specs.types.Terms.{TypeTerm, AttrTerm, name_term, attr_term}
 use Rattle.ir_event.specs.trees.declared.place.Place.{Place}
 use Rattle.ir_event.specs.trees.declared.value.Value.{Value}
@@ -25,7 +25,7 @@ use Rattle.ir_event.specs.Modules.{Module}
 use Rattle.ir_event.specs.Step.{Step}
 use Rattle.op_registry.specs.Registry.{own_of}
 use Rattle.effects.specs.Dead.{is_result_of, is_unused}
-use Rattle.greedy.specs.Sights.{giver}
+use Rattle.greedy.specs.LocalContext.{defining_op}
 use Rattle.greedy.specs.Near.{moved_values, Leads, IsShown, Ungiven}
 use Rattle.greedy.proofs.Still.{Like, Goes, goes_out, goes_in, goes_on, goes_edited, edited_there, edit_id}
 use Rattle.greedy.proofs.Tracked.{operand_id, operand_name, part_name, gone_found}
@@ -35,21 +35,21 @@ use Rattle.ir_event.proofs.of_types.Truths.{same_bool}
 
 -- ---- tests of all operations
 
--- an operation of no values that x gives
-freed : (x : ℕ) (vs : List Value) → ((v : Value) → In v vs → giver v ≡ Some x → ⊥) → list_all (λ v. not (is_result_of x v)) vs ≡ true
+-- an operation without an operand that x defines
+freed : (x : ℕ) (vs : List Value) → ((v : Value) → In v vs → defining_op v ≡ Some x → ⊥) → list_all (λ v. not (is_result_of x v)) vs ≡ true
 freed x vs f = each_all (λ v. not (is_result_of x v)) vs (λ v h. none v (f v h))
   where
-    none : (v : Value) → (giver v ≡ Some x → ⊥) → not (is_result_of x v) ≡ true
+    none : (v : Value) → (defining_op v ≡ Some x → ⊥) → not (is_result_of x v) ≡ true
     none (Arg y r k) n = refl
     none (Result y k) n = elim (bool_cases (eqb y x)) [ inl e ↦ absurd (n (ap Some (eqb-true y x e))) | inr e ↦ ap not e ]
 
--- a list with another value at one place
+-- a list with another value at an index
 set_at : (f : Value → Bool) (vs : List Value) (k : ℕ) (old new : Value) → slice_get vs k ≡ Some old → f old ≡ true → f new ≡ true → list_all f (slice_set vs k new) ≡ list_all f vs
 set_at f [] k old new e a b = absurd cc
 set_at f (v ∷ vs) zero old new e a b = let same : v ≡ old = cc in (λ i. b i && list_all f vs) ∙ sym (ap (λ w. f w && list_all f vs) same ∙ λ i. a i && list_all f vs)
 set_at f (v ∷ vs) (suc k) old new e a b = ap (λ c. f v && c) (set_at f vs k old new e a b)
 
--- a value of it is the old one there, or still one
+-- each value of the new list is the old value at that index or a value of the old list
 set_keeps : (vs : List Value) (k : ℕ) (old new v : Value) → slice_get vs k ≡ Some old → In v vs → (v ≡ old) ⊎ In v (slice_set vs k new)
 set_keeps [] k old new v e h = absurd h
 set_keeps (w ∷ vs) zero old new v e (inl i) = let same : w ≡ old = cc in inl (i ∙ same)
@@ -90,8 +90,8 @@ module _ {N T A : Type 0} where
   operand_there x k old t o e f = sym (ap (option_and_then (λ o. slice_get (head o).operands k)) f) ∙ e
 
 -- ---- one event
-module _ (c : Things) (y : ℕ) where
-  -- all operations but the event's own keep their operands
+module _ (c : ContextModel) (y : ℕ) where
+  -- all operations but the event's operation keep their operands
   others : (x : ℕ) (t u : Operation) → Goes (Like own_of x) x t u → (s : StandOf (List ℕ) TypeTerm AttrTerm) → In s (stands [] t) → (stand_id s ≡ x → ⊥) → (r : StandOf (List ℕ) TypeTerm AttrTerm) × In r (stands [] u) × (free_of y r.here ≡ free_of y s.here)
   others x t u goes s h apart = let w = goes s h apart in (w.0, w.1, same_free y w.0.here s.here (node_operands w.0.here s.here (sym w.3.node)))
 
@@ -102,17 +102,17 @@ module _ (c : Things) (y : ℕ) where
     | inr e ↦ inr (others x t u goes s h (λ i. true≢false (sym (eq-eqb (stand_id s) x i) ∙ e)))
   ])
 
-  -- it takes a use with it alone where it has one
+  -- an event changes the use of a value only if its operation has that value as an operand
   pub put_unused : (x : ℕ) (t w : Operation) → HasDistinctIds t → Goes (Like own_of x) x t w → Goes (Like own_of x) x w t → ((s : StandOf (List ℕ) TypeTerm AttrTerm) → In s (stands [] w) → stand_id s ≡ x → ⊥)
-      → ((o : Operation) → find x t ≡ Some o → (v : Value) → In v (head o).operands → giver v ≡ Some y → ⊥) → is_unused y w ≡ is_unused y t
+      → ((o : Operation) → find x t ≡ Some o → (v : Value) → In v (head o).operands → defining_op v ≡ Some y → ⊥) → is_unused y w ≡ is_unused y t
   put_unused x t w d out back none free = same_bool (is_unused y w) (is_unused y t)
       (by_subject x t w out (λ s h i. inl (freed y (head s.here).operands (free s.here (ap (λ z. find z t) (sym i) ∙ stand_found t d s h)))))
       (by_subject x w t back (λ s h i. absurd (none s h i)))
 
   pub step_unused : (e : Event) (m n : Module) → Step c e m n
-      → ((x : ℕ) (place : Place) (fresh : Bool) → e ≡ Put x place fresh → (o : Operation) → find x n.tree ≡ Some o → (v : Value) → In v (head o).operands → giver v ≡ Some y → ⊥)
-      → ((x : ℕ) (place : Place) (fresh : Bool) → e ≡ Take x place fresh → (o : Operation) → find x m.tree ≡ Some o → (v : Value) → In v (head o).operands → giver v ≡ Some y → ⊥)
-      → ((x k : ℕ) (old new : Value) → e ≡ SetOperand x k old new → (giver old ≡ Some y → ⊥) × (giver new ≡ Some y → ⊥))
+      → ((x : ℕ) (place : Place) (fresh : Bool) → e ≡ Put x place fresh → (o : Operation) → find x n.tree ≡ Some o → (v : Value) → In v (head o).operands → defining_op v ≡ Some y → ⊥)
+      → ((x : ℕ) (place : Place) (fresh : Bool) → e ≡ Take x place fresh → (o : Operation) → find x m.tree ≡ Some o → (v : Value) → In v (head o).operands → defining_op v ≡ Some y → ⊥)
+      → ((x k : ℕ) (old new : Value) → e ≡ SetOperand x k old new → (defining_op old ≡ Some y → ⊥) × (defining_op new ≡ Some y → ⊥))
       → is_unused y n.tree ≡ is_unused y m.tree
   step_unused (Put x place fresh) m n s put take set =
       let t = s.changes in
@@ -136,7 +136,7 @@ module _ (c : Things) (y : ℕ) where
         ap (list_all (λ v. not (is_result_of y v))) (set_operands x k old z.here i) ∙ set_at (λ v. not (is_result_of y v)) (head z.here).operands k new old (operand_there x k new n.tree z.here s.changes.is (ap (λ j. find j n.tree) (sym i) ∙ stand_found n.tree s.after.distinct z h)) g f,
       )))
     where
-      free_value : (v : Value) → (giver v ≡ Some y → ⊥) → not (is_result_of y v) ≡ true
+      free_value : (v : Value) → (defining_op v ≡ Some y → ⊥) → not (is_result_of y v) ≡ true
       free_value (Arg a r j) n = refl
       free_value (Result a j) n = elim (bool_cases (eqb a y)) [ inl e ↦ absurd (n (ap Some (eqb-true a y e))) | inr e ↦ ap not e ]
   step_unused (SetEntry x part key old new) m n s put take set =
@@ -164,8 +164,8 @@ module _ (c : Things) (y : ℕ) where
           let r = found_stands x u z.here (same ∙ ap (λ j. find j t) (sym i) ∙ stand_found t d z h) in
           (r.0, r.1, ap (free_of y) r.3)
 
--- ---- what is shown at the end
--- a value that an operation had as an operand is shown by it, or an event says that it was replaced there
+-- ---- what the store shows at the end if an operation had a value as an operand, the store shows it, or an event
+-- replaced it there
 abbrev Said : (ℕ → List Value) → List Event → ℕ → Value → Type 0
 Said shown es x v = In v (shown x) ⊎ ((e : Event) × In e es × ((k : ℕ) × ((new : Value) × (e ≡ SetOperand x k v new))))
 
@@ -173,11 +173,11 @@ later : (shown : ℕ → List Value) (e : Event) (es : List Event) (x : ℕ) (v 
 later shown e es x v (inl h) = inl h
 later shown e es x v (inr h) = inr (h.0, inr h.1, h.2)
 
--- what is known of it after an event
+-- what is known of such an operand after an event
 abbrev After : (ℕ → List Value) → Event → List Event → Module → ℕ → Value → Type 0
 After shown e es p x v = (q : Operation) → find x p.tree ≡ Some q → In v (head q).operands → Said shown (e ∷ es) x v
 
--- one that the event isn't about goes on with its operands
+-- an operation that the event isn't about keeps its operands
 goes_said : (shown : ℕ → List Value) (e : Event) (es : List Event) (z : ℕ) (m p : Module) → HasDistinctIds p.tree → Goes (Like own_of z) z m.tree p.tree → (x : ℕ) (o : Operation) → find x m.tree ≡ Some o → eqb x z ≡ false → (v : Value) → In v (head o).operands
     → After shown e es p x v → Said shown (e ∷ es) x v
 goes_said shown e es z m p dp w x o f apart v h more =
@@ -193,7 +193,7 @@ edited_found z g ids names m p dp is x o f =
     let there = edited_there own_of z g ids names m.tree p.tree is r.0 r.1 in
     ap (λ j. find j p.tree) (sym (edit_id own_of z g ids names r.0.here ∙ r.2)) ∙ stand_found p.tree dp (edit_stand (at z g) r.0) there ∙ ap (λ q. Some (each_head (at z g) q)) r.3
 
-step_said : (shown : ℕ → List Value) (c : Things) (e : Event) (es : List Event) (m p : Module) → Step c e m p → IsShown shown e m → (x : ℕ) (o : Operation) → find x m.tree ≡ Some o → (v : Value) → In v (head o).operands → After shown e es p x v → Said shown (e ∷ es) x v
+step_said : (shown : ℕ → List Value) (c : ContextModel) (e : Event) (es : List Event) (m p : Module) → Step c e m p → IsShown shown e m → (x : ℕ) (o : Operation) → find x m.tree ≡ Some o → (v : Value) → In v (head o).operands → After shown e es p x v → Said shown (e ∷ es) x v
 step_said shown c (Put z place fresh) es m p s k x o f v h more =
     let t = s.changes in
     elim (bool_cases (eqb x z)) [
@@ -227,18 +227,18 @@ step_said shown c (Shift z old new) es m p s k x o f v h more =
       | inr i ↦ goes_said shown (Shift z old new) es z m p s.after.distinct (goes_on own_of z m.tree p.tree s.before.distinct (sym t.rest) (sym t.same)) x o f i v h more
     ]
 
-pub said : (shown : ℕ → List Value) (c : Things) (es : List Event) (m n : Module) → Leads shown c es m n → (x : ℕ) (o : Operation) → find x m.tree ≡ Some o → (v : Value) → In v (head o).operands → Said shown es x v
+pub said : (shown : ℕ → List Value) (c : ContextModel) (es : List Event) (m n : Module) → Leads shown c es m n → (x : ℕ) (o : Operation) → find x m.tree ≡ Some o → (v : Value) → In v (head o).operands → Said shown es x v
 said shown c [] m n s x o f v h = inl (subst (λ vs. In v vs) (s.1 x o (ap (λ (p : Module). find x p.tree) s.0 ∙ f)) h)
 said shown c (e ∷ es) m n s x o f v h = step_said shown c e es m s.0 s.1 s.2 x o f v h (λ q g k. later shown e es x v (said shown c es s.0 n s.3 x q g v k))
 
--- so whether the results of an operation are used stays, where it gives none of the values that come and go
-value_ungiven : (shown : ℕ → List Value) (es ds : List Event) (y x : ℕ) (v : Value) → ((e : Event) → In e ds → In e es) → Ungiven shown es y → ((v : Value) → In v (shown x) → giver v ≡ Some y → ⊥) → Said shown ds x v → giver v ≡ Some y → ⊥
+-- an operation keeps whether its results are used if it defines none of the values that gain or lose a use
+value_ungiven : (shown : ℕ → List Value) (es ds : List Event) (y x : ℕ) (v : Value) → ((e : Event) → In e ds → In e es) → Ungiven shown es y → ((v : Value) → In v (shown x) → defining_op v ≡ Some y → ⊥) → Said shown ds x v → defining_op v ≡ Some y → ⊥
 value_ungiven shown es ds y x v within away own (inl h) = own v h
 value_ungiven shown es ds y x v within away own (inr h) =
     let e : h.0 ≡ SetOperand x h.2.0 v h.2.1.0 = h.2.1.1 in
     away h.0 (within h.0 h.1) v (subst (λ vs. In v vs) (ap (moved_values shown) (sym e)) (inl refl))
 
-pub unused_stays : (shown : ℕ → List Value) (c : Things) (es : List Event) (m n : Module) → Leads shown c es m n → (y : ℕ) → Ungiven shown es y → is_unused y n.tree ≡ is_unused y m.tree
+pub unused_stays : (shown : ℕ → List Value) (c : ContextModel) (es : List Event) (m n : Module) → Leads shown c es m n → (y : ℕ) → Ungiven shown es y → is_unused y n.tree ≡ is_unused y m.tree
 unused_stays shown c [] m n s y away = ap (λ (p : Module). is_unused y p.tree) s.0
 unused_stays shown c (e ∷ es) m n s y away =
     unused_stays shown c es s.0 n s.3 y (λ d i. away d (inr i))

@@ -1,4 +1,4 @@
--- What the calls of a worklist leave.
+-- What the calls of a worklist keep.
 use Rattle.std.proofs.Common.{◌≡◌, refl, ap, sym, ◌∙◌, subst, ℕ, zero, suc, ◌+◌, ◌-◌, ◌<◌, inl, inr, ◌⊎◌, Bool, true, false, cond, ◌||◌, eqb, eqb-true, eq-eqb, List, [], ◌∷◌, ◌++◌, true≢false, arith, length, Some, None, filter, not, take, drop, slice_index_or}
 use Rattle.std.specs.List.{AllWithin}
 use Rattle.std.specs.List.Sorted.{IsPartitionPoint, IsPartitionedBy}
@@ -10,7 +10,7 @@ use Rattle.ir_event.proofs.of_tree_laws.Listed.{bool_cases}
 use Rattle.ir_event.specs.Modules.{Module}
 use Rattle.greedy.specs.Following.{following}
 use Rattle.greedy.specs.Work.{Falls, IsWork, Parted, Rewritten, begins_with, waits, Taken, NoneWaits, StillWaits}
-use Rattle.greedy.specs.Sights.{is_listed}
+use Rattle.greedy.specs.LocalContext.{is_listed}
 use Rattle.greedy.proofs.Listed.{listed_past, listed_at, listed_more, first_there, second_there}
 use Rattle.greedy.proofs.Order.{rank, same_rank, rises, after_from_rank, next_there, next_rank, next_none, counted}
 
@@ -32,7 +32,7 @@ pub listed_last : (ys : List ℕ) (x : ℕ) → is_listed x (ys ++ x ∷ []) ≡
 listed_last [] x = listed_at x x [] (eq-eqb x x refl)
 listed_last (y ∷ ys) x = listed_more y x (ys ++ x ∷ []) (listed_last ys x)
 
--- what popping finds of an empty list
+-- popping from an empty list
 pub none_popped : (xs ys : List ℕ) (n : ℕ) → ys ≡ take (n - 1) xs → n ≡ 0 → ys ≡ []
 none_popped xs ys n e z = e ∙ ap (λ k. take (k - 1) xs) z
 
@@ -40,7 +40,7 @@ pub none_left : (xs ys : List ℕ) (n : ℕ) → xs ≡ ys ++ [] → ys ≡ take
 none_left xs ys n e f z = e ∙ ap (λ zs. zs ++ []) (none_popped xs ys n f z)
 
 module _ (t : Operation) (d : HasDistinctIds t) where
-  -- the order of a tree
+  -- the pre-order of a tree, as ranks
   pub up : (a b : ℕ) → precedes a b t ≡ true → rank a (ids t) < rank b (ids t)
   up a b h = rises a b (ids t) d h
 
@@ -53,7 +53,7 @@ module _ (t : Operation) (d : HasDistinctIds t) where
   pub through : (a b c : ℕ) → precedes a b t ≡ true → precedes b c t ≡ true → precedes a c t ≡ true
   through a b c h k = after_from_rank a c (ids t) (first_there a b (ids t) h) (second_there b c (ids t) k) (omega (arith, up a b h, up b c k))
 
-  -- one that doesn't come before another is it, or comes after it
+  -- if an operation doesn't come before another, they are the same or it comes after
   pub else_after : (a b : ℕ) → has_id a t ≡ true → has_id b t ≡ true → precedes a b t ≡ false → (a ≡ b) ⊎ (precedes b a t ≡ true)
   else_after a b h k n = elim (cases_order (rank a (ids t)) (rank b (ids t))) [
     | inl e ↦ inl (same_rank a b (ids t) h k e)
@@ -61,7 +61,7 @@ module _ (t : Operation) (d : HasDistinctIds t) where
     | inr (inr l) ↦ inr (after_from_rank b a (ids t) k h l)
   ]
 
-  -- the last of a list that falls is the first in pre-order
+  -- the last entry of a list in reverse pre-order is the first in pre-order
   pub falls_front : (ys : List ℕ) (x : ℕ) → Falls t (ys ++ x ∷ []) → Falls t ys × ((z : ℕ) → is_listed z ys ≡ true → precedes x z t ≡ true)
   falls_front [] x f = (tt, λ z h. absurd (true≢false (sym h)))
   falls_front (y ∷ ys) x f =
@@ -73,19 +73,19 @@ module _ (t : Operation) (d : HasDistinctIds t) where
         ],
       )
 
-  -- taking the last that is to be looked at again
+  -- taking the last operation of `again`
   module _ (passed : ℕ) (ys : List ℕ) (x : ℕ) (w : IsWork passed (ys ++ x ∷ []) t) where
     again : List ℕ
     again = ys ++ x ∷ []
 
-    x_behind : precedes passed x t ≡ false
-    x_behind = w.behind x (listed_last ys x)
+    x_after : precedes passed x t ≡ false
+    x_after = w.trailing x (listed_last ys x)
 
     pub taken_again : Taken x passed (ys ++ x ∷ []) passed ys t
     taken_again = record {
       there = w.inside x (listed_last ys x);
       first = λ z h. false_from_ne_true (waits passed (ys ++ x ∷ []) t z) (λ v. elim (or_cases (precedes passed z t) (is_listed z (ys ++ x ∷ [])) v) [
-        | inl e ↦ true≢false (sym (through passed z x e h) ∙ x_behind)
+        | inl e ↦ true≢false (sym (through passed z x e h) ∙ x_after)
         | inr e ↦ elim (listed_end z ys x e) [
           | inl k ↦ not_both z x h ((falls_front ys x w.falls).1 z k)
           | inr k ↦ not_itself x (subst (λ v. precedes v x t ≡ true) k h)
@@ -101,7 +101,7 @@ module _ (t : Operation) (d : HasDistinctIds t) where
       work = record {
         there = w.there;
         inside = λ y h. w.inside y (listed_front y ys x h);
-        behind = λ y h. w.behind y (listed_front y ys x h);
+        trailing = λ y h. w.trailing y (listed_front y ys x h);
         falls = (falls_front ys x w.falls).0;
       };
       fewer = let n : length (ys ++ x ∷ []) ≡ length ys + 1 = length-end ys in omega (arith, n);
@@ -111,7 +111,7 @@ module _ (t : Operation) (d : HasDistinctIds t) where
         length-end [] = refl
         length-end (z ∷ zs) = omega (arith, length-end zs)
 
-  -- passing on to the next
+  -- advancing to the next operation
   pub taken_next : (passed y : ℕ) → has_id passed t ≡ true → following passed t ≡ Some y → Taken y passed [] y [] t
   taken_next passed y h e =
       let n = next_rank passed y (ids t) d e in
@@ -125,7 +125,7 @@ module _ (t : Operation) (d : HasDistinctIds t) where
           | inl p ↦ after z k (up passed z p)
           | inr p ↦ absurd (true≢false (sym p))
         ];
-        work = record { there = i; inside = λ z h. absurd (true≢false (sym h)); behind = λ z h. absurd (true≢false (sym h)); falls = tt };
+        work = record { there = i; inside = λ z h. absurd (true≢false (sym h)); trailing = λ z h. absurd (true≢false (sym h)); falls = tt };
         fewer = omega (arith, n, counted y (ids t) i, counted passed (ids t) h);
       }
     where
@@ -141,7 +141,7 @@ module _ (t : Operation) (d : HasDistinctIds t) where
   pub none_waits : (passed : ℕ) → following passed t ≡ None → NoneWaits passed [] t
   none_waits passed e z i = ap (λ b. b || false) (next_none passed z (ids t) e)
 
-  -- an operation put in between
+  -- an operation inserted into the list
   pub listed_put : (z op : ℕ) (front back : List ℕ) → is_listed z (front ++ op ∷ back) ≡ true → (is_listed z (front ++ back) ≡ true) ⊎ (z ≡ op)
   listed_put z op [] back h = elim (bool_cases (eqb op z)) [ inl e ↦ inr (sym (eqb-true op z e)) | inr e ↦ inl (listed_past op z back e h) ]
   listed_put z op (y ∷ front) back h = elim (bool_cases (eqb y z)) [
@@ -175,7 +175,8 @@ module _ (t : Operation) (d : HasDistinctIds t) where
     falls_put op front back h i (record { later = λ z k. p.later z (listed_more y z front k); others = p.others }) n f.1,
   )
 
-  -- what comes before none of a list that falls, and isn't its first, isn't of it
+  -- an operation that comes before no entry of a list in reverse pre-order, and isn't its first entry, isn't in the
+  -- list
   not_of : (op : ℕ) (back : List ℕ) → Falls t back → ((z : ℕ) → is_listed z back ≡ true → precedes op z t ≡ false) → begins_with op back ≡ false → is_listed op back ≡ true → ⊥
   not_of op [] f o b k = true≢false (sym k)
   not_of op (y ∷ back) f o b k = true≢false (sym (f.0 op (listed_past y op back b k)) ∙ o y (listed_at y y back (eq-eqb y y refl)))
@@ -184,22 +185,22 @@ module _ (t : Operation) (d : HasDistinctIds t) where
   put_between passed op front back w h n p b = record {
     there = w.there;
     inside = λ z k. elim (listed_put z op front back k) [ inl e ↦ w.inside z e | inr e ↦ subst (λ v. has_id v t ≡ true) (sym e) h ];
-    behind = λ z k. elim (listed_put z op front back k) [ inl e ↦ w.behind z e | inr e ↦ subst (λ v. precedes passed v t ≡ false) (sym e) n ];
+    trailing = λ z k. elim (listed_put z op front back k) [ inl e ↦ w.trailing z e | inr e ↦ subst (λ v. precedes passed v t ≡ false) (sym e) n ];
     falls = falls_put op front back h (λ z k. w.inside z (listed_right z front back k)) p (not_of op back (falls_right front back w.falls) p.others b) w.falls;
   }
 
-  -- it begins the second part: it waits
+  -- an operation that begins the second part waits
   pub begins_listed : (op : ℕ) (front back : List ℕ) → begins_with op back ≡ true → is_listed op (front ++ back) ≡ true
   begins_listed op front [] b = absurd (true≢false (sym b))
   begins_listed op front (y ∷ back) b = listed_right op front (y ∷ back) (listed_at y op back b)
 
--- what stands at an index
+-- the entry at an index
 listed_index : (xs : List ℕ) (i d : ℕ) → i < length xs → is_listed (slice_index_or xs i d) xs ≡ true
 listed_index [] i d l = absurd (omega (arith, l))
 listed_index (x ∷ xs) zero d l = listed_at x x xs (eq-eqb x x refl)
 listed_index (x ∷ xs) (suc i) d l = listed_more x (slice_index_or xs i d) xs (listed_index xs i d (omega (arith, l)))
 
--- what holds of all in front of an index, and of all from it on
+-- a property of all entries before an index, and of all entries from the index on
 front_holds : (P : ℕ → Type 0) (xs : List ℕ) (i : ℕ) → AllWithin P xs 0 i → (z : ℕ) → is_listed z (take i xs) ≡ true → P z
 front_holds P xs zero a z h = absurd (true≢false (sym h))
 front_holds P [] (suc i) a z h = absurd (true≢false (sym h))
@@ -218,7 +219,7 @@ back_holds P [] (suc i) a z h = absurd (true≢false (sym h))
 back_holds P (x ∷ xs) (suc i) a z h = back_holds P xs i (λ k d l u. a (suc k) d (omega (arith, l)) (omega (arith, u))) z h
 
 module _ (t : Operation) (d : HasDistinctIds t) (op : ℕ) where
-  -- a list that falls has those that x comes before in front
+  -- a list in reverse pre-order begins with the entries that x comes before
   pub falls_parts : (xs : List ℕ) → Falls t xs → IsPartitionedBy (λ z. precedes op z t) xs
   falls_parts [] f i j e l u h = absurd (omega (arith, u))
   falls_parts (x ∷ xs) f zero zero e l u h = h
@@ -274,12 +275,12 @@ module _ (m n : Module) (x before passed : ℕ) (again : List ℕ) (r : Rewritte
   left_falls : Falls n.tree (filter (there_in n.tree) again)
   left_falls = falls_kept (there_in n.tree) m.tree n.tree again w.falls (λ y z a b p q h. r.orderly.order z y (w.inside z b) (w.inside y a) q p ∙ h)
 
-  -- the one that was passed last is still there
+  -- the passed operation is still in the module
   pub passed_stays : has_id passed n.tree ≡ true → IsWork passed (filter (there_in n.tree) again) n.tree
   passed_stays h = record {
     there = h;
     inside = λ z k. (left_in z k).1;
-    behind = λ z k. let l = left_in z k in r.orderly.order passed z w.there (w.inside z l.0) h l.1 ∙ w.behind z l.0;
+    trailing = λ z k. let l = left_in z k in r.orderly.order passed z w.there (w.inside z l.0) h l.1 ∙ w.trailing z l.0;
     falls = left_falls;
   }
 
@@ -289,7 +290,7 @@ module _ (m n : Module) (x before passed : ℕ) (again : List ℕ) (r : Rewritte
     | inr e ↦ or_right (precedes passed z n.tree) (is_listed z (filter (there_in n.tree) again)) (listed_kept (there_in n.tree) z again e j)
   ]
 
-  -- it is gone: another that was before the rewrite is taken in its place
+  -- the passed operation was erased: an operation before the rewrite replaces it
   unpassed : ℕ → Bool
   unpassed z = not (precedes before z n.tree)
 
@@ -303,7 +304,7 @@ module _ (m n : Module) (x before passed : ℕ) (again : List ℕ) (r : Rewritte
   back_work = record {
     there = before_is;
     inside = λ z k. (left_in z (kept_listed (λ z. not (precedes before z n.tree)) z (filter (there_in n.tree) again) k).0).1;
-    behind = λ z k. flip (precedes before z n.tree) (kept_listed (λ z. not (precedes before z n.tree)) z (filter (there_in n.tree) again) k).1;
+    trailing = λ z k. flip (precedes before z n.tree) (kept_listed (λ z. not (precedes before z n.tree)) z (filter (there_in n.tree) again) k).1;
     falls = falls_kept (λ z. not (precedes before z n.tree)) n.tree n.tree (filter (there_in n.tree) again) left_falls (λ y z a b p q h. h);
   }
     where
@@ -311,9 +312,9 @@ module _ (m n : Module) (x before passed : ℕ) (again : List ℕ) (r : Rewritte
       flip true e = absurd (true≢false (sym e))
       flip false e = refl
 
-  -- where the one passed last is gone, it stood at the rewrite or behind it
-  pub was_behind : has_id passed n.tree ≡ false → (z : ℕ) → precedes passed z m.tree ≡ true → precedes before z m.tree ≡ true
-  was_behind g z h = through m.tree r.distinct before passed z earlier h
+  -- if the passed operation was erased, it was the site of the rewrite or came after it
+  pub was_after : has_id passed n.tree ≡ false → (z : ℕ) → precedes passed z m.tree ≡ true → precedes before z m.tree ≡ true
+  was_after g z h = through m.tree r.distinct before passed z earlier h
     where
       x_was : has_id x m.tree ≡ true
       x_was = second_there before x (ids m.tree) r.nearby
@@ -329,7 +330,7 @@ module _ (m n : Module) (x before passed : ℕ) (again : List ℕ) (r : Rewritte
 
   pub waits_back : has_id passed n.tree ≡ false → StillWaits passed again m.tree before (filter (λ z. not (precedes before z n.tree)) (filter (there_in n.tree) again)) n.tree
   waits_back g z i j v = elim (or_cases (precedes passed z m.tree) (is_listed z again) v) [
-    | inl e ↦ or_left (precedes before z n.tree) _ (r.orderly.order before z before_was i before_is j ∙ was_behind g z e)
+    | inl e ↦ or_left (precedes before z n.tree) _ (r.orderly.order before z before_was i before_is j ∙ was_after g z e)
     | inr e ↦ elim (bool_cases (precedes before z n.tree)) [
       | inl k ↦ or_left (precedes before z n.tree) _ k
       | inr k ↦ or_right (precedes before z n.tree) _ (listed_kept (λ z. not (precedes before z n.tree)) z (filter (there_in n.tree) again) (listed_kept (there_in n.tree) z again e j) (ap not k))

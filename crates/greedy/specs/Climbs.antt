@@ -1,4 +1,4 @@
--- Operations around one, as far as each has the effects of what is directly inside it.
+-- The parents of an operation, as far as each has recursive memory effects (those of the operations directly inside).
 use Rattle.std.specs.Prelude.{◌≡◌, ℕ, zero, suc, Bool, true, false, ◌&&◌, ◌||◌, eqb, Option, Some, None}
 use Rattle.ir_event.specs.trees.Tree.{OpOf, op, RegionsOf, no_regions, region}
 use Rattle.ir_event.specs.trees.Tree.{RegionOf, empty, block, OpsOf, no_ops, next}
@@ -13,17 +13,17 @@ module _ {N T A : Type 0} (own : N → Own) where
   recursive_found None = false
   recursive_found (Some o) = is_recursive (own (head o).name)
 
-  -- whether operation x is there and has the effects of what is directly inside it
+  -- whether operation x is in the tree and has recursive memory effects
   abbrev pub recursive_at : ℕ → OpOf N T A → Bool
   recursive_at x t = recursive_found (find x t)
 
-  -- operation y is operation x or so many levels around it, and all from x on to y have the effects of what is
-  -- directly inside
+  -- operation y is x or is a number of levels around x, and every operation from x to below y has recursive memory
+  -- effects
   abbrev pub Climbs : ℕ → ℕ → ℕ → OpOf N T A → Type 0
   Climbs zero y x t = (recursive_at x t ≡ true) × (x ≡ y)
   Climbs (suc k) y x t = (recursive_at x t ≡ true) × ((p : ℕ) × (parent_of x t ≡ Some p) × Climbs k y p t)
 
-  -- whether the effects of an operation are made of those of operation x inside it, among others
+  -- whether the effects of an operation include those of operation x inside it
   abbrev mutual
     pub feels : ℕ → OpOf N T A → Bool
     feels x (op h rs) = is_recursive (own h.name) && regions_feel x rs

@@ -5,12 +5,12 @@ use Rattle.ir_event.specs.trees.Tree.{OpOf, RegionsOf, no_regions, region, regio
 use Rattle.ir_event.specs.trees.Ids.{ids, find, regions_ids, ops_ids}
 use Rattle.ir_event.specs.tree_laws.Stands.{StepOf, StandOf}
 
--- the first of a list
+-- the first entry of a list
 abbrev pub first_id : List ℕ → Option ℕ
 first_id [] = None
 first_id (x ∷ xs) = Some x
 
--- the one behind the first a in a list
+-- the entry after the first a in a list
 abbrev pub comes_next : ℕ → List ℕ → Option ℕ
 comes_next a [] = None
 comes_next a (x ∷ xs) = if eqb x a then first_id xs else comes_next a xs
@@ -19,36 +19,36 @@ module _ {N T A : Type 0} where
   abbrev pub following : ℕ → OpOf N T A → Option ℕ
   following x t = comes_next x (ids t)
 
-  -- no operation has more regions than so many
+  -- no operation has more than `most_regions` regions
   abbrev pub HasFewRegions : OpOf N T A → Type 0
   HasFewRegions t = (x : ℕ) (o : OpOf N T A) → find x t ≡ Some o → region_count (regions o) ≤ 16
 
-  -- regions from one on
+  -- the regions from an index on
   abbrev pub regions_from : ℕ → RegionsOf N T A → RegionsOf N T A
   regions_from zero rs = rs
   regions_from (suc r) no_regions = no_regions
   regions_from (suc r) (region g rs) = regions_from r rs
 
-  -- the first operation in them
+  -- the first operation in the regions from an index on
   abbrev pub first_inside : ℕ → Option (OpOf N T A) → Option ℕ
   first_inside r None = None
   first_inside r (Some o) = first_id (regions_ids (regions_from r (regions o)))
 
-  -- the ids of what comes behind all that is inside an operation, by its path
-  abbrev pub behind : List (StepOf N T A) → List ℕ
-  behind [] = []
-  behind (a ∷ q) = ops_ids a.rest ++ (regions_ids (regions_from (a.region + 1) (regions a.parent)) ++ behind q)
+  -- the ids after all contents of an operation, by its path
+  abbrev pub trailing : List (StepOf N T A) → List ℕ
+  trailing [] = []
+  trailing (a ∷ q) = ops_ids a.rest ++ (regions_ids (regions_from (a.region + 1) (regions a.parent)) ++ trailing q)
 
-  abbrev pub behind_of : Option (StandOf N T A) → List ℕ
-  behind_of None = []
-  behind_of (Some s) = behind s.path
+  abbrev pub after_of : Option (StandOf N T A) → List ℕ
+  after_of None = []
+  after_of (Some s) = trailing s.path
 
-  -- how many stand around
+  -- the number of parents of an optional operation
   abbrev pub height_of : Option (StandOf N T A) → ℕ
   height_of None = 0
   height_of (Some s) = length s.path
 
-  -- how many regions an operation has that there may be
+  -- the number of regions of an optional operation
   abbrev pub count_of : Option (OpOf N T A) → ℕ
   count_of None = 0
   count_of (Some o) = region_count (regions o)

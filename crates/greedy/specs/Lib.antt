@@ -1,5 +1,5 @@
 pub mod Reached
-pub mod Sights
+pub mod LocalContext
 pub mod Climbs
 pub mod Near
 pub mod Listing
@@ -16,8 +16,8 @@ pub mod Following
 pub mod Orders
 pub mod Rewriting
 pub mod Ruled
-pub mod Trial
+pub mod PatternSet
 pub mod Trials
 pub mod Tracing
 pub mod Traced
-pub use Rattle.patterns_own.specs as own
+pub use Rattle.user_patterns_apply.specs as own

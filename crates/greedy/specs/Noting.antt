@@ -1,7 +1,7 @@
--- Marks under which rewrites are noted.
+-- Marks under which rewrites are recorded.
 use Rattle.std.specs.Prelude.{[], ◌∷◌, ◌++◌, false, length}
-use Rattle.patterns.specs.rewriter.Held.{Held}
+use Rattle.patterns.specs.rewriter.Held.{TransactionModel}
 
--- a mark more, which isn't counted, at the end of the journal
-abbrev pub marked : Held → Held
+-- the transaction with one more mark, not counted, at the end of the journal
+abbrev pub marked : TransactionModel → TransactionModel
 marked h = record h { marks = h.marks ++ record { length = length h.journal; counted = false } ∷ [] }

@@ -5,20 +5,20 @@ use Rattle.ir_event.specs.trees.Tree.{head}
 use Rattle.ir_event.specs.tree_laws.Reads.{precedes}
 use Rattle.ir_event.specs.Modules.{Module}
 use Rattle.patterns_base.specs.Rewrites.{none, becomes}
-use Rattle.patterns_base.specs.Canonicalization.{lowest}
+use Rattle.patterns_base.specs.Canonicalization.{highest_priority}
 
--- the operations before x stay, and those that stay are in the order in which they were
+-- the operations before x stay, and the remaining operations keep their order
 pub record Orderly (x : ℕ) (m n : Module) : Type 0 where
   pub stays : (y : ℕ) → precedes y x m.tree ≡ true → has_id y n.tree ≡ true
   pub order : (a b : ℕ) → has_id a m.tree ≡ true → has_id b m.tree ≡ true → has_id a n.tree ≡ true
       → has_id b n.tree ≡ true → precedes a b n.tree ≡ precedes a b m.tree
 
--- in a module whose ids are distinct and below the next free one, the lowest rule of canonicalization that applies at
--- an operation leaves it so
+-- in a module whose ids are distinct and less than the next free id, the highest-priority rule of canonicalization
+-- that applies at an operation is orderly there
 abbrev pub RewritesAreOrderly : Type 0
 RewritesAreOrderly = (m : Module) → HasDistinctIds m.tree → All (λ y. y < m.next) (ids m.tree) → (x : ℕ) (n : Module)
-    → lowest m x ≡ becomes n → Orderly x m n
+    → highest_priority m x ≡ becomes n → Orderly x m n
 
 -- no rule applies at the root
 abbrev pub RootHasNone : Type 0
-RootHasNone = (m : Module) → HasDistinctIds m.tree → lowest m (head m.tree).id ≡ none
+RootHasNone = (m : Module) → HasDistinctIds m.tree → highest_priority m (head m.tree).id ≡ none

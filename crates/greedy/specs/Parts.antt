@@ -1,4 +1,4 @@
--- What is listed, part by part, as read from a world.
+-- The parts of the list of operations, as read from a world.
 use Rattle.std.specs.Prelude.{◌≡◌, ◌⊎◌, ℕ, eqb, List, [], ◌∷◌, Bool, true, false, ◌||◌, Some}
 use Rattle.ir_event.specs.trees.declared.value.Value.{Value}
 use Rattle.ir_event.specs.trees.declared.place.Place.{Place}
@@ -10,13 +10,13 @@ use Rattle.ir_event.specs.declared.event.Event.TheVariants.{Put, Take, SetOperan
 use Rattle.ir_event.specs.declared.world.World.{World}
 use Rattle.effects.specs.Effects.{own_by}
 use Rattle.greedy.specs.Reached.{is_end, ends, at_end, reaches}
-use Rattle.greedy.specs.Sights.{giver}
+use Rattle.greedy.specs.LocalContext.{defining_op}
 use Rattle.greedy.specs.Climbs.{Climbs}
 use Rattle.greedy.specs.Near.{moved_values, outer_ids}
 use Rattle.greedy.specs.Adding.{OneOf}
 use Rattle.greedy.specs.Shown.{shown_operands}
 
--- operation x is in some uses
+-- operation x is the user of one of the uses
 abbrev pub IsIn : List (ℕ × ℕ) → ℕ → Type 0
 IsIn us x = (j : ℕ) × (is_use x j us ≡ true)
 
@@ -25,19 +25,20 @@ module _ {N T A : Type 0} where
   abbrev pub IsUser : Value → OpOf N T A → ℕ → Type 0
   IsUser v t x = IsIn (uses_of v t) x
 
-  -- it is around operation y, which ends its block
+  -- x is the parent of operation y, which ends its block
   abbrev pub IsAround : OpOf N T A → ℕ → ℕ → Type 0
   IsAround t y x = ends x y t ≡ true
 
-  -- it is operation p, or ends a block of that
+  -- x is operation p, or ends a block of p
   abbrev pub IsOrEnds : ℕ → OpOf N T A → ℕ → Type 0
   IsOrEnds p t x = (eqb p x || ends p x t) ≡ true
 
-  -- it is operation y, or is around a place or ends its block, where that is the end
+  -- x is operation y; or the place is the end of a block, and x is the parent of that block or ends a block of the
+  -- parent
   abbrev pub IsOrAtEnd : ℕ → Place → OpOf N T A → ℕ → Type 0
   IsOrAtEnd y place t x = (eqb y x || at_end place x t) ≡ true
 
--- whether an event puts something at the end of a block
+-- whether an event inserts an operation at the end of a block
 abbrev pub puts_last : Event → Bool
 puts_last (Put x place fresh) = is_end place
 puts_last (Take x place fresh) = false
@@ -45,31 +46,31 @@ puts_last (SetOperand x k old new) = false
 puts_last (SetEntry x part key old new) = false
 puts_last (Shift x old new) = is_end new
 
--- one of some events
+-- whether any of the events does
 abbrev pub any_puts_last : List Event → Bool
 any_puts_last [] = false
 any_puts_last (e ∷ es) = puts_last e || any_puts_last es
 
--- an event that puts nothing at the end of a block reaches operation x
+-- an event that inserts nothing at the end of a block reaches operation x
 abbrev pub IsReached : {N T A : Type 0} → OpOf N T A → Event → ℕ → Type 0
 IsReached t e x = (puts_last e ≡ false) × (reaches e x t ≡ true)
 
--- operation x gives a value
+-- operation x defines a value
 abbrev pub Gives : Value → ℕ → Type 0
-Gives v x = giver v ≡ Some x
+Gives v x = defining_op v ≡ Some x
 
--- it gives a value of which uses come or go with an event
+-- x defines a value that gains or loses a use in an event
 abbrev pub GivesMoved : World → Event → ℕ → Type 0
 GivesMoved w e x = OneOf Gives (moved_values (shown_operands w.store) e) x
 
--- it is around operation y, or that itself, and all from y on to x have the effects of what is directly inside
+-- x is operation y or is around it, and every operation from y to below x has recursive memory effects
 abbrev pub IsClimbed : World → ℕ → ℕ → Type 0
 IsClimbed w y x = (k : ℕ) × Climbs (own_by w.ctx) k x y w.store.module_of.tree
 
--- it is so around a place of an event
+-- the same for the parent of a place of an event
 abbrev pub IsOuter : World → Event → ℕ → Type 0
 IsOuter w e x = OneOf (IsClimbed w) (outer_ids e) x
 
--- it is one or the other
+-- x is either of the two
 abbrev pub IsBeside : World → Event → ℕ → Type 0
 IsBeside w e x = GivesMoved w e x ⊎ IsOuter w e x

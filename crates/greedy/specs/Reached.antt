@@ -1,12 +1,12 @@
--- Which operations an event can give other surroundings, told from the module that is held at the end: from an event's
--- own words, and from which operations end a block there.
+-- The operations whose surroundings an event can change. The event and the block ends of the module after it determine
+-- them.
 use Rattle.std.specs.Prelude.{ℕ, List, [], ◌∷◌, Bool, true, false, ◌&&◌, ◌||◌, eqb, Option, Some, None}
 use Rattle.ir_event.specs.trees.declared.place.Place.{Place}
 use Rattle.ir_event.specs.trees.Tree.{OpOf}
 use Rattle.ir_event.specs.declared.event.Event.{Event}
 use Rattle.ir_event.specs.declared.event.Event.TheVariants.{Put, Take, SetOperand, SetEntry, Shift}
 use Rattle.ir_event.specs.store.Nodes.{NodeOf}
-use Rattle.listeners_surroundings.specs.Surroundings.{SurroundingsOf, OuterOf, surroundings}
+use Rattle.listeners_support.specs.Surroundings.{SurroundingsOf, OuterOf, surroundings}
 
 -- whether a place is the end of its block
 abbrev is_none : Option ℕ → Bool
@@ -33,11 +33,12 @@ module _ {N T A : Type 0} where
   abbrev pub ends : ℕ → ℕ → OpOf N T A → Bool
   ends p y t = ends_of p (surroundings y t)
 
-  -- what stands around a place, or ends its block: only where the place is the end
+  -- the place is the end of a block, and y is the parent of that block or ends a block of the parent
   abbrev pub at_end : Place → ℕ → OpOf N T A → Bool
   at_end place y t = is_end place && (eqb place.parent y || ends place.parent y t)
 
-  -- whether an event may have given operation y other surroundings; all, where something was put at the end of a block
+  -- whether an event may have changed the surroundings of operation y; true for all operations if the event inserts at
+  -- the end of a block
   abbrev pub reaches : Event → ℕ → OpOf N T A → Bool
   reaches (Put x place fresh) y t = eqb x y || is_end place
   reaches (Take x place fresh) y t = eqb x y || at_end place y t
@@ -45,7 +46,7 @@ module _ {N T A : Type 0} where
   reaches (SetEntry x part key old new) y t = eqb x y || ends x y t
   reaches (Shift x old new) y t = eqb x y || (is_end new || at_end old y t)
 
-  -- one of some events
+  -- whether any of the events may have
   abbrev pub any_reaches : List Event → ℕ → OpOf N T A → Bool
   any_reaches [] y t = false
   any_reaches (e ∷ es) y t = reaches e y t || any_reaches es y t

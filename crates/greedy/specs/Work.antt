@@ -1,4 +1,4 @@
--- The worklist: the operations at which something may apply.
+-- The worklist: the operations at which an entry of the pattern set may apply.
 use Rattle.std.specs.Prelude.{◌≡◌, ◌⊎◌, ◌<◌, ◌+◌, length, ℕ, List, [], ◌∷◌, Bool, true, false, ◌||◌, eqb, if◌then◌else◌}
 use Rattle.ir_event.specs.trees.Ids.{ids, has_id, HasDistinctIds}
 use Rattle.ir_event.specs.trees.Meaning.{Operation}
@@ -6,39 +6,39 @@ use Rattle.ir_event.specs.tree_laws.Reads.{precedes}
 use Rattle.ir_event.specs.Modules.{Module}
 use Rattle.patterns_base.specs.Rewrites.{none}
 use Rattle.greedy.specs.Orders.{Orderly}
-use Rattle.greedy.specs.Sights.{is_listed}
-use Rattle.greedy.specs.Trial.{Trial}
+use Rattle.greedy.specs.LocalContext.{is_listed}
+use Rattle.greedy.specs.PatternSet.{PatternSetModel}
 
 -- ---- the worklist
 
--- whether an operation waits: it comes after the one that was passed last, or is to be looked at again
+-- whether an operation waits: it comes after the passed operation, or it is in `again`
 abbrev pub waits : ℕ → List ℕ → Operation → ℕ → Bool
 waits passed again t x = precedes passed x t || is_listed x again
 
--- operations in the order opposed to pre-order, each once
+-- operations in reverse pre-order, without duplicates
 abbrev pub Falls : Operation → List ℕ → Type 0
 Falls t [] = Unit {0}
 Falls t (y ∷ ys) = ((z : ℕ) → is_listed z ys ≡ true → precedes z y t ≡ true) × Falls t ys
 
--- a worklist in a tree: the operations that are to be looked at again are there, each once, the first in pre-order
--- last, and none of them comes after the one that was passed last
+-- a worklist in a tree: the passed operation and those of `again` are in the tree; `again` is in reverse pre-order
+-- without duplicates, and none of it comes after the passed operation
 pub record IsWork (passed : ℕ) (again : List ℕ) (t : Operation) : Type 0 where
   pub there : has_id passed t ≡ true
   pub inside : (y : ℕ) → is_listed y again ≡ true → has_id y t ≡ true
-  pub behind : (y : ℕ) → is_listed y again ≡ true → precedes passed y t ≡ false
+  pub trailing : (y : ℕ) → is_listed y again ≡ true → precedes passed y t ≡ false
   pub falls : Falls t again
 
--- nothing that is tried applies at an operation that doesn't wait
-abbrev pub Covers : Trial → ℕ → List ℕ → Module → Type 0
+-- no entry of the pattern set applies at an operation that doesn't wait
+abbrev pub Covers : PatternSetModel → ℕ → List ℕ → Module → Type 0
 Covers a passed again m =
     (x : ℕ) → has_id x m.tree ≡ true → waits passed again m.tree x ≡ false → a.comes m x ≡ none
 
--- a worklist of a module, where this is tried
-pub record Right (a : Trial) (passed : ℕ) (again : List ℕ) (m : Module) : Type 0 where
+-- a worklist of a module, for a pattern set
+pub record Right (a : PatternSetModel) (passed : ℕ) (again : List ℕ) (m : Module) : Type 0 where
   pub work : IsWork passed again m.tree
   pub covers : Covers a passed again m
 
--- how many stand behind the first a in a list, and how many wait at most
+-- the number of entries after the first a in a list, and a bound on the number of waiting operations
 abbrev pub count_after : ℕ → List ℕ → ℕ
 count_after a [] = 0
 count_after a (x ∷ xs) = if eqb x a then length xs else count_after a xs
@@ -48,7 +48,7 @@ left passed again t = count_after passed (ids t) + length again
 
 -- ---- its calls
 
--- operation x was taken from a worklist: no other that waited comes before it, and the others still wait
+-- operation x was taken from a worklist: no waiting operation comes before x, and the others still wait
 pub record Taken (x passed : ℕ) (again : List ℕ) (passed2 : ℕ) (again2 : List ℕ) (t : Operation) : Type 0 where
   pub there : has_id x t ≡ true
   pub first : (z : ℕ) → precedes z x t ≡ true → waits passed again t z ≡ false
@@ -60,22 +60,22 @@ pub record Taken (x passed : ℕ) (again : List ℕ) (passed2 : ℕ) (again2 : L
 abbrev pub NoneWaits : ℕ → List ℕ → Operation → Type 0
 NoneWaits passed again t = (z : ℕ) → has_id z t ≡ true → waits passed again t z ≡ false
 
--- what waited in one tree, and is in another, waits there
+-- an operation that waited in one tree, and is in another, waits there
 abbrev pub StillWaits : ℕ → List ℕ → Operation → ℕ → List ℕ → Operation → Type 0
 StillWaits passed again t passed2 again2 u = (z : ℕ) → has_id z t ≡ true → has_id z u ≡ true
     → waits passed again t z ≡ true → waits passed2 again2 u z ≡ true
 
--- a list that falls, parted by operation x: those that x comes before, and the others
-pub record Parted (x : ℕ) (t : Operation) (front back : List ℕ) : Type 0 where
-  pub later : (z : ℕ) → is_listed z front ≡ true → precedes x z t ≡ true
+-- a list in reverse pre-order, split by operation x: the entries that x comes before, and the others
+pub record Parted (x : ℕ) (t : Operation) (point back : List ℕ) : Type 0 where
+  pub later : (z : ℕ) → is_listed z point ≡ true → precedes x z t ≡ true
   pub others : (z : ℕ) → is_listed z back ≡ true → precedes x z t ≡ false
 
--- nothing that is tried applies at an operation that doesn't wait, but perhaps at operation x
-abbrev pub CoversBut : Trial → ℕ → ℕ → List ℕ → Module → Type 0
+-- no entry of the pattern set applies at an operation that doesn't wait, except perhaps at operation x
+abbrev pub CoversBut : PatternSetModel → ℕ → ℕ → List ℕ → Module → Type 0
 CoversBut a x passed again m = (z : ℕ) → has_id z m.tree ≡ true → waits passed again m.tree z ≡ false
     → (z ≡ x) ⊎ (a.comes m z ≡ none)
 
--- a worklist from which operation x was taken, at which a rule was applied, which led from m to n
+-- a worklist from which operation x was taken, and a rewrite at x from m to n
 pub record Rewritten (x before : ℕ) (m n : Module) : Type 0 where
   pub distinct : HasDistinctIds m.tree
   pub orderly : Orderly x m n

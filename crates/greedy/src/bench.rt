@@ -1,86 +1,87 @@
-//! Benches with the rules of canonicalization.
+//! Canonicalization and rewriting of a rewriter's module.
 ghost use Rattle.std.specs.Prelude.{◌≡◌, [], is_some, IfErr, IfOk, MatchResult, OnErr, OnOk};
-ghost use Rattle.ir_event.specs.types.Things.{Grows};
+ghost use Rattle.ir_event.specs.types.Things.{IsExtendedBy};
 ghost use Rattle.patterns_base.specs.Canonicalization.{first_rule, greedy_rules};
 ghost use Rattle.patterns.specs.Firing.{firing};
 ghost use Rattle.patterns.specs.Rows.{AreCanonical};
 ghost use Rattle.rewriter_machine.specs.Machine.{Change, IsFullSo};
 ghost use Rattle.patterns.specs.rewriter.Moves.{Recorded};
 ghost use Rattle.patterns.specs.runs.Runs.{Noted};
-ghost use Rattle.patterns.specs.Applied.{Applied as IsApplied, Gave, IsReason as IsFailure};
-ghost use Rattle.patterns.specs.Benched.{Does, Keeps, Led, state_of};
+ghost use Rattle.patterns.specs.Applied.{Applied as IsApplied, RewriteOutcome, IsReason as IsFailure};
+ghost use Rattle.patterns.specs.RewriterCalls.{Does, JournalAfter, Led, state_of};
 ghost use Rattle.patterns.specs.Held.{module_held};
 ghost use Rattle.patterns.specs.runs.Interning.{IsFull};
 ghost use Rattle.greedy.specs.Changes.{canonical_reply, canonicalizing, rewriting};
 ghost use Rattle.greedy.specs.Outcomes.{IsReason, IsReasonBy};
 ghost use Rattle.greedy.specs.Ruled.{MayRun, rules_in};
 ghost use Rattle.greedy.specs.Tracing.{trace_of};
-ghost use Rattle.greedy.specs.Trial.{AreAttempts, attempts_of, by_attempts, by_rules};
+ghost use Rattle.greedy.specs.PatternSet.{AreAttempts, patterns_of, by_attempts, by_rules};
 
-use crate::attempts::first_tried;
-use crate::fired::By;
+use crate::applied_rewrite::AppliedPattern;
+use crate::first_pattern::apply_first_pattern;
+use crate::greedy_rewriter::GreedyRewriter;
 use crate::journal::touched;
 use crate::outcome::Outcome;
-use crate::rewriting::Rewriting;
-use crate::rules::Rules;
-use crate::run::{run, run_list, run_list_told, run_told, run_tried_told};
-use crate::tracer::{Silent, Tracer};
-use crate::tried::Tried;
+use crate::pattern_set::RuleOrPattern;
+use crate::rules::RuleSet;
+use crate::run::{run, run_list, run_list_of_patterns_traced, run_list_traced, run_traced};
+use crate::tracer::{NoTracer, Tracer};
 use crate::walk::{following, precedes, preceding};
 use ir_event::analysis::Analysis;
 use ir_event::types::ids::OpId;
 use ir_event::types::refusal::Refusal;
-use patterns::first::first;
-use patterns::lowest::lowest;
+use patterns::apply_first::apply_first;
+use patterns::apply_highest_priority::apply_highest_priority;
 use patterns::rewriter::Bench;
-use patterns::rewriter::finish::finish;
+use patterns::rewriter::finish::close_mark;
 use patterns::rewriter::laws::led_benches_are_kept;
 use patterns_base::rule::Rule;
 use std::alloc::Global;
 
-/// Applies the first of a run's rules that applies at an operation, or leaves the module, its marks and the journal as
-/// they were. The answer is that rule.
+/// Applies the first of a run's rules that applies at `op` and returns that rule. If none applies, the module, its
+/// marks and the journal stay the same, and the result is `None`.
 ///
-/// Refusals, in order: `NoSuchOp` where the operation isn't in the module; `Full`; `IdsExhausted`; `Full` where the
-/// context is full; and `Memory`.
+/// Errors, in order: `NoSuchOp` if the operation isn't in the module; `Full` if the rewrite would exceed the limit of
+/// operations; `IdsExhausted` if it would exceed the limit of ids; `Full` if the context is full; `Memory` if memory
+/// runs out.
 fn first_of<L: Analysis>(
     alloc: Global,
     bench: &mut Bench<L>,
-    rules: &Rules<'_>,
+    rules: &RuleSet<'_>,
     op: OpId,
 ) -> Result<Option<Rule>, Refusal>
     requires { MayRun rules.now }
-    ensures ok { IfOk result (λ r. Gave (first_rule (rules_in rules.now) (module_held bench.old.desk) op) (is_some r)
-        (module_held bench.old.desk) (module_held bench.new.desk)) }
-    ensures fired { IfOk result (λ r. r ≡ firing (rules_in rules.now) (module_held bench.old.desk) op) }
-    ensures err { OnErr result (module_held bench.new.desk ≡ module_held bench.old.desk) }
-    ensures refused { IfErr result (λ e. IsFailure (first_rule (rules_in rules.now) (module_held bench.old.desk) op) op
-        (module_held bench.old.desk) bench.new.desk.ctx e) }
+    ensures ok { IfOk result (λ r. RewriteOutcome (first_rule (rules_in rules.now) (module_held bench.old.transaction) op) (is_some r)
+        (module_held bench.old.transaction) (module_held bench.new.transaction)) }
+    ensures applied { IfOk result (λ r. r ≡ firing (rules_in rules.now) (module_held bench.old.transaction) op) }
+    ensures err { OnErr result (module_held bench.new.transaction ≡ module_held bench.old.transaction) }
+    ensures refused { IfErr result (λ e. IsFailure (first_rule (rules_in rules.now) (module_held bench.old.transaction) op) op
+        (module_held bench.old.transaction) bench.new.transaction.ctx e) }
     ensures stays { IsApplied L.meaning bench.old bench.new }
-    ensures journal { Keeps L.meaning result bench.old bench.new }
+    ensures journal { JournalAfter L.meaning result bench.old bench.new }
 {
     match rules {
-        Rules::OfCanonicalization => lowest(alloc, bench, op),
-        Rules::OfList(rows) => first(alloc, bench, rows, op),
+        RuleSet::Canonicalization => apply_highest_priority(alloc, bench, op),
+        RuleSet::List(rows) => apply_first(alloc, bench, rows, op),
     }
 }
 
-impl<L: Analysis> Rewriting for Bench<L> {
+impl<L: Analysis> GreedyRewriter for Bench<L> {
     ghost use Rattle.std.specs.Prelude.{length};
     ghost use Rattle.patterns.specs.Held.{module_at, module_held, open_marks};
     ghost use Rattle.patterns.specs.runs.Interning.{IsFull};
     ghost use Rattle.greedy.specs.Benches.{Formed, Onward};
     ghost use Rattle.greedy.specs.Lawful.{full_stays, onward_stays, onward_through};
 
-    ghost held = { λ b. module_held b.desk };
+    ghost held = { λ b. module_held b.transaction };
 
-    ghost marks = { λ b. open_marks b.desk };
+    ghost marks = { λ b. open_marks b.transaction };
 
-    ghost events = { λ b. length b.desk.journal };
+    ghost events = { λ b. length b.transaction.journal };
 
-    ghost before = { λ b k. module_at k b.desk };
+    ghost before = { λ b k. module_at k b.transaction };
 
-    ghost desk = { λ b. b.desk };
+    ghost transaction = { λ b. b.transaction };
 
     ghost formed = { Formed };
 
@@ -94,9 +95,9 @@ impl<L: Analysis> Rewriting for Bench<L> {
 
     ghost through = { λ a b d f g. onward_through L.meaning a b d f g };
 
-    ghost full = { λ b. IsFull b.desk.ctx };
+    ghost full = { λ b. IsFull b.transaction.ctx };
 
-    ghost stays_full = { λ a b o f. full_stays a.desk.ctx b.desk.ctx o.grows f };
+    ghost stays_full = { λ a b o f. full_stays a.transaction.ctx b.transaction.ctx o.grows f };
 
     fn is_formed(&self) {
         Bench::is_formed(self);
@@ -137,7 +138,7 @@ impl<L: Analysis> Rewriting for Bench<L> {
     fn first(
         &mut self,
         alloc: Global,
-        rules: &Rules<'_>,
+        rules: &RuleSet<'_>,
         op: OpId,
     ) -> Result<Option<Rule>, Refusal> {
         let rule = first_of(alloc, self, rules, op);
@@ -148,13 +149,13 @@ impl<L: Analysis> Rewriting for Bench<L> {
         }
     }
 
-    fn first_tried(
+    fn apply_first_pattern(
         &mut self,
         alloc: Global,
-        tried: &[Tried<'_>],
+        candidates: &[RuleOrPattern<'_>],
         op: OpId,
-    ) -> Result<Option<By>, Refusal> {
-        let told = first_tried(alloc, self, tried, op);
+    ) -> Result<Option<AppliedPattern>, Refusal> {
+        let told = apply_first_pattern(alloc, self, candidates, op);
         Bench::is_formed(self);
         match told {
             Ok(told) => Ok(told),
@@ -180,42 +181,43 @@ impl<L: Analysis> Rewriting for Bench<L> {
     }
 
     fn commit(&mut self) {
-        finish(self, true);
+        close_mark(self, true);
         Bench::is_formed(self);
     }
 
     fn rollback(&mut self) {
-        finish(self, false);
+        close_mark(self, false);
         Bench::is_formed(self);
     }
 }
 
-/// Canonicalizes the module of a bench: the first operation in pre-order at which one of its rules applies, with the
-/// lowest of them, again and again, up to a limit of rewrites. It is whole or not made at all.
+/// Canonicalizes the rewriter's module. Each step finds the first operation in pre-order at which a canonicalization
+/// rule applies, and applies the highest-priority rule there. The run stops if no rule applies, or after `limit`
+/// rewrites. If it is refused, nothing changes.
 ///
-/// Refusals: `BadLimit` where the limit isn't one of 1 to 1,000,000; `Full` and `IdsExhausted` where a rewrite is
-/// refused for them; `Full` where the context is full; and `Memory`.
+/// Errors: `BadLimit` if the limit isn't within 1 to 1,000,000; `Full` or `IdsExhausted` if a rewrite would exceed the
+/// limit of operations or of ids; `Full` if the context is full; `Memory` if memory runs out.
 pub fn canonicalize<L: Analysis>(
     alloc: Global,
     bench: &mut Bench<L>,
     limit: u32,
 ) -> Result<Outcome, Refusal>
     ensures does { Does L.meaning (Change (canonicalizing limit)) (canonical_reply result) bench.old bench.new }
-    ensures refused { IfErr result (λ e. IsReason limit (module_held bench.old.desk) (IsFull bench.new.desk.ctx) e) }
+    ensures refused { IfErr result (λ e. IsReason limit (module_held bench.old.transaction) (IsFull bench.new.transaction.ctx) e) }
     ensures led { Led L.meaning bench.old bench.new }
-    ensures grows { Grows bench.old.desk.ctx bench.new.desk.ctx }
-    ensures journal { MatchResult result (λ _. Noted bench.old.desk bench.new.desk)
-        (λ _. Recorded [] bench.old.desk bench.new.desk) }
+    ensures grows { IsExtendedBy bench.old.transaction.ctx bench.new.transaction.ctx }
+    ensures journal { MatchResult result (λ _. Noted bench.old.transaction bench.new.transaction)
+        (λ _. Recorded [] bench.old.transaction bench.new.transaction) }
 {
     led_benches_are_kept::<L>();
     bench.is_formed();
     run(alloc, bench, limit)
 }
 
-/// Canonicalizes the module of a bench, as `canonicalize` does, and has each rewrite taken down, in their order. What
-/// was taken down of one that is refused says nothing.
+/// Canonicalizes the rewriter's module like `canonicalize`, and passes each rewrite to `trace`, in order. If the run
+/// is refused, the recorded rewrites mean nothing.
 ///
-/// Refusals: as those of `canonicalize`.
+/// Errors: those of `canonicalize`.
 pub fn canonicalize_traced<L: Analysis, T: Tracer>(
     alloc: Global,
     bench: &mut Bench<L>,
@@ -224,25 +226,25 @@ pub fn canonicalize_traced<L: Analysis, T: Tracer>(
 ) -> Result<Outcome, Refusal>
     ensures does { Does L.meaning (Change (canonicalizing limit)) (canonical_reply result) bench.old bench.new }
     ensures trace { OnOk result
-        (T.traced (trace_of (by_rules greedy_rules) limit (module_held bench.old.desk)) trace.old trace.new) }
-    ensures refused { IfErr result (λ e. IsReason limit (module_held bench.old.desk) (IsFull bench.new.desk.ctx) e) }
-    ensures room { IsFullSo (IsFull bench.new.desk.ctx) (state_of L.meaning bench.old) (canonicalizing limit)
+        (T.traced (trace_of (by_rules greedy_rules) limit (module_held bench.old.transaction)) trace.old trace.new) }
+    ensures refused { IfErr result (λ e. IsReason limit (module_held bench.old.transaction) (IsFull bench.new.transaction.ctx) e) }
+    ensures room { IsFullSo (IsFull bench.new.transaction.ctx) (state_of L.meaning bench.old) (canonicalizing limit)
         (canonical_reply result) }
     ensures led { Led L.meaning bench.old bench.new }
-    ensures grows { Grows bench.old.desk.ctx bench.new.desk.ctx }
-    ensures journal { MatchResult result (λ _. Noted bench.old.desk bench.new.desk)
-        (λ _. Recorded [] bench.old.desk bench.new.desk) }
+    ensures grows { IsExtendedBy bench.old.transaction.ctx bench.new.transaction.ctx }
+    ensures journal { MatchResult result (λ _. Noted bench.old.transaction bench.new.transaction)
+        (λ _. Recorded [] bench.old.transaction bench.new.transaction) }
 {
     led_benches_are_kept::<L>();
     bench.is_formed();
-    run_told(alloc, bench, limit, trace)
+    run_traced(alloc, bench, limit, trace)
 }
 
-/// Rewrites the module of a bench by a list of rules, of which canonicalization tries each: the first operation in
-/// pre-order at which one of them applies, with the first of the list that does, again and again, up to a limit of
-/// rewrites. It is whole or not made at all.
+/// Rewrites the rewriter's module with a list of canonicalization rules. Each step finds the first operation in
+/// pre-order at which a rule of the list applies, and applies the first such rule of the list. The run stops if no
+/// rule applies, or after `limit` rewrites. If it is refused, nothing changes.
 ///
-/// Refusals: as those of `canonicalize`.
+/// Errors: those of `canonicalize`.
 pub fn rewrite<L: Analysis>(
     alloc: Global,
     bench: &mut Bench<L>,
@@ -252,23 +254,23 @@ pub fn rewrite<L: Analysis>(
     requires { AreCanonical rules.now }
     ensures does { Does L.meaning (Change (rewriting (by_rules rules.now) limit)) (canonical_reply result) bench.old bench.new }
     ensures refused { IfErr result
-        (λ e. IsReasonBy (by_rules rules.now) limit (module_held bench.old.desk) (IsFull bench.new.desk.ctx) e) }
-    ensures room { IsFullSo (IsFull bench.new.desk.ctx) (state_of L.meaning bench.old) (rewriting (by_rules rules.now) limit)
+        (λ e. IsReasonBy (by_rules rules.now) limit (module_held bench.old.transaction) (IsFull bench.new.transaction.ctx) e) }
+    ensures room { IsFullSo (IsFull bench.new.transaction.ctx) (state_of L.meaning bench.old) (rewriting (by_rules rules.now) limit)
         (canonical_reply result) }
     ensures led { Led L.meaning bench.old bench.new }
-    ensures grows { Grows bench.old.desk.ctx bench.new.desk.ctx }
-    ensures journal { MatchResult result (λ _. Noted bench.old.desk bench.new.desk)
-        (λ _. Recorded [] bench.old.desk bench.new.desk) }
+    ensures grows { IsExtendedBy bench.old.transaction.ctx bench.new.transaction.ctx }
+    ensures journal { MatchResult result (λ _. Noted bench.old.transaction bench.new.transaction)
+        (λ _. Recorded [] bench.old.transaction bench.new.transaction) }
 {
     led_benches_are_kept::<L>();
     bench.is_formed();
     run_list(alloc, bench, rules, limit)
 }
 
-/// Rewrites the module of a bench by a list of rules, as `rewrite` does, and has each rewrite taken down, in
-/// their order. What was taken down of one that is refused says nothing.
+/// Rewrites the rewriter's module like `rewrite`, and passes each rewrite to `trace`, in order. If the run is refused,
+/// the recorded rewrites mean nothing.
 ///
-/// Refusals: as those of `canonicalize`.
+/// Errors: those of `canonicalize`.
 pub fn rewrite_traced<L: Analysis, T: Tracer>(
     alloc: Global,
     bench: &mut Bench<L>,
@@ -278,73 +280,73 @@ pub fn rewrite_traced<L: Analysis, T: Tracer>(
 ) -> Result<Outcome, Refusal>
     requires { AreCanonical rules.now }
     ensures does { Does L.meaning (Change (rewriting (by_rules rules.now) limit)) (canonical_reply result) bench.old bench.new }
-    ensures trace { OnOk result (T.traced (trace_of (by_rules rules.now) limit (module_held bench.old.desk)) trace.old trace.new) }
+    ensures trace { OnOk result (T.traced (trace_of (by_rules rules.now) limit (module_held bench.old.transaction)) trace.old trace.new) }
     ensures refused { IfErr result
-        (λ e. IsReasonBy (by_rules rules.now) limit (module_held bench.old.desk) (IsFull bench.new.desk.ctx) e) }
-    ensures room { IsFullSo (IsFull bench.new.desk.ctx) (state_of L.meaning bench.old) (rewriting (by_rules rules.now) limit)
+        (λ e. IsReasonBy (by_rules rules.now) limit (module_held bench.old.transaction) (IsFull bench.new.transaction.ctx) e) }
+    ensures room { IsFullSo (IsFull bench.new.transaction.ctx) (state_of L.meaning bench.old) (rewriting (by_rules rules.now) limit)
         (canonical_reply result) }
     ensures led { Led L.meaning bench.old bench.new }
-    ensures grows { Grows bench.old.desk.ctx bench.new.desk.ctx }
-    ensures journal { MatchResult result (λ _. Noted bench.old.desk bench.new.desk)
-        (λ _. Recorded [] bench.old.desk bench.new.desk) }
+    ensures grows { IsExtendedBy bench.old.transaction.ctx bench.new.transaction.ctx }
+    ensures journal { MatchResult result (λ _. Noted bench.old.transaction bench.new.transaction)
+        (λ _. Recorded [] bench.old.transaction bench.new.transaction) }
 {
     led_benches_are_kept::<L>();
     bench.is_formed();
-    run_list_told(alloc, bench, rules, limit, trace)
+    run_list_traced(alloc, bench, rules, limit, trace)
 }
 
-/// Rewrites the module of a bench by a list of rules, of which canonicalization tries each, and patterns of one's own:
-/// the first operation in pre-order at which one of them applies, with the first of the list that does, again and again,
-/// up to a limit of rewrites. It is whole or not made at all, and each rewrite is taken down, in their order. What was
-/// taken down of one that is refused says nothing.
+/// Rewrites the rewriter's module with a list of canonicalization rules and user patterns. Each step finds the first
+/// operation in pre-order at which an entry of the list applies, and applies the first such entry. The run stops if no
+/// entry applies, or after `limit` rewrites. It passes each rewrite to `trace`, in order. If it is refused, nothing
+/// changes in the module, and the recorded rewrites mean nothing.
 ///
-/// Refusals: as those of `canonicalize`.
-pub fn rewrite_tried_traced<L: Analysis, T: Tracer>(
+/// Errors: those of `canonicalize`.
+pub fn rewrite_with_patterns_traced<L: Analysis, T: Tracer>(
     alloc: Global,
     bench: &mut Bench<L>,
-    tried: &[Tried<'_>],
+    candidates: &[RuleOrPattern<'_>],
     limit: u32,
     trace: &mut T,
 ) -> Result<Outcome, Refusal>
-    requires { AreAttempts (attempts_of tried.now) }
-    ensures does { Does L.meaning (Change (rewriting (by_attempts (attempts_of tried.now)) limit))
+    requires { AreAttempts (patterns_of candidates.now) }
+    ensures does { Does L.meaning (Change (rewriting (by_attempts (patterns_of candidates.now)) limit))
         (canonical_reply result) bench.old bench.new }
     ensures trace { OnOk result (T.traced
-        (trace_of (by_attempts (attempts_of tried.now)) limit (module_held bench.old.desk)) trace.old trace.new) }
-    ensures refused { IfErr result (λ e. IsReasonBy (by_attempts (attempts_of tried.now)) limit
-        (module_held bench.old.desk) (IsFull bench.new.desk.ctx) e) }
-    ensures room { IsFullSo (IsFull bench.new.desk.ctx) (state_of L.meaning bench.old)
-        (rewriting (by_attempts (attempts_of tried.now)) limit) (canonical_reply result) }
+        (trace_of (by_attempts (patterns_of candidates.now)) limit (module_held bench.old.transaction)) trace.old trace.new) }
+    ensures refused { IfErr result (λ e. IsReasonBy (by_attempts (patterns_of candidates.now)) limit
+        (module_held bench.old.transaction) (IsFull bench.new.transaction.ctx) e) }
+    ensures room { IsFullSo (IsFull bench.new.transaction.ctx) (state_of L.meaning bench.old)
+        (rewriting (by_attempts (patterns_of candidates.now)) limit) (canonical_reply result) }
     ensures led { Led L.meaning bench.old bench.new }
-    ensures grows { Grows bench.old.desk.ctx bench.new.desk.ctx }
-    ensures journal { MatchResult result (λ _. Noted bench.old.desk bench.new.desk)
-        (λ _. Recorded [] bench.old.desk bench.new.desk) }
+    ensures grows { IsExtendedBy bench.old.transaction.ctx bench.new.transaction.ctx }
+    ensures journal { MatchResult result (λ _. Noted bench.old.transaction bench.new.transaction)
+        (λ _. Recorded [] bench.old.transaction bench.new.transaction) }
 {
     led_benches_are_kept::<L>();
     bench.is_formed();
-    run_tried_told(alloc, bench, tried, limit, trace)
+    run_list_of_patterns_traced(alloc, bench, candidates, limit, trace)
 }
 
-/// Rewrites the module of a bench by a list of rules and patterns, as `rewrite_tried_traced` does, and tells nothing.
+/// Rewrites the rewriter's module like `rewrite_with_patterns_traced`, and records no rewrites.
 ///
-/// Refusals: as those of `canonicalize`.
-pub fn rewrite_tried<L: Analysis>(
+/// Errors: those of `canonicalize`.
+pub fn rewrite_with_patterns<L: Analysis>(
     alloc: Global,
     bench: &mut Bench<L>,
-    tried: &[Tried<'_>],
+    candidates: &[RuleOrPattern<'_>],
     limit: u32,
 ) -> Result<Outcome, Refusal>
-    requires { AreAttempts (attempts_of tried.now) }
-    ensures does { Does L.meaning (Change (rewriting (by_attempts (attempts_of tried.now)) limit))
+    requires { AreAttempts (patterns_of candidates.now) }
+    ensures does { Does L.meaning (Change (rewriting (by_attempts (patterns_of candidates.now)) limit))
         (canonical_reply result) bench.old bench.new }
-    ensures refused { IfErr result (λ e. IsReasonBy (by_attempts (attempts_of tried.now)) limit
-        (module_held bench.old.desk) (IsFull bench.new.desk.ctx) e) }
-    ensures room { IsFullSo (IsFull bench.new.desk.ctx) (state_of L.meaning bench.old)
-        (rewriting (by_attempts (attempts_of tried.now)) limit) (canonical_reply result) }
+    ensures refused { IfErr result (λ e. IsReasonBy (by_attempts (patterns_of candidates.now)) limit
+        (module_held bench.old.transaction) (IsFull bench.new.transaction.ctx) e) }
+    ensures room { IsFullSo (IsFull bench.new.transaction.ctx) (state_of L.meaning bench.old)
+        (rewriting (by_attempts (patterns_of candidates.now)) limit) (canonical_reply result) }
     ensures led { Led L.meaning bench.old bench.new }
-    ensures grows { Grows bench.old.desk.ctx bench.new.desk.ctx }
-    ensures journal { MatchResult result (λ _. Noted bench.old.desk bench.new.desk)
-        (λ _. Recorded [] bench.old.desk bench.new.desk) }
+    ensures grows { IsExtendedBy bench.old.transaction.ctx bench.new.transaction.ctx }
+    ensures journal { MatchResult result (λ _. Noted bench.old.transaction bench.new.transaction)
+        (λ _. Recorded [] bench.old.transaction bench.new.transaction) }
 {
-    rewrite_tried_traced(alloc, bench, tried, limit, &mut Silent)
+    rewrite_with_patterns_traced(alloc, bench, candidates, limit, &mut NoTracer)
 }

@@ -1,4 +1,4 @@
-//! Operations that end blocks, and the operations around them.
+//! Lists the operations that end blocks, and the parents of such operations.
 ghost use Rattle.std.specs.Prelude.{◌≡◌, OnOk, true, Some};
 ghost use Rattle.ir_event.specs.tree_laws.Reads.{last_at};
 ghost use Rattle.greedy.specs.Reached.{at_end, ends};
@@ -12,7 +12,7 @@ use ir_event::types::ids::OpId;
 use ir_event::world::World;
 use std::alloc::AllocError;
 
-/// Lists the operation around one that ends its block.
+/// Pushes the parent of `op` if `op` ends its block.
 fn push_around(world: &World, ops: &mut Vec<OpId>, op: OpId) -> Result<(), AllocError>
     ensures { OnOk result (Adds (IsAround world.now.store.module_of.tree op) ops.old.items ops.new.items) }
 {
@@ -25,7 +25,7 @@ fn push_around(world: &World, ops: &mut Vec<OpId>, op: OpId) -> Result<(), Alloc
     }
 }
 
-/// Lists the operations around those that are listed and end their blocks.
+/// Pushes the parent of each listed operation that ends its block.
 pub(crate) fn push_around_listed(world: &World, ops: &mut Vec<OpId>) -> Result<(), AllocError>
     ensures { OnOk result (Adds
         (OneOf (IsAround world.now.store.module_of.tree) ops.old.items) ops.old.items ops.new.items) }
@@ -40,7 +40,7 @@ pub(crate) fn push_around_listed(world: &World, ops: &mut Vec<OpId>) -> Result<(
     Ok(())
 }
 
-/// Lists the last operation of the block of a region.
+/// Pushes the last operation of the block of a region.
 fn push_last(store: &Store, ops: &mut Vec<OpId>, op: OpId, region: u32) -> Result<(), AllocError>
     ensures { OnOk result (Adds
         (λ x. last_at op region store.now.module_of.tree ≡ Some x) ops.old.items ops.new.items) }
@@ -51,7 +51,7 @@ fn push_last(store: &Store, ops: &mut Vec<OpId>, op: OpId, region: u32) -> Resul
     }
 }
 
-/// Lists the last operation of each block of an operation.
+/// Pushes the last operation of each block of `op`.
 fn push_lasts(world: &World, ops: &mut Vec<OpId>, op: OpId) -> Result<(), AllocError>
     ensures { OnOk result (Adds (λ x. ends op x world.now.store.module_of.tree ≡ true) ops.old.items ops.new.items) }
 {
@@ -67,7 +67,7 @@ fn push_lasts(world: &World, ops: &mut Vec<OpId>, op: OpId) -> Result<(), AllocE
     Ok(())
 }
 
-/// Lists an operation, and the last one of each of its blocks.
+/// Pushes `op` and the last operation of each of its blocks.
 pub(crate) fn push_with_lasts(
     world: &World,
     ops: &mut Vec<OpId>,
@@ -79,7 +79,8 @@ pub(crate) fn push_with_lasts(
     push_lasts(world, ops, op)
 }
 
-/// Lists the operation around a place, and the last one of each of its blocks, where the place is the end of a block.
+/// If `place` is the end of a block, pushes the parent of that block and the last operation of each block of the
+/// parent.
 fn push_end(world: &World, ops: &mut Vec<OpId>, place: &Place) -> Result<(), AllocError>
     ensures { OnOk result (Adds
         (λ x. at_end place.now x world.now.store.module_of.tree ≡ true) ops.old.items ops.new.items) }
@@ -90,8 +91,9 @@ fn push_end(world: &World, ops: &mut Vec<OpId>, place: &Place) -> Result<(), All
     }
 }
 
-/// Lists an operation that left a place, and what is changed by that at the end of a block.
-pub(crate) fn push_left(
+/// Pushes an operation that left `place`. If `place` is the end of a block, also pushes the parent of that block and
+/// the last operation of each block of the parent.
+pub(crate) fn push_former_neighbours(
     world: &World,
     ops: &mut Vec<OpId>,
     op: OpId,

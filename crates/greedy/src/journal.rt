@@ -1,10 +1,10 @@
-//! The operations at which rules may apply otherwise after the events of a bench's journal.
+//! Computes the operations at which a rule may apply differently after events of a rewriter's journal.
 ghost use Rattle.std.specs.Prelude.{◌≡◌, IfOk, IfErr, drop};
 ghost use Rattle.ir_event.specs.types.declared.refusal.Refusal.TheVariants.{Memory as NoMemory};
 ghost use Rattle.patterns.specs.rewriter.Held.{module_at, module_held};
 ghost use Rattle.greedy.specs.Listing.{Touched};
 
-use crate::touched::touched_by;
+use crate::affected::touched_by;
 use ir_event::analysis::Analysis;
 use ir_event::event::Event;
 use ir_event::types::ids::OpId;
@@ -12,7 +12,7 @@ use ir_event::types::refusal::Refusal;
 use patterns::rewriter::bench::Bench;
 use std::alloc::Global;
 
-/// The events of a journal from one on.
+/// Returns the events of a journal from index `from` on.
 fn events_from(journal: &[Event], from: usize) -> &[Event]
     ensures { result.now ≡ drop from journal.now }
 {
@@ -22,16 +22,16 @@ fn events_from(journal: &[Event], from: usize) -> &[Event]
     }
 }
 
-/// The operations of a bench's module at which the rules of canonicalization may apply otherwise than before the events
-/// of its journal from one on, and some beside.
+/// Returns every operation of the rewriter's module at which a rule of canonicalization may apply differently than
+/// before the events of its journal from index `from` on. The result may hold other operations too.
 ///
-/// Refusals: `Memory`.
+/// Errors: `Memory` if memory runs out.
 pub fn touched<L: Analysis>(
     alloc: Global,
     bench: &Bench<L>,
     from: usize,
 ) -> Result<Vec<OpId>, Refusal>
-    ensures ok { IfOk result (λ v. Touched (module_at from bench.now.desk) (module_held bench.now.desk) v.items) }
+    ensures ok { IfOk result (λ v. Touched (module_at from bench.now.transaction) (module_held bench.now.transaction) v.items) }
     ensures refused { IfErr result (λ e. e ≡ NoMemory) }
 {
     bench.is_formed();

@@ -1,28 +1,28 @@
-//! The greedy driver: the first operation in pre-order at which a rule applies, again and again; and which operations
-//! the rules see otherwise after some events.
+//! The greedy driver. It applies a rule at the first operation in pre-order at which a rule applies, and repeats. It
+//! also computes the operations at which a rule may apply differently after some events.
 #![tactic(auto)]
 
-mod attempts;
+pub mod affected;
+pub mod applied_rewrite;
 pub mod bench;
-mod beside;
 mod block;
-mod climb;
-pub mod fired;
 mod first;
+mod first_pattern;
+pub mod greedy_rewriter;
 pub mod journal;
 pub mod laws;
+mod neighbours;
 pub mod outcome;
+mod parents;
+pub mod pattern_set;
 mod push;
 mod reach;
-pub mod rewriting;
 pub mod rules;
 pub mod run;
-pub mod touched;
 pub mod tracer;
-pub mod tried;
 mod users;
 mod walk;
-mod work;
+mod worklist;
 
 pub use patterns;
-pub use patterns_own as own;
+pub use user_patterns_apply as own;

@@ -1,10 +1,10 @@
-//! How a run ended.
+//! The outcome of a run.
 
-/// How a run ended, after how many rewrites.
+/// The outcome of a run, with the number of rewrites that it made.
 #[derive(Clone, Copy, Debug, PartialEq, Eq)]
 pub enum Outcome {
-    /// No rule applies anywhere.
+    /// No rule applies at any operation.
     Converged(u32),
-    /// As many as were allowed, and a rule still applies.
+    /// The run made as many rewrites as its limit allows, and a rule still applies.
     Limit(u32),
 }

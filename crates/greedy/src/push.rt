@@ -1,12 +1,12 @@
-//! One operation more in a list.
+//! Appends an operation to a list.
 ghost use Rattle.std.specs.Prelude.{◌≡◌, OnOk, true};
 ghost use Rattle.greedy.specs.Adding.{Adds};
-ghost use Rattle.greedy.specs.Sights.{is_listed};
+ghost use Rattle.greedy.specs.LocalContext.{is_listed};
 
 use ir_event::types::ids::OpId;
 use std::alloc::AllocError;
 
-/// Lists an operation, where it isn't the one that was listed last.
+/// Appends `op` unless it is already the last entry of the list.
 pub(crate) fn push(ops: &mut Vec<OpId>, op: OpId) -> Result<(), AllocError>
     ensures { OnOk result (Adds (λ x. x ≡ op) ops.old.items ops.new.items) }
 {
@@ -19,7 +19,7 @@ pub(crate) fn push(ops: &mut Vec<OpId>, op: OpId) -> Result<(), AllocError>
     }
 }
 
-/// Whether an operation is the one that was listed last.
+/// Returns whether `op` is the last entry of the list.
 fn is_last(ops: &[OpId], op: OpId) -> bool
     ensures { result ≡ true → is_listed op ops.now ≡ true }
 {

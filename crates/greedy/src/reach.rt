@@ -1,29 +1,29 @@
-//! The operations that events reach.
+//! Lists the operations that events reach.
 ghost use Rattle.std.specs.Prelude.{OnOk};
 ghost use Rattle.greedy.specs.Adding.{Adds, OneOf};
 ghost use Rattle.greedy.specs.Parts.{IsReached};
 
-use crate::block::{push_left, push_with_lasts};
+use crate::block::{push_former_neighbours, push_with_lasts};
 use crate::push::push;
 use ir_event::event::Event;
 use ir_event::types::ids::OpId;
 use ir_event::world::World;
 use std::alloc::AllocError;
 
-/// Lists the operations that an event reaches, where it puts nothing at the end of a block.
+/// Pushes the operations that an event reaches. The event must not insert at the end of a block.
 fn push_reached(world: &World, ops: &mut Vec<OpId>, event: &Event) -> Result<(), AllocError>
     ensures { OnOk result (Adds (IsReached world.now.store.module_of.tree event.now) ops.old.items ops.new.items) }
 {
     match event {
         Event::Put { op, .. } => push(ops, *op),
-        Event::Take { op, place, .. } => push_left(world, ops, *op, place),
+        Event::Take { op, place, .. } => push_former_neighbours(world, ops, *op, place),
         Event::SetOperand { op, .. } => push_with_lasts(world, ops, *op),
         Event::SetEntry { op, .. } => push_with_lasts(world, ops, *op),
-        Event::Shift { op, old, .. } => push_left(world, ops, *op, old),
+        Event::Shift { op, old, .. } => push_former_neighbours(world, ops, *op, old),
     }
 }
 
-/// Lists the operations that events reach, where they put nothing at the end of a block.
+/// Pushes the operations that the events reach. No event may insert at the end of a block.
 pub(crate) fn push_all_reached(
     world: &World,
     ops: &mut Vec<OpId>,

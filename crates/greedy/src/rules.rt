@@ -1,12 +1,12 @@
 //! The rules of a run.
 
-use patterns::rows::Rows;
+use patterns::rules_by_name::RulesByName;
 
-/// The rules that a run tries at an operation, in their order.
+/// The rules that a run tries at each operation, in order.
 #[derive(Clone, Copy)]
-pub enum Rules<'a> {
-    /// Those of canonicalization, by rising numbers.
-    OfCanonicalization,
-    /// Those of a list, in its order.
-    OfList(&'a Rows<'a>),
+pub enum RuleSet<'a> {
+    /// The rules of canonicalization, by ascending number.
+    Canonicalization,
+    /// The rules of a list, in the order of the list.
+    List(&'a RulesByName<'a>),
 }

@@ -1,4 +1,4 @@
-//! The driver.
+//! The greedy driver.
 ghost use Rattle.std.specs.Prelude.{◌≡◌, ◌≢◌, ◌⊎◌, ◌≤◌, ℕ, IfOk, IfErr, OnErr, OnOk, MatchResult, is_some, List, [], ◌++◌, ◌∷◌};
 ghost use Rattle.std.specs.Prelude.{true, false};
 ghost use Rattle.ir_event.specs.types.declared.refusal.Refusal.TheVariants.{Memory as NoMemory};
@@ -8,32 +8,32 @@ ghost use Rattle.patterns.specs.Rows.{AreCanonical};
 ghost use Rattle.greedy.specs.Outcomes.{Applied, ComeTo, IsCanonical, IsReason, IsReasonBy, IsRewriting, Refuses, Stop};
 ghost use Rattle.greedy.specs.Outcomes.{Tells};
 ghost use Rattle.greedy.specs.Rewriting.{next_by};
-ghost use Rattle.greedy.specs.Ruled.{MayTry, trial_of};
-ghost use Rattle.greedy.specs.Trial.{AreAttempts, Trial, attempts_of, by_attempts, by_rules};
+ghost use Rattle.greedy.specs.Ruled.{MayTry, pattern_set_of};
+ghost use Rattle.greedy.specs.PatternSet.{AreAttempts, PatternSetModel, patterns_of, by_attempts, by_rules};
 ghost use Rattle.greedy.specs.Trials.{StaysAway};
 ghost use Rattle.patterns.specs.rewriter.Moves.{Recorded};
 ghost use Rattle.patterns.specs.runs.Runs.{Noted};
 ghost use Rattle.greedy.specs.Work.{IsWork, Right, CoversBut, Rewritten, StillWaits, waits};
-ghost use Rattle.greedy.specs.Sights.{is_listed};
+ghost use Rattle.greedy.specs.LocalContext.{is_listed};
 ghost use Rattle.greedy.specs.Listing.{Touched};
-ghost use Rattle.greedy.specs.Tracing.{fired_next, trace_of};
+ghost use Rattle.greedy.specs.Tracing.{applied_next, trace_of};
 
-use crate::fired::Fired;
-use crate::first::first_of;
+use crate::applied_rewrite::AppliedRewrite;
+use crate::first::apply_first;
+use crate::greedy_rewriter::GreedyRewriter;
 use crate::outcome::Outcome;
-use crate::rewriting::Rewriting;
-use crate::rules::Rules;
-use crate::tracer::{Silent, Tracer};
-use crate::tried::{Tried, Tries};
-use crate::work::{Work, add, settle, take};
+use crate::pattern_set::{PatternSet, RuleOrPattern};
+use crate::rules::RuleSet;
+use crate::tracer::{NoTracer, Tracer};
+use crate::worklist::{Worklist, drop_erased, pop, push};
 use ir_event::types::ids::OpId;
 use ir_event::types::refusal::Refusal;
-use patterns::rows::Rows;
+use patterns::rules_by_name::RulesByName;
 use patterns_base::rule::Rule;
 use std::alloc::Global;
 
-/// Lets all of a list wait that are in the module.
-fn add_all<R: Rewriting>(bench: &R, work: &mut Work, ops: &[OpId]) -> Result<(), Refusal>
+/// Adds to the worklist each operation of a list that is in the module.
+fn add_all<R: GreedyRewriter>(bench: &R, work: &mut Worklist, ops: &[OpId]) -> Result<(), Refusal>
     requires { IsWork work.old.passed work.old.again.items (R.held bench.now).tree }
     ensures work { IsWork work.new.passed work.new.again.items (R.held bench.now).tree }
     ensures added { OnOk result
@@ -45,7 +45,7 @@ fn add_all<R: Rewriting>(bench: &R, work: &mut Work, ops: &[OpId]) -> Result<(),
 {
     let mut rest = ops;
     'ops: while let [op, tail @ ..] = rest {
-        match add(bench, work, *op) {
+        match push(bench, work, *op) {
             Ok(()) => {}
             Err(refusal) => return Err(refusal),
         }
@@ -54,12 +54,12 @@ fn add_all<R: Rewriting>(bench: &R, work: &mut Work, ops: &[OpId]) -> Result<(),
     Ok(())
 }
 
-/// After a rewrite at an operation, before which another comes, all wait that did, and those at which the rules may now
-/// apply otherwise.
-fn renew<R: Rewriting>(
+/// Updates the worklist after a rewrite at `op`. Every waiting operation still waits, and every operation at which a
+/// rule may apply differently is added. `before` is an operation that precedes `op`.
+fn renew<R: GreedyRewriter>(
     alloc: Global,
     bench: &R,
-    work: &mut Work,
+    work: &mut Worklist,
     op: OpId,
     before: OpId,
     from: usize,
@@ -67,7 +67,7 @@ fn renew<R: Rewriting>(
     requires within { from ≤ R.events bench.now }
     requires rewritten { Rewritten op before (R.before bench.now from) (R.held bench.now) }
     requires work { IsWork work.old.passed work.old.again.items (R.before bench.now from).tree }
-    ensures ok { OnOk result ((a : Trial) → StaysAway a
+    ensures ok { OnOk result ((a : PatternSetModel) → StaysAway a
         → CoversBut a op work.old.passed work.old.again.items (R.before bench.now from)
         → Right a work.new.passed work.new.again.items (R.held bench.now)) }
     ensures refused { IfErr result (λ e. e ≡ NoMemory) }
@@ -76,8 +76,8 @@ fn renew<R: Rewriting>(
         Ok(listed) => listed,
         Err(refusal) => return Err(refusal),
     };
-    settle(bench, work, before);
-    match add(bench, work, op) {
+    drop_erased(bench, work, before);
+    match push(bench, work, op) {
         Ok(()) => {}
         Err(refusal) => return Err(refusal),
     }
@@ -87,39 +87,39 @@ fn renew<R: Rewriting>(
     }
 }
 
-/// Whether a rule applies anywhere; if so, one rewrite: the first operation in pre-order at which a rule applies, with
-/// the first such rule. The answer tells of it.
-fn one<R: Rewriting>(
+/// Makes one rewrite: at the first operation in pre-order at which an entry of the pattern set applies, with the first
+/// such entry. Returns the record of the rewrite, or `None` if no entry applies at any operation.
+fn one<R: GreedyRewriter>(
     alloc: Global,
     bench: &mut R,
-    tries: &Tries<'_>,
-    work: &mut Work,
+    pattern_set: &PatternSet<'_>,
+    work: &mut Worklist,
     examined: &mut u64,
-) -> Result<Option<Fired>, Refusal>
+) -> Result<Option<AppliedRewrite>, Refusal>
     requires marked { R.marks bench.old ≢ [] }
-    requires ruled { MayTry tries.now }
-    requires right { Right (trial_of tries.now) work.old.passed work.old.again.items (R.held bench.old) }
+    requires ruled { MayTry pattern_set.now }
+    requires right { Right (pattern_set_of pattern_set.now) work.old.passed work.old.again.items (R.held bench.old) }
     ensures ok { IfOk result
-        (λ f. Applied (next_by (trial_of tries.now) (R.held bench.old)) (is_some f) (R.held bench.old)
+        (λ f. Applied (next_by (pattern_set_of pattern_set.now) (R.held bench.old)) (is_some f) (R.held bench.old)
         (R.held bench.new)) }
-    ensures fired { IfOk result (λ f. f ≡ fired_next (trial_of tries.now) (R.held bench.old)) }
+    ensures applied { IfOk result (λ f. f ≡ applied_next (pattern_set_of pattern_set.now) (R.held bench.old)) }
     ensures refused { IfErr result
-        (λ e. Refuses (next_by (trial_of tries.now) (R.held bench.old)) (R.full bench.new) e) }
+        (λ e. Refuses (next_by (pattern_set_of pattern_set.now) (R.held bench.old)) (R.full bench.new) e) }
     ensures right { IfOk result (λ f. is_some f ≡ true
-        → Right (trial_of tries.now) work.new.passed work.new.again.items (R.held bench.new)) }
+        → Right (pattern_set_of pattern_set.now) work.new.passed work.new.again.items (R.held bench.new)) }
     ensures marks { R.marks bench.new ≡ R.marks bench.old }
-    ensures journal { Noted (R.desk bench.old) (R.desk bench.new) }
+    ensures journal { Noted (R.transaction bench.old) (R.transaction bench.new) }
     ensures onward { R.onward bench.old bench.new }
 {
-    'waiting: while let Some(op) = take(bench, work) {
+    'waiting: while let Some(op) = pop(bench, work) {
         bench.is_formed();
         if let Some(before) = bench.preceding(op) {
             *examined = examined.saturating_add(1);
             let from = bench.journal_len();
             let next = bench.next_id();
-            match first_of(alloc, bench, tries, op) {
+            match apply_first(alloc, bench, pattern_set, op) {
                 Ok(Some(by)) => {
-                    let fired = Fired {
+                    let applied = AppliedRewrite {
                         by,
                         op,
                         from: next,
@@ -127,7 +127,7 @@ fn one<R: Rewriting>(
                         stays: bench.in_tree(op),
                     };
                     return match renew(alloc, bench, work, op, before, from) {
-                        Ok(()) => Ok(Some(fired)),
+                        Ok(()) => Ok(Some(applied)),
                         Err(refusal) => Err(refusal),
                     };
                 }
@@ -139,8 +139,8 @@ fn one<R: Rewriting>(
     Ok(None)
 }
 
-/// What a try says that was refused: a rule applies, but for want of memory.
-fn tried(refusal: Refusal) -> Result<bool, Refusal>
+/// Converts the refusal of an attempt. Every refusal but `Memory` means that an entry of the pattern set applies.
+fn applies_or_memory(refusal: Refusal) -> Result<bool, Refusal>
     ensures ok { IfOk result (λ any. (any ≡ true) × (refusal ≢ NoMemory)) }
     ensures refused { IfErr result (λ e. e ≡ NoMemory) }
 {
@@ -150,20 +150,20 @@ fn tried(refusal: Refusal) -> Result<bool, Refusal>
     }
 }
 
-/// Whether a rule applies anywhere. The module is held again afterwards.
-fn applies<R: Rewriting>(
+/// Returns whether an entry of the pattern set applies at any operation. The module is restored afterwards.
+fn applies<R: GreedyRewriter>(
     alloc: Global,
     bench: &mut R,
-    tries: &Tries<'_>,
-    work: &mut Work,
+    pattern_set: &PatternSet<'_>,
+    work: &mut Worklist,
     examined: &mut u64,
 ) -> Result<bool, Refusal>
-    requires ruled { MayTry tries.now }
-    requires right { Right (trial_of tries.now) work.old.passed work.old.again.items (R.held bench.old) }
-    ensures ok { IfOk result (λ any. Tells (next_by (trial_of tries.now) (R.held bench.old)) any) }
+    requires ruled { MayTry pattern_set.now }
+    requires right { Right (pattern_set_of pattern_set.now) work.old.passed work.old.again.items (R.held bench.old) }
+    ensures ok { IfOk result (λ any. Tells (next_by (pattern_set_of pattern_set.now) (R.held bench.old)) any) }
     ensures held { R.held bench.new ≡ R.held bench.old }
     ensures marks { R.marks bench.new ≡ R.marks bench.old }
-    ensures left { Recorded [] (R.desk bench.old) (R.desk bench.new) }
+    ensures left { Recorded [] (R.transaction bench.old) (R.transaction bench.new) }
     ensures onward { R.onward bench.old bench.new }
     ensures refused { IfErr result (λ e. e ≡ NoMemory) }
 {
@@ -171,38 +171,38 @@ fn applies<R: Rewriting>(
         Ok(()) => {}
         Err(_) => return Err(Refusal::Memory),
     }
-    let done = one(alloc, bench, tries, work, examined);
+    let done = one(alloc, bench, pattern_set, work, examined);
     bench.rollback();
     match done {
-        Ok(fired) => Ok(fired.is_some()),
-        Err(refusal) => tried(refusal),
+        Ok(applied) => Ok(applied.is_some()),
+        Err(refusal) => applies_or_memory(refusal),
     }
 }
 
-/// Up to so many rewrites, each of which is taken down.
-fn rewrites<R: Rewriting, T: Tracer>(
+/// Makes at most `limit` rewrites and passes each to `trace`.
+fn rewrites<R: GreedyRewriter, T: Tracer>(
     alloc: Global,
     bench: &mut R,
-    tries: &Tries<'_>,
-    work: &mut Work,
+    pattern_set: &PatternSet<'_>,
+    work: &mut Worklist,
     examined: &mut u64,
     limit: u32,
     trace: &mut T,
 ) -> Result<Outcome, Refusal>
     requires marked { R.marks bench.old ≢ [] }
-    requires ruled { MayTry tries.now }
-    requires right { Right (trial_of tries.now) work.old.passed work.old.again.items (R.held bench.old) }
-    ensures ok { IfOk result (λ o. ComeTo (trial_of tries.now) limit (R.held bench.old) o (R.held bench.new)) }
-    ensures trace { OnOk result (T.traced (trace_of (trial_of tries.now) limit (R.held bench.old)) trace.old trace.new) }
-    ensures refused { IfErr result (λ e. Stop (trial_of tries.now) limit (R.held bench.old) (R.full bench.new) e) }
+    requires ruled { MayTry pattern_set.now }
+    requires right { Right (pattern_set_of pattern_set.now) work.old.passed work.old.again.items (R.held bench.old) }
+    ensures ok { IfOk result (λ o. ComeTo (pattern_set_of pattern_set.now) limit (R.held bench.old) o (R.held bench.new)) }
+    ensures trace { OnOk result (T.traced (trace_of (pattern_set_of pattern_set.now) limit (R.held bench.old)) trace.old trace.new) }
+    ensures refused { IfErr result (λ e. Stop (pattern_set_of pattern_set.now) limit (R.held bench.old) (R.full bench.new) e) }
     ensures marks { R.marks bench.new ≡ R.marks bench.old }
-    ensures journal { Noted (R.desk bench.old) (R.desk bench.new) }
+    ensures journal { Noted (R.transaction bench.old) (R.transaction bench.new) }
     ensures onward { R.onward bench.old bench.new }
 {
     let mut count = 0;
     'rewrites: while count < limit {
-        match one(alloc, bench, tries, work, examined) {
-            Ok(Some(fired)) => match trace.note(fired) {
+        match one(alloc, bench, pattern_set, work, examined) {
+            Ok(Some(applied)) => match trace.record_rewrite(applied) {
                 Ok(()) => {}
                 Err(refusal) => return Err(refusal),
             },
@@ -211,58 +211,58 @@ fn rewrites<R: Rewriting, T: Tracer>(
         }
         count += 1;
     }
-    match applies(alloc, bench, tries, work, examined) {
+    match applies(alloc, bench, pattern_set, work, examined) {
         Ok(true) => Ok(Outcome::Limit(count)),
         Ok(false) => Ok(Outcome::Converged(count)),
         Err(_) => Err(Refusal::Memory),
     }
 }
 
-/// Up to so many rewrites, from a module at whose every operation a rule may apply.
-fn rewritten<R: Rewriting, T: Tracer>(
+/// Makes at most `limit` rewrites, starting with a worklist of all operations.
+fn rewritten<R: GreedyRewriter, T: Tracer>(
     alloc: Global,
     bench: &mut R,
-    tries: &Tries<'_>,
+    pattern_set: &PatternSet<'_>,
     examined: &mut u64,
     limit: u32,
     trace: &mut T,
 ) -> Result<Outcome, Refusal>
     requires marked { R.marks bench.old ≢ [] }
-    requires ruled { MayTry tries.now }
-    ensures ok { IfOk result (λ o. ComeTo (trial_of tries.now) limit (R.held bench.old) o (R.held bench.new)) }
-    ensures trace { OnOk result (T.traced (trace_of (trial_of tries.now) limit (R.held bench.old)) trace.old trace.new) }
-    ensures refused { IfErr result (λ e. Stop (trial_of tries.now) limit (R.held bench.old) (R.full bench.new) e) }
+    requires ruled { MayTry pattern_set.now }
+    ensures ok { IfOk result (λ o. ComeTo (pattern_set_of pattern_set.now) limit (R.held bench.old) o (R.held bench.new)) }
+    ensures trace { OnOk result (T.traced (trace_of (pattern_set_of pattern_set.now) limit (R.held bench.old)) trace.old trace.new) }
+    ensures refused { IfErr result (λ e. Stop (pattern_set_of pattern_set.now) limit (R.held bench.old) (R.full bench.new) e) }
     ensures marks { R.marks bench.new ≡ R.marks bench.old }
-    ensures journal { Noted (R.desk bench.old) (R.desk bench.new) }
+    ensures journal { Noted (R.transaction bench.old) (R.transaction bench.new) }
     ensures onward { R.onward bench.old bench.new }
 {
     bench.is_formed();
-    let mut work = Work {
+    let mut work = Worklist {
         passed: bench.root(),
         again: Vec::new(alloc),
     };
-    rewrites(alloc, bench, tries, &mut work, examined, limit, trace)
+    rewrites(alloc, bench, pattern_set, &mut work, examined, limit, trace)
 }
 
-/// Rewrites by what is tried, as often as some of it applies and up to a limit: the first operation in pre-order at
-/// which some applies, with the first that does. Each rewrite is taken down. The answer is also how many operations were
-/// looked at. Refused, all is as it was.
-pub fn run_told_by<R: Rewriting, T: Tracer>(
+/// Applies the pattern set until no entry applies, or until `limit` rewrites are made. Each step takes the first
+/// operation in pre-order at which an entry applies, and applies the first such entry. Passes each rewrite to `trace`.
+/// Returns the outcome and the number of operations that the run examined. If the run is refused, nothing changes.
+pub fn run_patterns_traced<R: GreedyRewriter, T: Tracer>(
     alloc: Global,
     bench: &mut R,
-    tries: &Tries<'_>,
+    pattern_set: &PatternSet<'_>,
     limit: u32,
     trace: &mut T,
 ) -> Result<(Outcome, u64), Refusal>
-    requires { MayTry tries.now }
-    ensures ok { IfOk result (λ o. IsRewriting (trial_of tries.now) limit (R.held bench.old) o.0 (R.held bench.new)) }
-    ensures trace { OnOk result (T.traced (trace_of (trial_of tries.now) limit (R.held bench.old)) trace.old trace.new) }
+    requires { MayTry pattern_set.now }
+    ensures ok { IfOk result (λ o. IsRewriting (pattern_set_of pattern_set.now) limit (R.held bench.old) o.0 (R.held bench.new)) }
+    ensures trace { OnOk result (T.traced (trace_of (pattern_set_of pattern_set.now) limit (R.held bench.old)) trace.old trace.new) }
     ensures err { OnErr result (R.held bench.new ≡ R.held bench.old) }
     ensures refused { IfErr result
-        (λ e. IsReasonBy (trial_of tries.now) limit (R.held bench.old) (R.full bench.new) e) }
+        (λ e. IsReasonBy (pattern_set_of pattern_set.now) limit (R.held bench.old) (R.full bench.new) e) }
     ensures marks { R.marks bench.new ≡ R.marks bench.old }
-    ensures journal { MatchResult result (λ _. Noted (R.desk bench.old) (R.desk bench.new))
-        (λ _. Recorded [] (R.desk bench.old) (R.desk bench.new)) }
+    ensures journal { MatchResult result (λ _. Noted (R.transaction bench.old) (R.transaction bench.new))
+        (λ _. Recorded [] (R.transaction bench.old) (R.transaction bench.new)) }
     ensures onward { R.onward bench.old bench.new }
 {
     if limit < 1 || limit > 1_000_000 {
@@ -273,7 +273,7 @@ pub fn run_told_by<R: Rewriting, T: Tracer>(
         Err(_) => return Err(Refusal::Memory),
     }
     let mut examined = 0;
-    match rewritten(alloc, bench, tries, &mut examined, limit, trace) {
+    match rewritten(alloc, bench, pattern_set, &mut examined, limit, trace) {
         Ok(outcome) => {
             bench.commit();
             Ok((outcome, examined))
@@ -285,34 +285,35 @@ pub fn run_told_by<R: Rewriting, T: Tracer>(
     }
 }
 
-/// Rewrites by what is tried, as often as some of it applies and up to a limit: the first operation in pre-order at
-/// which some applies, with the first that does. The answer is also how many operations were looked at. Refused, all is as it
-/// was.
-pub fn run_counted_by<R: Rewriting>(
+/// Applies the pattern set until no entry applies, or until `limit` rewrites are made. Each step takes the first
+/// operation in pre-order at which an entry applies, and applies the first such entry. Returns the outcome and the
+/// number of operations that the run examined. If the run is refused, nothing changes.
+pub fn run_patterns_limited<R: GreedyRewriter>(
     alloc: Global,
     bench: &mut R,
-    tries: &Tries<'_>,
+    pattern_set: &PatternSet<'_>,
     limit: u32,
 ) -> Result<(Outcome, u64), Refusal>
-    requires { MayTry tries.now }
-    ensures ok { IfOk result (λ o. IsRewriting (trial_of tries.now) limit (R.held bench.old) o.0 (R.held bench.new)) }
+    requires { MayTry pattern_set.now }
+    ensures ok { IfOk result (λ o. IsRewriting (pattern_set_of pattern_set.now) limit (R.held bench.old) o.0 (R.held bench.new)) }
     ensures err { OnErr result (R.held bench.new ≡ R.held bench.old) }
     ensures refused { IfErr result
-        (λ e. IsReasonBy (trial_of tries.now) limit (R.held bench.old) (R.full bench.new) e) }
+        (λ e. IsReasonBy (pattern_set_of pattern_set.now) limit (R.held bench.old) (R.full bench.new) e) }
     ensures marks { R.marks bench.new ≡ R.marks bench.old }
-    ensures journal { MatchResult result (λ _. Noted (R.desk bench.old) (R.desk bench.new))
-        (λ _. Recorded [] (R.desk bench.old) (R.desk bench.new)) }
+    ensures journal { MatchResult result (λ _. Noted (R.transaction bench.old) (R.transaction bench.new))
+        (λ _. Recorded [] (R.transaction bench.old) (R.transaction bench.new)) }
     ensures onward { R.onward bench.old bench.new }
 {
-    match run_told_by(alloc, bench, tries, limit, &mut Silent) {
+    match run_patterns_traced(alloc, bench, pattern_set, limit, &mut NoTracer) {
         Ok(counted) => Ok(counted),
         Err(refusal) => Err(refusal),
     }
 }
 
-/// Rewrites by the rules of a list, as often as one applies and up to a limit: the first operation in pre-order at which
-/// one applies, with the first of the list that does. Each rewrite is taken down. Refused, all is as it was.
-pub fn run_list_told<R: Rewriting, T: Tracer>(
+/// Applies the rules of a list until none applies, or until `limit` rewrites are made. Each step takes the first
+/// operation in pre-order at which a rule applies, and applies the first such rule of the list. Passes each rewrite to
+/// `trace`. If the run is refused, nothing changes.
+pub fn run_list_traced<R: GreedyRewriter, T: Tracer>(
     alloc: Global,
     bench: &mut R,
     rules: &[Rule],
@@ -325,20 +326,20 @@ pub fn run_list_told<R: Rewriting, T: Tracer>(
     ensures err { OnErr result (R.held bench.new ≡ R.held bench.old) }
     ensures refused { IfErr result (λ e. IsReasonBy (by_rules rules.now) limit (R.held bench.old) (R.full bench.new) e) }
     ensures marks { R.marks bench.new ≡ R.marks bench.old }
-    ensures journal { MatchResult result (λ _. Noted (R.desk bench.old) (R.desk bench.new))
-        (λ _. Recorded [] (R.desk bench.old) (R.desk bench.new)) }
+    ensures journal { MatchResult result (λ _. Noted (R.transaction bench.old) (R.transaction bench.new))
+        (λ _. Recorded [] (R.transaction bench.old) (R.transaction bench.new)) }
     ensures onward { R.onward bench.old bench.new }
 {
     if limit < 1 || limit > 1_000_000 {
         return Err(Refusal::BadLimit);
     }
-    let Ok(rows) = Rows::new(alloc, rules) else {
+    let Ok(rows) = RulesByName::new(alloc, rules) else {
         return Err(Refusal::Memory);
     };
-    match run_told_by(
+    match run_patterns_traced(
         alloc,
         bench,
-        &Tries::OfRules(Rules::OfList(&rows)),
+        &PatternSet::Rules(RuleSet::List(&rows)),
         limit,
         trace,
     ) {
@@ -347,9 +348,10 @@ pub fn run_list_told<R: Rewriting, T: Tracer>(
     }
 }
 
-/// Rewrites by the rules of a list, as often as one applies and up to a limit: the first operation in pre-order at which
-/// one applies, with the first of the list that does. Refused, all is as it was.
-pub fn run_list<R: Rewriting>(
+/// Applies the rules of a list until none applies, or until `limit` rewrites are made. Each step takes the first
+/// operation in pre-order at which a rule applies, and applies the first such rule of the list. If the run is refused,
+/// nothing changes.
+pub fn run_list<R: GreedyRewriter>(
     alloc: Global,
     bench: &mut R,
     rules: &[Rule],
@@ -360,45 +362,52 @@ pub fn run_list<R: Rewriting>(
     ensures err { OnErr result (R.held bench.new ≡ R.held bench.old) }
     ensures refused { IfErr result (λ e. IsReasonBy (by_rules rules.now) limit (R.held bench.old) (R.full bench.new) e) }
     ensures marks { R.marks bench.new ≡ R.marks bench.old }
-    ensures journal { MatchResult result (λ _. Noted (R.desk bench.old) (R.desk bench.new))
-        (λ _. Recorded [] (R.desk bench.old) (R.desk bench.new)) }
+    ensures journal { MatchResult result (λ _. Noted (R.transaction bench.old) (R.transaction bench.new))
+        (λ _. Recorded [] (R.transaction bench.old) (R.transaction bench.new)) }
     ensures onward { R.onward bench.old bench.new }
 {
-    run_list_told(alloc, bench, rules, limit, &mut Silent)
+    run_list_traced(alloc, bench, rules, limit, &mut NoTracer)
 }
 
-/// Rewrites by the rules and patterns of a list, as often as one applies and up to a limit: the first operation in
-/// pre-order at which one applies, with the first of the list that does. Each rewrite is taken down. Refused, all is as
-/// it was.
-pub fn run_tried_told<R: Rewriting, T: Tracer>(
+/// Applies the rules and user patterns of a list until none applies, or until `limit` rewrites are made. Each step
+/// takes the first operation in pre-order at which an entry applies, and applies the first such entry. Passes each
+/// rewrite to `trace`. If the run is refused, nothing changes.
+pub fn run_list_of_patterns_traced<R: GreedyRewriter, T: Tracer>(
     alloc: Global,
     bench: &mut R,
-    tried: &[Tried<'_>],
+    candidates: &[RuleOrPattern<'_>],
     limit: u32,
     trace: &mut T,
 ) -> Result<Outcome, Refusal>
-    requires { AreAttempts (attempts_of tried.now) }
+    requires { AreAttempts (patterns_of candidates.now) }
     ensures ok { IfOk result
-        (λ o. IsRewriting (by_attempts (attempts_of tried.now)) limit (R.held bench.old) o (R.held bench.new)) }
+        (λ o. IsRewriting (by_attempts (patterns_of candidates.now)) limit (R.held bench.old) o (R.held bench.new)) }
     ensures trace { OnOk result
-        (T.traced (trace_of (by_attempts (attempts_of tried.now)) limit (R.held bench.old)) trace.old trace.new) }
+        (T.traced (trace_of (by_attempts (patterns_of candidates.now)) limit (R.held bench.old)) trace.old trace.new) }
     ensures err { OnErr result (R.held bench.new ≡ R.held bench.old) }
     ensures refused { IfErr result
-        (λ e. IsReasonBy (by_attempts (attempts_of tried.now)) limit (R.held bench.old) (R.full bench.new) e) }
+        (λ e. IsReasonBy (by_attempts (patterns_of candidates.now)) limit (R.held bench.old) (R.full bench.new) e) }
     ensures marks { R.marks bench.new ≡ R.marks bench.old }
-    ensures journal { MatchResult result (λ _. Noted (R.desk bench.old) (R.desk bench.new))
-        (λ _. Recorded [] (R.desk bench.old) (R.desk bench.new)) }
+    ensures journal { MatchResult result (λ _. Noted (R.transaction bench.old) (R.transaction bench.new))
+        (λ _. Recorded [] (R.transaction bench.old) (R.transaction bench.new)) }
     ensures onward { R.onward bench.old bench.new }
 {
-    match run_told_by(alloc, bench, &Tries::OfTried(tried), limit, trace) {
+    match run_patterns_traced(
+        alloc,
+        bench,
+        &PatternSet::Patterns(candidates),
+        limit,
+        trace,
+    ) {
         Ok((outcome, _)) => Ok(outcome),
         Err(refusal) => Err(refusal),
     }
 }
 
-/// Rewrites by the rules of canonicalization, as often as one applies and up to a limit: the first operation in
-/// pre-order at which a rule applies, with the lowest such rule. Each rewrite is taken down. Refused, all is as it was.
-pub fn run_told<R: Rewriting, T: Tracer>(
+/// Applies the rules of canonicalization until none applies, or until `limit` rewrites are made. Each step takes the
+/// first operation in pre-order at which a rule applies, and applies the highest-priority rule. Passes each rewrite to
+/// `trace`. If the run is refused, nothing changes.
+pub fn run_traced<R: GreedyRewriter, T: Tracer>(
     alloc: Global,
     bench: &mut R,
     limit: u32,
@@ -409,14 +418,14 @@ pub fn run_told<R: Rewriting, T: Tracer>(
     ensures err { OnErr result (R.held bench.new ≡ R.held bench.old) }
     ensures refused { IfErr result (λ e. IsReason limit (R.held bench.old) (R.full bench.new) e) }
     ensures marks { R.marks bench.new ≡ R.marks bench.old }
-    ensures journal { MatchResult result (λ _. Noted (R.desk bench.old) (R.desk bench.new))
-        (λ _. Recorded [] (R.desk bench.old) (R.desk bench.new)) }
+    ensures journal { MatchResult result (λ _. Noted (R.transaction bench.old) (R.transaction bench.new))
+        (λ _. Recorded [] (R.transaction bench.old) (R.transaction bench.new)) }
     ensures onward { R.onward bench.old bench.new }
 {
-    match run_told_by(
+    match run_patterns_traced(
         alloc,
         bench,
-        &Tries::OfRules(Rules::OfCanonicalization),
+        &PatternSet::Rules(RuleSet::Canonicalization),
         limit,
         trace,
     ) {
@@ -425,10 +434,10 @@ pub fn run_told<R: Rewriting, T: Tracer>(
     }
 }
 
-/// Rewrites by the rules of canonicalization, as often as one applies and up to a limit: the first operation in
-/// pre-order at which a rule applies, with the lowest such rule. The answer is also how many operations were looked
-/// at. Refused, all is as it was.
-pub fn run_counted<R: Rewriting>(
+/// Applies the rules of canonicalization until none applies, or until `limit` rewrites are made. Each step takes the
+/// first operation in pre-order at which a rule applies, and applies the highest-priority rule. Returns the outcome
+/// and the number of operations that the run examined. If the run is refused, nothing changes.
+pub fn run_limited<R: GreedyRewriter>(
     alloc: Global,
     bench: &mut R,
     limit: u32,
@@ -437,14 +446,14 @@ pub fn run_counted<R: Rewriting>(
     ensures err { OnErr result (R.held bench.new ≡ R.held bench.old) }
     ensures refused { IfErr result (λ e. IsReason limit (R.held bench.old) (R.full bench.new) e) }
     ensures marks { R.marks bench.new ≡ R.marks bench.old }
-    ensures journal { MatchResult result (λ _. Noted (R.desk bench.old) (R.desk bench.new))
-        (λ _. Recorded [] (R.desk bench.old) (R.desk bench.new)) }
+    ensures journal { MatchResult result (λ _. Noted (R.transaction bench.old) (R.transaction bench.new))
+        (λ _. Recorded [] (R.transaction bench.old) (R.transaction bench.new)) }
     ensures onward { R.onward bench.old bench.new }
 {
-    match run_counted_by(
+    match run_patterns_limited(
         alloc,
         bench,
-        &Tries::OfRules(Rules::OfCanonicalization),
+        &PatternSet::Rules(RuleSet::Canonicalization),
         limit,
     ) {
         Ok(counted) => Ok(counted),
@@ -452,18 +461,19 @@ pub fn run_counted<R: Rewriting>(
     }
 }
 
-/// Rewrites by the rules of canonicalization, as often as one applies and up to a limit: the first operation in
-/// pre-order at which a rule applies, with the lowest such rule. Refused, all is as it was.
-pub fn run<R: Rewriting>(alloc: Global, bench: &mut R, limit: u32) -> Result<Outcome, Refusal>
+/// Applies the rules of canonicalization until none applies, or until `limit` rewrites are made. Each step takes the
+/// first operation in pre-order at which a rule applies, and applies the highest-priority rule. If the run is refused,
+/// nothing changes.
+pub fn run<R: GreedyRewriter>(alloc: Global, bench: &mut R, limit: u32) -> Result<Outcome, Refusal>
     ensures ok { IfOk result (λ o. IsCanonical limit (R.held bench.old) o (R.held bench.new)) }
     ensures err { OnErr result (R.held bench.new ≡ R.held bench.old) }
     ensures refused { IfErr result (λ e. IsReason limit (R.held bench.old) (R.full bench.new) e) }
     ensures marks { R.marks bench.new ≡ R.marks bench.old }
-    ensures journal { MatchResult result (λ _. Noted (R.desk bench.old) (R.desk bench.new))
-        (λ _. Recorded [] (R.desk bench.old) (R.desk bench.new)) }
+    ensures journal { MatchResult result (λ _. Noted (R.transaction bench.old) (R.transaction bench.new))
+        (λ _. Recorded [] (R.transaction bench.old) (R.transaction bench.new)) }
     ensures onward { R.onward bench.old bench.new }
 {
-    match run_counted(alloc, bench, limit) {
+    match run_limited(alloc, bench, limit) {
         Ok((outcome, _)) => Ok(outcome),
         Err(refusal) => Err(refusal),
     }

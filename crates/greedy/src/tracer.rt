@@ -1,43 +1,43 @@
-//! What takes down the rewrites of a run.
+//! Recording of the rewrites of a run.
 ghost use Rattle.std.specs.Prelude.{◌≡◌, ◌++◌, ◌∷◌, [], List, IfErr, OnOk, ⊤};
 ghost use Rattle.ir_event.specs.types.declared.refusal.Refusal.TheVariants.{Memory as NoMemory};
-ghost use Rattle.greedy.specs.declared.fired.Fired.{Fired as Told};
+ghost use Rattle.greedy.specs.declared.applied_rewrite.AppliedRewrite.{AppliedRewrite as Told};
 
-use crate::fired::Fired;
+use crate::applied_rewrite::AppliedRewrite;
 use ir_event::types::refusal::Refusal;
 
-/// What takes down rewrites, one after another.
+/// A recorder of rewrites.
 pub trait Tracer {
-    /// That it took down some rewrites, in their order, since it was another.
+    /// Says that the recorder recorded the listed rewrites, in order, between two of its states.
     ghost traced: { List Told → Self → Self → Type 0 };
 
     ghost untouched: { (t : Self) → traced [] t t };
 
     ghost joined: { (fs gs : List Told) (a b d : Self) → traced fs a b → traced gs b d → traced (fs ++ gs) a d };
 
-    /// Takes a rewrite down.
-    fn note(&mut self, fired: Fired) -> Result<(), Refusal>
-        ensures told { OnOk result (traced (fired ∷ []) self.old self.new) }
+    /// Records one rewrite.
+    fn record_rewrite(&mut self, applied: AppliedRewrite) -> Result<(), Refusal>
+        ensures told { OnOk result (traced (applied ∷ []) self.old self.new) }
         ensures refused { IfErr result (λ e. e ≡ NoMemory) };
 }
 
-/// Takes nothing down.
+/// A tracer that records nothing.
 #[derive(Drop)]
-pub struct Silent;
+pub struct NoTracer;
 
-impl Tracer for Silent {
+impl Tracer for NoTracer {
     ghost traced = { λ fs a b. ⊤ };
 
     ghost untouched = { λ t. tt };
 
     ghost joined = { λ fs gs a b d f g. tt };
 
-    fn note(&mut self, _fired: Fired) -> Result<(), Refusal> {
+    fn record_rewrite(&mut self, _applied: AppliedRewrite) -> Result<(), Refusal> {
         Ok(())
     }
 }
 
-impl Tracer for Vec<Fired> {
+impl Tracer for Vec<AppliedRewrite> {
     ghost use Rattle.greedy.specs.Traced.{joined_items, untouched_items};
 
     ghost traced = { λ fs a b. b.items ≡ a.items ++ fs };
@@ -46,8 +46,8 @@ impl Tracer for Vec<Fired> {
 
     ghost joined = { λ fs gs a b d f g. joined_items fs gs a.items b.items d.items f g };
 
-    fn note(&mut self, fired: Fired) -> Result<(), Refusal> {
-        match self.push(fired) {
+    fn record_rewrite(&mut self, applied: AppliedRewrite) -> Result<(), Refusal> {
+        match self.push(applied) {
             Ok(()) => Ok(()),
             Err(_) => Err(Refusal::Memory),
         }

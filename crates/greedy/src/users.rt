@@ -1,6 +1,6 @@
-//! Operations with those that use their results.
+//! Lists the users of operations.
 ghost use Rattle.std.specs.Prelude.{◌≡◌, OnOk, drop};
-ghost use Rattle.greedy.specs.Sights.{Uses};
+ghost use Rattle.greedy.specs.LocalContext.{Uses};
 ghost use Rattle.greedy.specs.Adding.{Adds, OneOf};
 ghost use Rattle.greedy.specs.Parts.{IsIn, IsUser};
 
@@ -12,7 +12,7 @@ use ir_event::types::ids::OpId;
 use ir_event::world::World;
 use std::alloc::AllocError;
 
-/// Lists the operations of some uses.
+/// Pushes the operation of each use.
 fn push_used(ops: &mut Vec<OpId>, uses: UsesOf<'_>) -> Result<(), AllocError>
     ensures { OnOk result (Adds (IsIn uses.entry) ops.old.items ops.new.items) }
 {
@@ -22,14 +22,14 @@ fn push_used(ops: &mut Vec<OpId>, uses: UsesOf<'_>) -> Result<(), AllocError>
     Ok(())
 }
 
-/// Lists the operations that use a value.
+/// Pushes the operations that use `value`.
 fn push_uses(store: &Store, ops: &mut Vec<OpId>, value: Value) -> Result<(), AllocError>
     ensures { OnOk result (Adds (IsUser value store.now.module_of.tree) ops.old.items ops.new.items) }
 {
     push_used(ops, store.uses(value))
 }
 
-/// Lists the operations that use a result of an operation.
+/// Pushes the operations that use a result of `op`.
 fn push_users(world: &World, ops: &mut Vec<OpId>, op: OpId) -> Result<(), AllocError>
     ensures { OnOk result (Adds (λ x. Uses x op world.now.store.module_of.tree) ops.old.items ops.new.items) }
 {
@@ -45,7 +45,7 @@ fn push_users(world: &World, ops: &mut Vec<OpId>, op: OpId) -> Result<(), AllocE
     Ok(())
 }
 
-/// Lists the operations that use results of those that are listed, from a place on.
+/// Pushes the users of each listed operation, from index `from` on.
 pub(crate) fn push_users_from(
     world: &World,
     ops: &mut Vec<OpId>,

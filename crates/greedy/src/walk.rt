@@ -1,4 +1,4 @@
-//! The operations next to one in pre-order.
+//! Pre-order steps from an operation.
 ghost use Rattle.std.specs.Prelude.{◌≡◌, ◌≤◌, ◌<◌, ◌+◌, true, IfSome, IfNone};
 ghost use Rattle.ir_event.specs.trees.Ids.{HasDistinctIds, find as the_first, has_id};
 ghost use Rattle.ir_event.specs.trees.Tree.{head};
@@ -8,7 +8,7 @@ ghost use Rattle.greedy.specs.Following.{HasFewRegions, count_of, first_inside, 
 use ir_event::store::store::Store;
 use ir_event::types::ids::OpId;
 
-/// How many regions an operation of the module has.
+/// Returns the number of regions of an operation of the module.
 fn count_regions(store: &Store, op: OpId) -> usize
     requires there { has_id op store.now.module_of.tree ≡ true }
     requires distinct { HasDistinctIds store.now.module_of.tree }
@@ -22,7 +22,7 @@ fn count_regions(store: &Store, op: OpId) -> usize
     }
 }
 
-/// The first operation in the regions of an operation of the module from one on.
+/// Returns the first operation inside the regions of `op`, from region `from` on.
 fn first_from(store: &Store, op: OpId, from: u32) -> Option<OpId>
     requires there { has_id op store.now.module_of.tree ≡ true }
     requires distinct { HasDistinctIds store.now.module_of.tree }
@@ -40,7 +40,7 @@ fn first_from(store: &Store, op: OpId, from: u32) -> Option<OpId>
     None
 }
 
-/// The operation after an operation of the module in pre-order.
+/// Returns the operation after `op` in pre-order, or `None` if `op` is the last.
 pub(crate) fn following(store: &Store, op: OpId) -> Option<OpId>
     requires there { has_id op store.now.module_of.tree ≡ true }
     requires distinct { HasDistinctIds store.now.module_of.tree }
@@ -63,8 +63,8 @@ pub(crate) fn following(store: &Store, op: OpId) -> Option<OpId>
     None
 }
 
-/// An operation that comes before an operation of the module in pre-order: the one before it in its block, or the one
-/// around it; the root has none.
+/// Returns an operation that comes before `op` in pre-order: the previous operation in its block, or else its parent.
+/// Returns `None` for the root.
 pub(crate) fn preceding(store: &Store, op: OpId) -> Option<OpId>
     requires there { has_id op store.now.module_of.tree ≡ true }
     requires distinct { HasDistinctIds store.now.module_of.tree }
@@ -80,7 +80,8 @@ pub(crate) fn preceding(store: &Store, op: OpId) -> Option<OpId>
     Some(parent)
 }
 
-/// Whether an operation comes before another in pre-order. Most often both stand in one block.
+/// Returns whether `op` comes before `other` in pre-order. Checks first whether they are in the same block, the common
+/// case.
 pub(crate) fn precedes(store: &Store, op: OpId, other: OpId) -> bool
     requires distinct { HasDistinctIds store.now.module_of.tree }
     ensures { result ≡ precedes op other store.now.module_of.tree }

@@ -1,11 +1,11 @@
--- Pairs in order of their first parts.
+-- Pairs sorted by their first components.
 use Rattle.std.proofs.Common.{◌≡◌, ℕ, ◌<◌, ◌≤◌, List, [], ◌∷◌, Bool, true, false, Option, Some, None, ◌⊎◌, inl, inr, refl, sym, ap, ◌∙◌, arith, cond, eqb, ltb-true, ltb-false}
 use Rattle.std.specs.Prelude.{nat_lt}
 use Rattle.std.proofs.lemmas.Bool.{eq-eqb, ne_eqb, cases_eq}
 use Rattle.ir_event.specs.Rows.{put_by_id, by_id}
 
 module _ {V : Type 0} where
-  -- what a list says of an id
+  -- the second component for an id
   abbrev pub look : ℕ → List (ℕ × V) → Option V
   look x [] = None
   look x (p ∷ ps) = cond (eqb x p.0) (Some p.1) (look x ps)
@@ -36,7 +36,7 @@ module _ {V : Type 0} where
   look_past : (x : ℕ) (p : ℕ × V) (ps : List (ℕ × V)) → (x ≡ p.0 → ⊥) → look x (p ∷ ps) ≡ look x ps
   look_past x p ps ne = ap (λ b. cond b (Some p.1) (look x ps)) (ne_eqb x p.0 ne)
 
-  -- lists that rise and say the same are the same
+  -- sorted lists with the same components for each id are equal
   pub rising_same : (ps qs : List (ℕ × V)) → Rising ps → Rising qs → ((x : ℕ) → look x ps ≡ look x qs) → ps ≡ qs
   rising_same [] [] r s h = refl
   rising_same [] (b ∷ bs) r s h = let bad : None ≡ Some b.1 = h b.0 ∙ look_here b bs in absurd cc
@@ -62,7 +62,7 @@ module _ {V : Type 0} where
           go true t = inl (ltb-true m n t)
           go false t = let l = ltb-false m n t in inr (elim (cases_eq n m) [ inl e ↦ absurd (ne (sym e)) | inr q ↦ omega (arith, l, q) ])
 
-  -- putting in order
+  -- insertion into a sorted list
   put_not_in : (x : ℕ) (p : ℕ × V) (ps : List (ℕ × V)) → (x ≡ p.0 → ⊥) → NotIn x ps → NotIn x (put_by_id p ps)
   put_not_in x p [] ne n = (ne, tt)
   put_not_in x p (q ∷ qs) ne n = elim (nat_lt q.0 p.0) as (λ b. NotIn x (cond b (q ∷ put_by_id p qs) (p ∷ q ∷ qs))) [ true ↦ (n.0, put_not_in x p qs ne n.1) | false ↦ (ne, n) ]

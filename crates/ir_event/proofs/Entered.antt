@@ -1,8 +1,8 @@
--- Setting an entry of a module of numbers, or taking it out, is a step of what it stands for.
+-- Setting or removing an entry of a module of ids is a step of its meaning.
 use Rattle.std.proofs.Common.{◌≡◌, refl, ap, sym, ◌∙◌, subst, ℕ, Bool, true, false, cond, ◌&&◌, List, [], ◌∷◌, length, Option, Some, None, option_map}
 use Rattle.std.specs.List.{list_all}
 use Rattle.std.proofs.lemmas.Bool.{ltb-true, lt-ltb}
-use Rattle.op_registry.specs.types.Things.{Things, IsName}
+use Rattle.op_registry.specs.types.Things.{ContextModel, IsName}
 use Rattle.op_registry.specs.types.Terms.{AttrTerm, name_term, type_term, attr_term}
 use Rattle.op_registry.specs.types.Words.{is_isolated}
 use Rattle.ir_store.specs.trees.declared.place.Part.{Part}
@@ -33,7 +33,7 @@ use Rattle.ir_event.specs.Modules.{Module, module_meaning}
 use Rattle.ir_event.specs.Step.{IsAttrOrNone, Step}
 use Rattle.ir_event.proofs.Steps.{formed_meaning, sorted_meaning}
 
--- what a dictionary has passes the test that its entries pass
+-- an entry of a dictionary passes the test that all its entries pass
 entry_passed : {N A : Type 0} (n : N → Bool) (q : A → Bool) (before : N → N → Bool) (k : N) (a : A) (es : List (N × A)) → list_all (entry_passes n q) es ≡ true → entry_at before k es ≡ Some a → q a ≡ true
 entry_passed n q before k a [] h e = absurd cc
 entry_passed n q before k a (d ∷ es) h e = go (same_key before k d.0) refl (entry_passed n q before k a es)
@@ -47,7 +47,7 @@ entry_passed n q before k a (d ∷ es) h e = go (same_key before k d.0) refl (en
         ap q (sym one) ∙ (both (n d.0) (q d.1) b.0).1)
     go false s later = later b.1 (sym (ap (λ c. cond c (Some d.1) (entry_at before k es)) s) ∙ e)
 
-part_passes : (c : Things) (part : Part) (o : Op) → op_passes (is_name c) (is_type c) (is_attr c) o ≡ true → list_all (entry_passes (is_name c) (is_attr c)) (part_of part (head o)) ≡ true
+part_passes : (c : ContextModel) (part : Part) (o : Op) → op_passes (is_name c) (is_type c) (is_attr c) o ≡ true → list_all (entry_passes (is_name c) (is_attr c)) (part_of part (head o)) ≡ true
 part_passes c part (op h rs) e = go part
   where
     passes : head_passes (is_name c) (is_type c) (is_attr c) h ≡ true
@@ -60,22 +60,22 @@ part_passes c part (op h rs) e = go part
     go Props = (both _ _ dictionaries).0
     go Attrs = (both _ _ dictionaries).1
 
--- an attribute that a tree's dictionary has is of the context in which the tree is sound
-attr_there : (c : Things) (x : ℕ) (part : Part) (k : ℕ) (t o : Op) → IsSoundIn c t → find x t ≡ Some o → (a : Option ℕ) → entry_at (key_before_in c) k (part_of part (head o)) ≡ a → IsAttrOrNone c a
+-- an attribute in a dictionary of a sound tree is of the context
+attr_there : (c : ContextModel) (x : ℕ) (part : Part) (k : ℕ) (t o : Op) → IsSoundIn c t → find x t ≡ Some o → (a : Option ℕ) → entry_at (key_before_in c) k (part_of part (head o)) ≡ a → IsAttrOrNone c a
 attr_there c x part k t o sound f None e = tt
 attr_there c x part k t o sound f (Some a) e =
     let w = found_stands x t o f in
     let p = all_each (λ (s : StandOf ℕ ℕ ℕ). op_passes (is_name c) (is_type c) (is_attr c) s.here) (stands [] t) (stands_every (op_passes (is_name c) (is_type c) (is_attr c)) [] t ∙ sound.known) w.0 w.1 in
     ltb-true a (length c.attrs) (entry_passed (is_name c) (is_attr c) (key_before_in c) k a (part_of part (head o)) (part_passes c part o (ap (op_passes (is_name c) (is_type c) (is_attr c)) (sym w.3) ∙ p)) e)
 
-key_is : (c : Things) (k : ℕ) → IsName c k → is_name c k ≡ true
+key_is : (c : ContextModel) (k : ℕ) → IsName c k → is_name c k ≡ true
 key_is c k h = lt-ltb k (length c.names) h
 
-pub attr_is : (c : Things) (a : Option ℕ) → IsAttrOrNone c a → (b : ℕ) → a ≡ Some b → is_attr c b ≡ true
+pub attr_is : (c : ContextModel) (a : Option ℕ) → IsAttrOrNone c a → (b : ℕ) → a ≡ Some b → is_attr c b ≡ true
 attr_is c None h b e = absurd cc
 attr_is c (Some a) h b e = let one : a ≡ b = cc in subst (λ d. is_attr c d ≡ true) one (lt-ltb a (length c.attrs) h)
 
-pub entry_steps : (c : Things) (x : ℕ) (part : Part) (k : ℕ) (a : Option ℕ) (m : Numbered) → IsWellFormed (isolated_in c) m → IsSoundIn c m.tree → IsName c k → IsAttrOrNone c a → set_entry_reason (key_before_in c) x part k a m.tree ≡ None
+pub entry_steps : (c : ContextModel) (x : ℕ) (part : Part) (k : ℕ) (a : Option ℕ) (m : Numbered) → IsWellFormed (isolated_in c) m → IsSoundIn c m.tree → IsName c k → IsAttrOrNone c a → set_entry_reason (key_before_in c) x part k a m.tree ≡ None
     → (old : Option ℕ) × (entry_in (key_before_in c) x part k m.tree ≡ Some old) × Step c (SetEntry x part k old a) (module_meaning c m) (module_meaning c (record m { tree = with_entry (key_before_in c) x part k a m.tree }))
 entry_steps c x part k a m w sound key attr e = (
   old,

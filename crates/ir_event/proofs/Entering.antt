@@ -1,10 +1,10 @@
--- A world in which an entry of a dictionary is set.
+-- An IR state in which an entry of a dictionary is set.
 use Rattle.std.proofs.Common.{◌≡◌, refl, ap, sym, ◌∙◌, subst, ℕ, Bool, false, Option, Some, None}
 use Rattle.std.specs.Prelude.{Result, Ok, Err, IfOk, OnOk, OnErr, IfSome, MatchResult, option_map}
 use Rattle.op_registry.specs.types.declared.refusal.Refusal.{Refusal}
 use Rattle.op_registry.specs.types.declared.refusal.Refusal.TheVariants.{NoSuchOp}
 use Rattle.op_registry.specs.types.Reasons.{IsRefusedFor}
-use Rattle.op_registry.specs.types.Things.{Things, IsName, IsAttr}
+use Rattle.op_registry.specs.types.Things.{ContextModel, IsName, IsAttr}
 use Rattle.ir_store.specs.trees.declared.place.Part.{Part}
 use Rattle.ir_store.specs.trees.declared.place.Part.TheVariants.{Props, Attrs}
 use Rattle.ir_store.specs.trees.Tree.{Op, op, head}
@@ -26,7 +26,7 @@ use Rattle.ir_event.specs.Step.{IsAttrOrNone, Step}
 use Rattle.ir_event.proofs.Entered.{entry_steps}
 use Rattle.ir_event.specs.Edits.{IsEntryEvent, IsEntryStep}
 
--- what a dictionary has, read off the node
+-- the entries of a dictionary, read from the node
 pub no_entry : (before : ℕ → ℕ → Bool) (x : ℕ) (part : Part) (k : ℕ) (t : Op) → has_id x t ≡ false → entry_in before x part k t ≡ None
 no_entry before x part k t absent = ap (option_map (λ (o : Op). entry_at before k (part_of part (head o)))) (absent_find x t absent)
 
@@ -44,7 +44,7 @@ attrs_entry before x k t n e = go (find x t) e
     go None f = absurd cc
     go (Some (op h rs)) f = (let same : node_of (op h rs) ≡ n = cc in ap (λ (m : Node). Some (entry_at before k m.head.attributes)) same)
 
--- no entry can be set where the operation isn't there
+-- no entry can be set if the operation isn't in the module
 pub entry_fault : (before : ℕ → ℕ → Bool) (x : ℕ) (part : Part) (k : ℕ) (a : Option ℕ) (t : Op) → entry_in before x part k t ≡ None → set_entry_reason before x part k a t ≡ Some NoSuchOp
 entry_fault before x part k a t e = go (find x t) e
   where
@@ -52,11 +52,11 @@ entry_fault before x part k a t e = go (find x t) e
     go None f = refl
     go (Some o) f = absurd cc
 
-attr_or_none : (c : Things) (a : Option ℕ) → IfSome a (λ b. IsAttr c b) → IsAttrOrNone c a
+attr_or_none : (c : ContextModel) (a : Option ℕ) → IfSome a (λ b. IsAttr c b) → IsAttrOrNone c a
 attr_or_none c None h = tt
 attr_or_none c (Some a) h = h
 
-module _ (c : Things) (x : ℕ) (part : Part) (k : ℕ) (a : Option ℕ) (s u : Stored) where
+module _ (c : ContextModel) (x : ℕ) (part : Part) (k : ℕ) (a : Option ℕ) (s u : Stored) where
   pub held_after : (r : Result Event Refusal) → OnOk r (u ≡ after_entry (key_before_in c) x part k a s) → OnErr r (u ≡ s) → HeldIsSound c s.held → HeldIsSound c u.held
   held_after (Ok e) is err h = subst (λ (v : Stored). HeldIsSound c v.held) (sym is) h
   held_after (Err e) is err h = subst (λ (v : Stored). HeldIsSound c v.held) (sym err) h

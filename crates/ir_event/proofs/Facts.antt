@@ -1,4 +1,4 @@
--- What is asked of trees in many places.
+-- Preconditions on trees that are used in many places.
 use Rattle.ir_store.specs.trees.Ids.{find, has_id}
 use Rattle.ir_store.specs.trees.Meaning.{Operation}
 use Rattle.ir_store.specs.trees.Tree.{OpOf, OpsOf, head, next, op}

@@ -1,4 +1,4 @@
--- The heads of a tree in a list, and edits of one operation alone.
+-- The heads of a tree as a list, and edits of one operation only.
 use Rattle.std.proofs.Common.{◌≡◌, refl, ap, sym, ◌∙◌, subst, ℕ, Bool, true, false, true≢false, cond, eqb, eqb-true, eq-eqb, List, [], ◌∷◌, ◌++◌, map, Option, Some, None}
 use Rattle.std.specs.Prelude.{option_map}
 use Rattle.std.specs.List.{IsDistinct, AllByRecursion}
@@ -52,7 +52,7 @@ module _ {N T A : Type 0} where
       ops_heads_each no_ops = refl
       ops_heads_each (next o os) = (λ i. heads_each o i ++ ops_heads_each os i) ∙ sym (map-append f (heads o) (ops_heads os))
 
-  -- the first of two lists
+  -- the concatenation of two lists
   first_joined : (x : ℕ) (hs gs : List (HeadOf N T A)) → first_head x (hs ++ gs) ≡ first_of (first_head x hs) (first_head x gs)
   first_joined x [] gs = refl
   first_joined x (h ∷ hs) gs =
@@ -67,7 +67,7 @@ module _ {N T A : Type 0} where
   mapped_first (Some a) b = refl
 
   mutual
-    -- the operation that is found has the first head
+    -- the found operation has the first head with the id
     pub found_head : (x : ℕ) (t : OpOf N T A) → option_map head_of (find x t) ≡ first_head x (heads t)
     found_head x (op h rs) =
         elim (eqb h.id x) as (λ b. option_map head_of (cond b (Some (op h rs)) (regions_find x rs)) ≡ cond b (Some h) (first_head x (regions_heads rs))) [ true ↦ refl | false ↦ regions_found_head x rs ]
@@ -85,7 +85,7 @@ module _ {N T A : Type 0} where
     ops_found_head x no_ops = refl
     ops_found_head x (next o os) = mapped_first (find x o) (ops_find x os) ∙ (λ i. first_of (found_head x o i) (ops_found_head x os i)) ∙ sym (first_joined x (heads o) (ops_heads os))
 
-  -- what holds of the heads of two lists
+  -- a property of the heads of two lists
   all_front : (P : HeadOf N T A → Type 0) (hs gs : List (HeadOf N T A)) → AllByRecursion P (hs ++ gs) → AllByRecursion P hs
   all_front P [] gs a = tt
   all_front P (h ∷ hs) gs a = (a.0, all_front P hs gs a.1)
@@ -94,7 +94,7 @@ module _ {N T A : Type 0} where
   all_back P [] gs a = a
   all_back P (h ∷ hs) gs a = all_back P hs gs a.1
 
-  -- an edit that leaves each head as it is
+  -- an edit that leaves each head unchanged
   module _ (f : HeadOf N T A → HeadOf N T A) where
     abbrev IsLeft : HeadOf N T A → Type 0
     IsLeft h = f h ≡ h
@@ -115,7 +115,7 @@ module _ {N T A : Type 0} where
       ops_each_left no_ops a = refl
       ops_each_left (next o os) a = λ i. next (each_left o (all_front IsLeft (heads o) (ops_heads os) a) i) (ops_each_left os (all_back IsLeft (heads o) (ops_heads os) a) i)
 
-  -- what is true of the operation that is found, where no two ids are equal, is true of each with its id
+  -- if ids are distinct, a property of the found operation is a property of each operation with its id
   none_else : (P : HeadOf N T A → Type 0) (x y : ℕ) → eqb y x ≡ true → (hs : List (HeadOf N T A)) → AllByRecursion (λ z. eqb y z ≡ false) (map (λ (h : HeadOf N T A). h.id) hs) → AllByRecursion (λ h. eqb h.id x ≡ true → P h) hs
   none_else P x y e [] a = tt
   none_else P x y e (h ∷ hs) a =

@@ -1,4 +1,4 @@
--- What is taken out of a tree isn't found there.
+-- An operation that was taken out of a tree isn't found there.
 use Rattle.std.proofs.Common.{◌≡◌, refl, ℕ, ◌+◌, false, eqb, ⊎_elim, None}
 use Rattle.std.proofs.lemmas.Bool.{cases_Bool}
 use Rattle.ir_store.specs.trees.Tree.{OpOf, op, RegionsOf, no_regions, region, RegionOf, empty, block, OpsOf, no_ops, next, head}

@@ -2,7 +2,7 @@
 use Rattle.std.proofs.Common.{◌≡◌, ℕ, List, get_or, true, inl, inr, ◌⊎◌, sym, subst, suc}
 use Rattle.std.specs.Prelude.{All, take, drop}
 use Rattle.std.proofs.lemmas.List.Elements.{All-push, All-append, All-take, All-drop, All-set}
-use Rattle.op_registry.specs.types.Things.{Things, Grows}
+use Rattle.op_registry.specs.types.Things.{ContextModel, IsExtendedBy}
 use Rattle.op_registry.specs.types.Sound.{Holds}
 use Rattle.op_registry.specs.types.declared.refusal.Refusal.{Refusal}
 use Rattle.op_registry.specs.types.declared.refusal.Refusal.TheVariants.{NoSuchKind, Memory}
@@ -10,7 +10,7 @@ use Rattle.ir_event.specs.Modules.{Module}
 use Rattle.ir_event.specs.Listener.{Listener}
 use Rattle.ir_event.specs.Panels.{AllKept, AttachedLast, Detached, BegunAgain, NotBegunAgain}
 
-module _ {B : Type 0} (meaning : B → Listener) (c : Things) (m : Module) where
+module _ {B : Type 0} (meaning : B → Listener) (c : ContextModel) (m : Module) where
   abbrev Keeps : B → Type 0
   Keeps b = (meaning b).agrees c m ⊎ ((meaning b).stale ≡ true)
 
@@ -31,5 +31,5 @@ module _ {B : Type 0} (meaning : B → Listener) (c : Things) (m : Module) where
   kept_not_begun kind xs ys Memory n kept = begun_kept kind (λ b. b.stale ≡ true) xs ys (λ b h. inr h) n kept
   kept_not_begun kind xs ys _ n kept = absurd n
 
-  pub kept_grown : (d : Things) (xs : List B) → Holds c → Holds d → Grows c d → AllKept meaning c m xs → AllKept meaning d m xs
+  pub kept_grown : (d : ContextModel) (xs : List B) → Holds c → Holds d → IsExtendedBy c d → AllKept meaning c m xs → AllKept meaning d m xs
   kept_grown d xs holds also g kept k b lt = elim (kept k b lt) [ inl now ↦ inl ((meaning (get_or xs k b)).grows c d m holds also g now) | inr gone ↦ inr gone ]

@@ -1,4 +1,4 @@
--- Maps by numbers.
+-- Maps with number keys.
 use Rattle.std.proofs.Common.{◌≡◌, ℕ, eqb, arith}
 use Rattle.std.specs.Ordering.{nat_cmp, eq_by_cmp}
 use Rattle.std.proofs.lemmas.Bool.Decides.{nat_tests}

@@ -1,11 +1,11 @@
--- What nodes have, and what it stands for.
+-- Nodes, and their meanings.
 use Rattle.std.proofs.Common.{◌≡◌, refl, ap, ◌∙◌, subst, ℕ, zero, suc, Bool, true, List, [], ◌∷◌, length, map, Option, Some, None}
 use Rattle.std.specs.Prelude.{All, option_map, slice_get}
 use Rattle.std.specs.List.{list_all}
 use Rattle.std.proofs.lemmas.Bool.{ltb-true}
 use Rattle.std.proofs.lemmas.List.Elements.{All-cons, All-nil}
 use Rattle.std.specs.FinMap as finmap
-use Rattle.op_registry.specs.types.Things.{Things, IsName, IsType, IsAttr}
+use Rattle.op_registry.specs.types.Things.{ContextModel, IsName, IsType, IsAttr}
 use Rattle.op_registry.specs.types.Terms.{name_term, type_term, attr_term}
 use Rattle.ir_store.specs.trees.Tree.{Op, op, Regions, no_regions, region, empty, block}
 use Rattle.ir_store.specs.trees.Ids.{find, first_of}
@@ -17,24 +17,24 @@ use Rattle.ir_store.proofs.of_tree_laws.Listed.{both}
 use Rattle.ir_store.specs.Nodes.{Node as Numbers, node_of, regions_arguments}
 use Rattle.ir_store.specs.Stored.{known}
 use Rattle.ir_event.specs.declared.world.World.{World}
-use Rattle.ir_event.specs.Modules.{NodeIsOf, node_meaning, shown_in}
+use Rattle.ir_event.specs.Modules.{NodeIsOf, node_meaning, node_of_op}
 use Rattle.ir_event.proofs.Sounds.{found_sound}
 
--- the node of what a tree stands for
-arguments_shown : (c : Things) (rs : Regions) → regions_arguments (map_regions (name_term c) (type_term c) (attr_term c) rs) ≡ map (option_map (map (type_term c))) (regions_arguments rs)
+-- the node of a tree's meaning
+arguments_shown : (c : ContextModel) (rs : Regions) → regions_arguments (map_regions (name_term c) (type_term c) (attr_term c) rs) ≡ map (option_map (map (type_term c))) (regions_arguments rs)
 arguments_shown c no_regions = refl
 arguments_shown c (region empty rs) = ap (λ l. None ∷ l) (arguments_shown c rs)
 arguments_shown c (region (block args os) rs) = ap (λ l. Some (map (type_term c) args) ∷ l) (arguments_shown c rs)
 
-pub node_shown : (c : Things) (o : Op) → node_of (meaning c o) ≡ node_meaning c (node_of o)
+pub node_shown : (c : ContextModel) (o : Op) → node_of (meaning c o) ≡ node_meaning c (node_of o)
 node_shown c (op h rs) = λ i. record { head = (node_meaning c (node_of (op h rs))).head; arguments = arguments_shown c rs i }
 
--- numbers that pass a test
+-- ids that pass a test
 all_of : {X : Type 0} (p : X → Bool) (P : X → Type 0) → ((x : X) → p x ≡ true → P x) → (xs : List X) → list_all p xs ≡ true → All P xs
 all_of p P f [] e = All-nil P
 all_of p P f (x ∷ xs) e = let b = both (p x) (list_all p xs) e in All-cons P x xs (f x b.0) (all_of p P f xs b.1)
 
-types_known : (c : Things) (rs : Regions) (r : ℕ) (types : List ℕ) → all_arguments_pass (list_all (is_type c)) rs ≡ true → slice_get (regions_arguments rs) r ≡ Some (Some types) → list_all (is_type c) types ≡ true
+types_known : (c : ContextModel) (rs : Regions) (r : ℕ) (types : List ℕ) → all_arguments_pass (list_all (is_type c)) rs ≡ true → slice_get (regions_arguments rs) r ≡ Some (Some types) → list_all (is_type c) types ≡ true
 types_known c no_regions zero types e f = absurd cc
 types_known c no_regions (suc r) types e f = absurd cc
 types_known c (region empty rs) zero types e f = absurd cc
@@ -42,7 +42,7 @@ types_known c (region empty rs) (suc r) types e f = types_known c rs r types e f
 types_known c (region (block args os) rs) zero types e f = let one : args ≡ types = cc in subst (λ l. list_all (is_type c) l ≡ true) one (both (list_all (is_type c) args) _ e).0
 types_known c (region (block args os) rs) (suc r) types e f = types_known c rs r types (both (list_all (is_type c) args) _ e).1 f
 
-pub node_known : (c : Things) (o : Op) → IsSoundIn c o → NodeIsOf c (node_of o)
+pub node_known : (c : ContextModel) (o : Op) → IsSoundIn c o → NodeIsOf c (node_of o)
 node_known c (op h rs) s =
     let passes = both (op_passes (is_name c) (is_type c) (is_attr c) (op h rs)) (regions_every (op_passes (is_name c) (is_type c) (is_attr c)) rs) s.known in
     let own = both (head_passes (is_name c) (is_type c) (is_attr c) h) (all_arguments_pass (list_all (is_type c)) rs) passes.0 in
@@ -60,7 +60,7 @@ node_known c (op h rs) s =
       arguments = λ r types e. all_of (is_type c) (IsType c) type types (types_known c rs r types own.1 e);
     }
 
--- an operation that a world knows is of its context
+-- an operation that an IR state knows is of its context
 known_sound : (w : World) (x : ℕ) (o : Op) → known x w.store ≡ Some o → IsSoundIn w.ctx o
 known_sound w x o e = go (find x w.store.module_of.tree) refl e
   where
@@ -84,5 +84,5 @@ module _ (w : World) (x : ℕ) (n : Numbers) (is : option_map node_of (known x w
   pub known_node : NodeIsOf w.ctx n
   known_node = subst (NodeIsOf w.ctx) found.node (node_known w.ctx found.here (known_sound w x found.here found.known_as))
 
-  pub shown_node : shown_in w x ≡ Some (node_meaning w.ctx n)
+  pub shown_node : node_of_op w x ≡ Some (node_meaning w.ctx n)
   shown_node = ap (option_map (λ (o : Op). node_of (meaning w.ctx o))) found.known_as ∙ ap Some (node_shown w.ctx found.here ∙ ap (node_meaning w.ctx) found.node)

@@ -1,4 +1,4 @@
--- An operand that is set, and set back.
+-- An operand that is set, and the undo.
 use Rattle.std.proofs.Common.{◌≡◌, refl, ap, sym, ◌∙◌, subst, ℕ, zero, suc, Bool, true, false, cond, eqb, List, [], ◌∷◌, map, Option, Some, None, slice_get}
 use Rattle.std.specs.Prelude.{option_map, option_and_then, slice_set}
 use Rattle.std.specs.List.{IsDistinct, AllByRecursion}
@@ -13,14 +13,14 @@ use Rattle.ir_event.proofs.Flat.{first_head, heads_ids, found_head, each_left, t
 use Rattle.ir_store.proofs.of_tree_laws.Entries.{each_twice}
 use Rattle.ir_store.proofs.of_trees.Facts.{head_each}
 
--- an item that is set back
+-- an item is set, and set back
 pub set_back : {X : Type 0} (xs : List X) (k : ℕ) (old new : X) → slice_get xs k ≡ Some old → slice_set (slice_set xs k new) k old ≡ xs
 set_back [] zero old new h = refl
 set_back [] (suc k) old new h = refl
 set_back (x ∷ xs) zero old new h = let e : x ≡ old = cc in ap (λ y. y ∷ xs) (sym e)
 set_back (x ∷ xs) (suc k) old new h = ap (λ l. x ∷ l) (set_back xs k old new h)
 
--- and one that was set
+-- an item that was set has the new value
 pub is_set : {X : Type 0} (xs : List X) (k : ℕ) (old new : X) → slice_get xs k ≡ Some old → slice_get (slice_set xs k new) k ≡ Some new
 is_set [] zero old new h = absurd cc
 is_set [] (suc k) old new h = absurd cc
@@ -58,7 +58,7 @@ module _ {N T A : Type 0} (x k : ℕ) (old new : Value) where
   all_stay [] a = tt
   all_stay (h ∷ hs) a = (stays h a.0, all_stay hs a.1)
 
-  -- where operand k of x is old, setting it to new and back leaves the tree as it was
+  -- setting operand k of x from old to new and back restores the tree
   pub undone : (t : OpOf N T A) → HasDistinctIds t → operand_at x k t ≡ Some old → with_operand x k old (with_operand x k new t) ≡ t
   undone t d e =
       let o = holder t e in
@@ -78,7 +78,7 @@ module _ {N T A : Type 0} (x k : ℕ) (old new : Value) where
           subst (λ (k : HeadOf N T A). eqb k.id x ≡ true) one is
       go later false is = later (sym (ap (λ b. cond b (Some h) (first_head x hs)) is) ∙ e)
 
-  -- then operand k of x is new
+  -- operand k of x is new after it is set
   pub set_there : (t : OpOf N T A) → operand_at x k t ≡ Some old → operand_at x k (with_operand x k new t) ≡ Some new
   set_there t e =
       let o = holder t e in

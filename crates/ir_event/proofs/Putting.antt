@@ -1,9 +1,9 @@
--- A world into which an operation is put.
+-- An IR state into which an operation is inserted.
 use Rattle.std.proofs.Common.{◌≡◌, sym, subst, true, None}
 use Rattle.std.specs.Prelude.{Result, Ok, Err, IfOk, OnErr, MatchResult}
 use Rattle.op_registry.specs.types.declared.refusal.Refusal.{Refusal}
 use Rattle.op_registry.specs.types.Reasons.{IsRefusedFor}
-use Rattle.op_registry.specs.types.Things.{Things}
+use Rattle.op_registry.specs.types.Things.{ContextModel}
 use Rattle.ir_store.specs.trees.declared.place.Place.{Place}
 use Rattle.ir_store.specs.trees.Tree.{Op, regions}
 use Rattle.ir_store.specs.trees.Meaning.{IsSoundIn, isolated_in}
@@ -21,8 +21,8 @@ use Rattle.ir_event.proofs.Sounds.{renamed_sound}
 use Rattle.ir_event.specs.Edits.{IsPutStep}
 use Rattle.ir_event.proofs.Stepped.{put_steps}
 
-module _ (c : Things) (place : Place) (o : Op) (s u : Stored) where
-  -- what a store is after a call that put a header, or was refused
+module _ (c : ContextModel) (place : Place) (o : Op) (s u : Stored) where
+  -- the store after a call that inserted a header, or was refused
   abbrev pub IsPut : Result Event Refusal → Type 0
   IsPut r = IfOk r (λ e. (e ≡ Put s.module_of.next place true) × (u ≡ after_put place o s))
 

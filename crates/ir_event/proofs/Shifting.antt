@@ -1,8 +1,8 @@
--- A world in which an operation is shifted.
+-- An IR state in which an operation is moved.
 use Rattle.std.proofs.Common.{◌≡◌, sym, ◌∙◌, subst, ℕ, Option, Some, None}
 use Rattle.std.specs.Prelude.{Result, Ok, Err, IfOk, OnOk, OnErr, MatchResult}
 use Rattle.op_registry.specs.types.declared.refusal.Refusal.{Refusal}
-use Rattle.op_registry.specs.types.Things.{Things}
+use Rattle.op_registry.specs.types.Things.{ContextModel}
 use Rattle.op_registry.specs.types.Terms.{name_term}
 use Rattle.op_registry.specs.types.Words.{is_table}
 use Rattle.ir_store.specs.trees.declared.place.Place.{Place}
@@ -24,14 +24,14 @@ use Rattle.ir_event.proofs.Sounds.{shifted_sound}
 use Rattle.ir_event.proofs.Undone.{moved_steps}
 use Rattle.ir_event.specs.Edits.{IsShiftEvent, IsShiftStep}
 
-module _ (c : Things) (x : ℕ) (place : Place) (s u : Stored) where
+module _ (c : ContextModel) (x : ℕ) (place : Place) (s u : Stored) where
   abbrev reason : Option Refusal
   reason = shift_reason (isolated_in c) (λ n. is_table (name_term c n)) x place s.module_of.tree
 
   shifts_at : IsWellFormed (isolated_in c) s.module_of → reason ≡ None → (old : Place) × Shifts (λ n. is_table (name_term c n)) x old place s.module_of (after_shift x place s).module_of
   shifts_at w e = shift_changes (isolated_in c) (λ n. is_table (name_term c n)) x place s.module_of w.distinct e
 
-  -- what is shifted stood somewhere
+  -- the moved operation had a place
   pub stood : IsWellFormed (isolated_in c) s.module_of → reason ≡ None → place_of x s.module_of.tree ≡ None → ⊥
   stood w e none = let t = shifts_at w e in (let bad : None ≡ Some t.0 = sym none ∙ t.1.was in absurd cc)
 

@@ -1,4 +1,4 @@
--- Operations that a store knows, and what they have.
+-- The operations that a store knows, and their nodes.
 use Rattle.std.proofs.Common.{◌≡◌, refl, ap, sym, ◌∙◌, ℕ, Bool, true, false, true≢false, cond, ◌||◌, eqb, List, [], ◌∷◌, Option, Some, None}
 use Rattle.std.specs.Prelude.{option_map}
 use Rattle.std.specs.List.{list_any}
@@ -11,7 +11,7 @@ use Rattle.ir_store.proofs.of_tree_laws.Readings.{stands_find, stands_ids}
 use Rattle.ir_store.specs.Stored.{Stored, known}
 
 module _ {N T A : Type 0} where
-  -- where no operation with an id is found its id isn't one of the tree's
+  -- if no operation with an id is found, the tree doesn't have the id
   none_stands : (x : ℕ) (ss : List (StandOf N T A)) → option_map (λ (s : StandOf N T A). s.here) (stand_in x ss) ≡ None → list_any (λ s. eqb (stand_id s) x) ss ≡ false
   none_stands x [] e = refl
   none_stands x (s ∷ ss) e = go (eqb (stand_id s) x) refl (none_stands x ss)
@@ -24,7 +24,7 @@ module _ {N T A : Type 0} where
   pub none_found : (x : ℕ) (t : OpOf N T A) → find x t ≡ None → has_id x t ≡ false
   none_found x t e = sym (ap (list_any (λ y. eqb y x)) (stands_ids [] t)) ∙ any_ids stand_id x (stands [] t) ∙ none_stands x (stands [] t) (stands_find x [] t ∙ e)
 
--- an operation of the module is known as it stands there
+-- an operation of the module is known unchanged
 pub known_there : (x : ℕ) (s : Stored) → has_id x s.module_of.tree ≡ true → known x s ≡ find x s.module_of.tree
 known_there x s h = go (find x s.module_of.tree) refl
   where

@@ -1,6 +1,6 @@
--- What a sound tree has is sound.
+-- The operations of a sound tree are sound.
 use Rattle.std.proofs.Common.{◌≡◌, refl, ap, sym, ◌∙◌, subst, ℕ, Bool, true, false, cond, eqb, Option, Some, None}
-use Rattle.op_registry.specs.types.Things.{Things}
+use Rattle.op_registry.specs.types.Things.{ContextModel}
 use Rattle.ir_store.specs.trees.declared.place.Place.{Place}
 use Rattle.ir_store.specs.trees.Tree.{Op, OpOf, op, RegionsOf, no_regions, region, RegionOf, empty, block, OpsOf, no_ops, next}
 use Rattle.ir_store.specs.trees.Ids.{first_of, find, regions_find, region_find, ops_find}
@@ -17,7 +17,7 @@ module _ {N T A : Type 0} (p : OpOf N T A → Bool) (x : ℕ) where
   one_found None b P o f g e = g e
   one_found (Some a) b P o f g e = f e
 
-  -- what holds of each operation of a tree holds of each of what is found there
+  -- a property of each operation of a tree is a property of each operation found there
   mutual
     pub every_found : (t o : OpOf N T A) → every p t ≡ true → find x t ≡ Some o → every p o ≡ true
     every_found (op h rs) o e f = go (regions_every_found rs o (both (p (op h rs)) (regions_every p rs) e).1) (eqb h.id x) refl
@@ -45,18 +45,18 @@ module _ {N T A : Type 0} (p : OpOf N T A → Bool) (x : ℕ) where
         one_found (find x q) (ops_find x os) (λ o. every p o ≡ true) o (every_found q o b.0) (ops_every_found os o b.1) f
 
 -- an operation of a sound tree is sound
-pub found_sound : (c : Things) (x : ℕ) (t o : Op) → IsSoundIn c t → find x t ≡ Some o → IsSoundIn c o
+pub found_sound : (c : ContextModel) (x : ℕ) (t o : Op) → IsSoundIn c t → find x t ≡ Some o → IsSoundIn c o
 found_sound c x t o s f = record {
   known = every_found (op_passes (is_name c) (is_type c) (is_attr c)) x t o s.known f;
   sorted = every_found (dictionaries_rise (key_before_in c)) x t o s.sorted f;
 }
 
--- and with another id
-pub renamed_sound : (c : Things) (x : ℕ) (o : Op) → IsSoundIn c o → IsSoundIn c (with_id x o)
+-- the same with another id
+pub renamed_sound : (c : ContextModel) (x : ℕ) (o : Op) → IsSoundIn c o → IsSoundIn c (with_id x o)
 renamed_sound c x (op h rs) s = record { known = s.known; sorted = s.sorted }
 
--- an operation that is shifted leaves a tree sound
-pub shifted_sound : (c : Things) (x : ℕ) (place : Place) (t : Op) → IsSoundIn c t → IsSoundIn c (shifted x place t)
+-- moving an operation keeps a tree sound
+pub shifted_sound : (c : ContextModel) (x : ℕ) (place : Place) (t : Op) → IsSoundIn c t → IsSoundIn c (shifted x place t)
 shifted_sound c x place t s = go (find x t) refl
   where
     go : (o : Option Op) → find x t ≡ o → IsSoundIn c (put_found place o (without x t))

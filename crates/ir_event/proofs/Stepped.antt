@@ -1,6 +1,6 @@
--- Edits of a module of numbers against which no reason stands are steps of what it stands for.
+-- Accepted edits of a module of ids are steps of its meaning.
 use Rattle.std.proofs.Common.{◌≡◌, refl, ℕ, ◌+◌, true, false, None}
-use Rattle.op_registry.specs.types.Things.{Things}
+use Rattle.op_registry.specs.types.Things.{ContextModel}
 use Rattle.op_registry.specs.types.Terms.{name_term, type_term, attr_term}
 use Rattle.op_registry.specs.types.Words.{is_table}
 use Rattle.ir_store.specs.trees.declared.place.Place.{Place}
@@ -19,7 +19,7 @@ use Rattle.ir_event.proofs.Steps.{formed_meaning, sorted_meaning}
 use Rattle.ir_event.proofs.Sounds.{renamed_sound, shifted_sound}
 use Rattle.ir_event.proofs.Mapped.{takes_mapped, shifts_mapped}
 
-pub put_steps : (c : Things) (place : Place) (o : Op) (m : Numbered) → IsWellFormed (isolated_in c) m → IsSoundIn c m.tree → IsSoundIn c o → hold_none (regions o) ≡ true → put_reason (isolated_in c) place o m.next m.tree ≡ None
+pub put_steps : (c : ContextModel) (place : Place) (o : Op) (m : Numbered) → IsWellFormed (isolated_in c) m → IsSoundIn c m.tree → IsSoundIn c o → hold_none (regions o) ≡ true → put_reason (isolated_in c) place o m.next m.tree ≡ None
     → Step c (Put m.next place true) (module_meaning c m) (module_meaning c (record { tree = put place (with_id m.next o) m.tree; next = m.next + 1 }))
 put_steps c place o m w sound own leaf e =
     let n : Numbered = record { tree = put place (with_id m.next o) m.tree; next = m.next + 1 } in
@@ -32,7 +32,7 @@ put_steps c place o m w sound own leaf e =
       changes = takes_mapped (name_term c) (type_term c) (attr_term c) m.next place true n m (put_changes (isolated_in c) place o m w leaf e);
     }
 
-pub take_steps : (c : Things) (x : ℕ) (m : Numbered) → IsWellFormed (isolated_in c) m → IsSoundIn c m.tree → take_reason x m.tree ≡ None → (place : Place) × Step c (Take x place false) (module_meaning c m) (module_meaning c (record m { tree = without x m.tree }))
+pub take_steps : (c : ContextModel) (x : ℕ) (m : Numbered) → IsWellFormed (isolated_in c) m → IsSoundIn c m.tree → take_reason x m.tree ≡ None → (place : Place) × Step c (Take x place false) (module_meaning c m) (module_meaning c (record m { tree = without x m.tree }))
 take_steps c x m w sound e =
     let n : Numbered = record m { tree = without x m.tree } in
     let t = take_changes x false m n w.distinct e refl refl in (
@@ -47,7 +47,7 @@ take_steps c x m w sound e =
       },
     )
 
-pub shift_steps : (c : Things) (x : ℕ) (place : Place) (m : Numbered) → IsWellFormed (isolated_in c) m → IsSoundIn c m.tree → shift_reason (isolated_in c) (λ n. is_table (name_term c n)) x place m.tree ≡ None
+pub shift_steps : (c : ContextModel) (x : ℕ) (place : Place) (m : Numbered) → IsWellFormed (isolated_in c) m → IsSoundIn c m.tree → shift_reason (isolated_in c) (λ n. is_table (name_term c n)) x place m.tree ≡ None
     → (old : Place) × Step c (Shift x old place) (module_meaning c m) (module_meaning c (record m { tree = shifted x place m.tree }))
 shift_steps c x place m w sound e =
     let n : Numbered = record m { tree = shifted x place m.tree } in

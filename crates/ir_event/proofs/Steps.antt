@@ -1,9 +1,9 @@
--- Steps between what modules of numbers stand for.
+-- Steps between the meanings of modules of ids.
 use Rattle.std.proofs.Common.{◌≡◌, refl, ap, sym, ◌∙◌, subst, ℕ, ◌<◌, ◌≤◌, eqb, List, Option, Some, None, slice_get, IsTrue, arith}
 use Rattle.std.specs.Prelude.{option_map, option_and_then, Result, Ok, Err, OnOk, OnErr, IfOk}
 use Rattle.op_registry.specs.types.declared.refusal.Refusal.{Refusal}
 use Rattle.std.specs.List.{IsDistinct, All}
-use Rattle.op_registry.specs.types.Things.{Things, Grows}
+use Rattle.op_registry.specs.types.Things.{ContextModel, IsExtendedBy}
 use Rattle.op_registry.specs.types.Sound.{Holds}
 use Rattle.op_registry.specs.types.Terms.{name_term, type_term, attr_term}
 use Rattle.op_registry.specs.types.Words.{is_isolated}
@@ -26,11 +26,11 @@ use Rattle.ir_store.specs.tree_laws.Changes.{operand_at}
 use Rattle.ir_store.specs.Stored.{Stored}
 use Rattle.ir_store.specs.Calls.{after_operand}
 use Rattle.ir_event.specs.Step.{IsSorted, Step, Steps, IsOperandEvent, IsOperandStep}
-use Rattle.ir_event.proofs.Further.{step_further, steps_further}
+use Rattle.ir_event.proofs.Extra.{step_extra, steps_extra}
 use Rattle.ir_event.proofs.Operands.{undone, set_there}
 
--- what a well-formed module stands for is well-formed
-pub formed_meaning : (c : Things) (m : Numbered) → IsWellFormed (isolated_in c) m → IsWellFormed is_isolated (module_meaning c m)
+-- the meaning of a well-formed module is well-formed
+pub formed_meaning : (c : ContextModel) (m : Numbered) → IsWellFormed (isolated_in c) m → IsWellFormed is_isolated (module_meaning c m)
 formed_meaning c m w =
     let f = name_term c in
     let g = type_term c in
@@ -46,8 +46,8 @@ formed_meaning c m w =
       };
     }
 
--- a module of numbers is well-formed where what it stands for is
-pub formed_numbers : (c : Things) (m : Numbered) → IsWellFormed is_isolated (module_meaning c m) → IsWellFormed (isolated_in c) m
+-- a module of ids is well-formed if its meaning is
+pub formed_numbers : (c : ContextModel) (m : Numbered) → IsWellFormed is_isolated (module_meaning c m) → IsWellFormed (isolated_in c) m
 formed_numbers c m w =
     let f = name_term c in
     let g = type_term c in
@@ -63,15 +63,15 @@ formed_numbers c m w =
       };
     }
 
--- the dictionaries of a module that is of the context are sorted in what it stands for
-pub sorted_meaning : (c : Things) (m : Numbered) → IsSoundIn c m.tree → IsSorted (module_meaning c m)
+-- the meaning of a module of the context has sorted dictionaries
+pub sorted_meaning : (c : ContextModel) (m : Numbered) → IsSoundIn c m.tree → IsSorted (module_meaning c m)
 sorted_meaning c m s =
     map_every (name_term c) (type_term c) (attr_term c) (dictionaries_rise (key_before_in c)) (dictionaries_rise key_before) (map_dictionaries (name_term c) (type_term c) (attr_term c) key_before) m.tree ∙ s.sorted
 
-pub meaning_operands : (c : Things) (o : Op) → (head (meaning c o)).operands ≡ (head o).operands
+pub meaning_operands : (c : ContextModel) (o : Op) → (head (meaning c o)).operands ≡ (head o).operands
 meaning_operands c (op h rs) = refl
 
-pub meaning_operand_at : (c : Things) (x k : ℕ) (t : Op) → operand_at x k (meaning c t) ≡ operand_at x k t
+pub meaning_operand_at : (c : ContextModel) (x k : ℕ) (t : Op) → operand_at x k (meaning c t) ≡ operand_at x k t
 meaning_operand_at c x k t = ap (option_and_then (λ o. slice_get (head o).operands k)) (map_find (name_term c) (type_term c) (attr_term c) x t) ∙ go (find x t)
   where
     go : (o : Option Op) → option_and_then (λ o. slice_get (head o).operands k) (option_map (meaning c) o) ≡ option_and_then (λ o. slice_get (head o).operands k) o
@@ -79,7 +79,7 @@ meaning_operand_at c x k t = ap (option_and_then (λ o. slice_get (head o).opera
     go (Some o) = ap (λ l. slice_get l k) (meaning_operands c o)
 
 -- setting an operand is a step
-pub operand_steps : (c : Things) (x k : ℕ) (old new : Value) (m : Numbered) → IsWellFormed (isolated_in c) m → IsWellFormed (isolated_in c) (record m { tree = with_operand x k new m.tree })
+pub operand_steps : (c : ContextModel) (x k : ℕ) (old new : Value) (m : Numbered) → IsWellFormed (isolated_in c) m → IsWellFormed (isolated_in c) (record m { tree = with_operand x k new m.tree })
     → IsSoundIn c m.tree → operand_at x k m.tree ≡ Some old → Step c (SetOperand x k old new) (module_meaning c m) (module_meaning c (record m { tree = with_operand x k new m.tree }))
 operand_steps c x k old new m w v sound e =
     let edited : (a : Value) (t : Op) → with_operand x k a (meaning c t) ≡ meaning c (with_operand x k a t) = λ a t. map_with_operand (name_term c) (type_term c) (attr_term c) x k a t in
@@ -98,19 +98,19 @@ operand_steps c x k old new m w v sound e =
       };
     }
 
--- a step is one in a context that has more
-pub step_stays : (c d : Things) (e : Event) (m n : Module) → Holds c → Grows c d → Step c e m n → Step d e m n
-step_stays c d e m n holds g s = step_further c d g (λ k is. name_stays c d k g is) (λ a is. attr_stays c d a holds g is) e m n s
+-- a step in a context is a step in an extended context
+pub step_stays : (c d : ContextModel) (e : Event) (m n : Module) → Holds c → IsExtendedBy c d → Step c e m n → Step d e m n
+step_stays c d e m n holds g s = step_extra c d g (λ k is. name_stays c d k g is) (λ a is. attr_stays c d a holds g is) e m n s
 
-pub steps_stay : (c d : Things) (es : List Event) (m n : Module) → Holds c → Grows c d → Steps c es m n → Steps d es m n
-steps_stay c d es m n holds g s = steps_further c d g (λ k is. name_stays c d k g is) (λ a is. attr_stays c d a holds g is) es m n s
+pub steps_stay : (c d : ContextModel) (es : List Event) (m n : Module) → Holds c → IsExtendedBy c d → Steps c es m n → Steps d es m n
+steps_stay c d es m n holds g s = steps_extra c d g (λ k is. name_stays c d k g is) (λ a is. attr_stays c d a holds g is) es m n s
 
--- an operand that was set, or was not
-pub set_sound : (c : Things) (x k : ℕ) (v : Value) (m n : Stored) (r : Result Event Refusal) → OnOk r (n ≡ after_operand x k v m) → OnErr r (n ≡ m) → IsSoundIn c m.module_of.tree → IsSoundIn c n.module_of.tree
+-- an operand that was set, or wasn't
+pub set_sound : (c : ContextModel) (x k : ℕ) (v : Value) (m n : Stored) (r : Result Event Refusal) → OnOk r (n ≡ after_operand x k v m) → OnErr r (n ≡ m) → IsSoundIn c m.module_of.tree → IsSoundIn c n.module_of.tree
 set_sound c x k v m n (Ok e) is err s = subst (λ (p : Stored). IsSoundIn c p.module_of.tree) (sym is) (operand_sound c x k v m.module_of.tree s)
 set_sound c x k v m n (Err e) is err s = subst (λ (p : Stored). IsSoundIn c p.module_of.tree) (sym err) s
 
-pub set_steps : (c : Things) (x k : ℕ) (v : Value) (m n : Stored) (r : Result Event Refusal) → OnOk r (n ≡ after_operand x k v m) → IfOk r (λ e. IsOperandEvent x k v m.module_of.tree e)
+pub set_steps : (c : ContextModel) (x k : ℕ) (v : Value) (m n : Stored) (r : Result Event Refusal) → OnOk r (n ≡ after_operand x k v m) → IfOk r (λ e. IsOperandEvent x k v m.module_of.tree e)
     → IsWellFormed (isolated_in c) m.module_of → IsWellFormed (isolated_in c) n.module_of → IsSoundIn c m.module_of.tree → IfOk r (λ e. IsOperandStep x k v e c (module_meaning c m.module_of) (module_meaning c n.module_of))
 set_steps c x k v m n (Ok e) is event w u sound =
     let there : Numbered = m.module_of in

@@ -1,4 +1,4 @@
--- A world from which an operation is taken.
+-- An IR state from which an operation is taken out.
 use Rattle.std.proofs.Common.{◌≡◌, refl, ap, sym, ◌∙◌, subst, ℕ, true, false, true≢false, eqb, ⊎_elim, Option, Some, None}
 use Rattle.std.proofs.lemmas.Bool.{cases_eq, eq-eqb, ne_eqb, cond-true, cond-false}
 use Rattle.std.specs.Prelude.{Result, Ok, Err, MatchResult, option_map}
@@ -6,7 +6,7 @@ use Rattle.std.specs.Ordering.{nat_cmp}
 use Rattle.std.specs.FinMap as finmap
 use Rattle.std.specs.Cmp.{nat_cmp_total}
 use Rattle.op_registry.specs.types.declared.refusal.Refusal.{Refusal}
-use Rattle.op_registry.specs.types.Things.{Things}
+use Rattle.op_registry.specs.types.Things.{ContextModel}
 use Rattle.op_registry.specs.types.Terms.{name_term, type_term, attr_term}
 use Rattle.ir_store.specs.trees.declared.place.Place.{Place}
 use Rattle.ir_store.specs.trees.Tree.{Op, head}
@@ -34,8 +34,8 @@ use Rattle.ir_event.proofs.Undone.{taken_steps}
 use Rattle.ir_event.proofs.Maps.{eq_nat}
 use Rattle.ir_event.proofs.Gone.{not_there}
 
--- what is held after a store holds one more is sound where that is
-pub hold_sound : (c : Things) (x : ℕ) (q : Option Op) (held : finmap.FinMap nat_cmp Op) → ((o : Op) → q ≡ Some o → IsSoundIn c o) → HeldIsSound c held → HeldIsSound c (hold x q held)
+-- the held operations stay sound if one more, which is sound, is held
+pub hold_sound : (c : ContextModel) (x : ℕ) (q : Option Op) (held : finmap.FinMap nat_cmp Op) → ((o : Op) → q ≡ Some o → IsSoundIn c o) → HeldIsSound c held → HeldIsSound c (hold x q held)
 hold_sound c x None held own h y o e = h y o e
 hold_sound c x (Some a) held own h y o e = ⊎_elim
     (λ is. own o (sym (here is) ∙ e))
@@ -48,12 +48,12 @@ hold_sound c x (Some a) held own h y o e = ⊎_elim
     there : (y ≡ x → ⊥) → finmap.get (finmap.insert held x a) y ≡ finmap.get held y
     there not = finmap.get-insert nat_cmp_total held x a y ∙ cond-false _ (Some a) (finmap.get held y) (eq_nat y x ∙ ne_eqb y x not)
 
--- what is held now is there
+-- a held operation can be read
 pub held_now : (x : ℕ) (q : Option Op) (held : finmap.FinMap nat_cmp Op) (o : Op) → q ≡ Some o → finmap.get (hold x q held) x ≡ Some o
 held_now x None held o e = absurd cc
 held_now x (Some a) held o e = finmap.get-insert nat_cmp_total held x a x ∙ cond-true _ (Some a) (finmap.get held x) (eq_nat x x ∙ eq-eqb x x refl) ∙ e
 
-module _ (c : Things) (x : ℕ) (s u : Stored) where
+module _ (c : ContextModel) (x : ℕ) (s u : Stored) where
   abbrev pub IsTaken : Result (Unit {0}) Refusal → Type 0
   IsTaken r = MatchResult r (λ _. (take_reason x s.module_of.tree ≡ None) × (u ≡ after_take x s)) (λ e. (take_reason x s.module_of.tree ≡ Some e) × (u ≡ s))
 
@@ -72,7 +72,7 @@ module _ (c : Things) (x : ℕ) (s u : Stored) where
   taken_at : IsWellFormed (isolated_in c) s.module_of → take_reason x s.module_of.tree ≡ None → (place : Place) × Takes x place false s.module_of (after_take x s).module_of
   taken_at w e = take_changes x false s.module_of (after_take x s).module_of w.distinct e refl refl
 
-  -- what is taken stood somewhere
+  -- the removed operation had a place
   pub stood : IsWellFormed (isolated_in c) s.module_of → take_reason x s.module_of.tree ≡ None → place_of x s.module_of.tree ≡ None → ⊥
   stood w e none = let t = taken_at w e in (let bad : None ≡ Some t.0 = sym none ∙ t.1.there in absurd cc)
 
@@ -85,7 +85,7 @@ module _ (c : Things) (x : ℕ) (s u : Stored) where
       subst (λ (v : Stored). Step c (Take x place false) (module_meaning c s.module_of) (module_meaning c v.module_of)) (sym is)
       (taken_steps c x place false s.module_of (after_take x s).module_of w (take_keeps (isolated_in c) x s.module_of w e) sound (subst (λ p. Takes x p false s.module_of (after_take x s).module_of) same t.1))
 
-  -- and it is shown as it was
+  -- and it is shown unchanged
   pub still_shown : has_id x s.module_of.tree ≡ true → eqb (head s.module_of.tree).id x ≡ false
       → option_map (λ o. node_of (meaning c o)) (known x (after_take x s)) ≡ option_map node_of (find x (meaning c s.module_of.tree))
   still_shown there inner =

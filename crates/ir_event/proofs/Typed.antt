@@ -1,9 +1,9 @@
--- The type of a value is read off what its operation has, and is of the context.
+-- The type of a value, read from the node of its operation, is of the context.
 use Rattle.std.proofs.Common.{◌≡◌, refl, ap, sym, ◌∙◌, ℕ, zero, suc, List, [], ◌∷◌, Option, Some, None, slice_get, subst}
 use Rattle.std.specs.Prelude.{option_map, option_and_then}
 use Rattle.std.specs.List.{All}
 use Rattle.std.proofs.lemmas.List.Elements.{All-head, All-tail}
-use Rattle.op_registry.specs.types.Things.{Things, IsType}
+use Rattle.op_registry.specs.types.Things.{ContextModel, IsType}
 use Rattle.ir_store.specs.trees.declared.value.Value.{Value}
 use Rattle.ir_store.specs.trees.declared.value.Value.TheVariants.{Result, Arg}
 use Rattle.ir_store.specs.trees.Tree.{OpOf, Op, op, RegionsOf, no_regions, region, RegionOf, head, regions}
@@ -24,7 +24,7 @@ abbrev pub typed : {T : Type 0} → Value → List T × List (Option (List T)) �
 typed (Result x k) p = slice_get p.0 k
 typed (Arg x r k) p = option_and_then (λ args. slice_get args k) (option_and_then (λ args. args) (slice_get p.1 r))
 
--- the arguments of a region by its number
+-- the arguments of a region by its index
 by_number : {N T A : Type 0} (rs : RegionsOf N T A) (r : ℕ) → option_map arguments_of (region_at r rs) ≡ slice_get (regions_arguments rs) r
 by_number no_regions zero = refl
 by_number no_regions (suc r) = refl
@@ -44,13 +44,13 @@ typed_value (Arg x r k) t =
     ]
 
 -- the types of values are of the context
-got_of : (c : Things) (xs : List ℕ) (k n : ℕ) → All (IsType c) xs → slice_get xs k ≡ Some n → IsType c n
+got_of : (c : ContextModel) (xs : List ℕ) (k n : ℕ) → All (IsType c) xs → slice_get xs k ≡ Some n → IsType c n
 got_of c [] zero n a e = absurd cc
 got_of c [] (suc k) n a e = absurd cc
 got_of c (x ∷ xs) zero n a e = (let one : x ≡ n = cc in subst (IsType c) one (All-head (IsType c) x xs a))
 got_of c (x ∷ xs) (suc k) n a e = got_of c xs k n (All-tail (IsType c) x xs a) e
 
-typed_known : (c : Things) (m : Node) (v : Value) (n : ℕ) → NodeIsOf c m → typed v (m.head.results, m.arguments) ≡ Some n → IsType c n
+typed_known : (c : ContextModel) (m : Node) (v : Value) (n : ℕ) → NodeIsOf c m → typed v (m.head.results, m.arguments) ≡ Some n → IsType c n
 typed_known c m (Result x k) n h e = got_of c m.head.results k n h.results e
 typed_known c m (Arg x r k) n h e = go (slice_get m.arguments r) refl e
   where

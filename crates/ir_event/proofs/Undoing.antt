@@ -1,4 +1,4 @@
--- What undoing an event asks of a store, and what it gives.
+-- The precondition of undoing an event in a store, and the store afterwards.
 use Rattle.std.proofs.Common.{◌≡◌, refl, ap, sym, ◌∙◌, subst, ℕ, ◌+◌, Bool, true, false, true≢false, cond, eqb, not, ◌&&◌, ◌||◌, ⊎_elim, length, List, [], ◌∷◌, Option, Some, None}
 use Rattle.std.specs.Prelude.{option_map, is_some, IfSome}
 use Rattle.std.specs.List.{AllByRecursion, list_all}
@@ -6,7 +6,7 @@ use Rattle.std.specs.Cmp.{nat_cmp_total}
 use Rattle.std.specs.FinMap as finmap
 use Rattle.std.proofs.lemmas.Bool.{lt-ltb, cases_eq, cases_Bool, eq-eqb, ne_eqb, cond-true, cond-false, or_right}
 use Rattle.std.proofs.lemmas.List.Elements.{recursion_from_All}
-use Rattle.op_registry.specs.types.Things.{Things, IsName, IsAttr}
+use Rattle.op_registry.specs.types.Things.{ContextModel, IsName, IsAttr}
 use Rattle.op_registry.specs.types.Sound.{IsSound}
 use Rattle.op_registry.specs.types.Terms.{name_term, type_term, attr_term}
 use Rattle.op_registry.specs.types.Words.{is_isolated}
@@ -45,13 +45,13 @@ use Rattle.ir_event.proofs.Undone.{put_undone, take_undone, operand_undone, entr
 use Rattle.ir_event.specs.Undoing.{CameFrom, MayUndo, undone}
 use Rattle.ir_event.proofs.Entered.{attr_is}
 
--- a key that a dictionary of the context has an attribute at is one of its keys
+-- if a dictionary has an attribute at a key, the key is one of its keys
 pub no_test : (a b : Bool) → (not a && not b) ≡ true → (a ≡ false) × (b ≡ false)
 no_test true b e = absurd (true≢false (sym e))
 no_test false true e = absurd (true≢false (sym e))
 no_test false false e = (refl, refl)
 
-entry_key : (c : Things) (k a : ℕ) (es : List (ℕ × ℕ)) → IsSound c → IsName c k → AllByRecursion (λ (e : ℕ × ℕ). IsName c e.0 × IsAttr c e.1) es → entry_at (key_before_in c) k es ≡ Some a → has_key k es ≡ true
+entry_key : (c : ContextModel) (k a : ℕ) (es : List (ℕ × ℕ)) → IsSound c → IsName c k → AllByRecursion (λ (e : ℕ × ℕ). IsName c e.0 × IsAttr c e.1) es → entry_at (key_before_in c) k es ≡ Some a → has_key k es ≡ true
 entry_key c k a [] sound key all e = absurd cc
 entry_key c k a (d ∷ es) sound key all e = ⊎_elim
     (λ same. let n = no_test (key_before_in c k d.0) (key_before_in c d.0 k) same in
@@ -60,7 +60,7 @@ entry_key c k a (d ∷ es) sound key all e = ⊎_elim
     (λ other. or_right (eqb d.0 k) (has_key k es) (entry_key c k a es sound key all.1 (sym (cond-false (same_key (key_before_in c) k d.0) (Some d.1) (entry_at (key_before_in c) k es) other) ∙ e)))
     (cases_Bool (same_key (key_before_in c) k d.0))
 
-part_key : (c : Things) (part : Part) (k a : ℕ) (o : Op) → IsSound c → IsName c k → IsSoundIn c o → entry_at (key_before_in c) k (part_of part (head o)) ≡ Some a → has_key k (part_of part (head o)) ≡ true
+part_key : (c : ContextModel) (part : Part) (k a : ℕ) (o : Op) → IsSound c → IsName c k → IsSoundIn c o → entry_at (key_before_in c) k (part_of part (head o)) ≡ Some a → has_key k (part_of part (head o)) ≡ true
 part_key c Props k a (op h rs) sound key own e = entry_key c k a h.properties sound key (recursion_from_All _ h.properties (node_known c (op h rs) own).properties) e
 part_key c Attrs k a (op h rs) sound key own e = entry_key c k a h.attributes sound key (recursion_from_All _ h.attributes (node_known c (op h rs) own).attributes) e
 
@@ -72,7 +72,7 @@ mapped_is : {X Y : Type 0} (f : X → Y) (q : Option X) → is_some q ≡ true �
 mapped_is f None e = e
 mapped_is f (Some a) e = refl
 
-attr_if : (c : Things) (a : Option ℕ) → IsAttrOrNone c a → IfSome a (λ b. IsAttr c b)
+attr_if : (c : ContextModel) (a : Option ℕ) → IsAttrOrNone c a → IfSome a (λ b. IsAttr c b)
 attr_if c None h = tt
 attr_if c (Some a) h = h
 
@@ -80,25 +80,25 @@ is_there : (x : ℕ) (t o : Op) → find x t ≡ Some o → has_id x t ≡ true
 is_there x t o e = ⊎_elim (λ y. y) (λ n. (let bad : None ≡ Some o = sym (absent_find x t n) ∙ e in absurd cc)) (cases_Bool (has_id x t))
 
 -- a step back
-changes_back : (c : Things) (e : Event) (m n : Module) → Changes c e m n → Changes c (inverse_of e) n m
+changes_back : (c : ContextModel) (e : Event) (m n : Module) → Changes c e m n → Changes c (inverse_of e) n m
 changes_back c (Put x place fresh) m n h = h
 changes_back c (Take x place fresh) m n h = h
 changes_back c (SetOperand x k old new) m n h = record { was = h.is; is = h.was; after = h.before; before = h.after; next = sym h.next }
 changes_back c (SetEntry x part k old new) m n h = record { was = h.is; is = h.was; after = h.before; before = h.after; next = sym h.next }
 changes_back c (Shift x old new) m n h = record { was = h.is; is = h.was; same = sym h.same; rest = sym h.rest; table = sym h.table; next = sym h.next }
 
-numbers_back : (c : Things) (e : Event) → EventIsOf c e → EventIsOf c (inverse_of e)
+numbers_back : (c : ContextModel) (e : Event) → EventIsOf c e → EventIsOf c (inverse_of e)
 numbers_back c (Put x place fresh) h = tt
 numbers_back c (Take x place fresh) h = tt
 numbers_back c (SetOperand x k old new) h = tt
 numbers_back c (SetEntry x part k old new) h = (h.0, (h.1.1, h.1.0))
 numbers_back c (Shift x old new) h = tt
 
-step_back : (c : Things) (e : Event) (m n : Module) → Step c e m n → Step c (inverse_of e) n m
+step_back : (c : ContextModel) (e : Event) (m n : Module) → Step c e m n → Step c (inverse_of e) n m
 step_back c e m n s = record { before = s.after; after = s.before; sorted_before = s.sorted_after; sorted_after = s.sorted_before; numbers = numbers_back c e s.numbers; changes = changes_back c e m n s.changes }
 
-module _ (c : Things) (s : Stored) where
-  -- what the step says is there now
+module _ (c : ContextModel) (s : Stored) where
+  -- the part of the step's change that is undone is in the store
   entry_can : (x : ℕ) (part : Part) (k : ℕ) (old new : Option ℕ) (p : Module) → IsSound c → IsSoundIn c s.module_of.tree → Step c (SetEntry x part k old new) p (module_meaning c s.module_of)
       → has_slot x part k s ≡ true → (old ≡ None → is_some new ≡ true) → CanRevert x part k old s
   entry_can x part k old new p sound own step slot set = go (find x s.module_of.tree) refl (sym (map_entry_in (name_term c) (type_term c) (attr_term c) key_before x part k s.module_of.tree) ∙ step.changes.is)
@@ -122,14 +122,14 @@ module _ (c : Things) (s : Stored) where
   restore_can : (x : ℕ) (place : Place) (fresh : Bool) (o : Op) → finmap.get s.held x ≡ Some o → MayRestore x place fresh o s.module_of → CanRestore x place fresh s
   restore_can x place fresh o e m = record {
     held = ap is_some e;
-    spot = m.spot;
+    point = m.point;
     values = λ q f. (let two : Some o ≡ Some q = sym e ∙ f in let one : o ≡ q = cc in subst (λ (z : Op). list_all (λ v. has_value v s.module_of.tree) (head z).operands ≡ true) one m.values);
     newest = m.newest;
     room = m.room;
     below = m.below;
   }
 
-  -- what an event led to can be undone
+  -- an event that led to the module can be undone
   pub may_undo : (e : Event) (p : Module) → IsSound c → IsSoundIn c s.module_of.tree → CameFrom c e p s → MayUndo c e s
   may_undo (Put x place fresh) p sound own f = retract_can x fresh (put_undone c x place fresh p s.module_of f.step).0
   may_undo (Take x place fresh) p sound own f = restore_can x place fresh f.keeps.0 f.keeps.1 (take_undone c x place fresh p s.module_of f.step f.keeps.0 f.keeps.2).0
@@ -145,7 +145,7 @@ module _ (c : Things) (s : Stored) where
   raised_is true x n = refl
   raised_is false x n = refl
 
-  -- and that leads back
+  -- and undoing it leads back
   pub led_back : (e : Event) (p : Module) → CameFrom c e p s → module_meaning c (undone c e s).module_of ≡ p
   led_back (Put x place fresh) p f =
       ap (λ n. module_meaning c (record { tree = without x s.module_of.tree; next = n })) (lowered_is fresh x s.module_of.next) ∙ (put_undone c x place fresh p s.module_of f.step).1
@@ -155,11 +155,11 @@ module _ (c : Things) (s : Stored) where
   led_back (SetEntry x part k old new) p f = entry_undone c x part k old new p s.module_of f.step
   led_back (Shift x old new) p f = (shift_undone c x old new p s.module_of f.step).1
 
-  -- well-formed modules stay so
+  -- well-formed modules stay well-formed
   pub undone_formed : (e : Event) (p : Module) → CameFrom c e p s → IsWellFormed (isolated_in c) (undone c e s).module_of
   undone_formed e p f = formed_numbers c (undone c e s).module_of (subst (IsWellFormed is_isolated) (sym (led_back e p f)) f.step.before)
 
-  -- and sound
+  -- sound modules stay sound
   pub undone_sound : (e : Event) (p : Module) → CameFrom c e p s → IsSoundIn c s.module_of.tree → HeldIsSound c s.held → IsSoundIn c (undone c e s).module_of.tree
   undone_sound (Put x place fresh) p f own held = without_sound c x s.module_of.tree own
   undone_sound (Take x place fresh) p f own held = subst (λ q. IsSoundIn c (put_held place q s.module_of.tree)) (sym f.keeps.1) (put_sound c place f.keeps.0 s.module_of.tree (held x f.keeps.0 f.keeps.1) own)
@@ -176,7 +176,7 @@ module _ (c : Things) (s : Stored) where
       out : finmap.get (finmap.remove s.held x) y ≡ cond (eqb y x) None (finmap.get s.held y)
       out = finmap.get-remove nat_cmp_total s.held x y ∙ ap (λ b. cond b None (finmap.get s.held y)) (eq_nat y x)
 
-  -- and what is held too
+  -- and so do the held operations
   pub undone_held : (e : Event) (p : Module) → CameFrom c e p s → IsSoundIn c s.module_of.tree → HeldIsSound c s.held → HeldIsSound c (undone c e s).held
   undone_held (Put x place fresh) p f own held = hold_sound c x (find x s.module_of.tree) s.held (λ o e. found_sound c x s.module_of.tree o own e) held
   undone_held (Take x place fresh) p f own held = λ y o e. held y o (removed x y o e)
@@ -184,7 +184,7 @@ module _ (c : Things) (s : Stored) where
   undone_held (SetEntry x part k old new) p f own held = held
   undone_held (Shift x old new) p f own held = held
 
-  -- what is taken by it is shown as it was
+  -- a removed operation is shown unchanged
   pub undone_shown : (e : Event) (p : Module) → CameFrom c e p s → ShowsTaken (inverse_of e) (module_meaning c s.module_of) (λ x. option_map (λ o. node_of (meaning c o)) (known x (undone c e s)))
   undone_shown (Put x place fresh) p f = let m = (put_undone c x place fresh p s.module_of f.step).0 in still_shown c x s s m.there m.inner
   undone_shown (Take x place fresh) p f = tt
@@ -192,6 +192,6 @@ module _ (c : Things) (s : Stored) where
   undone_shown (SetEntry x part k old new) p f = tt
   undone_shown (Shift x old new) p f = tt
 
-  -- it is a step back
+  -- undoing is a step back
   pub undone_step : (e : Event) (p : Module) → CameFrom c e p s → Step c (inverse_of e) (module_meaning c s.module_of) (module_meaning c (undone c e s).module_of)
   undone_step e p f = subst (λ (n : Module). Step c (inverse_of e) (module_meaning c s.module_of) n) (sym (led_back e p f)) (step_back c e p (module_meaning c s.module_of) f.step)

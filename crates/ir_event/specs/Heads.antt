@@ -1,4 +1,4 @@
--- What the operations of a tree have beside their regions, in a list.
+-- The heads of the operations of a tree, as a list.
 use Rattle.std.specs.Prelude.{List, [], ◌∷◌, ◌++◌}
 use Rattle.ir_store.specs.trees.declared.value.Value.{Value}
 use Rattle.ir_store.specs.trees.Tree.{HeadOf, OpOf, op, RegionsOf, no_regions, region, RegionOf, empty, block, OpsOf, no_ops, next}
@@ -21,6 +21,6 @@ abbrev mutual
   ops_heads no_ops = []
   ops_heads (next o os) = heads o ++ ops_heads os
 
--- the operands at heads, one after another
+-- the concatenated operands of the heads
 abbrev pub all_operands : {N T A : Type 0} → List (HeadOf N T A) → List Value
 all_operands hs = gather (λ h. h.operands) hs

@@ -4,7 +4,7 @@ pub mod Rows
 pub mod Tags
 pub mod Heads
 pub mod Listener
-pub mod Hearing
+pub mod Notification
 pub mod Bounds
 pub mod Panels
 pub mod Looks

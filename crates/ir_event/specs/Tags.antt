@@ -1,4 +1,4 @@
--- The words of rows, by their numbers.
+-- The words in rows, by their numbers.
 use Rattle.std.specs.Prelude.{ℕ}
 use Rattle.ir_event.specs.declared.tag.Tag.{Tag}
 use Rattle.ir_event.specs.declared.tag.Tag.TheVariants as word

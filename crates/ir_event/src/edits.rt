@@ -1,4 +1,4 @@
-//! Operations are put and taken, operands and entries are set, each with its event.
+//! The edits of an IR state: each returns its event.
 ghost use Rattle.std.specs.Prelude.{◌≡◌, Some, None, true, IfOk, OnOk, OnErr, IfErr, IfSome, MatchResult, Err};
 ghost use Rattle.std.specs.FinMap as finmap;
 ghost use Rattle.op_registry.specs.types.Reasons.{IsRefusedFor};
@@ -12,7 +12,7 @@ ghost use Rattle.ir_store.specs.tree_laws.Changes.{entry_in};
 ghost use Rattle.ir_store.specs.tree_laws.Reasons.{holds_none, put_reason, set_entry_reason, set_operand_reason, shift_reason, take_reason};
 ghost use Rattle.ir_store.specs.Calls.{WantsNoSlot, after_entry, after_operand, after_put, after_shift, after_take};
 ghost use Rattle.ir_event.specs.declared.event.Event.TheVariants.{Put};
-ghost use Rattle.ir_event.specs.Modules.{things_in, module_in, shown_in};
+ghost use Rattle.ir_event.specs.Modules.{context_model, module_in, node_of_op};
 ghost use Rattle.ir_event.specs.Listener.{ShowsTaken};
 ghost use Rattle.ir_event.specs.Step.{IsOperandEvent, IsOperandStep};
 ghost use Rattle.ir_event.specs.Edits.{IsEntryEvent, IsEntryStep, IsPutStep, IsShiftEvent, IsShiftStep, IsTakeStep};
@@ -29,17 +29,17 @@ use op_registry::types::ids::{AttrId, NameId, OpId};
 use op_registry::types::refusal::Refusal;
 
 impl World {
-    /// Puts an operation at a place of the module, and gives the event: one like a header, whose blocks hold none and
-    /// whose id isn't looked at. Its id is the next free one.
+    /// Inserts an operation like `header` at `place` and returns the event. The id of the operation is the next free
+    /// one. The blocks of `header` hold no operations, and the id of `header` is ignored.
     ///
-    /// Refusals: `NoSuchOp` where the place's parent isn't in the module; `NoSuchIndex` where that has no such place;
-    /// `Full`; `IdsExhausted`; `TooDeepHere`; `NoSuchValue`; `NotVisible` where it wouldn't see an operand; in this
-    /// order; and `Memory`.
+    /// Refusals, in this order: `NoSuchOp` if the parent of `place` isn't in the module; `NoSuchIndex` if the parent
+    /// has no such place; `Full`; `IdsExhausted`; `TooDeepHere`; `NoSuchValue`; `NotVisible` if an operand isn't
+    /// visible at `place`; and `Memory`.
     pub fn put(&mut self, place: Place, header: &TreeOp) -> Result<Event, Refusal>
         requires sound { IsSoundIn self.old.ctx header.now }
         requires bare { holds_none (Some header.now) ≡ true }
         requires unheld { finmap.get self.old.store.held self.old.store.module_of.next ≡ None }
-        ensures step { IfOk result (λ e. IsPutStep place e (things_in self.old) (module_in self.old) (module_in self.new)) }
+        ensures step { IfOk result (λ e. IsPutStep place e (context_model self.old) (module_in self.old) (module_in self.new)) }
         ensures store { OnOk result (self.new.store ≡ after_put place header.now self.old.store) }
         ensures ctx { self.new.ctx ≡ self.old.ctx }
         ensures refused { MatchResult result (λ _. put_reason (isolated_in self.old.ctx) place header.now self.old.store.module_of.next self.old.store.module_of.tree ≡ None)
@@ -49,12 +49,12 @@ impl World {
         put_in(&self.ctx, &mut self.store, &place, header)
     }
 
-    /// Takes an operation out of the module, and gives the event. It is held then, and shown as it was.
+    /// Takes an operation out of the module and returns the event. The operation is held, unchanged.
     ///
     /// Refusals, in order: `NoSuchOp`; `IsRoot`; `NotEmpty`; `HasUses`.
     pub fn take(&mut self, op: OpId) -> Result<Event, Refusal>
-        ensures step { IfOk result (λ e. IsTakeStep op e (things_in self.old) (module_in self.old) (module_in self.new)) }
-        ensures shown { IfOk result (λ e. ShowsTaken e (module_in self.old) (shown_in self.new)) }
+        ensures step { IfOk result (λ e. IsTakeStep op e (context_model self.old) (module_in self.old) (module_in self.new)) }
+        ensures shown { IfOk result (λ e. ShowsTaken e (module_in self.old) (node_of_op self.new)) }
         ensures store { OnOk result (self.new.store ≡ after_take op self.old.store) }
         ensures ctx { self.new.ctx ≡ self.old.ctx }
         ensures refused { MatchResult result (λ _. take_reason op self.old.store.module_of.tree ≡ None) (λ e. take_reason op self.old.store.module_of.tree ≡ Some e) }
@@ -75,13 +75,12 @@ impl World {
         })
     }
 
-    /// Makes a value operand k of an operation, in place of the one that was there, and gives the event. It takes no
-    /// memory.
+    /// Sets operand `k` of `op` to `value` and returns the event. Needs no memory.
     ///
-    /// Refusals, in order: `NoSuchOp`; `NoSuchIndex` where it has no such operand; `NoSuchValue`; `NotVisible` where
-    /// the operation doesn't see the value.
+    /// Refusals, in order: `NoSuchOp`; `NoSuchIndex` if `op` has no such operand; `NoSuchValue`; `NotVisible` if
+    /// `value` isn't visible at `op`.
     pub fn set_operand(&mut self, op: OpId, k: u32, value: Value) -> Result<Event, Refusal>
-        ensures step { IfOk result (λ e. IsOperandStep op k value e (things_in self.old) (module_in self.old) (module_in self.new)) }
+        ensures step { IfOk result (λ e. IsOperandStep op k value e (context_model self.old) (module_in self.old) (module_in self.new)) }
         ensures store { OnOk result (self.new.store ≡ after_operand op k value self.old.store) }
         ensures ctx { self.new.ctx ≡ self.old.ctx }
         ensures refused { MatchResult result (λ _. set_operand_reason (isolated_in self.old.ctx) op k value self.old.store.module_of.tree ≡ None)
@@ -91,11 +90,11 @@ impl World {
         set_in(&self.ctx, &mut self.store, op, k, &value)
     }
 
-    /// Sets a key of one dictionary of an operation to an attribute, or takes it out, and gives the event. It wants
-    /// memory only where the key has no slot.
+    /// Sets a key of one dictionary of an operation to an attribute, or removes the key, and returns the event. Memory
+    /// is needed only if the key has no slot.
     ///
-    /// Refusals, in order: `NoSuchOp`; `NoSuchKey` where there is no entry to be taken out; `Full` where the dictionary
-    /// has no room for one more; and `Memory`.
+    /// Refusals, in order: `NoSuchOp`; `NoSuchKey` if there is no entry to remove; `Full` if the dictionary is at its
+    /// capacity; and `Memory`.
     pub fn set_entry(
         &mut self,
         op: OpId,
@@ -105,7 +104,7 @@ impl World {
     ) -> Result<Event, Refusal>
         requires key { IsName self.old.ctx key }
         requires value { IfSome value (λ a. IsAttr self.old.ctx a) }
-        ensures step { IfOk result (λ e. IsEntryStep op part key value e (things_in self.old) (module_in self.old) (module_in self.new)) }
+        ensures step { IfOk result (λ e. IsEntryStep op part key value e (context_model self.old) (module_in self.old) (module_in self.new)) }
         ensures store { OnOk result (self.new.store ≡ after_entry (key_before_in self.old.ctx) op part key value self.old.store) }
         ensures ctx { self.new.ctx ≡ self.old.ctx }
         ensures refused { MatchResult result (λ _. set_entry_reason (key_before_in self.old.ctx) op part key value self.old.store.module_of.tree ≡ None)
@@ -116,13 +115,13 @@ impl World {
         enter_in(&self.ctx, &mut self.store, op, &part, key, &value)
     }
 
-    /// Shifts an operation, with what is inside it, to a place of the module, and gives the event. It takes no memory.
+    /// Moves `op`, with everything inside it, to `place` and returns the event. Needs no memory.
     ///
-    /// Refusals, in order: `NoSuchOp` where it, or the place's parent, isn't in the module; `IsRoot`; `NoSuchIndex`
-    /// where there is no such place; `IntoItself`; `OtherTable` where another nearest symbol table is around the place;
-    /// `TooDeepHere`; `NotVisible` where an operand wouldn't be visible any more.
+    /// Refusals, in order: `NoSuchOp` if `op` or the parent of `place` isn't in the module; `IsRoot`; `NoSuchIndex` if
+    /// there is no such place; `IntoItself`; `OtherTable` if the nearest symbol table around `place` is another one;
+    /// `TooDeepHere`; `NotVisible` if an operand would no longer be visible.
     pub fn shift(&mut self, op: OpId, place: Place) -> Result<Event, Refusal>
-        ensures step { IfOk result (λ e. IsShiftStep op place e (things_in self.old) (module_in self.old) (module_in self.new)) }
+        ensures step { IfOk result (λ e. IsShiftStep op place e (context_model self.old) (module_in self.old) (module_in self.new)) }
         ensures store { OnOk result (self.new.store ≡ after_shift op place self.old.store) }
         ensures ctx { self.new.ctx ≡ self.old.ctx }
         ensures refused { MatchResult result (λ _. shift_reason (isolated_in self.old.ctx) (λ n. is_table (name_term self.old.ctx n)) op place self.old.store.module_of.tree ≡ None)
@@ -133,7 +132,7 @@ impl World {
     }
 }
 
-/// Puts an operation at a place of a store's module.
+/// Inserts an operation into a store's module and returns the event.
 fn put_in(
     ctx: &Context,
     store: &mut Store,
@@ -159,7 +158,7 @@ fn put_in(
     }
 }
 
-/// Sets an entry of a store's module.
+/// Sets or removes an entry in a store's module and returns the event.
 fn enter_in(
     ctx: &Context,
     store: &mut Store,
@@ -196,7 +195,7 @@ fn enter_in(
     })
 }
 
-/// Sets an operand of a store's module.
+/// Sets an operand in a store's module and returns the event.
 fn set_in(
     ctx: &Context,
     store: &mut Store,
@@ -223,7 +222,7 @@ fn set_in(
     })
 }
 
-/// Shifts an operation in a store's module.
+/// Moves an operation in a store's module and returns the event.
 fn shift_in(ctx: &Context, store: &mut Store, op: OpId, place: &Place) -> Result<Event, Refusal>
     requires { IsWellFormed (isolated_in ctx.now) store.old.module_of }
     ensures event { IfOk result (λ e. IsShiftEvent op place.now store.old.module_of.tree e) }
@@ -248,7 +247,7 @@ fn shift_in(ctx: &Context, store: &mut Store, op: OpId, place: &Place) -> Result
     })
 }
 
-/// The attribute at a key among entries, if there is one.
+/// Returns the attribute at a key among entries, or `None` if there is none.
 fn entry_among(ctx: &Context, entries: &[(NameId, AttrId)], key: NameId) -> Option<AttrId>
     ensures { result ≡ entry_at (key_before_in ctx.now) key entries.now }
 {
@@ -262,7 +261,7 @@ fn entry_among(ctx: &Context, entries: &[(NameId, AttrId)], key: NameId) -> Opti
     None
 }
 
-/// What one dictionary of an operation has at a key, or none where the operation isn't in the module.
+/// Returns the attribute at a key of one dictionary of an operation, or `None` if there is no such entry or operation.
 fn entry_of(
     ctx: &Context,
     store: &Store,

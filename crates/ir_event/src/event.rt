@@ -1,4 +1,4 @@
-//! Events: the elementary edits, as listeners are told of them.
+//! Events: the elementary edits, of which listeners are notified.
 ghost use Rattle.std.specs.Prelude.{◌≡◌};
 ghost use Rattle.ir_event.specs.Step.{inverse_of};
 
@@ -9,27 +9,27 @@ use op_registry::types::ids::{AttrId, NameId, OpId};
 /// One elementary edit of a module.
 #[derive(Clone, Copy, Debug, PartialEq, Eq)]
 pub enum Event {
-    /// An operation without operations in its blocks was put at a place. Where it is fresh the next free id
-    /// became its own, and rose by one.
+    /// An operation with empty blocks was inserted at a place. If `fresh`, its id was the next free one, which rose by
+    /// one.
     Put {
         op: OpId,
         place: Place,
         fresh: bool,
     },
-    /// It was taken away from there. Where it is fresh its id, the newest, became free again.
+    /// The operation was taken out from the place. If `fresh`, its id, the newest, is free again.
     Take {
         op: OpId,
         place: Place,
         fresh: bool,
     },
-    /// Operand k of an operation, counted from 0, was set to a new value.
+    /// Operand `k` of an operation, counted from 0, was set from one value to another.
     SetOperand {
         op: OpId,
         k: u32,
         old: Value,
         new: Value,
     },
-    /// An entry of one dictionary of an operation was set, changed or removed.
+    /// An entry of one dictionary of an operation was added, changed or removed.
     SetEntry {
         op: OpId,
         part: Part,
@@ -37,7 +37,7 @@ pub enum Event {
         old: Option<AttrId>,
         new: Option<AttrId>,
     },
-    /// An operation, with what is inside it, was moved to a new place.
+    /// An operation, with everything inside it, was moved from one place to another.
     Shift {
         op: OpId,
         old: Place,
@@ -45,7 +45,7 @@ pub enum Event {
     },
 }
 
-/// The event that undoes an event.
+/// Returns the event that undoes an event.
 pub fn inverse(event: Event) -> Event
     ensures { result ≡ inverse_of event }
 {

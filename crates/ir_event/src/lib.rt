@@ -1,5 +1,5 @@
-//! Each listener that is told of an event and agreed with the module before it agrees with the module after
-//! it, or is stale, and a panel tells every one of its listeners.
+//! Events and listeners. A listener that is notified of an event, and agreed with the module before it, agrees with the
+//! module after it or is stale. A panel notifies all of its listeners.
 #![tactic(auto)]
 
 pub mod analysis;

@@ -1,9 +1,9 @@
-//! Worlds that are made.
+//! Creates IR states.
 ghost use Rattle.std.specs.Prelude.{◌≡◌, ◌<◌, ◌⊎◌, IfOk, IfErr, Some};
 ghost use Rattle.std.specs.List.{All};
 ghost use Rattle.ir_store.specs.trees.Ids.{ids, HasDistinctIds};
 ghost use Rattle.ir_store.specs.trees.Meaning.{isolated_in, IsSoundIn};
-ghost use Rattle.ir_store.specs.trees.WellFormed.{IsFormed, fault};
+ghost use Rattle.ir_store.specs.trees.WellFormed.{IsValidTree, fault};
 ghost use Rattle.ir_store.specs.Calls.{Loaded};
 
 use crate::world::World;
@@ -15,9 +15,10 @@ use op_registry::types::refusal::Refusal;
 use std::alloc::Global;
 
 impl World {
-    /// A world with a context, the rows of its operations, and a module with a tree and a next free id.
+    /// Returns an IR state with a context, the registry of its operations, and a module with the tree `tree` and the
+    /// next free id `next`.
     ///
-    /// Refusals: `UnknownValue`, `TooDeep`, `TooMany` in this order; `Memory`.
+    /// Refusals, in this order: `UnknownValue`, `TooDeep`, `TooMany`; and `Memory`.
     pub fn load(
         alloc: Global,
         ctx: Context,
@@ -40,10 +41,10 @@ impl World {
         })
     }
 
-    /// A world of a tree that is handed over, and is known to be formed: it isn't checked again.
+    /// Returns an IR state with a tree that is known to be well-formed, without checking it again.
     ///
-    /// Refusals: `Memory` alone.
-    pub fn hold(
+    /// Refusals: `Memory`.
+    pub fn from_checked(
         alloc: Global,
         ctx: Context,
         registry: Registry,
@@ -53,12 +54,12 @@ impl World {
         requires sound { IsSoundIn ctx tree }
         requires distinct { HasDistinctIds tree }
         requires below { All (λ x. x < next) (ids tree) }
-        requires formed { IsFormed (isolated_in ctx) tree }
+        requires formed { IsValidTree (isolated_in ctx) tree }
         ensures ctx { IfOk result (λ w. w.ctx ≡ ctx) }
         ensures store { IfOk result (λ w. Loaded tree next w.store) }
         ensures refused { IfErr result (λ e. e ≡ Refusal.Memory) }
     {
-        let store = Store::hold(alloc, &ctx, tree, next)?;
+        let store = Store::from_checked(alloc, &ctx, tree, next)?;
         Ok(World {
             ctx,
             registry,

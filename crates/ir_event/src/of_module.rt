@@ -1,4 +1,4 @@
-//! What a world's module has.
+//! Reads of the module of an IR state.
 ghost use Rattle.std.specs.Prelude.{◌≡◌, IfSome, option_map};
 ghost use Rattle.ir_store.specs.trees.Ids.{find};
 ghost use Rattle.ir_store.specs.Nodes.{node_of};
@@ -10,8 +10,8 @@ use ir_store::node::Node;
 use op_registry::types::ids::OpId;
 
 impl World {
-    /// What an operation of the module has; none where it isn't in the module. The store's own `node` also answers for an
-    /// operation that was taken out and is held, so whoever asks about the module asks this.
+    /// Returns an operation of the module without the operations in its blocks, or `None` if it isn't in the module.
+    /// The store's `node` also answers for held operations, so reads of the module use this call.
     pub fn shown(&self, op: OpId) -> Option<Node<'_>>
         ensures node { result ≡ option_map node_of (find op self.now.store.module_of.tree) }
         ensures of { IfSome result (NodeIsOf self.now.ctx) }

@@ -1,11 +1,11 @@
-//! The panel, which owns listeners.
+//! The list of listeners (`Panel`).
 ghost use Rattle.std.specs.Prelude.{◌≡◌, ◌⊎◌, [], OnOk, OnErr, IfErr, true, false, position, MatchResult, IsErrOf, option_map};
 ghost use Rattle.std.specs.List.{find};
-ghost use Rattle.op_registry.specs.types.Things.{Things};
+ghost use Rattle.op_registry.specs.types.Things.{ContextModel};
 ghost use Rattle.op_registry.specs.types.declared.refusal.Refusal.TheVariants.{NoSuchKind, Stale, Memory as NoMemory};
-ghost use Rattle.ir_event.specs.Modules.{Module, things_in, module_in, shown_in};
+ghost use Rattle.ir_event.specs.Modules.{Module, context_model, module_in, node_of_op};
 ghost use Rattle.ir_event.specs.Rows.{Shows};
-ghost use Rattle.ir_event.specs.Panels.{has_kind, is_kind, AllTold, AttachedLast, HandedBack, Detached, BegunAgain, NotBegunAgain, IsListener};
+ghost use Rattle.ir_event.specs.Panels.{has_kind, is_kind, AllNotified, AttachedLast, HandedBack, Detached, BegunAgain, NotBegunAgain, IsListener};
 
 use crate::analysis::Analysis;
 use crate::event::Event;
@@ -16,7 +16,7 @@ use op_registry::types::refusal::Refusal;
 use std::alloc::Global;
 use std::marker::Model;
 
-/// Listeners, at most one of each kind, in the order in which they were attached. A contract sees their list.
+/// Listeners, at most one of each kind, in the order in which they were attached. A contract sees the list.
 #[derive(Drop)]
 pub struct Panel<L> {
     listeners: Vec<L>,
@@ -31,7 +31,7 @@ impl<L> Model for Panel<L> {
 }
 
 fn tell_all<L: Analysis>(listeners: &mut [L], world: &World, event: &Event)
-    ensures { AllTold L.meaning event.now (things_in world.now) (module_in world.now) (shown_in world.now) listeners.old listeners.new }
+    ensures { AllNotified L.meaning event.now (context_model world.now) (module_in world.now) (node_of_op world.now) listeners.old listeners.new }
 {
     for listener in listeners {
         let _ = listener.told(View::new(world), *event);
@@ -49,7 +49,7 @@ fn place_of_kind<L: Analysis>(listeners: &[L], kind: Kind) -> Option<usize>
 }
 
 impl<L: Analysis> Panel<L> {
-    /// A panel without listeners.
+    /// Returns a panel without listeners.
     pub fn new(alloc: Global) -> Panel<L>
         ensures { result ≡ [] }
     {
@@ -58,14 +58,14 @@ impl<L: Analysis> Panel<L> {
         }
     }
 
-    /// The listeners, in the order in which they were attached.
+    /// Returns the listeners, in the order in which they were attached.
     pub fn listeners(&self) -> &[L]
         ensures { result.now ≡ self.now }
     {
         &self.listeners
     }
 
-    /// The listener of a kind, if one is attached.
+    /// Returns the listener of a kind, or `None` if none is attached.
     pub fn listener(&self, kind: Kind) -> Option<&L>
         ensures { option_map (λ listener. listener.now) result ≡ find (is_kind L.meaning kind) self.now }
     {
@@ -76,15 +76,15 @@ impl<L: Analysis> Panel<L> {
         )
     }
 
-    /// Begins a listener and adds it last, or hands it back.
+    /// Starts a listener and adds it last. If the call is refused, it returns the listener.
     ///
-    /// Refusals: `KindTaken` where one of its kind is attached, and then it is as it was; `Memory`, and then it is
-    /// stale, or it has begun and there was no room for it.
+    /// Refusals: `KindTaken` if a listener of its kind is attached, and then `listener` is unchanged; `Memory`, and
+    /// then `listener` is stale, or has started and could not be added.
     pub fn attach(&mut self, world: &World, listener: L) -> Result<(), (Refusal, L)>
-        ensures ok { OnOk result (AttachedLast L.meaning (things_in world.now) (module_in world.now) listener self.old self.new) }
+        ensures ok { OnOk result (AttachedLast L.meaning (context_model world.now) (module_in world.now) listener self.old self.new) }
         ensures err { OnErr result (self.new ≡ self.old) }
         ensures back { IfErr result (λ e. HandedBack L.meaning self.old listener e.0 e.1) }
-        ensures begun { IfErr result (λ e. e.0 ≡ NoMemory → ((L.meaning e.1).stale ≡ true) ⊎ (L.meaning e.1).agrees (things_in world.now) (module_in world.now)) }
+        ensures begun { IfErr result (λ e. e.0 ≡ NoMemory → ((L.meaning e.1).stale ≡ true) ⊎ (L.meaning e.1).agrees (context_model world.now) (module_in world.now)) }
     {
         if place_of_kind(&self.listeners, listener.kind()).is_some() {
             return Err((Refusal::KindTaken, listener));
@@ -99,9 +99,9 @@ impl<L: Analysis> Panel<L> {
         }
     }
 
-    /// Drops the listener of a kind. The others stay in order.
+    /// Removes the listener of a kind. The others keep their order.
     ///
-    /// Refusals: `NoSuchKind` alone.
+    /// Refusals: `NoSuchKind`.
     pub fn detach(&mut self, kind: Kind) -> Result<(), Refusal>
         ensures ok { OnOk result (Detached L.meaning kind self.old self.new) }
         ensures err { OnErr result (self.new ≡ self.old) }
@@ -116,11 +116,11 @@ impl<L: Analysis> Panel<L> {
         }
     }
 
-    /// Begins the listener of a kind again. The others stay as they are.
+    /// Restarts the listener of a kind. The others are unchanged.
     ///
     /// Refusals: `NoSuchKind`; `Memory`, and then the listener is stale.
     pub fn resync(&mut self, world: &World, kind: Kind) -> Result<(), Refusal>
-        ensures ok { OnOk result (BegunAgain L.meaning kind (λ b. b.agrees (things_in world.now) (module_in world.now)) self.old self.new) }
+        ensures ok { OnOk result (BegunAgain L.meaning kind (λ b. b.agrees (context_model world.now) (module_in world.now)) self.old self.new) }
         ensures err { IfErr result (λ e. NotBegunAgain L.meaning kind self.old self.new e) }
     {
         match place_of_kind(&self.listeners, kind) {
@@ -132,12 +132,12 @@ impl<L: Analysis> Panel<L> {
         }
     }
 
-    /// The rows of the listener of a kind.
+    /// Returns the report rows of the listener of a kind.
     ///
     /// Refusals: `NoSuchKind`; `Stale`; `Memory`.
     pub fn report(&self, kind: Kind) -> Result<Vec<Row>, Refusal>
         ensures missing { has_kind L.meaning kind self.now ≡ false → IsErrOf result NoSuchKind }
-        ensures agreed { (b : L) (c : Things) (m : Module) → IsListener L.meaning kind self.now b → (L.meaning b).agrees c m → MatchResult result (λ rows. Shows c rows.items ((L.meaning b).analysis m.tree)) (λ e. e ≡ NoMemory) }
+        ensures agreed { (b : L) (c : ContextModel) (m : Module) → IsListener L.meaning kind self.now b → (L.meaning b).agrees c m → MatchResult result (λ rows. Shows c rows.items ((L.meaning b).analysis m.tree)) (λ e. e ≡ NoMemory) }
         ensures stale { (b : L) → IsListener L.meaning kind self.now b → (L.meaning b).stale ≡ true → IsErrOf result Stale }
     {
         match place_of_kind(&self.listeners, kind) {
@@ -150,9 +150,9 @@ impl<L: Analysis> Panel<L> {
         }
     }
 
-    /// Tells every listener of an event that was just made, also past a stale one.
+    /// Notifies every listener of an event that was just made, also those after a stale one.
     pub fn tell(&mut self, world: &World, event: Event)
-        ensures { AllTold L.meaning event (things_in world.now) (module_in world.now) (shown_in world.now) self.old self.new }
+        ensures { AllNotified L.meaning event (context_model world.now) (module_in world.now) (node_of_op world.now) self.old self.new }
     {
         tell_all(&mut self.listeners, world, &event);
     }

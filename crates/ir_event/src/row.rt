@@ -20,7 +20,7 @@ pub enum Cell {
     Name(NameId),
     /// A symbol reference.
     Path(AttrId),
-    /// A known value.
+    /// A constant.
     Bits(Bits),
     /// A rule of the verifier, by its number.
     Rule(u8),
@@ -34,7 +34,7 @@ pub struct Row {
     pub cells: Vec<Cell>,
 }
 
-/// The kind of an analysis, by its number.
+/// The kind of an analysis, as a number.
 #[derive(Clone, Copy, Debug, PartialEq, Eq)]
 pub struct Kind(pub u8);
 
@@ -53,29 +53,29 @@ impl Kind {
     /// The symbols of a module.
     pub const SYMBOLS: Kind = Kind(2);
 
-    /// The rules that operations break.
+    /// The verifier's diagnostics of operations.
     pub const DIAGNOSTICS: Kind = Kind(3);
 
     /// The effects of operations.
     pub const EFFECTS: Kind = Kind(4);
 
-    /// The operations that nobody would miss.
+    /// The operations that are dead.
     pub const DEAD: Kind = Kind(5);
 
-    /// The values that are known.
+    /// The values that are constants.
     pub const CONSTANTS: Kind = Kind(6);
 
-    /// The private symbols that nothing reaches.
+    /// The private symbols that aren't reachable.
     pub const UNREACHED: Kind = Kind(7);
 
-    /// The kind with a number.
+    /// Returns the kind with this number.
     pub fn new(number: u8) -> Kind
         ensures { result ≡ number }
     {
         Kind(number)
     }
 
-    /// The number of the kind.
+    /// Returns the number of the kind.
     pub fn number(self) -> u8
         ensures { result ≡ self }
     {
@@ -83,15 +83,15 @@ impl Kind {
     }
 }
 
-/// Want of memory.
+/// The error of a call that ran out of memory.
 #[derive(Clone, Copy, Debug, PartialEq, Eq, Error)]
 #[error("memory was refused")]
 pub struct Memory;
 
-/// Why there is no report.
+/// The reason that there is no report.
 #[derive(Clone, Copy, Debug, PartialEq, Eq, Error)]
 pub enum ReportFault {
-    /// The analysis no longer follows the module.
+    /// The analysis is stale.
     #[error("the analysis no longer follows the module")]
     Stale,
     /// Memory was refused.

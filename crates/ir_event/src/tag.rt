@@ -1,8 +1,8 @@
-//! The words of rows.
+//! The words in the rows of reports.
 ghost use Rattle.std.specs.Prelude.{◌≡◌};
 ghost use Rattle.ir_event.specs.Tags.{tag_number};
 
-/// A word of a row. A cell has its number.
+/// A word in a row. A cell has its number.
 #[derive(Clone, Copy, Debug, PartialEq, Eq)]
 pub enum Tag {
     Def = 0,
@@ -18,7 +18,7 @@ pub enum Tag {
 }
 
 impl Tag {
-    /// The number of the word.
+    /// Returns the number of the word.
     pub fn number(self) -> u8
         ensures { result ≡ tag_number self }
     {

@@ -1,4 +1,4 @@
-//! What a listener is shown when it is told of an event.
+//! The view of the module that a listener gets with an event.
 ghost use Rattle.std.specs.Prelude.{◌≡◌, ◌+◌, length, option_map};
 ghost use Rattle.ir_store.specs.trees.Ids.{has_id};
 ghost use Rattle.ir_store.specs.Nodes.{node_of};
@@ -16,7 +16,7 @@ use op_registry::registry::Registry;
 use op_registry::types::context::Context;
 use op_registry::types::ids::{OpId, TypeId};
 
-/// A look at a world. It counts the calls that read the module, and can't be copied.
+/// A view of an IR state. It counts the calls that read the module, and can't be copied.
 #[derive(Drop)]
 pub struct View<'a> {
     world: &'a World,
@@ -24,7 +24,7 @@ pub struct View<'a> {
 }
 
 impl<'a> View<'a> {
-    /// A look at a world, of which nothing was read so far.
+    /// Returns a view of an IR state, with no reads counted.
     pub fn new(world: &'a World) -> View<'a>
         ensures none { result.looks ≡ 0 }
         ensures world { result.world.now ≡ world.entry.now }
@@ -32,28 +32,28 @@ impl<'a> View<'a> {
         View { world, looks: 0 }
     }
 
-    /// How many calls have read the module, or the greatest u64 where there were more.
+    /// Returns the number of calls that have read the module. Saturates at `u64::MAX`.
     pub fn looks(&self) -> u64
         ensures { result ≡ self.now.looks }
     {
         self.looks
     }
 
-    /// The context of the module's names, types and attributes. To ask for it is no look.
+    /// Returns the context. Not counted as a read.
     pub fn context(&self) -> &'a Context
         ensures { result.now ≡ self.now.world.now.ctx }
     {
         &self.world.ctx
     }
 
-    /// The rows of the context's operations. To ask for them is no look.
+    /// Returns the registry of the context's operations. Not counted as a read.
     pub fn registry(&self) -> &'a Registry
         ensures { result.now ≡ self.now.world.now.registry }
     {
         &self.world.registry
     }
 
-    /// Whether an operation is in the module.
+    /// Returns whether an operation is in the module.
     pub fn in_tree(&mut self, op: OpId) -> bool
         ensures answer { result ≡ has_id op self.old.world.now.store.module_of.tree }
         ensures looks { self.new.looks ≡ one_more self.old.looks }
@@ -63,8 +63,8 @@ impl<'a> View<'a> {
         self.world.store.in_tree(op)
     }
 
-    /// What an operation of the module or a held one has, beside the operations in its blocks, or none where
-    /// it is neither.
+    /// Returns an operation without the operations in its blocks, or `None` if the operation is neither in the module
+    /// nor held.
     pub fn node(&mut self, op: OpId) -> Option<Node<'a>>
         ensures answer { result ≡ option_map node_of (known op self.old.world.now.store) }
         ensures looks { self.new.looks ≡ one_more self.old.looks }
@@ -74,7 +74,7 @@ impl<'a> View<'a> {
         self.world.store.node(op)
     }
 
-    /// The operation around an operation, or none where it is the root or isn't in the module.
+    /// Returns the parent operation of `op`, or `None` if `op` is the root or isn't in the module.
     pub fn parent(&mut self, op: OpId) -> Option<OpId>
         ensures answer { result ≡ parent_of op self.old.world.now.store.module_of.tree }
         ensures looks { self.new.looks ≡ one_more self.old.looks }
@@ -84,7 +84,7 @@ impl<'a> View<'a> {
         self.world.store.parent(op)
     }
 
-    /// The first operation of the block of a region, if there is one.
+    /// Returns the first operation of the block of a region, or `None` if there is none.
     pub fn first(&mut self, op: OpId, region: u32) -> Option<OpId>
         ensures answer { result ≡ first_at op region self.old.world.now.store.module_of.tree }
         ensures looks { self.new.looks ≡ one_more self.old.looks }
@@ -94,7 +94,7 @@ impl<'a> View<'a> {
         self.world.store.first(op, region)
     }
 
-    /// The last operation of the block of a region, if there is one.
+    /// Returns the last operation of the block of a region, or `None` if there is none.
     pub fn last(&mut self, op: OpId, region: u32) -> Option<OpId>
         ensures answer { result ≡ last_at op region self.old.world.now.store.module_of.tree }
         ensures looks { self.new.looks ≡ one_more self.old.looks }
@@ -104,7 +104,7 @@ impl<'a> View<'a> {
         self.world.store.last(op, region)
     }
 
-    /// The next operation in the block of an operation, if there is one.
+    /// Returns the operation after `op` in its block, or `None` if there is none.
     pub fn next(&mut self, op: OpId) -> Option<OpId>
         ensures answer { result ≡ next_of op self.old.world.now.store.module_of.tree }
         ensures looks { self.new.looks ≡ one_more self.old.looks }
@@ -114,7 +114,7 @@ impl<'a> View<'a> {
         self.world.store.next(op)
     }
 
-    /// The operation right before an operation in its block, if there is one.
+    /// Returns the operation before `op` in its block, or `None` if there is none.
     pub fn prev(&mut self, op: OpId) -> Option<OpId>
         ensures answer { result ≡ prev_of op self.old.world.now.store.module_of.tree }
         ensures looks { self.new.looks ≡ one_more self.old.looks }
@@ -124,7 +124,7 @@ impl<'a> View<'a> {
         self.world.store.prev(op)
     }
 
-    /// The type of a value, or none where the module has no such value.
+    /// Returns the type of a value, or `None` if the module has no such value.
     pub fn value_type(&mut self, value: Value) -> Option<TypeId>
         ensures answer { result ≡ type_of_value value self.old.world.now.store.module_of.tree }
         ensures looks { self.new.looks ≡ one_more self.old.looks }
@@ -134,7 +134,8 @@ impl<'a> View<'a> {
         self.world.store.value_type(value)
     }
 
-    /// The uses of a value, each once: the operations, and the numbers of the operands. Each is a look too, counted here.
+    /// Returns the uses of a value, each once: the users, and the indices of the operands. Each use counts as a read
+    /// too, and is counted here.
     pub fn uses(&mut self, value: Value) -> UsesOf<'a>
         ensures answer { AreUses value self.old.world.now.store.module_of.tree result }
         ensures looks { self.new.looks ≡ more_looks (length result + 1) self.old.looks }

@@ -1,4 +1,4 @@
-//! What listeners are shown.
+//! The IR state (`World`).
 ghost use Rattle.ir_store.specs.trees.Meaning.{IsSoundIn, isolated_in};
 ghost use Rattle.ir_store.specs.trees.WellFormed.{IsWellFormed};
 ghost use Rattle.ir_event.specs.Facts.{HeldIsSound, sound_prop, formed_prop, held_prop};
@@ -7,8 +7,8 @@ use ir_store::store::Store;
 use op_registry::registry::Registry;
 use op_registry::types::context::Context;
 
-/// A context, the rows of its operations, and a well-formed module. The names, types and attributes of the module
-/// and of what is held of it are numbers of the context.
+/// The IR state: a context, the registry of its operations, and a well-formed module. The names, types and attributes
+/// of the module and of its held operations are ids of the context.
 #[derive(Drop)]
 pub struct World {
     pub ctx: Context,

@@ -1,4 +1,4 @@
--- Which of two comes first in a list where none stands twice.
+-- Which of two items comes first in a list without duplicates.
 use Rattle.std.proofs.Common.{◌≡◌, refl, ap, sym, ◌∙◌, subst, ℕ, Bool, true, false, true≢false, cond, ◌||◌, eqb, eq-eqb, eqb-true, List, [], ◌∷◌, ◌++◌, inl, inr}
 use Rattle.std.specs.List.{list_any, IsDistinct}
 use Rattle.std.proofs.lemmas.List.Folds.{list_any-append}
@@ -54,7 +54,7 @@ not_itself a (x ∷ xs) d = elim (bool_cases (eqb x a)) [
   | inr k ↦ ap (λ e. cond e (there a xs) (comes_after a a xs)) k ∙ not_itself a xs (IsDistinct-tail eqb x xs d)
 ]
 
--- where a stretch of the list is known
+-- a list with a known segment
 module _ (all front own back : List ℕ) (is : all ≡ front ++ (own ++ back)) (d : IsDistinct eqb all) where
   apart : (x : ℕ) → Present x own → Absent x front × Absent x back
   apart x p =
@@ -63,8 +63,8 @@ module _ (all front own back : List ℕ) (is : all ≡ front ++ (own ++ back)) (
         (halves own back h.right).disjoint x p,
       )
 
-  behind_it : (x y : ℕ) → Present x own → Absent y own → comes_after x y all ≡ there y back
-  behind_it x y p n = ap (comes_after x y) is ∙ skip x y front (own ++ back) (apart x p).0 ∙ hit x y own back p n
+  after_it : (x y : ℕ) → Present x own → Absent y own → comes_after x y all ≡ there y back
+  after_it x y p n = ap (comes_after x y) is ∙ skip x y front (own ++ back) (apart x p).0 ∙ hit x y own back p n
 
   before_it : (x y : ℕ) → Present x own → Absent y own → comes_after y x all ≡ there y front
   before_it x y p n = elim (bool_cases (there y front)) [
@@ -72,18 +72,18 @@ module _ (all front own back : List ℕ) (is : all ≡ front ++ (own ++ back)) (
     | inr k ↦ ap (comes_after y x) is ∙ skip y x front (own ++ back) k ∙ skip y x own back n ∙ never_later y x back (apart x p).1 ∙ sym k
   ]
 
-  -- two of the stretch come alike before and behind one that isn't of it
+  -- an item outside of the stretch is before all items of the stretch, or after all of them
   pub same_first : (x p y : ℕ) → Present x own → Present p own → Absent y own → comes_after x y all ≡ comes_after p y all
-  same_first x p y h k n = behind_it x y h n ∙ sym (behind_it p y k n)
+  same_first x p y h k n = after_it x y h n ∙ sym (after_it p y k n)
 
   pub same_later : (x p y : ℕ) → Present x own → Present p own → Absent y own → comes_after y x all ≡ comes_after y p all
   same_later x p y h k n = before_it x y h n ∙ sym (before_it p y k n)
 
-  -- and are in the order that they have in it
+  -- two items of the segment have the same order in the whole list
   pub same_within : (x y : ℕ) → Present x own → Present y own → comes_after x y all ≡ comes_after x y own
   same_within x y p q = ap (comes_after x y) is ∙ skip x y front (own ++ back) (apart x p).0 ∙ cut_back x y own back (apart y q).1
 
--- the first comes before the others
+-- the first item is before the others
 pub first_before : (p x : ℕ) (xs : List ℕ) → Present x xs → comes_after p x (p ∷ xs) ≡ true
 first_before p x xs h = ap (λ e. cond e (there x xs) (comes_after p x xs)) (eq-eqb p p refl) ∙ h
 

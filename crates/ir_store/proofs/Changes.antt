@@ -1,8 +1,8 @@
--- What setting an entry keeps.
+-- What setting an entry leaves unchanged.
 use Rattle.std.proofs.Common.{◌≡◌, ℕ, ◌<◌, sym, subst, length, true, Option, Some, None, arith}
 use Rattle.std.specs.Prelude.{Result, Ok, Err, MatchResult, IfSome, nat_lt}
 use Rattle.std.proofs.lemmas.Bool.Decides.{nat_tests}
-use Rattle.ir_store_reads.specs.types.Things.{Things, IsName, IsAttr}
+use Rattle.ir_store_reads.specs.types.Things.{ContextModel, IsName, IsAttr}
 use Rattle.ir_store_reads.specs.types.Reasons.{IsRefusedFor}
 use Rattle.ir_store_reads.specs.types.declared.refusal.Refusal.{Refusal}
 use Rattle.ir_store_reads.specs.trees.declared.place.Part.{Part}
@@ -17,7 +17,7 @@ use Rattle.ir_store.specs.Calls.{after_entry}
 use Rattle.std.proofs.lemmas.Bool.{lt-ltb}
 use Rattle.std.proofs.lemmas.Option.{same_Some}
 
-module _ (c : Things) (x : ℕ) (part : Part) (k : ℕ) (v : Option ℕ) (m n : Stored) (name : IsName c k) (attr : IfSome v (λ a. IsAttr c a)) (s : IsSoundIn c m.module_of.tree) where
+module _ (c : ContextModel) (x : ℕ) (part : Part) (k : ℕ) (v : Option ℕ) (m n : Stored) (name : IsName c k) (attr : IfSome v (λ a. IsAttr c a)) (s : IsSoundIn c m.module_of.tree) where
   known : (w : Option ℕ) → IfSome w (λ a. IsAttr c a) → (b : ℕ) → w ≡ Some b → is_attr c b ≡ true
   known None l b e = absurd cc
   known (Some a) l b e = lt-ltb b (length c.attrs) (subst (IsAttr c) (same_Some a b e) l)
@@ -25,7 +25,7 @@ module _ (c : Things) (x : ℕ) (part : Part) (k : ℕ) (v : Option ℕ) (m n : 
   pub set_sound : n ≡ after_entry (key_before_in c) x part k v m → IsSoundIn c n.module_of.tree
   set_sound e = subst (λ (z : Stored). IsSoundIn c z.module_of.tree) (sym e) (entry_sound c x part k v m.module_of.tree (lt-ltb k (length c.names) name) (known v attr) s)
 
-  -- what a call makes of a store, or why it is refused
+  -- the new store of a call, or the reason for which the call is refused
   abbrev pub Entered : Result (Unit {0}) Refusal → Type 0
   Entered res = MatchResult res
       (λ _. (set_entry_reason (key_before_in c) x part k v m.module_of.tree ≡ None) × (n ≡ after_entry (key_before_in c) x part k v m))

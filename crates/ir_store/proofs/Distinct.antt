@@ -22,7 +22,7 @@ bare_count r = ap (λ z. length (r.head.id ∷ z)) (bare_ids r.shapes)
 pub bare_own : (r : Row) → HasDistinctIds (bare r)
 bare_own r = subst (λ z. IsDistinct eqb (r.head.id ∷ z)) (sym (bare_ids r.shapes)) (cons_distinct r.head.id [] refl nil_distinct)
 
--- an operation with nothing in it has no id of a tree that doesn't have it
+-- an empty operation whose id isn't in the tree has no id of the tree
 pub bare_apart : (r : Row) (t : Op) → has_id r.head.id t ≡ false → (y : ℕ) → has_id y (bare r) ≡ true → has_id y t ≡ false
 bare_apart r t out y e = only y (ap (λ z. list_any (λ w. eqb w y) (r.head.id ∷ z)) (sym (bare_ids r.shapes)) ∙ e)
   where
@@ -33,11 +33,11 @@ bare_apart r t out y e = only y (ap (λ z. list_any (λ w. eqb w y) (r.head.id �
         go true f g = ap (λ z. has_id z t) (sym (eqb-true r.head.id y f)) ∙ out
         go false f g = absurd (false≢true g)
 
--- and is put into it
+-- inserting it keeps the ids distinct
 pub bare_distinct : (place : Place) (r : Row) (t : Op) → HasDistinctIds t → has_id r.head.id t ≡ false → HasDistinctIds (put place (bare r) t)
 bare_distinct place r t d out = gained_distinct place (bare r) (bare_own r) t d (bare_apart r t out)
 
--- heads that keep their ids
+-- an edit of heads that keeps their ids
 module _ (f : Head → Head) (same : (h : Head) → (f h).id ≡ h.id) where
   mutual
     pub each_ids : (t : Op) → ids (each_head f t) ≡ ids t

@@ -1,4 +1,4 @@
--- What stands last in an operation, in slots and in the tree.
+-- The last operation inside an operation, in slots and in the tree.
 use Rattle.std.proofs.Common.{◌≡◌, ℕ, ◌<◌, List, [], ◌∷◌, ◌++◌, refl, sym, ap, ◌∙◌, subst, length, length-append, append_assoc, append-nil, Option, Some, None, arith}
 use Rattle.ir_store_reads.specs.Lists.{last_of, list_at}
 use Rattle.ir_store_reads.specs.trees.Tree.{Op, op, Regions, no_regions, region, empty, block, Ops, no_ops, next}
@@ -6,7 +6,7 @@ use Rattle.ir_store_reads.specs.trees.Ids.{ids, regions_ids, ops_ids, find, firs
 use Rattle.ir_store_reads.specs.Rows.{Row, Shape, row_at, live_slot}
 use Rattle.ir_store_reads.specs.Spells.{SpellsOp, SpellsRegions, SpellsOps, SpellsOp-one}
 use Rattle.ir_store_reads.specs.Right.{Live}
-use Rattle.ir_store_reads.proofs.Slots.{Found, found, found_op, slot_of_live}
+use Rattle.ir_store_reads.proofs.SlotLaws.{Found, found, found_op, slot_of_live}
 use Rattle.ir_store_reads.specs.Ends.{later, last_in}
 use Rattle.ir_store.specs.declared.store.Store.TheInside.{Inside}
 use Rattle.ir_store.specs.Ends.{IsLastIn, ids_in}
@@ -23,7 +23,7 @@ last_or [] other = refl
 last_or (x ∷ xs) other = some_later x xs other
 
 module _ (rows : List Row) (lists : List (List ℕ)) where
-  -- ids end with those of the operation in a slot, or there are none
+  -- ids end with those of the operation in a slot, or there are no ids
   abbrev pub EndsWith : Option ℕ → List ℕ → Type 0
   EndsWith None xs = xs ≡ []
   EndsWith (Some k) xs = (ys : List ℕ) × (o : Op) × SpellsOp rows lists k o × (xs ≡ ys ++ ids o)
@@ -50,28 +50,28 @@ module _ (rows : List Row) (lists : List (List ℕ)) where
 
 module _ (a : Inside) (w : Whole a) (x k : ℕ) (ek : Some k ≡ live_slot (rows_in a) (keys_in a) x) where
   abbrev t : Op
-  t = a.spelled.0
+  t = a.represented.0
 
   here : Found (rows_in a) x k
-  here = found (rows_in a) (keys_in a) a.sibs a.root t w.right a.spelled.1 x k (sym ek)
+  here = found (rows_in a) (keys_in a) a.sibs a.root t w.right a.represented.1 x k (sym ek)
 
-  own : (o : Op) × ((find x a.spelled.0 ≡ Some o) × SpellsOp (rows_in a) a.sibs.lists k o)
-  own = found_op (rows_in a) (keys_in a) a.sibs a.root t w.right a.spelled.1 x k here
+  own : (o : Op) × ((find x a.represented.0 ≡ Some o) × SpellsOp (rows_in a) a.sibs.lists k o)
+  own = found_op (rows_in a) (keys_in a) a.sibs a.root t w.right a.represented.1 x k here
 
   end : (rest : List ℕ) × (ids own.0 ≡ (row_at (rows_in a) k).head.id ∷ rest) × EndsWith (rows_in a) a.sibs.lists (last_in a.sibs.lists None (row_at (rows_in a) k).shapes) rest
   end = op_end (rows_in a) a.sibs.lists k own.0 own.1.1
 
-  pub alone : None ≡ last_in a.sibs.lists None (row_at (rows_in a) k).shapes → ids_in (find x a.spelled.0) ≡ x ∷ []
+  pub alone : None ≡ last_in a.sibs.lists None (row_at (rows_in a) k).shapes → ids_in (find x a.represented.0) ≡ x ∷ []
   alone n =
       let none : end.0 ≡ [] = subst (λ z. EndsWith (rows_in a) a.sibs.lists z end.0) (sym n) end.2 in
       ap ids_in own.1.0 ∙ end.1 ∙ (λ i. here.id i ∷ none i)
 
-  pub last_stands : (q : ℕ) → Some q ≡ last_in a.sibs.lists None (row_at (rows_in a) k).shapes → IsLastIn x (row_at (rows_in a) q).head.id a.spelled.0
+  pub last_stands : (q : ℕ) → Some q ≡ last_in a.sibs.lists None (row_at (rows_in a) k).shapes → IsLastIn x (row_at (rows_in a) q).head.id a.represented.0
   last_stands q e =
       let e0 = subst (λ z. EndsWith (rows_in a) a.sibs.lists z end.0) (sym e) end.2 in
       let live : Live (rows_in a) q = live_of (rows_in a) a.sibs.lists q e0.1 e0.2 in
       let y = (row_at (rows_in a) q).head.id in
-      let f = found_op (rows_in a) (keys_in a) a.sibs a.root t w.right a.spelled.1 y q (found (rows_in a) (keys_in a) a.sibs a.root t w.right a.spelled.1 y q (slot_of_live (rows_in a) (keys_in a) a.sibs a.root t w.right a.spelled.1 y q live refl)) in
+      let f = found_op (rows_in a) (keys_in a) a.sibs a.root t w.right a.represented.1 y q (found (rows_in a) (keys_in a) a.sibs a.root t w.right a.represented.1 y q (slot_of_live (rows_in a) (keys_in a) a.sibs a.root t w.right a.represented.1 y q live refl)) in
       let same : f.0 ≡ e0.1 = SpellsOp-one (rows_in a) a.sibs.lists q f.0 e0.1 f.1.1 e0.2 in
       record {
         there = w.right.covers q live;

@@ -1,4 +1,4 @@
--- What an edit of one operation's dictionaries makes of the slots.
+-- How the slots change when one operation's dictionary is edited.
 use Rattle.std.proofs.Common.{◌≡◌, ℕ, ◌<◌, List, refl, sym, ap, ◌∙◌, subst, length, cond, true, eqb, ⊎_elim, Option, Some, None, slice_get}
 use Rattle.std.specs.FinMap as finmap
 use Rattle.std.specs.Ordering.{nat_cmp}
@@ -19,18 +19,18 @@ use Rattle.ir_store.proofs.Distinct.{each_ids}
 use Rattle.ir_store.proofs.Tally.{live_stays}
 use Rattle.ir_store_reads.proofs.Mapped.{map_spells}
 use Rattle.ir_store_reads.proofs.Founds.{has_is}
-use Rattle.ir_store_reads.proofs.Slots.{Found, only}
+use Rattle.ir_store_reads.proofs.SlotLaws.{Found, only}
 use Rattle.ir_store.proofs.Steps.{row_step}
 use Rattle.ir_store_reads.proofs.Items.{eq_nat}
 use Rattle.ir_store.proofs.Writing.{has_each}
 
--- a change of a head that keeps what others see of the operation
+-- a change of a head that keeps its id, name, operands and results
 pub record Inner (f : Head → Head) : Type 0 where
   pub id : (h : Head) → (f h).id ≡ h.id
   pub operands : (h : Head) → (f h).operands ≡ h.operands
   pub results : (h : Head) → (f h).results ≡ h.results
 
--- a row with it, and with other slots of keys that are gone
+-- a row with the change, and with its removed keys changed
 abbrev pub retold : (Head → Head) → (Gone → Gone) → Row → Row
 retold f g r = record r { head = f r.head; gone = g r.gone }
 

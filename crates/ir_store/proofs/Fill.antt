@@ -1,4 +1,4 @@
--- What writing a row into a spare slot makes of the slots: the operation is held.
+-- How the slots change when a row is written into a free slot: the operation is held.
 use Rattle.std.proofs.Common.{◌≡◌, ◌⊎◌, ℕ, ◌+◌, ◌<◌, List, refl, sym, ap, ◌∙◌, subst, length, Bool, true, false, eqb, cond, ⊎_elim, inl, inr, arith, Option, Some, None, slice_get}
 use Rattle.std.specs.Prelude.{option_and_then, nat_lt, if◌then◌else◌}
 use Rattle.std.specs.Ordering.{nat_cmp}
@@ -23,16 +23,16 @@ use Rattle.ir_store_reads.proofs.Wide.{Keyed, keyed_of, same_spells}
 use Rattle.ir_store_reads.proofs.of_trees.of_types.Truths.{if_some}
 use Rattle.std.proofs.lemmas.Option.{same_Some}
 
--- which slot and place a value of the operation in slot k has
+-- the head h is that of value v of the operation in slot k
 abbrev pub Named : Parts → ℕ → ℕ → Row → Value → ℕ → Type 0
 Named q bound k w (Result y i) h = NewHead q bound k i h
 Named q bound k w (Arg y j i) h = (a : List ℕ × ℕ) × ((slice_get w.shapes j ≡ Some (Some a)) × NewHead q bound a.1 i h)
 
--- its values have other heads than those that are there
+-- the heads of its values differ from all heads in use
 abbrev pub IsApart : Parts → (ℕ → Option ℕ) → ℕ → ℕ → Row → Type 0
 IsApart q keys bound k w = (u v : Value) (h : ℕ) → Named q bound k w u h → value_head q.rows keys v ≡ Some h → ⊥
 
--- where the heads of those are ltb-true a bound
+-- the heads of these are below a bound
 pub bound_apart : (q : Parts) (keys : ℕ → Option ℕ) (bound k : ℕ) (w : Row) → ((v : Value) (h : ℕ) → value_head q.rows keys v ≡ Some h → h < bound) → IsApart q keys bound k w
 bound_apart q keys bound k w old (Result y i) v h n e = let l = old v h e in omega (arith, n.new, l)
 bound_apart q keys bound k w old (Arg y j i) v h n e = let l = old v h e in let m = n.1.1.new in omega (arith, m, l)
@@ -84,7 +84,7 @@ module _ (q : Parts) (even : IsEven q) (few : length q.sibs.homes < free) (keys 
             let c = if_some (nat_lt i (length a.0)) ((row_at q.rows a.1).values + i) h (sym (ap (λ z. if nat_lt i (length a.0) then Some (z.values + i) else None) (block_row k j a b.head)) ∙ g) in
             (a, (f, subst (NewHead q bound a.1 i) c.1 (b.arguments i (ltb-true i (length a.0) c.0))))
 
-    -- a value's slot
+    -- the slot of a value
     abbrev Whose : Value → ℕ → Type 0
     Whose v h = (((owner_of v).0 ≡ x) × Named q bound k w v h) ⊎ (value_head q.rows keys v ≡ Some h)
 
@@ -114,7 +114,7 @@ module _ (q : Parts) (even : IsEven q) (few : length q.sibs.homes < free) (keys 
     head_of_new (Result y i) h p = p.head
     head_of_new (Arg y j i) h p = p.1.1.head
 
-    -- two values of the operation with one head are one
+    -- two values of the operation with the same head are equal
     same_named : (u v : Value) (h : ℕ) → (owner_of u).0 ≡ x → (owner_of v).0 ≡ x → Named q bound k w u h → Named q bound k w v h → u ≡ v
     same_named (Result y i) (Result z j) h eu ev a b =
         let p : ◌≡◌ {A = ℕ × ℕ} (k, i) (k, j) = sym a.cell ∙ b.cell in
@@ -197,7 +197,7 @@ module _ (q : Parts) (even : IsEven q) (few : length q.sibs.homes < free) (keys 
           (whose u h e);
     }
 
-  -- the cells of its heads say whose they are
+  -- the cells of its heads have their owners
   pub fill_celled : Celled q.rows q.cells → Celled rows' q.cells
   fill_celled c = record {
     results = λ y i u l. ⊎_elim
@@ -276,7 +276,7 @@ module _ (q : Parts) (even : IsEven q) (few : length q.sibs.homes < free) (keys 
     covers = λ y l. let v = live_was q even few keys bound k x w ready kd rows' long' same own keys' here others y l in ap (λ z. has_id z.head.id t) (same y v.0) ∙ r.covers y v.1;
   }
 
-  -- it is held, and no key is gone from it
+  -- the operation is held, and has no removed keys
   pub fill_holds : (m : finmap.FinMap nat_cmp Op) → ((y : ℕ) → finmap.get m y ≡ held_in q.rows (keys y)) → (y : ℕ) → finmap.get (finmap.insert m x (bare w)) y ≡ held_in rows' (keys' y)
   fill_holds m h y = finmap.get-insert nat_cmp_total m x (bare w) y ∙ ap (λ b. cond b (Some (bare w)) (finmap.get m y)) (eq_nat y x) ∙ ⊎_elim
       (λ e. cond-true (eqb y x) (Some (bare w)) (finmap.get m y) (eq-eqb y x e) ∙ sym (ap (held_in rows') (ap keys' e ∙ here) ∙ ap (λ z. if z.live then None else Some (bare z)) own ∙ ap (λ b. if b then None else Some (bare w)) ready.live))

@@ -1,4 +1,4 @@
--- What putting an operation back makes of the slots.
+-- How the slots change when a held operation is inserted again.
 use Rattle.std.proofs.Common.{◌≡◌, ℕ, suc, ◌<◌, List, [], ◌∷◌, set, refl, sym, ap, ◌∙◌, subst, length, Bool, true, false, eqb, cond, ◌&&◌, ⊎_elim, arith, Option, Some, None, slice_get}
 use Rattle.std.specs.Ordering.{nat_cmp}
 use Rattle.std.specs.Cmp.{nat_cmp_total}
@@ -12,30 +12,30 @@ use Rattle.ir_store_reads.specs.trees.Ids.{has_id, find}
 use Rattle.ir_store_reads.specs.trees.Places.{put, put_here, put_in, is_in_block}
 use Rattle.ir_store_reads.specs.Rows.{Row, Shape, row_at, bare, bare_regions, held_in, gone_in}
 use Rattle.ir_store_reads.specs.Spells.{SpellsOp, SpellsRegions, SpellsOps}
-use Rattle.ir_store_reads.specs.Spots.{joined}
+use Rattle.ir_store_reads.specs.Points.{joined}
 use Rattle.ir_store_reads.specs.Right.{Live, Used, Placed, BlockOf, Right}
 use Rattle.ir_store_reads.proofs.Mapped.{has_op, lists_spells, rows_spells}
 use Rattle.ir_store_reads.proofs.Founds.{has_is, Spelt, find_spelt, has_live}
-use Rattle.ir_store_reads.proofs.Slots.{Found, there}
+use Rattle.ir_store_reads.proofs.SlotLaws.{Found, there}
 use Rattle.ir_store_reads.proofs.Items.{eq_nat}
 use Rattle.ir_store.proofs.Join.{joins, joined_same, joined_other, AtHome, Names, put_spells, has_put, In, within, listed_op, has_end, has_new}
 use Rattle.std.proofs.lemmas.Option.{same_Some}
 
--- the slot k holds the operation x, which is held
+-- slot k has operation x, which is held
 pub record FoundHeld (rows : List Row) (x k : ℕ) : Type 0 where
   pub used : Used rows k
   pub out : (row_at rows k).live ≡ false
   pub id : (row_at rows k).head.id ≡ x
 
--- before which slot of the head n that is
+-- the slot of the head n before which it is inserted
 abbrev pub Before : List Row → List ℕ → ℕ → Option ℕ → Option ℕ → Type 0
 Before rows homes n None None = Unit {0}
 Before rows homes n None (Some b) = ⊥
 Before rows homes n (Some t) None = ⊥
 Before rows homes n (Some t) (Some b) = Found rows b t × (IsItem homes t × (home_at homes t ≡ n))
 
--- a place of the tree: the slot of the operation around it, its block, the slot that comes next
-pub record Spot (rows : List Row) (homes : List ℕ) (place : Place) (a : List ℕ × ℕ) (at : Option ℕ) : Type 0 where
+-- a place of the tree: the slot of the parent, its block, and the next slot
+pub record Point (rows : List Row) (homes : List ℕ) (place : Place) (a : List ℕ × ℕ) (at : Option ℕ) : Type 0 where
   pub parent : ℕ
   pub found : Found rows place.parent parent
   pub shape : slice_get (row_at rows parent).shapes place.region ≡ Some (Some a)
@@ -47,12 +47,12 @@ bare_spells rows lists (None ∷ xs) f = (tt, bare_spells rows lists xs (λ r. f
 bare_spells rows lists (Some a ∷ xs) f = ((refl, subst (λ l. SpellsOps rows lists l no_ops) (sym (f 0 a refl)) tt), bare_spells rows lists xs (λ r. f (suc r)))
 
 module _ (rows : List Row) (keys : ℕ → Option ℕ) (sibs : Lists) (root : ℕ) (t : Op) (r : Right rows keys sibs root t) (s : SpellsOp rows sibs.lists root t) (laws : Laws sibs.lists sibs.homes)
-    (x k : ℕ) (fk : FoundHeld rows x k) (place : Place) (a : List ℕ × ℕ) (at : Option ℕ) (spot : Spot rows sibs.homes place a at) where
-  block_of : BlockOf rows sibs.homes spot.parent place.region a
-  block_of = r.blocks spot.parent place.region a (r.live_used spot.parent spot.found.live) spot.shape
+    (x k : ℕ) (fk : FoundHeld rows x k) (place : Place) (a : List ℕ × ℕ) (at : Option ℕ) (point : Point rows sibs.homes place a at) where
+  block_of : BlockOf rows sibs.homes point.parent place.region a
+  block_of = r.blocks point.parent place.region a (r.live_used point.parent point.found.live) point.shape
 
-  pub spot_head : IsHead sibs.homes a.1
-  spot_head = block_of.head
+  pub point_head : IsHead sibs.homes a.1
+  point_head = block_of.head
 
   pub slot_free : IsFree sibs.homes k
   slot_free = (r.held k fk.used fk.out).out
@@ -92,7 +92,7 @@ module _ (rows : List Row) (keys : ℕ → Option ℕ) (sibs : Lists) (root : �
     live_used' q l = used_to q (⊎_elim (λ e. subst (Used rows) (sym e) fk.used) (λ ne. r.live_used q (was q ne l)) (cases_eq q k))
 
     in_lists : a.1 < length sibs.lists
-    in_lists = omega (arith, spot_head.inside, laws.counted)
+    in_lists = omega (arith, point_head.inside, laws.counted)
 
     at_home : (c : Option ℕ) (b : Option ℕ) → Before rows sibs.homes a.1 c b → AtHome sibs.lists a.1 c
     at_home None b z = tt
@@ -103,15 +103,15 @@ module _ (rows : List Row) (keys : ℕ → Option ℕ) (sibs : Lists) (root : �
     list_here = ap (λ z. list_at z a.1) el ∙ joined_same k a.1 at sibs.lists in_lists
 
     list_else : (m : ℕ) → (m ≡ a.1 → ⊥) → list_at sibs'.lists m ≡ list_at sibs.lists m
-    list_else m n = ap (λ z. list_at z m) el ∙ joined_other k a.1 at sibs.lists (at_home at place.before spot.before) m n
+    list_else m n = ap (λ z. list_at z m) el ∙ joined_other k a.1 at sibs.lists (at_home at place.before point.before) m n
 
-    -- a block with this head is this one
-    owner_is : (q i : ℕ) (c : List ℕ × ℕ) → Used rows q → slice_get (row_at rows q).shapes i ≡ Some (Some c) → c.1 ≡ a.1 → (q ≡ spot.parent) × (i ≡ place.region)
+    -- a block with this head is the block of the place
+    owner_is : (q i : ℕ) (c : List ℕ × ℕ) → Used rows q → slice_get (row_at rows q).shapes i ≡ Some (Some c) → c.1 ≡ a.1 → (q ≡ point.parent) × (i ≡ place.region)
     owner_is q i c u e z =
         let b = r.blocks q i c u e in
         (sym b.owner ∙ ap (λ w. (row_at rows w).owner) z ∙ block_of.owner, sym b.region ∙ ap (λ w. (row_at rows w).region) z ∙ block_of.region)
 
-    bare_still : (q : ℕ) → Used rows q → (q ≡ spot.parent → ⊥) → (i : ℕ) (c : List ℕ × ℕ) → slice_get (row_at rows q).shapes i ≡ Some (Some c) → list_at sibs'.lists c.1 ≡ list_at sibs.lists c.1
+    bare_still : (q : ℕ) → Used rows q → (q ≡ point.parent → ⊥) → (i : ℕ) (c : List ℕ × ℕ) → slice_get (row_at rows q).shapes i ≡ Some (Some c) → list_at sibs'.lists c.1 ≡ list_at sibs.lists c.1
     bare_still q u ne i c e = list_else c.1 (λ z. ne (owner_is q i c u e z).0)
 
     come_spelt : SpellsOp rows' sibs'.lists k o
@@ -120,7 +120,7 @@ module _ (rows : List Row) (keys : ℕ → Option ℕ) (sibs : Lists) (root : �
       (
         ap (λ z. z.head) come,
         subst (λ z. SpellsRegions rows' sibs'.lists z (bare_regions (row_at rows k).shapes)) (sym (ap (λ z. z.shapes) come))
-            (bare_spells rows' sibs'.lists (row_at rows k).shapes (λ i c e. bare_still k fk.used (λ z. live_out spot.parent spot.found.live (sym z)) i c e ∙ (r.held k fk.used fk.out).bare i c e)),
+            (bare_spells rows' sibs'.lists (row_at rows k).shapes (λ i c e. bare_still k fk.used (λ z. live_out point.parent point.found.live (sym z)) i c e ∙ (r.held k fk.used fk.out).bare i c e)),
       ),
     )
 
@@ -145,12 +145,12 @@ module _ (rows : List Row) (keys : ℕ → Option ℕ) (sibs : Lists) (root : �
         step q i c os l e z = ⊎_elim
             (λ y.
             let w = owner_is q i c (used_from q (live_used' q l)) (shapes_of q i c e) y in
-            let id : eqb (row_at rows' q).head.id place.parent ≡ true = eq-eqb (row_at rows' q).head.id place.parent (kept (λ v. v.head.id) refl q ∙ ap (λ v. (row_at rows v).head.id) w.0 ∙ spot.found.id) in
+            let id : eqb (row_at rows' q).head.id place.parent ≡ true = eq-eqb (row_at rows' q).head.id place.parent (kept (λ v. v.head.id) refl q ∙ ap (λ v. (row_at rows v).head.id) w.0 ∙ point.found.id) in
             let reg : eqb i place.region ≡ true = eq-eqb i place.region w.1 in
             let here : is_in_block place (row_at rows' q).head.id i ≡ true = rw (id, reg) refl in
             subst (λ v. SpellsOps rows' sibs'.lists v (put_here place o (row_at rows' q).head.id i os)) (sym (ap (list_at sibs'.lists) y ∙ list_here))
             (subst (λ v. SpellsOps rows' sibs'.lists (joins k at (list_at sibs.lists a.1)) v) (sym (cond-true (is_in_block place (row_at rows' q).head.id i) (put_in place.before o os) os here))
-            (put_spells rows' sibs'.lists k o come_spelt at place.before (names at place.before spot.before) (list_at sibs.lists a.1) os (laws.once a.1)
+            (put_spells rows' sibs'.lists k o come_spelt at place.before (names at place.before point.before) (list_at sibs.lists a.1) os (laws.once a.1)
             (subst (λ v. SpellsOps rows' sibs'.lists (list_at sibs.lists v) os) y z))))
             (λ y.
             let here : is_in_block place (row_at rows' q).head.id i ≡ false = not_here q i c l e y in
@@ -162,8 +162,8 @@ module _ (rows : List Row) (keys : ℕ → Option ℕ) (sibs : Lists) (root : �
             not_here q i c l e y = ⊎_elim
                 (λ f. ⊎_elim
                 (λ g.
-                let p : q ≡ spot.parent = same_Some q spot.parent (sym (r.keyed q (used_from q (live_used' q l))) ∙ ap keys (sym (kept (λ v. v.head.id) refl q) ∙ f ∙ sym spot.found.id) ∙ r.keyed spot.parent (r.live_used spot.parent spot.found.live)) in
-                let m : Some (Some c) ≡ Some (Some a) = sym (shapes_of q i c e) ∙ ap (λ v. slice_get (row_at rows v).shapes i) p ∙ ap (slice_get (row_at rows spot.parent).shapes) g ∙ spot.shape in
+                let p : q ≡ point.parent = same_Some q point.parent (sym (r.keyed q (used_from q (live_used' q l))) ∙ ap keys (sym (kept (λ v. v.head.id) refl q) ∙ f ∙ sym point.found.id) ∙ r.keyed point.parent (r.live_used point.parent point.found.live)) in
+                let m : Some (Some c) ≡ Some (Some a) = sym (shapes_of q i c e) ∙ ap (λ v. slice_get (row_at rows v).shapes i) p ∙ ap (slice_get (row_at rows point.parent).shapes) g ∙ point.shape in
                 let n : c ≡ a = cc in
                 absurd (y (ap (λ v. v.1) n)))
                 (λ g. rw (ne_eqb i place.region g) (both_false (eqb (row_at rows' q).head.id place.parent)))
@@ -182,16 +182,16 @@ module _ (rows : List Row) (keys : ℕ → Option ℕ) (sibs : Lists) (root : �
 
     comes : has_op x (put place o t) ≡ true
     comes = within place.parent x (put place o t) (go (find place.parent (put place o t)) refl
-        (find_spelt rows' sibs'.lists place.parent spot.parent
-        (λ q l e. same_Some q spot.parent (sym (r.keyed q (used_from q (live_used' q l))) ∙ ap keys (sym (kept (λ v. v.head.id) refl q) ∙ e ∙ sym spot.found.id) ∙ r.keyed spot.parent (r.live_used spot.parent spot.found.live)))
-        root (put place o t) join_spells (has_put place o place.parent t (there rows keys sibs root t r s place.parent spot.parent spot.found))))
+        (find_spelt rows' sibs'.lists place.parent point.parent
+        (λ q l e. same_Some q point.parent (sym (r.keyed q (used_from q (live_used' q l))) ∙ ap keys (sym (kept (λ v. v.head.id) refl q) ∙ e ∙ sym point.found.id) ∙ r.keyed point.parent (r.live_used point.parent point.found.live)))
+        root (put place o t) join_spells (has_put place o place.parent t (there rows keys sibs root t r s place.parent point.parent point.found))))
       where
-        go : (m : Option Op) → find place.parent (put place o t) ≡ m → Spelt rows' sibs'.lists spot.parent m → In place.parent x m
+        go : (m : Option Op) → find place.parent (put place o t) ≡ m → Spelt rows' sibs'.lists point.parent m → In place.parent x m
         go None e w = absurd w
         go (Some p) e w =
             subst (λ v. has_op v p ≡ true) (kept (λ v. v.head.id) refl k ∙ fk.id)
-            (listed_op rows' sibs'.lists k spot.parent p w place.region a (ap (λ z. slice_get z place.region) (kept (λ z. z.shapes) refl spot.parent) ∙ spot.shape)
-            (ap (has k) list_here ∙ is_at at place.before spot.before))
+            (listed_op rows' sibs'.lists k point.parent p w place.region a (ap (λ z. slice_get z place.region) (kept (λ z. z.shapes) refl point.parent) ∙ point.shape)
+            (ap (has k) list_here ∙ is_at at place.before point.before))
 
     pub join_right : Right rows' keys sibs' root (put place o t)
     join_right =
@@ -214,10 +214,10 @@ module _ (rows : List Row) (keys : ℕ → Option ℕ) (sibs : Lists) (root : �
               (λ e. subst (Placed sibs'.homes) (sym e) (record {
                 item = record {
                   inside = omega (arith, slot_free.inside, long);
-                  linked = λ g. (let f : a.1 ≡ free = sym own ∙ g in let few = r.few in let i : a.1 < length sibs.homes = spot_head.inside in omega arith);
-                  other = λ g. apart a.1 spot_head (sym own ∙ g);
+                  linked = λ g. (let f : a.1 ≡ free = sym own ∙ g in let few = r.few in let i : a.1 < length sibs.homes = point_head.inside in omega arith);
+                  other = λ g. apart a.1 point_head (sym own ∙ g);
                 };
-                head = rw own (head_still a.1 spot_head);
+                head = rw own (head_still a.1 point_head);
               }))
               (λ nk.
               let old = r.items q (was q nk l) ne in
@@ -235,7 +235,7 @@ module _ (rows : List Row) (keys : ℕ → Option ℕ) (sibs : Lists) (root : �
                 out = record { inside = omega (arith, old.out.inside, long); unlinked = home q ne ∙ old.out.unlinked };
                 bare = λ i c f.
                     let g = shapes_of q i c f in
-                    bare_still q (used_from q w) (λ e. false≢true (sym out ∙ ap (λ z. (row_at rows z).live) e ∙ spot.found.live.live)) i c g ∙ old.bare i c g;
+                    bare_still q (used_from q w) (λ e. false≢true (sym out ∙ ap (λ z. (row_at rows z).live) e ∙ point.found.live.live)) i c g ∙ old.bare i c g;
               };
           covers = λ q l. ⊎_elim
               (λ e.
@@ -253,7 +253,7 @@ module _ (rows : List Row) (keys : ℕ → Option ℕ) (sibs : Lists) (root : �
             go : (w : Op) → SpellsOp rows sibs.lists root w → Live rows root
             go (op h rs) z = record { live = z.0 }
 
-    -- it isn't held any more
+    -- the operation isn't held any more
     pub join_holds : (m : finmap.FinMap nat_cmp Op) → ((y : ℕ) → finmap.get m y ≡ held_in rows (keys y)) → (y : ℕ) → finmap.get (finmap.remove m x) y ≡ held_in rows' (keys y)
     join_holds m h y = finmap.get-remove nat_cmp_total m x y ∙ ap (λ b. cond b None (finmap.get m y)) (eq_nat y x) ∙ ⊎_elim
         (λ e.
@@ -267,7 +267,7 @@ module _ (rows : List Row) (keys : ℕ → Option ℕ) (sibs : Lists) (root : �
         others y n None f = refl
         others y n (Some q) f = rw (same q (λ e. n (sym (r.known y q f).id ∙ ap (λ z. (row_at rows z).head.id) e ∙ fk.id))) refl
 
-    -- it was held
+    -- the operation was held
     pub was_held : (m : finmap.FinMap nat_cmp Op) → ((y : ℕ) → finmap.get m y ≡ held_in rows (keys y)) → finmap.get m x ≡ Some o
     was_held m h = h x ∙ ap (held_in rows) (ap keys (sym fk.id) ∙ r.keyed k fk.used) ∙ rw fk.out refl
 

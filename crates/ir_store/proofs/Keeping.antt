@@ -29,7 +29,7 @@ use Rattle.ir_store_reads.specs.Spells.{SpellsOp, SpellsRegions, SpellsOps}
 use Rattle.ir_store_reads.specs.Using.{use_in}
 use Rattle.ir_store.specs.Outside.{leaves_use, lists_pass, shapes_keep, slot_keeps}
 use Rattle.ir_store_reads.proofs.Idle.{is_below}
-use Rattle.ir_store_reads.proofs.Slots.{found, found_op, in_tree_is, slot_of_live}
+use Rattle.ir_store_reads.proofs.SlotLaws.{found, found_op, in_tree_is, slot_of_live}
 use Rattle.ir_store.proofs.Called.{rows_in, keys_in, stored}
 use Rattle.ir_store.proofs.Leaving.{depth_within, each_outside, kept_stays, none_outside, stays_kept}
 use Rattle.ir_store.proofs.Unused.{listed_item}
@@ -88,7 +88,7 @@ module _ (rows : List Row) (lists : List (List ℕ)) (f : ℕ → ℕ → Bool) 
         let w = split_below (depth o) (ops_depth os) n l in
         (λ i. keeps_is n k o w.0 s.0 i && ops_keep n ks os w.1 s.1 i) ∙ sym (list_all-append test (ids o) (ops_ids os))
 
--- a node of a list that passes, or doesn't
+-- a node of a list passes if the list does; if the list doesn't, some node doesn't
 pub all_has : (p : ℕ → Bool) (u : ℕ) (ks : List ℕ) → list_all p ks ≡ true → has u ks ≡ true → p u ≡ true
 all_has p u [] e h = absurd (true≢false (sym h))
 all_has p u (k ∷ ks) e h =
@@ -148,7 +148,7 @@ module _ (rows : List Row) (sibs lists : List (List ℕ)) (p : ℕ → Bool) (ke
       (λ f. let w = fail_arg xs f in (suc w.0, w.1, w.2, w.3))
       (and_cases (lists_pass lists p (row_at rows c.1).values (length c.0)) (args_pass xs) e)
 
-  -- the list of a value's head passes, where the slot does
+  -- if a slot passes, the use list of each of its values passes
   pub value_passes : (k : ℕ) → row_passes (Some k) ≡ true → (v : Value) (h : ℕ) → slot_head rows v k ≡ Some h → list_all p (list_at lists h) ≡ true
   value_passes k e (ResultOf x i) h f =
       let b = both (lists_pass lists p (row_at rows k).values (length (row_at rows k).head.results)) (args_pass (row_at rows k).shapes) e in
@@ -164,7 +164,7 @@ module _ (rows : List Row) (sibs lists : List (List ℕ)) (p : ℕ → Bool) (ke
           let g = if_some (nat_lt i (length a.0)) ((row_at rows a.1).values + i) h f in
           subst (λ z. list_all p (list_at lists z) ≡ true) g.1 (pass_at (row_at rows a.1).values (length a.0) i (args_at (row_at rows k).shapes r a b.1 m) (ltb-true i (length a.0) g.0))
 
-  -- and there is one whose list doesn't, where the slot doesn't
+  -- if a slot doesn't pass, some value of it has a use list that doesn't
   pub record Failing (k x : ℕ) : Type 0 where
     pub value : Value
     pub head_at : ℕ
@@ -203,16 +203,16 @@ module _ (a : Inside) (w : Whole a) (laws : Laws a.uses.lists a.uses.homes) (x k
   cells = cells_of a.cells.items
 
   abbrev t : Op
-  t = a.spelled.0
+  t = a.represented.0
 
   keyed_by : (q : ℕ) → Live (rows_in a) q → keys_in a (row_at (rows_in a) q).head.id ≡ Some q
   keyed_by q l = w.right.keyed q (w.right.live_used q l)
 
-  own : (o : Op) × ((find x a.spelled.0 ≡ Some o) × SpellsOp (rows_in a) a.sibs.lists k o)
-  own = found_op (rows_in a) (keys_in a) a.sibs a.root t w.right a.spelled.1 x k (found (rows_in a) (keys_in a) a.sibs a.root t w.right a.spelled.1 x k (sym ek))
+  own : (o : Op) × ((find x a.represented.0 ≡ Some o) × SpellsOp (rows_in a) a.sibs.lists k o)
+  own = found_op (rows_in a) (keys_in a) a.sibs a.root t w.right a.represented.1 x k (found (rows_in a) (keys_in a) a.sibs a.root t w.right a.represented.1 x k (sym ek))
 
   abbrev p : ℕ → Bool
-  p u = not (leaves_use (rows_in a) (cells_of a.cells.items) x a.spelled.0 u)
+  p u = not (leaves_use (rows_in a) (cells_of a.cells.items) x a.represented.0 u)
 
   abbrev tested : ℕ → Bool
   tested = test (rows_in a) a.sibs.lists (lists_pass a.uses.lists p) (keys_in a) keyed_by
@@ -221,21 +221,21 @@ module _ (a : Inside) (w : Whole a) (laws : Laws a.uses.lists a.uses.homes) (x k
   spelt_head q (op h rs) s = s.1.0
 
   -- the slot of an operation of the tree
-  head_of : (s : StandOf ℕ ℕ ℕ) → In s (stands [] a.spelled.0) → (q : ℕ) → Live (rows_in a) q → (row_at (rows_in a) q).head.id ≡ stand_id s → (row_at (rows_in a) q).head ≡ head s.here
+  head_of : (s : StandOf ℕ ℕ ℕ) → In s (stands [] a.represented.0) → (q : ℕ) → Live (rows_in a) q → (row_at (rows_in a) q).head.id ≡ stand_id s → (row_at (rows_in a) q).head ≡ head s.here
   head_of s h q l e =
-      let f = found_op (rows_in a) (keys_in a) a.sibs a.root t w.right a.spelled.1 (stand_id s) q (found (rows_in a) (keys_in a) a.sibs a.root t w.right a.spelled.1 (stand_id s) q (slot_of_live (rows_in a) (keys_in a) a.sibs a.root t w.right a.spelled.1 (stand_id s) q l e)) in
+      let f = found_op (rows_in a) (keys_in a) a.sibs a.root t w.right a.represented.1 (stand_id s) q (found (rows_in a) (keys_in a) a.sibs a.root t w.right a.represented.1 (stand_id s) q (slot_of_live (rows_in a) (keys_in a) a.sibs a.root t w.right a.represented.1 (stand_id s) q l e)) in
       let one : f.0 ≡ s.here = same_Some f.0 s.here (sym f.1.0 ∙ stand_found t w.distinct s h) in
       spelt_head q f.0 f.1.1 ∙ ap (λ (z : Op). head z) one
 
-  slot_of : (s : StandOf ℕ ℕ ℕ) → In s (stands [] a.spelled.0) → (q : ℕ) × Live (rows_in a) q × ((row_at (rows_in a) q).head.id ≡ stand_id s)
+  slot_of : (s : StandOf ℕ ℕ ℕ) → In s (stands [] a.represented.0) → (q : ℕ) × Live (rows_in a) q × ((row_at (rows_in a) q).head.id ≡ stand_id s)
   slot_of s h = go (live_slot (rows_in a) (keys_in a) (stand_id s)) refl
     where
       go : (o : Option ℕ) → live_slot (rows_in a) (keys_in a) (stand_id s) ≡ o → (q : ℕ) × Live (rows_in a) q × ((row_at (rows_in a) q).head.id ≡ stand_id s)
-      go None e = absurd (true≢false (sym (sym (ap is_some e) ∙ in_tree_is (rows_in a) (keys_in a) a.sibs a.root t w.right a.spelled.1 (stand_id s) ∙ stand_present [] t s h)))
-      go (Some q) e = let f = found (rows_in a) (keys_in a) a.sibs a.root t w.right a.spelled.1 (stand_id s) q e in (q, f.live, f.id)
+      go None e = absurd (true≢false (sym (sym (ap is_some e) ∙ in_tree_is (rows_in a) (keys_in a) a.sibs a.root t w.right a.represented.1 (stand_id s) ∙ stand_present [] t s h)))
+      go (Some q) e = let f = found (rows_in a) (keys_in a) a.sibs a.root t w.right a.represented.1 (stand_id s) q e in (q, f.live, f.id)
 
-  -- where the walk passes, what stays uses no value of the operation, or from inside it
-  spared : list_all tested (ids own.0) ≡ true → (s : StandOf ℕ ℕ ℕ) → In s (stands [] a.spelled.0) → is_gone x s ≡ false → (j : ℕ) (v : Value) → slice_get (head s.here).operands j ≡ Some v → is_within (owner_of v).0 (Some own.0) ≡ true → ⊥
+  -- if the walk passes, no remaining operation uses a value defined inside the operation
+  spared : list_all tested (ids own.0) ≡ true → (s : StandOf ℕ ℕ ℕ) → In s (stands [] a.represented.0) → is_gone x s ≡ false → (j : ℕ) (v : Value) → slice_get (head s.here).operands j ≡ Some v → is_within (owner_of v).0 (Some own.0) ≡ true → ⊥
   spared e s h g j v m i =
       let q = slot_of s h in
       let heads = head_of s h q.0 q.1 q.2 in
@@ -254,15 +254,15 @@ module _ (a : Inside) (w : Whole a) (laws : Laws a.uses.lists a.uses.homes) (x k
       go v n None f l = absurd cc
       go v n (Some q) f l = value_passes (rows_in a) a.sibs.lists a.uses.lists p (keys_in a) keyed_by q f v n l
 
-  unused_where : list_all tested (ids own.0) ≡ true → unused_outside x a.spelled.0 ≡ true
+  unused_where : list_all tested (ids own.0) ≡ true → unused_outside x a.represented.0 ≡ true
   unused_where e = none_outside t w.distinct x (λ s h g. ap (λ f. leaves_within f (head s.here)) own.1.0 ∙ all_at (λ v. not (is_within (owner_of v).0 (Some own.0))) (head s.here).operands (λ j v m. one s h g j v m (is_within (owner_of v).0 (Some own.0)) refl))
     where
-      one : (s : StandOf ℕ ℕ ℕ) → In s (stands [] a.spelled.0) → is_gone x s ≡ false → (j : ℕ) (v : Value) → slice_get (head s.here).operands j ≡ Some v → (b : Bool) → is_within (owner_of v).0 (Some own.0) ≡ b → not (is_within (owner_of v).0 (Some own.0)) ≡ true
+      one : (s : StandOf ℕ ℕ ℕ) → In s (stands [] a.represented.0) → is_gone x s ≡ false → (j : ℕ) (v : Value) → slice_get (head s.here).operands j ≡ Some v → (b : Bool) → is_within (owner_of v).0 (Some own.0) ≡ b → not (is_within (owner_of v).0 (Some own.0)) ≡ true
       one s h g j v m true i = absurd (spared e s h g j v m i)
       one s h g j v m false i = ap not i
 
-  -- where a slot doesn't pass, something that stays uses a value of it
-  used_where : unused_outside x a.spelled.0 ≡ true → (y q : ℕ) → keys_in a y ≡ Some q → is_within y (Some own.0) ≡ true → row_passes (rows_in a) a.sibs.lists a.uses.lists p (keys_in a) keyed_by (Some q) ≡ false → ⊥
+  -- if a slot doesn't pass, a remaining operation uses a value of it
+  used_where : unused_outside x a.represented.0 ≡ true → (y q : ℕ) → keys_in a y ≡ Some q → is_within y (Some own.0) ≡ true → row_passes (rows_in a) a.sibs.lists a.uses.lists p (keys_in a) keyed_by (Some q) ≡ false → ⊥
   used_where e y q eq i n =
       let b = failing_value (rows_in a) a.sibs.lists a.uses.lists p (keys_in a) keyed_by q y n in
       let hd : value_head (rows_in a) (keys_in a) b.value ≡ Some b.head_at = ap (option_and_then (slot_head (rows_in a) b.value)) (ap (keys_in a) b.own ∙ eq) ∙ b.here in
@@ -281,7 +281,7 @@ module _ (a : Inside) (w : Whole a) (laws : Laws a.uses.lists a.uses.homes) (x k
       let within : is_within (owner_of st.value).0 (find x t) ≡ true = ap (λ d. is_within (owner_of d).0 (find x t)) same ∙ ap (λ z. is_within z (find x t)) b.own ∙ ap (is_within y) own.1.0 ∙ i in
       true≢false (sym within ∙ not-true (is_within (owner_of st.value).0 (find x t)) spares)
 
-  all_where : unused_outside x a.spelled.0 ≡ true → list_all tested (ids own.0) ≡ true
+  all_where : unused_outside x a.represented.0 ≡ true → list_all tested (ids own.0) ≡ true
   all_where e = each_all tested (ids own.0) (λ y i. go y (keys_in a y) refl (any_one (λ z. eqb z y) (ids own.0) y i (eq-eqb y y refl)))
     where
       go : (y : ℕ) (o : Option ℕ) → keys_in a y ≡ o → is_within y (Some own.0) ≡ true → row_test (rows_in a) a.sibs.lists (lists_pass a.uses.lists p) (keys_in a) keyed_by (keys_in a y) ≡ true
@@ -291,11 +291,11 @@ module _ (a : Inside) (w : Whole a) (laws : Laws a.uses.lists a.uses.homes) (x k
         | inr n ↦ absurd (used_where e y q eo i n)
       ]
 
-  keeps_tree : slot_keeps (rows_in a) a.sibs.lists (lists_pass a.uses.lists (λ u. not (leaves_use (rows_in a) (cells_of a.cells.items) x a.spelled.0 u))) a.count k ≡ unused_outside x a.spelled.0
+  keeps_tree : slot_keeps (rows_in a) a.sibs.lists (lists_pass a.uses.lists (λ u. not (leaves_use (rows_in a) (cells_of a.cells.items) x a.represented.0 u))) a.count k ≡ unused_outside x a.represented.0
   keeps_tree =
       keeps_is (rows_in a) a.sibs.lists (lists_pass a.uses.lists p) (keys_in a) keyed_by a.count k own.0 (subst (λ n. depth own.0 < n) (sym w.counted) (depth_within t w.distinct x own.0 own.1.0)) own.1.1
       ∙ same_bool (list_all tested (ids own.0)) (unused_outside x t) unused_where all_where
 
-  -- what the walk tells of a store
+  -- the answer of the walk, as a property of the store
   pub keeps_whole : (s : Stored) → stored a ≡ s → slot_keeps (rows_in a) a.sibs.lists (lists_pass a.uses.lists (λ u. not (leaves_use (rows_in a) (cells_of a.cells.items) x s.module_of.tree u))) a.count k ≡ unused_outside x s.module_of.tree
   keeps_whole s e = subst (λ s. slot_keeps (rows_in a) a.sibs.lists (lists_pass a.uses.lists (λ u. not (leaves_use (rows_in a) (cells_of a.cells.items) x s.module_of.tree u))) a.count k ≡ unused_outside x s.module_of.tree) e keeps_tree

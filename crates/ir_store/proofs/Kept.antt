@@ -1,11 +1,11 @@
--- Steps of the walk over the uses of what stands in an operation.
+-- Steps of the walk over the uses of the values defined inside an operation.
 use Rattle.std.proofs.Common.{◌≡◌, ℕ, zero, suc, ◌+◌, ◌-◌, List, refl, ap, ◌∙◌, length, Bool, true, false, ◌&&◌, arith}
 use Rattle.std.specs.List.{list_all}
 use Rattle.ir_store_reads.specs.Lists.{list_at}
 use Rattle.ir_store_reads.specs.Rows.{Row, row_at}
 use Rattle.ir_store.specs.Outside.{lists_pass, shapes_keep, slot_keeps}
 
--- a slot whose row is read, where there are levels left
+-- a slot whose row is read, if there are levels left
 module _ (rows : List Row) (lists : List (List ℕ)) (f : ℕ → ℕ → Bool) (k : ℕ) where
   pub row_none : (n : ℕ) → n ≡ 0 → slot_keeps rows lists f n k ≡ false
   row_none n e = ap (λ z. slot_keeps rows lists f z k) e
@@ -29,7 +29,7 @@ module _ (rows : List Row) (lists : List (List ℕ)) (f : ℕ → ℕ → Bool) 
       let same : n ≡ suc n - 1 = omega arith in
       (λ i. l i && (e i && shapes_keep rows lists f (slot_keeps rows lists f n) (row_at rows k).shapes)) ∙ ap (λ z. shapes_keep rows lists f (slot_keeps rows lists f z) (row_at rows k).shapes) same
 
--- the lists of heads, one after the other
+-- the lists of consecutive heads
 module _ (lists : List (List ℕ)) (p : ℕ → Bool) (b : ℕ) where
   pub list_fails : (n : ℕ) → (n ≡ 0 → ⊥) → list_all p (list_at lists b) ≡ false → lists_pass lists p b n ≡ false
   list_fails zero ne e = absurd (ne refl)

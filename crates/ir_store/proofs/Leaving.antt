@@ -1,4 +1,4 @@
--- What stays where an operation is taken out.
+-- The operations that remain after an operation is taken out.
 use Rattle.std.proofs.Common.{◌≡◌, ℕ, ◌<◌, ◌≤◌, List, [], ◌∷◌, refl, sym, ap, ◌∙◌, subst, length, length-append, Bool, true, false, true≢false, eqb, eqb-true, Option, Some, None, arith, inl, inr}
 use Rattle.ir_store_reads.specs.trees.Tree.{OpOf, op, RegionsOf, no_regions, region, RegionOf, empty, block, OpsOf, no_ops, next, head}
 use Rattle.ir_store_reads.specs.trees.Ids.{HasDistinctIds, ids, regions_ids, region_ids, ops_ids, find, has_id, op_count}
@@ -18,7 +18,7 @@ use Rattle.ir_store_reads.proofs.of_tree_laws.Shift.{inner_of}
 use Rattle.ir_store_reads.proofs.of_tree_laws.Without.{same_head, left_member, member_left}
 use Rattle.ir_store_reads.proofs.of_trees.of_types.Truths.{same_bool}
 
--- an operation is less deep than the operations are many
+-- the depth of an operation is less than the number of operations
 mutual
   pub depth_below : {N T A : Type 0} (o : OpOf N T A) → depth o < op_count o
   depth_below (op h rs) = omega (arith, regions_below rs)
@@ -48,11 +48,11 @@ module _ {N T A : Type 0} (t : OpOf N T A) (d : HasDistinctIds t) (x : ℕ) wher
   same_id : (s : StandOf N T A) → stand_id (left_stand x s) ≡ stand_id s
   same_id s = ap (λ h. h.id) (same_head x (dropping x) s.here)
 
-  -- what isn't gone stays
+  -- an operation that isn't removed remains
   pub kept_stays : (s : StandOf N T A) → In s (stands [] t) → is_gone x s ≡ false → has_id (stand_id s) (without x t) ≡ true
   kept_stays s h g = subst (λ y. has_id y (without x t) ≡ true) (same_id s) (stand_present [] (without x t) (left_stand x s) (left_member x t s h g))
 
-  -- and what stays was there, and isn't gone
+  -- an operation that remains was in the tree, and isn't removed
   abbrev pub Stays : ℕ → Type 0
   Stays y = (s : StandOf N T A) × In s (stands [] t) × (is_gone x s ≡ false) × (stand_id s ≡ y)
 
@@ -78,14 +78,14 @@ module _ {N T A : Type 0} (t : OpOf N T A) (d : HasDistinctIds t) (x : ℕ) wher
   stays_where y f = same_bool (has_id y (without x t)) (has_id y t) (was_there y)
       (λ e. let w = present_stand [] t y e in subst (λ z. has_id z (without x t) ≡ true) w.2 (kept_stays w.0 w.1 (f w.0 w.1 w.2)))
 
-  -- where the root is taken out, all stay
+  -- if the root is taken out, all operations remain
   pub root_stays : eqb (head t).id x ≡ true → (y : ℕ) → has_id y (without x t) ≡ has_id y t
   root_stays e y = stays_where y (λ s h i. elim (bool_cases (is_gone x s)) [
     | inr g ↦ g
     | inl g ↦ (let w = gone_within x t s.path s.here h g in absurd (no_path (stand w.here (w.step_in ∷ w.path)) w.there w.step_in w.path refl e w.id))
   ])
 
-  -- what isn't within the operation stays
+  -- an operation outside of the removed one remains
   pub outside_stays : (y : ℕ) → is_within y (find x t) ≡ false → has_id y (without x t) ≡ has_id y t
   outside_stays y n = stays_where y (λ s h i. elim (bool_cases (is_gone x s)) [
     | inr g ↦ g
@@ -95,7 +95,7 @@ module _ {N T A : Type 0} (t : OpOf N T A) (d : HasDistinctIds t) (x : ℕ) wher
         absurd (true≢false (sym present ∙ ap (λ z. is_within z (Some w.here)) i ∙ sym (ap (is_within y) f) ∙ n)))
   ])
 
-  -- what is within it goes
+  -- an operation within the removed one is removed
   pub inside_leaves : eqb (head t).id x ≡ false → (y : ℕ) → is_within y (find x t) ≡ true → has_id y (without x t) ≡ false
   inside_leaves r y e = go (find x t) refl e
     where
@@ -108,7 +108,7 @@ module _ {N T A : Type 0} (t : OpOf N T A) (d : HasDistinctIds t) (x : ℕ) wher
             | inl j ↦ absurd (true≢false (sym i ∙ inside_goes t d o w.step_in w.path w.there y (subst (λ z. has_id y (without z t) ≡ true) (sym w.id) j)))
           ]
 
-  -- whether the values are used outside, by what stays
+  -- whether a remaining operation uses the values
   pub none_outside : ((s : StandOf N T A) → In s (stands [] t) → is_gone x s ≡ false → leaves_within (find x t) (head s.here) ≡ true) → unused_outside x t ≡ true
   none_outside f =
       sym (stands_every (λ o. leaves_within (find x t) (head o)) [] (without x t))
@@ -121,6 +121,6 @@ module _ {N T A : Type 0} (t : OpOf N T A) (d : HasDistinctIds t) (x : ℕ) wher
       ap (leaves_within (find x t)) (sym (same_head x (dropping x) s.here))
       ∙ all_each (λ (s : StandOf N T A). leaves_within (find x t) (head s.here)) (stands [] (without x t)) (stands_every (λ o. leaves_within (find x t) (head o)) [] (without x t) ∙ e) (left_stand x s) (left_member x t s h g)
 
-  -- where the operation isn't there, none is used
+  -- the values of a missing operation aren't used
   pub absent_unused : find x t ≡ None → unused_outside x t ≡ true
   absent_unused n = none_outside (λ s h g. ap (λ f. leaves_within f (head s.here)) n ∙ each_all (λ v. true) (head s.here).operands (λ v i. refl))

@@ -1,4 +1,4 @@
--- The operations beside an operation, by slots and in the tree.
+-- The neighbours of an operation, in slots and in the tree.
 use Rattle.std.proofs.Common.{◌≡◌, ℕ, zero, suc, ◌<◌, List, [], ◌∷◌, ◌++◌, refl, sym, ap, ◌∙◌, subst, length, Bool, true, false, eqb, cond, ◌||◌, ⊎_elim, Option, Some, None, slice_get, arith}
 use Rattle.std.specs.Prelude.{option_map, option_and_then}
 use Rattle.std.proofs.lemmas.Bool.{cases_eq, eq-eqb, ne_eqb, or_left, or_right}
@@ -18,10 +18,10 @@ use Rattle.ir_store_reads.proofs.of_tree_laws.Around.{member_of_place}
 use Rattle.ir_store_reads.proofs.of_tree_laws.Neighbours.{list_there}
 use Rattle.ir_store_reads.specs.Rows.{Row, Shape, row_at, live_slot, head_in}
 use Rattle.ir_store_reads.specs.Spells.{SpellsOp, SpellsRegions, SpellsOps}
-use Rattle.ir_store_reads.specs.Spots.{id_in, slot_place}
+use Rattle.ir_store_reads.specs.Points.{id_in, slot_place}
 use Rattle.ir_store_reads.specs.Right.{Live, Right}
 use Rattle.ir_store_reads.specs.Heading.{block_in, CanStand}
-use Rattle.ir_store_reads.proofs.Slots.{Found, found, found_op, none_found, only, slot_of_live}
+use Rattle.ir_store_reads.proofs.SlotLaws.{Found, found, found_op, none_found, only, slot_of_live}
 use Rattle.ir_store.proofs.Cut.{head_id, live_of}
 use Rattle.ir_store.proofs.Standing.{some_place, root_placeless, place_missing}
 use Rattle.ir_store_reads.proofs.of_trees.of_types.Truths.{both_false}
@@ -38,7 +38,7 @@ cond_map : {X Y : Type 0} (b : Bool) (f : X → Y) (x y : X) → cond b (f x) (f
 cond_map true f x y = refl
 cond_map false f x y = refl
 
--- operations of a list, and slots
+-- operations of a list, and their slots
 module _ (rows : List Row) (lists : List (List ℕ)) where
   pub first_spelt : (ks : List ℕ) (os : Ops) → SpellsOps rows lists ks os → option_map (id_in rows) (slice_get ks 0) ≡ first_id os
   first_spelt [] no_ops z = refl
@@ -46,17 +46,17 @@ module _ (rows : List Row) (lists : List (List ℕ)) where
   first_spelt (k ∷ ks) no_ops z = absurd z
   first_spelt (k ∷ ks) (next o os) z = ap Some (sym (head_id rows lists k o z.0))
 
-  last_behind : (last : Option ℕ) (ks : List ℕ) (os : Ops) → SpellsOps rows lists ks os → first_of (last_id os) (option_map (id_in rows) last) ≡ option_map (id_in rows) (last_of last ks)
-  last_behind last [] no_ops z = refl
-  last_behind last [] (next o os) z = absurd z
-  last_behind last (k ∷ ks) no_ops z = absurd z
-  last_behind last (k ∷ ks) (next o os) z =
-      later (last_id os) (head o).id (option_map (id_in rows) last) ∙ ap (λ i. first_of (last_id os) (Some i)) (head_id rows lists k o z.0) ∙ last_behind (Some k) ks os z.1
+  last_after : (last : Option ℕ) (ks : List ℕ) (os : Ops) → SpellsOps rows lists ks os → first_of (last_id os) (option_map (id_in rows) last) ≡ option_map (id_in rows) (last_of last ks)
+  last_after last [] no_ops z = refl
+  last_after last [] (next o os) z = absurd z
+  last_after last (k ∷ ks) no_ops z = absurd z
+  last_after last (k ∷ ks) (next o os) z =
+      later (last_id os) (head o).id (option_map (id_in rows) last) ∙ ap (λ i. first_of (last_id os) (Some i)) (head_id rows lists k o z.0) ∙ last_after (Some k) ks os z.1
 
   pub last_spelt : (ks : List ℕ) (os : Ops) → SpellsOps rows lists ks os → option_map (id_in rows) (last_of None ks) ≡ last_id os
-  last_spelt ks os z = sym (last_behind None ks os z) ∙ alone (last_id os)
+  last_spelt ks os z = sym (last_after None ks os z) ∙ alone (last_id os)
 
-  -- where x is the operation of one slot
+  -- if x is the operation of one slot
   module _ (x k : ℕ) (id : (row_at rows k).head.id ≡ x) (one : (q : ℕ) → Live rows q → (row_at rows q).head.id ≡ x → q ≡ k) where
     same_test : (q : ℕ) (o : Op) → SpellsOp rows lists q o → eqb (head o).id x ≡ eqb q k
     same_test q o z = ⊎_elim
@@ -79,14 +79,14 @@ module _ (rows : List Row) (lists : List (List ℕ)) where
     among_spelt (q ∷ ks) no_ops z = absurd z
     among_spelt (q ∷ ks) (next o os) z = λ i. same_test q o z.0 i || among_spelt ks os z.1 i
 
-    -- and y is that of another
+    -- if y is the operation of another slot
     pub goes_spelt : (y j : ℕ) → ((ks : List ℕ) (os : Ops) → SpellsOps rows lists ks os → is_among y os ≡ has j ks) → (ks : List ℕ) (os : Ops) → SpellsOps rows lists ks os → goes_before x y os ≡ slot_before k j ks
     goes_spelt y j among [] no_ops z = refl
     goes_spelt y j among [] (next o os) z = absurd z
     goes_spelt y j among (q ∷ ks) no_ops z = absurd z
     goes_spelt y j among (q ∷ ks) (next o os) z = λ i. cond (same_test q o z.0 i) (among ks os z.1 i) (goes_spelt y j among ks os z.1 i)
 
-  -- where x has no slot
+  -- if x has no slot
   module _ (x : ℕ) (none : (q : ℕ) → Live rows q → (row_at rows q).head.id ≡ x → ⊥) where
     never_among : (ks : List ℕ) (os : Ops) → SpellsOps rows lists ks os → is_among x os ≡ false
     never_among [] no_ops z = refl
@@ -94,17 +94,17 @@ module _ (rows : List Row) (lists : List (List ℕ)) where
     never_among (k ∷ ks) no_ops z = absurd z
     never_among (k ∷ ks) (next o os) z = ap (λ b. b || is_among x os) (ne_eqb (head o).id x (λ e. none k (live_of rows lists k o z.0) (sym (head_id rows lists k o z.0) ∙ e))) ∙ never_among ks os z.1
 
-    pub never_behind : (y : ℕ) (ks : List ℕ) (os : Ops) → SpellsOps rows lists ks os → goes_before y x os ≡ false
-    never_behind y [] no_ops z = refl
-    never_behind y [] (next o os) z = absurd z
-    never_behind y (k ∷ ks) no_ops z = absurd z
-    never_behind y (k ∷ ks) (next o os) z = (λ i. cond (eqb (head o).id y) (never_among ks os z.1 i) (never_behind y ks os z.1 i)) ∙ both_false (eqb (head o).id y)
+    pub never_after : (y : ℕ) (ks : List ℕ) (os : Ops) → SpellsOps rows lists ks os → goes_before y x os ≡ false
+    never_after y [] no_ops z = refl
+    never_after y [] (next o os) z = absurd z
+    never_after y (k ∷ ks) no_ops z = absurd z
+    never_after y (k ∷ ks) (next o os) z = (λ i. cond (eqb (head o).id y) (never_among ks os z.1 i) (never_after y ks os z.1 i)) ∙ both_false (eqb (head o).id y)
 
 among_there : (x : ℕ) (front : List Op) (o : Op) (rest : List Op) → (head o).id ≡ x → is_among x (ops_of (front ++ o ∷ rest)) ≡ true
 among_there x [] o rest e = or_left (eqb (head o).id x) (is_among x (ops_of rest)) (eq-eqb (head o).id x e)
 among_there x (f ∷ front) o rest e = or_right (eqb (head f).id x) (is_among x (ops_of (front ++ o ∷ rest))) (among_there x front o rest e)
 
--- a list's head, if there is one, and the operations that stand there
+-- the head of a list, if there is one, and the operations of the list
 abbrev pub ListIs : List Row → Lists → Option ℕ → Option Ops → Type 0
 ListIs rows sibs None None = Unit {0}
 ListIs rows sibs None (Some os) = ⊥
@@ -161,7 +161,7 @@ module _ (rows : List Row) (keys : ℕ → Option ℕ) (sibs : Lists) (root : �
       (cases_eq k root)
 
   module _ (laws : Laws sibs.lists sibs.homes) (d : HasDistinctIds t) where
-    -- the list in which an operation stands
+    -- the list that has the operation
     pub record Beside (x k : ℕ) : Type 0 where
       pub list : Ops
       pub is : list_of x t ≡ Some list
@@ -242,5 +242,5 @@ module _ (rows : List Row) (keys : ℕ → Option ℕ) (sibs : Lists) (root : �
         (λ z. ap (in_list (goes_before x y)) (root_list x k f z))
         (λ n. let b = beside x k f n in
         ap (in_list (goes_before x y)) b.is
-        ∙ never_behind rows sibs.lists y (λ q l i. let z : None ≡ Some q = sym e ∙ slot_of_live rows keys sibs root t r s y q l i in absurd cc) x (list_at sibs.lists (home_at sibs.homes k)) b.list b.spelt)
+        ∙ never_after rows sibs.lists y (λ q l i. let z : None ≡ Some q = sym e ∙ slot_of_live rows keys sibs root t r s y q l i in absurd cc) x (list_at sibs.lists (home_at sibs.homes k)) b.list b.spelt)
         (cases_eq k root)

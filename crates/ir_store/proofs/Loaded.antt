@@ -1,4 +1,4 @@
--- A tree that comes operation by operation is the whole tree.
+-- A tree that is built operation by operation is the whole tree.
 use Rattle.std.proofs.Common.{◌≡◌, ℕ, ◌+◌, List, [], ◌∷◌, ◌++◌, refl, sym, ap, ◌∙◌, subst, length, Bool, true, false, eqb, ◌||◌, ⊎_elim, arith, Option, Some, None}
 use Rattle.std.specs.Prelude.{option_and_then, if◌then◌else◌}
 use Rattle.std.specs.List.{list_any, IsDistinct}
@@ -30,35 +30,35 @@ in_back p xs ys e = list_any-append p xs ys ∙ ap (λ b. list_any p xs || b) e 
     at_last true = refl
     at_last false = refl
 
--- regions behind others
-abbrev behind : List Region → Regions → Regions
-behind [] rs = rs
-behind (f ∷ fs) rs = region f (behind fs rs)
+-- appends regions to a list of regions
+abbrev trailing : List Region → Regions → Regions
+trailing [] rs = rs
+trailing (f ∷ fs) rs = region f (trailing fs rs)
 
 abbrev fs_ids : List Region → List ℕ
 fs_ids [] = []
 fs_ids (f ∷ fs) = region_ids f ++ fs_ids fs
 
-behind_ids : (fs : List Region) (rs : Regions) → regions_ids (behind fs rs) ≡ fs_ids fs ++ regions_ids rs
-behind_ids [] rs = refl
-behind_ids (f ∷ fs) rs = ap (λ z. region_ids f ++ z) (behind_ids fs rs) ∙ sym (append_assoc (region_ids f) (fs_ids fs) (regions_ids rs))
+after_ids : (fs : List Region) (rs : Regions) → regions_ids (trailing fs rs) ≡ fs_ids fs ++ regions_ids rs
+after_ids [] rs = refl
+after_ids (f ∷ fs) rs = ap (λ z. region_ids f ++ z) (after_ids fs rs) ∙ sym (append_assoc (region_ids f) (fs_ids fs) (regions_ids rs))
 
 emptied_ids : (rs : Regions) → regions_ids (emptied_regions rs) ≡ []
 emptied_ids no_regions = refl
 emptied_ids (region empty rs) = emptied_ids rs
 emptied_ids (region (block args os) rs) = emptied_ids rs
 
-behind_last : (fs : List Region) (args : List ℕ) (os : Ops) (rs : Regions) (c : Op) → with_last (length fs) c (behind fs (region (block args os) rs)) ≡ behind fs (region (block args (put_last c os)) rs)
-behind_last [] args os rs c = refl
-behind_last (f ∷ fs) args os rs c = ap (region f) (behind_last fs args os rs c)
+after_last : (fs : List Region) (args : List ℕ) (os : Ops) (rs : Regions) (c : Op) → with_last (length fs) c (trailing fs (region (block args os) rs)) ≡ trailing fs (region (block args (put_last c os)) rs)
+after_last [] args os rs c = refl
+after_last (f ∷ fs) args os rs c = ap (region f) (after_last fs args os rs c)
 
-behind_at : (fs : List Region) (g : Region) (rs : Regions) → region_at (length fs) (behind fs (region g rs)) ≡ Some g
-behind_at [] g rs = refl
-behind_at (f ∷ fs) g rs = behind_at fs g rs
+after_at : (fs : List Region) (g : Region) (rs : Regions) → region_at (length fs) (trailing fs (region g rs)) ≡ Some g
+after_at [] g rs = refl
+after_at (f ∷ fs) g rs = after_at fs g rs
 
-behind_more : (fs : List Region) (g : Region) (rs : Regions) → behind (fs ++ g ∷ []) rs ≡ behind fs (region g rs)
-behind_more [] g rs = refl
-behind_more (f ∷ fs) g rs = ap (region f) (behind_more fs g rs)
+after_more : (fs : List Region) (g : Region) (rs : Regions) → trailing (fs ++ g ∷ []) rs ≡ trailing fs (region g rs)
+after_more [] g rs = refl
+after_more (f ∷ fs) g rs = ap (region f) (after_more fs g rs)
 
 length_more : (fs : List Region) (g : Region) → length fs + 1 ≡ length (fs ++ g ∷ [])
 length_more [] g = refl
@@ -68,28 +68,28 @@ last_ids : (c : Op) (os : Ops) → ops_ids (put_last c os) ≡ ops_ids os ++ ids
 last_ids c no_ops = append-nil (ids c)
 last_ids c (next o os) = ap (λ z. ids o ++ z) (last_ids c os) ∙ sym (append_assoc (ids o) (ops_ids os) (ids c))
 
--- operations behind others
-abbrev ops_behind : Ops → Ops → Ops
-ops_behind no_ops ps = ps
-ops_behind (next o os) ps = next o (ops_behind os ps)
+-- appends operations to other operations
+abbrev ops_after : Ops → Ops → Ops
+ops_after no_ops ps = ps
+ops_after (next o os) ps = next o (ops_after os ps)
 
-behind_ops : (os : Ops) (c : Op) (ps : Ops) → ops_behind (put_last c os) ps ≡ ops_behind os (next c ps)
-behind_ops no_ops c ps = refl
-behind_ops (next o os) c ps = ap (next o) (behind_ops os c ps)
+after_ops : (os : Ops) (c : Op) (ps : Ops) → ops_after (put_last c os) ps ≡ ops_after os (next c ps)
+after_ops no_ops c ps = refl
+after_ops (next o os) c ps = ap (next o) (after_ops os c ps)
 
-behind_none : (os : Ops) → ops_behind os no_ops ≡ os
-behind_none no_ops = refl
-behind_none (next o os) = ap (next o) (behind_none os)
+after_none : (os : Ops) → ops_after os no_ops ≡ os
+after_none no_ops = refl
+after_none (next o os) = ap (next o) (after_none os)
 
--- whether the operations of one tree are those of another
+-- every id of one tree is an id of another
 abbrev Within : Op → Op → Type 0
 Within o p = (y : ℕ) → has_id y o ≡ true → has_id y p ≡ true
 
--- an operation stands in a tree, or is the tree
+-- an operation inside a tree, or the tree itself
 module _ (h : Head) (rs : Regions) (own : HasDistinctIds (op h rs)) (stand : Op → Op)
     (along : (n : ℕ) (c : Op) (cur : Regions) → put (end_of h.id n) c (stand (op h cur)) ≡ stand (put (end_of h.id n) c (op h cur)))
     (mays : (n : ℕ) (c : Op) (cur : Regions) → HasDistinctIds (op h cur) → Within (op h cur) (op h rs) → MayPut (end_of h.id n) c (op h cur) → Within c (op h rs) → MayPut (end_of h.id n) c (stand (op h cur))) where
-  -- the tree with so much of the operation
+  -- the tree with the part of the operation that is built so far
   abbrev so_far : Regions → Op
   so_far cur = stand (op h cur)
 
@@ -109,20 +109,20 @@ module _ (h : Head) (rs : Regions) (own : HasDistinctIds (op h rs)) (stand : Op 
     cur_within : Within (op h cur) (op h rs)
     cur_within y z = ap (list_any (λ w. eqb w y)) (sym whole) ∙ in_front (λ w. eqb w y) (h.id ∷ regions_ids cur) more z
 
-  -- one more
+  -- one more operation
   module _ (fs : List Region) (args : List ℕ) (os : Ops) (rest : Regions) (c : Op) (more : List ℕ) where
     abbrev cur : Regions
-    cur = behind fs (region (block args os) (emptied_regions rest))
+    cur = trailing fs (region (block args os) (emptied_regions rest))
 
     abbrev cur' : Regions
-    cur' = behind fs (region (block args (put_last c os)) (emptied_regions rest))
+    cur' = trailing fs (region (block args (put_last c os)) (emptied_regions rest))
 
     cur_ids : regions_ids cur ≡ fs_ids fs ++ ops_ids os
-    cur_ids = behind_ids fs (region (block args os) (emptied_regions rest)) ∙ ap (λ z. fs_ids fs ++ (ops_ids os ++ z)) (emptied_ids rest) ∙ ap (λ z. fs_ids fs ++ z) (append-nil (ops_ids os))
+    cur_ids = after_ids fs (region (block args os) (emptied_regions rest)) ∙ ap (λ z. fs_ids fs ++ (ops_ids os ++ z)) (emptied_ids rest) ∙ ap (λ z. fs_ids fs ++ z) (append-nil (ops_ids os))
 
     more_ids : regions_ids cur' ≡ regions_ids cur ++ ids c
     more_ids =
-        behind_ids fs (region (block args (put_last c os)) (emptied_regions rest)) ∙ ap (λ z. fs_ids fs ++ (ops_ids (put_last c os) ++ z)) (emptied_ids rest) ∙ ap (λ z. fs_ids fs ++ z) (append-nil (ops_ids (put_last c os)) ∙ last_ids c os)
+        after_ids fs (region (block args (put_last c os)) (emptied_regions rest)) ∙ ap (λ z. fs_ids fs ++ (ops_ids (put_last c os) ++ z)) (emptied_ids rest) ∙ ap (λ z. fs_ids fs ++ z) (append-nil (ops_ids (put_last c os)) ∙ last_ids c os)
         ∙ sym (append_assoc (fs_ids fs) (ops_ids os) (ids c)) ∙ ap (λ z. z ++ ids c) (sym cur_ids)
 
     module _ (e : Front cur (ids c ++ more)) where
@@ -146,8 +146,8 @@ module _ (h : Head) (rs : Regions) (own : HasDistinctIds (op h rs)) (stand : Op 
             (λ p. absurd (false≢true (sym ((halves (h.id ∷ regions_ids cur) (ids c ++ more) (own_ids cur (ids c ++ more) e)).disjoint y p) ∙ in_front (λ w. eqb w y) (ids c) more z)))
             (λ n. n)
             (cases_Bool (has_id y (op h cur)));
-        spot = ap (λ b. is_in_list None (option_and_then (λ o. option_and_then ops_in (region_at (length fs) (regions o))) (if b then Some (op h cur) else find_rest))) (eq-eqb h.id h.id refl)
-            ∙ ap (λ z. is_in_list None (option_and_then ops_in z)) (behind_at fs (block args os) (emptied_regions rest));
+        point = ap (λ b. is_in_list None (option_and_then (λ o. option_and_then ops_in (region_at (length fs) (regions o))) (if b then Some (op h cur) else find_rest))) (eq-eqb h.id h.id refl)
+            ∙ ap (λ z. is_in_list None (option_and_then ops_in z)) (after_at fs (block args os) (emptied_regions rest));
       }
         where
           find_rest : Option Op
@@ -157,35 +157,35 @@ module _ (h : Head) (rs : Regions) (own : HasDistinctIds (op h rs)) (stand : Op 
       step_may = mays (length fs) c cur (cur_own cur (ids c ++ more) e) (cur_within cur (ids c ++ more) e) inner_may in_whole
 
       step_put : put (end_of h.id (length fs)) c (so_far cur) ≡ so_far cur'
-      step_put = along (length fs) c cur ∙ ap stand (put_at_end h cur (length fs) c root_once ∙ ap (op h) (behind_last fs args os (emptied_regions rest) c))
+      step_put = along (length fs) c cur ∙ ap stand (put_at_end h cur (length fs) c root_once ∙ ap (op h) (after_last fs args os (emptied_regions rest) c))
 
   -- the operations of a block
-  ops_all : (fs : List Region) (args : List ℕ) (os ps : Ops) (rest : Regions) (more : List ℕ) → Front (behind fs (region (block args os) (emptied_regions rest))) (ops_ids ps ++ more)
-      → MayOps h.id (length fs) ps (so_far (behind fs (region (block args os) (emptied_regions rest))))
-      × ((put_ops h.id (length fs) ps (so_far (behind fs (region (block args os) (emptied_regions rest)))) ≡ so_far (behind fs (region (block args (ops_behind os ps)) (emptied_regions rest))))
-      × Front (behind fs (region (block args (ops_behind os ps)) (emptied_regions rest))) more)
+  ops_all : (fs : List Region) (args : List ℕ) (os ps : Ops) (rest : Regions) (more : List ℕ) → Front (trailing fs (region (block args os) (emptied_regions rest))) (ops_ids ps ++ more)
+      → MayOps h.id (length fs) ps (so_far (trailing fs (region (block args os) (emptied_regions rest))))
+      × ((put_ops h.id (length fs) ps (so_far (trailing fs (region (block args os) (emptied_regions rest)))) ≡ so_far (trailing fs (region (block args (ops_after os ps)) (emptied_regions rest))))
+      × Front (trailing fs (region (block args (ops_after os ps)) (emptied_regions rest))) more)
   ops_all fs args os no_ops rest more e =
-      (tt, (ap (λ z. so_far (behind fs (region (block args z) (emptied_regions rest)))) (sym (behind_none os)), subst (λ z. Front (behind fs (region (block args z) (emptied_regions rest))) more) (sym (behind_none os)) e))
+      (tt, (ap (λ z. so_far (trailing fs (region (block args z) (emptied_regions rest)))) (sym (after_none os)), subst (λ z. Front (trailing fs (region (block args z) (emptied_regions rest))) more) (sym (after_none os)) e))
   ops_all fs args os (next c ps) rest more e =
-      let f : Front (behind fs (region (block args os) (emptied_regions rest))) (ids c ++ (ops_ids ps ++ more)) = ap (λ z. regions_ids (behind fs (region (block args os) (emptied_regions rest))) ++ z) (sym (append_assoc (ids c) (ops_ids ps) more)) ∙ e in
+      let f : Front (trailing fs (region (block args os) (emptied_regions rest))) (ids c ++ (ops_ids ps ++ more)) = ap (λ z. regions_ids (trailing fs (region (block args os) (emptied_regions rest))) ++ z) (sym (append_assoc (ids c) (ops_ids ps) more)) ∙ e in
       let p = step_put fs args os rest c (ops_ids ps ++ more) f in
       let r = ops_all fs args (put_last c os) ps rest more (front' fs args os rest c (ops_ids ps ++ more) f) in (
         (step_may fs args os rest c (ops_ids ps ++ more) f, subst (MayOps h.id (length fs) ps) (sym p) r.0),
         (
-          ap (put_ops h.id (length fs) ps) p ∙ r.1.0 ∙ ap (λ z. so_far (behind fs (region (block args z) (emptied_regions rest)))) (behind_ops os c ps),
-          subst (λ z. Front (behind fs (region (block args z) (emptied_regions rest))) more) (behind_ops os c ps) r.1.1,
+          ap (put_ops h.id (length fs) ps) p ∙ r.1.0 ∙ ap (λ z. so_far (trailing fs (region (block args z) (emptied_regions rest)))) (after_ops os c ps),
+          subst (λ z. Front (trailing fs (region (block args z) (emptied_regions rest))) more) (after_ops os c ps) r.1.1,
         ),
       )
 
   -- the regions
-  regions_all : (fs : List Region) (gs : Regions) → Front (behind fs (emptied_regions gs)) (regions_ids gs)
-      → MayRegions h.id (length fs) gs (so_far (behind fs (emptied_regions gs))) × (put_regions h.id (length fs) gs (so_far (behind fs (emptied_regions gs))) ≡ so_far (behind fs gs))
+  regions_all : (fs : List Region) (gs : Regions) → Front (trailing fs (emptied_regions gs)) (regions_ids gs)
+      → MayRegions h.id (length fs) gs (so_far (trailing fs (emptied_regions gs))) × (put_regions h.id (length fs) gs (so_far (trailing fs (emptied_regions gs))) ≡ so_far (trailing fs gs))
   regions_all fs no_regions e = (tt, refl)
   regions_all fs (region empty gs) e =
-      let m = behind_more fs empty (emptied_regions gs) in
+      let m = after_more fs empty (emptied_regions gs) in
       let r = regions_all (fs ++ empty ∷ []) gs (subst (λ z. Front z (regions_ids gs)) (sym m) e) in (
-        (tt, next_may fs empty gs (so_far (behind fs (emptied_regions (region empty gs)))) (subst (λ z. MayRegions h.id (length (fs ++ empty ∷ [])) gs (so_far z)) m r.0)),
-        next_put fs empty gs (so_far (behind fs (emptied_regions (region empty gs)))) ∙ ap (λ z. put_regions h.id (length (fs ++ empty ∷ [])) gs (so_far z)) (sym m) ∙ r.1 ∙ ap so_far (behind_more fs empty gs),
+        (tt, next_may fs empty gs (so_far (trailing fs (emptied_regions (region empty gs)))) (subst (λ z. MayRegions h.id (length (fs ++ empty ∷ [])) gs (so_far z)) m r.0)),
+        next_put fs empty gs (so_far (trailing fs (emptied_regions (region empty gs)))) ∙ ap (λ z. put_regions h.id (length (fs ++ empty ∷ [])) gs (so_far z)) (sym m) ∙ r.1 ∙ ap so_far (after_more fs empty gs),
       )
     where
       next_may : (fs : List Region) (g : Region) (gs : Regions) (t : Op) → MayRegions h.id (length (fs ++ g ∷ [])) gs t → MayRegions h.id (length fs + 1) gs t
@@ -196,11 +196,11 @@ module _ (h : Head) (rs : Regions) (own : HasDistinctIds (op h rs)) (stand : Op 
   regions_all fs (region (block args os) gs) e =
       let a = ops_all fs args no_ops os gs (regions_ids gs) e in
       let g = block args os in
-      let m = behind_more fs g (emptied_regions gs) in
+      let m = after_more fs g (emptied_regions gs) in
       let r = regions_all (fs ++ g ∷ []) gs (subst (λ z. Front z (regions_ids gs)) (sym m) a.1.1) in (
-        (a.0, subst (λ z. MayRegions h.id (length fs + 1) gs z) (sym a.1.0) (subst (λ n. MayRegions h.id n gs (so_far (behind fs (region g (emptied_regions gs))))) (sym (length_more fs g)) (subst (λ z. MayRegions h.id (length (fs ++ g ∷ [])) gs (so_far z)) m r.0))),
-        ap (put_regions h.id (length fs + 1) gs) a.1.0 ∙ ap (λ n. put_regions h.id n gs (so_far (behind fs (region g (emptied_regions gs))))) (length_more fs g)
-            ∙ ap (λ z. put_regions h.id (length (fs ++ g ∷ [])) gs (so_far z)) (sym m) ∙ r.1 ∙ ap so_far (behind_more fs g gs),
+        (a.0, subst (λ z. MayRegions h.id (length fs + 1) gs z) (sym a.1.0) (subst (λ n. MayRegions h.id n gs (so_far (trailing fs (region g (emptied_regions gs))))) (sym (length_more fs g)) (subst (λ z. MayRegions h.id (length (fs ++ g ∷ [])) gs (so_far z)) m r.0))),
+        ap (put_regions h.id (length fs + 1) gs) a.1.0 ∙ ap (λ n. put_regions h.id n gs (so_far (trailing fs (region g (emptied_regions gs))))) (length_more fs g)
+            ∙ ap (λ z. put_regions h.id (length (fs ++ g ∷ [])) gs (so_far z)) (sym m) ∙ r.1 ∙ ap so_far (after_more fs g gs),
       )
 
   start : Front (emptied_regions rs) (regions_ids rs)
@@ -220,7 +220,7 @@ module _ (place : Place) (h : Head) (rs : Regions) (t : Op) (may : MayPut place 
   root_out = may.apart h.id (ap (λ b. b || list_any (λ y. eqb y h.id) (regions_ids rs)) (eq-eqb h.id h.id refl))
 
   part_may : (cur : Regions) → HasDistinctIds (op h cur) → Within (op h cur) (op h rs) → MayPut place (op h cur) t
-  part_may cur d w = record { distinct = may.distinct; own = d; apart = λ y z. may.apart y (w y z); spot = may.spot }
+  part_may cur d w = record { distinct = may.distinct; own = d; apart = λ y z. may.apart y (w y z); point = may.point }
 
   put_all : MayRegions h.id 0 rs (put place (op h (emptied_regions rs)) t) × (put_regions h.id 0 rs (put place (op h (emptied_regions rs)) t) ≡ put place (op h rs) t)
   put_all = all_in h rs may.own (λ o. put place o t) (λ n c cur. put_along place (end_of h.id n) (op h cur) c t root_out)
@@ -231,7 +231,7 @@ module _ (place : Place) (h : Head) (rs : Regions) (t : Op) (may : MayPut place 
       (emptied_own h rs may.own (λ o. put place o t) (λ n c cur. put_along place (end_of h.id n) (op h cur) c t root_out) (λ n c cur d w inner v. may_along place (end_of h.id n) (op h cur) c t (part_may cur d w) inner (λ y z. may.apart y (v y z))))
       (emptied_within h rs may.own (λ o. put place o t) (λ n c cur. put_along place (end_of h.id n) (op h cur) c t root_out) (λ n c cur d w inner v. may_along place (end_of h.id n) (op h cur) c t (part_may cur d w) inner (λ y z. may.apart y (v y z))))
 
--- an operation may be put with its blocks empty, and then what stands in them
+-- if an operation may be inserted, it may also be inserted with empty blocks that are filled later
 pub may_emptied : (place : Place) (o t : Op) → MayPut place o t → MayPut place (emptied o) t
 may_emptied place (op h rs) t m = put_emptied place h rs t m
 
@@ -241,6 +241,6 @@ may_inside place (op h rs) t m = (put_all place h rs t m).0
 pub put_inside : (place : Place) (o t : Op) → MayPut place o t → put_regions (head o).id 0 (regions o) (put place (emptied o) t) ≡ put place o t
 put_inside place (op h rs) t m = (put_all place h rs t m).1
 
--- and so for a whole tree
+-- the same for a whole tree
 pub whole_inside : (o : Op) → HasDistinctIds o → MayRegions (head o).id 0 (regions o) (emptied o) × (put_regions (head o).id 0 (regions o) (emptied o) ≡ o)
 whole_inside (op h rs) d = all_in h rs d (λ o. o) (λ n c cur. refl) (λ n c cur e w inner v. inner)

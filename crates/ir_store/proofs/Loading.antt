@@ -13,7 +13,7 @@ use Rattle.ir_store_reads.specs.trees.Tree.{Op, op, Regions, no_regions, region,
 use Rattle.ir_store_reads.specs.trees.Ids.{HasDistinctIds, ids, regions_ids, region_ids, ops_ids, has_id, first_of}
 use Rattle.ir_store_reads.specs.trees.Places.{put}
 use Rattle.ir_store_reads.specs.trees.declared.value.Value.{Value}
-use Rattle.ir_store_reads.specs.trees.Sites.{in_scope, inside, regions_sites, sees_operands, operands_visible}
+use Rattle.ir_store_reads.specs.trees.Sites.{in_scope, inside, regions_sites, dominated_by_operands, operands_visible}
 use Rattle.std.proofs.lemmas.List.Elements.{recursion_from_All}
 use Rattle.ir_store_reads.specs.tree_laws.Reasons.{with_id}
 use Rattle.ir_store_reads.specs.tree_laws.Restores.{MayPut}
@@ -32,7 +32,7 @@ use Rattle.std.proofs.lemmas.Option.{same_Some}
 gone_same : (xs : List ℕ) (s u : Stored) → s.gone ≡ u.gone → (x : ℕ) → gone_with xs s x ≡ gone_with xs u x
 gone_same xs s u e x = ap (λ z. if list_any (λ y. eqb y x) xs then Some none_gone else finmap.get z x) e
 
--- first some come, then others
+-- some operations are added, and then others
 pub gone_then : (xs ys : List ℕ) (s u : Stored) → ((x : ℕ) → finmap.get u.gone x ≡ gone_with xs s x) → (x : ℕ) → gone_with ys u x ≡ gone_with (xs ++ ys) s x
 gone_then xs ys s u e x =
     ap (λ z. if list_any (λ y. eqb y x) ys then Some none_gone else z) (e x) ∙ turn (list_any (λ y. eqb y x) xs) (list_any (λ y. eqb y x) ys)
@@ -96,7 +96,7 @@ ops_done p n os goal xs s u e h l0 =
     let l : OpsLeft p n no_ops goal xs s u = subst (λ z. OpsLeft p n z goal xs s u) e l0 in
     record { module_of = λ i. record { tree = l.whole i; next = l.next i }; held = l.held ∙ sym h; gone = l.gone }
 
--- a slice is its first and the others
+-- a slice is its first item and the rest
 pub first_and_rest : {X : Type 0} (xs : List X) (x : X) → x ≡ get_or xs 0 x → 1 ≤ length xs → xs ≡ x ∷ take (length xs - 1) (drop 1 xs)
 first_and_rest [] x e l = absurd (omega (arith, l))
 first_and_rest (y ∷ xs) x e l = let long : suc (length xs) - 1 ≡ length xs = omega arith in λ i. sym e i ∷ sym (take_all (suc (length xs) - 1) xs long) i
@@ -133,7 +133,7 @@ module _ (p r : ℕ) (o : Op) (s : Stored) (may : MayPut (end_of p r) (emptied o
   pub head_can : list_all (λ v. has_value v s.module_of.tree) (head o).operands ≡ true → CanRestore x (end_of p r) false (after_grow x o s)
   head_can e = record {
     held = ap is_some held_there;
-    spot = may.spot;
+    point = may.point;
     values = λ u f. ap (λ z. list_all (λ v. has_value v s.module_of.tree) (head z).operands) (same_Some u (emptied o) (sym f ∙ held_there)) ∙ ap (list_all (λ v. has_value v s.module_of.tree)) operands_same ∙ e;
     newest = λ z. absurd (false≢true z);
     room = λ z. absurd (false≢true z);
@@ -160,7 +160,7 @@ module _ (p r : ℕ) (o : Op) (s : Stored) (may : MayPut (end_of p r) (emptied o
           (λ n. cond-false (eqb y x) None _ (ne_eqb y x n) ∙ finmap.get-insert nat_cmp_total s.held x (with_id x (emptied o)) y ∙ cond-false _ (Some (with_id x (emptied o))) (finmap.get s.held y) (eq_nat y x ∙ ne_eqb y x n))
           (cases_eq y x)
 
--- an operation with what stands in it
+-- loads an operation with everything inside it
 module _ (p r : ℕ) (o : Op) (s u : Stored) (may : MayPut (end_of p r) o s.module_of.tree) (held : s.held ≡ finmap.empty) (below : AreBelow s.module_of.next (ids o))
     (a : Adds (put (end_of p r) (emptied o) s.module_of.tree) ((head o).id ∷ []) s u) where
   tree_is : u.module_of.tree ≡ put (end_of p r) (emptied o) s.module_of.tree
@@ -191,7 +191,7 @@ module _ (p r : ℕ) (o : Op) (s u : Stored) (may : MayPut (end_of p r) o s.modu
 pub head_below : (n : ℕ) (o : Op) → AreBelow n (ids o) → (head o).id < n
 head_below n (op h rs) b = b h.id (ap (λ c. c || list_any (λ y. eqb y h.id) (regions_ids rs)) (eq-eqb h.id h.id refl))
 
--- what a loop has left, with its next
+-- the rest of a loop starts with the next item
 pub next_at : {X : Type 0} (ys xs : List X) → ys ≡ xs → (n : ℕ) (x : X) → n < length ys → x ≡ get_or ys n x → drop n xs ≡ x ∷ drop (n + 1) xs
 next_at ys xs e n x l f = subst (λ z. drop n z ≡ x ∷ drop (n + 1) z) e (drop_more ys n x l ∙ ap (λ z. z ∷ drop (n + 1) ys) (sym f))
 
@@ -218,7 +218,7 @@ ops_start p n g args os s e may held below = record {
 pub regions_start : (p : ℕ) (rs : Regions) (s : Stored) → MayRegions p 0 rs s.module_of.tree → s.held ≡ finmap.empty → AreBelow s.module_of.next (regions_ids rs) → RegionsLeft p 0 rs (put_regions p 0 rs s.module_of.tree) (regions_ids rs) s s
 regions_start p rs s may held below = record { may = may; whole = refl; held = held; next = refl; below = below; gone = λ x. refl }
 
--- what is inside is no greater
+-- a region in an operation isn't greater than the operation's regions
 pub region_no_more : (xs : List TreeRegion) (n : ℕ) (x : TreeRegion) → n < length xs → x ≡ get_or xs n x → region_size (region_view x) ≤ regions_size (regions_of (map region_view xs))
 region_no_more [] n x l e = absurd (omega (arith, l))
 region_no_more (y ∷ xs) zero x l e = let f : region_size (region_view x) ≡ region_size (region_view y) = ap (λ z. region_size (region_view z)) e in omega (arith, f)
@@ -237,9 +237,9 @@ below_all n (y ∷ ys) a x e = ⊎_elim (λ f. subst (λ z. z < n) (eqb-true y x
 pub are_below : (n : ℕ) (xs : List ℕ) → All (λ x. x < n) xs → AreBelow n xs
 are_below n xs a = below_all n xs (recursion_from_All (λ x. x < n) xs a)
 
--- the root of a tree whose operands are visible has none
+-- the root of a tree whose operands are visible has no operands
 pub root_bare : (isolated : ℕ → Bool) (t : Op) → operands_visible isolated t ≡ true → (head t).operands ≡ []
-root_bare isolated (op h rs) e = go h.operands (first (list_all (in_scope []) h.operands) (list_all sees_operands (regions_sites isolated (inside isolated h []) h.id 0 rs)) e)
+root_bare isolated (op h rs) e = go h.operands (first (list_all (in_scope []) h.operands) (list_all dominated_by_operands (regions_sites isolated (inside isolated h []) h.id 0 rs)) e)
   where
     first : (a b : Bool) → (a && b) ≡ true → a ≡ true
     first true b e = refl

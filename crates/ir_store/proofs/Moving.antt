@@ -1,4 +1,4 @@
--- The reasons against shifting an operation, where what is seen then is looked at last.
+-- The reasons against shifting an operation, with the check of dominance last.
 use Rattle.std.proofs.Common.{◌≡◌, refl, ap, sym, ◌∙◌, subst, ℕ, ◌≤◌, Bool, true, false, true≢false, not, ◌&&◌, eqb, length, Option, Some, None, arith}
 use Rattle.std.specs.Prelude.{nat_lt, is_some}
 use Rattle.std.proofs.lemmas.Bool.{leb-true}
@@ -29,7 +29,7 @@ use Rattle.ir_store.proofs.Seen.{seen_is}
 use Rattle.ir_store.proofs.Tabled.{found_there}
 use Rattle.ir_store_reads.proofs.of_trees.of_types.AcceptedCalls.{neither}
 
--- sight is looked at last
+-- the check of dominance is last
 in_order : (a b c d e f : Bool) (rest : Option Refusal)
     → unless a NoSuchOp (unless b IsRoot (unless c NoSuchIndex (unless d IntoItself (unless e OtherTable (unless f TooDeepHere rest)))))
     ≡ first_reason (first_reason (unless a NoSuchOp (unless b IsRoot (unless c NoSuchIndex (unless d IntoItself None)))) (unless e OtherTable (unless f TooDeepHere None))) rest
@@ -49,8 +49,8 @@ module _ {N T A : Type 0} (isolated is_table : N → Bool) (x : ℕ) (place : Pl
   pub refused_before : (e : Refusal) → unseen_reason is_table x place t ≡ Some e → shift_reason isolated is_table x place t ≡ Some e
   refused_before e h = shift_reason_is ∙ ap (λ r. first_reason r (unless (operands_visible isolated (shifted x place t)) NotVisible None)) h
 
-  pub by_sight : unseen_reason is_table x place t ≡ None → shift_reason isolated is_table x place t ≡ unless (operands_visible isolated (shifted x place t)) NotVisible None
-  by_sight h = shift_reason_is ∙ ap (λ r. first_reason r (unless (operands_visible isolated (shifted x place t)) NotVisible None)) h
+  pub by_dominance : unseen_reason is_table x place t ≡ None → shift_reason isolated is_table x place t ≡ unless (operands_visible isolated (shifted x place t)) NotVisible None
+  by_dominance h = shift_reason_is ∙ ap (λ r. first_reason r (unless (operands_visible isolated (shifted x place t)) NotVisible None)) h
 
 leaves_room : (n : ℕ) (o : Option ℕ) → is_some o ≡ true → fits_around n o ≡ true → nat_lt n most_around ≡ true
 leaves_room n None e f = absurd (true≢false (sym e))
@@ -82,7 +82,7 @@ module _ (isolated is_table : ℕ → Bool) (x : ℕ) (place : Place) (m : Modul
   out = ap (leads_inside place) (sym own.1) ∙ may_relink.outside
 
   after : find x (shifted x place t) ≡ Some own.0
-  after = after_found x place t own.0 w.distinct own.1 may_relink.inner may_relink.spot out
+  after = after_found x place t own.0 w.distinct own.1 may_relink.inner may_relink.point out
 
   own_fits : op_fits own.0 ≡ true
   own_fits =
@@ -90,7 +90,7 @@ module _ (isolated is_table : ℕ → Bool) (x : ℕ) (place : Place) (m : Modul
       let s = found_stands x t own.0 own.1 in
       ap op_fits (sym s.3) ∙ g.fits s.0 s.1
 
-  -- what was moved can be looked at
+  -- the precondition of the check, after the move
   pub may_look : CanLook x (shifted x place m.tree)
   may_look = record {
     there = found_there x (shifted x place t) own.0 after;
@@ -98,11 +98,11 @@ module _ (isolated is_table : ℕ → Bool) (x : ℕ) (place : Place) (m : Modul
     results = subst (λ z. results_in z ≤ most_items) (sym after) (few_results own.0 own_fits);
   }
 
-  sight : is_seen isolated x (shifted x place t) ≡ operands_visible isolated (shifted x place t)
-  sight = seen_is x place t own.0 w.distinct own.1 may_relink.inner may_relink.spot out isolated (w.formed.visible)
+  dominance : is_seen isolated x (shifted x place t) ≡ operands_visible isolated (shifted x place t)
+  dominance = seen_is x place t own.0 w.distinct own.1 may_relink.inner may_relink.point out isolated (w.formed.visible)
 
   pub seen_reason : is_seen isolated x (shifted x place m.tree) ≡ true → shift_reason isolated is_table x place m.tree ≡ None
-  seen_reason k = by_sight isolated is_table x place t e ∙ ap (λ b. unless b NotVisible None) (sym sight ∙ k)
+  seen_reason k = by_dominance isolated is_table x place t e ∙ ap (λ b. unless b NotVisible None) (sym dominance ∙ k)
 
   pub unseen_refused : is_seen isolated x (shifted x place m.tree) ≡ false → shift_reason isolated is_table x place m.tree ≡ Some NotVisible
-  unseen_refused k = by_sight isolated is_table x place t e ∙ ap (λ b. unless b NotVisible None) (sym sight ∙ k)
+  unseen_refused k = by_dominance isolated is_table x place t e ∙ ap (λ b. unless b NotVisible None) (sym dominance ∙ k)

@@ -1,4 +1,4 @@
--- One row is written, as a call tells it.
+-- A call that writes one row, as its contract describes the write.
 use Rattle.std.proofs.Common.{◌≡◌, ℕ, ◌<◌, List, set, ap, ◌∙◌, length}
 use Rattle.std.proofs.lemmas.List.{length-set}
 use Rattle.ir_store_reads.specs.Rows.{Row, row_at}

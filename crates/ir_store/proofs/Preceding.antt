@@ -1,4 +1,4 @@
--- Which of two operations comes first in pre-order, by the operations around them.
+-- The pre-order of two operations, by their parents.
 use Rattle.std.proofs.Common.{◌≡◌, refl, ap, sym, ◌∙◌, subst, ℕ, zero, suc, ◌+◌, ◌-◌, ◌<◌, ◌≤◌, true, false, true≢false, not, ◌||◌, eqb, eq-eqb, List, [], ◌∷◌, ◌++◌, length, Option, Some, None, option_map, inl, inr, ◌⊎◌, arith}
 use Rattle.std.specs.Prelude.{nat_lt, option_and_then}
 use Rattle.std.specs.List.{IsDistinct}
@@ -26,7 +26,7 @@ use Rattle.ir_store.proofs.Climbing.{Placed, placed, level_there, level_up}
 use Rattle.ir_store_reads.proofs.of_trees.Facts.{ids_head}
 
 module _ {N T A : Type 0} where
-  -- what stands in an operation is that, or deeper
+  -- every operation inside o is o itself, or is deeper
   abbrev Deeper : List (StepOf N T A) → OpOf N T A → List (StepOf N T A) → OpOf N T A → Type 0
   Deeper b o path u = (stand u path ≡ stand o b) ⊎ ((length b < length path) × (length path ≡ suc (length b) → (a : StepOf N T A) × (path ≡ a ∷ b) × (a.parent ≡ o)))
 
@@ -54,7 +54,7 @@ module _ {N T A : Type 0} where
   among_there x [] o rest e = or_left (eqb (head o).id x) (is_among x (ops_of rest)) (eq-eqb (head o).id x e)
   among_there x (f ∷ front) o rest e = or_right (eqb (head f).id x) (is_among x (ops_of (front ++ o ∷ rest))) (among_there x front o rest e)
 
--- where ids are distinct
+-- if ids are distinct
 module _ {N T A : Type 0} (t : OpOf N T A) (d : HasDistinctIds t) where
   pub placeless_level : (x : ℕ) → place_of x t ≡ None → level_of x t ≡ 0
   placeless_level x n = ap level (sym (stands_around x [] t)) ∙ go (stand_in x (stands [] t)) refl
@@ -70,7 +70,7 @@ module _ {N T A : Type 0} (t : OpOf N T A) (d : HasDistinctIds t) where
       go None e = refl
       go (Some s) e = let m = member x (stands [] t) s e in at s m.0 m.1 s.path refl
 
-  -- an operation that is in another, or is it
+  -- an operation that is p, or within p
   within_level : (p : OpOf N T A) (q : List (StepOf N T A)) → In (stand p q) (stands [] t) → (y : ℕ) → Present y (ids p)
       → (y ≡ (head p).id) ⊎ ((level_of (head p).id t < level_of y t) × (level_of y t ≡ suc (level_of (head p).id t) → parent_of y t ≡ Some (head p).id))
   within_level p q h y e =
@@ -107,7 +107,7 @@ module _ {N T A : Type 0} (t : OpOf N T A) (d : HasDistinctIds t) where
   self : (x : ℕ) → precedes x x t ≡ false
   self x = not_itself x (ids t) d
 
-  -- an operation, and the one around it
+  -- an operation and its parent
   module _ (x : ℕ) (place : Place) (e : place_of x t ≡ Some place) where
     abbrev w : Placed t d x place
     w = placed t d x place e
@@ -121,7 +121,7 @@ module _ {N T A : Type 0} (t : OpOf N T A) (d : HasDistinctIds t) where
     parent_is : parent_of x t ≡ Some place.parent
     parent_is = ap (option_map (λ p. p.parent)) e
 
-    -- one that isn't in that is before and behind both
+    -- an operation outside of the parent is before both or after both
     both_first : (y : ℕ) → Absent y (ids w.step.parent) → precedes x y t ≡ precedes place.parent y t
     both_first y n = same_first (ids t) _ (ids w.step.parent) _ (preorder t w.step.parent w.path w.up) d x place.parent y here_in up_in n
 
@@ -145,8 +145,8 @@ module _ {N T A : Type 0} (t : OpOf N T A) (d : HasDistinctIds t) where
         ∙ (λ i. comes_after (sym w.parent i) x (ids_head w.step.parent i))
         ∙ first_before (head w.step.parent).id x (regions_ids (regions w.step.parent)) here_inner
 
-    parent_not_behind : precedes x place.parent t ≡ false
-    parent_not_behind =
+    parent_not_after : precedes x place.parent t ≡ false
+    parent_not_after =
         same_within (ids t) _ (ids w.step.parent) _ (preorder t w.step.parent w.path w.up) d x place.parent here_in up_in
         ∙ (λ i. comes_after x (sym w.parent i) (ids_head w.step.parent i))
         ∙ none_before_first (head w.step.parent).id x (regions_ids (regions w.step.parent)) (subst (IsDistinct eqb) (ids_head w.step.parent) parent_distinct)
@@ -154,10 +154,10 @@ module _ {N T A : Type 0} (t : OpOf N T A) (d : HasDistinctIds t) where
     low : (y : ℕ) → (y ≡ place.parent → ⊥) → level_of y t ≤ level_of place.parent t → Absent y (ids w.step.parent)
     low y n l = outside_low w.step.parent w.path w.up y (λ s. n (s ∙ w.parent)) (subst (λ z. level_of y t ≤ level_of z t) (sym w.parent) l)
 
-    -- one around which no more stand
+    -- an operation that isn't deeper than the parent
     up_first : (y : ℕ) → level_of y t ≤ level_of place.parent t → precedes x y t ≡ precedes place.parent y t
     up_first y l = elim (cases_eq y place.parent) [
-      | inl s ↦ ap (λ z. precedes x z t) s ∙ parent_not_behind ∙ sym (ap (λ z. precedes place.parent z t) s ∙ self place.parent)
+      | inl s ↦ ap (λ z. precedes x z t) s ∙ parent_not_after ∙ sym (ap (λ z. precedes place.parent z t) s ∙ self place.parent)
       | inr n ↦ both_first y (low y n l)
     ]
 
@@ -167,7 +167,7 @@ module _ {N T A : Type 0} (t : OpOf N T A) (d : HasDistinctIds t) where
       | inr n ↦ both_later y (low y n l) ∙ sym (ap (λ b. b || precedes y place.parent t) (ne_eqb y place.parent n))
     ]
 
-    -- the block in which it stands
+    -- the block of the operation
     in_block : OfRegion w.step.parent place.region x
     in_block = go (list_there t d w.here w.step w.path w.there)
       where
@@ -185,7 +185,7 @@ module _ {N T A : Type 0} (t : OpOf N T A) (d : HasDistinctIds t) where
     unfolding in_block
     list_is = ap (λ z. list_of z t) (sym w.id) ∙ list_there t d w.here w.step w.path w.there
 
-  -- how many stand around an operation, by the one around it
+  -- the level of an operation is one above the level of its parent
   pub parent_level : (x p : ℕ) → parent_of x t ≡ Some p → level_of x t ≡ suc (level_of p t)
   parent_level x p e = go (place_of x t) refl e
     where
@@ -225,7 +225,7 @@ module _ {N T A : Type 0} (t : OpOf N T A) (d : HasDistinctIds t) where
       go f None e = let z = placeless_level y e in absurd (omega (arith, z, l))
       go f (Some place) e = let z = level_up t d y place e in up_later y place e x (omega (arith, z, l)) ∙ f place.parent (omega (arith, z, l))
 
-  -- two operations, and those around them, or they themselves, around which as many stand
+  -- two operations, each replaced by its ancestor at the level of the other
   module _ (x y a b : ℕ) (ea : a ≡ lifted (level_of (lifted (level_of y t) x t) t) x t) (eb : b ≡ lifted (level_of (lifted (level_of x t) y t) t) y t) where
     first_is : a ≡ lifted (level_of x t - level_of y t) x t
     first_is = ea ∙ ap (λ k. lifted k x t) (lifted_level (level_of y t) x)
@@ -265,7 +265,7 @@ module _ {N T A : Type 0} (t : OpOf N T A) (d : HasDistinctIds t) where
           ∙ ap (λ z. z || precedes x (lifted (level_of y t - level_of x t) y t) t) (eq-eqb x (lifted (level_of y t - level_of x t) y t) (sym own ∙ e ∙ second_is))))
     ]
 
-  -- around neither stands another
+  -- an operation of level 0 is the root
   outermost : (a : ℕ) → Present a (ids t) → level_of a t ≡ 0 → a ≡ (head t).id
   outermost a h l = elim (within_level t [] (itself [] t) a h) [ inl e ↦ e | inr r ↦ (let n = r.0 in absurd (omega (arith, n, l))) ]
 
@@ -278,12 +278,12 @@ module _ {N T A : Type 0} (t : OpOf N T A) (d : HasDistinctIds t) where
     ]
   ]
 
-  -- two around which as many stand
+  -- two operations of the same level
   module _ (a b : ℕ) (pa pb : Place) (ea : place_of a t ≡ Some pa) (eb : place_of b t ≡ Some pb) where
     pub same_level_up : level_of a t ≡ level_of b t → level_of pa.parent t ≡ level_of pb.parent t
     same_level_up l = let m = level_up t d a pa ea in let n = level_up t d b pb eb in omega (arith, l, m, n)
 
-    -- in different ones
+    -- with different parents
     pub precedes_up : level_of a t ≡ level_of b t → (pa.parent ≡ pb.parent → ⊥) → precedes a b t ≡ precedes pa.parent pb.parent t
     precedes_up l n =
         let v = placed t d a pa ea in
@@ -295,7 +295,7 @@ module _ {N T A : Type 0} (t : OpOf N T A) (d : HasDistinctIds t) where
         some : {p q : ℕ} → Some p ≡ Some q → p ≡ q
         some e = cc
 
-    -- or in one
+    -- with the same parent
     module _ (s : pa.parent ≡ pb.parent) where
       one : (w b pb eb).step.parent ≡ (w a pa ea).step.parent
       one =
@@ -337,6 +337,6 @@ module _ {N T A : Type 0} (t : OpOf N T A) (d : HasDistinctIds t) where
           ap (in_list (goes_before a b)) (list_is a pa ea)
           ∙ sym (inner_is ∙ by_list (w a pa ea).step.parent inner_distinct pa.region pb.region a b (in_block a pa ea) of_one (ap (is_among b) (sym same) ∙ (in_block b pb eb).among))
 
-  -- a step up of two operations
+  -- one step up of two operations
   pub lifted_step : (left above at : ℕ) (o : Option ℕ) → parent_of left t ≡ Some above → parent_of at t ≡ o → lifted (level_of above t) (or_itself o at) t ≡ lifted (level_of left t) at t
   lifted_step left above at o e f = ap (λ z. lifted (level_of above t) (or_itself z at) t) (sym f) ∙ sym (ap (λ k. lifted k at t) (parent_level left above e))

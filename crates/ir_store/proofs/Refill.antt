@@ -1,4 +1,4 @@
--- A spare slot is written again.
+-- A free slot is used again.
 use Rattle.std.proofs.Common.{◌≡◌, ◌⊎◌, ℕ, ◌+◌, ◌<◌, refl, sym, ap, ◌∙◌, subst, length, Bool, true, false, ⊎_elim, inl, inr, arith, Option, Some, None, slice_get}
 use Rattle.std.specs.Prelude.{option_and_then, nat_lt, if◌then◌else◌}
 use Rattle.std.proofs.lemmas.Bool.{cases_Bool, cases_eq, false≢true, ltb-true}
@@ -15,9 +15,9 @@ use Rattle.ir_store_reads.specs.Grows.{Parts, Ready}
 use Rattle.ir_store.proofs.Fill.{Named, IsApart}
 use Rattle.ir_store_reads.proofs.of_trees.of_types.Truths.{if_some}
 
--- the cell of a head tells whose it is, so a spare slot's heads are no other's
+-- the cell of a list head names its owner, so the heads of a free slot belong to no other slot
 module _ (q : Parts) (keys : ℕ → Option ℕ) (root : ℕ) (t : Op) (r : Right q.rows keys q.sibs root t) (c : Celled q.rows q.cells) (bound k x : ℕ) (w : Row) (ready : Ready q keys bound k x w) where
-  -- an operation's slot is no head
+  -- the slot of an operation isn't a head
   used_no_head : (y : ℕ) → Used q.rows y → IsHead q.sibs.homes y → ⊥
   used_no_head y u h = ⊎_elim
       (λ l. ⊎_elim
@@ -36,11 +36,11 @@ module _ (q : Parts) (keys : ℕ → Option ℕ) (root : ℕ) (t : Op) (r : Righ
       let i = p.inside in
       omega (arith, f, i, r.few)
 
-  -- the slot that a cell of the spare slot's tells
+  -- slot k, or a block head that slot k owns
   abbrev Ours : ℕ → Type 0
   Ours s = (s ≡ k) ⊎ ((IsHead q.sibs.homes s) × ((row_at q.rows s).owner ≡ k))
 
-  -- and one of another's
+  -- the slot of an operation, or a block head that it owns
   abbrev Theirs : ℕ → Type 0
   Theirs s = (y : ℕ) × (Used q.rows y × ((s ≡ y) ⊎ ((IsHead q.sibs.homes s) × ((row_at q.rows s).owner ≡ y))))
 

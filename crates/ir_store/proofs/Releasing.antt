@@ -1,4 +1,4 @@
--- What giving up all that is held from an id on makes of the slots.
+-- How the slots change when all held operations from an id on are released.
 use Rattle.std.proofs.Common.{◌≡◌, ℕ, ◌+◌, ◌<◌, List, [], ◌∷◌, map, refl, sym, ap, ◌∙◌, subst, length, Bool, true, false, not, ◌&&◌, eqb, cond, arith, Option, Some, None, slice_get}
 use Rattle.std.specs.Prelude.{option_and_then, option_map, is_some, if◌then◌else◌, nat_lt}
 use Rattle.std.specs.Ordering.{nat_cmp, eq_by_cmp}
@@ -17,14 +17,14 @@ use Rattle.ir_store_reads.specs.Stored.{Gone, none_gone}
 use Rattle.ir_store.specs.Calls.{Releases, gone_left}
 use Rattle.ir_store_reads.specs.Releases.{is_given, released, key_left}
 use Rattle.ir_store_reads.specs.Rows.{Row, Shape, row_at, vacated, held_in, gone_in, bare, if_live}
-use Rattle.ir_store_reads.specs.Spells.{SpellsOp, SpellsRegions, SpellsRegion, SpellsOps, Spelled, spelled_is}
+use Rattle.ir_store_reads.specs.Spells.{SpellsOp, SpellsRegions, SpellsRegion, SpellsOps, Represented, spelled_is}
 use Rattle.ir_store.specs.Holds.{HoldsOf, GoneOf, map_is}
 use Rattle.ir_store_reads.specs.Right.{Live, Used, Right}
 use Rattle.ir_store_reads.specs.Index.{operand_at, cell_at, LinkedTo, argument_head, slot_head, value_head, Index, Celled, Fits, lives, HasOwners, HasIdsBelow, cells_of}
 use Rattle.ir_store.proofs.Called.{rows_in, keys_in, stored}
 use Rattle.ir_store_reads.specs.Marks.{Marked}
 use Rattle.ir_store_reads.proofs.Celled.{celled_same}
-use Rattle.ir_store_reads.proofs.Slots.{in_tree_is}
+use Rattle.ir_store_reads.proofs.SlotLaws.{in_tree_is}
 use Rattle.ir_store.proofs.Tally.{live_stays, some_live}
 use Rattle.ir_store.proofs.Whole.{Whole}
 use Rattle.ir_store_reads.proofs.Items.{some_same}
@@ -35,7 +35,7 @@ result_with i h b = if nat_lt i (length h.results) then Some (b + i) else None
 abbrev argument_with : ℕ → ℕ → List ℕ × ℕ → Option ℕ
 argument_with b i a = if nat_lt i (length a.0) then Some (b + i) else None
 
--- the attributes of a map, each changed
+-- the values of a map, each changed by f
 pub find_mapped : {X Y : Type 0} (f : X → Y) (q : ℕ) (es : List (ℕ × X)) → finmap.find nat_cmp q (map (λ e. (e.0, f e.1)) es) ≡ option_map f (finmap.find nat_cmp q es)
 find_mapped {X} {Y} f q [] = refl
 find_mapped {X} {Y} f q (e ∷ es) = here (eq_by_cmp nat_cmp q e.0) (find_mapped f q es)
@@ -60,7 +60,7 @@ both_of : (c d : Bool) → (not c && d) ≡ true → (c ≡ false) × (d ≡ tru
 both_of true d e = absurd (false≢true e)
 both_of false d e = (refl, e)
 
--- what a row has that is given up stays, and all but what is gone of one that isn't
+-- a field of a row that neither freeing the slot nor dropping its removed keys changes
 pub any_field : {A : Type 0} (f : Row → A) (b : Row) → f (vacated b) ≡ f b → f (record b { gone = none_gone }) ≡ f b
     → (c d : Bool) → f (if c then vacated b else (if d then record b { gone = none_gone } else b)) ≡ f b
 any_field f b e g true d = e
@@ -80,7 +80,7 @@ live_given u false w e = absurd (false≢true e)
 pub live_not_given : (from : ℕ) (b : Row) → b.live ≡ true → is_given from b ≡ false
 live_not_given from b e = live_given b.used b.live (not (nat_lt b.head.id from)) e
 
--- a tree is spelled by rows of which those in it have the same heads and shapes
+-- a tree is represented by other rows too, if the live rows have the same heads and shapes
 module _ (rows rows' : List Row) (lists : List (List ℕ)) (live : (k : ℕ) → (row_at rows' k).live ≡ (row_at rows k).live) (heads : (k : ℕ) → Live rows k → (row_at rows' k).head ≡ (row_at rows k).head) (shapes : (k : ℕ) → Live rows k → (row_at rows' k).shapes ≡ (row_at rows k).shapes) where
   mutual
     pub still_spells : (k : ℕ) (t : Op) → SpellsOp rows lists k t → SpellsOp rows' lists k t
@@ -112,7 +112,7 @@ module _ (from : ℕ) (rows : List Row) (keys : ℕ → Option ℕ) (sibs : List
   kept : {A : Type 0} (f : Row → A) → ((b : Row) → f (vacated b) ≡ f b) → ((b : Row) → f (record b { gone = none_gone }) ≡ f b) → (q : ℕ) → f (row_at rows' q) ≡ f (row_at rows q)
   kept f e g q = let b = row_at rows q in ap f (all q) ∙ any_field f b (e b) (g b) (is_given from b) (b.live && eqb from 0)
 
-  -- all that isn't given up keeps all but what is gone
+  -- a row that isn't freed keeps everything but its removed keys
   kept_in : {A : Type 0} (f : Row → A) → ((b : Row) → f (record b { gone = none_gone }) ≡ f b) → (q : ℕ) → is_given from (row_at rows q) ≡ false → f (row_at rows' q) ≡ f (row_at rows q)
   kept_in f g q n =
       let b = row_at rows q in
@@ -185,7 +185,7 @@ module _ (from : ℕ) (rows : List Row) (keys : ℕ → Option ℕ) (sibs : List
     covers = λ q l. ap (λ z. has_id z t) (kept (λ z. z.head.id) (λ b. refl) (λ b. refl) q) ∙ r.covers q (live_was q l);
   }
 
-  -- what is held
+  -- the held operations
   no_none : {X : Type 0} (b : Bool) → ◌≡◌ {A = Option X} (cond b None None) None
   no_none true = refl
   no_none false = refl
@@ -215,7 +215,7 @@ module _ (from : ℕ) (rows : List Row) (keys : ℕ → Option ℕ) (sibs : List
           ∙ ap (λ z. if b.used && (not b.live && not (nat_lt z from)) then None else held_in rows (Some k)) (sym w.id)
           ∙ pass k (is_given from b) refl
 
-  -- what is gone
+  -- the removed keys
   abbrev pub lack : Gone → Gone
   lack g = if eqb from 0 then none_gone else g
 
@@ -247,7 +247,7 @@ module _ (from : ℕ) (rows : List Row) (keys : ℕ → Option ℕ) (sibs : List
       go None e = refl
       go (Some k) e = let w = key_was y k e in ap (λ z. option_map lack (gone_in rows z)) w.0 ∙ ap Some (sym (gone_was k (r.known y k w.0).used w.1))
 
-  -- what the call says of it
+  -- the removed keys, as the contract describes them
   pub gone_is : (x : ℕ) → gone_in rows' (keys' x) ≡ (if has_id x t then gone_left from (gone_in rows (keys x)) else (if nat_lt x from then gone_in rows (keys x) else None))
   gone_is x = go (keys x) refl ∙ ap (λ b. if b then gone_left from (gone_in rows (keys x)) else (if nat_lt x from then gone_in rows (keys x) else None)) (in_tree_is rows keys sibs root t r s x)
     where
@@ -284,7 +284,7 @@ module _ (from : ℕ) (rows : List Row) (keys : ℕ → Option ℕ) (sibs : List
           shown k true b e = e
           shown k false b e = e
 
-  -- heads of values stay
+  -- the heads of values are unchanged
   argument_same : (i : ℕ) (a : Shape) → argument_head rows' i a ≡ argument_head rows i a
   argument_same i None = refl
   argument_same i (Some a) = ap (λ z. argument_with z i a) (kept (λ z. z.values) (λ b. refl) (λ b. refl) a.1)
@@ -358,46 +358,46 @@ module _ (from : ℕ) (rows : List Row) (keys : ℕ → Option ℕ) (sibs : List
   pub release_below : (n : ℕ) → HasIdsBelow n rows → HasIdsBelow n rows'
   release_below n b q l = subst (λ z. z < n) (sym (kept (λ z. z.head.id) (λ b. refl) (λ b. refl) q)) (b q (live_was q l))
 
--- the same, as the call's steps tell it
+-- the same, in the form of the call's contract
 module _ (a : Inside) (w : Whole a) (from : ℕ) (rows' : List Row) (long : length rows' ≡ length (rows_in a)) (all : (q : ℕ) → row_at rows' q ≡ released from (row_at (rows_in a) q))
     (keys' : ℕ → Option ℕ) (left : (y : ℕ) → keys' y ≡ key_left from (rows_in a) (keys_in a y)) where
-  spells : SpellsOp rows' a.sibs.lists a.root a.spelled.0
-  spells = release_spells from (rows_in a) (keys_in a) a.sibs a.root a.spelled.0 w.right a.spelled.1 rows' long all keys' left
+  spells : SpellsOp rows' a.sibs.lists a.root a.represented.0
+  spells = release_spells from (rows_in a) (keys_in a) a.sibs a.root a.represented.0 w.right a.represented.1 rows' long all keys' left
 
   holds : (y : ℕ) → finmap.get (finmap.retain_keys a.holds.0 (λ x. nat_lt x from)) y ≡ held_in rows' (keys' y)
-  holds = release_holds from (rows_in a) (keys_in a) a.sibs a.root a.spelled.0 w.right a.spelled.1 rows' long all keys' left a.holds.0 a.holds.1
+  holds = release_holds from (rows_in a) (keys_in a) a.sibs a.root a.represented.0 w.right a.represented.1 rows' long all keys' left a.holds.0 a.holds.1
 
   abbrev lacked : finmap.FinMap nat_cmp Gone
-  lacked = lacks_left from (rows_in a) (keys_in a) a.sibs a.root a.spelled.0 w.right a.spelled.1 rows' long all keys' left a.lacks.0
+  lacked = lacks_left from (rows_in a) (keys_in a) a.sibs a.root a.represented.0 w.right a.represented.1 rows' long all keys' left a.lacks.0
 
   lacks : (y : ℕ) → finmap.get lacked y ≡ gone_in rows' (keys' y)
-  lacks = release_gone from (rows_in a) (keys_in a) a.sibs a.root a.spelled.0 w.right a.spelled.1 rows' long all keys' left a.lacks.0 a.lacks.1
+  lacks = release_gone from (rows_in a) (keys_in a) a.sibs a.root a.represented.0 w.right a.represented.1 rows' long all keys' left a.lacks.0 a.lacks.1
 
-  pub release_given : Spelled rows' a.sibs.lists a.root × (HoldsOf rows' keys' × (GoneOf rows' keys' × Unit {0}))
-  release_given = ((a.spelled.0, spells), ((finmap.retain_keys a.holds.0 (λ x. nat_lt x from), holds), ((lacked, lacks), tt)))
+  pub release_given : Represented rows' a.sibs.lists a.root × (HoldsOf rows' keys' × (GoneOf rows' keys' × Unit {0}))
+  release_given = ((a.represented.0, spells), ((finmap.retain_keys a.holds.0 (λ x. nat_lt x from), holds), ((lacked, lacks), tt)))
 
-  pub release_fits : (s : Spelled rows' a.sibs.lists a.root) (marks : List ℕ) → Marked rows' marks → Fits rows' keys' a.sibs a.root s.0 a.uses.homes (cells_of a.cells.items) a.count a.next marks
+  pub release_fits : (s : Represented rows' a.sibs.lists a.root) (marks : List ℕ) → Marked rows' marks → Fits rows' keys' a.sibs a.root s.0 a.uses.homes (cells_of a.cells.items) a.count a.next marks
   release_fits s marks m =
-      let e = spelled_is rows' a.sibs.lists a.root s a.spelled.0 spells in
+      let e = spelled_is rows' a.sibs.lists a.root s a.represented.0 spells in
       record {
-        right = subst (Right rows' keys' a.sibs a.root) (sym e) (release_right from (rows_in a) (keys_in a) a.sibs a.root a.spelled.0 w.right a.spelled.1 rows' long all keys' left);
+        right = subst (Right rows' keys' a.sibs a.root) (sym e) (release_right from (rows_in a) (keys_in a) a.sibs a.root a.represented.0 w.right a.represented.1 rows' long all keys' left);
         few = w.few;
-        index = release_index from (rows_in a) (keys_in a) a.sibs a.root a.spelled.0 w.right a.spelled.1 rows' long all keys' left a.uses.homes (cells_of a.cells.items) w.index w.owned;
+        index = release_index from (rows_in a) (keys_in a) a.sibs a.root a.represented.0 w.right a.represented.1 rows' long all keys' left a.uses.homes (cells_of a.cells.items) w.index w.owned;
         distinct = subst HasDistinctIds (sym e) w.distinct;
         counted = w.counted ∙ ap op_count (sym e);
-        below = release_below from (rows_in a) (keys_in a) a.sibs a.root a.spelled.0 w.right a.spelled.1 rows' long all keys' left a.next w.below;
-        owned = release_owned from (rows_in a) (keys_in a) a.sibs a.root a.spelled.0 w.right a.spelled.1 rows' long all keys' left a.uses.homes (cells_of a.cells.items) w.index w.owned;
+        below = release_below from (rows_in a) (keys_in a) a.sibs a.root a.represented.0 w.right a.represented.1 rows' long all keys' left a.next w.below;
+        owned = release_owned from (rows_in a) (keys_in a) a.sibs a.root a.represented.0 w.right a.represented.1 rows' long all keys' left a.uses.homes (cells_of a.cells.items) w.index w.owned;
         marked = m;
-        celled = release_celled from (rows_in a) (keys_in a) a.sibs a.root a.spelled.0 w.right a.spelled.1 rows' long all keys' left (cells_of a.cells.items) w.celled;
+        celled = release_celled from (rows_in a) (keys_in a) a.sibs a.root a.represented.0 w.right a.represented.1 rows' long all keys' left (cells_of a.cells.items) w.celled;
       }
 
-  pub release_done : (s : Spelled rows' a.sibs.lists a.root) (h : HoldsOf rows' keys') (g : GoneOf rows' keys')
+  pub release_done : (s : Represented rows' a.sibs.lists a.root) (h : HoldsOf rows' keys') (g : GoneOf rows' keys')
       → Releases from (stored a) (record { module_of = record { tree = s.0; next = a.next }; held = h.0; gone = g.0 })
   release_done s h g =
-      let e = spelled_is rows' a.sibs.lists a.root s a.spelled.0 spells in
+      let e = spelled_is rows' a.sibs.lists a.root s a.represented.0 spells in
       record {
         module_of = λ i. record { tree = e i; next = a.next };
         held = map_is (λ y. held_in rows' (keys' y)) h (finmap.retain_keys a.holds.0 (λ x. nat_lt x from)) holds;
-        gone = λ x. g.1 x ∙ gone_is from (rows_in a) (keys_in a) a.sibs a.root a.spelled.0 w.right a.spelled.1 rows' long all keys' left x
-            ∙ ap (λ o. if has_id x a.spelled.0 then gone_left from o else (if nat_lt x from then o else None)) (sym (a.lacks.1 x));
+        gone = λ x. g.1 x ∙ gone_is from (rows_in a) (keys_in a) a.sibs a.root a.represented.0 w.right a.represented.1 rows' long all keys' left x
+            ∙ ap (λ o. if has_id x a.represented.0 then gone_left from o else (if nat_lt x from then o else None)) (sym (a.lacks.1 x));
       }

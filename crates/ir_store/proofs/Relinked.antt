@@ -1,4 +1,4 @@
--- Nothing is against moving an operation.
+-- The operation can be moved: `relink_reason` gives no reason.
 use Rattle.std.proofs.Common.{◌≡◌, ℕ, true, None}
 use Rattle.ir_store_reads.specs.types.declared.refusal.Refusal.TheVariants.{NoSuchOp, NoSuchIndex, IsRoot, IntoItself}
 use Rattle.ir_store_reads.specs.trees.declared.place.Place.{Place}
@@ -18,4 +18,4 @@ module _ (x : ℕ) (place : Place) (t : Op) (e : relink_reason x place t ≡ Non
       let b = no_unless _ IsRoot _ a.1 in
       let c = no_unless _ NoSuchIndex _ b.1 in
       let d = no_unless _ IntoItself None c.1 in
-      record { there = (both (has_id x t) (has_id place.parent t) a.0).0; inner = not_false _ b.0; spot = c.0; outside = not_false _ d.0 }
+      record { there = (both (has_id x t) (has_id place.parent t) a.0).0; inner = not_false _ b.0; point = c.0; outside = not_false _ d.0 }

@@ -1,4 +1,4 @@
--- What is read of a tree from an operation up, by its place.
+-- Reads of a tree that go from an operation up, by its place.
 use Rattle.std.proofs.Common.{◌≡◌, refl, ap, sym, ◌∙◌, subst, suc, length, ◌-◌, arith, ℕ, Bool, true, false, true≢false, eqb, eq-eqb, eqb-true, not, List, [], ◌∷◌, Option, Some, None, option_map, inl, inr}
 use Rattle.std.specs.Prelude.{is_some, nat_lt}
 use Rattle.std.specs.List.{list_any}
@@ -37,7 +37,7 @@ module _ {N T A : Type 0} (t : OpOf N T A) (d : HasDistinctIds t) (x : ℕ) wher
       let w = found_stands x t o f in
       ap (is_within x) f ∙ subst (λ y. list_any (λ z. eqb z y) (ids o) ≡ true) (ap (λ (u : OpOf N T A). (head u).id) (sym w.3) ∙ w.2) (stand_present [] o (stand o []) (itself [] o))
 
-  -- what is within an operation and isn't that has a place, whose parent is within it
+  -- an operation within x, but not x, has a place whose parent is within x
   module _ (o : OpOf N T A) (f : find x t ≡ Some o) (y : ℕ) (ne : y ≡ x → ⊥) where
     abbrev Up : Type 0
     Up = (place : Place) × (place_of y t ≡ Some place) × (is_within place.parent (Some o) ≡ true)
@@ -76,7 +76,7 @@ module _ {N T A : Type 0} (t : OpOf N T A) (d : HasDistinctIds t) (x : ℕ) wher
         (stand_present w.0.path o (stand p.here (p.step ∷ p.path))
         (within p.step.parent p.path (stand p.here (p.step ∷ p.path)) (around_there t p.here p.step p.path p.there).0 w.0.path o inside)))
 
-  -- the same, where it is known that the operation is there
+  -- the same, if the operation is known to be in the tree
   module _ (there : has_id x t ≡ true) where
     pub the_op : (o : OpOf N T A) × (find x t ≡ Some o)
     the_op = let w = present_stand [] t x there in (w.0.here, ap (λ z. find z t) (sym w.2) ∙ stand_found t d w.0 w.1)
@@ -90,7 +90,7 @@ module _ {N T A : Type 0} (t : OpOf N T A) (d : HasDistinctIds t) (x : ℕ) wher
     pub within_at_up : (y : ℕ) → (y ≡ x → ⊥) → (place : Place) → place_of y t ≡ Some place → is_within y (find x t) ≡ is_within place.parent (find x t)
     within_at_up y ne place e = ap (is_within y) the_op.1 ∙ within_up the_op.0 the_op.1 y ne place e ∙ sym (ap (is_within place.parent) the_op.1)
 
--- how many operations stand around one, by its place
+-- the nesting depth of an operation, computed from its place
 module _ {N T A : Type 0} (t : OpOf N T A) (d : HasDistinctIds t) where
   same_level : (o : Option ℕ) → old_level o ≡ level o
   same_level None = refl

@@ -1,4 +1,4 @@
--- The slots of a module of one operation, of which the blocks hold none.
+-- The slots of a module of one operation whose blocks are empty.
 use Rattle.std.proofs.Common.{◌≡◌, ℕ, ◌<◌, List, [], ◌∷◌, set, refl, sym, ap, ◌∙◌, subst, length, true, eqb, cond, ⊎_elim, arith, Option, Some, None, slice_get}
 use Rattle.std.specs.Ordering.{nat_cmp}
 use Rattle.std.specs.Cmp.{nat_cmp_total}
@@ -135,7 +135,7 @@ module _ (q : Parts) (wide : Wider nothing q) (few : length q.sibs.homes < free)
       (λ n. cond-false (eqb y x) (Some none_gone) (finmap.get (finmap.empty {X = Gone} {R = nat_cmp}) y) (ne_eqb y x n) ∙ finmap.get-empty nat_cmp y ∙ sym (ap (gone_in rows') (others y n)))
       (cases_eq y x)
 
-  -- first it is held
+  -- the root is first held
   held_rows : List Row
   held_rows = set q.rows k v
 

@@ -1,4 +1,4 @@
--- What moving an operation, with what stands in it, makes of the slots.
+-- How the slots change when an operation is moved with everything inside it.
 use Rattle.std.proofs.Common.{◌≡◌, ℕ, suc, ◌+◌, ◌<◌, List, [], ◌∷◌, ◌++◌, map, set, refl, sym, ap, ◌∙◌, subst, length, Bool, true, false, eqb, ◌&&◌, ◌||◌, ⊎_elim, arith, Option, Some, None, slice_get}
 use Rattle.std.specs.Prelude.{IfSome}
 use Rattle.std.specs.List.{list_any}
@@ -18,20 +18,20 @@ use Rattle.ir_store_reads.proofs.of_tree_laws.Shift.{own_distinct, is_put, may_s
 use Rattle.ir_store_reads.proofs.of_tree_laws.Edited.{taken_order, taken_op_count, put_op_count}
 use Rattle.ir_store_reads.specs.Rows.{Row, Shape, row_at}
 use Rattle.ir_store_reads.specs.Spells.{SpellsOp, SpellsRegions, SpellsRegion, SpellsOps}
-use Rattle.ir_store_reads.specs.Spots.{joined, StandsIn}
+use Rattle.ir_store_reads.specs.Points.{joined, StandsIn}
 use Rattle.ir_store.specs.Shifting.{CanRelink}
 use Rattle.ir_store_reads.specs.Right.{Live, Used, Placed, BlockOf, Right}
 use Rattle.ir_store_reads.proofs.Mapped.{has_op, has_regions, has_region, has_ops, neither, lists_spells}
 use Rattle.ir_store_reads.proofs.Founds.{has_is}
-use Rattle.ir_store_reads.proofs.Slots.{Found, found_op, only, root_id}
+use Rattle.ir_store_reads.proofs.SlotLaws.{Found, found_op, only, root_id}
 use Rattle.ir_store.proofs.Cut.{not_item, head_id, cut_lists}
 use Rattle.ir_store.proofs.Join.{joins, joined_same, joined_other, AtHome, Names, put_spells, has_put, In, within}
-use Rattle.ir_store.proofs.Joining.{Before, Spot}
+use Rattle.ir_store.proofs.Joining.{Before, Point}
 use Rattle.std.proofs.lemmas.List.Folds.{list_any-append}
 use Rattle.ir_store_reads.proofs.of_trees.Counts.{and_false}
 use Rattle.std.proofs.lemmas.Option.{same_Some}
 
--- lists have changed, but those of the operations in a tree that y isn't in
+-- only lists of the blocks of operation y have changed
 module _ (rows : List Row) (lists lists' : List (List ℕ)) (y : ℕ)
     (stay : (q i : ℕ) (c : List ℕ × ℕ) → Live rows q → ((row_at rows q).head.id ≡ y → ⊥) → slice_get (row_at rows q).shapes i ≡ Some (Some c) → list_at lists' c.1 ≡ list_at lists c.1) where
   mutual
@@ -76,7 +76,7 @@ untaken : (x : ℕ) (o : Op) → (head o).id ≡ x → HasDistinctIds o → with
 untaken x (op h rs) e d = ap (op h) (regions_untouched x h.id 0 rs (subst (λ z. Absent z (regions_ids rs)) e (absent_first h.id (regions_ids rs) d)))
 
 module _ (rows : List Row) (keys : ℕ → Option ℕ) (sibs : Lists) (root : ℕ) (t : Op) (r : Right rows keys sibs root t) (s : SpellsOp rows sibs.lists root t) (d : HasDistinctIds t)
-    (x k : ℕ) (fd : Found rows x k) (place : Place) (a : List ℕ × ℕ) (at : Option ℕ) (spot : Spot rows sibs.homes place a at) (can : CanRelink x place t) where
+    (x k : ℕ) (fd : Found rows x k) (place : Place) (a : List ℕ × ℕ) (at : Option ℕ) (point : Point rows sibs.homes place a at) (can : CanRelink x place t) where
   not_root : k ≡ root → ⊥
   not_root e = false≢true (sym can.inner ∙ eq-eqb (head t).id x (sym (root_id rows keys sibs root t r s) ∙ ap (λ z. (row_at rows z).head.id) (sym e) ∙ fd.id))
 
@@ -101,7 +101,7 @@ module _ (rows : List Row) (keys : ℕ → Option ℕ) (sibs : Lists) (root : �
   same_slot : (q p y : ℕ) → Used rows q → (row_at rows q).head.id ≡ y → Used rows p → (row_at rows p).head.id ≡ y → q ≡ p
   same_slot q p y uq eq up ep = same_Some q p (sym (r.keyed q uq) ∙ ap keys (eq ∙ sym ep) ∙ r.keyed p up)
 
-  -- the slot before which it goes is another
+  -- the slot at the insertion point is another one
   other : (c b : Option ℕ) → Before rows sibs.homes a.1 c b → before_within b (Some o) ≡ false → (q : ℕ) → c ≡ Some q → q ≡ k → ⊥
   other None b z n q e f = absurd cc
   other (Some p) None z n q e f = absurd z
@@ -110,13 +110,13 @@ module _ (rows : List Row) (keys : ℕ → Option ℕ) (sibs : Lists) (root : �
       false≢true (sym (has_is b o ∙ n) ∙ subst (λ y. has_op y o ≡ true) id (own_in x o own_id))
 
   other_slot : (q : ℕ) → at ≡ Some q → q ≡ k → ⊥
-  other_slot = other at place.before spot.before (neither (is_within place.parent (Some o)) (before_within place.before (Some o)) outside).1
+  other_slot = other at place.before point.before (neither (is_within place.parent (Some o)) (before_within place.before (Some o)) outside).1
 
-  block_of : BlockOf rows sibs.homes spot.parent place.region a
-  block_of = r.blocks spot.parent place.region a (r.live_used spot.parent spot.found.live) spot.shape
+  block_of : BlockOf rows sibs.homes point.parent place.region a
+  block_of = r.blocks point.parent place.region a (r.live_used point.parent point.found.live) point.shape
 
-  -- a block with this head is this one
-  owner_is : (q i : ℕ) (c : List ℕ × ℕ) → Used rows q → slice_get (row_at rows q).shapes i ≡ Some (Some c) → c.1 ≡ a.1 → (q ≡ spot.parent) × (i ≡ place.region)
+  -- a block with this head is the block of the place
+  owner_is : (q i : ℕ) (c : List ℕ × ℕ) → Used rows q → slice_get (row_at rows q).shapes i ≡ Some (Some c) → c.1 ≡ a.1 → (q ≡ point.parent) × (i ≡ place.region)
   owner_is q i c u e z =
       let b = r.blocks q i c u e in
       (sym b.owner ∙ ap (λ w. (row_at rows w).owner) z ∙ block_of.owner, sym b.region ∙ ap (λ w. (row_at rows w).region) z ∙ block_of.region)
@@ -146,7 +146,7 @@ module _ (rows : List Row) (keys : ℕ → Option ℕ) (sibs : Lists) (root : �
         record { item = record { inside = omega (arith, i.inside, long1); linked = λ g. i.linked (sym h ∙ g); other = λ g. i.other (sym h ∙ g) }; home = h ∙ z.1.1 }
 
     pub shift_before : IfSome at (λ q. StandsIn mid.homes a.1 q)
-    shift_before = stands_mid at place.before spot.before other_slot
+    shift_before = stands_mid at place.before point.before other_slot
 
     at_home : (c b : Option ℕ) → Before rows sibs.homes a.1 c b → ((q : ℕ) → c ≡ Some q → q ≡ k → ⊥) → AtHome mid.lists a.1 c
     at_home None b z n = tt
@@ -159,7 +159,7 @@ module _ (rows : List Row) (keys : ℕ → Option ℕ) (sibs : Lists) (root : �
     names (Some q) None z = absurd z
     names (Some q) (Some b) z = (z.0.id, λ w l e. same_slot w q b (r.live_used w l) e (r.live_used q z.0.live) z.0.id)
 
-    -- it leaves
+    -- the operation is removed
     mid_spells : (q : ℕ) (u : Op) → SpellsOp rows sibs.lists q u → SpellsOp rows mid.lists q (without x u)
     mid_spells = cut_lists rows sibs.lists mid.lists x k fd.id (only rows keys sibs root t r s x k fd.live fd.id) el1
 
@@ -174,20 +174,20 @@ module _ (rows : List Row) (keys : ℕ → Option ℕ) (sibs : Lists) (root : �
       list_here = ap (λ z. list_at z a.1) el ∙ joined_same k a.1 at mid.lists (omega (arith, shift_head.inside, laws1.counted))
 
       list_else : (m : ℕ) → (m ≡ a.1 → ⊥) → list_at sibs'.lists m ≡ list_at mid.lists m
-      list_else m n = ap (λ z. list_at z m) el ∙ joined_other k a.1 at mid.lists (at_home at place.before spot.before other_slot) m n
+      list_else m n = ap (λ z. list_at z m) el ∙ joined_other k a.1 at mid.lists (at_home at place.before point.before other_slot) m n
 
-      -- what is inside it stays
+      -- the operations inside it remain
       own_spells : SpellsOp rows sibs'.lists k o
       own_spells = same_spells rows mid.lists sibs'.lists place.parent
-          (λ q i c l ne e. list_else c.1 (λ z. ne (ap (λ w. (row_at rows w).head.id) (owner_is q i c (r.live_used q l) e z).0 ∙ spot.found.id)))
+          (λ q i c l ne e. list_else c.1 (λ z. ne (ap (λ w. (row_at rows w).head.id) (owner_is q i c (r.live_used q l) e z).0 ∙ point.found.id)))
           k o parent_out own_mid
 
       not_here : (q i : ℕ) (c : List ℕ × ℕ) → Live rows q → slice_get (row_at rows q).shapes i ≡ Some (Some c) → (c.1 ≡ a.1 → ⊥) → is_in_block place (row_at rows q).head.id i ≡ false
       not_here q i c l e y = ⊎_elim
           (λ f. ⊎_elim
           (λ g.
-          let p : q ≡ spot.parent = same_slot q spot.parent place.parent (r.live_used q l) f (r.live_used spot.parent spot.found.live) spot.found.id in
-          let m : Some (Some c) ≡ Some (Some a) = sym e ∙ ap (λ v. slice_get (row_at rows v).shapes i) p ∙ ap (slice_get (row_at rows spot.parent).shapes) g ∙ spot.shape in
+          let p : q ≡ point.parent = same_slot q point.parent place.parent (r.live_used q l) f (r.live_used point.parent point.found.live) point.found.id in
+          let m : Some (Some c) ≡ Some (Some a) = sym e ∙ ap (λ v. slice_get (row_at rows v).shapes i) p ∙ ap (slice_get (row_at rows point.parent).shapes) g ∙ point.shape in
           let n : c ≡ a = cc in
           absurd (y (ap (λ v. v.1) n)))
           (λ g. rw (ne_eqb i place.region g) (and_false (eqb (row_at rows q).head.id place.parent)))
@@ -195,18 +195,18 @@ module _ (rows : List Row) (keys : ℕ → Option ℕ) (sibs : Lists) (root : �
           (λ f. rw (ne_eqb (row_at rows q).head.id place.parent f) refl)
           (cases_eq (row_at rows q).head.id place.parent)
 
-      -- it comes
+      -- the operation is inserted
       step : (q i : ℕ) (c : List ℕ × ℕ) (os : Ops) → Live rows q → slice_get (row_at rows q).shapes i ≡ Some (Some c) → SpellsOps rows sibs'.lists (list_at mid.lists c.1) os
           → SpellsOps rows sibs'.lists (list_at sibs'.lists c.1) (put_here place o (row_at rows q).head.id i os)
       step q i c os l e z = ⊎_elim
           (λ y.
           let w = owner_is q i c (r.live_used q l) e y in
-          let id : eqb (row_at rows q).head.id place.parent ≡ true = eq-eqb (row_at rows q).head.id place.parent (ap (λ v. (row_at rows v).head.id) w.0 ∙ spot.found.id) in
+          let id : eqb (row_at rows q).head.id place.parent ≡ true = eq-eqb (row_at rows q).head.id place.parent (ap (λ v. (row_at rows v).head.id) w.0 ∙ point.found.id) in
           let reg : eqb i place.region ≡ true = eq-eqb i place.region w.1 in
           let here : is_in_block place (row_at rows q).head.id i ≡ true = rw (id, reg) refl in
           subst (λ v. SpellsOps rows sibs'.lists v (put_here place o (row_at rows q).head.id i os)) (sym (ap (list_at sibs'.lists) y ∙ list_here))
           (subst (λ v. SpellsOps rows sibs'.lists (joins k at (list_at mid.lists a.1)) v) (sym (cond-true (is_in_block place (row_at rows q).head.id i) (put_in place.before o os) os here))
-          (put_spells rows sibs'.lists k o own_spells at place.before (names at place.before spot.before) (list_at mid.lists a.1) os (laws1.once a.1)
+          (put_spells rows sibs'.lists k o own_spells at place.before (names at place.before point.before) (list_at mid.lists a.1) os (laws1.once a.1)
           (subst (λ v. SpellsOps rows sibs'.lists (list_at mid.lists v) os) y z))))
           (λ y.
           let here : is_in_block place (row_at rows q).head.id i ≡ false = not_here q i c l e y in
@@ -215,18 +215,18 @@ module _ (rows : List Row) (keys : ℕ → Option ℕ) (sibs : Lists) (root : �
           (cases_eq c.1 a.1)
 
       shifted_is : shifted x place t ≡ after
-      shifted_is = is_put x place t o d own.1.0 can.inner can.spot outside
+      shifted_is = is_put x place t o d own.1.0 can.inner can.point outside
 
       pub shift_spells : SpellsOp rows sibs'.lists root (shifted x place t)
       shift_spells = subst (SpellsOp rows sibs'.lists root) (sym shifted_is) (lists_spells rows mid.lists sibs'.lists (put_here place o) step root (without x t) (mid_spells root t s))
 
       pub shift_ids : HasDistinctIds (shifted x place t)
-      shift_ids = subst HasDistinctIds (sym shifted_is) (shift_distinct x place t o d own.1.0 can.inner can.spot outside)
+      shift_ids = subst HasDistinctIds (sym shifted_is) (shift_distinct x place t o d own.1.0 can.inner can.point outside)
 
       pub shift_counted : op_count t ≡ op_count (shifted x place t)
-      shift_counted = taken_op_count x t o d own.1.0 can.inner ∙ sym (put_op_count place o (without x t) (may_shift x place t o d own.1.0 can.inner can.spot outside)) ∙ ap op_count (sym shifted_is)
+      shift_counted = taken_op_count x t o d own.1.0 can.inner ∙ sym (put_op_count place o (without x t) (may_shift x place t o d own.1.0 can.inner can.point outside)) ∙ ap op_count (sym shifted_is)
 
-      -- what was in the tree is in it
+      -- every operation of the tree is still in it
       stays : (y : ℕ) → has_id y t ≡ true → has_id y (shifted x place t) ≡ true
       stays y e =
           let w = taken_order x t o d own.1.0 can.inner in
@@ -236,7 +236,7 @@ module _ (rows : List Row) (keys : ℕ → Option ℕ) (sibs : Lists) (root : �
           let left : has_id y (without x t) ≡ (list_any test w.0 || list_any test w.1) = ap (list_any test) w.3 ∙ list_any-append test w.0 w.1 in
           let rest : has_id y (without x t) ≡ true → has_op y after ≡ true = λ f. has_put place o y (without x t) (has_is y (without x t) ∙ f) in
           let inside : has_id y o ≡ true → has_op y after ≡ true =
-          λ f. within x y after (subst (In x y) (sym (shift_found x place t o d own.1.0 can.inner can.spot outside ∙ own.1.0)) (has_is y o ∙ f)) in
+          λ f. within x y after (subst (In x y) (sym (shift_found x place t o d own.1.0 can.inner can.point outside ∙ own.1.0)) (has_is y o ∙ f)) in
           ap (has_id y) shifted_is ∙ sym (has_is y after) ∙ ⊎_elim
           (λ f. rest (left ∙ or_left (list_any test w.0) (list_any test w.1) f))
           (λ f. ⊎_elim inside (λ g. rest (left ∙ or_right (list_any test w.0) (list_any test w.1) g)) (or_cases (list_any test (ids o)) (list_any test w.1) f))
@@ -277,7 +277,7 @@ module _ (rows : List Row) (keys : ℕ → Option ℕ) (sibs : Lists) (root : �
             held = λ q u out.
                 let old = r.held q u out in
                 let ne : q ≡ k → ⊥ = λ e. false≢true (sym out ∙ ap (λ z. (row_at rows z).live) e ∙ fd.live.live) in
-                let far : q ≡ spot.parent → ⊥ = λ e. false≢true (sym out ∙ ap (λ z. (row_at rows z).live) e ∙ spot.found.live.live) in
+                let far : q ≡ point.parent → ⊥ = λ e. false≢true (sym out ∙ ap (λ z. (row_at rows z).live) e ∙ point.found.live.live) in
                 record {
                   out = record { inside = omega (arith, old.out.inside, long); unlinked = home q ne ∙ old.out.unlinked };
                   bare = λ i c f. list_else c.1 (λ z. far (owner_is q i c u f z).0) ∙ ap (λ z. list_at z c.1) el1 ∙ list_at-map (drop_node k) sibs.lists c.1 refl ∙ ap (drop_node k) (old.bare i c f);

@@ -1,4 +1,4 @@
--- Operations of one parent, in pre-order.
+-- The pre-order of operations with the same parent.
 use Rattle.std.proofs.Common.{◌≡◌, refl, ap, sym, ◌∙◌, subst, ℕ, zero, suc, ◌<◌, Bool, true, false, true≢false, cond, eqb, eq-eqb, eqb-true, List, ◌∷◌, ◌++◌, Some, inl, inr, arith}
 use Rattle.std.specs.List.{IsDistinct}
 use Rattle.ir_store_reads.specs.trees.Tree.{OpOf, op, RegionsOf, no_regions, region, RegionOf, block, OpsOf, no_ops, next, head, regions}
@@ -12,7 +12,7 @@ use Rattle.ir_store.proofs.After.{there, in_front, in_back, skip, hit, never_lat
 use Rattle.ir_store_reads.proofs.of_trees.of_types.Truths.{both_false}
 use Rattle.ir_store_reads.proofs.of_trees.Facts.{ids_head}
 
--- what isn't in the back of a list without doubles
+-- an item of the second of two disjoint lists isn't in the first
 other : (y : ℕ) (xs ys : List ℕ) → ((z : ℕ) → Present z xs → Absent z ys) → Present y ys → Absent y xs
 other y xs ys f h = elim (bool_cases (there y xs)) [ inr k ↦ k | inl k ↦ absurd (true≢false (sym h ∙ f y k)) ]
 
@@ -31,7 +31,7 @@ module _ {N T A : Type 0} where
   never_goes a b no_ops e = refl
   never_goes a b (next o os) e = let c = neither (eqb (head o).id b) (is_among b os) e in (λ i. cond (eqb (head o).id a) (c.1 i) (never_goes a b os c.1 i)) ∙ both_false (eqb (head o).id a)
 
-  -- of one list
+  -- two operations of one list
   goes_is : (a b : ℕ) (os : OpsOf N T A) → IsDistinct eqb (ops_ids os) → is_among a os ≡ true → is_among b os ≡ true → goes_before a b os ≡ comes_after a b (ops_ids os)
   goes_is a b no_ops d ea eb = absurd (true≢false (sym ea))
   goes_is a b (next o os) d ea eb =
@@ -55,7 +55,7 @@ module _ {N T A : Type 0} where
       later : eqb (head o).id a ≡ false → is_among a os ≡ true
       later m = elim (either (eqb (head o).id a) (is_among a os) ea) [ inl k ↦ absurd (true≢false (sym k ∙ m)) | inr k ↦ k ]
 
-  -- of the regions of one operation
+  -- two operations in the regions of one operation
   in_region : (r : ℕ) (rs : RegionsOf N T A) (args : List T) (os : OpsOf N T A) → region_at r rs ≡ Some (block args os) → (y : ℕ) → Present y (ops_ids os) → Present y (regions_ids rs)
   in_region zero no_regions args os e y h = absurd cc
   in_region (suc r) no_regions args os e y h = absurd cc
@@ -85,8 +85,8 @@ module _ {N T A : Type 0} where
   earlier_region zero (suc s) (region g rs) args brgs os ps l e f d a b ha hb =
       let same : g ≡ block args os = cc in
       let h = halves (region_ids g) (regions_ids rs) d in
-      let behind = in_region s rs brgs ps f b hb in
-      hit a b (region_ids g) (regions_ids rs) (subst (λ (z : RegionOf N T A). Present a (region_ids z)) (sym same) ha) (other b (region_ids g) (regions_ids rs) h.disjoint behind) ∙ behind
+      let trailing = in_region s rs brgs ps f b hb in
+      hit a b (region_ids g) (regions_ids rs) (subst (λ (z : RegionOf N T A). Present a (region_ids z)) (sym same) ha) (other b (region_ids g) (regions_ids rs) h.disjoint trailing) ∙ trailing
   earlier_region (suc r) (suc s) (region g rs) args brgs os ps l e f d a b ha hb =
       let h = halves (region_ids g) (regions_ids rs) d in
       skip a b (region_ids g) (regions_ids rs) (other a (region_ids g) (regions_ids rs) h.disjoint (in_region r rs args os e a ha)) ∙ earlier_region r s rs args brgs os ps (omega (arith, l)) e f h.right a b ha hb

@@ -1,4 +1,4 @@
--- What was found of a place, against the slots; and the joining of a store's own slots.
+-- The slots found for a place; and the insertion into a store's own slots.
 use Rattle.std.proofs.Common.{◌≡◌, ℕ, ◌<◌, List, set, get_or, refl, sym, ap, ◌∙◌, subst, length, Bool, true, false, eqb, not, ◌&&◌, cond, Option, Some, None, slice_get, ⊎_elim, arith}
 use Rattle.std.specs.Prelude.{option_and_then}
 use Rattle.std.specs.FinMap as finmap
@@ -11,17 +11,17 @@ use Rattle.ir_store.specs.declared.store.Store.TheInside.{Inside}
 use Rattle.ir_store_reads.specs.Stored.{Stored}
 use Rattle.ir_store.specs.Calls.{after_restore, put_held}
 use Rattle.ir_store_reads.specs.Rows.{Row, Shape, row_at, live_slot, held_slot, if_held, head_in, held_in, gone_in, bare}
-use Rattle.ir_store_reads.specs.Spells.{SpellsOp, Spelled, spelled_is}
+use Rattle.ir_store_reads.specs.Spells.{SpellsOp, Represented, spelled_is}
 use Rattle.ir_store.specs.Holds.{HoldsOf, GoneOf, map_is}
-use Rattle.ir_store_reads.specs.Spots.{spot_in, before_in, at_slot, stands, joined, StandsIn}
+use Rattle.ir_store_reads.specs.Points.{point_in, before_in, at_slot, stands, joined, StandsIn}
 use Rattle.ir_store_reads.specs.Right.{Live, Right}
-use Rattle.ir_store_reads.proofs.Slots.{found, used_inside}
+use Rattle.ir_store_reads.proofs.SlotLaws.{found, used_inside}
 use Rattle.ir_store.proofs.OneRow.{put_long, put_own, put_other}
 use Rattle.ir_store.proofs.Called.{rows_in, keys_in, IsRight, stored}
 use Rattle.ir_store_reads.specs.trees.Ids.{HasDistinctIds, has_id}
 use Rattle.ir_store_reads.proofs.Founds.{has_is}
 use Rattle.ir_store.proofs.Distinct.{bare_distinct}
-use Rattle.ir_store.proofs.Joining.{x_out, FoundHeld, Before, Spot, spot_head, slot_free, join_spells, join_right, join_holds, was_held, join_gone}
+use Rattle.ir_store.proofs.Joining.{x_out, FoundHeld, Before, Point, point_head, slot_free, join_spells, join_right, join_holds, was_held, join_gone}
 use Rattle.std.proofs.lemmas.Option.{cond_some, same_Some}
 
 module _ (rows : List Row) (keys : ℕ → Option ℕ) (sibs : Lists) (root : ℕ) (t : Op) (r : Right rows keys sibs root t) (s : SpellsOp rows sibs.lists root t) where
@@ -36,7 +36,7 @@ module _ (rows : List Row) (keys : ℕ → Option ℕ) (sibs : Lists) (root : �
           let h = r.known x q f in
           subst (FoundHeld rows x) b.1 (record { used = h.used; out = not-true (row_at rows q).live c.1; id = h.id })
 
-  -- a live slot whose home is a head stands in its list
+  -- a live slot whose home is a list head is an item of that head's list
   pub item_of : (q n : ℕ) → Live rows q → IsHead sibs.homes n → home_at sibs.homes q ≡ n → IsItem sibs.homes q
   item_of q n l h e = ⊎_elim
       (λ z. let f : n ≡ free = sym e ∙ ap (home_at sibs.homes) z ∙ r.top.unlinked in let few = r.few in let i : n < length sibs.homes = h.inside in absurd (omega arith))
@@ -45,7 +45,7 @@ module _ (rows : List Row) (keys : ℕ → Option ℕ) (sibs : Lists) (root : �
 
   module _ (place : Place) (n : ℕ) (at : Option ℕ) where
     abbrev Spotted : Type 0
-    Spotted = (a : List ℕ × ℕ) × ((a.1 ≡ n) × Spot rows sibs.homes place a at)
+    Spotted = (a : List ℕ × ℕ) × ((a.1 ≡ n) × Point rows sibs.homes place a at)
 
     befores : (h : IsHead sibs.homes n) (b : Option ℕ) → before_in rows keys sibs.homes b n ≡ Some (n, at) → Before rows sibs.homes n at b
     befores h None e = let f : None ≡ at = ap (λ z. z.1) (same_Some (n, None) (n, at) e) in subst (λ z. Before rows sibs.homes n z None) f tt
@@ -61,7 +61,7 @@ module _ (rows : List Row) (keys : ℕ → Option ℕ) (sibs : Lists) (root : �
             let same : Some q ≡ at = ap (λ z. z.1) w.1 in
             subst (λ z. Before rows sibs.homes n z (Some b)) same (fd, (item_of q n fd.live h e, e))
 
-    pub spotted : Some (n, at) ≡ spot_in rows keys sibs.homes place → Spotted
+    pub spotted : Some (n, at) ≡ point_in rows keys sibs.homes place → Spotted
     spotted e = go (live_slot rows keys place.parent) refl (sym e)
       where
         go : (o : Option ℕ) → live_slot rows keys place.parent ≡ o
@@ -97,20 +97,20 @@ module _ (rows : List Row) (keys : ℕ → Option ℕ) (sibs : Lists) (root : �
                   ),
                 )
 
--- an operation is joined in
+-- an operation is inserted
 module _ (a : Inside) (r : IsRight a) (laws : Laws a.sibs.lists a.sibs.homes) (x k : ℕ) (ek : Some k ≡ held_slot (rows_in a) (keys_in a) x)
-    (place : Place) (h : ℕ) (at : Option ℕ) (es : Some (h, at) ≡ spot_in (rows_in a) (keys_in a) a.sibs.homes place) where
+    (place : Place) (h : ℕ) (at : Option ℕ) (es : Some (h, at) ≡ point_in (rows_in a) (keys_in a) a.sibs.homes place) where
   fk : FoundHeld (rows_in a) x k
-  fk = held_found (rows_in a) (keys_in a) a.sibs a.root a.spelled.0 r a.spelled.1 x k ek
+  fk = held_found (rows_in a) (keys_in a) a.sibs a.root a.represented.0 r a.represented.1 x k ek
 
-  sp : (b : List ℕ × ℕ) × ((b.1 ≡ h) × Spot (rows_in a) a.sibs.homes place b at)
-  sp = spotted (rows_in a) (keys_in a) a.sibs a.root a.spelled.0 r a.spelled.1 place h at es
+  sp : (b : List ℕ × ℕ) × ((b.1 ≡ h) × Point (rows_in a) a.sibs.homes place b at)
+  sp = spotted (rows_in a) (keys_in a) a.sibs a.root a.represented.0 r a.represented.1 place h at es
 
   pub joint_head : IsHead a.sibs.homes h
-  joint_head = subst (IsHead a.sibs.homes) sp.1.0 (spot_head (rows_in a) (keys_in a) a.sibs a.root a.spelled.0 r a.spelled.1 laws x k fk place sp.0 at sp.1.1)
+  joint_head = subst (IsHead a.sibs.homes) sp.1.0 (point_head (rows_in a) (keys_in a) a.sibs a.root a.represented.0 r a.represented.1 laws x k fk place sp.0 at sp.1.1)
 
   pub joint_free : IsFree a.sibs.homes k
-  joint_free = slot_free (rows_in a) (keys_in a) a.sibs a.root a.spelled.0 r a.spelled.1 laws x k fk place sp.0 at sp.1.1
+  joint_free = slot_free (rows_in a) (keys_in a) a.sibs a.root a.represented.0 r a.represented.1 laws x k fk place sp.0 at sp.1.1
 
   pub joint_before : (t : ℕ) → at ≡ Some t → StandsIn a.sibs.homes h t
   joint_before t e = go place.before (subst (λ z. Before (rows_in a) a.sibs.homes sp.0.1 z place.before) e sp.1.1.before)
@@ -122,8 +122,8 @@ module _ (a : Inside) (r : IsRight a) (laws : Laws a.sibs.lists a.sibs.homes) (x
   pub joint_inside : k < length (rows_in a)
   joint_inside = used_inside (rows_in a) k fk.used
 
-  pub joint_out : has_id (row_at (rows_in a) k).head.id a.spelled.0 ≡ false
-  joint_out = ap (λ z. has_id z a.spelled.0) fk.id ∙ sym (has_is x a.spelled.0) ∙ x_out (rows_in a) (keys_in a) a.sibs a.root a.spelled.0 r a.spelled.1 laws x k fk place sp.0 at sp.1.1
+  pub joint_out : has_id (row_at (rows_in a) k).head.id a.represented.0 ≡ false
+  joint_out = ap (λ z. has_id z a.represented.0) fk.id ∙ sym (has_is x a.represented.0) ∙ x_out (rows_in a) (keys_in a) a.sibs a.root a.represented.0 r a.represented.1 laws x k fk place sp.0 at sp.1.1
 
   module _ (rows' : List Row) (er : rows' ≡ set (rows_in a) k (record (row_at (rows_in a) k) { live = true })) (sibs' : Lists) (el : sibs'.lists ≡ joined k h at a.sibs.lists) (eh : sibs'.homes ≡ set a.sibs.homes k h) where
     long' : length rows' ≡ length (rows_in a)
@@ -144,33 +144,33 @@ module _ (a : Inside) (r : IsRight a) (laws : Laws a.sibs.lists a.sibs.homes) (x
     abbrev o : Op
     o = bare (row_at (rows_in a) k)
 
-    spells : SpellsOp rows' sibs'.lists a.root (put place o a.spelled.0)
-    spells = join_spells (rows_in a) (keys_in a) a.sibs a.root a.spelled.0 r a.spelled.1 laws x k fk place sp.0 at sp.1.1 rows' long' others come sibs' el' eh'
+    spells : SpellsOp rows' sibs'.lists a.root (put place o a.represented.0)
+    spells = join_spells (rows_in a) (keys_in a) a.sibs a.root a.represented.0 r a.represented.1 laws x k fk place sp.0 at sp.1.1 rows' long' others come sibs' el' eh'
 
-    pub joint_tree : (w : Spelled rows' sibs'.lists a.root) → w.0 ≡ put place o a.spelled.0
-    joint_tree w = spelled_is rows' sibs'.lists a.root w (put place o a.spelled.0) spells
+    pub joint_tree : (w : Represented rows' sibs'.lists a.root) → w.0 ≡ put place o a.represented.0
+    joint_tree w = spelled_is rows' sibs'.lists a.root w (put place o a.represented.0) spells
 
-    pub joint_distinct : HasDistinctIds a.spelled.0 → (w : Spelled rows' sibs'.lists a.root) → HasDistinctIds w.0
-    joint_distinct d w = subst HasDistinctIds (sym (joint_tree w)) (bare_distinct place (row_at (rows_in a) k) a.spelled.0 d joint_out)
+    pub joint_distinct : HasDistinctIds a.represented.0 → (w : Represented rows' sibs'.lists a.root) → HasDistinctIds w.0
+    joint_distinct d w = subst HasDistinctIds (sym (joint_tree w)) (bare_distinct place (row_at (rows_in a) k) a.represented.0 d joint_out)
 
-    pub joint_right : (w : Spelled rows' sibs'.lists a.root) → Right rows' (keys_in a) sibs' a.root w.0
-    joint_right w = subst (Right rows' (keys_in a) sibs' a.root) (sym (spelled_is rows' sibs'.lists a.root w (put place o a.spelled.0) spells))
-        (join_right (rows_in a) (keys_in a) a.sibs a.root a.spelled.0 r a.spelled.1 laws x k fk place sp.0 at sp.1.1 rows' long' others come sibs' el' eh')
+    pub joint_right : (w : Represented rows' sibs'.lists a.root) → Right rows' (keys_in a) sibs' a.root w.0
+    joint_right w = subst (Right rows' (keys_in a) sibs' a.root) (sym (spelled_is rows' sibs'.lists a.root w (put place o a.represented.0) spells))
+        (join_right (rows_in a) (keys_in a) a.sibs a.root a.represented.0 r a.represented.1 laws x k fk place sp.0 at sp.1.1 rows' long' others come sibs' el' eh')
 
     holds : (y : ℕ) → finmap.get (finmap.remove a.holds.0 x) y ≡ held_in rows' (keys_in a y)
-    holds = join_holds (rows_in a) (keys_in a) a.sibs a.root a.spelled.0 r a.spelled.1 laws x k fk place sp.0 at sp.1.1 rows' long' others come sibs' el' eh' a.holds.0 a.holds.1
+    holds = join_holds (rows_in a) (keys_in a) a.sibs a.root a.represented.0 r a.represented.1 laws x k fk place sp.0 at sp.1.1 rows' long' others come sibs' el' eh' a.holds.0 a.holds.1
 
     lacks : (y : ℕ) → finmap.get a.lacks.0 y ≡ gone_in rows' (keys_in a y)
-    lacks y = a.lacks.1 y ∙ join_gone (rows_in a) (keys_in a) a.sibs a.root a.spelled.0 r a.spelled.1 laws x k fk place sp.0 at sp.1.1 rows' long' others come sibs' el' eh' y
+    lacks y = a.lacks.1 y ∙ join_gone (rows_in a) (keys_in a) a.sibs a.root a.represented.0 r a.represented.1 laws x k fk place sp.0 at sp.1.1 rows' long' others come sibs' el' eh' y
 
-    pub joint_given : Spelled rows' sibs'.lists a.root × (HoldsOf rows' (keys_in a) × (GoneOf rows' (keys_in a) × Unit {0}))
-    joint_given = ((put place o a.spelled.0, spells), ((finmap.remove a.holds.0 x, holds), ((a.lacks.0, lacks), tt)))
+    pub joint_given : Represented rows' sibs'.lists a.root × (HoldsOf rows' (keys_in a) × (GoneOf rows' (keys_in a) × Unit {0}))
+    joint_given = ((put place o a.represented.0, spells), ((finmap.remove a.holds.0 x, holds), ((a.lacks.0, lacks), tt)))
 
-    pub joint_done : (w : Spelled rows' sibs'.lists a.root) (v : HoldsOf rows' (keys_in a)) (g : GoneOf rows' (keys_in a))
+    pub joint_done : (w : Represented rows' sibs'.lists a.root) (v : HoldsOf rows' (keys_in a)) (g : GoneOf rows' (keys_in a))
         → ◌≡◌ {A = Stored} (record { module_of = record { tree = w.0; next = a.next }; held = v.0; gone = g.0 }) (after_restore x place false (stored a))
     joint_done w v g =
-        let was = was_held (rows_in a) (keys_in a) a.sibs a.root a.spelled.0 r a.spelled.1 laws x k fk place sp.0 at sp.1.1 rows' long' others come sibs' el' eh' a.holds.0 a.holds.1 in
-        let e1 = spelled_is rows' sibs'.lists a.root w (put place o a.spelled.0) spells ∙ ap (λ z. put_held place z a.spelled.0) (sym was) in
+        let was = was_held (rows_in a) (keys_in a) a.sibs a.root a.represented.0 r a.represented.1 laws x k fk place sp.0 at sp.1.1 rows' long' others come sibs' el' eh' a.holds.0 a.holds.1 in
+        let e1 = spelled_is rows' sibs'.lists a.root w (put place o a.represented.0) spells ∙ ap (λ z. put_held place z a.represented.0) (sym was) in
         let e2 = map_is (λ y. held_in rows' (keys_in a y)) v (finmap.remove a.holds.0 x) holds in
         let e3 = map_is (λ y. gone_in rows' (keys_in a y)) g a.lacks.0 lacks in
         λ i. record { module_of = record { tree = e1 i; next = a.next }; held = e2 i; gone = e3 i }

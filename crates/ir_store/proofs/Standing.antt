@@ -1,4 +1,4 @@
--- Where operations stand, by slots and in the tree.
+-- The places of operations, in slots and in the tree.
 use Rattle.std.proofs.Common.{◌≡◌, ℕ, suc, ◌+◌, List, [], ◌∷◌, ◌++◌, refl, sym, ap, ◌∙◌, subst, Bool, true, false, eqb, ◌||◌, ⊎_elim, arith, Option, Some, None, slice_get}
 use Rattle.std.specs.Prelude.{option_map, if◌then◌else◌}
 use Rattle.std.specs.List.{list_any}
@@ -12,15 +12,15 @@ use Rattle.ir_store_reads.specs.trees.Places.{place_of, regions_place, region_pl
 use Rattle.ir_store_reads.proofs.of_trees.Returns.{absent_first}
 use Rattle.ir_store_reads.specs.Rows.{Row, Shape, row_at, live_slot}
 use Rattle.ir_store_reads.specs.Spells.{SpellsOp, SpellsRegions, SpellsRegion, SpellsOps}
-use Rattle.ir_store_reads.specs.Spots.{id_in, slot_place}
+use Rattle.ir_store_reads.specs.Points.{id_in, slot_place}
 use Rattle.ir_store_reads.specs.Right.{Live, Right}
 use Rattle.ir_store_reads.proofs.Mapped.{has_op, has_regions, has_region, has_ops, neither}
 use Rattle.ir_store_reads.proofs.Founds.{has_is_regions}
-use Rattle.ir_store_reads.proofs.Slots.{Found, found, only, there, missing}
+use Rattle.ir_store_reads.proofs.SlotLaws.{Found, found, only, there, missing}
 use Rattle.ir_store.proofs.Cut.{head_id, live_of}
 use Rattle.ir_store_reads.proofs.of_trees.of_types.Truths.{either}
 
--- what isn't in a tree has no place in it
+-- an operation that isn't in a tree has no place in it
 module _ (x : ℕ) where
   mutual
     pub no_place : (t : Op) → has_op x t ≡ false → place_of x t ≡ None
@@ -49,7 +49,7 @@ has_last (f ∷ front) j ks = ap (λ b. eqb f j || b) (has_last front j ks) ∙ 
     at_last true = refl
     at_last false = refl
 
--- what comes behind a node of a list
+-- the nodes after a node of a list
 after_front : (front : List ℕ) (j : ℕ) (ks : List ℕ) → Once (front ++ j ∷ ks) → after j (front ++ j ∷ ks) ≡ slice_get ks 0
 after_front [] j ks o = cond-true (eqb j j) (slice_get ks 0) (after j ks) (eq-eqb j j refl)
 after_front (f ∷ front) j ks o = ⊎_elim

@@ -1,4 +1,4 @@
--- Nearest tables, from an operation up, and where an operation is shifted.
+-- Nearest tables, from an operation up, and after an operation is shifted.
 use Rattle.std.proofs.Common.{◌≡◌, refl, ap, sym, ◌∙◌, ℕ, Bool, true, false, eqb, cond, List, [], ◌∷◌, Option, Some, None, option_map, subst}
 use Rattle.std.specs.Prelude.{option_and_then}
 use Rattle.std.specs.Option.{option_eq}
@@ -13,14 +13,14 @@ use Rattle.ir_store_reads.specs.tree_laws.Members.{In}
 use Rattle.ir_store_reads.proofs.of_tree_laws.Readings.{stands_table}
 use Rattle.ir_store_reads.proofs.of_tree_laws.Members.{stand, stand_found, stand_of_member, found_stands}
 use Rattle.ir_store_reads.proofs.of_tree_laws.Around.{stand_present, place_of_member}
-use Rattle.ir_store_reads.proofs.of_tree_laws.Put.{spot_of}
+use Rattle.ir_store_reads.proofs.of_tree_laws.Put.{point_of}
 use Rattle.ir_store_reads.proofs.of_tree_laws.Edited.{head_stays, table_stays}
 use Rattle.ir_store_reads.proofs.of_tree_laws.Shift.{may_shift, is_put, shift_distinct, shift_place, shift_rest, inner_of, inner_place}
 use Rattle.ir_store.specs.Shifting.{CanRelink, table_at, near_table}
 use Rattle.ir_store.proofs.Climbing.{placed}
 use Rattle.ir_store.proofs.Rising.{the_op}
 
--- what is found is there
+-- a found operation is in the tree
 pub found_there : {N T A : Type 0} (x : ℕ) (t o : OpOf N T A) → find x t ≡ Some o → has_id x t ≡ true
 found_there x t o f = let w = found_stands x t o f in subst (λ z. has_id z t ≡ true) w.2 (stand_present [] t w.0 w.1)
 
@@ -32,7 +32,7 @@ module _ {N T A : Type 0} (is_table : N → Bool) where
     at_there : (s : StandOf N T A) → In s (stands [] t) → table_at is_table (stand_id s) t ≡ cond (is_table (head s.here).name) (Some (head s.here).id) (table_in is_table s.path)
     at_there s h = λ i. near_table is_table (table_there s h i) (option_map head (stand_found t d s h i))
 
-    -- around an operation with a place is the nearest from the place's parent up
+    -- the nearest table around an operation is the nearest one from its parent up
     pub table_up : (x : ℕ) (place : Place) → place_of x t ≡ Some place → table_of is_table x t ≡ Some (table_at is_table place.parent t)
     table_up x place e =
         let p = placed t d x place e in
@@ -62,20 +62,20 @@ module _ {N T A : Type 0} (is_table : N → Bool) where
               let bad : ◌≡◌ {A = Option Place} None (place_in (a ∷ q)) = sym n ∙ ap (λ y. place_of y t) (sym id) ∙ place_of_member t d s.here a q (subst (λ l. In (stand s.here l) (stands [] t)) r h) in
               absurd cc
 
-    -- what is left where an operation is taken has its nearest table
+    -- an operation that remains after another is taken out keeps its nearest table
     table_left : (x y : ℕ) → has_id y (without x t) ≡ true → table_at is_table y (without x t) ≡ table_at is_table y t
     table_left x y there = λ i. near_table is_table (table_stays x t d y there is_table i) (head_stays x t d y there i)
 
-  -- and so has what an operation is shifted into
+  -- the nearest table around a shifted operation is the nearest one from the place's parent up
   pub table_shifted : (x : ℕ) (place : Place) (t o : OpOf N T A) → HasDistinctIds t → find x t ≡ Some o → eqb (head t).id x ≡ false → has_place place t ≡ true → leads_inside place (Some o) ≡ false
       → table_of is_table x (shifted x place t) ≡ Some (table_at is_table place.parent t)
-  table_shifted x place t o d f root spot out =
+  table_shifted x place t o d f root point out =
       let u = put place o (without x t) in
-      let du = shift_distinct x place t o d f root spot out in
-      let rest : without x u ≡ without x t = shift_rest x place t o d f root spot out in
-      let s = spot_of place (without x t) (may_shift x place t o d f root spot out).spot in
+      let du = shift_distinct x place t o d f root point out in
+      let rest : without x u ≡ without x t = shift_rest x place t o d f root point out in
+      let s = point_of place (without x t) (may_shift x place t o d f root point out).point in
       let there : has_id place.parent (without x t) ≡ true = found_there place.parent (without x t) s.parent s.found in
-      ap (table_of is_table x) (is_put x place t o d f root spot out) ∙ table_up u du x place (shift_place x place t o d f root spot out)
+      ap (table_of is_table x) (is_put x place t o d f root point out) ∙ table_up u du x place (shift_place x place t o d f root point out)
       ∙ ap Some (sym (table_left u du x place.parent (ap (has_id place.parent) rest ∙ there)) ∙ ap (table_at is_table place.parent) rest ∙ table_left t d x place.parent there)
 
 -- an operation that may be moved
@@ -93,8 +93,8 @@ module _ (t : Op) (d : HasDistinctIds t) (x : ℕ) (place : Place) (can : CanRel
       absurd cc
 
   pub relink_parent : has_id place.parent t ≡ true
-  relink_parent = let s = spot_of place t can.spot in found_there place.parent t s.parent s.found
+  relink_parent = let s = point_of place t can.point in found_there place.parent t s.parent s.found
 
   pub relink_tables : (is_table : ℕ → Bool) (old : Place) → place_of x t ≡ Some old
       → same_table (table_of is_table x t) (table_of is_table x (shifted x place t)) ≡ option_eq eqb (table_at is_table old.parent t) (table_at is_table place.parent t)
-  relink_tables is_table old e = λ i. same_table (table_up is_table t d x old e i) (table_shifted is_table x place t it.0 d it.1 can.inner can.spot outside i)
+  relink_tables is_table old e = λ i. same_table (table_up is_table t d x old e i) (table_shifted is_table x place t it.0 d it.1 can.inner can.point outside i)

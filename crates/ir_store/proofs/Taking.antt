@@ -1,4 +1,4 @@
--- What taking an operation makes of the slots.
+-- How the slots change when an operation is taken out.
 use Rattle.std.proofs.Common.{◌≡◌, ℕ, zero, suc, List, [], ◌∷◌, map, set, refl, sym, ap, ◌∙◌, subst, length, true, false, eqb, cond, ◌&&◌, ⊎_elim, arith, Option, Some, None, slice_get}
 use Rattle.std.specs.Prelude.{Result, Ok, Err, if◌then◌else◌}
 use Rattle.ir_store_reads.specs.types.declared.refusal.Refusal.TheVariants.{NotEmpty}
@@ -20,7 +20,7 @@ use Rattle.ir_store_reads.specs.Right.{Live, Used, Right}
 use Rattle.ir_store_reads.specs.Plans.{is_nil, AllHeads, all_bare, leaf_in, cut_reason}
 use Rattle.ir_store_reads.proofs.Mapped.{rows_spells}
 use Rattle.ir_store_reads.proofs.Founds.{has_is}
-use Rattle.ir_store_reads.proofs.Slots.{Found, found, only, there, missing, root_id, root_live, found_op}
+use Rattle.ir_store_reads.proofs.SlotLaws.{Found, found, only, there, missing, root_id, root_live, found_op}
 use Rattle.ir_store.proofs.Cut.{not_item, has_cut, cut_lists, has_others, bare_is}
 use Rattle.ir_store_reads.proofs.Items.{eq_nat}
 
@@ -64,14 +64,14 @@ module _ (rows : List Row) (lists : List (List ℕ)) where
   pub holds_is : (k : ℕ) (o : Op) → SpellsOp rows lists k o → all_bare lists (row_at rows k).shapes ≡ hold_none (regions o)
   holds_is k (op h rs) s = bare_holds (row_at rows k).shapes rs s.1.1
 
--- the slot k holds the operation x of the tree, which isn't the root, and no operation is in it
+-- slot k has operation x of the tree, which isn't the root and has no operations inside it
 pub record IsLeaf (rows : List Row) (lists : List (List ℕ)) (root x k : ℕ) : Type 0 where
   pub found : Found rows x k
   pub inner : k ≡ root → ⊥
   pub bare : all_bare lists (row_at rows k).shapes ≡ true
 
 module _ (rows : List Row) (keys : ℕ → Option ℕ) (sibs : Lists) (root : ℕ) (t : Op) (r : Right rows keys sibs root t) (s : SpellsOp rows sibs.lists root t) (x : ℕ) where
-  -- what was found, or why nothing was, against the tree
+  -- the slot that was found, or the reason that none was
   abbrev Planned : Result ℕ Refusal → Type 0
   Planned (Ok k) = IsLeaf rows sibs.lists root x k × (cut_reason x t ≡ None)
   Planned (Err e) = cut_reason x t ≡ Some e
@@ -118,7 +118,7 @@ module _ (rows : List Row) (keys : ℕ → Option ℕ) (sibs : Lists) (root : �
     was : (q : ℕ) → Live rows' q → Live rows q
     was q l = record { live = sym (ap (λ z. z.live) (same q (not_k q l))) ∙ l.live }
 
-    -- all but `live` stays
+    -- everything but `live` is unchanged
     kept : {A : Type 0} (f : Row → A) → f (record (row_at rows k) { live = false }) ≡ f (row_at rows k) → (q : ℕ) → f (row_at rows' q) ≡ f (row_at rows q)
     kept f e q = ⊎_elim
         (λ z. ap (λ w. f (row_at rows' w)) z ∙ ap f gone ∙ e ∙ ap (λ w. f (row_at rows w)) (sym z))
@@ -176,7 +176,7 @@ module _ (rows : List Row) (keys : ℕ → Option ℕ) (sibs : Lists) (root : �
               ∙ has_is id t ∙ r.covers q (was q l);
         }
 
-    -- it is held then
+    -- the operation is held
     pub cut_holds : (m : finmap.FinMap nat_cmp Op) → ((y : ℕ) → finmap.get m y ≡ held_in rows (keys y)) → (o : Op) → SpellsOp rows sibs.lists k o
         → (y : ℕ) → finmap.get (finmap.insert m x o) y ≡ held_in rows' (keys y)
     cut_holds m h o so y = finmap.get-insert nat_cmp_total m x o y ∙ ap (λ b. cond b (Some o) (finmap.get m y)) (eq_nat y x) ∙ ⊎_elim

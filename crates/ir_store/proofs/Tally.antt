@@ -1,4 +1,4 @@
--- How many operations the module has, which ids they have, and whose values they use.
+-- The number of the module's operations, their ids, and the owners of the values that they use.
 use Rattle.std.proofs.Common.{◌≡◌, ◌⊎◌, ℕ, zero, suc, ◌+◌, ◌<◌, ◌≤◌, List, [], ◌∷◌, map, set, refl, sym, ap, ◌∙◌, subst, length, Bool, true, false, eqb, not, ⊎_elim, inl, inr, arith, Option, Some, None, slice_get}
 use Rattle.std.specs.Prelude.{is_some, option_and_then, if◌then◌else◌}
 use Rattle.std.specs.List.{list_any}
@@ -22,7 +22,7 @@ use Rattle.ir_store_reads.specs.Grows.{Parts, Wider, Ready}
 use Rattle.ir_store.proofs.Cut.{bare_is, has_cut}
 use Rattle.ir_store_reads.proofs.Founds.{has_is}
 use Rattle.ir_store.proofs.Distinct.{bare_own, bare_count, bare_apart}
-use Rattle.ir_store_reads.proofs.Slots.{found, found_op, in_tree_is, live_inside, only, root_id, root_live}
+use Rattle.ir_store_reads.proofs.SlotLaws.{found, found_op, in_tree_is, live_inside, only, root_id, root_live}
 use Rattle.ir_store.proofs.Taking.{IsLeaf}
 use Rattle.ir_store.proofs.Unused.{Passes, every_find}
 use Rattle.ir_store_reads.proofs.of_trees.of_types.WordNumbers.{all_at}
@@ -45,7 +45,7 @@ live_stays rows rows' keys keys' y h e = go (keys y) refl e
         test true l g = let w = h q f (record { live = l }) in ap (λ z. is_some (if_live rows' z)) w.0 ∙ ap (λ b. is_some {T = ℕ} (if b then Some q else None)) w.1.live
         test false l g = absurd (false≢true g)
 
--- the slot of an operation that has a live one
+-- the live slot of an operation
 pub some_live : (rows : List Row) (keys : ℕ → Option ℕ) (y : ℕ) → is_some (live_slot rows keys y) ≡ true → (q : ℕ) × ((keys y ≡ Some q) × Live rows q)
 some_live rows keys y e = go (keys y) refl e
   where
@@ -65,12 +65,12 @@ value_owner rows slots v e = go (slots (owner_of v).0) e
     go None f = absurd (false≢true f)
     go (Some q) f = refl
 
--- what is taken is out of the tree
+-- the removed operation isn't in the tree
 pub left_out : (x : ℕ) (t : Op) → eqb (head t).id x ≡ false → has_id x (without x t) ≡ false
 left_out x t e = sym (has_is x (without x t)) ∙ has_cut x t e
 
 module _ (rows : List Row) (keys : ℕ → Option ℕ) (sibs : Lists) (root : ℕ) (t : Op) (r : Right rows keys sibs root t) (s : SpellsOp rows sibs.lists root t) where
-  -- there are no more operations than slots
+  -- there are at most as many operations as slots
   pub count_within : HasDistinctIds t → op_count t ≤ length rows
   count_within d = subst (λ n. op_count t ≤ n) (length-map rows (λ z. z.head.id)) (no_more (ids t) (map (λ z. z.head.id) rows) d member)
     where
@@ -89,7 +89,7 @@ module _ (rows : List Row) (keys : ℕ → Option ℕ) (sibs : Lists) (root : �
       go None e = absurd (false≢true (sym (ap is_some e) ∙ in_tree_is rows keys sibs root t r s y ∙ h))
       go (Some k) e = let fd = found rows keys sibs root t r s y k e in subst (λ z. z < n) fd.id (b k fd.live)
 
-  -- where the newest id is out of the tree, all others are below it
+  -- if the newest id isn't in the tree, all others are below it
   pub lower_below : (x n : ℕ) → n ≡ x + 1 → has_id x t ≡ false → HasIdsBelow n rows → HasIdsBelow x rows
   lower_below x n e out b k l =
       let id = (row_at rows k).head.id in
@@ -99,11 +99,11 @@ module _ (rows : List Row) (keys : ℕ → Option ℕ) (sibs : Lists) (root : �
       (λ ne. ⊎_elim (λ lt. lt) (λ ge. absurd (ne (omega (arith, le, e, ge)))) (cases_lt id x))
       (cases_eq id x)
 
-  -- the heads of live slots stand in the tree
+  -- the headers of live slots are headers of operations of the tree
   head_is : (q : ℕ) (o : Op) → SpellsOp rows sibs.lists q o → (row_at rows q).head ≡ head o
   head_is q (op h rs) w = w.1.0
 
-  -- no operand is a value of an operation of which none is used
+  -- if no value of operation x is used, no operand is a value of x
   pub no_user : (x : ℕ) → unused x t ≡ true → (q j : ℕ) (v : Value) → Live rows q → operand_at rows q j ≡ Some v → (owner_of v).0 ≡ x → ⊥
   no_user x u q j v l e f =
       let id = (row_at rows q).head.id in
@@ -113,7 +113,7 @@ module _ (rows : List Row) (keys : ℕ → Option ℕ) (sibs : Lists) (root : �
       let p : not (eqb (owner_of v).0 x) ≡ true = all_at (λ w. not (eqb (owner_of w).0 x)) (head o.0).operands j v z (ap (λ d. slice_get d.operands j) (sym (head_is q o.0 o.1.1)) ∙ e) in
       false≢true (sym (ap not (eq-eqb (owner_of v).0 x f)) ∙ p)
 
-  -- an operation is taken
+  -- an operation is taken out
   module _ (x k : ℕ) (leaf : IsLeaf rows sibs.lists root x k) where
     not_top : eqb (head t).id x ≡ false
     not_top = ne_eqb (head t).id x (λ z. leaf.inner (sym (only rows keys sibs root t r s x k leaf.found.live leaf.found.id root (root_live rows keys sibs root t r s) (root_id rows keys sibs root t r s ∙ z))))
@@ -142,10 +142,10 @@ module _ (rows : List Row) (keys : ℕ → Option ℕ) (sibs : Lists) (root : �
           (g, record { live = ap (λ z. z.live) (same p ne) ∙ lp.live }))
           (h q j v (was q l) f)
 
--- an operation with nothing in it is put
+-- an empty operation is inserted
 pub joined_counted : (place : Place) (r : Row) (t : Op) → HasDistinctIds t → has_id r.head.id t ≡ false → has_place place t ≡ true → op_count (put place (bare r) t) ≡ op_count t + 1
-joined_counted place r t d out spot =
-    put_op_count place (bare r) t (record { distinct = d; own = bare_own r; apart = bare_apart r t out; spot = spot })
+joined_counted place r t d out point =
+    put_op_count place (bare r) t (record { distinct = d; own = bare_own r; apart = bare_apart r t out; point = point })
     ∙ ap (λ n. op_count t + n) (bare_count r)
 
 module _ (rows : List Row) (keys : ℕ → Option ℕ) (k : ℕ) (rows' : List Row) (same : (q : ℕ) → (q ≡ k → ⊥) → row_at rows' q ≡ row_at rows q) (come : row_at rows' k ≡ record (row_at rows k) { live = true }) where
@@ -169,7 +169,7 @@ module _ (rows : List Row) (keys : ℕ → Option ℕ) (k : ℕ) (rows' : List R
       (λ n. h q j v (was_live q n l) (sym (ap (λ z. slice_get z.head.operands j) (same q n)) ∙ e))
       (cases_eq q k))
 
--- slots with more behind them
+-- slots with more slots appended
 module _ (p q : Parts) (wide : Wider p q) (keys : ℕ → Option ℕ) where
   wide_was : (k : ℕ) → Live q.rows k → (row_at q.rows k ≡ row_at p.rows k) × Live p.rows k
   wide_was k l = ⊎_elim
@@ -188,7 +188,7 @@ module _ (p q : Parts) (wide : Wider p q) (keys : ℕ → Option ℕ) where
       let w = wide_was k l in
       live_stays p.rows q.rows keys keys (owner_of v).0 (λ y g ly. (g, wide_live y ly)) (h k j v w.1 (sym (ap (λ z. slice_get z.head.operands j) w.0) ∙ e))
 
--- a spare slot is written
+-- a free slot is written
 module _ (q : Parts) (keys : ℕ → Option ℕ) (bound k x : ℕ) (w : Row) (ready : Ready q keys bound k x w)
     (rows' : List Row) (same : (y : ℕ) → (y ≡ k → ⊥) → row_at rows' y ≡ row_at q.rows y) (own : row_at rows' k ≡ w)
     (keys' : ℕ → Option ℕ) (others : (y : ℕ) → (y ≡ x → ⊥) → keys' y ≡ keys y) where

@@ -1,4 +1,4 @@
--- Whether the values of an operation are used, by slots and in the tree.
+-- Whether the values of an operation are used, in slots and in the tree.
 use Rattle.std.proofs.Common.{◌≡◌, ℕ, zero, suc, ◌+◌, ◌<◌, List, [], ◌∷◌, refl, sym, ap, ◌∙◌, subst, length, Bool, true, false, eqb, not, ◌&&◌, ⊎_elim, ◌⊎◌, arith, Option, Some, None, slice_get}
 use Rattle.std.specs.Prelude.{option_and_then, nat_lt, if◌then◌else◌, Result, Ok, Err}
 use Rattle.std.specs.List.{list_all}
@@ -21,7 +21,7 @@ use Rattle.ir_store_reads.specs.Right.{Live, Right}
 use Rattle.ir_store_reads.specs.Plans.{is_nil, leaf_in}
 use Rattle.ir_store_reads.specs.Reasoned.{idle_in}
 use Rattle.ir_store_reads.specs.Index.{operand_at, use_at, argument_head, slot_head, value_head, Index, lives, all_idle, args_idle, row_idle}
-use Rattle.ir_store_reads.proofs.Slots.{Found, found, found_op}
+use Rattle.ir_store_reads.proofs.SlotLaws.{Found, found, found_op}
 use Rattle.ir_store.proofs.Taking.{IsLeaf, planned}
 use Rattle.ir_store_reads.proofs.Idle.{is_below}
 use Rattle.ir_store_reads.proofs.of_trees.of_types.Truths.{all_at, if_some}
@@ -83,7 +83,7 @@ module _ (f : Head → Bool) where
           let b = and_parts (every (λ o. f (head o)) o) (ops_every (λ o. f (head o)) os) e in
           first_passes (find x o) (ops_find x os) (every_find o b.0) (every_find_ops os b.1)
 
--- heads of values of one slot
+-- the heads of the values of one slot
 module _ (rows : List Row) (lists : List (List ℕ)) where
   idle_at : (b n i : ℕ) → all_idle lists b n ≡ true → i < n → is_nil (list_at lists (b + i)) ≡ true
   idle_at b zero i e l = absurd (omega (arith, l))
@@ -118,7 +118,7 @@ module _ (rows : List Row) (lists : List (List ℕ)) where
       (λ f. let w = busy_arg xs f in (suc w.0, (w.1.0, (w.1.1.0, w.1.1.1))))
       (and_cases (all_idle lists (row_at rows c.1).values (length c.0)) (args_idle rows lists xs) e)
 
-  -- the list of a value's head is empty, where the slot is idle
+  -- if the slot is idle, the use list of each of its values is empty
   pub idle_value : (k : ℕ) → row_idle rows lists k ≡ true → (v : Value) (h : ℕ) → slot_head rows v k ≡ Some h → is_nil (list_at lists h) ≡ true
   idle_value k e (ResultOf x i) h f =
       let b = and_parts (all_idle lists (row_at rows k).values (length (row_at rows k).head.results)) (args_idle rows lists (row_at rows k).shapes) e in
@@ -134,7 +134,7 @@ module _ (rows : List Row) (lists : List (List ℕ)) where
           let g = if_some (nat_lt i (length a.0)) ((row_at rows a.1).values + i) h f in
           subst (λ z. is_nil (list_at lists z) ≡ true) g.1 (idle_at (row_at rows a.1).values (length a.0) i (args_at (row_at rows k).shapes r a b.1 m) (ltb-true i (length a.0) g.0))
 
-  -- a value of the slot that is used, where it isn't idle
+  -- if the slot isn't idle, one of its values is used
   pub record Busy (k x : ℕ) : Type 0 where
     pub value : Value
     pub head_at : ℕ
@@ -191,7 +191,7 @@ module _ (rows : List Row) (keys : ℕ → Option ℕ) (sibs : Lists) (root : �
   at_slot : (v : Value) → (owner_of v).0 ≡ x → value_head rows keys v ≡ slot_head rows v k
   at_slot v e = ap (option_and_then (slot_head rows v)) (ap keys e ∙ key_is)
 
-  -- no operand is a value of it, where the slot is idle
+  -- if the slot is idle, no operand is a value of it
   none_leaves : row_idle rows us.lists k ≡ true → (q : ℕ) → Live rows q → leaves x (row_at rows q).head ≡ true
   none_leaves e q l = all_at (λ v. not (eqb (owner_of v).0 x)) (row_at rows q).head.operands (λ j v g. one j v g (cases_Bool (eqb (owner_of v).0 x)))
     where
@@ -240,7 +240,7 @@ module _ (rows : List Row) (keys : ℕ → Option ℕ) (sibs : Lists) (root : �
       (λ e. e ∙ sym (some_stays e))
       (cases_Bool (row_idle rows us.lists k))
 
--- what was found to be taken
+-- the slot found for taking out
 module _ (rows : List Row) (keys : ℕ → Option ℕ) (sibs : Lists) (root : ℕ) (t : Op) (r : Right rows keys sibs root t) (s : SpellsOp rows sibs.lists root t)
     (us : Lists) (cells : List (ℕ × ℕ)) (laws : Laws us.lists us.homes) (ix : Index rows keys us.homes cells (lives rows)) (x : ℕ) where
   abbrev pub TakePlanned : Result ℕ Refusal → Type 0

@@ -1,4 +1,4 @@
--- The values and the places of the tree, by slots.
+-- The values and the places of the tree, in slots.
 use Rattle.std.proofs.Common.{◌≡◌, ℕ, zero, suc, ◌+◌, List, [], ◌∷◌, refl, sym, ap, ◌∙◌, subst, length, Bool, true, false, eqb, not, ◌&&◌, ⊎_elim, arith, Option, Some, None, slice_get}
 use Rattle.std.specs.Prelude.{option_and_then, nat_lt, is_some, if◌then◌else◌}
 use Rattle.std.proofs.lemmas.Bool.{eq-eqb, ne_eqb, eqb-true, cases_Bool, false≢true, or_cases, or_left, or_right}
@@ -13,10 +13,10 @@ use Rattle.ir_store_reads.specs.tree_laws.Reads.{ops_in, is_among}
 use Rattle.ir_store_reads.specs.tree_laws.Reasons.{is_in_list, has_place}
 use Rattle.ir_store_reads.specs.Rows.{Row, Shape, row_at, live_slot, head_in}
 use Rattle.ir_store_reads.specs.Spells.{SpellsOp, SpellsRegions, SpellsOps}
-use Rattle.ir_store_reads.specs.Spots.{spot_in, before_in, at_slot, stands}
+use Rattle.ir_store_reads.specs.Points.{point_in, before_in, at_slot, stands}
 use Rattle.ir_store_reads.specs.Right.{Live, Right}
 use Rattle.ir_store_reads.specs.Index.{slot_head, result_head, argument_head, value_head, shape_type, slot_type, type_in}
-use Rattle.ir_store_reads.proofs.Slots.{found, found_op, none_found, slot_of_live}
+use Rattle.ir_store_reads.proofs.SlotLaws.{found, found_op, none_found, slot_of_live}
 use Rattle.ir_store.proofs.Cut.{head_id, live_of}
 use Rattle.ir_store.proofs.Spotted.{item_of}
 use Rattle.ir_store_reads.proofs.of_tree_laws.Neighbours.{some_got}
@@ -84,7 +84,7 @@ module _ (rows : List Row) (keys : ℕ → Option ℕ) (sibs : Lists) (root : �
       go None e = rw (none_found rows keys sibs root t r s x e) refl
       go (Some q) e = let o = found_op rows keys sibs root t r s x q (found rows keys sibs root t r s x q e) in rw o.1.0 (in_op q o.0 o.1.1)
 
-  -- operations of a list, and slots
+  -- operations of a list, and their slots
   among_slot : (x : ℕ) (ks : List ℕ) (os : Ops) → SpellsOps rows sibs.lists ks os → is_among x os ≡ true → (q : ℕ) × ((has q ks ≡ true) × (Live rows q × ((row_at rows q).head.id ≡ x)))
   among_slot x ks no_ops z e = absurd (false≢true e)
   among_slot x [] (next o os) z e = absurd z
@@ -105,9 +105,9 @@ module _ (rows : List Row) (keys : ℕ → Option ℕ) (sibs : Lists) (root : �
     stands_true : (h q : ℕ) → IsItem sibs.homes q → home_at sibs.homes q ≡ h → stands sibs.homes h q ≡ true
     stands_true h q i e = rw (ne_eqb (home_at sibs.homes q) free i.linked, eq-eqb (home_at sibs.homes q) h e) refl
 
-    spots_of : (h : ℕ) (b : Option ℕ) (os : Ops) → IsHead sibs.homes h → SpellsOps rows sibs.lists (list_at sibs.lists h) os → is_some (before_in rows keys sibs.homes b h) ≡ is_in_list b (Some os)
-    spots_of h None os p z = refl
-    spots_of h (Some x) os p z = go (live_slot rows keys x) refl
+    points_of : (h : ℕ) (b : Option ℕ) (os : Ops) → IsHead sibs.homes h → SpellsOps rows sibs.lists (list_at sibs.lists h) os → is_some (before_in rows keys sibs.homes b h) ≡ is_in_list b (Some os)
+    points_of h None os p z = refl
+    points_of h (Some x) os p z = go (live_slot rows keys x) refl
       where
         slot_here : is_among x os ≡ true → (q : ℕ) × ((live_slot rows keys x ≡ Some q) × (stands sibs.homes h q ≡ true))
         slot_here e =
@@ -141,23 +141,23 @@ module _ (rows : List Row) (keys : ℕ → Option ℕ) (sibs : Lists) (root : �
             (cases_Bool (is_among x os))
         go (Some q) e = test q e (stands sibs.homes h q) refl
 
-    regions_spot : (b : Option ℕ) (n : ℕ) (xs : List Shape) (rs : Regions) → ((i : ℕ) (a : List ℕ × ℕ) → slice_get xs i ≡ Some (Some a) → IsHead sibs.homes a.1) → SpellsRegions rows sibs.lists xs rs
+    regions_point : (b : Option ℕ) (n : ℕ) (xs : List Shape) (rs : Regions) → ((i : ℕ) (a : List ℕ × ℕ) → slice_get xs i ≡ Some (Some a) → IsHead sibs.homes a.1) → SpellsRegions rows sibs.lists xs rs
         → is_some (option_and_then (λ a. option_and_then (before_in rows keys sibs.homes b) (head_in a)) (slice_get xs n)) ≡ is_in_list b (option_and_then ops_in (region_at n rs))
-    regions_spot b n [] no_regions f z = refl
-    regions_spot b n [] (region g rs) f z = absurd z
-    regions_spot b n (a ∷ xs) no_regions f z = absurd z
-    regions_spot b zero (None ∷ xs) (region empty rs) f z = refl
-    regions_spot b zero (None ∷ xs) (region (block args os) rs) f z = absurd z.0
-    regions_spot b zero (Some a ∷ xs) (region empty rs) f z = absurd z.0
-    regions_spot b zero (Some a ∷ xs) (region (block args os) rs) f z = spots_of a.1 b os (f 0 a refl) z.0.1
-    regions_spot b (suc n) (a ∷ xs) (region g rs) f z = regions_spot b n xs rs (λ i. f (suc i)) z.1
+    regions_point b n [] no_regions f z = refl
+    regions_point b n [] (region g rs) f z = absurd z
+    regions_point b n (a ∷ xs) no_regions f z = absurd z
+    regions_point b zero (None ∷ xs) (region empty rs) f z = refl
+    regions_point b zero (None ∷ xs) (region (block args os) rs) f z = absurd z.0
+    regions_point b zero (Some a ∷ xs) (region empty rs) f z = absurd z.0
+    regions_point b zero (Some a ∷ xs) (region (block args os) rs) f z = points_of a.1 b os (f 0 a refl) z.0.1
+    regions_point b (suc n) (a ∷ xs) (region g rs) f z = regions_point b n xs rs (λ i. f (suc i)) z.1
 
     -- whether the tree has a place
-    pub place_is : (place : Place) → is_some (spot_in rows keys sibs.homes place) ≡ has_place place t
+    pub place_is : (place : Place) → is_some (point_in rows keys sibs.homes place) ≡ has_place place t
     place_is place = go (live_slot rows keys place.parent) refl
       where
         in_op : (q : ℕ) → Live rows q → (o : Op) → SpellsOp rows sibs.lists q o → is_some (option_and_then (λ a. option_and_then (before_in rows keys sibs.homes place.before) (head_in a)) (slice_get (row_at rows q).shapes place.region)) ≡ is_in_list place.before (option_and_then ops_in (region_at place.region (regions o)))
-        in_op q l (op h rs) z = regions_spot place.before place.region (row_at rows q).shapes rs (λ i a e. (r.blocks q i a (r.live_used q l) e).head) z.1.1
+        in_op q l (op h rs) z = regions_point place.before place.region (row_at rows q).shapes rs (λ i a e. (r.blocks q i a (r.live_used q l) e).head) z.1.1
 
         go : (o : Option ℕ) → live_slot rows keys place.parent ≡ o → is_some (option_and_then (λ p. option_and_then (λ a. option_and_then (before_in rows keys sibs.homes place.before) (head_in a)) (slice_get (row_at rows p).shapes place.region)) o) ≡ has_place place t
         go None e = rw (none_found rows keys sibs root t r s place.parent e) refl

@@ -1,4 +1,4 @@
--- A tree that comes operation by operation, each at the end of its block.
+-- A tree built operation by operation, each appended to its block.
 use Rattle.std.specs.Prelude.{◌≡◌, ◌<◌, ℕ, ◌+◌, List, eqb, true, if◌then◌else◌, Option, None, Some}
 use Rattle.std.specs.List.{list_any}
 use Rattle.std.specs.FinMap as map
@@ -26,7 +26,7 @@ abbrev pub put_regions : ℕ → ℕ → Regions → Op → Op
 put_regions p r no_regions t = t
 put_regions p r (region g rs) t = put_regions p (r + 1) rs (put_region p r g t)
 
--- each of them may be put where it comes
+-- each operation may be inserted at its place
 abbrev pub MayOps : ℕ → ℕ → Ops → Op → Type 0
 MayOps p r no_ops t = Unit {0}
 MayOps p r (next o os) t = MayPut (end_of p r) o t × MayOps p r os (put (end_of p r) o t)
@@ -39,11 +39,11 @@ abbrev pub MayRegions : ℕ → ℕ → Regions → Op → Type 0
 MayRegions p r no_regions t = Unit {0}
 MayRegions p r (region g rs) t = MayRegion p r g t × MayRegions p (r + 1) rs (put_region p r g t)
 
--- the keys that are gone of operation x, where operations with these ids have come
+-- the removed keys of operation x, after the operations with these ids are added
 abbrev pub gone_with : List ℕ → Stored → ℕ → Option Gone
 gone_with xs s x = if list_any (λ y. eqb y x) xs then Some none_gone else map.get s.gone x
 
--- a store with another tree, to which operations with these ids have come
+-- a store with another tree, after the operations with these ids are added
 pub record Adds (t : Op) (xs : List ℕ) (s u : Stored) : Type 0 where
   pub module_of : u.module_of ≡ record { tree = t; next = s.module_of.next }
   pub held : u.held ≡ s.held
@@ -53,7 +53,7 @@ pub record Adds (t : Op) (xs : List ℕ) (s u : Stored) : Type 0 where
 abbrev pub AreBelow : ℕ → List ℕ → Type 0
 AreBelow n xs = (x : ℕ) → list_any (λ y. eqb y x) xs ≡ true → x < n
 
--- what a loop over the regions of an operation has before it
+-- the state before one step of the loop over the regions of an operation
 pub record RegionsLeft (p n : ℕ) (rs : Regions) (goal : Op) (xs : List ℕ) (s u : Stored) : Type 0 where
   pub may : MayRegions p n rs u.module_of.tree
   pub whole : put_regions p n rs u.module_of.tree ≡ goal
@@ -62,7 +62,7 @@ pub record RegionsLeft (p n : ℕ) (rs : Regions) (goal : Op) (xs : List ℕ) (s
   pub below : AreBelow s.module_of.next (regions_ids rs)
   pub gone : (x : ℕ) → gone_with (regions_ids rs) u x ≡ gone_with xs s x
 
--- and over the operations of a block
+-- the state before one step of the loop over the operations of a block
 pub record OpsLeft (p r : ℕ) (os : Ops) (goal : Op) (xs : List ℕ) (s u : Stored) : Type 0 where
   pub may : MayOps p r os u.module_of.tree
   pub whole : put_ops p r os u.module_of.tree ≡ goal

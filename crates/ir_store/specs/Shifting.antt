@@ -1,4 +1,4 @@
--- What shifting an operation needs, and where it goes in the slots.
+-- The preconditions of a shift, and the new position in the slots.
 use Rattle.std.specs.Prelude.{◌≡◌, ℕ, eqb, true, false, not, ◌&&◌, Bool, if◌then◌else◌, Option, Some, None, option_map, option_and_then}
 use Rattle.ir_store_reads.specs.types.declared.refusal.Refusal.{Refusal}
 use Rattle.ir_store_reads.specs.types.declared.refusal.Refusal.TheVariants.{NoSuchOp, NoSuchIndex, IsRoot, IntoItself, OtherTable, TooDeepHere}
@@ -11,15 +11,15 @@ use Rattle.ir_store_reads.specs.tree_laws.Reads.{around}
 use Rattle.ir_store_reads.specs.tree_laws.Tables.{table_of}
 use Rattle.ir_store_reads.specs.tree_laws.Reasons.{unless, has_place, leads_inside, same_table, fits_around, levels_in}
 
--- operation x is there and not the root, and the place is there and not within it
+-- operation x is in the tree and isn't the root; the place exists and isn't within x
 pub record CanRelink (x : ℕ) (place : Place) (t : Op) : Type 0 where
   pub there : has_id x t ≡ true
   pub inner : eqb (head t).id x ≡ false
-  pub spot : has_place place t ≡ true
+  pub point : has_place place t ≡ true
   pub outside : leads_inside place (find x t) ≡ false
 
--- to move operation x to a place, where its table, how deep it comes to stand and what is seen then aren't looked at:
--- it or the place's parent isn't there; it is the root; no such place; the place is within it
+-- the reason that operation x can't be moved to a place, without checks of the symbol table, of the nesting depth and
+-- of dominance: x or the place's parent is missing; x is the root; the place doesn't exist; the place is within x
 abbrev pub relink_reason : {N T A : Type 0} → ℕ → Place → OpOf N T A → Option Refusal
 relink_reason x place t =
     unless (has_id x t && has_id place.parent t) NoSuchOp
@@ -27,21 +27,21 @@ relink_reason x place t =
     (unless (has_place place t) NoSuchIndex
     (unless (not (leads_inside place (find x t))) IntoItself None)))
 
--- the nearest operation, from one with a head up, whose name passes a test, where `near` is the nearest around it
+-- the nearest operation whose name passes the test: the operation with head h, or else `near`, the nearest ancestor
 abbrev pub near_table : {N T A : Type 0} → (N → Bool) → Option (Option ℕ) → Option (HeadOf N T A) → Option ℕ
 near_table is_table near h = option_and_then (λ h. if is_table h.name then Some h.id else option_and_then (λ z. z) near) h
 
--- from operation x up
+-- the nearest table, from operation x up
 abbrev pub table_at : {N T A : Type 0} → (N → Bool) → ℕ → OpOf N T A → Option ℕ
 table_at is_table x t = near_table is_table (table_of is_table x t) (option_map head (find x t))
 
--- how many operations stand around one that may be there
+-- the nesting depth of an operation that may be missing: 0 if it is
 abbrev pub level : Option ℕ → ℕ
 level None = 0
 level (Some n) = n
 
--- to shift operation x to a place, where what is seen then isn't looked at: what is against moving it; another nearest
--- table is around the place; too many operations would stand around one
+-- the reason that operation x can't be shifted to a place, without a check of dominance: a reason against moving it;
+-- another nearest table; too deep
 abbrev pub unseen_reason : {N T A : Type 0} → (N → Bool) → ℕ → Place → OpOf N T A → Option Refusal
 unseen_reason is_table x place t =
     first_reason (relink_reason x place t)

@@ -1,4 +1,4 @@
-//! The tree of a store.
+//! Copies the tree of a store.
 ghost use Rattle.std.specs.Prelude.{◌≡◌, IfOk, IfErr};
 
 use crate::store::Store;
@@ -6,11 +6,11 @@ use ir_store_reads::copy::copy_op;
 use ir_store_reads::trees::tree::TreeOp;
 use ir_store_reads::types::refusal::Refusal;
 
-/// More levels than an operation of a module has inside it.
+/// A depth limit above the largest nesting depth of a module.
 const LEVELS: u32 = 1_000;
 
 impl Store {
-    /// The tree of the module, copied.
+    /// Returns a copy of the module's tree.
     ///
     /// Refusals: `Memory`.
     pub fn tree(&self) -> Result<TreeOp, Refusal>

@@ -1,4 +1,4 @@
-//! Entries of dictionaries, set and taken out.
+//! Sets and removes dictionary entries.
 ghost use Rattle.std.specs.Prelude.{◌≡◌, None, OnOk, OnErr, IfErr, IfSome, MatchResult, Some};
 ghost use Rattle.ir_store_reads.specs.types.Reasons.{IsRefusedFor};
 ghost use Rattle.ir_store_reads.specs.types.Things.{IsName, IsAttr};
@@ -11,14 +11,15 @@ ghost use Rattle.ir_store.specs.Calls.{after_entry, CanRevert, WantsNoSlot};
 use crate::store::Store;
 use ir_store_reads::entry::{find_entry, has_slot_at};
 use ir_store_reads::find::{find, slot};
-use ir_store_reads::marks::put_mark;
+use ir_store_reads::marks::link_slot;
 use ir_store_reads::trees::place::Part;
 use ir_store_reads::types::context::Context;
 use ir_store_reads::types::ids::{AttrId, NameId, OpId};
 use ir_store_reads::types::refusal::Refusal;
 
 impl Store {
-    /// Whether a key is one of a dictionary of an operation, of the module or held, or its slot still stands.
+    /// Returns whether a dictionary of `op` has a slot for `key`: the key is in the dictionary, or was removed and its
+    /// slot is kept. `op` is in the module or held.
     pub fn has_slot(&self, op: OpId, part: Part, key: NameId) -> bool
         ensures { result ≡ has_slot op part key self.now }
     {
@@ -28,11 +29,11 @@ impl Store {
         has_slot_at(&self.rows, at, part, key)
     }
 
-    /// Sets a key of one dictionary of an operation of the module to an attribute, or takes it out: its slot stands
-    /// then. It wants memory only where a key is set that has no slot.
+    /// Sets `key` in one dictionary of an operation of the module to an attribute, or removes the key. The slot of a
+    /// removed key is kept. Memory is needed only to set a key that has no slot.
     ///
-    /// Refusals, in order: `NoSuchOp`; `NoSuchKey` where there is no entry to be taken out; `Full` where the
-    /// dictionary has no room for one more; and `Memory`.
+    /// Refusals, in order: `NoSuchOp`; `NoSuchKey` if there is no entry to remove; `Full` if the dictionary is at its
+    /// capacity; `Memory`.
     pub fn set_entry(
         &mut self,
         ctx: &Context,
@@ -57,7 +58,7 @@ impl Store {
 }
 
 impl Store {
-    /// Sets a key of one dictionary of an operation to an attribute, or takes it out.
+    /// Sets `key` in one dictionary of `op` to an attribute, or removes the key.
     fn enter(
         &mut self,
         ctx: &Context,
@@ -79,14 +80,14 @@ impl Store {
             Ok(()) => {}
             Err(_) => return Err(Refusal::Memory),
         }
-        put_mark(&mut self.marks, &self.rows, at);
+        link_slot(&mut self.marks, &self.rows, at);
         Ok(())
     }
 }
 
 impl Store {
-    /// Sets a key that has a slot in one dictionary of an operation of the module to an attribute, or takes it out,
-    /// without memory.
+    /// Sets `key`, which has a slot, in one dictionary of an operation of the module, or removes the key. Needs no
+    /// memory.
     pub fn revert_entry(
         &mut self,
         ctx: &Context,
@@ -106,6 +107,6 @@ impl Store {
             return;
         };
         self.rows.revert(ctx, at, part, key, value);
-        put_mark(&mut self.marks, &self.rows, at);
+        link_slot(&mut self.marks, &self.rows, at);
     }
 }

@@ -1,19 +1,19 @@
-//! Operations that come, and are held.
+//! Adds held operations to the store, in free slots or in new slots.
 ghost use Rattle.std.specs.Prelude.{◌≡◌, None, IfOk, OnOk, OnErr, if◌then◌else◌};
 ghost use Rattle.ir_store_reads.specs.Stored.{known};
 ghost use Rattle.ir_store_reads.specs.Emptied.{after_grow};
 
 use crate::store::Store;
 use ir_store_reads::grow::grow_slot;
-use ir_store_reads::marks::{put_mark, reach};
+use ir_store_reads::marks::{link_slot, reach};
 use ir_store_reads::spare::{find_spare, take_spare};
 use ir_store_reads::trees::tree::TreeOp;
 use ir_store_reads::types::ids::OpId;
 use std::alloc::AllocError;
 
 impl Store {
-    /// A new operation, which is held: one like a header, without the operations in its blocks.
-    pub(crate) fn grow(&mut self, op: OpId, header: &TreeOp) -> Result<(), AllocError>
+    /// Creates a held operation like `header`, without the operations in its blocks.
+    pub(crate) fn create(&mut self, op: OpId, header: &TreeOp) -> Result<(), AllocError>
         requires { known op self.old ≡ None }
         ensures ok { OnOk result (self.new ≡ after_grow op header.now self.old) }
         ensures err { OnErr result (self.new ≡ self.old) }
@@ -25,7 +25,7 @@ impl Store {
         }
     }
 
-    /// Holds a new operation like a header in a slot that was given up, if one fits. Whether there was such a slot.
+    /// Creates a held operation like `header` in a free slot. Returns false, and changes nothing, if no free slot fits.
     fn refill(&mut self, op: OpId, header: &TreeOp) -> Result<bool, AllocError>
         requires { known op self.old ≡ None }
         ensures ok { IfOk result (λ b. self.new ≡ (if b then after_grow op header.now self.old else self.old)) }
@@ -57,21 +57,21 @@ impl Store {
             Ok(()) => {}
             Err(e) => return Err(e),
         }
-        match self.rows.put(key, found.draft) {
+        match self.rows.write_op(key, found.draft) {
             Ok(()) => {}
             Err(e) => {
                 self.keys.remove(op.number());
                 return Err(e);
             }
         }
-        self.spare = take_spare(&mut self.rows, self.spare, found.behind, found.before);
-        put_mark(&mut self.marks, &self.rows, key);
+        self.spare = take_spare(&mut self.rows, self.spare, found.trailing, found.before);
+        link_slot(&mut self.marks, &self.rows, key);
         Ok(true)
     }
 }
 
 impl Store {
-    /// Holds a new operation like a header in a new slot.
+    /// Creates a held operation like `header` in a new slot.
     fn extend(&mut self, op: OpId, header: &TreeOp) -> Result<(), AllocError>
         requires { known op self.old ≡ None }
         ensures ok { OnOk result (self.new ≡ after_grow op header.now self.old) }
@@ -101,14 +101,14 @@ impl Store {
             Ok(()) => {}
             Err(e) => return Err(e),
         }
-        match self.rows.put(key, draft) {
+        match self.rows.write_op(key, draft) {
             Ok(()) => {}
             Err(e) => {
                 self.keys.remove(op.number());
                 return Err(e);
             }
         }
-        put_mark(&mut self.marks, &self.rows, key);
+        link_slot(&mut self.marks, &self.rows, key);
         Ok(())
     }
 }

@@ -1,22 +1,22 @@
-//! The module under edits: each call makes of its tree what the function on trees of its name does, or refuses with
-//! the first reason against it. Operations stand in slots, linked in their blocks, and operands are linked by the value
-//! that they use, so that a call takes a few steps however large the module is.
+//! The module under edits. Each edit changes the module's tree exactly as the function of the same name in `ir_tree`
+//! does, or refuses with the highest-priority reason. Operations are in slots that are linked by block, and operands
+//! are linked by the value that they use, so an edit takes a few steps in a module of any size.
 #![tactic(auto)]
 
-mod beside;
 mod copy;
+mod dominance;
+mod dominance_checks;
 mod entry;
 mod grow;
 mod load;
-mod look;
+mod neighbours;
 mod outer;
 mod outside;
+mod position;
 mod preorder;
 mod put;
 mod release;
 mod shift;
-mod sight;
-mod stand;
 pub mod store;
 mod using;
 mod walk;

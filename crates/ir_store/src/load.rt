@@ -1,4 +1,4 @@
-//! A store is made of a tree, operation by operation.
+//! Loads a tree into a store, operation by operation.
 ghost use Rattle.std.specs.Prelude.{◌≡◌, ◌⊎◌, ◌<◌, ◌∷◌, [], IfOk, IfErr, OnOk, Some, map, true};
 ghost use Rattle.std.specs.List.{All, list_all};
 ghost use Rattle.std.specs.FinMap as finmap;
@@ -9,13 +9,13 @@ ghost use Rattle.ir_store_reads.specs.trees.Places.{put};
 ghost use Rattle.ir_store_reads.specs.tree_laws.Restores.{MayPut};
 ghost use Rattle.ir_store_reads.specs.tree_laws.Values.{has_value};
 ghost use Rattle.ir_store_reads.specs.trees.Meaning.{isolated_in, IsSoundIn};
-ghost use Rattle.ir_store_reads.specs.trees.WellFormed.{IsFormed, IsWellFormed, fault};
+ghost use Rattle.ir_store_reads.specs.trees.WellFormed.{IsValidTree, IsWellFormed, fault};
 ghost use Rattle.ir_store.specs.Calls.{Loaded};
 ghost use Rattle.ir_store_reads.specs.Emptied.{emptied};
 ghost use Rattle.ir_store.specs.Loads.{end_of, put_region, put_regions, MayRegion, MayRegions, Adds, AreBelow};
 
 use crate::store::Store;
-use ir_store_reads::room::room_for;
+use ir_store_reads::capacity::capacity_for;
 use ir_store_reads::trees::check::check;
 use ir_store_reads::trees::place::Place;
 use ir_store_reads::trees::tree::{TreeOp, TreeRegion};
@@ -26,7 +26,7 @@ use ir_store_reads::types::refusal::Refusal;
 use std::alloc::{AllocError, Global};
 
 impl Store {
-    /// Whether the module has these values.
+    /// Returns whether the module has all of these values.
     pub(crate) fn has_values(&self, values: &[Value]) -> bool
         ensures { result ≡ list_all (λ v. has_value v self.now.module_of.tree) values.now }
     {
@@ -41,7 +41,7 @@ impl Store {
     }
 }
 
-/// An operation at the end of a block, without what stands in its own blocks.
+/// Appends an operation to a block, without the operations in its own blocks.
 fn load_head(store: &mut Store, owner: OpId, region: u32, op: &TreeOp) -> Result<(), AllocError>
     requires may { MayPut (end_of owner region) (emptied op.now) store.old.module_of.tree }
     requires held { store.old.held ≡ finmap.empty }
@@ -51,7 +51,7 @@ fn load_head(store: &mut Store, owner: OpId, region: u32, op: &TreeOp) -> Result
     if !store.has_values(&op.operands) {
         return Err(AllocError);
     }
-    store.grow(op.id, op)?;
+    store.create(op.id, op)?;
     let place = Place {
         parent: owner,
         region,
@@ -61,7 +61,7 @@ fn load_head(store: &mut Store, owner: OpId, region: u32, op: &TreeOp) -> Result
     Ok(())
 }
 
-/// An operation at the end of a block, with all that stands in it.
+/// Appends an operation to a block, with all operations inside it.
 #[cycle(load)]
 fn load_op(store: &mut Store, owner: OpId, region: u32, op: &TreeOp) -> Result<(), AllocError>
     requires may { MayPut (end_of owner region) op.now store.old.module_of.tree }
@@ -73,7 +73,7 @@ fn load_op(store: &mut Store, owner: OpId, region: u32, op: &TreeOp) -> Result<(
     load_regions(store, op.id, &op.regions)
 }
 
-/// What stands in the regions of an operation.
+/// Loads the operations in the regions of an operation.
 #[cycle(load)]
 pub(crate) fn load_regions(
     store: &mut Store,
@@ -96,7 +96,7 @@ pub(crate) fn load_regions(
     Ok(())
 }
 
-/// What stands in the block of a region.
+/// Loads the operations in the block of a region.
 #[cycle(load)]
 fn load_region(
     store: &mut Store,
@@ -120,23 +120,24 @@ fn load_region(
     }
 }
 
-/// The store of a tree of which the root has no operands.
+/// Returns the store of a tree whose root has no operands.
 fn spread(alloc: Global, tree: &TreeOp, next: u32) -> Result<Store, AllocError>
     requires distinct { HasDistinctIds tree.now }
     requires below { AreBelow next (ids tree.now) }
     requires root { (head tree.now).operands ≡ [] }
     ensures { IfOk result (λ s. Loaded tree.now next s) }
 {
-    let room = room_for(tree);
-    let mut store = Store::seed(alloc, tree, next, &room)?;
+    let room = capacity_for(tree);
+    let mut store = Store::from_root(alloc, tree, next, &room)?;
     load_regions(&mut store, tree.id, &tree.regions)?;
     Ok(store)
 }
 
 impl Store {
-    /// A module with a tree and a next free id, where every operand is visible and no limit is passed.
+    /// Returns the store of `tree`, in which every operand must be visible and no limit exceeded. `next` is the next
+    /// free id.
     ///
-    /// Refusals: `UnknownValue`, `TooDeep`, `TooMany` in this order; `Memory`.
+    /// Refusals, in this order: `UnknownValue`, `TooDeep`, `TooMany`; and `Memory`.
     pub fn load(alloc: Global, ctx: &Context, tree: &TreeOp, next: u32) -> Result<Store, Refusal>
         requires sound { IsSoundIn ctx.now tree.now }
         requires distinct { HasDistinctIds tree.now }
@@ -155,15 +156,20 @@ impl Store {
         }
     }
 
-    /// A module with a next free id and a tree that is handed over, and is known to be formed: it isn't checked
-    /// again.
+    /// Returns the store of a tree that is known to be well-formed, without checking it again. `next` is the next free
+    /// id.
     ///
     /// Refusals: `Memory`.
-    pub fn hold(alloc: Global, ctx: &Context, tree: TreeOp, next: u32) -> Result<Store, Refusal>
+    pub fn from_checked(
+        alloc: Global,
+        ctx: &Context,
+        tree: TreeOp,
+        next: u32,
+    ) -> Result<Store, Refusal>
         requires sound { IsSoundIn ctx.now tree }
         requires distinct { HasDistinctIds tree }
         requires below { All (λ x. x < next) (ids tree) }
-        requires formed { IsFormed (isolated_in ctx.now) tree }
+        requires formed { IsValidTree (isolated_in ctx.now) tree }
         ensures ok { IfOk result (λ s. Loaded tree next s) }
         ensures formed { IfOk result (λ s. IsWellFormed (isolated_in ctx.now) s.module_of) }
         ensures refused { IfErr result (λ e. e ≡ Refusal.Memory) }

@@ -1,4 +1,4 @@
-//! The module of a store, beside which the text of an operation is read.
+//! Gives the parser of one operation's text the values of the store's module and its next free id.
 use crate::store::Store;
 use ir_store_reads::trees::outer::Outer;
 use ir_store_reads::trees::value::Value;

@@ -1,4 +1,4 @@
-//! The order of the operations of the module.
+//! The pre-order of the operations of the module.
 ghost use Rattle.std.specs.Prelude.{◌≡◌};
 ghost use Rattle.ir_store_reads.specs.tree_laws.Reads.{precedes};
 ghost use Rattle.ir_store.specs.Lifted.{level_of, lifted};
@@ -7,8 +7,8 @@ use crate::store::Store;
 use ir_store_reads::types::ids::OpId;
 
 impl Store {
-    /// Whether an operation comes before another in pre-order: an operation before those inside it, and these in the
-    /// order of the regions and of the lists that hold them.
+    /// Returns whether `op` comes before `other` in pre-order: an operation comes before the operations inside it, and
+    /// these follow the order of the regions and blocks. False if either isn't in the module.
     pub fn precedes(&self, op: OpId, other: OpId) -> bool
         ensures { result ≡ precedes op other self.now.module_of.tree }
     {
@@ -22,8 +22,7 @@ impl Store {
         }
     }
 
-    /// The operation around one, as many levels up as there are operations around another; or the outermost one
-    /// around it.
+    /// Returns the ancestor of `op` at the nesting depth of `guide`, or the outermost ancestor if `op` is less deep.
     fn lift(&self, op: OpId, guide: OpId) -> OpId
         ensures { result ≡ lifted (level_of guide self.now.module_of.tree) op self.now.module_of.tree }
     {
@@ -39,7 +38,7 @@ impl Store {
         at
     }
 
-    /// Whether an operation comes before another around which as many stand.
+    /// Returns whether `op` comes before `other` in pre-order. Both have the same nesting depth.
     fn goes_first(&self, op: OpId, other: OpId) -> bool
         requires { level_of op self.now.module_of.tree ≡ level_of other self.now.module_of.tree }
         ensures { result ≡ precedes op other self.now.module_of.tree }
@@ -51,17 +50,17 @@ impl Store {
             let Some(place) = self.place(first) else {
                 return false;
             };
-            let Some(behind) = self.place(second) else {
+            let Some(trailing) = self.place(second) else {
                 return false;
             };
-            if place.parent == behind.parent {
-                if place.region == behind.region {
+            if place.parent == trailing.parent {
+                if place.region == trailing.region {
                     return self.is_before(first, second);
                 }
-                return place.region < behind.region;
+                return place.region < trailing.region;
             }
             first = place.parent;
-            second = behind.parent;
+            second = trailing.parent;
         }
     }
 }

@@ -1,12 +1,12 @@
-//! Held operations are given up.
+//! Releases held operations.
 ghost use Rattle.ir_store.specs.Calls.{Releases};
 
 use crate::store::Store;
 use ir_store_reads::release::release_slots;
 
 impl Store {
-    /// Gives up the held operations with an id from `from` on. From 0 on, the slots of the keys that were taken out of
-    /// dictionaries of the module's operations are given up too. It wants no memory.
+    /// Releases the held operations whose id is at least `from`. With `from` 0, also releases the slots of removed
+    /// dictionary keys of the module's operations. Needs no memory.
     pub fn release(&mut self, from: u32)
         ensures { Releases from self.old self.new }
     {

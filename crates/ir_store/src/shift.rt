@@ -1,4 +1,4 @@
-//! Operations, with what stands in them, moved to other places.
+//! Moves operations, with everything inside them, to other places.
 ghost use Rattle.std.specs.Prelude.{◌≡◌, ◌-◌, eqb, length, MatchOption, Some, is_some, ◌&&◌, true, false, None, MatchResult};
 ghost use Rattle.std.specs.FinMap as finmap;
 ghost use Rattle.std.specs.Ordering.{nat_cmp};
@@ -15,26 +15,26 @@ ghost use Rattle.ir_store_reads.specs.tree_laws.Reads.{around, is_within};
 ghost use Rattle.ir_store_reads.specs.tree_laws.Reasons.{fits_around, leads_inside, levels_in, same_table, shift_reason};
 ghost use Rattle.ir_store.specs.Calls.{after_shift};
 ghost use Rattle.ir_store_reads.specs.Rows.{live_slot};
-ghost use Rattle.ir_store_reads.specs.Spots.{spot_in};
+ghost use Rattle.ir_store_reads.specs.Points.{point_in};
 ghost use Rattle.ir_store.specs.Shifting.{CanRelink, level, relink_reason, table_at, unseen_reason};
 
 use crate::store::Store;
 use ir_store_reads::depth::op_fits;
 use ir_store_reads::find::{Keys, find};
-use ir_store_reads::spot::{find_spot, link};
+use ir_store_reads::insertion_point::{find_insertion_point, link};
 use ir_store_reads::trees::limits::MOST_AROUND;
 use ir_store_reads::trees::place::Place;
 use ir_store_reads::types::context::Context;
 use ir_store_reads::types::ids::OpId;
 use ir_store_reads::types::refusal::Refusal;
 use ir_store_reads::use_lists::id_at;
-use ir_store_reads::{Ordered, Rows};
+use ir_store_reads::{OrderedLists, Slots};
 
 impl Store {
-    /// Moves an operation of the module other than the root, with what stands in it, to a place outside of it. Whether
-    /// its nearest table stays, how deep it comes to stand and what is seen then isn't looked at, so this is for going
-    /// back to where it stood. It takes no memory, and refuses nothing.
-    pub fn relink(&mut self, op: OpId, place: Place)
+    /// Moves an operation of the module, but not the root, to a place outside of it. Everything inside the operation
+    /// moves too. Neither the nearest symbol table nor the nesting depth nor dominance is checked, so this call is for
+    /// undoing a move. It needs no memory and never fails.
+    pub fn move_unchecked(&mut self, op: OpId, place: Place)
         requires { CanRelink op place self.old.module_of.tree }
         ensures { self.new ≡ after_shift op place self.old }
     {
@@ -50,13 +50,13 @@ impl Store {
 }
 
 impl Store {
-    /// Shifts an operation, with what stands in it, to a place of the module.
+    /// Moves `op`, with everything inside it, to `place`.
     ///
-    /// Refusals, in order: `NoSuchOp` where it, or the place's parent, isn't in the module; `IsRoot`; `NoSuchIndex`
-    /// where there is no such place; `IntoItself` where the place is in the operation, or before it; `OtherTable`
-    /// where another nearest symbol table is around the place; `TooDeepHere`; `NotVisible` where an operand of the
-    /// module wouldn't be visible any more (Language Reference, "Regions", on value scoping). A refused shift leaves
-    /// the store as it was. It takes no memory.
+    /// Refusals, in order: `NoSuchOp` if `op` or the parent of `place` isn't in the module; `IsRoot`; `NoSuchIndex` if
+    /// there is no such place; `IntoItself` if `place` is inside `op` or directly before it; `OtherTable` if the
+    /// nearest symbol table around `place` is another one; `TooDeepHere`; `NotVisible` if an operand of the module
+    /// would no longer be visible (Language Reference, "Regions", on value scoping). A refused shift leaves the store
+    /// unchanged. It needs no memory.
     pub fn shift(&mut self, ctx: &Context, op: OpId, place: Place) -> Result<(), Refusal>
         requires { IsWellFormed (isolated_in ctx.now) self.old.module_of }
         ensures done { MatchResult result
@@ -65,25 +65,25 @@ impl Store {
         ensures formed { IsWellFormed (isolated_in ctx.now) self.new.module_of }
     {
         self.distinct();
-        match self.unseen_fault(ctx, op, &place) {
+        match self.dominance_fault(ctx, op, &place) {
             Some(refusal) => return Err(refusal),
             None => {}
         }
         let Some(old) = self.place(op) else {
             return Err(Refusal::NoSuchOp);
         };
-        self.relink(op, place);
-        if self.is_seen(ctx, op) {
+        self.move_unchecked(op, place);
+        if self.operands_dominate(ctx, op) {
             return Ok(());
         }
-        self.relink(op, old);
+        self.move_unchecked(op, old);
         Err(Refusal::NotVisible)
     }
 }
 
 impl Store {
-    /// Why an operation can't be moved to a place, where its table, how deep it comes to stand and what is seen then
-    /// aren't looked at.
+    /// Returns the reason that `op` can't be moved to `place`, or `None`. Its symbol table, its nesting depth and
+    /// dominance at `place` aren't checked.
     fn move_fault(&self, op: OpId, place: &Place) -> Option<Refusal>
         ensures { result ≡ relink_reason op place.now self.now.module_of.tree }
     {
@@ -102,14 +102,14 @@ impl Store {
         None
     }
 
-    /// Whether an operation is the root.
+    /// Returns whether `op` is the root.
     pub(crate) fn is_root(&self, op: OpId) -> bool
         ensures { result ≡ eqb (head self.now.module_of.tree).id op }
     {
         id_at(&self.rows, self.root) == op
     }
 
-    /// Whether a place's parent, or the operation that comes next there, is an operation of the module or within it.
+    /// Returns whether the parent of `place`, or the next operation there, is `op` or inside `op`.
     fn leads_inside(&self, op: OpId, place: &Place) -> bool
         requires { has_id op self.now.module_of.tree ≡ true }
         ensures { result ≡ leads_inside place.now (the_first op self.now.module_of.tree) }
@@ -123,7 +123,7 @@ impl Store {
         }
     }
 
-    /// Whether an operation is one of the module, or within it.
+    /// Returns whether `inner` is `op`, an operation of the module, or inside `op`.
     pub(crate) fn is_within(&self, inner: OpId, op: OpId) -> bool
         requires { has_id op self.now.module_of.tree ≡ true }
         ensures { result ≡ is_within inner (the_first op self.now.module_of.tree) }
@@ -141,8 +141,8 @@ impl Store {
 }
 
 impl Store {
-    /// Why an operation can't be shifted to a place, where what is seen then isn't looked at.
-    pub(crate) fn unseen_fault(&self, ctx: &Context, op: OpId, place: &Place) -> Option<Refusal>
+    /// Returns the reason that `op` can't be shifted to `place`, or `None`. Dominance at `place` isn't checked.
+    pub(crate) fn dominance_fault(&self, ctx: &Context, op: OpId, place: &Place) -> Option<Refusal>
         ensures { result ≡ unseen_reason (λ n. is_table (name_term ctx.now n)) op place.now self.now.module_of.tree }
     {
         match self.move_fault(op, place) {
@@ -160,7 +160,7 @@ impl Store {
 }
 
 impl Store {
-    /// Whether an operation that may be moved to a place has the same nearest table there.
+    /// Returns whether `op`, which can be moved to `place`, has the same nearest symbol table there.
     fn keeps_table(&self, ctx: &Context, op: OpId, place: &Place) -> bool
         requires { CanRelink op place.now self.now.module_of.tree }
         ensures { result ≡ same_table (table_of (λ n. is_table (name_term ctx.now n)) op self.now.module_of.tree) (table_of (λ n. is_table (name_term ctx.now n)) op (shifted op place.now self.now.module_of.tree)) }
@@ -172,7 +172,7 @@ impl Store {
         self.table_from(ctx, old.parent) == self.table_from(ctx, place.parent)
     }
 
-    /// The nearest table, from an operation of the module up.
+    /// Returns the nearest symbol table: `op`, an operation of the module, or its nearest ancestor that is one.
     fn table_from(&self, ctx: &Context, op: OpId) -> Option<OpId>
         requires { has_id op self.now.module_of.tree ≡ true }
         ensures { result ≡ table_at (λ n. is_table (name_term ctx.now n)) op self.now.module_of.tree }
@@ -188,7 +188,7 @@ impl Store {
         Some(at)
     }
 
-    /// Whether an operation of the module has a symbol table.
+    /// Returns whether an operation of the module has a symbol table.
     fn is_table(&self, ctx: &Context, op: OpId) -> bool
         ensures { (o : Op) → the_first op self.now.module_of.tree ≡ Some o → result ≡ is_table (name_term ctx.now (head o).name) }
     {
@@ -200,8 +200,7 @@ impl Store {
 }
 
 impl Store {
-    /// Whether an operation of the module, with what stands in it, would stand in no more others than may be where it
-    /// is moved into another.
+    /// Returns whether `op`, moved into `parent`, keeps within the depth limit, with everything inside it.
     fn fits_in(&self, op: OpId, parent: OpId) -> bool
         requires op { has_id op self.now.module_of.tree ≡ true }
         requires parent { has_id parent self.now.module_of.tree ≡ true }
@@ -216,7 +215,7 @@ impl Store {
         op_fits(&self.rows, &self.sibs, key, room)
     }
 
-    /// Whether an operation with so many levels inside it may come to stand in one of the module.
+    /// Returns whether an operation with `levels` levels inside it keeps within the depth limit as a child of `parent`.
     pub fn fits_around(&self, parent: OpId, levels: u32) -> bool
         requires { has_id parent self.now.module_of.tree ≡ true }
         ensures { result ≡ fits_around levels (around parent self.now.module_of.tree) }
@@ -225,7 +224,7 @@ impl Store {
         levels < self.room_in(parent)
     }
 
-    /// How many levels may come to stand in an operation of the module.
+    /// Returns how many levels may be nested inside an operation of the module.
     fn room_in(&self, op: OpId) -> u32
         ensures { result ≡ most_around - level (around op self.now.module_of.tree) }
     {
@@ -243,19 +242,19 @@ impl Store {
     }
 }
 
-/// The slot of an operation of the module, and where it is put.
+/// Returns the slot of an operation of the module, and the insertion point of its new place.
 fn find_move(
-    rows: &Rows,
+    rows: &Slots,
     keys: &Keys,
-    sibs: &Ordered,
+    sibs: &OrderedLists,
     op: OpId,
     place: Place,
 ) -> Option<(usize, usize, Option<usize>)>
     requires { length rows.now ≡ length sibs.now.homes }
-    ensures { MatchOption result ((is_some (live_slot rows.now (finmap.get keys.now) op) && is_some (spot_in rows.now (finmap.get keys.now) sibs.now.homes place)) ≡ false)
-        (λ p. (Some p.0 ≡ live_slot rows.now (finmap.get keys.now) op) × (Some (p.1, p.2) ≡ spot_in rows.now (finmap.get keys.now) sibs.now.homes place)) }
+    ensures { MatchOption result ((is_some (live_slot rows.now (finmap.get keys.now) op) && is_some (point_in rows.now (finmap.get keys.now) sibs.now.homes place)) ≡ false)
+        (λ p. (Some p.0 ≡ live_slot rows.now (finmap.get keys.now) op) × (Some (p.1, p.2) ≡ point_in rows.now (finmap.get keys.now) sibs.now.homes place)) }
 {
     let key = find(rows, keys, op)?;
-    let (head, before) = find_spot(rows, keys, sibs, place)?;
+    let (head, before) = find_insertion_point(rows, keys, sibs, place)?;
     Some((key, head, before))
 }

@@ -1,11 +1,11 @@
-//! The module under edits.
+//! The store: the module under edits.
 ghost use Rattle.std.specs.Prelude.{◌≡◌, eqb, Some, None, MatchResult, option_map, IfOk, OnOk, false, true, length, slice_set, ◌<◌, []};
 ghost use Rattle.std.specs.FinMap as finmap;
 ghost use Rattle.std.specs.Ordering.{nat_cmp};
 ghost use Rattle.ir_store_reads.specs.trees.Ids.{has_id, op_count};
 ghost use Rattle.ir_store_reads.specs.trees.Tree.{head};
 ghost use Rattle.ir_store_reads.specs.Lists.{free};
-ghost use Rattle.ir_store_reads.specs.Spells.{Spelled, Spelled-prop};
+ghost use Rattle.ir_store_reads.specs.Spells.{Represented, Represented-prop};
 ghost use Rattle.ir_store_reads.specs.tree_laws.Values.{type_of_value};
 ghost use Rattle.ir_store_reads.specs.Using.{AreUses};
 ghost use Rattle.ir_store_reads.specs.Reasoned.{rewire_reason};
@@ -18,46 +18,46 @@ ghost use Rattle.ir_store.specs.Calls.{after_take, after_restore, after_retract,
 ghost use Rattle.ir_store_reads.specs.Emptied.{seeded};
 ghost use Rattle.ir_store.specs.Holds.{HoldsOf, HoldsOf-prop, GoneOf, GoneOf-prop};
 
+use ir_store_reads::capacity::Capacity;
 use ir_store_reads::find::{Keys, find, slot};
 use ir_store_reads::grow::grow_slot;
-use ir_store_reads::marks::{new_marks, put_mark, reach};
+use ir_store_reads::insertion_point::{find_insertion, link};
+use ir_store_reads::marks::{link_slot, new_marks, reach};
 use ir_store_reads::node::Node;
-use ir_store_reads::room::Room;
-use ir_store_reads::row::Cell;
+use ir_store_reads::row::UseNode;
 use ir_store_reads::spare::NO_SLOT;
-use ir_store_reads::spot::{find_joint, link};
 use ir_store_reads::trees::place::Place;
 use ir_store_reads::trees::tree::TreeOp;
 use ir_store_reads::trees::value::Value;
 use ir_store_reads::types::ids::{OpId, TypeId};
 use ir_store_reads::types::refusal::Refusal;
 use ir_store_reads::use_lists::{
-    find_idle, find_rewire, free_uses, lead_row, live_type, use_node, use_run, value_head,
+    find_idle, find_rewire, free_uses, link_operands, live_type, use_node, use_run, value_head,
 };
 use ir_store_reads::uses::{UsesOf, uses_from};
-use ir_store_reads::{Chains, Draft, IdTable, Ordered, Rows};
+use ir_store_reads::{Draft, IdTable, LinkedLists, OrderedLists, Slots};
 use std::alloc::{AllocError, Global};
 use std::marker::Model;
 
-/// A module under edits: its operations in slots, linked in lists.
+/// A module under edits: its operations are in slots, linked in lists.
 #[derive(Drop)]
 pub struct Store {
     pub(crate) alloc: Global,
-    pub(crate) rows: Rows,
+    pub(crate) rows: Slots,
     pub(crate) keys: Keys,
-    pub(crate) sibs: Ordered,
-    /// The uses of values: a list for each value.
-    pub(crate) uses: Chains,
-    pub(crate) cells: Vec<Cell>,
-    /// The slots that are looked at when what is held is given up.
-    pub(crate) marks: Chains,
-    /// The slot that was given up last, of those that hold nothing.
+    pub(crate) sibs: OrderedLists,
+    /// The use lists: one list for each value.
+    pub(crate) uses: LinkedLists,
+    pub(crate) cells: Vec<UseNode>,
+    /// The slots that `release` visits.
+    pub(crate) marks: LinkedLists,
+    /// The newest free slot: the head of the free list.
     pub(crate) spare: u32,
     pub(crate) root: usize,
     pub(crate) next: u32,
-    /// How many operations the module has.
+    /// The number of operations of the module.
     pub(crate) count: u64,
-    ghost spelled: { Spelled rows sibs.lists root } by { Spelled-prop rows sibs.lists root },
+    ghost represented: { Represented rows sibs.lists root } by { Represented-prop rows sibs.lists root },
     ghost holds: { HoldsOf rows (finmap.get keys) } by { HoldsOf-prop rows (finmap.get keys) },
     ghost lacks: { GoneOf rows (finmap.get keys) } by { GoneOf-prop rows (finmap.get keys) },
 }
@@ -73,34 +73,34 @@ impl Model for Store {
 
     ghost coded = { stored_code };
 
-    ghost view = { λ s. record { module_of = record { tree = s.spelled.0; next = s.next }; held = s.holds.0; gone = s.lacks.0 } };
+    ghost view = { λ s. record { module_of = record { tree = s.represented.0; next = s.next }; held = s.holds.0; gone = s.lacks.0 } };
 
-    ghost invariant = { λ s. Fits s.rows (finmap.get s.keys) s.sibs s.root s.spelled.0 s.uses.homes (cells_of s.cells.items) s.count s.next s.marks.homes };
+    ghost invariant = { λ s. Fits s.rows (finmap.get s.keys) s.sibs s.root s.represented.0 s.uses.homes (cells_of s.cells.items) s.count s.next s.marks.homes };
 }
 
 impl Store {
-    /// The next free id.
+    /// Returns the next free id.
     pub fn next_id(&self) -> u32
         ensures { result ≡ self.now.module_of.next }
     {
         self.next
     }
 
-    /// The root of the module.
+    /// Returns the root of the module.
     pub fn root(&self) -> OpId
         ensures { result ≡ (head self.now.module_of.tree).id }
     {
         self.rows.id(self.root)
     }
 
-    /// How many operations the module has, the root included.
+    /// Returns the number of operations of the module, the root included.
     pub fn op_count(&self) -> u64
         ensures { result ≡ op_count self.now.module_of.tree }
     {
         self.count
     }
 
-    /// Whether an operation is in the module.
+    /// Returns whether `op` is in the module.
     pub fn in_tree(&self, op: OpId) -> bool
         ensures { result ≡ has_id op self.now.module_of.tree }
     {
@@ -109,7 +109,7 @@ impl Store {
 }
 
 impl Store {
-    /// Takes an operation out of the module. It is held then.
+    /// Takes `op` out of the module. The store holds it until `release`.
     ///
     /// Refusals, in order: `NoSuchOp`; `IsRoot`; `NotEmpty`; `HasUses`.
     pub fn take(&mut self, op: OpId) -> Result<(), Refusal>
@@ -128,32 +128,35 @@ impl Store {
         self.sibs.remove(key);
         self.count -= 1;
         self.rows.set_live(key, false);
-        put_mark(&mut self.marks, &self.rows, key);
+        link_slot(&mut self.marks, &self.rows, key);
         Ok(())
     }
 }
 
 impl Store {
-    /// Puts a held operation back at a place of the module. Where `fresh`, its id isn't free any more.
+    /// Inserts a held operation again, at `place`. With `fresh`, `op` is the next free id, and the next one becomes
+    /// free.
     pub fn restore(&mut self, op: OpId, place: Place, fresh: bool)
         requires { CanRestore op place fresh self.old }
         ensures { self.new ≡ after_restore op place fresh self.old }
     {
         self.sibs.laws();
-        let Some((key, head, before)) = find_joint(&self.rows, &self.keys, &self.sibs, op, place)
-        else {
+        let Some((key, head, before)) = find_insertion(
+            &self.rows, &self.keys, &self.sibs, op, place,
+        ) else {
             return;
         };
-        lead_row(&mut self.uses, &self.rows, &self.keys, key);
+        link_operands(&mut self.uses, &self.rows, &self.keys, key);
         link(&mut self.sibs, key, head, before);
         self.count += 1;
         self.rows.set_live(key, true);
-        put_mark(&mut self.marks, &self.rows, key);
+        link_slot(&mut self.marks, &self.rows, key);
         self.next = raised(fresh, op, self.next);
     }
 
-    /// Takes a leaf whose values aren't used out of the module. Where `fresh`, its id is free again.
-    pub fn retract(&mut self, op: OpId, fresh: bool)
+    /// Takes out an operation that holds no operations and whose values have no uses. With `fresh`, its id becomes free
+    /// again.
+    pub fn undo_insert(&mut self, op: OpId, fresh: bool)
         requires { CanRetract op fresh self.old }
         ensures { self.new ≡ after_retract op fresh self.old }
     {
@@ -168,7 +171,7 @@ impl Store {
     }
 }
 
-/// The next free id, where that of an operation is given out.
+/// Returns the next free id after `op` is inserted: with `fresh`, the id of `op` is in use.
 fn raised(fresh: bool, op: OpId, next: u32) -> u32
     requires { fresh ≡ true → op < most_next }
     ensures { result ≡ raised fresh op next }
@@ -177,7 +180,8 @@ fn raised(fresh: bool, op: OpId, next: u32) -> u32
 }
 
 impl Store {
-    /// What an operation of the module, or a held one, has beside the operations in its blocks.
+    /// Returns the header of `op`, without the operations in its blocks. `op` is in the module or held; otherwise
+    /// `None`.
     pub fn node(&self, op: OpId) -> Option<Node<'_>>
         ensures { result ≡ option_map node_of (known op self.now) }
     {
@@ -189,9 +193,13 @@ impl Store {
 }
 
 impl Store {
-    /// Makes a value of the module an operand, where whether the operation sees it isn't looked at, and gives the one
-    /// that was there.
-    pub(crate) fn rewire(&mut self, op: OpId, place: usize, value: Value) -> Result<Value, Refusal>
+    /// Sets an operand to a value of the module and returns the previous operand. Dominance isn't checked.
+    pub(crate) fn set_operand_unchecked(
+        &mut self,
+        op: OpId,
+        place: usize,
+        value: Value,
+    ) -> Result<Value, Refusal>
         ensures done { MatchResult result (λ _. (rewire_reason op place value self.old.module_of.tree ≡ None) × (self.new ≡ after_operand op place value self.old))
             (λ e. (rewire_reason op place value self.old.module_of.tree ≡ Some e) × (self.new ≡ self.old)) }
         ensures was { IfOk result (λ v. operand_at op place self.old.module_of.tree ≡ Some v) }
@@ -209,7 +217,7 @@ impl Store {
 }
 
 impl Store {
-    /// The type of a value of the module.
+    /// Returns the type of a value of the module, or `None` if the module has no such value.
     pub fn value_type(&self, value: Value) -> Option<TypeId>
         ensures { result ≡ type_of_value value self.now.module_of.tree }
     {
@@ -218,7 +226,7 @@ impl Store {
 }
 
 impl Store {
-    /// The uses of a value of the module, each once: the operations, and which operands.
+    /// Returns an iterator over the uses of a value of the module, each once: the user and the index of the operand.
     pub fn uses(&self, value: Value) -> UsesOf<'_>
         ensures { AreUses value self.now.module_of.tree result }
     {
@@ -229,19 +237,19 @@ impl Store {
 }
 
 impl Store {
-    /// A module of one operation without operands: one like a header, without the operations in its blocks. It has
-    /// room for others, and is moved where there are more.
-    pub(crate) fn seed(
+    /// Returns a module of one operation like `header`, without operands and without the operations in its blocks.
+    /// `room` is the initial capacity. The store grows beyond it.
+    pub(crate) fn from_root(
         alloc: Global,
         header: &TreeOp,
         next: u32,
-        room: &Room,
+        room: &Capacity,
     ) -> Result<Store, AllocError>
         requires bare { (head header.now).operands ≡ [] }
         requires below { (head header.now).id < next }
         ensures { IfOk result (λ s. s ≡ seeded header.now next) }
     {
-        let rows = Rows::with_capacity(
+        let rows = Slots::with_capacity(
             alloc,
             room.slots,
             room.short,
@@ -249,20 +257,20 @@ impl Store {
             room.entered,
             room.whole,
         )?;
-        let sibs = Ordered::with_capacity(alloc, room.slots)?;
-        let uses = Chains::with_capacity(alloc, room.uses)?;
+        let sibs = OrderedLists::with_capacity(alloc, room.slots)?;
+        let uses = LinkedLists::with_capacity(alloc, room.uses)?;
         let cells = Vec::with_capacity(alloc, room.uses)?;
         let keys = IdTable::with_capacity(alloc, room.ops)?;
         Store::seed_in(alloc, rows, sibs, uses, cells, keys, header, next)
     }
 
-    /// A module of one operation like a header, in rows, lists and tables that were made for it and hold nothing.
+    /// Returns a module of one operation like `header`, in the given empty rows, lists and tables.
     fn seed_in(
         alloc: Global,
-        rows: Rows,
-        sibs: Ordered,
-        uses: Chains,
-        cells: Vec<Cell>,
+        rows: Slots,
+        sibs: OrderedLists,
+        uses: LinkedLists,
+        cells: Vec<UseNode>,
         keys: Keys,
         header: &TreeOp,
         next: u32,
@@ -317,9 +325,9 @@ impl Store {
     }
 }
 
-/// Writes the root into its slot, and gives its id that slot.
+/// Writes the root into its slot, and maps its id to the slot.
 fn write_root(
-    rows: &mut Rows,
+    rows: &mut Slots,
     keys: &mut Keys,
     op: OpId,
     root: usize,
@@ -334,7 +342,7 @@ fn write_root(
         Ok(()) => {}
         Err(e) => return Err(e),
     }
-    match rows.put(root, draft) {
+    match rows.write_op(root, draft) {
         Ok(()) => {}
         Err(e) => return Err(e),
     }

@@ -1,4 +1,4 @@
-//! The operations of the module, one after another.
+//! The operations of the module in pre-order.
 ghost use Rattle.std.specs.Prelude.{◌≡◌, ◌∷◌, ◌++◌, [], ℕ, List, IfOk, IfErr, MatchOption, None, true};
 ghost use Rattle.ir_store_reads.specs.trees.Ids.{find as the_first, has_id, ids};
 ghost use Rattle.ir_store.specs.Ends.{IsLastIn, ids_in};
@@ -10,12 +10,12 @@ use ir_store_reads::types::refusal::Refusal;
 use ir_store_reads::use_lists::id_at;
 use ir_store_reads::walk::{last_slot, push_op};
 
-/// More levels than an operation of a module has inside it.
+/// A depth limit above the largest nesting depth of a module.
 const LEVELS: u32 = 1_000;
 
 impl Store {
-    /// All operations of the module in pre-order: each before those inside it, and these in the order of the regions
-    /// and of the blocks that they stand in.
+    /// Returns all operations of the module in pre-order: each before the operations inside it, which follow the order
+    /// of the regions and blocks.
     ///
     /// Refusals: `Memory`.
     pub fn operations(&self) -> Result<Vec<OpId>, Refusal>
@@ -30,7 +30,8 @@ impl Store {
 }
 
 impl Store {
-    /// The last operation, in pre-order, of an operation of the module and those inside it.
+    /// Returns the last operation in pre-order among `op`, an operation of the module, and the operations inside it.
+    /// `None` if `op` isn't in the module.
     pub fn last_within(&self, op: OpId) -> Option<OpId>
         ensures { MatchOption result (the_first op self.now.module_of.tree ≡ None) (λ y. (ys : List ℕ) × (ids_in (the_first op self.now.module_of.tree) ≡ ys ++ y ∷ [])) }
     {
@@ -45,7 +46,7 @@ impl Store {
         Some(at)
     }
 
-    /// The last operation of the last block of an operation of the module that isn't empty, if there is one.
+    /// Returns the last operation of the last nonempty block of `op`, or `None` if all its blocks are empty.
     fn last_inside(&self, op: OpId) -> Option<OpId>
         requires { has_id op self.now.module_of.tree ≡ true }
         ensures { MatchOption result (ids_in (the_first op self.now.module_of.tree) ≡ op ∷ []) (λ y. IsLastIn op y self.now.module_of.tree) }

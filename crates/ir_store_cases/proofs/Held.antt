@@ -1,4 +1,4 @@
--- Held operations, known by what is read of them.
+-- Held operations, by the reads of them.
 use Rattle.std.proofs.Common.{◌≡◌, refl, ap, sym, ◌∙◌, ℕ, eqb, eq-eqb, cond, false, true≢false, Option, Some, None}
 use Rattle.std.specs.Prelude.{option_map, unwrap_or}
 use Rattle.std.specs.Cmp.{nat_cmp_total}
@@ -12,12 +12,12 @@ use Rattle.ir_tree_laws.specs.Reasons.{take_reason, holds_none, unused}
 use Rattle.ir_tree_laws.proofs.Around.{absent_find, member_of_place}
 use Rattle.ir_tree_laws.proofs.Members.{stand_found}
 use Rattle.ir_tree_laws.proofs.Reasoned.{no_take_reason}
-use Rattle.ir_store_ids.proofs.Tables.{eq_nat}
+use Rattle.ir_store_lists.proofs.Tables.{eq_nat}
 use Rattle.ir_store.specs.Nodes.{Node, node_of}
 use Rattle.ir_store.specs.Stored.{Stored, known}
 use Rattle.ir_store.specs.Calls.{CanRetract, after_restore, after_take, hold, put_held}
 
--- what isn't of the module but known is held
+-- a known operation that isn't in the module is held
 pub held_known : (x : ℕ) (s : Stored) (n : Node) → has_id x s.module_of.tree ≡ false → Some n ≡ option_map node_of (known x s) → (o : Op) × (finmap.get s.held x ≡ Some o) × (n.head ≡ head o)
 held_known x s n a e = go (finmap.get s.held x) refl (e ∙ ap (λ z. option_map node_of (first_of z (finmap.get s.held x))) (absent_find x s.module_of.tree a))
   where
@@ -28,7 +28,7 @@ held_known x s n a e = go (finmap.get s.held x) refl (e ∙ ap (λ z. option_map
 pub same_held : (a b : Op) (m : Option Op) → m ≡ Some a → m ≡ Some b → a ≡ b
 same_held a b m e f = ap (λ z. unwrap_or z a) (sym e ∙ f)
 
--- what was taken and put back can be taken
+-- an operation that was taken out and inserted again can be taken out
 pub taken_back : (x : ℕ) (place : Place) (s u : Stored) → HasDistinctIds s.module_of.tree → place_of x s.module_of.tree ≡ Some place → take_reason x s.module_of.tree ≡ None → u ≡ after_restore x place false (after_take x s) → CanRetract x false u
 taken_back x place s u d p r e =
     let t = s.module_of.tree in

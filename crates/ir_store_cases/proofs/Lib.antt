@@ -1,2 +1,2 @@
-mod Spots
+mod Points
 mod Held

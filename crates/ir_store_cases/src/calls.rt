@@ -1,4 +1,4 @@
-//! The answer to a line.
+//! Computes the answer to a line.
 ghost use Rattle.std.specs.Prelude.{◌<◌, IsTrue, IfOk, OnOk};
 ghost use Rattle.std.specs.List.{All};
 ghost use Rattle.ir_tree.specs.Ids.{HasDistinctIds, ids};
@@ -6,7 +6,7 @@ ghost use Rattle.ir_tree.specs.Meaning.{IsSoundIn};
 
 use crate::edits::{Told, entry_line, put_line, set_line, take_line, unasked};
 use crate::moves::{release_line, shift_line};
-use crate::reads::{put_reads, sum};
+use crate::reads::{sum, write_reads};
 use crate::state::{Show, State};
 use crate::undone::{restore_line, retract_line, revert_line};
 use ir_store::store::Store;
@@ -16,13 +16,13 @@ use ir_tree::numbered::distinct;
 use ir_tree::sound::sound;
 use ir_tree::tree::TreeOp;
 use ir_tree_cases_base::build::bare;
-use ir_tree_cases_base::words::{first, number};
+use ir_tree_cases_base::words::{first_word, number};
 use ir_tree_cases_base::{build, written};
 use ir_types::context::Context;
 use ir_types::refusal::Refusal;
 use std::alloc::Global;
 
-/// Whether the ids of a tree are below a number.
+/// Returns whether all ids of a tree are below a number.
 pub fn are_below(alloc: Global, tree: &TreeOp, next: u32) -> Result<bool, Refusal>
     ensures { IfOk result (λ b. IsTrue b → All (λ x. x < next) (ids tree.now)) }
 {
@@ -30,7 +30,7 @@ pub fn are_below(alloc: Global, tree: &TreeOp, next: u32) -> Result<bool, Refusa
     Ok(ids.iter().all(|id| id.number() < next))
 }
 
-/// Whether what a module asks of a tree is so; else `NoSuchIndex`.
+/// Checks the preconditions of loading a tree. Refuses with `NoSuchIndex` if one doesn't hold.
 fn suit(alloc: Global, context: &Context, tree: &TreeOp, next: u32) -> Result<(), Refusal>
     ensures sound { OnOk result (IsSoundIn context.now tree.now) }
     ensures distinct { OnOk result (HasDistinctIds tree.now) }
@@ -42,20 +42,20 @@ fn suit(alloc: Global, context: &Context, tree: &TreeOp, next: u32) -> Result<()
     Ok(())
 }
 
-/// A module with a copy of a tree.
+/// Returns a module with a copy of a tree.
 fn load(alloc: Global, context: &Context, tree: &TreeOp, next: u32) -> Result<Store, Refusal> {
     suit(alloc, context, tree, next)?;
     Store::load(alloc, context, tree, next)
 }
 
-/// A module with a tree that is handed over once it was looked at.
+/// Returns a module with a tree that was checked before.
 fn hold(alloc: Global, context: &Context, tree: TreeOp, next: u32) -> Result<Store, Refusal> {
     suit(alloc, context, &tree, next)?;
     check(alloc, context, &tree)?;
-    Store::hold(alloc, context, tree, next)
+    Store::from_checked(alloc, context, tree, next)
 }
 
-/// A module with a copy of a tree, or with the tree.
+/// Returns a module with a copy of a tree, or with the tree.
 fn made(alloc: Global, ctx: &Context, call: &str, text: &str) -> Result<Store, Refusal> {
     let (next, words) = text.split_once(" : ").unwrap_or((text, ""));
     let tree = build::tree(alloc, words)?;
@@ -65,7 +65,7 @@ fn made(alloc: Global, ctx: &Context, call: &str, text: &str) -> Result<Store, R
     load(alloc, ctx, &tree, number(next))
 }
 
-/// `9 : op block end end`: the next free id, and the tree.
+/// Loads a module. The text has the next free id and the tree: `9 : op block end end`.
 fn load_line(alloc: Global, state: &mut State, call: &str, text: &str) -> Result<String, Refusal> {
     match made(alloc, &state.context, call, text) {
         Ok(store) => {
@@ -76,7 +76,7 @@ fn load_line(alloc: Global, state: &mut State, call: &str, text: &str) -> Result
     }
 }
 
-/// `tree`, `sum`, or nothing for anything else.
+/// Sets what is shown: `tree`, `sum`, or nothing for any other word.
 fn show_line(alloc: Global, state: &mut State, text: &str) -> Result<String, Refusal> {
     state.show = match text {
         "tree" => Show::Tree,
@@ -95,7 +95,7 @@ fn edit(
     tree: &TreeOp,
     line: &str,
 ) -> Result<Told, Refusal> {
-    let (call, rest) = first(line);
+    let (call, rest) = first_word(line);
     match call {
         "put" => put_line(alloc, ctx, store, tree, rest),
         "take" => take_line(alloc, store, taken, tree, rest),
@@ -110,8 +110,8 @@ fn edit(
     }
 }
 
-/// Writes what a module is behind an answer.
-fn put_shown(
+/// Writes the module after an answer.
+fn write_shown(
     alloc: Global,
     out: &mut String,
     ctx: &Context,
@@ -121,19 +121,19 @@ fn put_shown(
 ) -> Result<(), Refusal> {
     match show {
         Show::Tree => {
-            written::put_number(out, " ", u64::from(store.next_id()))?;
+            written::write_number(out, " ", u64::from(store.next_id()))?;
             out.push_str(" : ")?;
             Ok(out.push_str(words)?)
         }
         _ => {
             let mut text = String::from_str(alloc, words)?;
-            put_reads(&mut text, ctx, store)?;
-            Ok(written::put_number(out, " ", u64::from(sum(text.as_bytes())))?)
+            write_reads(&mut text, ctx, store)?;
+            Ok(written::write_number(out, " ", u64::from(sum(text.as_bytes())))?)
         }
     }
 }
 
-/// Makes an edit, and tells what it answers and what the module is then.
+/// Makes an edit, and returns the answer followed by the module after it.
 fn edited(
     alloc: Global,
     ctx: &Context,
@@ -151,11 +151,11 @@ fn edited(
     if words.as_str() != want.as_str() {
         out.push_str(" differs")?;
     }
-    put_shown(alloc, &mut out, ctx, store, show, words.as_str())?;
+    write_shown(alloc, &mut out, ctx, store, show, words.as_str())?;
     Ok(out)
 }
 
-/// Makes an edit, and tells what it answers alone.
+/// Makes an edit, and returns only the answer.
 fn edited_briefly(
     alloc: Global,
     ctx: &Context,
@@ -184,9 +184,9 @@ fn edit_line(alloc: Global, state: &mut State, line: &str) -> Result<String, Ref
     }
 }
 
-/// The answer to a line.
+/// Returns the answer to a line.
 pub fn answer(alloc: Global, state: &mut State, line: &str) -> Result<String, Refusal> {
-    let (call, rest) = first(line);
+    let (call, rest) = first_word(line);
     match call {
         "load" | "hold" => load_line(alloc, state, call, rest),
         "show" => show_line(alloc, state, rest),

@@ -1,27 +1,29 @@
-//! The edits of a module, each beside what the plain program makes of its tree.
+//! The edits of a module, each with the result of the plain program on its tree.
 use crate::may::{may_put, may_set};
 use ir_store::store::Store;
-use ir_tree::changes::{put, with_operand_set, without};
 use ir_tree::copy::copy;
 use ir_tree::entries::with_entry_set;
 use ir_tree::find::find;
 use ir_tree::place::Place;
 use ir_tree::tree::TreeOp;
-use ir_tree_cases_base::words::{first, name_id, number, op_id, part, place, some_attr, value};
+use ir_tree::tree_edits::{with_erased, with_inserted, with_operand_set};
+use ir_tree_cases_base::words::{
+    first_word, name_id, number, op_id, part, place, some_attr, value,
+};
 use ir_tree_cases_base::{build, written};
 use ir_types::context::Context;
 use ir_types::ids::OpId;
 use ir_types::refusal::Refusal;
 use std::alloc::Global;
 
-/// An answer, and the tree that the module should have then.
+/// An answer, and the tree that the module should have after the edit.
 #[derive(Drop)]
 pub struct Told {
     pub answer: String,
     pub tree: TreeOp,
 }
 
-/// What an accepted edit tells.
+/// Returns the answer to an accepted edit, with the expected tree.
 pub fn accepted(alloc: Global, answer: &str, tree: TreeOp) -> Result<Told, Refusal> {
     Ok(Told {
         answer: written::word(alloc, answer)?,
@@ -29,7 +31,7 @@ pub fn accepted(alloc: Global, answer: &str, tree: TreeOp) -> Result<Told, Refus
     })
 }
 
-/// What a refused edit tells: the tree stays.
+/// Returns the answer to a refused edit, with the unchanged tree.
 pub fn refused(alloc: Global, refusal: Refusal, tree: &TreeOp) -> Result<Told, Refusal> {
     Ok(Told {
         answer: written::refusal(alloc, refusal)?,
@@ -37,12 +39,12 @@ pub fn refused(alloc: Global, refusal: Refusal, tree: &TreeOp) -> Result<Told, R
     })
 }
 
-/// What is told where the module isn't asked.
+/// Returns the answer to an edit whose precondition doesn't hold, so that the module isn't called.
 pub fn unasked(alloc: Global, tree: &TreeOp) -> Result<Told, Refusal> {
     accepted(alloc, "unasked", copy(tree)?)
 }
 
-/// The tree with a header at a place, under an id.
+/// Returns the tree with a header inserted at a place, under an id.
 fn with_header(
     alloc: Global,
     tree: &TreeOp,
@@ -52,10 +54,10 @@ fn with_header(
 ) -> Result<TreeOp, Refusal> {
     let mut op = header;
     op.id = id;
-    Ok(put(alloc, tree, place, &op)?)
+    Ok(with_inserted(alloc, tree, place, &op)?)
 }
 
-/// `2 0 4 : op use:1.0 end`: the place, and the header that is put there.
+/// Inserts an operation. The text has the place and the header: `2 0 4 : op use:1.0 end`.
 pub fn put_line(
     alloc: Global,
     ctx: &Context,
@@ -75,7 +77,7 @@ pub fn put_line(
     }
 }
 
-/// Keeps a copy of an operation that is taken.
+/// Keeps a copy of an operation to be taken out.
 fn keep(taken: &mut Vec<TreeOp>, tree: &TreeOp, op: OpId) -> Result<(), Refusal> {
     match find(tree, op) {
         Some(found) => Ok(taken.push(copy(found)?)?),
@@ -83,7 +85,7 @@ fn keep(taken: &mut Vec<TreeOp>, tree: &TreeOp, op: OpId) -> Result<(), Refusal>
     }
 }
 
-/// `3`: the operation.
+/// Takes out an operation. The text has its id: `3`.
 pub fn take_line(
     alloc: Global,
     store: &mut Store,
@@ -95,13 +97,13 @@ pub fn take_line(
     match store.take(op) {
         Ok(()) => {
             keep(taken, tree, op)?;
-            accepted(alloc, "ok", without(alloc, tree, op)?)
+            accepted(alloc, "ok", with_erased(alloc, tree, op)?)
         }
         Err(refusal) => refused(alloc, refusal, tree),
     }
 }
 
-/// `3 0 2.0`: the operation, the number of the operand, the value.
+/// Sets an operand. The text has the operation, the index of the operand and the value: `3 0 2.0`.
 pub fn set_line(
     alloc: Global,
     ctx: &Context,
@@ -109,8 +111,8 @@ pub fn set_line(
     tree: &TreeOp,
     text: &str,
 ) -> Result<Told, Refusal> {
-    let (op, rest) = first(text);
-    let (operand, word) = first(rest);
+    let (op, rest) = first_word(text);
+    let (operand, word) = first_word(rest);
     let (op, operand, value) = (op_id(op), number(operand), value(word));
     match store.set_operand(ctx, op, operand, value) {
         Ok(_) => accepted(
@@ -122,7 +124,8 @@ pub fn set_line(
     }
 }
 
-/// `1 props 39 0`: the operation, the dictionary, the key, the attribute, or `-` for none.
+/// Sets or removes an entry. The text has the operation, the dictionary, the key, and the attribute or `-`: `1 props 39
+/// 0`.
 pub fn entry_line(
     alloc: Global,
     ctx: &Context,
@@ -130,9 +133,9 @@ pub fn entry_line(
     tree: &TreeOp,
     text: &str,
 ) -> Result<Told, Refusal> {
-    let (op, rest) = first(text);
-    let (dictionary, rest) = first(rest);
-    let (key, attr) = first(rest);
+    let (op, rest) = first_word(text);
+    let (dictionary, rest) = first_word(rest);
+    let (key, attr) = first_word(rest);
     let (op, part, key, attr) = (op_id(op), part(dictionary), name_id(key), some_attr(attr));
     if !may_set(ctx, store, key, attr)? {
         return unasked(alloc, tree);

@@ -1,5 +1,6 @@
-//! Answers the calls of a module under edits that standard input has, one a line, one answer a line. Behind an answer
-//! stands what the module is then, and `differs` where the plain programs on trees make something else of it.
+//! Answers calls of a module under edits. Standard input has one call a line, and each is answered with one line. The
+//! answer is followed by the module after the call, and by `differs` if the plain programs on trees have another
+//! result.
 #![tactic(auto)]
 
 mod calls;

@@ -1,4 +1,4 @@
-//! What calls ask of a module, looked at before.
+//! Checks of the preconditions of calls.
 ghost use Rattle.std.specs.Prelude.{◌≡◌, ◌<◌, ℕ, true, false, None, Some, IfOk, IfSome, is_some, map, eqb, option_and_then};
 ghost use Rattle.std.specs.FinMap as finmap;
 ghost use Rattle.std.specs.List.{list_all, list_any};
@@ -10,7 +10,7 @@ ghost use Rattle.ir_tree.specs.Meaning.{IsSoundIn};
 ghost use Rattle.ir_tree_laws.specs.Reads.{ops_in};
 ghost use Rattle.ir_tree_laws.specs.Reasons.{has_place, holds_none, is_in_list};
 ghost use Rattle.ir_tree_laws.specs.Values.{has_value, region_at};
-ghost use Rattle.ir_store_contents.specs.Slots.{has_key};
+ghost use Rattle.ir_store_arena.specs.Slots.{has_key};
 ghost use Rattle.ir_store.specs.Stored.{has_entry};
 ghost use Rattle.ir_store.specs.Calls.{CanRestore, CanRevert};
 
@@ -25,21 +25,22 @@ use ir_types::context::Context;
 use ir_types::ids::{AttrId, NameId, OpId};
 use ir_types::refusal::Refusal;
 
-/// Whether nothing stands in an operation.
+/// Returns true only if the blocks of an operation are empty.
 fn is_bare(header: &TreeOp) -> bool
     ensures { result ≡ true → holds_none (Some header.now) ≡ true }
 {
     op_count(header) == 1
 }
 
-/// Whether nothing is held under the next free id.
+/// Returns true only if no operation is held under the next free id.
 fn is_free(store: &Store) -> bool
     ensures { result ≡ true → finmap.get store.now.held store.now.module_of.next ≡ None }
 {
     store.node(OpId::new(store.next_id())).is_none()
 }
 
-/// Whether a header may be put into a module: it is sound, nothing stands in it, and nothing is held under the next id.
+/// Returns true only if a header may be inserted into a module: it is sound, its blocks are empty, and no operation is
+/// held under the next free id.
 pub fn may_put(ctx: &Context, store: &Store, header: &TreeOp) -> bool
     ensures sound { result ≡ true → IsSoundIn ctx.now header.now }
     ensures bare { result ≡ true → holds_none (Some header.now) ≡ true }
@@ -48,18 +49,18 @@ pub fn may_put(ctx: &Context, store: &Store, header: &TreeOp) -> bool
     sound(ctx, header) && is_bare(header) && is_free(store)
 }
 
-/// Whether a tree has a place.
-fn has_spot(tree: &TreeOp, place: &Place) -> bool
+/// Returns whether a tree has a place.
+fn has_point(tree: &TreeOp, place: &Place) -> bool
     ensures { result ≡ has_place place.now tree.now }
 {
     match find(tree, place.parent) {
-        Some(parent) => holds_spot(&parent.regions, place.region as usize, place.before),
+        Some(parent) => holds_point(&parent.regions, place.region as usize, place.before),
         None => false,
     }
 }
 
-/// Whether one of some regions has a block, and in it the operation that comes next at a place, if one is named.
-fn holds_spot(regions: &Vec<TreeRegion>, number: usize, before: Option<OpId>) -> bool
+/// Returns whether a region has a block, and the block has the next operation of a place, if the place names one.
+fn holds_point(regions: &Vec<TreeRegion>, number: usize, before: Option<OpId>) -> bool
     ensures { result ≡ is_in_list before (option_and_then ops_in (region_at number (regions_of (map region_view regions.now.items)))) }
 {
     let Some(region) = regions.get(number) else {
@@ -68,7 +69,7 @@ fn holds_spot(regions: &Vec<TreeRegion>, number: usize, before: Option<OpId>) ->
     region_holds(region, before)
 }
 
-/// Whether a region has a block, and in it the operation that comes next at a place, if one is named.
+/// Returns whether this region has a block, and the block has the next operation of a place, if the place names one.
 fn region_holds(region: &TreeRegion, before: Option<OpId>) -> bool
     ensures { result ≡ is_in_list before (ops_in (region_view region.now)) }
 {
@@ -78,8 +79,8 @@ fn region_holds(region: &TreeRegion, before: Option<OpId>) -> bool
     }
 }
 
-/// Whether the operation that comes next at a place, if one is named, is one of a list.
-#[tactic(auto, using(crate::proofs::Spots::among_of))]
+/// Returns whether a list has the next operation of a place, if the place names one.
+#[tactic(auto, using(crate::proofs::Points::among_of))]
 fn is_among(ops: &Vec<TreeOp>, before: Option<OpId>) -> bool
     ensures { result ≡ is_in_list before (Some (ops_of ops.now.items)) }
 {
@@ -89,14 +90,14 @@ fn is_among(ops: &Vec<TreeOp>, before: Option<OpId>) -> bool
     }
 }
 
-/// Whether a list has an operation with an id.
+/// Returns whether a list has an operation with this id.
 fn has_op(ops: &Vec<TreeOp>, id: OpId) -> bool
     ensures { result ≡ list_any (λ o. eqb (head o).id id) ops.now.items }
 {
     ops.iter().any(|op| op.id == id)
 }
 
-/// Whether a module has each of some values.
+/// Returns whether a module has all of some values.
 fn has_values(store: &Store, values: &[Value]) -> bool
     ensures { result ≡ list_all (λ v. has_value v store.now.module_of.tree) values.now }
 {
@@ -110,7 +111,7 @@ fn has_values(store: &Store, values: &[Value]) -> bool
     true
 }
 
-/// Whether an operation is held, and a module has what it uses.
+/// Returns true only if an operation is held, and the module has its operands.
 fn is_ready(store: &Store, op: OpId) -> bool
     ensures held { result ≡ true → is_some (finmap.get store.now.held op) ≡ true }
     ensures values { result ≡ true → (o : Op) → finmap.get store.now.held op ≡ Some o → list_all (λ v. has_value v store.now.module_of.tree) (head o).operands ≡ true }
@@ -124,7 +125,7 @@ fn is_ready(store: &Store, op: OpId) -> bool
     }
 }
 
-/// Whether an id is the next free one and can be given out, or is below it.
+/// Returns true only if an id is the next free one and can be given out, or is below the next free one.
 fn fits_next(store: &Store, op: OpId, fresh: bool) -> bool
     ensures newest { result ≡ true → fresh ≡ true → store.now.module_of.next ≡ op }
     ensures room { result ≡ true → fresh ≡ true → op < most_next }
@@ -138,15 +139,15 @@ fn fits_next(store: &Store, op: OpId, fresh: bool) -> bool
     }
 }
 
-/// Whether a held operation may be put back at a place of a module.
+/// Returns whether a held operation may be inserted again at a place of a module.
 pub fn may_restore(store: &Store, op: OpId, place: &Place, fresh: bool) -> Result<bool, Refusal>
     ensures { IfOk result (λ b. b ≡ true → CanRestore op place.now fresh store.now) }
 {
     let tree = store.tree()?;
-    Ok(is_ready(store, op) && has_spot(&tree, place) && fits_next(store, op, fresh))
+    Ok(is_ready(store, op) && has_point(&tree, place) && fits_next(store, op, fresh))
 }
 
-/// Whether a key and an attribute are of a context, and a module is sound in it.
+/// Returns whether a key and an attribute are of a context, and a module is sound in it.
 pub fn may_set(
     ctx: &Context,
     store: &Store,
@@ -161,7 +162,7 @@ pub fn may_set(
     Ok(ctx.has_name(key) && has_some(ctx, value) && sound(ctx, &tree))
 }
 
-/// Whether an attribute, if there is one, is of a context.
+/// Returns true only if an optional attribute is of a context.
 fn has_some(ctx: &Context, value: Option<AttrId>) -> bool
     ensures { result ≡ true → IfSome value (λ a. IsAttr ctx.now a) }
 {
@@ -171,7 +172,7 @@ fn has_some(ctx: &Context, value: Option<AttrId>) -> bool
     }
 }
 
-/// Whether one dictionary of an operation has a key.
+/// Returns whether one dictionary of an operation has a key.
 fn has_entry(store: &Store, op: OpId, part: Part, key: NameId) -> bool
     ensures { result ≡ has_entry op part key store.now }
 {
@@ -184,14 +185,14 @@ fn has_entry(store: &Store, op: OpId, part: Part, key: NameId) -> bool
     }
 }
 
-/// Whether a dictionary has a key.
+/// Returns whether a dictionary has a key.
 fn has_key(entries: &[(NameId, AttrId)], key: NameId) -> bool
     ensures { result ≡ has_key key entries.now }
 {
     entries.iter().any(|entry| entry.0 == key)
 }
 
-/// Whether a key of a dictionary may be set back, or taken out again.
+/// Returns true only if a key of a dictionary may be set back, or removed again.
 pub fn may_revert(store: &Store, op: OpId, part: Part, key: NameId, value: Option<AttrId>) -> bool
     ensures { result ≡ true → CanRevert op part key value store.now }
 {

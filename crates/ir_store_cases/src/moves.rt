@@ -1,4 +1,4 @@
-//! Shifts, and what is held given up, each beside what the plain program makes of the tree.
+//! Shifts and releases, each with the result of the plain program on the tree.
 ghost use Rattle.std.specs.Prelude.{◌≡◌, true, IfOk};
 ghost use Rattle.ir_tree.specs.Meaning.{isolated_in};
 ghost use Rattle.ir_tree.specs.WellFormed.{IsWellFormed};
@@ -6,17 +6,17 @@ ghost use Rattle.ir_tree.specs.WellFormed.{IsWellFormed};
 use crate::calls::are_below;
 use crate::edits::{Told, accepted, refused, unasked};
 use ir_store::store::Store;
-use ir_tree::changes::shifted;
 use ir_tree::check::check;
 use ir_tree::copy::copy;
 use ir_tree::numbered::distinct;
 use ir_tree::tree::TreeOp;
-use ir_tree_cases_base::words::{first, number, op_id, place};
+use ir_tree::tree_edits::with_moved;
+use ir_tree_cases_base::words::{first_word, number, op_id, place};
 use ir_types::context::Context;
 use ir_types::refusal::Refusal;
 use std::alloc::Global;
 
-/// Whether a tree with a next free id is a well-formed module.
+/// Returns whether a tree with a next free id is a well-formed module.
 fn is_formed(alloc: Global, ctx: &Context, tree: &TreeOp, next: u32) -> Result<bool, Refusal>
     ensures { IfOk result (λ b. b ≡ true → IsWellFormed (isolated_in ctx.now) (record { tree = tree.now; next = next })) }
 {
@@ -32,7 +32,7 @@ fn is_formed(alloc: Global, ctx: &Context, tree: &TreeOp, next: u32) -> Result<b
     }
 }
 
-/// Whether a module may be asked to shift an operation: it is well-formed.
+/// Returns whether the precondition of a shift holds: the module is well-formed.
 fn may_shift(alloc: Global, ctx: &Context, store: &Store) -> Result<bool, Refusal>
     ensures { IfOk result (λ b. b ≡ true → IsWellFormed (isolated_in ctx.now) store.now.module_of) }
 {
@@ -40,7 +40,7 @@ fn may_shift(alloc: Global, ctx: &Context, store: &Store) -> Result<bool, Refusa
     is_formed(alloc, ctx, &tree, store.next_id())
 }
 
-/// `3 2 0 4`: the operation, and the place that it is shifted to.
+/// Shifts an operation. The text has the operation and its new place: `3 2 0 4`.
 pub fn shift_line(
     alloc: Global,
     ctx: &Context,
@@ -48,18 +48,18 @@ pub fn shift_line(
     tree: &TreeOp,
     text: &str,
 ) -> Result<Told, Refusal> {
-    let (op, at) = first(text);
+    let (op, at) = first_word(text);
     let (op, place) = (op_id(op), place(at));
     if !may_shift(alloc, ctx, store)? {
         return unasked(alloc, tree);
     }
     match store.shift(ctx, op, place) {
-        Ok(()) => accepted(alloc, "ok", shifted(alloc, tree, op, &place)?),
+        Ok(()) => accepted(alloc, "ok", with_moved(alloc, tree, op, &place)?),
         Err(refusal) => refused(alloc, refusal, tree),
     }
 }
 
-/// `5`: the id from which on what is held is given up.
+/// Releases held operations. The text has the first id to release: `5`.
 pub fn release_line(
     alloc: Global,
     store: &mut Store,

@@ -1,4 +1,4 @@
-//! What lines speak of: a context, a module, the operations that were taken out of it, and what is shown of it.
+//! The state of a run: a context, a module, the operations that were taken out, and what is shown after an answer.
 use ir_store::store::Store;
 use ir_tree::tree::TreeOp;
 use ir_tree_cases_base::build::bare;
@@ -7,18 +7,18 @@ use ir_types::node::{AttrNode, Sign, TypeNode};
 use ir_types::refusal::Refusal;
 use std::alloc::Global;
 
-/// What is shown of a module behind an answer.
+/// What is shown of a module after an answer.
 #[derive(Clone, Copy)]
 pub enum Show {
-    /// Its tree, and its next free id.
+    /// The tree, and the next free id.
     Tree,
-    /// A sum over its tree and all that is read of it.
+    /// A checksum of the tree and of all reads of the module.
     Sum,
     /// Nothing.
     Nothing,
 }
 
-/// A context, a module if one was loaded, and the operations that were taken.
+/// A context, a module if one was loaded, and the operations that were taken out.
 #[derive(Drop)]
 pub struct State {
     pub context: Context,
@@ -28,7 +28,7 @@ pub struct State {
 }
 
 impl State {
-    /// A context with four names and 300 more, two types and four attributes, and no module.
+    /// Returns a state with four names and 300 more, two types, four attributes, and no module.
     pub fn new(alloc: Global) -> Result<State, Refusal> {
         let mut context = Context::new(alloc)?;
         fill(&mut context)?;
@@ -41,7 +41,7 @@ impl State {
         })
     }
 
-    /// Takes a module in place of the one that there was.
+    /// Replaces the module.
     pub fn hold(&mut self, store: Store) {
         self.store = Some(store);
         self.taken.clear();
@@ -67,7 +67,7 @@ fn add_names(alloc: Global, context: &mut Context) -> Result<(), Refusal> {
     Ok(())
 }
 
-/// Adds a type of integers to a context.
+/// Adds an integer type to a context.
 fn add_type(context: &mut Context, width: u32) -> Result<(), Refusal> {
     context.ty(TypeNode::Int {
         sign: Sign::Signless,
@@ -76,7 +76,7 @@ fn add_type(context: &mut Context, width: u32) -> Result<(), Refusal> {
     Ok(())
 }
 
-/// Adds an attribute for each two flags to a context.
+/// Adds an attribute for each combination of two flags to a context.
 fn add_attrs(context: &mut Context) -> Result<(), Refusal> {
     for nsw in [false, true] {
         context.attr(AttrNode::Overflow { nsw, nuw: false })?;

@@ -1,24 +1,24 @@
-//! Edits that undoing makes, each beside what the plain program makes of the tree.
+//! The edits that undo other edits, each with the result of the plain program on the tree.
 ghost use Rattle.std.specs.Prelude.{◌≡◌, ◌+◌, true, false, IfOk};
 ghost use Rattle.ir_store.specs.Calls.{CanRetract};
 
 use crate::edits::{Told, accepted, refused, unasked};
 use crate::may::{may_restore, may_revert, may_set};
 use ir_store::store::Store;
-use ir_tree::changes::{put, without};
 use ir_tree::copy::copy;
 use ir_tree::entries::with_entry_set;
 use ir_tree::find::find;
 use ir_tree::numbered::distinct;
 use ir_tree::place::Place;
 use ir_tree::tree::TreeOp;
-use ir_tree_cases_base::words::{first, name_id, op_id, part, place, some_attr};
+use ir_tree::tree_edits::{with_erased, with_inserted};
+use ir_tree_cases_base::words::{first_word, name_id, op_id, part, place, some_attr};
 use ir_types::context::Context;
 use ir_types::ids::OpId;
 use ir_types::refusal::Refusal;
 use std::alloc::Global;
 
-/// The tree with an operation that was taken, at a place.
+/// Returns the tree with an operation that was taken out inserted at a place.
 fn with_taken(
     alloc: Global,
     taken: &[TreeOp],
@@ -27,12 +27,13 @@ fn with_taken(
     place: &Place,
 ) -> Result<TreeOp, Refusal> {
     match taken.iter().rev().find(|found| found.id == op) {
-        Some(found) => Ok(put(alloc, tree, place, found)?),
+        Some(found) => Ok(with_inserted(alloc, tree, place, found)?),
         None => Ok(copy(tree)?),
     }
 }
 
-/// `new 3 2 0 4`: whether its id is given out by it, the operation, and its place.
+/// Inserts a held operation again. The text says whether its id is the next free one, and has the operation and its
+/// place: `new 3 2 0 4`.
 pub fn restore_line(
     alloc: Global,
     store: &mut Store,
@@ -40,8 +41,8 @@ pub fn restore_line(
     tree: &TreeOp,
     text: &str,
 ) -> Result<Told, Refusal> {
-    let (age, rest) = first(text);
-    let (op, at) = first(rest);
+    let (age, rest) = first_word(text);
+    let (op, at) = first_word(rest);
     let (fresh, op, place) = (age == "new", op_id(op), place(at));
     if !may_restore(store, op, &place, fresh)? {
         return unasked(alloc, tree);
@@ -50,7 +51,8 @@ pub fn restore_line(
     accepted(alloc, "ok", with_taken(alloc, taken, tree, op, &place)?)
 }
 
-/// Takes an operation out and puts it back, which shows that it can be taken out; or says that it was not put back.
+/// Takes an operation out and inserts it again, to check that it can be taken out. Returns false if it wasn't inserted
+/// again.
 fn try_take(alloc: Global, store: &mut Store, op: OpId) -> Result<bool, Refusal>
     ensures { IfOk result (λ b. b ≡ true → CanRetract op false store.new) }
 {
@@ -74,7 +76,7 @@ fn try_take(alloc: Global, store: &mut Store, op: OpId) -> Result<bool, Refusal>
     Ok(true)
 }
 
-/// Takes an operation out as undoing does, where it can be taken out.
+/// Takes an operation out as an undo does, if it can be taken out.
 fn retract(alloc: Global, store: &mut Store, op: OpId, fresh: bool) -> Result<bool, Refusal> {
     if fresh && !is_newest(store, op) {
         return Ok(false);
@@ -85,29 +87,29 @@ fn retract(alloc: Global, store: &mut Store, op: OpId, fresh: bool) -> Result<bo
     if fresh {
         return Ok(retract_newest(store, op));
     }
-    store.retract(op, false);
+    store.undo_insert(op, false);
     Ok(true)
 }
 
-/// Whether an operation has the id before the next free one.
+/// Returns true only if an operation has the newest id.
 fn is_newest(store: &Store, op: OpId) -> bool
     ensures { result ≡ true → store.now.module_of.next ≡ op + 1 }
 {
     op.number() < u32::MAX && store.next_id() == op.number() + 1
 }
 
-/// Takes an operation out whose id is then free again.
+/// Takes out the operation with the newest id, which becomes free again.
 fn retract_newest(store: &mut Store, op: OpId) -> bool
     requires { CanRetract op false store.old }
 {
     if !is_newest(store, op) {
         return false;
     }
-    store.retract(op, true);
+    store.undo_insert(op, true);
     true
 }
 
-/// `new 3`: whether its id is free again, and the operation.
+/// Undoes an insertion. The text says whether the id becomes free again, and has the operation: `new 3`.
 pub fn retract_line(
     alloc: Global,
     store: &mut Store,
@@ -115,7 +117,7 @@ pub fn retract_line(
     tree: &TreeOp,
     text: &str,
 ) -> Result<Told, Refusal> {
-    let (age, op) = first(text);
+    let (age, op) = first_word(text);
     let op = op_id(op);
     match retract(alloc, store, op, age == "new") {
         Ok(true) => {
@@ -123,14 +125,15 @@ pub fn retract_line(
                 Some(found) => taken.push(copy(found)?)?,
                 None => {}
             }
-            accepted(alloc, "ok", without(alloc, tree, op)?)
+            accepted(alloc, "ok", with_erased(alloc, tree, op)?)
         }
         Ok(false) => unasked(alloc, tree),
         Err(refusal) => refused(alloc, refusal, tree),
     }
 }
 
-/// `1 props 39 0`: the operation, the dictionary, the key, the attribute, or `-` for none.
+/// Undoes an edit of an entry. The text has the operation, the dictionary, the key, and the attribute or `-`: `1 props
+/// 39 0`.
 pub fn revert_line(
     alloc: Global,
     ctx: &Context,
@@ -138,9 +141,9 @@ pub fn revert_line(
     tree: &TreeOp,
     text: &str,
 ) -> Result<Told, Refusal> {
-    let (op, rest) = first(text);
-    let (dictionary, rest) = first(rest);
-    let (key, attr) = first(rest);
+    let (op, rest) = first_word(text);
+    let (dictionary, rest) = first_word(rest);
+    let (key, attr) = first_word(rest);
     let (op, part, key, attr) = (op_id(op), part(dictionary), name_id(key), some_attr(attr));
     if !may_set(ctx, store, key, attr)? || !may_revert(store, op, part, key, attr) {
         return unasked(alloc, tree);

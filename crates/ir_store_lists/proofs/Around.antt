@@ -1,4 +1,4 @@
--- What stands around a node of a list.
+-- The neighbours of a node of a list.
 use Rattle.std.proofs.Common.{◌≡◌, ℕ, ◌<◌, List, [], ◌∷◌, refl, sym, ap, ◌∙◌, subst, length, true, eqb, ⊎_elim, arith}
 use Rattle.std.proofs.lemmas.Bool.{eqb-true, false≢true, or_cases, cases_lt}
 use Rattle.std.proofs.lemmas.List.{get_or_past}
@@ -9,7 +9,7 @@ use Rattle.ir_store_lists.specs.Ring.{Ring, Sound, at}
 pub home_inside : (home : List ℕ) (i : ℕ) → (home_at home i ≡ free → ⊥) → i < length home
 home_inside home i n = ⊎_elim (λ l. l) (λ g. absurd (n (get_or_past home i free g))) (cases_lt i (length home))
 
--- what the links around node i are
+-- the links of the neighbours of node i
 pub record Between (nx pv : ℕ → ℕ) (n i : ℕ) : Type 0 where
   pub before : nx (pv i) ≡ i
   pub after : pv (nx i) ≡ i
@@ -32,18 +32,18 @@ module _ (nx pv hm : ℕ → ℕ) (n h : ℕ) (inside : (x : ℕ) → hm x ≡ h
   between i a (x ∷ xs) b la lb t r = ⊎_elim
       (λ e.
       let same : x ≡ i = eqb-true x i e in
-      let behind = at_start x xs b lb r.1.1 in
+      let trailing = at_start x xs b lb r.1.1 in
       let here : Between nx pv n x = record {
         before = ap nx r.0.1 ∙ r.0.0;
-        after = behind.0;
+        after = trailing.0;
         prev_inside = subst (λ z. z < n) (sym r.0.1) la;
-        next_inside = behind.1;
+        next_inside = trailing.1;
       } in
       subst (Between nx pv n) same here)
       (λ e. between i x xs b (inside x r.1.0.0) lb e r.1.1)
       (or_cases (eqb x i) (has i xs) t)
 
--- what stands around an item
+-- the neighbours of an item
 pub item_between : (next prev home : List ℕ) (ls : List (List ℕ)) (i : ℕ) → Sound next prev home ls → IsItem home i → Between (at next) (at prev) (length home) i
 item_between next prev home ls i s item =
     let h = home_at home i in
@@ -52,7 +52,7 @@ item_between next prev home ls i s item =
     (λ x e. home_inside home x (λ f. let g : h ≡ free = sym e ∙ f in item.linked g))
     i h (list_at ls h) h head.inside head.inside (s.covers h i head refl (λ e. item.other (sym e))) (s.rings h head)
 
--- what stands before the head of a list
+-- the node before the head of a list
 pub head_prev_inside : (next prev home : List ℕ) (ls : List (List ℕ)) (h : ℕ) → Sound next prev home ls → IsHead home h → at prev h < length home
 head_prev_inside next prev home ls h s head =
     (at_end (at next) (at prev) (home_at home) (length home) h

@@ -1,4 +1,4 @@
--- How a node leaves its list.
+-- Removing a node from its list.
 use Rattle.std.proofs.Common.{◌≡◌, ℕ, zero, suc, ◌<◌, List, [], ◌∷◌, map, set, refl, sym, ap, ◌∙◌, subst, length, true, eqb, ⊎_elim, arith}
 use Rattle.std.proofs.lemmas.Bool.{eqb-true, eqb-false, cond_both, false≢true, or_cases, or_left, or_right}
 use Rattle.std.proofs.lemmas.List.{get_or-set_same, get_or-set_other, length-set, length-map}
@@ -7,7 +7,7 @@ use Rattle.ir_store_lists.specs.Ring.{Ring, Sound, at, nexts, prevs, homes}
 use Rattle.ir_store_lists.specs.declared.link.Link.{Link}
 use Rattle.ir_store_lists.proofs.Around.{item_between}
 
--- links that lead past node i
+-- links that skip node i
 pub record Cut (nx pv hm nx' pv' hm' : ℕ → ℕ) (i : ℕ) : Type 0 where
   pub before : nx (pv i) ≡ i
   pub after : pv (nx i) ≡ i
@@ -48,7 +48,7 @@ has_without y i (x ∷ xs) n t = cond_both (eqb x i) (without i xs) (x ∷ witho
     (λ e. ⊎_elim (λ f. absurd (n (sym (eqb-true x y f) ∙ eqb-true x i e))) (λ f. has_without y i xs n f) (or_cases (eqb x y) (has y xs) t))
     (λ e. ⊎_elim (λ f. or_left (eqb x y) (has y (without i xs)) f) (λ f. or_right (eqb x y) (has y (without i xs)) (has_without y i xs n f)) (or_cases (eqb x y) (has y xs) t))
 
--- a map that keeps the empty list, at any place
+-- a map that keeps empty lists, at any index
 pub list_at-map : (f : List ℕ → List ℕ) (ls : List (List ℕ)) (h : ℕ) → f [] ≡ [] → list_at (map f ls) h ≡ f (list_at ls h)
 list_at-map f [] h e = sym e
 list_at-map f (l ∷ ls) zero e = refl
@@ -71,7 +71,7 @@ Sound-cut next prev home ls i ln lp item s =
     } in
     let own_free : home_at home' i ≡ free = get_or-set_same home i free free item.inside in
     let long : length home' ≡ length home = length-set home i free in
-    -- the heads are the same
+    -- the heads are unchanged
     let not_i : (h : ℕ) → IsHead home' h → h ≡ i → ⊥ = λ h k e.
     let lt : h < length home = omega (arith, k.inside) in
     let own : home_at home' h ≡ h = k.own in
@@ -95,7 +95,7 @@ Sound-cut next prev home ls i ln lp item s =
           subst (IsHead home') (sym (same_home y ny)) (is (home_at home y) (s.heads y old));
     }
 
--- the same of the links themselves
+-- the same for the links themselves
 pub links_cut : (old new : List Link) (ls : List (List ℕ)) (i : ℕ) → IsItem (homes old) i → Sound (nexts old) (prevs old) (homes old) ls
     → nexts new ≡ set (nexts old) (at (prevs old) i) (at (nexts old) i)
     → prevs new ≡ set (prevs old) (at (nexts old) i) (at (prevs old) i)

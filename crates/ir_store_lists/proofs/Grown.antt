@@ -1,4 +1,4 @@
--- How a node is added.
+-- Adding a node.
 use Rattle.std.proofs.Common.{◌≡◌, ℕ, ◌+◌, ◌<◌, List, [], ◌∷◌, ◌++◌, map, refl, sym, ap, ◌∙◌, subst, length, ⊎_elim, ◌-◌, ◌⊎◌, arith}
 use Rattle.std.proofs.lemmas.Bool.{cases_eq, cases_lt}
 use Rattle.std.proofs.lemmas.List.{get_or_past, get_or_append_left, get_or_push, length_push, length-map, map_push}
@@ -7,7 +7,7 @@ use Rattle.ir_store_lists.specs.Ring.{Ring, Sound, Linked, linked_is, at, nexts,
 use Rattle.ir_store_lists.specs.declared.link.Link.{Link}
 use Rattle.ir_store_lists.proofs.Around.{home_inside}
 
--- links that agree at a list's nodes lead through it alike
+-- links that agree at a list's nodes represent it alike
 module _ (nx pv hm nx' pv' hm' : ℕ → ℕ) (h n : ℕ) (inside : (y : ℕ) → hm y ≡ h → y < n)
     (en : (y : ℕ) → y < n → nx' y ≡ nx y) (ep : (y : ℕ) → y < n → pv' y ≡ pv y) (eh : (y : ℕ) → y < n → hm' y ≡ hm y) where
   pub Ring-agree : (a : ℕ) (xs : List ℕ) (b : ℕ) → a < n → b < n → Ring nx pv hm h a xs b → Ring nx' pv' hm' h a xs b
@@ -31,7 +31,7 @@ Sound-grow next prev home ls n k ln lp lh small kind s =
     let was : (h : ℕ) → h < n → IsHead (home ++ k ∷ []) h → IsHead home h = λ h l p. record { inside = omega arith; own = sym (at_home h l) ∙ p.own } in
     let is : (h : ℕ) → IsHead home h → IsHead (home ++ k ∷ []) h = λ h p. record { inside = omega (arith, p.inside); own = at_home h (omega (arith, p.inside)) ∙ p.own } in
     let below : (h : ℕ) → IsHead (home ++ k ∷ []) h → (h ≡ n → ⊥) → h < n = λ h p ne. omega (arith, p.inside) in
-    -- no node stands under a head that isn't there yet
+    -- no node has a head that doesn't exist yet
     let none : (i : ℕ) → i < n → home_at home i ≡ n → ⊥ = λ i l e.
     let item : IsItem home i = record { inside = omega arith; linked = λ f. omega arith; other = λ f. omega arith } in
     let p = s.heads i item in
@@ -92,7 +92,7 @@ links_grow old ls n k l small kind s new e =
 abbrev pub of_all : List (List ℕ) → List ℕ → ℕ → Lists
 of_all ls hs room = record { lists = ls; homes = hs; room = room }
 
--- what links spell after a growth
+-- the lists that links represent after a node is added
 pub grow_linked : (old new : List Link) (k : ℕ) → (k ≡ length old) ⊎ (k ≡ free) → length old + 1 < free → new ≡ old ++ record { prev = length old; next = length old; home = k } ∷ [] → Linked old → Linked new
 grow_linked old new k e small m x = (x.0 ++ [] ∷ [], links_grow old x.0 (length old) k refl small e x.1 new m)
 

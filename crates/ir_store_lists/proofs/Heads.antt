@@ -1,4 +1,4 @@
--- How a free node becomes the head of an empty list, and how the head of an empty list is freed.
+-- A free node becomes the head of an empty list; the head of an empty list is freed.
 use Rattle.std.proofs.Common.{◌≡◌, ℕ, ◌<◌, ◌≤◌, List, [], ◌∷◌, set, refl, sym, ap, ◌∙◌, subst, length, true, ⊎_elim, arith, eqb, Some, slice_get}
 use Rattle.std.proofs.lemmas.Bool.{cases_eq, cases_lt, false≢true, eq-eqb, or_left}
 use Rattle.std.proofs.lemmas.List.{get_or_past, get_or-set_same, get_or-set_other, length-set, length-map}
@@ -9,7 +9,7 @@ use Rattle.ir_store_lists.proofs.Joins.{not_free}
 use Rattle.ir_store_lists.proofs.Around.{home_inside}
 use Rattle.ir_store_lists.proofs.Grown.{of_all}
 
--- links that agree but at node i lead alike through a list of which it isn't a node
+-- links that agree except at node i represent alike a list without i
 module _ (nx pv hm nx' pv' hm' : ℕ → ℕ) (h i : ℕ) (far : (y : ℕ) → hm y ≡ h → y ≡ i → ⊥)
     (en : (y : ℕ) → (y ≡ i → ⊥) → nx' y ≡ nx y) (ep : (y : ℕ) → (y ≡ i → ⊥) → pv' y ≡ pv y) (eh : (y : ℕ) → (y ≡ i → ⊥) → hm' y ≡ hm y) where
   pub Ring-far : (a : ℕ) (xs : List ℕ) (b : ℕ) → (a ≡ i → ⊥) → (b ≡ i → ⊥) → Ring nx pv hm h a xs b → Ring nx' pv' hm' h a xs b
@@ -55,7 +55,7 @@ Sound-close next prev home ls i ln lp f s =
           let old : home_at home y ≡ h = sym (else_home y q) ∙ e in
           ⊎_elim
           (λ w.
-          -- a node under i, which was no head
+          -- no node has node i, which was no head, as its head
           let l : y < length home = (⊎_elim (λ z. z) (λ z. absurd (let g : free ≡ i = sym (get_past home y z) ∙ old ∙ w in omega arith)) (cases_lt y (length home))) in
           let item : IsItem home y = record { inside = l; linked = λ g. (let z : i ≡ free = sym w ∙ sym old ∙ g in omega arith); other = λ g. q (sym g ∙ old ∙ w) } in
           absurd (not_free home i (home_at home y) few f (s.heads y item) (old ∙ w)))
@@ -110,7 +110,7 @@ Sound-open next prev home ls k head nothing s =
           (s.heads y old));
     }
 
--- the same of the links themselves
+-- the same for the links themselves
 pub links_close : (old new : List Link) (ls : List (List ℕ)) (i : ℕ) → IsFree (homes old) i → Sound (nexts old) (prevs old) (homes old) ls
     → nexts new ≡ set (nexts old) i i
     → prevs new ≡ set (prevs old) i i
@@ -129,15 +129,15 @@ pub links_open : (old new : List Link) (ls : List (List ℕ)) (k : ℕ) → IsHe
 links_open old new ls k head nothing s en ep eh =
     rw (en, ep, eh) (Sound-open (nexts old) (prevs old) (homes old) ls k head nothing s)
 
--- what links that lead through these lists show
+-- the view of links that represent these lists
 pub view_of : (links : List Link) (room : ℕ) (y : Linked links) (ls : List (List ℕ)) (hs : List ℕ) → Sound (nexts links) (prevs links) (homes links) ls → homes links ≡ hs → of_all y.0 (homes links) room ≡ of_all ls hs room
 view_of links room y ls hs s e = λ i. of_all (linked_is links y ls s i) (e i) room
 
--- and what the same links show
+-- the view of equal links
 pub view_same : (old new : List Link) (room : ℕ) → new ≡ old → (x : Linked old) (y : Linked new) → of_all y.0 (homes new) room ≡ of_all x.0 (homes old) room
 view_same old new room e x y = view_of new room y x.0 (homes old) (subst (λ z. Sound (nexts z) (prevs z) (homes z) x.0) (sym e) x.1) (ap homes e)
 
--- the first node of a list stands in it
+-- the first node of a list is in the list
 pub first_item : (lists : List (List ℕ)) (hs : List ℕ) (h n : ℕ) → Laws lists hs → IsHead hs h → Some n ≡ slice_get (list_at lists h) 0 → IsItem hs n
 first_item lists hs h n laws head e =
     let m = laws.members h n (is_there (list_at lists h) e) in

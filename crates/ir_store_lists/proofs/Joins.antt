@@ -1,4 +1,4 @@
--- How a free node joins a list.
+-- A free node is inserted into a list.
 use Rattle.std.proofs.Common.{◌≡◌, ℕ, ◌<◌, List, [], ◌∷◌, ◌++◌, map, set, refl, sym, ap, ◌∙◌, subst, length, true, false, eqb, ⊎_elim, arith}
 use Rattle.std.proofs.lemmas.Bool.{eqb-true, eqb-false, eq-eqb, cond_both, false≢true, or_cases, or_left, or_right, cases_eq}
 use Rattle.std.proofs.lemmas.List.{get_or-set_same, get_or-set_other, length-set, length-map}
@@ -8,7 +8,7 @@ use Rattle.ir_store_lists.specs.declared.link.Link.{Link}
 use Rattle.ir_store_lists.proofs.Around.{home_inside}
 use Rattle.ir_store_lists.proofs.Cuts.{list_at-map}
 
--- links that lead over node i to node t, and to t alone before
+-- links that lead through node i to node t, and directly to t before
 pub record Join (nx pv hm nx' pv' hm' : ℕ → ℕ) (i t k : ℕ) : Type 0 where
   pub before : nx (pv t) ≡ t
   pub next_new : nx' i ≡ t
@@ -25,7 +25,7 @@ module _ (nx pv hm nx' pv' hm' : ℕ → ℕ) (i t k : ℕ) (c : Join nx pv hm n
   edge a b na nb nt e f =
       (c.next_else a (λ q. nt (sym e ∙ ap nx q ∙ c.before)) na ∙ e, c.prev_else b nt nb ∙ f)
 
-  -- the edges to t become two
+  -- the link to t becomes two links
   edges : (a b : ℕ) → b ≡ t → pv b ≡ a → ((nx' a ≡ i) × (pv' i ≡ a)) × ((nx' i ≡ b) × (pv' b ≡ i))
   edges a b e f =
       let p : a ≡ pv t = sym f ∙ ap pv e in
@@ -99,7 +99,7 @@ module _ (nx pv hm : ℕ → ℕ) (h : ℕ) where
       (λ f. prev_home t x xs b r.1.0.0 f r.1.1)
       (or_cases (eqb x t) (has t xs) e)
 
--- the writes make a join
+-- the writes are an insertion
 pub join_of : (next prev home : List ℕ) (i t k : ℕ) → length next ≡ length home → length prev ≡ length home → i < length home → t < length home → at prev t < length home
     → (at prev t ≡ i → ⊥) → (t ≡ i → ⊥) → at next (at prev t) ≡ t
     → Join (at next) (at prev) (home_at home) (at (set (set next (at prev t) i) i t)) (at (set (set prev t i) i (at prev t))) (home_at (set home i k)) i t k
@@ -119,7 +119,7 @@ join_of next prev home i t k ln lp li lt lq nq nt e =
       home_else = λ y ni. get_or-set_other home i y k free ni;
     }
 
--- the heads stay the same
+-- the heads are unchanged
 pub not_free : (home : List ℕ) (i k : ℕ) → length home < free → IsFree home i → IsHead home k → k ≡ i → ⊥
 not_free home i k few f h e =
     let a : home_at home i ≡ i = ap (home_at home) (sym e) ∙ h.own ∙ e in

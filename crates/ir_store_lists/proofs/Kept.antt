@@ -1,4 +1,4 @@
--- Labels go on rising with each edit of the lists.
+-- Each edit of the lists keeps the labels increasing.
 use Rattle.std.proofs.Common.{◌≡◌, ℕ, ◌+◌, ◌<◌, ◌≤◌, List, [], ◌∷◌, ◌++◌, map, set, refl, sym, ap, ◌∙◌, subst, length, Bool, true, false, eqb, ◌||◌, ⊎_elim, arith, Option, Some, None, MatchOption, take, drop}
 use Rattle.std.proofs.Math.ListN.{drop_of_length-le}
 use Rattle.std.specs.List.{IsDistinct, AllByRecursion, list_any}
@@ -12,7 +12,7 @@ use Rattle.ir_store_lists.specs.Labels.{label_at, RisesFrom, label_before, last_
 use Rattle.ir_store_lists.proofs.Laws.{rises_without, rises_put, rises_still, rises_end, rises_same}
 use Rattle.ir_store_lists.proofs.Spreads.{Labelled, length-spread, spread_else, spread_rises, spread_gap, last_spread, end_times}
 
--- what stands in a list is an item
+-- a node in a list is an item
 pub member_item : (c : Lists) (h y : ℕ) → Laws c.lists c.homes → has y (list_at c.lists h) ≡ true → IsItem c.homes y
 member_item c h y laws e =
     let m = laws.members h y e in
@@ -23,7 +23,7 @@ member_item c h y laws e =
     false≢true (ap (has y) (sym none) ∙ e)) in
     record { inside = home_inside c.homes y linked; linked = linked; other = λ f. m.1 (sym f ∙ m.0) }
 
--- what is free stands in none
+-- a free node is in no list
 pub free_absent : (c : Lists) (i h : ℕ) → Laws c.lists c.homes → IsFree c.homes i → has i (list_at c.lists h) ≡ false
 free_absent c i h laws f =
     ⊎_elim (λ e. let item = member_item c h i laws e in absurd (item.linked f.unlinked)) (λ e. e) (cases_Bool (has i (list_at c.lists h)))
@@ -145,7 +145,7 @@ rising_grown c d labels more k el eh em few r = record {
   few = omega (arith, few, ap length eh, length_push c.homes k);
 }
 
--- a list that is labelled anew rises, and the others as before
+-- a relabelled list is increasing, and the others still are
 pub rising_spread : (c : Lists) (labels : List ℕ) (k : ℕ) → Laws c.lists c.homes → Rising c labels → Rising c (spread step 0 (list_at c.lists k) labels)
 rising_spread c labels k laws r = record {
   rises = λ h. ⊎_elim
@@ -159,7 +159,7 @@ rising_spread c labels k laws r = record {
   few = r.few;
 }
 
--- what that gives for a node of the list, and at its end
+-- the same for a node of the list, and at its end
 pub record Widened (c : Lists) (new : List ℕ) (t : ℕ) : Type 0 where
   pub rising : Rising c new
   pub gap : label_before new 0 t (list_at c.lists (home_at c.homes t)) + step ≡ label_at new t
@@ -190,16 +190,16 @@ ended c labels new h last laws s e r = record {
   fits = omega (arith, e, all_fit c h laws r.few);
 }
 
--- what a slice of a whole vector wrote stands in the vector
+-- a write to the slice of a whole vector is a write to the vector
 pub whole_written : (n : ℕ) (new old : List ℕ) → length new ≡ length old → length old ≡ n → take n (new ++ drop (length new) old) ≡ new
 whole_written n new old e l =
     ap (λ z. take n (new ++ z)) (drop_of_length-le old (omega (arith, e))) ∙ ap (take n) (append-nil new) ∙ take_all n new (omega (arith, e, l))
 
--- the vector's capacity stays, and so does the room
+-- the capacity of the vector is unchanged
 pub room_kept : (labels new : List ℕ) (capacity old room : ℕ) → length new ≡ length labels → room ≡ old → HasRoom (length labels) capacity old → HasRoom (length new) capacity room
 room_kept labels new capacity old room e q h = record { within = omega (arith, e, q, h.within); few = omega (arith, e, q, h.few) }
 
--- the label of a node, or 0 where there is none
+-- the label of a node, or 0 if there is none
 abbrev pub label_or : List ℕ → Option ℕ → ℕ
 label_or labels None = 0
 label_or labels (Some k) = label_at labels k
@@ -220,7 +220,7 @@ before_read labels t o (k ∷ ks) e = ⊎_elim
     ∙ sym (cond-false (eqb k t) (label_or labels o) (label_before labels (label_at labels k) t ks) (ne_eqb k t z)))
     (cases_eq k t)
 
--- the node before another stands in the list
+-- the node before another is in the list
 pub before_has : (t p : ℕ) (o : Option ℕ) (ks : List ℕ) → before t o ks ≡ Some p → (o ≡ Some p → ⊥) → has p ks ≡ true
 before_has t p o [] e n = (cc)
 before_has t p o (k ∷ ks) e n = ⊎_elim

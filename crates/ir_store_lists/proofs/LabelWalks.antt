@@ -1,4 +1,4 @@
--- The loops that look for room, and that label nodes anew.
+-- The loops that look for free labels, and that relabel nodes.
 use Rattle.std.proofs.Common.{◌≡◌, ℕ, suc, ◌+◌, ◌-◌, ◌*◌, ◌/◌, ◌<◌, ◌≤◌, List, [], ◌∷◌, ◌++◌, set, take, refl, sym, ap, ◌∙◌, subst, length, true, eqb, arith, Option, Some, None, slice_get, length-append, append_assoc}
 use Rattle.std.proofs.lemmas.Bool.{cond_both, eq-eqb, ne_eqb, cond-true, cond-false, false≢true, or_left, or_right}
 use Rattle.std.proofs.lemmas.List.{length-set, length_push, take-append-le, take_all}
@@ -20,7 +20,7 @@ after_middle x (a ∷ front) back o =
     let n : a ≡ x → ⊥ = λ e. false≢true (sym o.0 ∙ subst (λ z. has z (front ++ x ∷ back) ≡ true) (sym e) (has_middle x front back)) in
     cond-false (eqb a x) (slice_get (front ++ x ∷ back) 0) (after x (front ++ x ∷ back)) (ne_eqb a x n) ∙ after_middle x front back o.1
 
--- a node of a list of head h, with what stands before it and what from it on
+-- a node of the list of head h, with the nodes before it and the nodes from it on
 pub record At (c : Lists) (h : ℕ) (node : Option ℕ) (rest : List ℕ) : Type 0 where
   pub sofar : List ℕ
   pub split : sofar ++ rest ≡ list_at c.lists h
@@ -60,7 +60,7 @@ pub at_end : (c : Lists) (h : ℕ) (rest : List ℕ) (at : Option ℕ) → at �
 at_end c h [] at e w = refl
 at_end c h (y ∷ ys) at e w = absurd (let z : Some y ≡ None = sym w.stands ∙ e in (cc))
 
--- the loop that labels anew: the nodes that are left get the labels that they get in the whole
+-- the relabelling loop: the remaining nodes get the labels that the whole call gives them
 pub record Walk (c : Lists) (h gap : ℕ) (whole : List ℕ) (low : ℕ) (initial : List ℕ) (node : Option ℕ) (left label : ℕ) (now : List ℕ) : Type 0 where
   pub rest : List ℕ
   pub at : At c h node rest
@@ -108,7 +108,7 @@ module _ (c : Lists) (h gap : ℕ) (whole : List ℕ) (low : ℕ) (initial : Lis
       let nil : take left w.rest ≡ [] = take_all left w.rest (omega (arith, ap length (at_end c h w.rest node e w.at))) ∙ at_end c h w.rest node e w.at in
       (ap (λ z. spread gap label z now) (sym nil) ∙ w.same, ap (spread_end gap label) (sym nil) ∙ w.ends)
 
--- the loop that looks for room: so many nodes were passed
+-- the loop that looks for free labels: this many nodes were passed
 pub record Ahead (c : Lists) (h : ℕ) (whole : List ℕ) (node : Option ℕ) (count : ℕ) : Type 0 where
   pub passed : List ℕ
   pub rest : List ℕ
@@ -119,7 +119,7 @@ pub record Ahead (c : Lists) (h : ℕ) (whole : List ℕ) (node : Option ℕ) (c
 pub ahead_start : (c : Lists) (t : ℕ) → Laws c.lists c.homes → IsItem c.homes t → Ahead c (home_at c.homes t) (from t (list_at c.lists (home_at c.homes t))) (Some t) 0
 ahead_start c t laws item = record { passed = []; rest = from t (list_at c.lists (home_at c.homes t)); at = at_node c t laws item; split = refl; counted = refl }
 
--- what stands from a node on has labels above the one before it
+-- the nodes from a node on have labels above the previous one
 pub from_above : (c : Lists) (labels : List ℕ) (t x : ℕ) → Laws c.lists c.homes → IsItem c.homes t → Rising c labels → has x (from t (list_at c.lists (home_at c.homes t))) ≡ true
     → label_before labels 0 t (list_at c.lists (home_at c.homes t)) < label_at labels x
 from_above c labels t x laws item r e =
@@ -129,9 +129,9 @@ from_above c labels t x laws item r e =
     let up = above labels _ x (t ∷ a.tail) parts.1 (subst (λ z. has x z ≡ true) a.rest e) in
     omega (arith, up, ap (label_before labels 0 t) (sym a.whole) ∙ before_around labels 0 t a.front a.tail a.absent)
 
-behind : (xs ys : List ℕ) → slice_get (xs ++ ys) (length xs) ≡ slice_get ys 0
-behind [] ys = refl
-behind (x ∷ xs) ys = behind xs ys
+trailing : (xs ys : List ℕ) → slice_get (xs ++ ys) (length xs) ≡ slice_get ys 0
+trailing [] ys = refl
+trailing (x ∷ xs) ys = trailing xs ys
 
 length_from : (t : ℕ) (ks : List ℕ) → length (from t ks) ≤ length ks
 length_from t [] = omega arith
@@ -173,7 +173,7 @@ module _ (c : Lists) (labels : List ℕ) (t count : ℕ) (node : Option ℕ) (la
         };
       }
 
-  -- the nodes that were passed may be labelled anew where there is room up to a bound
+  -- the passed nodes may be relabelled if there are enough labels up to a bound
   room_under : (low gap bound : ℕ) → gap * (count + 2) ≤ bound - low → 0 < gap → low ≤ bound → spread_end gap (low + gap) (take count whole) < bound
   room_under low gap bound g some l =
       let taken : take count whole ≡ w.passed = ap (take count) (sym w.split) ∙ take-append-le count w.passed w.rest (omega (arith, w.counted)) ∙ take_all count w.passed (omega (arith, w.counted)) in
@@ -191,7 +191,7 @@ module _ (c : Lists) (labels : List ℕ) (t count : ℕ) (node : Option ℕ) (la
         some = omega arith;
         fits = omega arith;
         below = λ b f. subst (λ z. spread_end gap (low + gap) (take count whole) < label_at labels z)
-            (let z : Some x ≡ Some b = sym (behind w.passed (x ∷ n.tail)) ∙ ap (slice_get (w.passed ++ x ∷ n.tail)) (sym w.counted) ∙ ap (λ v. slice_get v count) s ∙ f in (cc)) under;
+            (let z : Some x ≡ Some b = sym (trailing w.passed (x ∷ n.tail)) ∙ ap (slice_get (w.passed ++ x ∷ n.tail)) (sym w.counted) ∙ ap (λ v. slice_get v count) s ∙ f in (cc)) under;
       }
 
   pub room_last : (low gap : ℕ) → node ≡ None → low < 18446744073709551616 → gap ≤ (18446744073709551615 - low) / (count + 2) → count < gap → IsRoom labels low count gap whole
@@ -202,7 +202,7 @@ module _ (c : Lists) (labels : List ℕ) (t count : ℕ) (node : Option ℕ) (la
       record {
         some = omega arith;
         fits = omega arith;
-        below = λ b f. (let z : None ≡ Some b = sym (behind w.passed []) ∙ ap (slice_get (w.passed ++ [])) (sym w.counted) ∙ ap (λ v. slice_get v count) s ∙ f in absurd (cc));
+        below = λ b f. (let z : None ≡ Some b = sym (trailing w.passed []) ∙ ap (slice_get (w.passed ++ [])) (sym w.counted) ∙ ap (λ v. slice_get v count) s ∙ f in absurd (cc));
       }
 
 -- a whole list, from its first node on

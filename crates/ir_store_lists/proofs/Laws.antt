@@ -1,4 +1,4 @@
--- Labels that rise tell the order, and go on rising.
+-- Increasing labels give the order, and stay increasing.
 use Rattle.std.proofs.Common.{◌≡◌, ℕ, ◌<◌, ◌≤◌, List, [], ◌∷◌, ◌++◌, set, refl, sym, ap, ◌∙◌, subst, length, Bool, true, false, eqb, ◌||◌, ⊎_elim, arith}
 use Rattle.std.specs.Prelude.{nat_lt}
 use Rattle.std.proofs.lemmas.Bool.{cases_eq, eqb-true, eq-eqb, ne_eqb, cond-true, cond-false, cases_Bool, false≢true, or_cases, or_left, or_right, eqb-false, lt-ltb, le-ltb, or_parts}
@@ -12,7 +12,7 @@ module _ (labels : List ℕ) where
   weaker low high [] l r = tt
   weaker low high (k ∷ ks) l r = (omega (arith, l, r.0), r.1)
 
-  -- what is in the list is above the bound
+  -- the labels of a list are above the bound
   pub above : (low b : ℕ) (ks : List ℕ) → RisesFrom labels low ks → has b ks ≡ true → low < label_at labels b
   above low b [] r e = absurd (false≢true e)
   above low b (k ∷ ks) r e = ⊎_elim
@@ -36,13 +36,13 @@ module _ (labels : List ℕ) where
   in_rest : (k c : ℕ) (ks : List ℕ) → (k ≡ c → ⊥) → has c (k ∷ ks) ≡ true → has c ks ≡ true
   in_rest k c ks n e = ⊎_elim (λ z. absurd (n (eqb-true k c z))) (λ z. z) (or_cases (eqb k c) (has c ks) e)
 
-  -- the first of a list isn't in the rest
+  -- the first node of a list isn't in the rest
   first_once : (k b : ℕ) (ks : List ℕ) → RisesFrom labels (label_at labels k) ks → k ≡ b → has b ks ≡ false
   first_once k b ks r e = ⊎_elim
       (λ y. let l = above (label_at labels k) b ks r y in let q : label_at labels k ≡ label_at labels b = ap (label_at labels) e in absurd (omega (arith, l, q)))
       (λ y. y) (cases_Bool (has b ks))
 
-  -- two nodes stand as their labels do
+  -- two nodes have the order of their labels
   pub as_labels : (low a b : ℕ) (ks : List ℕ) → RisesFrom labels low ks → has a ks ≡ true → has b ks ≡ true → goes_before a b ks ≡ nat_lt (label_at labels a) (label_at labels b)
   as_labels low a b [] r e f = absurd (false≢true e)
   as_labels low a b (k ∷ ks) r e f = ⊎_elim
@@ -62,7 +62,7 @@ module _ (labels : List ℕ) where
       (cases_eq k b))
       (cases_eq k a)
 
-  -- labels rise when a node leaves
+  -- labels still increase after a node is removed
   pub rises_without : (low k : ℕ) (ks : List ℕ) → RisesFrom labels low ks → RisesFrom labels low (without k ks)
   rises_without low k [] r = tt
   rises_without low k (q ∷ ks) r = ⊎_elim
@@ -85,7 +85,7 @@ module _ (labels : List ℕ) (k m : ℕ) where
       let e = other q (eqb-false q k b.0) in
       (subst (λ z. low < z) (sym e) r.0, subst (λ z. RisesFrom labels' z ks) (sym e) (rises_still (label_at labels q) ks b.1 r.1))
 
-  -- labels rise when a node comes before another, with a label between those of its neighbours
+  -- labels still increase after a node is inserted before another, with a label between those of its neighbours
   pub rises_put : k < length labels → (low t : ℕ) (ks : List ℕ) → has k ks ≡ false → has t ks ≡ true → Once ks → label_before labels low t ks < m → m < label_at labels t → RisesFrom labels low ks
       → RisesFrom labels' low (put_before k t ks)
   rises_put l low t [] n i o p q r = absurd (false≢true i)
@@ -119,7 +119,7 @@ module _ (labels : List ℕ) (k m : ℕ) where
       same t [] e = refl
       same t (w ∷ ks) e = let b = or_parts (eqb w t) (has t ks) e in cond-false (eqb w t) (k ∷ w ∷ put_before k t ks) (w ∷ put_before k t ks) b.0 ∙ ap (λ v. w ∷ v) (same t ks b.1)
 
-  -- labels rise when a node comes last, with a label above the last one
+  -- labels still increase after a node is appended, with a label above the last one
   pub rises_end : k < length labels → (low : ℕ) (ks : List ℕ) → has k ks ≡ false → last_label labels low ks < m → RisesFrom labels low ks → RisesFrom labels' low (ks ++ k ∷ [])
   rises_end l low [] n p r = (subst (λ w. low < w) (sym (get_or-set_same labels k m 0 l)) p, tt)
   rises_end l low (x ∷ ks) n p r =
@@ -127,7 +127,7 @@ module _ (labels : List ℕ) (k m : ℕ) where
       let e = other x (eqb-false x k b.0) in
       (subst (λ w. low < w) (sym e) r.0, subst (λ w. RisesFrom labels' w (ks ++ k ∷ [])) (sym e) (rises_end l (label_at labels x) ks b.1 p r.1))
 
--- labels rise where those of the list's nodes are what they were
+-- labels increase if those of the list's nodes are unchanged
 pub rises_same : (labels others : List ℕ) (low : ℕ) (ks : List ℕ) → ((y : ℕ) → has y ks ≡ true → label_at others y ≡ label_at labels y) → RisesFrom labels low ks → RisesFrom others low ks
 rises_same labels others low [] e r = tt
 rises_same labels others low (k ∷ ks) e r =

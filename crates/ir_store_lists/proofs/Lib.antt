@@ -13,3 +13,6 @@ pub mod Parts
 pub mod Kept
 pub mod Parted
 pub mod LabelWalks
+pub mod Paged
+pub mod Tables
+pub mod Counting

@@ -1,4 +1,4 @@
--- No node stands twice in a list.
+-- Lists have no duplicates.
 use Rattle.std.proofs.Common.{◌≡◌, ℕ, ◌<◌, List, [], ◌∷◌, refl, sym, ap, ◌∙◌, subst, length, true, eqb, ⊎_elim, arith}
 use Rattle.std.proofs.lemmas.Bool.{eqb-true, cases_Bool, false≢true, or_cases}
 use Rattle.ir_store_lists.specs.Lists.{Lists, Laws, Once, has, list_at, home_at}
@@ -6,7 +6,7 @@ use Rattle.ir_store_lists.specs.Ring.{Ring, Ring-one, Linked, homes, cases_head}
 use Rattle.ir_store_lists.specs.declared.link.Link.{Link}
 use Rattle.ir_store_lists.proofs.Grown.{of_all}
 
--- what comes after a node of a list
+-- the nodes after a node of a list
 pub record Tail (nx pv hm : ℕ → ℕ) (h x : ℕ) (xs : List ℕ) : Type 0 where
   pub rest : List ℕ
   pub shorter : length rest < length xs
@@ -37,7 +37,7 @@ module _ (nx pv hm : ℕ → ℕ) (h : ℕ) where
       (λ f. ring_members i x xs f r.1.1)
       (or_cases (eqb x i) (has i xs) e)
 
--- all laws, from the links
+-- all invariants, from the links
 pub laws_hold : (links : List Link) (x : Linked links) (room : ℕ) (v : Lists) → of_all x.0 (homes links) room ≡ v → Laws v.lists v.homes
 laws_hold links x room v e =
     let s = x.1 in

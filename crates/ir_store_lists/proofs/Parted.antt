@@ -1,4 +1,4 @@
--- Labels go on rising when some nodes of a list are labelled anew, in the room that there is.
+-- Labels still increase after some nodes of a list are relabelled within the free labels.
 use Rattle.std.proofs.Common.{◌≡◌, ℕ, ◌+◌, ◌<◌, List, [], ◌∷◌, ◌++◌, take, drop, refl, sym, ap, ◌∙◌, subst, length, true, false, eqb, ⊎_elim, arith}
 use Rattle.std.proofs.lemmas.Bool.{cases_eq, cases_Bool, eq-eqb, or_left, false≢true}
 use Rattle.std.proofs.lemmas.List.{take-append-drop}
@@ -9,7 +9,7 @@ use Rattle.ir_store_lists.proofs.Spreads.{Labelled, length-spread, spread_else, 
 use Rattle.ir_store_lists.proofs.Parts.{Around, around, before_around, rises_parts, rises_join, last_same, has_left, has_right, once_left, once_right, once_apart, drop_first}
 use Rattle.ir_store_lists.proofs.Kept.{list_labelled}
 
--- along a list of which the first nodes get new labels
+-- along a list whose first nodes get new labels
 module _ (labels : List ℕ) (low count gap : ℕ) (rest : List ℕ) (room : IsRoom labels low count gap rest) (o : Once rest) (l : Labelled (length labels) rest) where
   abbrev seg : List ℕ
   seg = take count rest
@@ -29,7 +29,7 @@ module _ (labels : List ℕ) (low count gap : ℕ) (rest : List ℕ) (room : IsR
   seg_labelled : Labelled (length labels) seg
   seg_labelled = λ y e. l y (subst (λ z. has y z ≡ true) joined (has_left y seg back e))
 
-  -- a node of the list that isn't labelled anew keeps its label
+  -- a node of the list that isn't relabelled keeps its label
   back_same : (y : ℕ) → has y back ≡ true → label_at new y ≡ label_at labels y
   back_same y e = spread_else gap (low + gap) seg labels y (⊎_elim (λ w. absurd (false≢true (sym (once_apart y seg back once_both w) ∙ e))) (λ w. w) (cases_Bool (has y seg)))
 
@@ -52,11 +52,11 @@ module _ (labels : List ℕ) (low count gap : ℕ) (rest : List ℕ) (room : IsR
       (spread_rises gap (low + gap) seg labels room.some (once_left seg back once_both) seg_labelled)
       (rises_back back refl (last_label labels low seg) p.1))
 
-  -- what isn't in the list keeps its label
+  -- a node of another list keeps its label
   pub part_else : (y : ℕ) → has y rest ≡ false → label_at new y ≡ label_at labels y
   part_else y e = spread_else gap (low + gap) seg labels y (⊎_elim (λ w. absurd (false≢true (sym e ∙ subst (λ z. has y z ≡ true) joined (has_left y seg back w)))) (λ w. w) (cases_Bool (has y seg)))
 
--- what that gives for the first of the nodes
+-- the same for the first of the nodes
 pub record Parted (c : Lists) (new : List ℕ) (t label : ℕ) : Type 0 where
   pub rising : Rising c new
   pub low : label_before new 0 t (list_at c.lists (home_at c.homes t)) < label

@@ -1,4 +1,4 @@
--- A list cut before a node, and labels along its parts.
+-- A list split before a node, and labels along its parts.
 use Rattle.std.proofs.Common.{◌≡◌, ℕ, zero, suc, List, [], ◌∷◌, ◌++◌, drop, refl, sym, ap, ◌∙◌, subst, Bool, true, false, eqb, ◌||◌, ⊎_elim, Some, slice_get}
 use Rattle.std.proofs.lemmas.Bool.{cases_eq, cases_Bool, eqb-true, eq-eqb, ne_eqb, cond-true, cond-false, false≢true, or_cases, or_left, or_right, or_parts}
 use Rattle.ir_store_lists.specs.Lists.{has, Once}
@@ -34,7 +34,7 @@ module _ (labels : List ℕ) where
       let b = or_parts (eqb k t) (has t front) e in
       cond-false (eqb k t) low (label_before labels (label_at labels k) t (front ++ t ∷ tail)) b.0 ∙ before_around (label_at labels k) t front tail b.1
 
-  -- labels rise along both parts of a list
+  -- labels increase along both parts of a list
   pub rises_parts : (low : ℕ) (xs ys : List ℕ) → RisesFrom labels low (xs ++ ys) → RisesFrom labels low xs × RisesFrom labels (last_label labels low xs) ys
   rises_parts low [] ys r = (tt, r)
   rises_parts low (x ∷ xs) ys r = let p = rises_parts (label_at labels x) xs ys r.1 in ((r.0, p.0), p.1)
@@ -43,14 +43,14 @@ module _ (labels : List ℕ) where
   rises_join low [] ys r s = s
   rises_join low (x ∷ xs) ys r s = (r.0, rises_join (label_at labels x) xs ys r.1 s)
 
--- the last label is what it was where the labels of the nodes are
+-- the last label is unchanged if the labels of the nodes are
 pub last_same : (labels others : List ℕ) (low : ℕ) (ks : List ℕ) → ((y : ℕ) → has y ks ≡ true → label_at others y ≡ label_at labels y) → last_label others low ks ≡ last_label labels low ks
 last_same labels others low [] e = refl
 last_same labels others low (k ∷ ks) e =
     ap (λ w. last_label others w ks) (e k (or_left (eqb k k) (has k ks) (eq-eqb k k refl)))
     ∙ last_same labels others (label_at labels k) ks (λ y t. e y (or_right (eqb k y) (has y ks) t))
 
--- no node stands in two parts
+-- no node is in two parts
 pub has_left : (y : ℕ) (xs ys : List ℕ) → has y xs ≡ true → has y (xs ++ ys) ≡ true
 has_left y [] ys e = absurd (false≢true e)
 has_left y (x ∷ xs) ys e = ⊎_elim (λ z. or_left (eqb x y) (has y (xs ++ ys)) z) (λ z. or_right (eqb x y) (has y (xs ++ ys)) (has_left y xs ys z)) (or_cases (eqb x y) (has y xs) e)
@@ -74,7 +74,7 @@ once_apart y (x ∷ xs) ys o e = ⊎_elim
     (λ z. once_apart y xs ys o.1 z)
     (or_cases (eqb x y) (has y xs) e)
 
--- what comes first behind the first n
+-- the first node after the first n
 pub drop_first : (n b : ℕ) (ks bs : List ℕ) → drop n ks ≡ b ∷ bs → slice_get ks n ≡ Some b
 drop_first zero b [] bs e = (cc)
 drop_first zero b (k ∷ ks) bs e = (cc)

@@ -1,4 +1,4 @@
--- What reading a link tells.
+-- The meaning of reading a link.
 use Rattle.std.proofs.Common.{◌≡◌, ℕ, ◌<◌, List, [], ◌∷◌, get_or, refl, sym, ap, ◌∙◌, length, true, eqb, cond, ⊎_elim, Option, Some, None, slice_get}
 use Rattle.std.proofs.lemmas.Bool.{eqb-true, eq-eqb, ne_eqb, cond-true, cond-false, cond_both, false≢true, or_cases}
 use Rattle.std.proofs.lemmas.List.{get_or-map}

@@ -1,4 +1,4 @@
--- What labelling a list anew does.
+-- The labels after a list is relabelled.
 use Rattle.std.proofs.Common.{◌≡◌, ℕ, ◌+◌, ◌*◌, ◌<◌, ◌≤◌, List, [], ◌∷◌, set, refl, sym, ap, ◌∙◌, subst, length, Bool, true, false, eqb, ◌||◌, ⊎_elim, arith}
 use Rattle.std.proofs.lemmas.Bool.{cases_eq, eqb-true, eq-eqb, ne_eqb, cond-true, cond-false, false≢true, or_cases, or_left, or_right, or_parts}
 use Rattle.std.proofs.Math.Nat.{mul-suc}
@@ -10,7 +10,7 @@ pub length-spread : (gap low : ℕ) (ks labels : List ℕ) → length (spread ga
 length-spread gap low [] labels = refl
 length-spread gap low (k ∷ ks) labels = length-spread gap (low + gap) ks (set labels k (low + gap)) ∙ length-set labels k (low + gap)
 
--- the labels of other nodes stay
+-- the labels of other nodes are unchanged
 pub spread_else : (gap low : ℕ) (ks labels : List ℕ) (y : ℕ) → has y ks ≡ false → label_at (spread gap low ks labels) y ≡ label_at labels y
 spread_else gap low [] labels y e = refl
 spread_else gap low (k ∷ ks) labels y e =
@@ -44,7 +44,7 @@ spread_rises gap low (k ∷ ks) labels some o l =
           (spread_rises gap (low + gap) ks (set labels k (low + gap)) some o.1 (spread_rest gap low k ks labels o l)),
     )
 
--- each label is a gap above the one before
+-- each label is a gap above the previous one
 pub spread_gap : (gap low t : ℕ) (ks labels : List ℕ) → has t ks ≡ true → Once ks → Labelled (length labels) ks
     → label_before (spread gap low ks labels) low t ks + gap ≡ label_at (spread gap low ks labels) t
 spread_gap gap low t [] labels i o l = absurd (false≢true i)
@@ -58,7 +58,7 @@ spread_gap gap low t (k ∷ ks) labels i o l =
     ∙ spread_gap gap (low + gap) t ks (set labels k (low + gap)) (⊎_elim (λ w. absurd (z (eqb-true k t w))) (λ w. w) (or_cases (eqb k t) (has t ks) i)) o.1 (spread_rest gap low k ks labels o l))
     (cases_eq k t)
 
--- where the new labels end
+-- the last new label
 pub end_times : (gap low : ℕ) (ks : List ℕ) → spread_end gap low ks ≡ low + gap * length ks
 end_times gap low [] = omega arith
 end_times gap low (k ∷ ks) = end_times gap (low + gap) ks ∙ omega (arith, mul-suc gap (length ks))
@@ -73,7 +73,7 @@ last_spread gap low (k ∷ ks) labels o l =
     let new = spread gap (low + gap) ks (set labels k (low + gap)) in
     ap (λ w. last_label new w ks) (spread_first gap low k ks labels o l) ∙ last_spread gap (low + gap) ks (set labels k (low + gap)) o.1 (spread_rest gap low k ks labels o l)
 
--- and from whatever is below
+-- the same from any lower bound
 pub last_most : (gap low under : ℕ) (ks labels : List ℕ) → under ≤ low → Once ks → Labelled (length labels) ks → last_label (spread gap low ks labels) under ks ≤ spread_end gap low ks
 last_most gap low under [] labels u o l = u
 last_most gap low under (k ∷ ks) labels u o l = omega (arith, last_spread gap low (k ∷ ks) labels o l)

@@ -8,19 +8,19 @@ use Rattle.ir_store_lists.proofs.Around.{home_inside}
 use Rattle.ir_store_lists.proofs.Readings.{read_next}
 use Rattle.ir_store_lists.proofs.Grown.{of_all}
 
--- the nodes that are left lead from here to the head, and make up the whole with those so far
+-- the remaining nodes lead from here to the head; they are the rest of the list after the visited nodes
 pub record Walk (links : List Link) (h node : ℕ) (sofar whole : List ℕ) : Type 0 where
-  pub behind : ℕ
+  pub trailing : ℕ
   pub rest : List ℕ
-  pub leads : at (nexts links) behind ≡ node
-  pub ring : Ring (at (nexts links)) (at (prevs links)) (home_at (homes links)) h behind rest h
+  pub leads : at (nexts links) trailing ≡ node
+  pub ring : Ring (at (nexts links)) (at (prevs links)) (home_at (homes links)) h trailing rest h
   pub split : sofar ++ rest ≡ whole
 
 pub walk_start : (links : List Link) (x : Linked links) (h : ℕ) (l : Link) (sofar : List ℕ) (room : ℕ) (v : Lists) → IsHead v.homes h → of_all x.0 (homes links) room ≡ v → l ≡ get_or links h l → Walk links h l.next sofar (sofar ++ list_at v.lists h)
 walk_start links x h l sofar room v head e el =
     let own : IsHead (homes links) h = subst (λ z. IsHead z h) (sym (ap {A = Lists} (λ z. z.homes) e)) head in
     record {
-      behind = h;
+      trailing = h;
       rest = list_at x.0 h;
       leads = read_next links h l (omega (arith, own.inside, length-map links (λ z. z.home))) el;
       ring = x.1.rings h own;
@@ -35,7 +35,7 @@ pub record Stepped (links : List Link) (h node : ℕ) (l : Link) (sofar whole : 
 pub walk_step : (links : List Link) (h node : ℕ) (l : Link) (sofar whole : List ℕ) → (h ≡ free → ⊥) → (node ≡ h → ⊥) → Walk links h node sofar whole → Stepped links h node l sofar whole
 walk_step links h node l sofar whole linked ne w = go w.rest w.ring w.split
   where
-    go : (rest : List ℕ) → Ring (at (nexts links)) (at (prevs links)) (home_at (homes links)) h w.behind rest h → sofar ++ rest ≡ whole → Stepped links h node l sofar whole
+    go : (rest : List ℕ) → Ring (at (nexts links)) (at (prevs links)) (home_at (homes links)) h w.trailing rest h → sofar ++ rest ≡ whole → Stepped links h node l sofar whole
     go [] r s = absurd (ne (sym w.leads ∙ r.0))
     go (x ∷ xs) r s =
         let here : x ≡ node = sym r.0.0 ∙ w.leads in
@@ -44,7 +44,7 @@ walk_step links h node l sofar whole linked ne w = go w.rest w.ring w.split
           inside = in';
           shorter = omega (arith, length-append sofar (x ∷ xs), ap length s);
           next = λ e. record {
-            behind = node;
+            trailing = node;
             rest = xs;
             leads = read_next links node l in' e;
             ring = subst (λ z. Ring (at (nexts links)) (at (prevs links)) (home_at (homes links)) h z xs h) here r.1.1;
@@ -55,7 +55,7 @@ walk_step links h node l sofar whole linked ne w = go w.rest w.ring w.split
 pub walk_end : (links : List Link) (h node : ℕ) (sofar whole : List ℕ) → node ≡ h → Walk links h node sofar whole → sofar ≡ whole
 walk_end links h node sofar whole e w = go w.rest w.ring w.split
   where
-    go : (rest : List ℕ) → Ring (at (nexts links)) (at (prevs links)) (home_at (homes links)) h w.behind rest h → sofar ++ rest ≡ whole → sofar ≡ whole
+    go : (rest : List ℕ) → Ring (at (nexts links)) (at (prevs links)) (home_at (homes links)) h w.trailing rest h → sofar ++ rest ≡ whole → sofar ≡ whole
     go [] r s = sym (append-nil sofar) ∙ s
     go (x ∷ xs) r s = absurd (r.1.0.1 (sym r.0.0 ∙ w.leads ∙ e))
 

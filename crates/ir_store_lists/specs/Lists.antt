@@ -1,13 +1,13 @@
--- Many lists of nodes, and what edits make of them.
+-- Linked lists of nodes, and the effects of edits.
 use Rattle.std.specs.Prelude.{ℕ, List, [], ◌∷◌, ◌++◌, ◌≡◌, ◌<◌, ◌-◌, length, map, slice_set, eqb, cond, Bool, true, false, ◌||◌, get_or, refl, Option, None, Some, slice_get}
 use Rattle.std.specs.Coded.{Coded, code_by, coded×, coded_ℕ, coded_list}
 
--- a node in no list has this home
+-- the home of a node in no list
 abbrev pub free : ℕ
 free = 4294967295
 
--- the list of each node that is a head (an empty one for the others), the head of each node's list,
--- and for how many further nodes there is room
+-- the list of each node that is a head (an empty list for other nodes), the head of each node's list, and the reserved
+-- capacity in nodes
 pub record Lists : Type 0 where
   pub lists : List (List ℕ)
   pub homes : List ℕ
@@ -43,7 +43,7 @@ pub record IsFree (homes : List ℕ) (i : ℕ) : Type 0 where
   pub inside : i < length homes
   pub unlinked : home_at homes i ≡ free
 
--- whether node i is one of a list
+-- whether node i is in a list
 abbrev pub has : ℕ → List ℕ → Bool
 has i [] = false
 has i (x ∷ xs) = eqb x i || has i xs
@@ -53,17 +53,17 @@ abbrev pub without : ℕ → List ℕ → List ℕ
 without i [] = []
 without i (x ∷ xs) = cond (eqb x i) (without i xs) (x ∷ without i xs)
 
--- a list with node i before node `at`
+-- a list with node i inserted before node `at`
 abbrev pub put_before : ℕ → ℕ → List ℕ → List ℕ
 put_before i at [] = []
 put_before i at (x ∷ xs) = cond (eqb x at) (i ∷ x ∷ put_before i at xs) (x ∷ put_before i at xs)
 
--- each node is none of those after it
+-- a list without duplicates
 abbrev pub Once : List ℕ → Type 0
 Once [] = Unit {0}
 Once (x ∷ xs) = (has x xs ≡ false) × Once xs
 
--- what is true of all lists together
+-- the invariants of all lists
 pub record Laws (lists : List (List ℕ)) (homes : List ℕ) : Type 0 where
   pub few : length homes < free
   pub counted : length lists ≡ length homes
@@ -77,12 +77,12 @@ abbrev pub after : ℕ → List ℕ → Option ℕ
 after i [] = None
 after i (x ∷ xs) = cond (eqb x i) (slice_get xs 0) (after i xs)
 
--- the node before i, where `last` is the one before the list
+-- the node before i; `last` is the node before the list
 abbrev pub before : ℕ → Option ℕ → List ℕ → Option ℕ
 before i last [] = None
 before i last (x ∷ xs) = cond (eqb x i) last (before i (Some x) xs)
 
--- the last node, where `last` is the one before the list
+-- the last node; `last` is the node before the list
 abbrev pub last_of : Option ℕ → List ℕ → Option ℕ
 last_of last [] = last
 last_of last (x ∷ xs) = last_of (Some x) xs
@@ -91,6 +91,6 @@ last_of last (x ∷ xs) = last_of (Some x) xs
 abbrev pub let_go : ℕ → Lists → Lists
 let_go i c = record c { lists = map (without i) c.lists; homes = slice_set c.homes i free }
 
--- a new node comes behind the others, under a head, in the room that there is or in new room
+-- a new node with head h, in the reserved capacity or in new capacity
 abbrev pub with_node : ℕ → Lists → Lists
 with_node h c = record { lists = c.lists ++ [] ∷ []; homes = c.homes ++ h ∷ []; room = c.room - 1 }

@@ -1,4 +1,4 @@
--- What it means that links lead through lists.
+-- The lists that the links of nodes represent.
 use Rattle.std.specs.Prelude.{ℕ, List, [], ◌∷◌, ◌≡◌, ◌+◌, ◌<◌, ◌≤◌, length, true, get_or, map, ◌⊎◌}
 use Rattle.std.proofs.Common.{arith, ◌∙◌, sym, refl, subst, ⊎_elim, inl, inr}
 use Rattle.std.specs.Coded.{Coded-set, coded_ℕ, coded_list, coded_bool, ×_prop, Π_prop, le_prop}
@@ -20,12 +20,12 @@ homes = map (λ l. l.home)
 abbrev pub at : List ℕ → ℕ → ℕ
 at xs i = get_or xs i 0
 
--- the links lead from a over xs to b and back, and these are nodes of the list of h
+-- the links lead from a through xs to b and back, and xs are nodes of the list of h
 abbrev pub Ring : (ℕ → ℕ) → (ℕ → ℕ) → (ℕ → ℕ) → ℕ → ℕ → List ℕ → ℕ → Type 0
 Ring nx pv hm h a [] b = (nx a ≡ b) × (pv b ≡ a)
 Ring nx pv hm h a (x ∷ xs) b = ((nx a ≡ x) × (pv x ≡ a)) × (((hm x ≡ h) × (x ≡ h → ⊥)) × Ring nx pv hm h x xs b)
 
--- the links lead through these lists, one for each head
+-- the links represent these lists, one for each head
 pub record Sound (next prev home : List ℕ) (ls : List (List ℕ)) : Type 0 where
   pub few : length home < free
   pub counted : length ls ≡ length home
@@ -52,7 +52,7 @@ Sound-prop next prev home ls x y = λ i. record {
   heads = λ k p. record { inside = le_prop (x.heads k p).inside (y.heads k p).inside i; own = ℕ_set _ _ (x.heads k p).own (y.heads k p).own i };
 }
 
--- two lists that the same links lead through are the same
+-- two lists that the same links represent are equal
 pub Ring-one : (nx pv hm : ℕ → ℕ) (h a : ℕ) (xs ys : List ℕ) → Ring nx pv hm h a xs h → Ring nx pv hm h a ys h → xs ≡ ys
 Ring-one nx pv hm h a [] [] r s = refl
 Ring-one nx pv hm h a [] (y ∷ ys) r s = absurd (s.1.0.1 (sym s.0.0 ∙ r.0))
@@ -75,7 +75,7 @@ Sound-one next prev home ls ms x y =
     (λ n. x.others h n ∙ sym (y.others h n))
     (cases_head home h))
 
--- the lists that links lead through: there are no others, so this is a fact
+-- the lists that links represent: they are unique, so this type is a proposition
 abbrev pub Linked : List Link → Type 0
 Linked links = (ls : List (List ℕ)) × Sound (nexts links) (prevs links) (homes links) ls
 
@@ -83,11 +83,11 @@ pub Linked-prop : (links : List Link) → IsProp (Linked links)
 Linked-prop links x y =
     Σ_prop_path (Sound-prop (nexts links) (prevs links) (homes links)) {u = x} {v = y} (Sound-one (nexts links) (prevs links) (homes links) x.0 y.0 x.1 y.1)
 
--- there is room for so many further links, and no node's number is that of no list
+-- there is capacity for this many more links, and no node has the number `free`
 pub record HasRoom (count capacity room : ℕ) : Type 0 where
   pub within : count + room ≤ capacity
   pub few : count + room < free
 
--- the lists of links are those that the links lead through
+-- the lists of links are those that the links represent
 pub linked_is : (links : List Link) (x : Linked links) (ls : List (List ℕ)) → Sound (nexts links) (prevs links) (homes links) ls → x.0 ≡ ls
 linked_is links x ls s = Sound-one (nexts links) (prevs links) (homes links) x.0 ls x.1 s

@@ -1,4 +1,4 @@
-//! Lists of nodes.
+//! Linked lists of nodes.
 ghost use Rattle.std.specs.Prelude.{◌≡◌, ◌+◌, ◌<◌, List, [], ◌∷◌, ◌++◌, map, length, max, slice_set, IfOk, OnErr, OnOk, MatchOption, slice_get, None};
 ghost use Rattle.ir_store_lists.specs.Lists.{Lists, IsHead, IsItem, IsFree, free, list_at, home_at, without, put_before, after, before, last_of, let_go, with_node, Laws};
 ghost use Rattle.ir_store_lists.specs.Ring.{Linked, Linked-prop};
@@ -8,15 +8,15 @@ use crate::write::{FREE, close, grow, link_in, open, unlink};
 use std::alloc::{AllocError, Global};
 use std::marker::Model;
 
-/// Lists of nodes. A node is the head of a list, stands in one list, or is free.
+/// Linked lists of nodes. A node is the head of a list, an item of one list, or free.
 #[derive(Drop)]
-pub struct Chains {
+pub struct LinkedLists {
     links: Vec<Link>,
     room: usize,
     ghost linked: { Linked links.items } by { Linked-prop links.items },
 }
 
-impl Model for Chains {
+impl Model for LinkedLists {
     ghost use Rattle.std.specs.Prelude.{length};
     ghost use Rattle.std.specs.Vec.{vec_capacity};
     ghost use Rattle.ir_store_lists.specs.Lists.{Lists, lists_code};
@@ -31,28 +31,29 @@ impl Model for Chains {
     ghost invariant = { λ c. HasRoom (length c.links.items) (vec_capacity c.links) c.room };
 }
 
-impl Chains {
-    /// No nodes.
-    pub fn new(alloc: Global) -> Chains
+impl LinkedLists {
+    /// Returns lists without nodes.
+    pub fn new(alloc: Global) -> LinkedLists
         ensures { result ≡ record { lists = []; homes = []; room = 0 } }
     {
-        Chains {
+        LinkedLists {
             links: Vec::new(alloc),
             room: 0,
         }
     }
 
-    /// No nodes. The first `count` ones come without moving the others, but not without a refusal.
-    pub fn with_capacity(alloc: Global, count: usize) -> Result<Chains, AllocError>
+    /// Returns lists without nodes, with capacity for `count` nodes without reallocation. Adding them may still be
+    /// refused.
+    pub fn with_capacity(alloc: Global, count: usize) -> Result<LinkedLists, AllocError>
         ensures { IfOk result (λ c. c ≡ record { lists = []; homes = []; room = 0 }) }
     {
-        Ok(Chains {
+        Ok(LinkedLists {
             links: Vec::with_capacity(alloc, count)?,
             room: 0,
         })
     }
 
-    /// Takes a node out of its list. It is free then.
+    /// Removes a node from its list. The node is then free.
     pub fn remove(&mut self, node: usize)
         requires { IsItem self.old.homes node }
         ensures lists { self.new.lists ≡ map (without node) self.old.lists }
@@ -63,8 +64,8 @@ impl Chains {
     }
 }
 
-impl Chains {
-    /// Puts a free node before `at` in its list.
+impl LinkedLists {
+    /// Inserts a free node before `at`.
     pub fn insert_before(&mut self, node: usize, at: usize)
         requires free { IsFree self.old.homes node }
         requires at { IsItem self.old.homes at }
@@ -76,7 +77,7 @@ impl Chains {
         link_in(&mut self.links, node, at, home);
     }
 
-    /// Puts a free node at the end of a head's list.
+    /// Appends a free node to the list of a head.
     pub fn push_back(&mut self, node: usize, head: usize)
         requires free { IsFree self.old.homes node }
         requires head { IsHead self.old.homes head }
@@ -87,8 +88,8 @@ impl Chains {
         link_in(&mut self.links, node, head, head as u32);
     }
 
-    /// The head of a node's list, or the node itself where it is a head.
-    pub fn home(&self, node: usize) -> Option<usize>
+    /// Returns the head of a node's list, or the node itself if it is a head, or `None` if it is free.
+    pub fn head_of(&self, node: usize) -> Option<usize>
         requires { node < length self.now.homes }
         ensures { MatchOption result (home_at self.now.homes node ≡ free) (λ h. (h ≡ home_at self.now.homes node) × (h ≡ free → ⊥)) }
     {
@@ -100,7 +101,7 @@ impl Chains {
         }
     }
 
-    /// The first node of a head's list.
+    /// Returns the first node of a head's list, or `None` if the list is empty.
     pub fn first(&self, head: usize) -> Option<usize>
         requires { IsHead self.now.homes head }
         ensures { result ≡ slice_get (list_at self.now.lists head) 0 }
@@ -109,7 +110,7 @@ impl Chains {
         if node == head { None } else { Some(node) }
     }
 
-    /// The last node of a head's list.
+    /// Returns the last node of a head's list, or `None` if the list is empty.
     pub fn last(&self, head: usize) -> Option<usize>
         requires { IsHead self.now.homes head }
         ensures { result ≡ last_of None (list_at self.now.lists head) }
@@ -118,7 +119,7 @@ impl Chains {
         if node == head { None } else { Some(node) }
     }
 
-    /// The node after one that stands in a list.
+    /// Returns the node after an item, or `None` if the item is the last one.
     pub fn next(&self, node: usize) -> Option<usize>
         requires { IsItem self.now.homes node }
         ensures { result ≡ after node (list_at self.now.lists (home_at self.now.homes node)) }
@@ -131,7 +132,7 @@ impl Chains {
         }
     }
 
-    /// The node before one that stands in a list.
+    /// Returns the node before an item, or `None` if the item is the first one.
     pub fn prev(&self, node: usize) -> Option<usize>
         requires { IsItem self.now.homes node }
         ensures { result ≡ before node None (list_at self.now.lists (home_at self.now.homes node)) }
@@ -145,7 +146,7 @@ impl Chains {
     }
 }
 
-impl Chains {
+impl LinkedLists {
     /// Makes a free node the head of an empty list.
     pub fn make_head(&mut self, node: usize)
         requires { IsFree self.old.homes node }
@@ -163,8 +164,8 @@ impl Chains {
         open(&mut self.links, head);
     }
 
-    /// Takes the first node of a head's list out. It is free then: so a list of nodes that nobody needs is a
-    /// store of nodes to use again.
+    /// Removes the first node of a head's list and returns it, or `None` if the list is empty. The node is then free,
+    /// so a list of unused nodes serves as a free list.
     pub fn pop_front(&mut self, head: usize) -> Option<usize>
         requires { IsHead self.old.homes head }
         ensures first { result ≡ slice_get (list_at self.old.lists head) 0 }
@@ -179,8 +180,8 @@ impl Chains {
     }
 }
 
-impl Chains {
-    /// Makes room for `count` further nodes, which then come without a refusal.
+impl LinkedLists {
+    /// Reserves capacity for `count` more nodes. Adding them can't be refused afterwards.
     pub fn reserve(&mut self, count: usize) -> Result<(), AllocError>
         ensures made { OnOk result (self.new ≡ record self.old { room = max self.old.room count }) }
         ensures refused { OnErr result ((self.new ≡ self.old) × (self.old.room < count)) }
@@ -200,7 +201,7 @@ impl Chains {
         }
     }
 
-    /// A new node, which is free, in the room that was made.
+    /// Adds a free node, in the reserved capacity, and returns it.
     pub fn new_node(&mut self) -> usize
         requires { 0 < self.old.room }
         ensures node { result ≡ length self.old.homes }
@@ -212,7 +213,7 @@ impl Chains {
         node
     }
 
-    /// A new node, which is the head of an empty list, in the room that was made.
+    /// Adds the head of an empty list, in the reserved capacity, and returns it.
     pub fn new_head(&mut self) -> usize
         requires { 0 < self.old.room }
         ensures node { result ≡ length self.old.homes }
@@ -224,7 +225,7 @@ impl Chains {
         node
     }
 
-    /// A new node, which is free.
+    /// Adds a free node and returns it.
     pub fn add_node(&mut self) -> Result<usize, AllocError>
         ensures added { IfOk result (λ n. (n ≡ length self.old.homes) × (self.new ≡ with_node free self.old)) }
         ensures refused { OnErr result ((self.new ≡ self.old) × (self.old.room ≡ 0)) }
@@ -235,7 +236,7 @@ impl Chains {
         }
     }
 
-    /// A new node, which is the head of an empty list.
+    /// Adds the head of an empty list and returns it.
     pub fn add_head(&mut self) -> Result<usize, AllocError>
         ensures added { IfOk result (λ n. (n ≡ length self.old.homes) × (self.new ≡ with_node n self.old)) }
         ensures refused { OnErr result ((self.new ≡ self.old) × (self.old.room ≡ 0)) }
@@ -247,8 +248,8 @@ impl Chains {
     }
 }
 
-impl Chains {
-    /// Adds the nodes of a head's list to `out`.
+impl LinkedLists {
+    /// Appends the nodes of a head's list to `out`.
     pub fn nodes(&self, head: usize, out: &mut Vec<usize>) -> Result<(), AllocError>
         requires { IsHead self.now.homes head }
         ensures { OnOk result (out.new.items ≡ out.old.items ++ list_at self.now.lists head) }
@@ -262,14 +263,14 @@ impl Chains {
         Ok(())
     }
 
-    /// How many nodes there are.
+    /// Returns the number of nodes.
     pub fn len(&self) -> usize
         ensures { result ≡ length self.now.homes }
     {
         self.links.len()
     }
 
-    /// Each node stands in the list of its head, and once.
+    /// Lemma: each item is in the list of its head, exactly once.
     pub fn laws(&self)
         ensures { Laws self.now.lists self.now.homes }
     {

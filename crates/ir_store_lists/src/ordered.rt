@@ -1,24 +1,24 @@
-//! Lists of nodes, of which two of one list can be told which stands first.
+//! Linked lists of nodes that give the order of two nodes of one list.
 ghost use Rattle.std.specs.Prelude.{◌≡◌, ◌+◌, ◌<◌, [], ◌∷◌, ◌++◌, map, length, max, slice_set, IfOk, OnErr, OnOk, MatchOption, slice_get, None};
 ghost use Rattle.ir_store_lists.specs.Lists.{IsHead, IsItem, IsFree, free, list_at, home_at, without, put_before, after, before, last_of, let_go, with_node, Laws};
 ghost use Rattle.ir_store_lists.specs.Labels.{goes_before};
 
-use crate::chains::Chains;
-use crate::label::{end_label, label_for, more};
+use crate::chains::LinkedLists;
+use crate::order_labels::{end_label, label_for, push_label};
 use std::alloc::{AllocError, Global};
 use std::marker::Model;
 
-/// How many nodes there are at most: so many that a label for each, a step apart, still fits 64 bits.
+/// The limit of nodes: labels for all of them, `STEP` apart, fit 64 bits.
 const MOST: usize = 0xffff_fffe;
 
-/// Lists of nodes with a label for each node, which rise along each list.
+/// Linked lists of nodes with a label for each node. The labels increase along each list.
 #[derive(Drop)]
-pub struct Ordered {
-    chains: Chains,
+pub struct OrderedLists {
+    chains: LinkedLists,
     labels: Vec<u64>,
 }
 
-impl Model for Ordered {
+impl Model for OrderedLists {
     ghost use Rattle.std.specs.Prelude.{length};
     ghost use Rattle.std.specs.Vec.{vec_capacity};
     ghost use Rattle.ir_store_lists.specs.Lists.{Lists, lists_code};
@@ -33,28 +33,28 @@ impl Model for Ordered {
     ghost invariant = { λ c. Rising c.chains c.labels.items × HasRoom (length c.labels.items) (vec_capacity c.labels) c.chains.room };
 }
 
-impl Ordered {
-    /// No nodes.
-    pub fn new(alloc: Global) -> Ordered
+impl OrderedLists {
+    /// Returns lists without nodes.
+    pub fn new(alloc: Global) -> OrderedLists
         ensures { result ≡ record { lists = []; homes = []; room = 0 } }
     {
-        Ordered {
-            chains: Chains::new(alloc),
+        OrderedLists {
+            chains: LinkedLists::new(alloc),
             labels: Vec::new(alloc),
         }
     }
 
-    /// No nodes, as `Chains::with_capacity` makes none.
-    pub fn with_capacity(alloc: Global, count: usize) -> Result<Ordered, AllocError>
+    /// Returns lists without nodes, with capacity for `count` nodes, as `LinkedLists::with_capacity` does.
+    pub fn with_capacity(alloc: Global, count: usize) -> Result<OrderedLists, AllocError>
         ensures { IfOk result (λ c. c ≡ record { lists = []; homes = []; room = 0 }) }
     {
-        Ok(Ordered {
-            chains: Chains::with_capacity(alloc, count)?,
+        Ok(OrderedLists {
+            chains: LinkedLists::with_capacity(alloc, count)?,
             labels: Vec::with_capacity(alloc, count)?,
         })
     }
 
-    /// Whether `a` stands before `b` in their list.
+    /// Returns whether `a` is before `b` in their list.
     pub fn is_before(&self, a: usize, b: usize) -> bool
         requires a { IsItem self.now.homes a }
         requires b { IsItem self.now.homes b }
@@ -65,7 +65,7 @@ impl Ordered {
         self.labels[a] < self.labels[b]
     }
 
-    /// Takes a node out of its list. It is free then.
+    /// Removes a node from its list. The node is then free.
     pub fn remove(&mut self, node: usize)
         requires { IsItem self.old.homes node }
         ensures lists { self.new.lists ≡ map (without node) self.old.lists }
@@ -75,7 +75,7 @@ impl Ordered {
         self.chains.remove(node);
     }
 
-    /// Puts a free node before `at` in its list.
+    /// Inserts a free node before `at`.
     pub fn insert_before(&mut self, node: usize, at: usize)
         requires free { IsFree self.old.homes node }
         requires at { IsItem self.old.homes at }
@@ -89,7 +89,7 @@ impl Ordered {
         self.chains.insert_before(node, at);
     }
 
-    /// Puts a free node at the end of a head's list.
+    /// Appends a free node to the list of a head.
     pub fn push_back(&mut self, node: usize, head: usize)
         requires free { IsFree self.old.homes node }
         requires head { IsHead self.old.homes head }
@@ -104,16 +104,16 @@ impl Ordered {
     }
 }
 
-impl Ordered {
-    /// The head of a node's list, or the node itself where it is a head.
+impl OrderedLists {
+    /// Returns the head of a node's list, or the node itself if it is a head, or `None` if it is free.
     pub fn home(&self, node: usize) -> Option<usize>
         requires { node < length self.now.homes }
         ensures { MatchOption result (home_at self.now.homes node ≡ free) (λ h. (h ≡ home_at self.now.homes node) × (h ≡ free → ⊥)) }
     {
-        self.chains.home(node)
+        self.chains.head_of(node)
     }
 
-    /// The first node of a head's list.
+    /// Returns the first node of a head's list, or `None` if the list is empty.
     pub fn first(&self, head: usize) -> Option<usize>
         requires { IsHead self.now.homes head }
         ensures { result ≡ slice_get (list_at self.now.lists head) 0 }
@@ -121,7 +121,7 @@ impl Ordered {
         self.chains.first(head)
     }
 
-    /// The last node of a head's list.
+    /// Returns the last node of a head's list, or `None` if the list is empty.
     pub fn last(&self, head: usize) -> Option<usize>
         requires { IsHead self.now.homes head }
         ensures { result ≡ last_of None (list_at self.now.lists head) }
@@ -129,7 +129,7 @@ impl Ordered {
         self.chains.last(head)
     }
 
-    /// The node after one that stands in a list.
+    /// Returns the node after an item, or `None` if the item is the last one.
     pub fn next(&self, node: usize) -> Option<usize>
         requires { IsItem self.now.homes node }
         ensures { result ≡ after node (list_at self.now.lists (home_at self.now.homes node)) }
@@ -137,7 +137,7 @@ impl Ordered {
         self.chains.next(node)
     }
 
-    /// The node before one that stands in a list.
+    /// Returns the node before an item, or `None` if the item is the first one.
     pub fn prev(&self, node: usize) -> Option<usize>
         requires { IsItem self.now.homes node }
         ensures { result ≡ before node None (list_at self.now.lists (home_at self.now.homes node)) }
@@ -145,14 +145,14 @@ impl Ordered {
         self.chains.prev(node)
     }
 
-    /// How many nodes there are.
+    /// Returns the number of nodes.
     pub fn len(&self) -> usize
         ensures { result ≡ length self.now.homes }
     {
         self.chains.len()
     }
 
-    /// Each node stands in the list of its head, and once.
+    /// Lemma: each item is in the list of its head, exactly once.
     pub fn laws(&self)
         ensures { Laws self.now.lists self.now.homes }
     {
@@ -160,7 +160,7 @@ impl Ordered {
     }
 }
 
-impl Ordered {
+impl OrderedLists {
     /// Makes a free node the head of an empty list.
     pub fn make_head(&mut self, node: usize)
         requires { IsFree self.old.homes node }
@@ -178,7 +178,7 @@ impl Ordered {
         self.chains.free_head(head);
     }
 
-    /// Takes the first node of a head's list out, as `Chains::pop_front` does.
+    /// Removes the first node of a head's list and returns it, as `LinkedLists::pop_front` does.
     pub fn pop_front(&mut self, head: usize) -> Option<usize>
         requires { IsHead self.old.homes head }
         ensures first { result ≡ slice_get (list_at self.old.lists head) 0 }
@@ -188,8 +188,8 @@ impl Ordered {
     }
 }
 
-impl Ordered {
-    /// Makes room for `count` further nodes, which then come without a refusal.
+impl OrderedLists {
+    /// Reserves capacity for `count` more nodes. Adding them can't be refused afterwards.
     pub fn reserve(&mut self, count: usize) -> Result<(), AllocError>
         ensures made { OnOk result (self.new ≡ record self.old { room = max self.old.room count }) }
         ensures refused { OnErr result ((self.new ≡ self.old) × (self.old.room < count)) }
@@ -204,27 +204,27 @@ impl Ordered {
         }
     }
 
-    /// A new node, which is free, in the room that was made.
+    /// Adds a free node, in the reserved capacity, and returns it.
     pub fn new_node(&mut self) -> usize
         requires { 0 < self.old.room }
         ensures node { result ≡ length self.old.homes }
         ensures added { self.new ≡ with_node free self.old }
     {
-        more(&mut self.labels);
+        push_label(&mut self.labels);
         self.chains.new_node()
     }
 
-    /// A new node, which is the head of an empty list, in the room that was made.
+    /// Adds the head of an empty list, in the reserved capacity, and returns it.
     pub fn new_head(&mut self) -> usize
         requires { 0 < self.old.room }
         ensures node { result ≡ length self.old.homes }
         ensures added { self.new ≡ with_node result self.old }
     {
-        more(&mut self.labels);
+        push_label(&mut self.labels);
         self.chains.new_head()
     }
 
-    /// A new node, which is free.
+    /// Adds a free node and returns it.
     pub fn add_node(&mut self) -> Result<usize, AllocError>
         ensures added { IfOk result (λ n. (n ≡ length self.old.homes) × (self.new ≡ with_node free self.old)) }
         ensures refused { OnErr result ((self.new ≡ self.old) × (self.old.room ≡ 0)) }
@@ -235,7 +235,7 @@ impl Ordered {
         }
     }
 
-    /// A new node, which is the head of an empty list.
+    /// Adds the head of an empty list and returns it.
     pub fn add_head(&mut self) -> Result<usize, AllocError>
         ensures added { IfOk result (λ n. (n ≡ length self.old.homes) × (self.new ≡ with_node n self.old)) }
         ensures refused { OnErr result ((self.new ≡ self.old) × (self.old.room ≡ 0)) }
@@ -247,8 +247,8 @@ impl Ordered {
     }
 }
 
-impl Ordered {
-    /// Adds the nodes of a head's list to `out`.
+impl OrderedLists {
+    /// Appends the nodes of a head's list to `out`.
     pub fn nodes(&self, head: usize, out: &mut Vec<usize>) -> Result<(), AllocError>
         requires { IsHead self.now.homes head }
         ensures { OnOk result (out.new.items ≡ out.old.items ++ list_at self.now.lists head) }

@@ -1,4 +1,4 @@
-//! How the links of nodes are written.
+//! Writes of the links of nodes.
 ghost use Rattle.std.specs.Prelude.{◌≡◌, ◌+◌, ◌<◌, ◌≤◌, ◌∷◌, ◌++◌, [], length, slice_set};
 ghost use Rattle.std.specs.Vec.{vec_capacity, vec_len};
 ghost use Rattle.ir_store_lists.specs.Ring.{nexts, prevs, homes, at as at_node};
@@ -41,7 +41,7 @@ fn set_home(links: &mut Vec<Link>, node: usize, to: u32)
     link.home = to;
 }
 
-/// Takes a node out between its neighbours.
+/// Unlinks a node from its neighbours.
 pub(crate) fn unlink(links: &mut Vec<Link>, node: usize)
     requires inside { node < length links.old.items }
     requires prev { at_node (prevs links.old.items) node < length links.old.items }
@@ -57,7 +57,7 @@ pub(crate) fn unlink(links: &mut Vec<Link>, node: usize)
     set_home(links, node, FREE);
 }
 
-/// Puts a node before `at`, into the list of `home`.
+/// Links a node before `at`, in the list of `home`.
 pub(crate) fn link_in(links: &mut Vec<Link>, node: usize, at: usize, home: u32)
     requires few { length links.old.items < free }
     requires inside { node < length links.old.items }
@@ -102,7 +102,7 @@ pub(crate) fn open(links: &mut Vec<Link>, node: usize)
     set_home(links, node, FREE);
 }
 
-/// A node that no other leads to, in the list of `home`. There is room for it.
+/// Adds a node with head `home`, to which no other node links. There is spare capacity.
 pub(crate) fn grow(links: &mut Vec<Link>, home: u32)
     requires few { length links.old.items < free }
     requires room { vec_len links.old < vec_capacity links.old }

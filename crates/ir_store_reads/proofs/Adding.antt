@@ -1,9 +1,9 @@
--- The ids of what slots spell are added one after another.
+-- The ids of the tree that slots represent are appended one after another.
 use Rattle.std.proofs.Common.{◌≡◌, ◌<◌, ℕ, List, [], ◌∷◌, ◌++◌, refl, sym, ap, ◌∙◌, subst, append_assoc, append-nil, Option, None, Some, true, map, length, slice_get, arith}
 use Rattle.ir_store_slots.specs.trees.Tree.{op, no_regions, region, empty, block, no_ops, next}
 use Rattle.ir_store_slots.specs.trees.Ids.{ids, region_ids, regions_ids, ops_ids}
 use Rattle.ir_store_slots.specs.Lists.{Once, list_at, after}
-use Rattle.ir_store_slots.specs.Area.{Area}
+use Rattle.ir_store_slots.specs.RegionData.{RegionData}
 use Rattle.ir_store_slots.specs.Rows.{Row, Shape, row_at, shape_of}
 use Rattle.ir_store_slots.specs.Plans.{AllHeads}
 use Rattle.ir_store_slots.specs.Walks.{from_slot}
@@ -11,7 +11,7 @@ use Rattle.ir_store_reads.specs.Added.{AddsOp, AddsRegions, AddsOps}
 use Rattle.ir_store_slots.proofs.Walked.{Walks, goes, from_first, walk_start, walk_on, walk_less}
 
 module _ (rows : List Row) (lists : List (List ℕ)) where
-  -- an operation, and then what is inside it
+  -- an operation, followed by those inside it
   pub added_op : (k : ℕ) (a b c : List ℕ) (x : ℕ) → x ≡ (row_at rows k).head.id → b ≡ a ++ x ∷ [] → AddsRegions rows lists (row_at rows k).shapes b c → AddsOp rows lists k a c
   added_op k a b c x e f g (op h rs) s =
       g rs s.1.1
@@ -33,45 +33,45 @@ module _ (rows : List Row) (lists : List (List ℕ)) where
   adds_nobody a no_ops s = sym (append-nil a)
   adds_nobody a (next o os) s = absurd s
 
-  -- what is in the list of a region's block
+  -- the operations in the list of a region's block
   pub adds_block : (x : List ℕ × ℕ) (a b : List ℕ) → AddsOps rows lists (list_at lists x.1) a b → AddsRegions rows lists (Some x ∷ []) a b
   adds_block x a b f no_regions s = absurd s
   adds_block x a b f (region empty rs) s = absurd s.0
   adds_block x a b f (region (block args os) no_regions) s = f os s.0.1 ∙ ap (λ z. a ++ z) (sym (append-nil (ops_ids os)))
   adds_block x a b f (region (block args os) (region g rs)) s = absurd s.1
 
-  -- a region, and then the others
+  -- a region, followed by the others
   pub adds_region : (x : Shape) (xs : List Shape) (a b c : List ℕ) → AddsRegions rows lists (x ∷ []) a b → AddsRegions rows lists xs b c → AddsRegions rows lists (x ∷ xs) a c
   adds_region x xs a b c f g no_regions s = absurd s
   adds_region x xs a b c f g (region r rs) s =
       let first : b ≡ a ++ region_ids r = f (region r no_regions) (s.0, tt) ∙ ap (λ z. a ++ z) (append-nil (region_ids r)) in
       g rs s.1 ∙ ap (λ z. z ++ regions_ids rs) first ∙ append_assoc a (region_ids r) (regions_ids rs)
 
-  -- an operation, and then the others
+  -- an operation, followed by the others
   pub adds_op : (k : ℕ) (ks : List ℕ) (a b c : List ℕ) → AddsOp rows lists k a b → AddsOps rows lists ks b c → AddsOps rows lists (k ∷ ks) a c
   adds_op k ks a b c f g no_ops s = absurd s
   adds_op k ks a b c f g (next o os) s = g os s.1 ∙ ap (λ z. z ++ ops_ids os) (f o s.0) ∙ append_assoc a (ids o) (ops_ids os)
 
--- the heads of the blocks behind the first
+-- the heads of the blocks after the first
 others : (homes : List ℕ) (x : Shape) (xs : List Shape) → AllHeads homes (x ∷ xs) → AllHeads homes xs
 others homes None xs h = h
 others homes (Some a) xs h = h.1
 
 module _ (rows : List Row) (lists : List (List ℕ)) where
-  -- a loop over regions: what adds those that are left, adds them all
-  abbrev pub LeftRegions : List ℕ → List Area → List Area → List ℕ → List ℕ → Type 0
+  -- a loop over regions: if the rest of the loop appends the rest of the ids, the whole loop appends all
+  abbrev pub LeftRegions : List ℕ → List RegionData → List RegionData → List ℕ → List ℕ → Type 0
   LeftRegions homes areas rest a b = AllHeads homes (map shape_of rest) × ((z : List ℕ) → AddsRegions rows lists (map shape_of rest) b z → AddsRegions rows lists (map shape_of areas) a z)
 
-  pub region_step : (homes : List ℕ) (areas rest tail : List Area) (x : Area) (a b c : List ℕ) → rest ≡ x ∷ tail → AddsRegions rows lists (shape_of x ∷ []) b c → LeftRegions homes areas rest a b → LeftRegions homes areas tail a c
+  pub region_step : (homes : List ℕ) (areas rest tail : List RegionData) (x : RegionData) (a b c : List ℕ) → rest ≡ x ∷ tail → AddsRegions rows lists (shape_of x ∷ []) b c → LeftRegions homes areas rest a b → LeftRegions homes areas tail a c
   region_step homes areas rest tail x a b c e one f =
       let g = subst (λ l. LeftRegions homes areas l a b) e f in
       (others homes (shape_of x) (map shape_of tail) g.0, λ z more. g.1 z (adds_region rows lists (shape_of x) (map shape_of tail) b c z one more))
 
-  pub regions_done : (homes : List ℕ) (areas rest : List Area) (a b : List ℕ) → length rest < 1 → LeftRegions homes areas rest a b → AddsRegions rows lists (map shape_of areas) a b
+  pub regions_done : (homes : List ℕ) (areas rest : List RegionData) (a b : List ℕ) → length rest < 1 → LeftRegions homes areas rest a b → AddsRegions rows lists (map shape_of areas) a b
   regions_done homes areas [] a b l f = f.1 b (adds_none rows lists b)
   regions_done homes areas (x ∷ rest) a b l f = absurd (omega (arith, l))
 
-  -- a loop over a list: what adds the slots from one on, adds them all
+  -- a loop over a list: if the rest of the loop appends the ids from one slot on, the whole loop appends all
   module _ (h : ℕ) where
     abbrev pub LeftSlots : Option ℕ → List ℕ → List ℕ → Type 0
     LeftSlots at a b = Walks lists (λ k. true) h at × ((z : List ℕ) → AddsOps rows lists (from_slot at (list_at lists h)) b z → AddsOps rows lists (list_at lists h) a z)

@@ -1,10 +1,10 @@
--- Copies of what slots spell.
+-- Copies of the tree that slots represent.
 use Rattle.std.proofs.Common.{◌≡◌, ℕ, zero, suc, ◌+◌, ◌<◌, List, [], ◌∷◌, ◌++◌, map, take, get_or, sym, ap, ◌∙◌, subst, length, arith, Some, None}
 use Rattle.std.proofs.lemmas.List.{take_more, map-append, map_more}
 use Rattle.ir_store_slots.specs.trees.declared.tree.TreeRegion.{TreeRegion}
 use Rattle.ir_store_slots.specs.trees.View.{region_view}
 use Rattle.ir_store_slots.specs.trees.Tree.{Op, Region, regions_of, ops_of}
-use Rattle.ir_store_slots.specs.Area.{Area}
+use Rattle.ir_store_slots.specs.RegionData.{RegionData}
 use Rattle.ir_store_slots.specs.Rows.{Row, Shape, shape_of}
 use Rattle.ir_store_slots.specs.Spells.{SpellsOp, SpellsRegions, SpellsRegion, SpellsOps}
 use Rattle.ir_store_slots.specs.Plans.{AllHeads}
@@ -22,8 +22,8 @@ module _ (rows : List Row) (lists : List (List ℕ)) where
   ops_more (j ∷ ks) [] k o s r = absurd s
   ops_more (j ∷ ks) (p ∷ os) k o s r = (s.0, ops_more ks os k o s.1 r)
 
-  -- one region more
-  pub copied_region : (areas : List Area) (n : ℕ) (x : Area) (gs gs' : List TreeRegion) (g : TreeRegion) → n < length areas → x ≡ get_or areas n x → SpellsRegions rows lists (map shape_of (take n areas)) (regions_of (map region_view gs))
+  -- one more region
+  pub copied_region : (areas : List RegionData) (n : ℕ) (x : RegionData) (gs gs' : List TreeRegion) (g : TreeRegion) → n < length areas → x ≡ get_or areas n x → SpellsRegions rows lists (map shape_of (take n areas)) (regions_of (map region_view gs))
       → SpellsRegion rows lists (shape_of x) (region_view g) → gs' ≡ gs ++ g ∷ [] → SpellsRegions rows lists (map shape_of (take (n + 1) areas)) (regions_of (map region_view gs'))
   copied_region areas n x gs gs' g l e s r eg =
       let more : map shape_of (take (n + 1) areas) ≡ map shape_of (take n areas) ++ shape_of x ∷ [] = map_more shape_of areas n x l ∙ ap (λ z. map shape_of (take n areas) ++ shape_of z ∷ []) (sym e) in
@@ -31,7 +31,7 @@ module _ (rows : List Row) (lists : List (List ℕ)) where
       subst (λ z. SpellsRegions rows lists z (regions_of (map region_view gs'))) (sym more)
       (subst (λ z. SpellsRegions rows lists (map shape_of (take n areas) ++ shape_of x ∷ []) (regions_of z)) (sym many) (regions_more (map shape_of (take n areas)) (map region_view gs) (shape_of x) (region_view g) s r))
 
-  -- one operation more
+  -- one more operation
   pub copied_op : (ks : List ℕ) (n x : ℕ) (os os' : List Op) (o : Op) → n < length ks → x ≡ get_or ks n x → SpellsOps rows lists (take n ks) (ops_of os) → SpellsOp rows lists x o → os' ≡ os ++ o ∷ [] → SpellsOps rows lists (take (n + 1) ks) (ops_of os')
   copied_op ks n x os os' o l e s r eo =
       let more : take (n + 1) ks ≡ take n ks ++ x ∷ [] = take_more ks n x l ∙ ap (λ z. take n ks ++ z ∷ []) (sym e) in
@@ -39,7 +39,7 @@ module _ (rows : List Row) (lists : List (List ℕ)) where
       (subst (λ z. SpellsOps rows lists (take n ks ++ x ∷ []) (ops_of z)) (sym eo) (ops_more (take n ks) os x o s r))
 
 -- the head of one block
-pub heads_at : (homes : List ℕ) (areas : List Area) (n : ℕ) (x : Area) → n < length areas → x ≡ get_or areas n x → AllHeads homes (map shape_of areas) → AllHeads homes (shape_of x ∷ [])
+pub heads_at : (homes : List ℕ) (areas : List RegionData) (n : ℕ) (x : RegionData) → n < length areas → x ≡ get_or areas n x → AllHeads homes (map shape_of areas) → AllHeads homes (shape_of x ∷ [])
 heads_at homes [] n x l e h = absurd (omega (arith, l))
 heads_at homes (y ∷ areas) zero x l e h = subst (λ z. AllHeads homes (shape_of z ∷ [])) (sym e) (first (shape_of y) (map shape_of areas) h)
   where

@@ -1,4 +1,4 @@
--- What a spare slot has that is written again.
+-- The facts about a free slot that is used again.
 use Rattle.std.proofs.Common.{◌≡◌, ℕ, ◌+◌, ◌<◌, ◌≤◌, List, get_or, refl, sym, ap, ◌∙◌, subst, length, ⊎_elim, arith, Option, Some, None}
 use Rattle.std.specs.Prelude.{IfSome}
 use Rattle.std.proofs.lemmas.Bool.{cases_eq}
@@ -7,7 +7,7 @@ use Rattle.std.proofs.lemmas.Option.{slice_get_within}
 use Rattle.ir_store_slots.specs.Lists.{IsHead, IsFree}
 use Rattle.ir_store_slots.specs.trees.Tree.{Op, op, head, Region, regions_of}
 use Rattle.ir_store_slots.specs.tree_laws.Reasons.{with_id}
-use Rattle.ir_store_slots.specs.declared.row.Cell.{Cell}
+use Rattle.ir_store_slots.specs.declared.row.UseNode.{UseNode}
 use Rattle.ir_store_slots.specs.Rows.{Row, Shape, row_at}
 use Rattle.ir_store_slots.specs.Index.{cells_of, cell_at}
 use Rattle.ir_store_slots.specs.Emptied.{emptied}
@@ -16,7 +16,7 @@ use Rattle.ir_store_slots.proofs.Grown.{bare_list, emptied_list}
 use Rattle.ir_store_reads.specs.Again.{HeadsOf, NodesOf, BlockFits, RowFits}
 
 -- the cell of a node
-pub cell_read : (cells : List Cell) (u : ℕ) (c : Cell) → u < length cells → c ≡ get_or cells u c → cell_at (cells_of cells) u ≡ (c.row, c.place)
+pub cell_read : (cells : List UseNode) (u : ℕ) (c : UseNode) → u < length cells → c ≡ get_or cells u c → cell_at (cells_of cells) u ≡ (c.row, c.place)
 cell_read cells u c l e = get_or-map (λ z. (z.row, z.place)) cells u c (0, 0) l ∙ ap (λ z. (z.row, z.place)) (sym e)
 
 -- none yet
@@ -43,7 +43,7 @@ nodes_more homes cells k b n u f e h c i l = ⊎_elim
 pub heads_all : (homes : List ℕ) (cells : List (ℕ × ℕ)) (k b n m : ℕ) → m ≤ n → HeadsOf homes cells k b n → HeadsOf homes cells k b m
 heads_all homes cells k b n m l f i j = f i (omega (arith, l, j))
 
--- a block that fits is one
+-- a block for which the test is true fits
 pub block_fit : (q : Parts) (k i h n : ℕ) (args : List ℕ) → n ≡ length args → BlockFits q k i h n → NewBlock q 0 k i (args, h)
 block_fit q k i h n args e b = record {
   head = b.head;
@@ -73,7 +73,7 @@ fit_grown q k x o gs xs w r inside ew eo f emptied_xs blocks er = subst (Grown 0
   gone = refl;
 })
 
--- what is told of what is found
+-- a property of an optional value is a property of the value that it has
 pub some_told : {X : Type 0} (P : X → Type 0) (o : Option X) (x : X) → o ≡ Some x → IfSome o P → P x
 some_told P None x e p = absurd cc
 some_told P (Some y) x e p = let z : y ≡ x = cc in subst P z p

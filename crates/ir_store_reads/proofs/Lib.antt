@@ -14,7 +14,7 @@ pub use Rattle.ir_store_slots.proofs.Idle
 pub use Rattle.ir_store_slots.proofs.Items
 pub use Rattle.ir_store_slots.proofs.Mapped
 pub use Rattle.ir_store_slots.proofs.Marking
-pub use Rattle.ir_store_slots.proofs.Slots
+pub use Rattle.ir_store_slots.proofs.SlotLaws
 pub use Rattle.ir_store_slots.proofs.Walked
 pub use Rattle.ir_store_slots.proofs.Wide
 pub use Rattle.ir_store_slots.proofs.of_trees

@@ -1,4 +1,4 @@
--- The uses of a value, as they are walked over.
+-- The walk over the uses of a value.
 use Rattle.std.proofs.Common.{◌≡◌, ℕ, ◌+◌, ◌<◌, ◌≤◌, List, [], ◌∷◌, map, refl, sym, ap, ◌∙◌, subst, length, Bool, true, false, eqb, arith, Option, Some, None, slice_get}
 use Rattle.std.specs.Prelude.{if◌then◌else◌}
 use Rattle.std.proofs.lemmas.List.{length-map}
@@ -10,7 +10,7 @@ use Rattle.ir_store_slots.specs.Walks.{from_slot}
 use Rattle.ir_store_slots.proofs.Walked.{after_in, from_first, goes, listed_item, walk_start}
 use Rattle.ir_store_reads.specs.Uses.{uses_left, IsNode}
 
--- a list from a slot on isn't longer
+-- a list from a slot on is at most as long as the list
 from_short : (at : Option ℕ) (ks : List ℕ) → length (from_slot at ks) ≤ length ks
 from_short None ks = omega arith
 from_short (Some k) [] = omega arith
@@ -20,7 +20,7 @@ from_short (Some k) (q ∷ ks) = go (eqb q k) (from_short (Some k) ks)
     go true l = omega arith
     go false l = omega (arith, l)
 
--- what a walk that counts the uses that are left has before it: so many are counted
+-- the invariant of a walk that counts the remaining uses
 pub record Counts (rows : List Row) (cells : List (ℕ × ℕ)) (chains : Lists) (total count : ℕ) (at : Option ℕ) : Type 0 where
   pub sum : count + length (uses_left rows cells chains at) ≡ total
   pub node : IsNode chains.homes at
@@ -38,7 +38,7 @@ module _ (rows : List Row) (cells : List (ℕ × ℕ)) (chains : Lists) (laws : 
   node_in h p None f = tt
   node_in h p (Some n) f = listed_item chains.lists chains.homes laws h n p (f n refl)
 
-  -- from the first node on all uses are left
+  -- from the first node on, all uses remain
   module _ (h : ℕ) (p : IsHead chains.homes h) (at : Option ℕ) (e : at ≡ slice_get (list_at chains.lists h) 0) where
     there_first : InList h at
     there_first = (walk_start chains.lists (λ _. true) h at e).there
@@ -49,7 +49,7 @@ module _ (rows : List Row) (cells : List (ℕ × ℕ)) (chains : Lists) (laws : 
     pub first_node : IsNode chains.homes at
     first_node = node_in h p at there_first
 
-  -- behind a node all but its use are left
+  -- after a node, all uses but its own remain
   module _ (n : ℕ) (i : IsItem chains.homes n) (at : Option ℕ) (e : at ≡ after n (list_at chains.lists (home_at chains.homes n))) where
     there_next : InList (home_at chains.homes n) at
     there_next k f = after_in n k (list_at chains.lists (home_at chains.homes n)) (sym e ∙ f)
@@ -65,7 +65,7 @@ module _ (rows : List Row) (cells : List (ℕ × ℕ)) (chains : Lists) (laws : 
     pub next_node : IsNode chains.homes at
     next_node = node_in (home_at chains.homes n) (laws.heads n i) at there_next
 
-  -- fewer are left than a number of a node has
+  -- fewer uses remain than there are node numbers
   pub few_left : (at : Option ℕ) → length (uses_left rows cells chains at) < free
   few_left None = omega arith
   few_left (Some n) =

@@ -1,4 +1,4 @@
--- The ids of what slots spell, added to a list.
+-- The ids of the tree that slots represent, appended to a list.
 use Rattle.std.specs.Prelude.{◌≡◌, ℕ, List, ◌++◌}
 use Rattle.ir_store_slots.specs.trees.Tree.{Op, Regions, Ops}
 use Rattle.ir_store_slots.specs.trees.Ids.{ids, regions_ids, ops_ids}
@@ -6,14 +6,14 @@ use Rattle.ir_store_slots.specs.Rows.{Row, Shape}
 use Rattle.ir_store_slots.specs.Spells.{SpellsOp, SpellsRegions, SpellsOps}
 
 module _ (rows : List Row) (lists : List (List ℕ)) where
-  -- those of an operation and what is inside it, in pre-order
+  -- the ids of an operation and of those inside it, in pre-order
   abbrev pub AddsOp : ℕ → List ℕ → List ℕ → Type 0
   AddsOp k before after = (t : Op) → SpellsOp rows lists k t → after ≡ before ++ ids t
 
-  -- those in regions
+  -- the ids in regions
   abbrev pub AddsRegions : List Shape → List ℕ → List ℕ → Type 0
   AddsRegions xs before after = (rs : Regions) → SpellsRegions rows lists xs rs → after ≡ before ++ regions_ids rs
 
-  -- those in a list
+  -- the ids in a list
   abbrev pub AddsOps : List ℕ → List ℕ → List ℕ → Type 0
   AddsOps ks before after = (os : Ops) → SpellsOps rows lists ks os → after ≡ before ++ ops_ids os

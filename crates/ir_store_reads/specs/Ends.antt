@@ -4,12 +4,12 @@ use Rattle.ir_store_slots.specs.Lists.{last_of, list_at}
 use Rattle.ir_store_slots.specs.trees.Ids.{first_of}
 use Rattle.ir_store_slots.specs.Rows.{Shape}
 
--- the last slot of a region's block, or another where that has none
+-- the last slot of a region's block, or another slot if it has none
 abbrev pub later : List (List ℕ) → Option ℕ → Shape → Option ℕ
 later lists other None = other
 later lists other (Some a) = first_of (last_of None (list_at lists a.1)) other
 
--- the last slot of the last block that has one, or another where none has
+-- the last slot of the last nonempty block, or another slot if all are empty
 abbrev pub last_in : List (List ℕ) → Option ℕ → List Shape → Option ℕ
 last_in lists other [] = other
 last_in lists other (x ∷ xs) = last_in lists (later lists other x) xs

@@ -3,11 +3,11 @@ use Rattle.std.specs.Prelude.{◌≡◌, ◌<◌, ℕ, List, length, Option, opt
 use Rattle.ir_store_slots.specs.Lists.{home_at}
 use Rattle.ir_store_slots.specs.Rows.{Row, row_at, head_in}
 
--- the head of the list of the block of region n of operation p, if it has one: `slots` tells the slots of operations
+-- the head of the list of the block of region n of operation p, if there is such a block; `slots` maps ids to slots
 abbrev pub block_in : List Row → (ℕ → Option ℕ) → ℕ → ℕ → Option ℕ
 block_in rows slots p n = option_and_then (λ k. option_and_then head_in (slice_get (row_at rows k).shapes n)) (slots p)
 
--- node k may stand in a list: it isn't a head
+-- node k isn't a head, so it may be an item of a list
 pub record CanStand (homes : List ℕ) (k : ℕ) : Type 0 where
   pub inside : k < length homes
   pub other : home_at homes k ≡ k → ⊥

@@ -18,7 +18,7 @@ pub use Rattle.ir_store_slots.specs.Right
 pub use Rattle.ir_store_slots.specs.Rows
 pub use Rattle.ir_store_slots.specs.Slots
 pub use Rattle.ir_store_slots.specs.Spells
-pub use Rattle.ir_store_slots.specs.Spots
+pub use Rattle.ir_store_slots.specs.Points
 pub use Rattle.ir_store_slots.specs.Stored
 pub use Rattle.ir_store_slots.specs.Using
 pub use Rattle.ir_store_slots.specs.Walks

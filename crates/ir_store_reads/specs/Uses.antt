@@ -1,16 +1,16 @@
--- The uses of a value that are left.
+-- The remaining uses of a value.
 use Rattle.std.specs.Prelude.{ℕ, List, [], map, Option, Some, None}
 use Rattle.ir_store_slots.specs.Lists.{Lists, IsItem, list_at, home_at}
 use Rattle.ir_store_slots.specs.Rows.{Row}
 use Rattle.ir_store_slots.specs.Using.{use_in}
 use Rattle.ir_store_slots.specs.Walks.{from_slot}
 
--- the uses of the nodes from one on, in its list
+-- the uses of the nodes of a list, from one node on
 abbrev pub uses_left : List Row → List (ℕ × ℕ) → Lists → Option ℕ → List (ℕ × ℕ)
 uses_left rows cells chains None = []
 uses_left rows cells chains (Some n) = map (use_in rows cells) (from_slot (Some n) (list_at chains.lists (home_at chains.homes n)))
 
--- a node, if there is one, stands in a list
+-- an optional node is an item of a list
 abbrev pub IsNode : List ℕ → Option ℕ → Type 0
 IsNode homes None = Unit {0}
 IsNode homes (Some n) = IsItem homes n

@@ -1,4 +1,4 @@
-//! The tree of a store.
+//! Copies the tree of a store.
 ghost use Rattle.std.specs.Prelude.{◌≡◌, ◌∷◌, [], ℕ, IfOk, map};
 ghost use Rattle.ir_store_slots.specs.Lists.{IsHead, list_at};
 ghost use Rattle.ir_store_slots.specs.trees.Tree.{op, head, regions_of};
@@ -8,18 +8,18 @@ ghost use Rattle.ir_store_slots.specs.Plans.{AllHeads};
 ghost use Rattle.ir_store_slots.specs.Right.{Live};
 ghost use Rattle.ir_store_slots.specs.Spells.{SpellsOp, SpellsRegions, SpellsRegion};
 
-use ir_store_slots::row::Area;
+use ir_store_slots::row::RegionData;
 use ir_store_slots::trees::place::Part;
 use ir_store_slots::trees::tree::{TreeOp, TreeRegion};
-use ir_store_slots::{Ordered, Rows};
+use ir_store_slots::{OrderedLists, Slots};
 use std::alloc::{AllocError, Global};
 
-/// The operation of a slot, with all that stands in it, where that is at most so many levels deep.
+/// Returns the operation of a slot with everything inside it. An `AllocError` if it has more levels than given.
 #[cycle(copy)]
 pub fn copy_op(
     alloc: Global,
-    rows: &Rows,
-    sibs: &Ordered,
+    rows: &Slots,
+    sibs: &OrderedLists,
     key: &usize,
     levels: u32,
 ) -> Result<TreeOp, AllocError>
@@ -33,10 +33,10 @@ pub fn copy_op(
     tree_of(alloc, rows, *key, regions)
 }
 
-/// The operation of a slot, with these regions.
+/// Returns the operation of a slot, with these regions.
 fn tree_of(
     alloc: Global,
-    rows: &Rows,
+    rows: &Slots,
     key: usize,
     regions: Vec<TreeRegion>,
 ) -> Result<TreeOp, AllocError>
@@ -53,13 +53,13 @@ fn tree_of(
     })
 }
 
-/// Regions, with all that stands in them.
+/// Returns regions with everything inside them.
 #[cycle(copy)]
 fn copy_regions(
     alloc: Global,
-    rows: &Rows,
-    sibs: &Ordered,
-    areas: &[Area],
+    rows: &Slots,
+    sibs: &OrderedLists,
+    areas: &[RegionData],
     levels: u32,
 ) -> Result<Vec<TreeRegion>, AllocError>
     requires rows { (k : ℕ) → Live rows.now k → AllHeads sibs.now.homes (row_at rows.now k).shapes }
@@ -74,13 +74,13 @@ fn copy_regions(
     Ok(regions)
 }
 
-/// A region, with all that stands in it.
+/// Returns a region with everything inside it.
 #[cycle(copy)]
 fn copy_region(
     alloc: Global,
-    rows: &Rows,
-    sibs: &Ordered,
-    area: &Area,
+    rows: &Slots,
+    sibs: &OrderedLists,
+    area: &RegionData,
     levels: u32,
 ) -> Result<TreeRegion, AllocError>
     requires rows { (k : ℕ) → Live rows.now k → AllHeads sibs.now.homes (row_at rows.now k).shapes }
@@ -88,8 +88,8 @@ fn copy_region(
     ensures { IfOk result (λ g. SpellsRegion rows.now sibs.now.lists (shape_of area.now) (region_view g)) }
 {
     match area {
-        Area::Empty => Ok(TreeRegion::Empty),
-        Area::Block { args, head } => {
+        RegionData::Empty => Ok(TreeRegion::Empty),
+        RegionData::Block { args, head } => {
             let keys = list_of(alloc, sibs, *head)?;
             let mut ops = Vec::with_capacity(alloc, keys.len())?;
             for key in &keys {
@@ -102,8 +102,8 @@ fn copy_region(
     }
 }
 
-/// The nodes in the list of a head.
-fn list_of(alloc: Global, sibs: &Ordered, head: usize) -> Result<Vec<usize>, AllocError>
+/// Returns the nodes in the list of a head.
+fn list_of(alloc: Global, sibs: &OrderedLists, head: usize) -> Result<Vec<usize>, AllocError>
     requires { IsHead sibs.now.homes head }
     ensures { IfOk result (λ ks. ks.items ≡ list_at sibs.now.lists head) }
 {

@@ -1,4 +1,4 @@
-//! How deep operations of the module are.
+//! The nesting depth of operations.
 ghost use Rattle.std.specs.Prelude.{◌≡◌, ℕ, ◌∷◌, [], map};
 ghost use Rattle.std.specs.List.{list_all};
 ghost use Rattle.ir_store_slots.specs.Lists.{IsHead, Laws, list_at};
@@ -7,12 +7,12 @@ ghost use Rattle.ir_store_slots.specs.Plans.{AllHeads};
 ghost use Rattle.ir_store_slots.specs.Right.{Live};
 ghost use Rattle.ir_store_slots.specs.Walks.{slot_fits, shapes_pass};
 
-use ir_store_slots::row::Area;
-use ir_store_slots::{Ordered, Rows};
+use ir_store_slots::row::RegionData;
+use ir_store_slots::{OrderedLists, Slots};
 
-/// Whether the operation of a slot has fewer levels inside it than there is room for.
+/// Returns whether the operation of a slot has fewer than `room` levels inside it.
 #[cycle(fit)]
-pub fn op_fits(rows: &Rows, sibs: &Ordered, key: usize, room: u32) -> bool
+pub fn op_fits(rows: &Slots, sibs: &OrderedLists, key: usize, room: u32) -> bool
     requires rows { (k : ℕ) → Live rows.now k → AllHeads sibs.now.homes (row_at rows.now k).shapes }
     requires laws { Laws sibs.now.lists sibs.now.homes }
     ensures { result ≡ slot_fits rows.now sibs.now.lists room key }
@@ -23,9 +23,9 @@ pub fn op_fits(rows: &Rows, sibs: &Ordered, key: usize, room: u32) -> bool
     areas_fit(rows, sibs, rows.areas(key), room - 1)
 }
 
-/// Whether each operation in some regions has fewer levels inside it than there is room for.
+/// Returns whether each operation in some regions has fewer than `room` levels inside it.
 #[cycle(fit)]
-fn areas_fit(rows: &Rows, sibs: &Ordered, areas: &[Area], room: u32) -> bool
+fn areas_fit(rows: &Slots, sibs: &OrderedLists, areas: &[RegionData], room: u32) -> bool
     requires rows { (k : ℕ) → Live rows.now k → AllHeads sibs.now.homes (row_at rows.now k).shapes }
     requires laws { Laws sibs.now.lists sibs.now.homes }
     requires heads { AllHeads sibs.now.homes (map shape_of areas.now) }
@@ -41,23 +41,23 @@ fn areas_fit(rows: &Rows, sibs: &Ordered, areas: &[Area], room: u32) -> bool
     true
 }
 
-/// Whether each operation in a region has fewer levels inside it than there is room for.
+/// Returns whether each operation in a region has fewer than `room` levels inside it.
 #[cycle(fit)]
-fn area_fits(rows: &Rows, sibs: &Ordered, area: &Area, room: u32) -> bool
+fn area_fits(rows: &Slots, sibs: &OrderedLists, area: &RegionData, room: u32) -> bool
     requires rows { (k : ℕ) → Live rows.now k → AllHeads sibs.now.homes (row_at rows.now k).shapes }
     requires laws { Laws sibs.now.lists sibs.now.homes }
     requires heads { AllHeads sibs.now.homes (shape_of area.now ∷ []) }
     ensures { result ≡ shapes_pass sibs.now.lists (slot_fits rows.now sibs.now.lists room) (shape_of area.now ∷ []) }
 {
     match area {
-        Area::Empty => true,
-        Area::Block { head, .. } => list_fits(rows, sibs, *head, room),
+        RegionData::Empty => true,
+        RegionData::Block { head, .. } => list_fits(rows, sibs, *head, room),
     }
 }
 
-/// Whether each operation in the list of a head has fewer levels inside it than there is room for.
+/// Returns whether each operation in the list of a head has fewer than `room` levels inside it.
 #[cycle(fit)]
-fn list_fits(rows: &Rows, sibs: &Ordered, head: usize, room: u32) -> bool
+fn list_fits(rows: &Slots, sibs: &OrderedLists, head: usize, room: u32) -> bool
     requires rows { (k : ℕ) → Live rows.now k → AllHeads sibs.now.homes (row_at rows.now k).shapes }
     requires laws { Laws sibs.now.lists sibs.now.homes }
     requires head { IsHead sibs.now.homes head }

@@ -1,17 +1,17 @@
-//! What is read of the slots of a module under edits.
+//! Reads of the slots of a module under edits.
 #![tactic(auto)]
 
-pub mod beside;
 pub mod copy;
 pub mod depth;
+pub mod neighbours;
 pub mod node;
+pub mod position;
 pub mod spare;
-pub mod stand;
 pub mod users;
 pub mod uses;
 pub mod walk;
 
 pub use ir_store_slots::{
-    Chains, Draft, IdTable, Ordered, Rows, entry, find, grow, marks, release, room, row, spot,
-    trees, types, use_lists,
+    Draft, IdTable, LinkedLists, OrderedLists, Slots, capacity, entry, find, grow, insertion_point,
+    marks, release, row, trees, types, use_lists,
 };

@@ -1,18 +1,18 @@
-//! What an operation of the module has, beside the operations in its blocks.
+//! An operation without the operations in its blocks.
 ghost use Rattle.std.specs.Prelude.{◌≡◌, length, map, slice_get, option_map, option_and_then};
 ghost use Rattle.ir_store_slots.specs.Rows.{row_at, node_row, shape_of, shape_arguments};
 
-use ir_store_slots::Rows;
-use ir_store_slots::row::Area;
+use ir_store_slots::Slots;
+use ir_store_slots::row::RegionData;
 use ir_store_slots::trees::place::Part;
 use ir_store_slots::trees::value::Value;
 use ir_store_slots::types::ids::{AttrId, NameId, TypeId};
 use std::marker::Model;
 
-/// An operation of the module, or a held one, to be read.
+/// A view of an operation, of the module or held.
 #[derive(Drop)]
 pub struct Node<'a> {
-    rows: &'a Rows,
+    rows: &'a Slots,
     slot: usize,
 }
 
@@ -28,57 +28,57 @@ impl<'a> Model for Node<'a> {
 }
 
 impl<'a> Node<'a> {
-    /// The operation in a slot, to be read.
-    pub fn new(rows: &'a Rows, slot: usize) -> Node<'a>
+    /// Returns a view of the operation in a slot.
+    pub fn new(rows: &'a Slots, slot: usize) -> Node<'a>
         ensures { result ≡ node_row (row_at rows.now slot) }
     {
         Node { rows, slot }
     }
 
-    /// The name of the operation.
+    /// Returns the name of the operation.
     pub fn name(&self) -> NameId
         ensures { result ≡ self.now.head.name }
     {
         self.rows.name(self.slot)
     }
 
-    /// Its operands, in order.
+    /// Returns the operands, in order.
     pub fn operands(&self) -> &[Value]
         ensures { result.now ≡ self.now.head.operands }
     {
         self.rows.operands(self.slot)
     }
 
-    /// The types of its results, in order.
+    /// Returns the types of the results, in order.
     pub fn results(&self) -> &[TypeId]
         ensures { result.now ≡ self.now.head.results }
     {
         self.rows.results(self.slot)
     }
 
-    /// Its properties, in the order of their keys.
+    /// Returns the properties, in the order of their keys.
     pub fn properties(&self) -> &[(NameId, AttrId)]
         ensures { result.now ≡ self.now.head.properties }
     {
         self.rows.entries(self.slot, Part::Props)
     }
 
-    /// Its discardable attributes, in the order of their keys.
+    /// Returns the discardable attributes, in the order of their keys.
     pub fn attributes(&self) -> &[(NameId, AttrId)]
         ensures { result.now ≡ self.now.head.attributes }
     {
         self.rows.entries(self.slot, Part::Attrs)
     }
 
-    /// How many regions it has.
+    /// Returns the number of regions.
     pub fn region_count(&self) -> usize
         ensures { result ≡ length self.now.arguments }
     {
         self.rows.areas(self.slot).len()
     }
 
-    /// The types of the arguments of the block of a region, or none where it has no such region, or the
-    /// region no block.
+    /// Returns the types of the arguments of the block of a region, or `None` if there is no such region or it has no
+    /// block.
     pub fn arguments(&self, region: usize) -> Option<&[TypeId]>
         ensures { option_map (λ a. a.now) result ≡ option_and_then (λ a. a) (slice_get self.now.arguments region) }
     {
@@ -86,12 +86,12 @@ impl<'a> Node<'a> {
     }
 }
 
-/// The types of the arguments of a region's block, if there is one.
-fn block_arguments(areas: &[Area], region: usize) -> Option<&[TypeId]>
+/// Returns the types of the arguments of a region's block, or `None` if there is no such block.
+fn block_arguments(areas: &[RegionData], region: usize) -> Option<&[TypeId]>
     ensures { option_map (λ a. a.now) result ≡ option_and_then shape_arguments (slice_get (map shape_of areas.now) region) }
 {
     match areas.get(region)? {
-        Area::Empty => None,
-        Area::Block { args, .. } => Some(args),
+        RegionData::Empty => None,
+        RegionData::Block { args, .. } => Some(args),
     }
 }

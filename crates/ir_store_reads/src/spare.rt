@@ -1,5 +1,4 @@
-//! Slots that were given up and are written again. Whether a slot can be is looked at as it is, so nothing has to be
-//! known of it.
+//! Reuse of free slots. Whether a free slot fits is checked directly, so no invariant about free slots is needed.
 ghost use Rattle.std.specs.Prelude.{◌≡◌, ◌<◌, [], true, map, IfOk, IfSome};
 ghost use Rattle.ir_store_slots.specs.Lists.{IsFree, IsHead, list_at};
 ghost use Rattle.ir_store_slots.specs.trees.View.{region_view};
@@ -10,31 +9,31 @@ ghost use Rattle.ir_store_slots.specs.Grows.{parts_of, IsBlock, AreBlocks, AreEm
 ghost use Rattle.ir_store_reads.specs.Again.{HeadsOf, NodesOf, BlockFits, RowFits};
 ghost use Rattle.ir_store_slots.specs.trees.Tree.{head};
 
-use ir_store_slots::row::{Area, Cell};
+use ir_store_slots::row::{RegionData, UseNode};
 use ir_store_slots::trees::tree::{TreeOp, TreeRegion};
 use ir_store_slots::types::ids::OpId;
-use ir_store_slots::{Chains, Draft, Ordered, Rows};
+use ir_store_slots::{Draft, LinkedLists, OrderedLists, Slots};
 use std::alloc::{AllocError, Global};
 
-/// No slot.
+/// The number for no slot.
 pub const NO_SLOT: u32 = u32::MAX;
 
-/// How many spare slots are looked at for an operation.
+/// The number of free slots that are tried for an operation.
 const MOST_LOOKS: u32 = 8;
 
-/// A slot that was given up, and the operation that is to be written there.
+/// A free slot, and the operation to be written into it.
 #[derive(Drop)]
-pub struct Spare {
-    /// The slot that was given up behind it, if any.
-    pub behind: u32,
-    /// The one that was given up before it, if any.
+pub struct FreeSlot {
+    /// The slot before it in the free list, which was freed later, or `NO_SLOT`.
+    pub trailing: u32,
+    /// The slot after it in the free list, which was freed earlier, or `NO_SLOT`.
     pub before: u32,
     pub slot: usize,
     pub draft: Draft,
 }
 
-/// Whether a node stands for this operand or value of a slot.
-fn is_cell(cells: &Vec<Cell>, node: usize, row: usize, place: usize) -> bool
+/// Returns true only if a node has the cell of this operand or value of a slot.
+fn is_cell(cells: &Vec<UseNode>, node: usize, row: usize, place: usize) -> bool
     ensures { result ≡ true → cell_at (cells_of cells.now.items) node ≡ (row, place) }
 {
     match cells.get(node) {
@@ -43,31 +42,31 @@ fn is_cell(cells: &Vec<Cell>, node: usize, row: usize, place: usize) -> bool
     }
 }
 
-/// Whether a node is a head.
-fn is_head(uses: &Chains, node: usize) -> bool
+/// Returns true only if a node is a head.
+fn is_head(uses: &LinkedLists, node: usize) -> bool
     ensures { result ≡ true → IsHead uses.now.homes node }
 {
     if node >= uses.len() {
         return false;
     }
-    match uses.home(node) {
+    match uses.head_of(node) {
         None => false,
         Some(home) => home == node,
     }
 }
 
-/// Whether a node is in no list, and no head.
-fn is_loose(uses: &Chains, node: usize) -> bool
+/// Returns true only if a node is free: in no list, and no head.
+fn is_loose(uses: &LinkedLists, node: usize) -> bool
     ensures { result ≡ true → IsFree uses.now.homes node }
 {
     if node >= uses.len() {
         return false;
     }
-    uses.home(node).is_none()
+    uses.head_of(node).is_none()
 }
 
-/// Whether a slot is the head of a block in which no operation stands.
-fn is_bare_head(sibs: &Ordered, node: usize) -> bool
+/// Returns true only if a slot is the head of an empty block.
+fn is_bare_head(sibs: &OrderedLists, node: usize) -> bool
     ensures { result ≡ true → IsHead sibs.now.homes node × (list_at sibs.now.lists node ≡ []) }
 {
     if node >= sibs.len() {
@@ -79,8 +78,8 @@ fn is_bare_head(sibs: &Ordered, node: usize) -> bool
     }
 }
 
-/// Whether a slot stands in no block, and is no block's head.
-fn is_out(sibs: &Ordered, node: usize) -> bool
+/// Returns true only if a slot is in no block, and isn't the head of one.
+fn is_out(sibs: &OrderedLists, node: usize) -> bool
     ensures { result ≡ true → IsFree sibs.now.homes node }
 {
     if node >= sibs.len() {
@@ -89,8 +88,14 @@ fn is_out(sibs: &Ordered, node: usize) -> bool
     sibs.home(node).is_none()
 }
 
-/// Whether so many nodes are the heads of the values of a slot.
-fn has_heads(uses: &Chains, cells: &Vec<Cell>, row: usize, base: usize, count: usize) -> bool
+/// Returns true only if `count` nodes are the heads of the values of a slot.
+fn has_heads(
+    uses: &LinkedLists,
+    cells: &Vec<UseNode>,
+    row: usize,
+    base: usize,
+    count: usize,
+) -> bool
     ensures { result ≡ true → HeadsOf uses.now.homes (cells_of cells.now.items) row base count }
 {
     uses.laws();
@@ -109,8 +114,14 @@ fn has_heads(uses: &Chains, cells: &Vec<Cell>, row: usize, base: usize, count: u
     true
 }
 
-/// Whether so many nodes are those of the operands of a slot, and in no list.
-fn has_nodes(uses: &Chains, cells: &Vec<Cell>, row: usize, base: usize, count: usize) -> bool
+/// Returns true only if `count` nodes are those of the operands of a slot, and in no list.
+fn has_nodes(
+    uses: &LinkedLists,
+    cells: &Vec<UseNode>,
+    row: usize,
+    base: usize,
+    count: usize,
+) -> bool
     ensures { result ≡ true → NodesOf uses.now.homes (cells_of cells.now.items) row base count }
 {
     uses.laws();
@@ -129,12 +140,13 @@ fn has_nodes(uses: &Chains, cells: &Vec<Cell>, row: usize, base: usize, count: u
     true
 }
 
-/// Whether a slot is the head of an empty block with so many arguments, of this region of this slot.
+/// Returns true only if a slot is the head of an empty block with this number of arguments, for this region of this
+/// slot.
 fn block_fits(
-    rows: &Rows,
-    sibs: &Ordered,
-    uses: &Chains,
-    cells: &Vec<Cell>,
+    rows: &Slots,
+    sibs: &OrderedLists,
+    uses: &LinkedLists,
+    cells: &Vec<UseNode>,
     owner: usize,
     number: u32,
     head: usize,
@@ -151,53 +163,55 @@ fn block_fits(
     has_heads(uses, cells, head, rows.values(head), count)
 }
 
-/// The region of a spare slot for a region like another, whose block's head would be this slot, if it fits.
+/// Returns the region of a free slot for a region like another, with `head` as the head of its block, or `None` if it
+/// doesn't fit.
 fn fit_area(
     alloc: Global,
-    rows: &Rows,
-    sibs: &Ordered,
-    uses: &Chains,
-    cells: &Vec<Cell>,
+    rows: &Slots,
+    sibs: &OrderedLists,
+    uses: &LinkedLists,
+    cells: &Vec<UseNode>,
     owner: usize,
     number: u32,
     head: usize,
     region: &TreeRegion,
-) -> Result<Option<Area>, AllocError>
+) -> Result<Option<RegionData>, AllocError>
     ensures { IfOk result (λ o. IfSome o (λ a. (bare_region (shape_of a) ≡ emptied_region (region_view region.now))
         × IsBlock (parts_of rows.now sibs.now uses.now cells.now.items) 0 owner number (shape_of a))) }
 {
     match region {
-        TreeRegion::Empty => Ok(Some(Area::Empty)),
+        TreeRegion::Empty => Ok(Some(RegionData::Empty)),
         TreeRegion::Block { args, .. } => {
             if !block_fits(rows, sibs, uses, cells, owner, number, head, args.len()) {
                 return Ok(None);
             }
             match Vec::from_slice(alloc, args) {
-                Ok(args) => Ok(Some(Area::Block { args, head })),
+                Ok(args) => Ok(Some(RegionData::Block { args, head })),
                 Err(e) => Err(e),
             }
         }
     }
 }
 
-/// The slot of the head of the next block, behind a region.
-fn head_behind(head: usize, region: &TreeRegion) -> usize {
+/// Returns the slot of the head of the next block, after a region.
+fn head_after(head: usize, region: &TreeRegion) -> usize {
     match region {
         TreeRegion::Empty => head,
         TreeRegion::Block { .. } => head.saturating_add(1),
     }
 }
 
-/// The regions of a spare slot for regions like others, if they fit: the heads of a slot's blocks stand right behind it.
+/// Returns the regions of a free slot for regions like others, or `None` if they don't fit. The heads of a slot's
+/// blocks are in the slots directly after it.
 fn fit_areas(
     alloc: Global,
-    rows: &Rows,
-    sibs: &Ordered,
-    uses: &Chains,
-    cells: &Vec<Cell>,
+    rows: &Slots,
+    sibs: &OrderedLists,
+    uses: &LinkedLists,
+    cells: &Vec<UseNode>,
     owner: usize,
     regions: &[TreeRegion],
-) -> Result<Option<Vec<Area>>, AllocError>
+) -> Result<Option<Vec<RegionData>>, AllocError>
     ensures { IfOk result (λ o. IfSome o (λ a. AreEmptied (map shape_of a.items) (map region_view regions.now)
         × AreBlocks (parts_of rows.now sibs.now uses.now cells.now.items) 0 owner (map shape_of a.items))) }
 {
@@ -219,18 +233,18 @@ fn fit_areas(
             None => return Err(AllocError),
             Some(number) => number,
         };
-        head = head_behind(head, region);
+        head = head_after(head, region);
         rest = tail;
     }
     Ok(Some(fitted))
 }
 
-/// Whether a spare slot has the nodes that an operation like a header needs for its values and operands.
+/// Returns true only if a free slot has the nodes that an operation like a header needs for its values and operands.
 fn row_fits(
-    rows: &Rows,
-    sibs: &Ordered,
-    uses: &Chains,
-    cells: &Vec<Cell>,
+    rows: &Slots,
+    sibs: &OrderedLists,
+    uses: &LinkedLists,
+    cells: &Vec<UseNode>,
     slot: usize,
     header: &TreeOp,
 ) -> bool
@@ -245,13 +259,13 @@ fn row_fits(
     has_nodes(uses, cells, slot, rows.uses(slot), header.operands.len())
 }
 
-/// What is to be written into a spare slot for an operation like a header, if that fits.
+/// Returns the row to write into a free slot for an operation like a header, or `None` if it doesn't fit.
 fn fit_row(
     alloc: Global,
-    rows: &Rows,
-    sibs: &Ordered,
-    uses: &Chains,
-    cells: &Vec<Cell>,
+    rows: &Slots,
+    sibs: &OrderedLists,
+    uses: &LinkedLists,
+    cells: &Vec<UseNode>,
     slot: usize,
     op: OpId,
     header: &TreeOp,
@@ -273,28 +287,29 @@ fn fit_row(
     }
 }
 
-/// The slot that was given up before another.
-fn spare_before(rows: &Rows, slot: usize) -> u32 {
+/// Returns the next slot of the free list.
+fn spare_before(rows: &Slots, slot: usize) -> u32 {
     match rows.spare(slot) {
         None => NO_SLOT,
         Some(before) => before,
     }
 }
 
-/// A spare slot for an operation like a header. A few of those that were given up last are looked at.
+/// Returns a free slot for an operation like a header, or `None` if none fits. Only the newest `MOST_LOOKS` free slots
+/// are tried.
 pub fn find_spare(
     alloc: Global,
-    rows: &Rows,
-    sibs: &Ordered,
-    uses: &Chains,
-    cells: &Vec<Cell>,
+    rows: &Slots,
+    sibs: &OrderedLists,
+    uses: &LinkedLists,
+    cells: &Vec<UseNode>,
     newest: u32,
     op: OpId,
     header: &TreeOp,
-) -> Result<Option<Spare>, AllocError>
+) -> Result<Option<FreeSlot>, AllocError>
     ensures { IfOk result (λ o. IfSome o (λ p. Grown 0 (parts_of rows.now sibs.now uses.now cells.now.items) op header.now p.slot p.draft)) }
 {
-    let mut behind = NO_SLOT;
+    let mut trailing = NO_SLOT;
     let mut at = newest;
     let mut looks = MOST_LOOKS;
     'spare: while looks > 0 && at != NO_SLOT {
@@ -302,8 +317,8 @@ pub fn find_spare(
         let before = spare_before(rows, slot);
         match fit_row(alloc, rows, sibs, uses, cells, slot, op, header) {
             Ok(Some(draft)) => {
-                return Ok(Some(Spare {
-                    behind,
+                return Ok(Some(FreeSlot {
+                    trailing,
                     before,
                     slot,
                     draft,
@@ -312,20 +327,20 @@ pub fn find_spare(
             Ok(None) => {}
             Err(e) => return Err(e),
         }
-        behind = at;
+        trailing = at;
         at = before;
         looks -= 1;
     }
     Ok(None)
 }
 
-/// Takes a slot out of the row of spare ones, where it stands between two others. The newest then.
-pub fn take_spare(rows: &mut Rows, newest: u32, behind: u32, before: u32) -> u32
+/// Removes a slot between two others from the free list, and returns the head of the list.
+pub fn take_spare(rows: &mut Slots, newest: u32, trailing: u32, before: u32) -> u32
     ensures { rows.new ≡ rows.old }
 {
-    if behind == NO_SLOT {
+    if trailing == NO_SLOT {
         return before;
     }
-    rows.set_spare(behind as usize, before);
+    rows.set_spare(trailing as usize, before);
     newest
 }

@@ -4,20 +4,20 @@ ghost use Rattle.ir_store_slots.specs.Rows.{row_at};
 ghost use Rattle.ir_store_slots.specs.Index.{cells_of};
 ghost use Rattle.ir_store_slots.specs.Using.{use_in};
 
-use ir_store_slots::Rows;
-use ir_store_slots::row::Cell;
+use ir_store_slots::Slots;
+use ir_store_slots::row::UseNode;
 use ir_store_slots::types::ids::OpId;
 use ir_store_slots::use_lists::id_at;
 
-/// The heads of the uses of a slot's results: the first, and how many.
-pub fn result_run(rows: &Rows, key: usize) -> (usize, usize)
+/// Returns the heads of the use lists of a slot's results: the first one, and their number.
+pub fn result_run(rows: &Slots, key: usize) -> (usize, usize)
     ensures { result ≡ ((row_at rows.now key).values, length (row_at rows.now key).head.results) }
 {
     (rows.values(key), rows.results(key).len())
 }
 
-/// The operation of a use, and which operand it is.
-pub fn user_at(rows: &Rows, cells: &Vec<Cell>, node: usize) -> (OpId, u32)
+/// Returns the user of a node, and the index of the operand.
+pub fn user_at(rows: &Slots, cells: &Vec<UseNode>, node: usize) -> (OpId, u32)
     ensures { result ≡ use_in rows.now (cells_of cells.now.items) node }
 {
     match cells.get(node) {

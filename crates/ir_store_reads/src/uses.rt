@@ -1,4 +1,4 @@
-//! The uses of a value, one after another.
+//! An iterator over the uses of a value.
 ghost use Rattle.std.specs.Prelude.{◌≡◌, length, IfSome};
 ghost use Rattle.std.specs.Iterator.{YieldsFirst, item_count};
 ghost use Rattle.ir_store_slots.specs.Lists.{IsHead};
@@ -6,19 +6,19 @@ ghost use Rattle.ir_store_slots.specs.Index.{cells_of};
 ghost use Rattle.ir_store_slots.specs.Using.{uses_at};
 
 use crate::users::user_at;
-use ir_store_slots::row::Cell;
+use ir_store_slots::row::UseNode;
 use ir_store_slots::types::ids::OpId;
-use ir_store_slots::{Chains, Rows};
+use ir_store_slots::{LinkedLists, Slots};
 use std::iter::FusedIterator;
 use std::marker::Model;
 
-/// The uses of a value, one after another, of a module that stays as it is meanwhile: the operations, and which
-/// operands. They are seen as the list of those that are left.
+/// An iterator over the uses of a value, which borrows the module: the users, and the indices of the operands.
+/// Contracts see the list of the remaining uses.
 #[derive(Drop)]
 pub struct UsesOf<'a> {
-    rows: &'a Rows,
-    cells: &'a Vec<Cell>,
-    uses: &'a Chains,
+    rows: &'a Slots,
+    cells: &'a Vec<UseNode>,
+    uses: &'a LinkedLists,
     /// The node of the next use.
     at: Option<usize>,
 }
@@ -35,11 +35,11 @@ impl<'a> Model for UsesOf<'a> {
     ghost invariant = { λ s. IsNode s.uses.now.homes s.at };
 }
 
-/// The uses whose nodes stand in the list of a head, if there is one.
+/// Returns an iterator over the uses in the list of a head, or an empty one if there is no head.
 pub fn uses_from<'a>(
-    rows: &'a Rows,
-    cells: &'a Vec<Cell>,
-    uses: &'a Chains,
+    rows: &'a Slots,
+    cells: &'a Vec<UseNode>,
+    uses: &'a LinkedLists,
     head: Option<usize>,
 ) -> UsesOf<'a>
     requires { IfSome head (λ h. IsHead uses.now.homes h) }
@@ -59,7 +59,7 @@ pub fn uses_from<'a>(
 }
 
 impl<'a> UsesOf<'a> {
-    /// How many uses are left, by a walk over them.
+    /// Returns the number of remaining uses, by a walk over them.
     pub fn len(&self) -> usize
         ensures { result ≡ length self.now }
     {

@@ -1,4 +1,4 @@
-//! The operations of the module, one after another.
+//! The operations of the module in pre-order.
 ghost use Rattle.std.specs.Prelude.{◌≡◌, ℕ, ◌∷◌, [], None, map, OnOk};
 ghost use Rattle.ir_store_slots.specs.Lists.{IsHead, Laws, list_at};
 ghost use Rattle.ir_store_slots.specs.Rows.{row_at, shape_of};
@@ -7,16 +7,16 @@ ghost use Rattle.ir_store_slots.specs.Right.{Live};
 ghost use Rattle.ir_store_reads.specs.Added.{AddsOp, AddsOps, AddsRegions};
 ghost use Rattle.ir_store_reads.specs.Ends.{last_in, later};
 
-use ir_store_slots::row::Area;
+use ir_store_slots::row::RegionData;
 use ir_store_slots::types::ids::OpId;
-use ir_store_slots::{Ordered, Rows};
+use ir_store_slots::{OrderedLists, Slots};
 use std::alloc::AllocError;
 
-/// Adds the operation of a slot and those inside it, where that is at most so many levels deep.
+/// Appends the operation of a slot and those inside it. An `AllocError` if it has more levels than given.
 #[cycle(push)]
 pub fn push_op(
-    rows: &Rows,
-    sibs: &Ordered,
+    rows: &Slots,
+    sibs: &OrderedLists,
     key: usize,
     levels: u32,
     out: &mut Vec<OpId>,
@@ -32,12 +32,12 @@ pub fn push_op(
     push_areas(rows, sibs, rows.areas(key), levels - 1, out)
 }
 
-/// Adds the operations in some regions.
+/// Appends the operations in some regions.
 #[cycle(push)]
 fn push_areas(
-    rows: &Rows,
-    sibs: &Ordered,
-    areas: &[Area],
+    rows: &Slots,
+    sibs: &OrderedLists,
+    areas: &[RegionData],
     levels: u32,
     out: &mut Vec<OpId>,
 ) -> Result<(), AllocError>
@@ -54,12 +54,12 @@ fn push_areas(
     Ok(())
 }
 
-/// Adds the operations in a region.
+/// Appends the operations in a region.
 #[cycle(push)]
 fn push_area(
-    rows: &Rows,
-    sibs: &Ordered,
-    area: &Area,
+    rows: &Slots,
+    sibs: &OrderedLists,
+    area: &RegionData,
     levels: u32,
     out: &mut Vec<OpId>,
 ) -> Result<(), AllocError>
@@ -69,16 +69,16 @@ fn push_area(
     ensures { OnOk result (AddsRegions rows.now sibs.now.lists (shape_of area.now ∷ []) out.old.items out.new.items) }
 {
     match area {
-        Area::Empty => Ok(()),
-        Area::Block { head, .. } => push_list(rows, sibs, *head, levels, out),
+        RegionData::Empty => Ok(()),
+        RegionData::Block { head, .. } => push_list(rows, sibs, *head, levels, out),
     }
 }
 
-/// Adds the operations in the list of a head, and those inside them.
+/// Appends the operations in the list of a head, and those inside them.
 #[cycle(push)]
 fn push_list(
-    rows: &Rows,
-    sibs: &Ordered,
+    rows: &Slots,
+    sibs: &OrderedLists,
     head: usize,
     levels: u32,
     out: &mut Vec<OpId>,
@@ -96,16 +96,16 @@ fn push_list(
     Ok(())
 }
 
-/// The slot that stands last in the last block of a slot that isn't empty, if there is one.
-pub fn last_slot(rows: &Rows, sibs: &Ordered, key: usize) -> Option<usize>
+/// Returns the last slot of the last nonempty block of a slot, or `None` if all its blocks are empty.
+pub fn last_slot(rows: &Slots, sibs: &OrderedLists, key: usize) -> Option<usize>
     requires { AllHeads sibs.now.homes (row_at rows.now key).shapes }
     ensures { result ≡ last_in sibs.now.lists None (row_at rows.now key).shapes }
 {
     last_listed(sibs, rows.areas(key))
 }
 
-/// The slot that stands last in the last block of some regions, if there is one.
-fn last_listed(sibs: &Ordered, areas: &[Area]) -> Option<usize>
+/// Returns the last slot of the last nonempty block of some regions, or `None` if all blocks are empty.
+fn last_listed(sibs: &OrderedLists, areas: &[RegionData]) -> Option<usize>
     requires { AllHeads sibs.now.homes (map shape_of areas.now) }
     ensures { result ≡ last_in sibs.now.lists None (map shape_of areas.now) }
 {
@@ -118,14 +118,14 @@ fn last_listed(sibs: &Ordered, areas: &[Area]) -> Option<usize>
     last
 }
 
-/// The slot that stands last in a region, or another where that is empty.
-fn last_or(sibs: &Ordered, area: &Area, other: Option<usize>) -> Option<usize>
+/// Returns the last slot of a region, or `other` if the region is empty.
+fn last_or(sibs: &OrderedLists, area: &RegionData, other: Option<usize>) -> Option<usize>
     requires { AllHeads sibs.now.homes (shape_of area.now ∷ []) }
     ensures { result ≡ later sibs.now.lists other (shape_of area.now) }
 {
     match area {
-        Area::Empty => other,
-        Area::Block { head, .. } => match sibs.last(*head) {
+        RegionData::Empty => other,
+        RegionData::Block { head, .. } => match sibs.last(*head) {
             None => other,
             Some(key) => Some(key),
         },

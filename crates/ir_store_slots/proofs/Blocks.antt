@@ -45,7 +45,7 @@ module _ (p : Parts) (even : IsEven p) (head : ℕ) (eh : head ≡ length p.rows
         slot_inside : length p.rows < length rows'
         slot_inside = omega (arith, ap length a.row, push_long p.rows w w)
 
--- blocks hold for a lower bound
+-- blocks remain blocks for a lower bound
 pub lower_block : (q : Parts) (bound low k i : ℕ) (a : List ℕ × ℕ) → low ≤ bound → NewBlock q bound k i a → NewBlock q low k i a
 lower_block q bound low k i a l b = record {
   head = b.head;
@@ -59,7 +59,7 @@ pub lower_is : (q : Parts) (bound low k i : ℕ) (x : Shape) → low ≤ bound �
 lower_is q bound low k i None l b = tt
 lower_is q bound low k i (Some a) l b = lower_block q bound low k i a l b
 
--- one block more
+-- one more block
 pub blocks_push : (q : Parts) (bound k : ℕ) (xs : List Shape) (x : Shape) → AreBlocks q bound k xs → IsBlock q bound k (length xs) x → AreBlocks q bound k (xs ++ x ∷ [])
 blocks_push q bound k xs x f b i a e = ⊎_elim
     (λ l. f i a (sym (in_front xs (x ∷ []) i l) ∙ e))
@@ -90,7 +90,7 @@ blocks_push q bound k xs x f b i a e = ⊎_elim
     last None b e z = absurd cc
     last (Some c) b e z = let f : c ≡ a = cc in subst (λ j. NewBlock q bound k j a) (sym z) (subst (NewBlock q bound k (length xs)) f b)
 
--- what a loop over regions keeps
+-- the invariant of a loop over regions
 pub areas_step : (p q r : Parts) → IsEven p → Wider p q → Wider q r → (owner : ℕ) (xs : List Shape) (x : Shape) (ys : List Shape) → AreBlocks q (length p.homes) owner xs → (n : ℕ) → n ≡ length xs
     → IsBlock r (length q.homes) owner n x → ys ≡ xs ++ x ∷ [] → AreBlocks r (length p.homes) owner ys × (n + 1 ≡ length ys)
 areas_step p q r e a b owner xs x ys f n en g ey = (

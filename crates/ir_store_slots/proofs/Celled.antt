@@ -2,8 +2,8 @@
 use Rattle.std.proofs.Common.{◌≡◌, ℕ, ◌+◌, ◌<◌, List, sym, ap, ◌∙◌, subst, length, ⊎_elim, arith, Option, Some, None, slice_get}
 use Rattle.std.specs.Prelude.{option_and_then, if◌then◌else◌}
 use Rattle.std.proofs.lemmas.Bool.{cases_eq, cases_lt, false≢true}
-use Rattle.ir_store_rows.specs.trees.declared.value.Value.{Value}
-use Rattle.ir_store_rows.specs.trees.declared.value.Value.TheVariants.{Result, Arg}
+use Rattle.ir_store_arena.specs.trees.declared.value.Value.{Value}
+use Rattle.ir_store_arena.specs.trees.declared.value.Value.TheVariants.{Result, Arg}
 use Rattle.ir_store_slots.specs.Rows.{Row, row_at}
 use Rattle.ir_store_slots.specs.Right.{Used}
 use Rattle.ir_store_slots.specs.Index.{argument_head, slot_head, value_head, cell_at, Index, Celled, lives}
@@ -11,7 +11,7 @@ use Rattle.ir_store_slots.specs.Grows.{Parts, Wider}
 use Rattle.ir_store_slots.proofs.Idle.{is_below}
 use Rattle.ir_store_slots.proofs.Wide.{Keyed}
 
--- rows of which no more are used, and those have the same values
+-- rows of which no more are used than before, with the same values
 pub celled_same : (rows rows' : List Row) (cells : List (ℕ × ℕ)) → Celled rows cells → ((k : ℕ) → Used rows' k → Used rows k) → ((k : ℕ) → Used rows' k → (row_at rows' k).head.results ≡ (row_at rows k).head.results)
     → ((k : ℕ) → Used rows' k → (row_at rows' k).shapes ≡ (row_at rows k).shapes) → ((k : ℕ) → (row_at rows' k).values ≡ (row_at rows k).values) → Celled rows' cells
 celled_same rows rows' cells c used results shapes values = record {
@@ -19,7 +19,7 @@ celled_same rows rows' cells c used results shapes values = record {
   arguments = λ k r i a u e l. subst (λ z. cell_at cells (z + i) ≡ (a.1, i)) (sym (values a.1)) (c.arguments k r i a (used k u) (sym (ap (λ z. slice_get z r) (shapes k u)) ∙ e) l);
 }
 
--- a row is written that has the values of the one before it
+-- a row is written that has the values of the previous one
 pub celled_edit : (rows rows' : List Row) (cells : List (ℕ × ℕ)) (k : ℕ) → Celled rows cells → ((q : ℕ) → (q ≡ k → ⊥) → row_at rows' q ≡ row_at rows q) → (row_at rows' k).used ≡ (row_at rows k).used
     → (row_at rows' k).head.results ≡ (row_at rows k).head.results → (row_at rows' k).shapes ≡ (row_at rows k).shapes → (row_at rows' k).values ≡ (row_at rows k).values → Celled rows' cells
 celled_edit rows rows' cells k c same used results shapes values = celled_same rows rows' cells c (λ q u. record { used = sym (at (λ z. z.used) used q) ∙ u.used }) (λ q u. at (λ z. z.head.results) results q) (λ q u. at (λ z. z.shapes) shapes q) (at (λ z. z.values) values)

@@ -1,4 +1,4 @@
--- Slots are given up along the ids, the greatest first.
+-- Slots are freed by id, in descending order.
 use Rattle.std.proofs.Common.{◌≡◌, ℕ, suc, ◌<◌, ◌≤◌, List, refl, sym, ap, ◌∙◌, subst, Bool, true, false, not, ◌&&◌, ◌||◌, eqb, arith, Option, Some, None, ⊎_elim}
 use Rattle.std.specs.Prelude.{if◌then◌else◌, nat_lt}
 use Rattle.std.specs.Ordering.{nat_cmp}
@@ -11,7 +11,7 @@ use Rattle.ir_store_slots.specs.Marks.{Marked}
 use Rattle.ir_store_slots.proofs.Items.{some_same}
 use Rattle.ir_store_slots.proofs.Sweeping.{sweep_start, sweep_all, sweep_step, sweep_wider, given_used, given_from}
 
--- the slots of ids from a number on have been looked at
+-- the slots of ids from a number on were visited
 pub record Descends (from end : ℕ) (rows new : List Row) (keys left : ℕ → Option ℕ) (homes : List ℕ) : Type 0 where
   pub few : end ≤ 4294967296
   pub marked : Marked new homes
@@ -39,7 +39,7 @@ less_next : (b : ℕ) → nat_lt b (suc b) ≡ true
 less_next b = grind (arith, nat_tests)
 
 module _ (from : ℕ) (rows : List Row) (keys : ℕ → Option ℕ) (kd : IsKeyed rows keys) where
-  -- who is given up has a key
+  -- a released slot has an id in the table
   keyed : (q : ℕ) → is_given from (row_at rows q) ≡ true → keys (row_at rows q).head.id ≡ Some q
   keyed q g = kd.keyed q (given_used from rows q g)
 
@@ -65,15 +65,15 @@ module _ (from : ℕ) (rows : List Row) (keys : ℕ → Option ℕ) (kd : IsKeye
     abbrev before : ℕ → Bool
     before q = not (nat_lt (row_at rows q).head.id (suc id))
 
-    abbrev behind : ℕ → Bool
-    behind q = not (nat_lt (row_at rows q).head.id id)
+    abbrev trailing : ℕ → Bool
+    trailing q = not (nat_lt (row_at rows q).head.id id)
 
-    -- those before, and one slot more
+    -- the earlier slots, and one more
     abbrev more : ℕ → ℕ → Bool
     more k q = before q || eqb q k
 
-    -- of another id nothing changes
-    apart : (q : ℕ) → ((row_at rows q).head.id ≡ id → ⊥) → behind q ≡ before q
+    -- other ids are unchanged
+    apart : (q : ℕ) → ((row_at rows q).head.id ≡ id → ⊥) → trailing q ≡ before q
     apart q ne = ap not (less_other (row_at rows q).head.id id ne)
 
     unseen : (k : ℕ) → keys id ≡ Some k → before k ≡ false
@@ -83,14 +83,14 @@ module _ (from : ℕ) (rows : List Row) (keys : ℕ → Option ℕ) (kd : IsKeye
       abbrev Goes : Type 0
       Goes = Descends from id rows new2 keys (finmap.get left2) homes2
 
-      goes : ReleasesSome from behind rows new2 keys (finmap.get left2) → Goes
+      goes : ReleasesSome from trailing rows new2 keys (finmap.get left2) → Goes
       goes s = record { few = let f = d.few in omega (arith, f); marked = m; some = s }
 
       -- the id has no slot
       without : finmap.get left id ≡ None → new2 ≡ new → left2 ≡ left → Goes
-      without e en el = goes (subst (λ z. ReleasesSome from behind rows z keys (finmap.get left2)) (sym en)
-          (subst (λ z. ReleasesSome from behind rows new keys (finmap.get z)) (sym el)
-          (sweep_wider from rows keys kd before behind new (finmap.get left) (λ q g. apart q (other q g)) d.some)))
+      without e en el = goes (subst (λ z. ReleasesSome from trailing rows z keys (finmap.get left2)) (sym en)
+          (subst (λ z. ReleasesSome from trailing rows new keys (finmap.get z)) (sym el)
+          (sweep_wider from rows keys kd before trailing new (finmap.get left) (λ q g. apart q (other q g)) d.some)))
         where
           other : (q : ℕ) → is_given from (row_at rows q) ≡ true → (row_at rows q).head.id ≡ id → ⊥
           other q g i =
@@ -99,9 +99,9 @@ module _ (from : ℕ) (rows : List Row) (keys : ℕ → Option ℕ) (kd : IsKeye
               ∙ ap {A = Bool} {B = Option ℕ} (λ b. if b && is_given from (row_at rows q) then None else Some q) (unseen q here) in
               absurd cc
 
-      -- it has one
+      -- the id has a slot
       with_slot : (k : ℕ) → keys id ≡ Some k → ReleasesSlot from k new new2 left left2 → Goes
-      with_slot k here r = goes (sweep_wider from rows keys kd (more k) behind new2 (finmap.get left2) alike
+      with_slot k here r = goes (sweep_wider from rows keys kd (more k) trailing new2 (finmap.get left2) alike
           (sweep_step from rows keys kd before new left d.some k (unseen k here) new2 left2 r (more k)
           (ap (λ b. before k || b) (eq-eqb k k refl) ∙ or_true (before k))
           (λ q ne. ap (λ b. before q || b) (ne_eqb q k ne) ∙ or_none (before q))))
@@ -114,7 +114,7 @@ module _ (from : ℕ) (rows : List Row) (keys : ℕ → Option ℕ) (kd : IsKeye
           or_none true = refl
           or_none false = refl
 
-          alike : (q : ℕ) → is_given from (row_at rows q) ≡ true → behind q ≡ more k q
+          alike : (q : ℕ) → is_given from (row_at rows q) ≡ true → trailing q ≡ more k q
           alike q g = ⊎_elim
               (λ z.
               let i : (row_at rows q).head.id ≡ id = ap (λ w. (row_at rows w).head.id) z ∙ (kd.known id k here).id in

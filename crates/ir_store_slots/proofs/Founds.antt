@@ -1,18 +1,18 @@
--- The slot of an operation spells what is found under its id.
+-- The slot of an id represents the operation found under the id.
 use Rattle.std.proofs.Common.{◌≡◌, ℕ, List, [], ◌∷◌, ◌++◌, refl, sym, ap, ◌∙◌, subst, Bool, true, false, eqb, ◌||◌, ⊎_elim, Option, Some, None}
 use Rattle.std.specs.List.{list_any}
 use Rattle.std.proofs.lemmas.Bool.{eqb-true, cases_Bool, false≢true, or_cases}
-use Rattle.ir_store_rows.specs.trees.Tree.{Op, op, Regions, no_regions, region, Region, empty, block, Ops, no_ops, next}
-use Rattle.ir_store_rows.specs.trees.Ids.{ids, regions_ids, region_ids, ops_ids, has_id, find, regions_find, region_find, ops_find, first_of}
+use Rattle.ir_store_arena.specs.trees.Tree.{Op, op, Regions, no_regions, region, Region, empty, block, Ops, no_ops, next}
+use Rattle.ir_store_arena.specs.trees.Ids.{ids, regions_ids, region_ids, ops_ids, has_id, find, regions_find, region_find, ops_find, first_of}
 use Rattle.ir_store_lists.specs.Lists.{list_at}
 use Rattle.ir_store_slots.specs.Rows.{Row, Shape, row_at}
 use Rattle.ir_store_slots.specs.Spells.{SpellsOp, SpellsRegions, SpellsRegion, SpellsOps}
 use Rattle.ir_store_slots.specs.Right.{Live}
 use Rattle.ir_store_slots.proofs.Mapped.{has_op, has_regions, has_region, has_ops, neither}
 use Rattle.std.proofs.lemmas.List.Folds.{list_any-append}
-use Rattle.ir_store_rows.proofs.of_trees.of_types.Truths.{either}
+use Rattle.ir_store_arena.proofs.of_trees.of_types.Truths.{either}
 
--- the two ways to say that an operation is there
+-- the two ways to say that an operation is in the tree
 module _ (x : ℕ) where
   mutual
     pub has_is : (t : Op) → has_op x t ≡ has_id x t
@@ -61,7 +61,7 @@ module _ (rows : List Row) (lists : List (List ℕ)) where
 
   module _ (x k : ℕ) (only : (q : ℕ) → Live rows q → (row_at rows q).head.id ≡ x → q ≡ k) where
     mutual
-      -- what is found is spelled by the slot k
+      -- slot k represents the found operation
       pub find_spelt : (q : ℕ) (t : Op) → SpellsOp rows lists q t → has_op x t ≡ true → Spelt k (find x t)
       find_spelt q (op h rs) s e = ⊎_elim
           (λ y.
@@ -92,7 +92,7 @@ module _ (rows : List Row) (lists : List (List ℕ)) where
           (λ n. rw (none_first_of (find x o) (ops_find x os) (not_found x o n)) (find_ops ks os s.1 (either (has_op x o) (has_ops x os) e n)))
           (cases_Bool (has_op x o))
 
-  -- what is in the tree has a slot
+  -- an operation of the tree has a slot
   abbrev pub HasSlot : ℕ → Type 0
   HasSlot x = (k : ℕ) × (Live rows k × ((row_at rows k).head.id ≡ x))
 

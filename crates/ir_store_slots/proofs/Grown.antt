@@ -1,12 +1,12 @@
--- A slot with all that its operation needs.
+-- A slot with everything that its operation needs.
 use Rattle.std.proofs.Common.{◌≡◌, ℕ, zero, suc, ◌+◌, ◌-◌, ◌<◌, ◌≤◌, List, [], ◌∷◌, ◌++◌, map, take, drop, refl, sym, ap, ◌∙◌, subst, length, true, false, arith, Option, Some, None, get_or}
 use Rattle.std.proofs.lemmas.List.{map-append, append_assoc}
 use Rattle.std.proofs.lemmas.Option.{slice_get_within}
 use Rattle.ir_store_lists.specs.Lists.{Lists, home_at}
-use Rattle.ir_store_rows.specs.trees.declared.tree.TreeRegion.{TreeRegion}
-use Rattle.ir_store_rows.specs.trees.View.{region_view}
-use Rattle.ir_store_rows.specs.trees.Tree.{Op, op, head, region, Region, empty, block, no_ops, regions_of}
-use Rattle.ir_store_rows.specs.tree_laws.Reasons.{with_id}
+use Rattle.ir_store_arena.specs.trees.declared.tree.TreeRegion.{TreeRegion}
+use Rattle.ir_store_arena.specs.trees.View.{region_view}
+use Rattle.ir_store_arena.specs.trees.Tree.{Op, op, head, region, Region, empty, block, no_ops, regions_of}
+use Rattle.ir_store_arena.specs.tree_laws.Reasons.{with_id}
 use Rattle.ir_store_slots.specs.Rows.{Row, Shape, bare_regions}
 use Rattle.ir_store_slots.specs.Grows.{Parts, IsEven, Wider, Ready, AreBlocks, Runs, AddsSlot, Grown, row_spare, row_held, bare_region}
 use Rattle.ir_store_slots.specs.Emptied.{emptied_region, emptied_regions, emptied}
@@ -19,7 +19,7 @@ take_all zero (x ∷ xs) e = absurd (omega (arith, e))
 take_all (suc n) [] e = absurd (omega (arith, e))
 take_all (suc n) (x ∷ xs) e = ap (λ z. x ∷ z) (take_all n xs (omega (arith, e)))
 
--- one region more is without operations
+-- one more region has no operations
 pub emptied_step : (xs ys : List Shape) (x : Shape) (rest : List TreeRegion) (w : TreeRegion) (goal : List Region) → w ≡ get_or rest 0 w → 1 ≤ length rest → bare_region x ≡ emptied_region (region_view w) → ys ≡ xs ++ x ∷ []
     → map bare_region xs ++ map emptied_region (map region_view rest) ≡ goal → map bare_region ys ++ map emptied_region (map region_view (take (length rest - 1) (drop 1 rest))) ≡ goal
 emptied_step xs ys x [] w goal ew l ex ey e = absurd (omega (arith, l))

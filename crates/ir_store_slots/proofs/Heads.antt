@@ -1,12 +1,12 @@
 -- The heads of the values of live slots.
 use Rattle.std.proofs.Common.{◌≡◌, ℕ, List, Bool, true, false, Option, Some, None}
 use Rattle.std.specs.Prelude.{option_and_then, if◌then◌else◌}
-use Rattle.ir_store_rows.specs.trees.declared.value.Value.{Value}
-use Rattle.ir_store_rows.specs.trees.Frames.{owner_of}
+use Rattle.ir_store_arena.specs.trees.declared.value.Value.{Value}
+use Rattle.ir_store_arena.specs.trees.Frames.{owner_of}
 use Rattle.ir_store_slots.specs.Rows.{Row, row_at, live_slot, if_live}
 use Rattle.ir_store_slots.specs.Index.{slot_head, value_head}
 
--- a value of an operation that has a live slot has one
+-- a value of an operation with a live slot has a head
 pub live_head : (rows : List Row) (keys : ℕ → Option ℕ) (v : Value) (h : ℕ) → value_head rows (live_slot rows keys) v ≡ Some h → value_head rows keys v ≡ Some h
 live_head rows keys v h e = go (keys (owner_of v).0) e
   where

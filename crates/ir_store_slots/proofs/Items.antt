@@ -1,4 +1,4 @@
--- Rows, as a function's calls tell them, and what else is plain.
+-- Rows in the form of a call's contract, and simple facts.
 use Rattle.std.proofs.Common.{◌≡◌, ℕ, ◌<◌, List, set, length, eqb, Some, arith}
 use Rattle.std.specs.Prelude.{Result, Ok, Err, OnOk}
 use Rattle.std.specs.Ordering.{nat_cmp, eq_by_cmp}

@@ -1,4 +1,4 @@
--- Slots are looked at in the order of their lists.
+-- Slots are visited in the order of their lists.
 use Rattle.std.proofs.Common.{◌≡◌, ℕ, zero, suc, ◌-◌, ◌<◌, ◌≤◌, List, [], ◌∷◌, ◌++◌, map, set, refl, sym, ap, ◌∙◌, subst, length, Bool, true, false, not, ◌&&◌, ◌||◌, eqb, cond, arith, Option, Some, None, ⊎_elim, slice_get}
 use Rattle.std.specs.Prelude.{if◌then◌else◌, nat_lt}
 use Rattle.std.specs.Ordering.{nat_cmp}
@@ -11,12 +11,12 @@ use Rattle.ir_store_lists.specs.Lists.{Laws, IsItem, home_at, list_at, has, with
 use Rattle.ir_store_slots.specs.Stored.{Gone, none_gone}
 use Rattle.ir_store_slots.specs.Releases.{is_given, forgetting, IsKeyed, ReleasesSlot, ReleasesSome, GivenUp, Forgets, Released}
 use Rattle.ir_store_slots.specs.Rows.{Row, row_at}
-use Rattle.ir_store_rows.specs.Rows.{vacated}
+use Rattle.ir_store_arena.specs.Rows.{vacated}
 use Rattle.ir_store_slots.specs.Marks.{has_gone, mark, home_of, node_of_slot, Marked}
 use Rattle.ir_store_slots.specs.Walks.{from_slot}
 use Rattle.ir_store_slots.proofs.Items.{other_row, own_row}
 use Rattle.ir_store_slots.proofs.Marking.{marked_edit, marked_same}
-use Rattle.ir_store_slots.proofs.Slots.{used_inside, live_inside}
+use Rattle.ir_store_slots.proofs.SlotLaws.{used_inside, live_inside}
 use Rattle.ir_store_slots.proofs.Sweeping.{sweep_start, sweep_all, sweep_step}
 use Rattle.ir_store_slots.proofs.Walked.{from_first}
 use Rattle.ir_store_lists.proofs.LabelWalks.{after_middle, has_middle}
@@ -56,11 +56,11 @@ listed_without [] h n = refl
 listed_without (l ∷ lists) zero n = refl
 listed_without (l ∷ lists) (suc h) n = listed_without lists h n
 
--- a node with a home is there
+-- a node with a home exists
 pub home_inside : (homes : List ℕ) (u h : ℕ) → home_at homes u ≡ h → (h ≡ free → ⊥) → u < length homes
 home_inside homes u h e n = ⊎_elim (λ l. l) (λ g. absurd (n (sym e ∙ get_or_past homes u free g))) (cases_lt u (length homes))
 
--- what the slots of both lists hold
+-- the contents of the slots of both lists
 pub record AtNode (rows : List Row) (n : ℕ) (held : Bool) : Type 0 where
   pub node : node_of_slot (n - 2) ≡ n
   pub live : (row_at rows (n - 2)).live ≡ not held
@@ -106,7 +106,7 @@ module _ (rows : List Row) (lists : List (List ℕ)) (homes : List ℕ) (laws : 
       let w = laws.members h n e in
       record { inside = home_inside homes n h w.0 ne; linked = λ f. ne (sym w.0 ∙ f); other = λ f. w.1 (sym f ∙ w.0) }
 
-  -- who stands in no list isn't held, and has no gone keys
+  -- a slot in no list isn't held, and has no removed keys
   listed : (q h : ℕ) → (h < 2) → home_at homes (node_of_slot q) ≡ h → has (node_of_slot q) (list_at lists h) ≡ true
   listed q h l e =
       let it : IsItem homes (node_of_slot q) = record { inside = home_inside homes (node_of_slot q) h e (λ f. omega (arith, l, f)); linked = λ f. omega (arith, l, e, f); other = λ f. omega (arith, l, e, f) } in
@@ -122,7 +122,7 @@ module _ (rows : List Row) (lists : List (List ℕ)) (homes : List ℕ) (laws : 
           let home : home_at homes (node_of_slot q) ≡ 0 = m.home q ∙ ap (λ z. home_of (if z then (if has_gone (row_at rows q).gone then Some 1 else None) else (if (row_at rows q).used then Some 0 else None))) g ∙ ap (λ z. home_of (if z then Some 0 else None)) f in
           absurd (false≢true (sym e ∙ listed q 0 (omega arith) home))
 
-  -- who is given up stands among those that are held
+  -- a released slot is in the list of held operations
   pub given_listed : (from q : ℕ) → is_given from (row_at rows q) ≡ true → has (node_of_slot q) (list_at lists 0) ≡ true
   given_listed from q g = go (has (node_of_slot q) (list_at lists 0)) refl
     where
@@ -145,7 +145,7 @@ module _ (rows : List Row) (lists : List (List ℕ)) (homes : List ℕ) (laws : 
           let home : home_at homes (node_of_slot q) ≡ 1 = m.home q ∙ ap (λ z. home_of (if z then (if has_gone (row_at rows q).gone then Some 1 else None) else (if (row_at rows q).used then Some 0 else None))) f ∙ ap (λ z. home_of (if z then Some 1 else None)) g in
           absurd (false≢true (sym e ∙ listed q 1 (omega arith) home))
 
--- the held operations, one by one: those behind some in the list are still to be looked at
+-- the held operations, one by one: those after some position of the list remain to be visited
 pub record Sweeps (from : ℕ) (rows new : List Row) (keys left : ℕ → Option ℕ) (list homes : List ℕ) (at : Option ℕ) : Type 0 where
   pub front : List ℕ
   pub rest : List ℕ
@@ -174,7 +174,7 @@ sweeps_end from rows new keys left kd list homes at e s =
     go [] f = refl
     go (x ∷ xs) f = absurd cc
 
--- the next of them
+-- the next held operation
 module _ (from : ℕ) (rows new : List Row) (keys : ℕ → Option ℕ) (left : finmap.FinMap nat_cmp ℕ) (kd : IsKeyed rows keys) (lists : List (List ℕ)) (homes : List ℕ) (laws : Laws lists homes) (n : ℕ)
     (s : Sweeps from rows new keys (finmap.get left) (list_at lists 0) homes (Some n)) where
   abbrev Next : Type 0
@@ -253,7 +253,7 @@ module _ (from : ℕ) (rows new : List Row) (keys : ℕ → Option ℕ) (left : 
           (λ q ne. ap not (sym (ap (has (node_of_slot q)) next_of.1 ∙ ap (λ z. z || has (node_of_slot q) ys) (ne_eqb n (node_of_slot q) (λ z. ne (let w = at_node.node in omega (arith, z, w)))))));
     }
 
--- one of them: its row is written, and it leaves the list where it is given up
+-- one held operation: its row is written, and its slot leaves the list if it is released
 pub node_marked : (from : ℕ) (rows new : List Row) (keys left : finmap.FinMap nat_cmp ℕ) (lists : List (List ℕ)) (homes homes2 : List ℕ) → Laws lists homes → Marked rows homes → (n : ℕ) → has n (list_at lists 0) ≡ true
     → ReleasesSlot from (n - 2) rows new keys left → (b : Bool) → is_given from (row_at rows (n - 2)) ≡ b → homes2 ≡ (if b then set homes n free else homes) → Marked new homes2
 node_marked from rows new keys left lists homes homes2 laws m n e r true g eh =
@@ -269,7 +269,7 @@ node_marked from rows new keys left lists homes homes2 laws m n e r false g eh =
     (λ z. r.others q z) (cases_eq q (n - 2)) in
     subst (Marked new) (sym eh) (marked_same rows new homes m (λ q. ap mark (same q)) (λ q. ap (λ z. z.used) (same q)))
 
--- the slots of gone keys, operation by operation
+-- the slots of removed keys, operation by operation
 pub record Forgot (rows new : List Row) (homes : List ℕ) : Type 0 where
   pub long : length new ≡ length rows
   pub same : (q : ℕ) → forgetting (row_at new q) ≡ forgetting (row_at rows q)

@@ -1,9 +1,9 @@
--- The trees that slots spell after heads, lists or rows have changed.
+-- The trees that slots represent after heads, lists or rows have changed.
 use Rattle.std.proofs.Common.{◌≡◌, ℕ, suc, ◌+◌, List, [], ◌∷◌, refl, sym, ap, ◌∙◌, subst, Bool, true, false, eqb, ◌||◌, arith, Some, None, slice_get}
 use Rattle.std.proofs.lemmas.Bool.{eqb-false, false≢true}
-use Rattle.ir_store_rows.specs.trees.Tree.{Head, Op, op, Regions, no_regions, region, Region, empty, block, Ops, no_ops, next}
-use Rattle.ir_store_rows.specs.trees.Edits.{each_head, regions_each_head, region_each_head, ops_each_head}
-use Rattle.ir_store_rows.specs.trees.Places.{each_list, regions_each_list, region_each_list, ops_each_list}
+use Rattle.ir_store_arena.specs.trees.Tree.{Head, Op, op, Regions, no_regions, region, Region, empty, block, Ops, no_ops, next}
+use Rattle.ir_store_arena.specs.trees.Edits.{each_head, regions_each_head, region_each_head, ops_each_head}
+use Rattle.ir_store_arena.specs.trees.Places.{each_list, regions_each_list, region_each_list, ops_each_list}
 use Rattle.ir_store_lists.specs.Lists.{list_at}
 use Rattle.ir_store_slots.specs.Rows.{Row, Shape, row_at}
 use Rattle.ir_store_slots.specs.Spells.{SpellsOp, SpellsRegions, SpellsRegion, SpellsOps}
@@ -30,7 +30,7 @@ pub neither : (a b : Bool) → (a || b) ≡ false → (a ≡ false) × (b ≡ fa
 neither true b e = absurd (false≢true (sym e))
 neither false b e = (refl, e)
 
--- what an edit of heads does to each row of the tree
+-- the row of each operation after an edit of heads
 pub record Step (rows rows' : List Row) (f : Head → Head) (k : ℕ) : Type 0 where
   pub live : (row_at rows' k).live ≡ true
   pub shapes : (row_at rows' k).shapes ≡ (row_at rows k).shapes
@@ -99,7 +99,7 @@ module _ (rows : List Row) (lists lists' : List (List ℕ)) (f : ℕ → ℕ →
     lists_ops (k ∷ ks) no_ops s = absurd s
     lists_ops (k ∷ ks) (next o os) s = (lists_spells k o s.0, lists_ops ks os s.1)
 
--- a row has changed whose operation isn't in the tree
+-- a row whose operation isn't in the tree has changed
 module _ (rows rows' : List Row) (lists : List (List ℕ)) (x : ℕ) (same : (q : ℕ) → Live rows q → ((row_at rows q).head.id ≡ x → ⊥) → row_at rows' q ≡ row_at rows q) where
   mutual
     pub rows_spells : (k : ℕ) (t : Op) → has_op x t ≡ false → SpellsOp rows lists k t → SpellsOp rows' lists k t

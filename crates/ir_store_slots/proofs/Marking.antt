@@ -1,4 +1,4 @@
--- The lists of slots that are looked at when what is held is given up.
+-- The lists of slots that a release visits.
 use Rattle.std.proofs.Common.{◌≡◌, ◌⊎◌, ℕ, zero, suc, ◌<◌, List, [], ◌∷◌, ◌++◌, set, refl, sym, ap, ◌∙◌, subst, length, Bool, true, false, arith, Option, Some, None, ⊎_elim, inl, inr}
 use Rattle.std.specs.Prelude.{if◌then◌else◌, IfSome}
 use Rattle.std.proofs.lemmas.Bool.{cases_eq, false≢true}
@@ -46,7 +46,7 @@ marked_edit rows rows' marks marks' k m inside same e =
           (cases_eq q k);
     }
 
--- rows are written that stand in the same lists
+-- rows are written that belong to the same lists
 pub marked_same : (rows rows' : List Row) (marks : List ℕ) → Marked rows marks → ((q : ℕ) → mark (row_at rows' q) ≡ mark (row_at rows q)) → ((q : ℕ) → (row_at rows' q).used ≡ (row_at rows q).used) → Marked rows' marks
 marked_same rows rows' marks m same used = record {
   held = m.held;
@@ -55,7 +55,7 @@ marked_same rows rows' marks m same used = record {
   home = λ q. m.home q ∙ ap home_of (sym (same q));
 }
 
--- there are more nodes
+-- more nodes are added
 pub marked_more : (rows : List Row) (marks more : List ℕ) → Marked rows marks → Reaches marks more → Marked rows more
 marked_more rows marks more m r = record {
   held = record { inside = omega (arith, m.held.inside, r.longer); own = r.same 0 ∙ m.held.own };
@@ -113,7 +113,7 @@ can_put marks k b u list few eu el c = subst (λ z. CanPut marks z list) (sym eu
     far u true true = λ e. omega (arith, e)
     far u true false = tt
 
--- a node is freed first
+-- a node is first removed from its list
 pub put_item : (marks : List ℕ) (u : ℕ) (list : Option ℕ) → CanPut marks u list → (home_at marks u ≡ free → ⊥) → IsItem marks u
 put_item marks u list c n = record { inside = c.inside; linked = n; other = c.other }
 
@@ -129,7 +129,7 @@ put_head marks mid u h i n e = record {
   own = ap (λ z. home_at z h) e ∙ get_or-set_other marks u h free free n ∙ i.own;
 }
 
--- no slots yet
+-- no slots
 pub marked_none : (marks more : List ℕ) → marks ≡ 0 ∷ 1 ∷ [] → Reaches marks more → Marked [] more
 marked_none marks more e r =
     let f : Reaches (0 ∷ 1 ∷ []) more = subst (λ z. Reaches z more) e r in

@@ -1,16 +1,16 @@
--- What is there after nodes and slots were added.
+-- The state after nodes and slots were added.
 use Rattle.std.proofs.Common.{◌≡◌, ◌⊎◌, ℕ, zero, suc, ◌+◌, ◌<◌, ◌≤◌, List, [], ◌∷◌, ◌++◌, refl, sym, ap, ◌∙◌, subst, length, Bool, true, false, ⊎_elim, inl, inr, arith, get_or, ◌-◌}
 use Rattle.std.specs.Prelude.{if◌then◌else◌}
 use Rattle.std.proofs.lemmas.Bool.{cases_lt, cases_eq}
 use Rattle.std.proofs.lemmas.List.{get_or_past, get_or_append_left, get_or_push, length-append, append_assoc, append-nil, map-append}
 use Rattle.ir_store_lists.specs.Lists.{Lists, list_at, home_at, free}
-use Rattle.ir_store_slots.specs.declared.row.Cell.{Cell}
+use Rattle.ir_store_slots.specs.declared.row.UseNode.{UseNode}
 use Rattle.ir_store_slots.specs.Rows.{Row, row_at, no_row}
 use Rattle.ir_store_slots.specs.Index.{cell_at, cells_of}
 use Rattle.ir_store_slots.specs.Grows.{Parts, IsEven, Wider, NewHead, NewUse, Runs, run_homes, run_cells, AddsSlot, KeepsSlots}
 use Rattle.ir_store_slots.proofs.Wide.{wide_same}
 
--- one more at the end
+-- one more item at the end
 module _ {X : Type 0} (xs : List X) (y d : X) where
   pub push_old : (i : ℕ) → i < length xs → get_or (xs ++ y ∷ []) i d ≡ get_or xs i d
   push_old i l = get_or_append_left xs (y ∷ []) d i l
@@ -48,7 +48,7 @@ module _ (heads : Bool) (row n : ℕ) (old new : List ℕ) (cells more : List (�
     meant = em ∙ ap (λ z. z ++ (row, n) ∷ []) r.meant ∙ append_assoc cells (run_cells row n) ((row, n) ∷ []);
   })
 
--- what each node of a run is
+-- the nodes of a run
 module _ (heads : Bool) (row : ℕ) (old : List ℕ) (cells : List (ℕ × ℕ)) where
   homes_at : ℕ → List ℕ
   homes_at n = old ++ run_homes heads (length old) n
@@ -93,7 +93,7 @@ module _ (heads : Bool) (row : ℕ) (old : List ℕ) (cells : List (ℕ × ℕ))
       test true u e = inr e
       test false u e = inl e
 
--- the parts with a run of nodes more
+-- the parts with a run of nodes added
 module _ (p : Parts) (even : IsEven p) (heads : Bool) (row n : ℕ) (homes' : List ℕ) (cells' : List (ℕ × ℕ)) (r : Runs heads row n p.homes homes' p.cells cells') where
   abbrev pub ran : Parts
   ran = record p { homes = homes'; cells = cells' }
@@ -135,7 +135,7 @@ module _ (p : Parts) (even : IsEven p) (heads : Bool) (row n : ℕ) (homes' : Li
     loose = home_is i l ∙ ap (λ c. if c then length p.homes + i else free) eh;
   })
 
--- the parts with a slot more
+-- the parts with a slot added
 module _ (p : Parts) (even : IsEven p) (heads : Bool) (w : Row) (rows' : List Row) (sibs' : Lists) (a : AddsSlot heads w p.rows rows' p.sibs sibs') where
   abbrev pub slotted : Parts
   slotted = record p { rows = rows'; sibs = sibs' }
@@ -183,5 +183,5 @@ module _ (p : Parts) (even : IsEven p) (heads : Bool) (w : Row) (rows' : List Ro
 pub keep_wide : (p : Parts) → IsEven p → (rows' : List Row) (sibs' : Lists) → KeepsSlots p.rows rows' p.sibs sibs' → Wider p (record p { rows = rows'; sibs = sibs' })
 keep_wide p even rows' sibs' k = subst (λ z. Wider p (record p { rows = z; sibs = sibs' })) (sym k.same) (subst (λ z. Wider p (record p { sibs = z })) (sym k.kept) (wide_same p even))
 
-pub cells_push : (cells : List Cell) (more : List Cell) (c : Cell) → more ≡ cells ++ c ∷ [] → cells_of more ≡ cells_of cells ++ (c.row, c.place) ∷ []
+pub cells_push : (cells : List UseNode) (more : List UseNode) (c : UseNode) → more ≡ cells ++ c ∷ [] → cells_of more ≡ cells_of cells ++ (c.row, c.place) ∷ []
 cells_push cells more c e = ap cells_of e ∙ map-append (λ z. (z.row, z.place)) cells (c ∷ [])

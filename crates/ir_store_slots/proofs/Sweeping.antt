@@ -1,4 +1,4 @@
--- Slots are given up one by one.
+-- Slots are freed one by one.
 use Rattle.std.proofs.Common.{◌≡◌, ℕ, ◌<◌, ◌≤◌, List, refl, sym, ap, ◌∙◌, length, Bool, true, false, not, ◌&&◌, arith, eqb, cond, Option, Some, None, ⊎_elim, set}
 use Rattle.std.specs.Prelude.{if◌then◌else◌, nat_lt}
 use Rattle.std.specs.Ordering.{nat_cmp}
@@ -9,13 +9,13 @@ use Rattle.std.proofs.lemmas.Bool.Decides.{nat_tests}
 use Rattle.std.proofs.lemmas.List.{length-set}
 use Rattle.ir_store_slots.specs.Releases.{is_given, given_up, key_left, key_so_far, IsKeyed, ReleasesSlot, ReleasesSome, GivenUp}
 use Rattle.ir_store_slots.specs.Rows.{Row, row_at}
-use Rattle.ir_store_rows.specs.Rows.{vacated}
+use Rattle.ir_store_arena.specs.Rows.{vacated}
 use Rattle.ir_store_slots.specs.Right.{Used}
 use Rattle.ir_store_slots.proofs.Items.{other_row, own_row}
 use Rattle.ir_store_slots.proofs.Items.{some_same}
 use Rattle.ir_store_slots.proofs.Items.{eq_nat}
 
--- one slot, as the call's steps tell it
+-- one slot, in the form of a call's contract
 pub slot_given : (from k : ℕ) (rows new : List Row) → k < length rows → is_given from (row_at rows k) ≡ true → new ≡ set rows k (vacated (row_at rows k))
     → (keys left : finmap.FinMap nat_cmp ℕ) → left ≡ finmap.remove keys (row_at rows k).head.id → ReleasesSlot from k rows new keys left
 slot_given from k rows new l g e keys left el = record {
@@ -42,7 +42,7 @@ given_at true false b e = e
 given_at true true b e = absurd (false≢true e)
 given_at false l b e = absurd (false≢true e)
 
--- who is given up holds an operation, with an id from there on
+-- a released slot holds an operation, with an id from there on
 pub given_used : (from : ℕ) (rows : List Row) (q : ℕ) → is_given from (row_at rows q) ≡ true → Used rows q
 given_used from rows q g = record { used = used_given (row_at rows q).used _ g }
 
@@ -80,7 +80,7 @@ module _ (from : ℕ) (rows : List Row) (keys : ℕ → Option ℕ) (kd : IsKeye
       go None = refl
       go (Some k) = ap {A = Bool} {B = Option ℕ} (λ b. if b && is_given from (row_at rows k) then None else Some k) (all k)
 
-  -- the test may change of slots that aren't given up
+  -- the test may change on slots that aren't released
   pub sweep_wider : (seen more : ℕ → Bool) (new : List Row) (left : ℕ → Option ℕ) → ((q : ℕ) → is_given from (row_at rows q) ≡ true → more q ≡ seen q) → ReleasesSome from seen rows new keys left → ReleasesSome from more rows new keys left
   sweep_wider seen more new left alike s = record {
     long = s.long;

@@ -1,4 +1,4 @@
--- A walk over what slots spell, and how deep that is.
+-- A walk over the slots of a tree, and the depth of the tree.
 use Rattle.std.proofs.Common.{◌≡◌, ℕ, zero, suc, ◌+◌, ◌-◌, ◌<◌, List, [], ◌∷◌, refl, sym, ap, ◌∙◌, length, Bool, true, false, eqb, ◌&&◌, ◌||◌, ⊎_elim, arith, Option, Some, None, slice_get, max}
 use Rattle.std.specs.Prelude.{nat_le, nat_lt, if◌then◌else◌}
 use Rattle.std.specs.List.{list_all}
@@ -6,20 +6,20 @@ use Rattle.std.proofs.lemmas.Bool.{false≢true, cond-true, cond-false, eq-eqb, 
 use Rattle.std.proofs.lemmas.Bool.Decides.{nat_tests}
 use Rattle.std.proofs.lemmas.List.{get_or_past}
 use Rattle.ir_store_lists.specs.Lists.{free, Once, Laws, IsHead, IsItem, list_at, has, after}
-use Rattle.ir_store_rows.specs.trees.Tree.{Op, op, Regions, no_regions, region, empty, block, Ops, no_ops, next}
-use Rattle.ir_store_rows.specs.trees.Limits.{depth, regions_depth, ops_depth}
+use Rattle.ir_store_arena.specs.trees.Tree.{Op, op, Regions, no_regions, region, empty, block, Ops, no_ops, next}
+use Rattle.ir_store_arena.specs.trees.Limits.{depth, regions_depth, ops_depth}
 use Rattle.ir_store_slots.specs.Rows.{Row, Shape, row_at}
 use Rattle.ir_store_slots.specs.Spells.{SpellsOp, SpellsRegions, SpellsOps}
 use Rattle.ir_store_slots.specs.Walks.{shapes_pass, slot_fits, from_slot}
-use Rattle.ir_store_rows.proofs.of_trees.Counts.{below_none}
-use Rattle.ir_store_rows.proofs.of_trees.of_types.Truths.{zero_le}
+use Rattle.ir_store_arena.proofs.of_trees.Counts.{below_none}
+use Rattle.ir_store_arena.proofs.of_trees.of_types.Truths.{zero_le}
 
 -- a list from its first slot on is the list
 pub from_first : (ks : List ℕ) → from_slot (slice_get ks 0) ks ≡ ks
 from_first [] = refl
 from_first (k ∷ ks) = cond-true (eqb k k) (k ∷ ks) (from_slot (Some k) ks) (eq-eqb k k refl)
 
--- from a slot of the list on it begins with that, and goes on from the slot after it
+-- the rest of a list from a slot on starts with the slot, followed by the rest from the next slot on
 pub record Goes (k : ℕ) (ks : List ℕ) : Type 0 where
   pub rest : List ℕ
   pub is : from_slot (Some k) ks ≡ k ∷ rest
@@ -53,13 +53,13 @@ goes k (q ∷ ks) u e = go (eqb q k) refl e (goes k ks u.1)
     head_in m (y ∷ ys) f = let same : y ≡ m = cc in or_left (eqb y m) (has m ys) (eq-eqb y m same)
 
     go : (b : Bool) → eqb q k ≡ b → (b || has k ks) ≡ true → (has k ks ≡ true → Goes k ks) → Goes k (q ∷ ks)
-    go true f g further = record {
+    go true f g extra = record {
       rest = ks;
       is = cond-true (eqb q k) (q ∷ ks) (from_slot (Some k) ks) f ∙ ap (λ z. z ∷ ks) (eqb-true q k f);
       later = ap (λ z. from_slot z (q ∷ ks)) (cond-true (eqb q k) (slice_get ks 0) (after k ks) f) ∙ skip (slice_get ks 0) (λ m i. head_in m ks i) ∙ from_first ks;
     }
-    go false f g further =
-        let w = further g in
+    go false f g extra =
+        let w = extra g in
         record {
           rest = w.rest;
           is = cond-false (eqb q k) (q ∷ ks) (from_slot (Some k) ks) f ∙ w.is;
@@ -78,7 +78,7 @@ listed_item lists homes laws h k p e =
       other = λ g. m.1 (sym g ∙ m.0);
     }
 
--- what a loop over a list has before it
+-- the invariant of a loop over a list
 pub record Walks (lists : List (List ℕ)) (p : ℕ → Bool) (h : ℕ) (at : Option ℕ) : Type 0 where
   pub all : list_all p (from_slot at (list_at lists h)) ≡ list_all p (list_at lists h)
   pub there : (k : ℕ) → at ≡ Some k → has k (list_at lists h) ≡ true
@@ -110,7 +110,7 @@ module _ (lists : List (List ℕ)) (p : ℕ → Bool) (h : ℕ) where
         let b : length (from_slot (Some k) (list_at lists h)) ≡ length g.rest + 1 = ap length g.is ∙ omega arith in
         omega arith
 
--- and how deep that is
+-- the depth so far
 le_max : (a b n : ℕ) → nat_le (max a b) n ≡ (nat_le a n && nat_le b n)
 le_max a b n = grind (arith, nat_tests)
 
@@ -141,7 +141,7 @@ module _ (rows : List Row) (lists : List (List ℕ)) where
     ops_fit n (k ∷ ks) no_ops s = absurd s
     ops_fit n (k ∷ ks) (next o os) s = (λ i. fits_is n k o s.0 i && ops_fit n ks os s.1 i) ∙ lt_le (depth o) (ops_depth os) n
 
--- a slot whose row is read, where there is room
+-- a slot whose row is read, if there are levels left
 pub fits_row : (rows : List Row) (lists : List (List ℕ)) (room k : ℕ) → (room ≡ 0 → ⊥) → (row_at rows k).live ≡ true → slot_fits rows lists room k ≡ shapes_pass lists (slot_fits rows lists (room - 1)) (row_at rows k).shapes
 fits_row rows lists zero k n l = absurd (n refl)
 fits_row rows lists (suc m) k n l =

@@ -1,20 +1,20 @@
--- What added slots keep.
+-- Invariants that added slots keep.
 use Rattle.std.proofs.Common.{◌≡◌, ℕ, ◌+◌, ◌<◌, List, [], ◌∷◌, refl, sym, ap, ◌∙◌, subst, length, ⊎_elim, inl, inr, arith, Option, Some, None, slice_get}
 use Rattle.std.specs.Prelude.{option_and_then, nat_lt, if◌then◌else◌}
 use Rattle.std.proofs.lemmas.Bool.{cases_lt, false≢true}
 use Rattle.std.proofs.lemmas.List.{get_or_past}
 use Rattle.ir_store_lists.specs.Lists.{Lists, IsHead, IsItem, IsFree, list_at, home_at, free}
-use Rattle.ir_store_rows.specs.trees.declared.value.Value.{Value}
-use Rattle.ir_store_rows.specs.trees.declared.value.Value.TheVariants.{Result, Arg}
-use Rattle.ir_store_rows.specs.trees.Frames.{owner_of}
-use Rattle.ir_store_rows.specs.trees.Ids.{has_id}
-use Rattle.ir_store_rows.specs.trees.Tree.{Op, op, Regions, no_regions, region, Region, empty, block, Ops, no_ops, next}
+use Rattle.ir_store_arena.specs.trees.declared.value.Value.{Value}
+use Rattle.ir_store_arena.specs.trees.declared.value.Value.TheVariants.{Result, Arg}
+use Rattle.ir_store_arena.specs.trees.Frames.{owner_of}
+use Rattle.ir_store_arena.specs.trees.Ids.{has_id}
+use Rattle.ir_store_arena.specs.trees.Tree.{Op, op, Regions, no_regions, region, Region, empty, block, Ops, no_ops, next}
 use Rattle.ir_store_slots.specs.Rows.{Row, Shape, row_at, no_row, held_in, gone_in, bare}
 use Rattle.ir_store_slots.specs.Spells.{SpellsOp, SpellsRegions, SpellsRegion, SpellsOps}
 use Rattle.ir_store_slots.specs.Right.{Live, Used, HoldsId, BlockOf, Right}
 use Rattle.ir_store_slots.specs.Index.{operand_at, use_at, argument_head, slot_head, value_head, CellOf, LinkedTo, Index, lives}
 use Rattle.ir_store_slots.specs.Grows.{Parts, IsEven, Wider, NewHead, NewUse, NewBlock, AreBlocks}
-use Rattle.ir_store_slots.proofs.Slots.{live_inside, used_inside}
+use Rattle.ir_store_slots.proofs.SlotLaws.{live_inside, used_inside}
 
 -- nothing is added
 pub wide_same : (p : Parts) → IsEven p → Wider p p
@@ -51,7 +51,7 @@ wide_then p q r a b = record {
   cell = λ u l. b.cell u (omega (arith, l, a.uses_more)) ∙ a.cell u l;
 }
 
--- what was new stays so
+-- new nodes stay new
 pub head_stays : (q r : Parts) → Wider q r → (bound n i h : ℕ) → NewHead q bound n i h → NewHead r bound n i h
 head_stays q r w bound n i h f = record {
   head = record { inside = omega (arith, f.head.inside, w.uses_more); own = w.use_home h f.head.inside ∙ f.head.own };
@@ -77,7 +77,7 @@ block_stays q r e w bound k i a f =
 pub blocks_stay : (q r : Parts) → IsEven q → Wider q r → (bound k : ℕ) (xs : List Shape) → AreBlocks q bound k xs → AreBlocks r bound k xs
 blocks_stay q r e w bound k xs f = λ i a g. block_stays q r e w bound k i a (f i a g)
 
--- a tree is spelled by rows and lists that are the same
+-- a tree is represented by equal rows and lists
 module _ (rows rows' : List Row) (lists lists' : List (List ℕ)) (same : (k : ℕ) → Live rows k → row_at rows' k ≡ row_at rows k) (same_list : (h : ℕ) → list_at lists' h ≡ list_at lists h) where
   mutual
     pub same_spells : (k : ℕ) (t : Op) → SpellsOp rows lists k t → SpellsOp rows' lists' k t
@@ -103,7 +103,7 @@ module _ (rows rows' : List Row) (lists lists' : List (List ℕ)) (same : (k : �
     same_ops (k ∷ ks) no_ops s = absurd s
     same_ops (k ∷ ks) (next o os) s = (same_spells k o s.0, same_ops ks os s.1)
 
--- the slots of operations are told by their ids, and blocks have slots
+-- the table maps ids to their slots, and blocks have slots
 pub record Keyed (rows : List Row) (keys : ℕ → Option ℕ) (sibs : Lists) : Type 0 where
   pub long : length rows ≡ length sibs.homes
   pub keyed : (k : ℕ) → Used rows k → keys (row_at rows k).head.id ≡ Some k
@@ -215,7 +215,7 @@ module _ (p q : Parts) (w : Wider p q) (keys : ℕ → Option ℕ) (r : Keyed p.
       one = λ v u h e f. ix.one v u h (sym (wide_head v) ∙ e) (sym (wide_head u) ∙ f);
     }
 
-    -- the heads of values are those from before
+    -- the heads of values are unchanged
     pub wide_bound : (v : Value) (h : ℕ) → value_head q.rows keys v ≡ Some h → h < length p.homes
     wide_bound v h e = (ix.heads v h (sym (wide_head v) ∙ e)).inside
 

@@ -1,12 +1,12 @@
--- What setting an entry looks at in the slots, and what it makes of a row.
+-- The reads of the slots before an entry is set, and the row after it.
 use Rattle.std.specs.Prelude.{ℕ, List, Bool, Option, Some, None, Result, Ok, Err}
-use Rattle.ir_store_rows.specs.types.declared.refusal.Refusal.{Refusal}
-use Rattle.ir_store_rows.specs.types.declared.refusal.Refusal.TheVariants.{NoSuchOp}
-use Rattle.ir_store_rows.specs.trees.declared.place.Part.{Part}
-use Rattle.ir_store_rows.specs.trees.Edits.{part_of}
-use Rattle.ir_store_rows.specs.tree_laws.Reasons.{entry_reason}
+use Rattle.ir_store_arena.specs.types.declared.refusal.Refusal.{Refusal}
+use Rattle.ir_store_arena.specs.types.declared.refusal.Refusal.TheVariants.{NoSuchOp}
+use Rattle.ir_store_arena.specs.trees.declared.place.Part.{Part}
+use Rattle.ir_store_arena.specs.trees.Edits.{part_of}
+use Rattle.ir_store_arena.specs.tree_laws.Reasons.{entry_reason}
 use Rattle.ir_store_slots.specs.Rows.{Row, row_at}
-pub use Rattle.ir_store_rows.specs.Rows.{slots_in, row_with_entry}
+pub use Rattle.ir_store_arena.specs.Rows.{slots_in, row_with_entry}
 
 -- a slot, unless there is a reason
 abbrev pub slot_unless : ℕ → Option Refusal → Result ℕ Refusal

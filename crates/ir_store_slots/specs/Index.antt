@@ -1,19 +1,19 @@
--- What is true of the uses of values, in slots.
+-- The invariants of the use lists, in slots.
 use Rattle.std.specs.Prelude.{◌≡◌, ℕ, zero, suc, ◌+◌, ◌<◌, List, [], ◌∷◌, map, length, nat_lt, eqb, get_or, slice_get, slice_set, Bool, true, false, not, ◌&&◌, if◌then◌else◌, Option, Some, None, option_and_then, is_some}
 use Rattle.ir_store_lists.specs.Lists.{Lists, IsHead, IsItem, IsFree, list_at, home_at, free}
-use Rattle.ir_store_rows.specs.trees.declared.value.Value.{Value}
-use Rattle.ir_store_rows.specs.trees.declared.value.Value.TheVariants.{Result, Arg}
-use Rattle.ir_store_rows.specs.trees.Ids.{HasDistinctIds, op_count}
-use Rattle.ir_store_rows.specs.trees.Tree.{Op}
-use Rattle.ir_store_rows.specs.trees.Frames.{owner_of}
-use Rattle.ir_store_slots.specs.declared.row.Cell.{Cell}
+use Rattle.ir_store_arena.specs.trees.declared.value.Value.{Value}
+use Rattle.ir_store_arena.specs.trees.declared.value.Value.TheVariants.{Result, Arg}
+use Rattle.ir_store_arena.specs.trees.Ids.{HasDistinctIds, op_count}
+use Rattle.ir_store_arena.specs.trees.Tree.{Op}
+use Rattle.ir_store_arena.specs.trees.Frames.{owner_of}
+use Rattle.ir_store_slots.specs.declared.row.UseNode.{UseNode}
 use Rattle.ir_store_slots.specs.Rows.{Row, Shape, row_at, live_slot}
 use Rattle.ir_store_slots.specs.Right.{Live, Used, Right}
 use Rattle.ir_store_slots.specs.Plans.{is_nil}
 use Rattle.ir_store_slots.specs.Marks.{Marked}
 
 -- the slot and the operand of each node
-abbrev pub cells_of : List Cell → List (ℕ × ℕ)
+abbrev pub cells_of : List UseNode → List (ℕ × ℕ)
 cells_of = map (λ c. (c.row, c.place))
 
 abbrev pub cell_at : List (ℕ × ℕ) → ℕ → ℕ × ℕ
@@ -23,11 +23,11 @@ cell_at cells u = get_or cells u (0, 0)
 abbrev pub operand_at : List Row → ℕ → ℕ → Option Value
 operand_at rows k j = slice_get (row_at rows k).head.operands j
 
--- its node
+-- the node of operand j
 abbrev pub use_at : List Row → ℕ → ℕ → ℕ
 use_at rows k j = (row_at rows k).uses + j
 
--- the head of the uses of a result, and of an argument of a block
+-- the head of the use list of a result, and of a block argument
 abbrev pub result_head : ℕ → Row → Option ℕ
 result_head i r = if nat_lt i (length r.head.results) then Some (r.values + i) else None
 
@@ -35,32 +35,32 @@ abbrev pub argument_head : List Row → ℕ → Shape → Option ℕ
 argument_head rows i None = None
 argument_head rows i (Some a) = if nat_lt i (length a.0) then Some ((row_at rows a.1).values + i) else None
 
--- the head of the uses of a value whose operation is in slot q
+-- the head of the use list of a value whose operation is in slot q
 abbrev pub slot_head : List Row → Value → ℕ → Option ℕ
 slot_head rows (Result x i) q = result_head i (row_at rows q)
 slot_head rows (Arg x r i) q = option_and_then (argument_head rows i) (slice_get (row_at rows q).shapes r)
 
--- of a value of an operation that has a slot
+-- the head of the use list of a value of an operation that has a slot
 abbrev pub value_head : List Row → (ℕ → Option ℕ) → Value → Option ℕ
 value_head rows slots v = option_and_then (slot_head rows v) (slots (owner_of v).0)
 
--- the node u stands for operand j, v, of the operation in slot k
+-- node u is the node of operand j of the operation in slot k, and the operand is v
 pub record UseOf (rows : List Row) (u k j : ℕ) (v : Value) : Type 0 where
   pub used : Used rows k
   pub operand : operand_at rows k j ≡ Some v
   pub node : use_at rows k j ≡ u
 
--- it has its cell
+-- node u has the cell of operand j of slot k
 pub record CellOf (homes : List ℕ) (cells : List (ℕ × ℕ)) (u k j : ℕ) : Type 0 where
   pub inside : u < length homes
   pub cell : cell_at cells u ≡ (k, j)
 
--- it stands among the uses of v
+-- node u is in the use list of v
 pub record LinkedTo (rows : List Row) (keys : ℕ → Option ℕ) (homes : List ℕ) (u : ℕ) (v : Value) : Type 0 where
   pub item : IsItem homes u
   pub home : value_head rows keys v ≡ Some (home_at homes u)
 
--- what stands among uses is an operand
+-- a node in a use list is the node of an operand that is linked
 pub record Stands (rows : List Row) (on : ℕ → ℕ → Bool) (u : ℕ) : Type 0 where
   pub row : ℕ
   pub place : ℕ
@@ -68,7 +68,7 @@ pub record Stands (rows : List Row) (on : ℕ → ℕ → Bool) (u : ℕ) : Type
   pub use_of : UseOf rows u row place value
   pub put : on row place ≡ true
 
--- the operands that are on stand among the uses of their values, and nothing else does
+-- exactly the operands that `on` selects are in the use lists of their values
 pub record Index (rows : List Row) (keys : ℕ → Option ℕ) (homes : List ℕ) (cells : List (ℕ × ℕ)) (on : ℕ → ℕ → Bool) : Type 0 where
   pub counted : length cells ≡ length homes
   pub cell : (k j : ℕ) (v : Value) → Used rows k → operand_at rows k j ≡ Some v → CellOf homes cells (use_at rows k j) k j
@@ -78,26 +78,26 @@ pub record Index (rows : List Row) (keys : ℕ → Option ℕ) (homes : List ℕ
   pub heads : (v : Value) (h : ℕ) → value_head rows keys v ≡ Some h → IsHead homes h
   pub one : (v w : Value) (h : ℕ) → value_head rows keys v ≡ Some h → value_head rows keys w ≡ Some h → v ≡ w
 
--- the operands of the module's operations are on
+-- the operands of the module's operations are linked
 abbrev pub lives : List Row → ℕ → ℕ → Bool
 lives rows k j = (row_at rows k).live
 
--- and those of slot k from place a on, and before b
+-- the operands of the module's operations, with those of slot k only from index a on, and before b
 abbrev pub between : List Row → ℕ → ℕ → ℕ → ℕ → ℕ → Bool
 between rows k a b q j = if eqb q k then not (nat_lt j a) && nat_lt j b else (row_at rows q).live
 
--- no node stands in the lists of n heads from b on
+-- the lists of n heads from b on are empty
 abbrev pub all_idle : List (List ℕ) → ℕ → ℕ → Bool
 all_idle lists b zero = true
 all_idle lists b (suc n) = is_nil (list_at lists b) && all_idle lists (b + 1) n
 
--- none among the uses of the arguments of blocks
+-- the use lists of the arguments of blocks are empty
 abbrev pub args_idle : List Row → List (List ℕ) → List Shape → Bool
 args_idle rows lists [] = true
 args_idle rows lists (None ∷ xs) = args_idle rows lists xs
 args_idle rows lists (Some a ∷ xs) = all_idle lists (row_at rows a.1).values (length a.0) && args_idle rows lists xs
 
--- none among the uses of the values of the operation in slot k
+-- the use lists of the values of the operation in slot k are empty
 abbrev pub row_idle : List Row → List (List ℕ) → ℕ → Bool
 row_idle rows lists k = all_idle lists (row_at rows k).values (length (row_at rows k).head.results) && args_idle rows lists (row_at rows k).shapes
 
@@ -106,7 +106,7 @@ abbrev pub freed : ℕ → ℕ → List ℕ → List ℕ
 freed b zero homes = homes
 freed b (suc n) homes = freed (b + 1) n (slice_set homes b free)
 
--- nodes from b on stand in the lists of the heads of values
+-- nodes from b on are in the lists of the heads of values
 abbrev pub led_to : ℕ → Option ℕ → List ℕ → List ℕ
 led_to b None homes = homes
 led_to b (Some h) homes = slice_set homes b h
@@ -119,12 +119,12 @@ abbrev pub all_led : (Value → Option ℕ) → ℕ → List Value → List ℕ 
 all_led head b [] homes = homes
 all_led head b (v ∷ vs) homes = all_led head (b + 1) vs (led_to b (head v) homes)
 
--- what that needs
+-- the precondition of `led_to`
 abbrev pub CanLead : (Value → Option ℕ) → ℕ → List Value → List ℕ → Type 0
 CanLead head b [] homes = length homes < free
 CanLead head b (v ∷ vs) homes = IsFree homes b × (LeadsTo homes (head v) × CanLead head (b + 1) vs (led_to b (head v) homes))
 
--- and what freeing them needs
+-- the precondition of `freed`
 pub record CanFree (b n : ℕ) (homes : List ℕ) : Type 0 where
   pub few : length homes < free
   pub items : (i : ℕ) → i < n → IsItem homes (b + i)
@@ -133,13 +133,13 @@ pub record AreHeads (b n : ℕ) (homes : List ℕ) : Type 0 where
   pub few : length homes < free
   pub heads : (i : ℕ) → i < n → IsHead homes (b + i)
 
--- the heads of the arguments of blocks are heads
+-- the heads of the arguments of blocks are list heads
 abbrev pub ArgHeads : List Row → List ℕ → List Shape → Type 0
 ArgHeads rows homes [] = Unit {0}
 ArgHeads rows homes (None ∷ xs) = ArgHeads rows homes xs
 ArgHeads rows homes (Some a ∷ xs) = AreHeads (row_at rows a.1).values (length a.0) homes × ArgHeads rows homes xs
 
--- the heads of the values of the operation in slot k are heads
+-- the heads of the values of the operation in slot k are list heads
 pub record HasHeads (rows : List Row) (homes : List ℕ) (k : ℕ) : Type 0 where
   pub results : AreHeads (row_at rows k).values (length (row_at rows k).head.results) homes
   pub arguments : ArgHeads rows homes (row_at rows k).shapes
@@ -148,17 +148,17 @@ pub record HasHeads (rows : List Row) (homes : List ℕ) (k : ℕ) : Type 0 wher
 abbrev pub HasOwners : List Row → (ℕ → Option ℕ) → Type 0
 HasOwners rows keys = (k j : ℕ) (v : Value) → Live rows k → operand_at rows k j ≡ Some v → is_some (live_slot rows keys (owner_of v).0) ≡ true
 
--- and their ids are below a bound
+-- the ids of the module's operations are below a bound
 abbrev pub HasIdsBelow : ℕ → List Row → Type 0
 HasIdsBelow n rows = (k : ℕ) → Live rows k → (row_at rows k).head.id < n
 
--- the cells of the heads of values say whose they are: a result's tells the slot of the operation, an argument's that of
--- the block's head
+-- the cells of the heads of values have their owners: a result's cell has the slot of the operation, an argument's cell
+-- that of the block's head
 pub record Celled (rows : List Row) (cells : List (ℕ × ℕ)) : Type 0 where
   pub results : (k i : ℕ) → Used rows k → i < length (row_at rows k).head.results → cell_at cells ((row_at rows k).values + i) ≡ (k, i)
   pub arguments : (k r i : ℕ) (a : List ℕ × ℕ) → Used rows k → slice_get (row_at rows k).shapes r ≡ Some (Some a) → i < length a.0 → cell_at cells ((row_at rows a.1).values + i) ≡ (a.1, i)
 
--- the slots and the uses are right
+-- the slots and the use lists are consistent
 pub record Fits (rows : List Row) (keys : ℕ → Option ℕ) (sibs : Lists) (root : ℕ) (t : Op) (homes : List ℕ) (cells : List (ℕ × ℕ)) (count free_id : ℕ) (marks : List ℕ) : Type 0 where
   pub right : Right rows keys sibs root t
   pub few : length homes < free

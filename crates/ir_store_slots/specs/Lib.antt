@@ -6,7 +6,7 @@ pub mod Spells
 pub mod Right
 pub mod Marks
 pub mod Plans
-pub mod Spots
+pub mod Points
 pub mod Index
 pub mod Reasoned
 pub mod Using
@@ -14,10 +14,10 @@ pub mod Grows
 pub mod Releases
 pub mod Entered
 pub mod Walks
-pub use Rattle.ir_store_rows.specs.Area
+pub use Rattle.ir_store_arena.specs.declared.area.RegionData
 pub use Rattle.ir_store_lists.specs.Labels
 pub use Rattle.ir_store_lists.specs.Lists
-pub use Rattle.ir_store_rows.specs.Slots
-pub use Rattle.ir_store_rows.specs.trees
-pub use Rattle.ir_store_rows.specs.tree_laws
-pub use Rattle.ir_store_rows.specs.types
+pub use Rattle.ir_store_arena.specs.Slots
+pub use Rattle.ir_store_arena.specs.trees
+pub use Rattle.ir_store_arena.specs.tree_laws
+pub use Rattle.ir_store_arena.specs.types

@@ -1,18 +1,18 @@
--- What an edit looks at in the slots before it writes.
+-- The reads of the slots before an edit writes.
 use Rattle.std.specs.Prelude.{ℕ, List, [], ◌∷◌, eqb, nat_lt, length, not, ◌&&◌, Bool, true, false, if◌then◌else◌, Option, Some, None, Result, Ok, Err}
-use Rattle.ir_store_rows.specs.types.declared.refusal.Refusal.{Refusal}
-use Rattle.ir_store_rows.specs.types.declared.refusal.Refusal.TheVariants.{NoSuchOp, NoSuchIndex, IsRoot, NotEmpty}
+use Rattle.ir_store_arena.specs.types.declared.refusal.Refusal.{Refusal}
+use Rattle.ir_store_arena.specs.types.declared.refusal.Refusal.TheVariants.{NoSuchOp, NoSuchIndex, IsRoot, NotEmpty}
 use Rattle.ir_store_lists.specs.Lists.{list_at, IsHead}
-use Rattle.ir_store_rows.specs.trees.Tree.{OpOf, head}
-use Rattle.ir_store_rows.specs.trees.Ids.{has_id, find}
+use Rattle.ir_store_arena.specs.trees.Tree.{OpOf, head}
+use Rattle.ir_store_arena.specs.trees.Ids.{has_id, find}
 use Rattle.ir_store_slots.specs.Rows.{Row, Shape, row_at}
-use Rattle.ir_store_rows.specs.tree_laws.Reasons.{unless, holds_none, operand_reason}
+use Rattle.ir_store_arena.specs.tree_laws.Reasons.{unless, holds_none, operand_reason}
 
 abbrev pub is_nil : List ℕ → Bool
 is_nil [] = true
 is_nil (k ∷ ks) = false
 
--- the lists of the blocks have heads, and no operation stands in them
+-- the lists of the blocks have heads, and are empty
 abbrev pub AllHeads : List ℕ → List Shape → Type 0
 AllHeads homes [] = Unit {0}
 AllHeads homes (None ∷ xs) = AllHeads homes xs
@@ -23,12 +23,12 @@ all_bare lists [] = true
 all_bare lists (None ∷ xs) = all_bare lists xs
 all_bare lists (Some a ∷ xs) = is_nil (list_at lists a.1) && all_bare lists xs
 
--- the slot of an operation that isn't the root and in which none stands
+-- the slot of an operation that isn't the root and whose blocks are empty
 abbrev pub leaf_in : List Row → List (List ℕ) → ℕ → Option ℕ → Result ℕ Refusal
 leaf_in rows lists root None = Err NoSuchOp
 leaf_in rows lists root (Some k) = if eqb k root then Err IsRoot else (if all_bare lists (row_at rows k).shapes then Ok k else Err NotEmpty)
 
--- to take operation x where its uses aren't looked at
+-- the reason against taking out operation x, without a check of its uses
 abbrev pub cut_reason : {N T A : Type 0} → ℕ → OpOf N T A → Option Refusal
 cut_reason x t =
     unless (has_id x t) NoSuchOp
@@ -40,6 +40,6 @@ abbrev pub operand_in : List Row → ℕ → Option ℕ → Result ℕ Refusal
 operand_in rows j None = Err NoSuchOp
 operand_in rows j (Some k) = if nat_lt j (length (row_at rows k).head.operands) then Ok k else Err NoSuchIndex
 
--- to make something operand j of operation x, where what it is isn't looked at
+-- the reason against setting operand j of operation x, without a check of the new value
 abbrev pub write_reason : {N T A : Type 0} → ℕ → ℕ → OpOf N T A → Option Refusal
 write_reason x j t = operand_reason j None (find x t)

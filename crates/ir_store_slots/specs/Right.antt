@@ -1,8 +1,8 @@
--- What else is true of the slots.
+-- Further invariants of the slots.
 use Rattle.std.specs.Prelude.{◌≡◌, ℕ, List, [], true, false, length, ◌<◌, slice_get, Option, Some}
 use Rattle.ir_store_lists.specs.Lists.{Lists, IsHead, IsItem, IsFree, free, home_at, list_at}
-use Rattle.ir_store_rows.specs.trees.Tree.{Op}
-use Rattle.ir_store_rows.specs.trees.Ids.{has_id}
+use Rattle.ir_store_arena.specs.trees.Tree.{Op}
+use Rattle.ir_store_arena.specs.trees.Ids.{has_id}
 use Rattle.ir_store_slots.specs.Rows.{Row, row_at}
 
 -- the slot k holds an operation of the tree
@@ -23,18 +23,18 @@ pub record Placed (homes : List ℕ) (k : ℕ) : Type 0 where
   pub item : IsItem homes k
   pub head : IsHead homes (home_at homes k)
 
--- a block of the operation in slot k: its list has a head that says so
+-- a block of the operation in slot k: its list has a head with this owner and region
 pub record BlockOf (rows : List Row) (homes : List ℕ) (k r : ℕ) (a : List ℕ × ℕ) : Type 0 where
   pub head : IsHead homes a.1
   pub owner : (row_at rows a.1).owner ≡ k
   pub region : (row_at rows a.1).region ≡ r
 
--- the operation in slot k is out of the tree, and no operation is in it
+-- the operation in slot k isn't in the tree, and its blocks are empty
 pub record Held (rows : List Row) (sibs : Lists) (k : ℕ) : Type 0 where
   pub out : IsFree sibs.homes k
   pub bare : (r : ℕ) (a : List ℕ × ℕ) → slice_get (row_at rows k).shapes r ≡ Some (Some a) → list_at sibs.lists a.1 ≡ []
 
--- the slots are right: `keys` tells where an operation stands
+-- the slots are consistent; `keys` maps ids to slots
 pub record Right (rows : List Row) (keys : ℕ → Option ℕ) (sibs : Lists) (root : ℕ) (t : Op) : Type 0 where
   pub few : length sibs.homes < free
   pub long : length rows ≡ length sibs.homes

@@ -1,12 +1,12 @@
--- What the slots hold, as plain data.
+-- The contents of the slots, as plain data.
 use Rattle.std.specs.Prelude.{ℕ, List, [], ◌∷◌, map, not, ◌&&◌, if◌then◌else◌, option_map, Option, Some, None}
-use Rattle.ir_store_rows.specs.trees.Tree.{Op, op, Regions, no_regions, region, empty, block, no_ops}
+use Rattle.ir_store_arena.specs.trees.Tree.{Op, op, Regions, no_regions, region, empty, block, no_ops}
 use Rattle.ir_store_slots.specs.Stored.{Gone}
 use Rattle.ir_store_slots.specs.Nodes.{Node}
-pub use Rattle.ir_store_rows.specs.Shapes.{Shape, shape_of}
-pub use Rattle.ir_store_rows.specs.Rows.{Row, no_head, no_row, kept_head, row_at, row_with_operand, vacated}
+pub use Rattle.ir_store_arena.specs.Shapes.{Shape, shape_of}
+pub use Rattle.ir_store_arena.specs.Rows.{Row, no_head, no_row, kept_head, row_at, row_with_operand, vacated}
 
--- where an operation of the tree stands: `keys` tells the slots of operations
+-- the slot of an operation of the tree; `keys` maps ids to slots
 abbrev pub if_live : List Row → Option ℕ → Option ℕ
 if_live rows None = None
 if_live rows (Some k) = if (row_at rows k).live then Some k else None
@@ -14,7 +14,7 @@ if_live rows (Some k) = if (row_at rows k).live then Some k else None
 abbrev pub live_slot : List Row → (ℕ → Option ℕ) → ℕ → Option ℕ
 live_slot rows keys x = if_live rows (keys x)
 
--- the operation of a slot, with nothing in its blocks
+-- the operation of a slot, with empty blocks
 abbrev pub bare_regions : List Shape → Regions
 bare_regions [] = no_regions
 bare_regions (None ∷ xs) = region empty (bare_regions xs)
@@ -23,7 +23,7 @@ bare_regions (Some a ∷ xs) = region (block a.0 no_ops) (bare_regions xs)
 abbrev pub bare : Row → Op
 bare r = op r.head (bare_regions r.shapes)
 
--- what is held, and what is gone, as the slots tell
+-- the held operations and the removed keys, as functions of the slots
 abbrev pub held_in : List Row → Option ℕ → Option Op
 held_in rows None = None
 held_in rows (Some k) = if (row_at rows k).live then None else Some (bare (row_at rows k))
@@ -50,6 +50,6 @@ abbrev pub shape_arguments : Shape → Option (List ℕ)
 shape_arguments None = None
 shape_arguments (Some a) = Some a.0
 
--- what a slot tells of its operation
+-- the node of the operation in a slot
 abbrev pub node_row : Row → Node
 node_row r = record { head = r.head; arguments = map (option_map (λ a. a.0)) r.shapes }

@@ -1,16 +1,16 @@
--- The tree that slots spell.
+-- The tree that slots represent.
 use Rattle.std.specs.Prelude.{◌≡◌, ℕ, List, [], ◌∷◌, true, Some, None}
 use Rattle.std.proofs.Common.{sym, ◌∙◌, refl}
 use Rattle.std.specs.Coded.{Coded-set, coded_ℕ, coded_bool, coded_list, ×_prop, Unit-prop}
 use mathlib.Core.HLevel.{Σ_prop_path, ⊥_prop}
-use Rattle.ir_store_rows.specs.trees.Tree.{Op, op, Regions, no_regions, region, Region, empty, block, Ops, no_ops, next}
-use Rattle.ir_store_rows.specs.trees.Code.{head_code}
+use Rattle.ir_store_arena.specs.trees.Tree.{Op, op, Regions, no_regions, region, Region, empty, block, Ops, no_ops, next}
+use Rattle.ir_store_arena.specs.trees.Code.{head_code}
 use Rattle.ir_store_lists.specs.Lists.{list_at}
 use Rattle.ir_store_slots.specs.Rows.{Row, Shape, row_at}
 
 module _ (rows : List Row) (lists : List (List ℕ)) where
   abbrev mutual
-    -- the slot k spells an operation
+    -- slot k represents an operation
     pub SpellsOp : ℕ → Op → Type 0
     SpellsOp k (op h rs) = ((row_at rows k).live ≡ true) × (((row_at rows k).head ≡ h) × SpellsRegions (row_at rows k).shapes rs)
 
@@ -87,12 +87,12 @@ module _ (rows : List Row) (lists : List (List ℕ)) where
     SpellsOps-one (k ∷ ks) (next o os) no_ops s r = absurd r
     SpellsOps-one (k ∷ ks) (next o os) (next q qs) s r = λ i. next (SpellsOp-one k o q s.0 r.0 i) (SpellsOps-one ks os qs s.1 r.1 i)
 
-  -- the tree that a slot spells: there is no other, so this is a fact
-  abbrev pub Spelled : ℕ → Type 0
-  Spelled root = (t : Op) × SpellsOp root t
+  -- the tree that a slot represents: it is unique, so this type is a proposition
+  abbrev pub Represented : ℕ → Type 0
+  Represented root = (t : Op) × SpellsOp root t
 
-  pub Spelled-prop : (root : ℕ) → IsProp (Spelled root)
-  Spelled-prop root x y = Σ_prop_path (SpellsOp-prop root) {u = x} {v = y} (SpellsOp-one root x.0 y.0 x.1 y.1)
+  pub Represented-prop : (root : ℕ) → IsProp (Represented root)
+  Represented-prop root x y = Σ_prop_path (SpellsOp-prop root) {u = x} {v = y} (SpellsOp-one root x.0 y.0 x.1 y.1)
 
-  pub spelled_is : (root : ℕ) (x : Spelled root) (t : Op) → SpellsOp root t → x.0 ≡ t
+  pub spelled_is : (root : ℕ) (x : Represented root) (t : Op) → SpellsOp root t → x.0 ≡ t
   spelled_is root x t s = SpellsOp-one root x.0 t x.1 s

@@ -1,25 +1,25 @@
--- What a store holds: the module, the operations that were taken from it and are held, and the slots of keys
--- that were taken out of dictionaries.
+-- The state of a store: the module, the operations that were taken out of it and are held, and the removed keys whose
+-- slots are kept.
 use Rattle.std.specs.Prelude.{ℕ, Bool, false, ◌||◌, Option, Some, None, refl}
 use Rattle.std.specs.Coded.{Coded, code_by, coded×, coded_ℕ}
 use Rattle.std.specs.Ordering.{nat_cmp}
 use Rattle.std.specs.FinMap as map
-use Rattle.ir_store_rows.specs.trees.declared.place.Part.{Part}
-use Rattle.ir_store_rows.specs.trees.Tree.{Op, head}
-use Rattle.ir_store_rows.specs.trees.Code.{op_code}
-use Rattle.ir_store_rows.specs.trees.Ids.{find, first_of}
-use Rattle.ir_store_rows.specs.trees.Edits.{part_of}
-use Rattle.ir_store_rows.specs.trees.WellFormed.{Module, module_code}
-use Rattle.ir_store_rows.specs.Slots.{has_key, is_gone}
-pub use Rattle.ir_store_rows.specs.Gone.{Gone, none_gone, gone_code, gone_in, change_gone}
+use Rattle.ir_store_arena.specs.trees.declared.place.Part.{Part}
+use Rattle.ir_store_arena.specs.trees.Tree.{Op, head}
+use Rattle.ir_store_arena.specs.trees.Code.{op_code}
+use Rattle.ir_store_arena.specs.trees.Ids.{find, first_of}
+use Rattle.ir_store_arena.specs.trees.Edits.{part_of}
+use Rattle.ir_store_arena.specs.trees.WellFormed.{Module, module_code}
+use Rattle.ir_store_arena.specs.Slots.{has_key, is_gone}
+pub use Rattle.ir_store_arena.specs.Gone.{Gone, none_gone, gone_code, gone_in, change_gone}
 
--- what a store holds
+-- the state of a store
 pub record Stored : Type 0 where
   -- the module
   pub module_of : Module
-  -- each held operation, by its id, as it was when it was taken
+  -- each held operation, by its id, unchanged since it was taken out
   pub held : map.FinMap nat_cmp Op
-  -- of each operation of the module, and of each held one, the keys that are gone
+  -- the removed keys of each operation, of the module or held
   pub gone : map.FinMap nat_cmp Gone
 
 abbrev pub stored_code : Coded Stored
@@ -32,11 +32,11 @@ stored_code =
 abbrev pub known : ℕ → Stored → Option Op
 known x s = first_of (find x s.module_of.tree) (map.get s.held x)
 
--- the keys that are gone of operation x
+-- the removed keys of operation x
 abbrev pub gone_of : ℕ → Stored → Option Gone
 gone_of x s = map.get s.gone x
 
--- whether there is something, and it passes a test
+-- whether there is an item, and it passes a test
 abbrev pub is_some_with : {X : Type 0} → (X → Bool) → Option X → Bool
 is_some_with p None = false
 is_some_with p (Some a) = p a
@@ -45,11 +45,11 @@ is_some_with p (Some a) = p a
 abbrev pub has_entry : ℕ → Part → ℕ → Stored → Bool
 has_entry x part k s = is_some_with (λ o. has_key k (part_of part (head o))) (known x s)
 
--- whether key k is gone from it, and its slot stands
+-- whether key k was removed from a dictionary and its slot is kept
 abbrev pub stands : Part → ℕ → Option Gone → Bool
 stands part k None = false
 stands part k (Some g) = is_gone k (gone_in part g)
 
--- whether there is a slot for key k: the key is there, or its slot still stands
+-- whether there is a slot for key k: the dictionary has the key, or the slot of the removed key
 abbrev pub has_slot : ℕ → Part → ℕ → Stored → Bool
 has_slot x part k s = has_entry x part k s || stands part k (gone_of x s)

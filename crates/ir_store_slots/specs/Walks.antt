@@ -1,10 +1,10 @@
--- Tests of slots in the lists of blocks.
+-- Tests of the slots in the lists of blocks.
 use Rattle.std.specs.Prelude.{ℕ, zero, suc, List, [], ◌∷◌, eqb, true, false, ◌&&◌, Bool, if◌then◌else◌, Option, Some, None}
 use Rattle.std.specs.List.{list_all}
 use Rattle.ir_store_lists.specs.Lists.{list_at}
 use Rattle.ir_store_slots.specs.Rows.{Row, Shape, row_at}
 
--- the lists of the blocks hold only slots that pass a test
+-- all slots in the lists of the blocks pass a test
 abbrev pub shapes_pass : List (List ℕ) → (ℕ → Bool) → List Shape → Bool
 shapes_pass lists p [] = true
 shapes_pass lists p (None ∷ xs) = shapes_pass lists p xs

@@ -1,24 +1,24 @@
-//! Entries of dictionaries, set and taken out.
+//! Sets and removes dictionary entries in slots.
 ghost use Rattle.std.specs.Prelude.{◌≡◌, true, None, IsOk, OnOk, OnErr, Some, is_some, MatchOption};
 ghost use Rattle.std.specs.FinMap as finmap;
-ghost use Rattle.ir_store_rows.specs.trees.Edits.{entry_at, part_of as the_part};
-ghost use Rattle.ir_store_rows.specs.trees.Meaning.{key_before_in, rises};
-ghost use Rattle.ir_store_rows.specs.tree_laws.Reasons.{entry_reason};
-ghost use Rattle.ir_store_rows.specs.Slots.{has_key, has_slot as is_slot};
-ghost use Rattle.ir_store_rows.specs.Contents.{no_slots};
+ghost use Rattle.ir_store_arena.specs.trees.Edits.{entry_at, part_of as the_part};
+ghost use Rattle.ir_store_arena.specs.trees.Meaning.{key_before_in, rises};
+ghost use Rattle.ir_store_arena.specs.tree_laws.Reasons.{entry_reason};
+ghost use Rattle.ir_store_arena.specs.Slots.{has_key, has_slot as is_slot};
+ghost use Rattle.ir_store_arena.specs.Contents.{no_slots};
 ghost use Rattle.ir_store_slots.specs.Rows.{row_at, live_slot};
 ghost use Rattle.ir_store_slots.specs.Entered.{slots_in, row_with_entry, entry_in};
 
 use crate::find::{Keys, find, slot};
-use ir_store_rows::trees::limits::MOST_ITEMS;
-use ir_store_rows::trees::place::Part;
-use ir_store_rows::types::context::Context;
-use ir_store_rows::types::ids::{AttrId, NameId, OpId};
-use ir_store_rows::types::refusal::Refusal;
-use ir_store_rows::{Dictionary, Rows};
+use ir_store_arena::trees::limits::MOST_ITEMS;
+use ir_store_arena::trees::place::Part;
+use ir_store_arena::types::context::Context;
+use ir_store_arena::types::ids::{AttrId, NameId, OpId};
+use ir_store_arena::types::refusal::Refusal;
+use ir_store_arena::{Dictionary, Slots};
 
-/// Whether there is a slot for a key in one dictionary of a row.
-pub fn has_slot_at(rows: &Rows, at: usize, part: Part, key: NameId) -> bool
+/// Returns whether a key has a slot in one dictionary of a row.
+pub fn has_slot_at(rows: &Slots, at: usize, part: Part, key: NameId) -> bool
     ensures { result ≡ is_slot key (slots_in part (row_at rows.now at)) }
 {
     match rows.dictionary(at, part) {
@@ -27,7 +27,7 @@ pub fn has_slot_at(rows: &Rows, at: usize, part: Part, key: NameId) -> bool
     }
 }
 
-/// Why a key of a dictionary can't be set to an attribute, or taken out.
+/// Returns the reason that a key of a dictionary can't be set or removed, or `None`.
 fn entry_fault(
     ctx: &Context,
     entries: &Dictionary,
@@ -55,10 +55,10 @@ fn entry_fault(
     }
 }
 
-/// Why a key of one dictionary of the operation in a slot can't be set to an attribute, or taken out.
+/// Returns the reason that a key of one dictionary of the operation in a slot can't be set or removed, or `None`.
 fn row_fault(
     ctx: &Context,
-    rows: &Rows,
+    rows: &Slots,
     at: usize,
     part: Part,
     key: NameId,
@@ -75,10 +75,11 @@ fn row_fault(
     }
 }
 
-/// The slot of an operation of the module of which a key of one dictionary can be set, or taken out.
+/// Returns the slot of an operation of the module in which a key of one dictionary can be set or removed, or the reason
+/// that it can't.
 pub fn find_entry(
     ctx: &Context,
-    rows: &Rows,
+    rows: &Slots,
     keys: &Keys,
     op: OpId,
     part: Part,

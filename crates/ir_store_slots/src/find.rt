@@ -6,39 +6,38 @@ ghost use Rattle.ir_store_slots.specs.Rows.{row_at, live_slot, shape_of};
 ghost use Rattle.ir_store_slots.specs.Plans.{AllHeads, all_bare, leaf_in, operand_in};
 ghost use Rattle.ir_store_slots.specs.Right.{Live};
 
-use crate::row::Area;
-use ir_store_ids::IdTable;
-use ir_store_lists::Ordered;
-use ir_store_rows::Rows;
-use ir_store_rows::types::ids::OpId;
-use ir_store_rows::types::refusal::Refusal;
+use crate::row::RegionData;
+use ir_store_arena::Slots;
+use ir_store_arena::types::ids::OpId;
+use ir_store_arena::types::refusal::Refusal;
+use ir_store_lists::{IdTable, OrderedLists};
 
-/// The slots of operations by their numbers.
+/// The table from ids to slots.
 pub type Keys = IdTable;
 
-/// The slot of an operation, of the module or held.
+/// Returns the slot of an operation of the module or a held one, or `None` if the id has no slot.
 pub fn slot(keys: &Keys, op: OpId) -> Option<usize>
     ensures { result ≡ finmap.get keys.now op }
 {
     keys.get(op.number())
 }
 
-/// The slot of an operation of the module.
-pub fn find(rows: &Rows, keys: &Keys, op: OpId) -> Option<usize>
+/// Returns the slot of an operation of the module, or `None` if it isn't in the module.
+pub fn find(rows: &Slots, keys: &Keys, op: OpId) -> Option<usize>
     ensures { result ≡ live_slot rows.now (finmap.get keys.now) op }
 {
     let key = slot(keys, op)?;
     if rows.is_live(key) { Some(key) } else { None }
 }
 
-/// Whether no operation stands in the blocks of an operation.
-pub fn is_bare(areas: &[Area], sibs: &Ordered) -> bool
+/// Returns whether the blocks of an operation are empty.
+pub fn is_bare(areas: &[RegionData], sibs: &OrderedLists) -> bool
     requires { AllHeads sibs.now.homes (map shape_of areas.now) }
     ensures { result ≡ all_bare sibs.now.lists (map shape_of areas.now) }
 {
     let mut rest = areas;
     'areas: while let [area, tail @ ..] = rest {
-        if let Area::Block { head, .. } = area {
+        if let RegionData::Block { head, .. } = area {
             if sibs.first(*head).is_some() {
                 return false;
             }
@@ -48,11 +47,11 @@ pub fn is_bare(areas: &[Area], sibs: &Ordered) -> bool
     true
 }
 
-/// The slot of an operation that isn't the root, and in which none stands.
+/// Returns the slot of an operation that isn't the root and whose blocks are empty, or the reason that it isn't one.
 pub fn find_leaf(
-    rows: &Rows,
+    rows: &Slots,
     keys: &Keys,
-    sibs: &Ordered,
+    sibs: &OrderedLists,
     root: usize,
     op: OpId,
 ) -> Result<usize, Refusal>
@@ -72,8 +71,8 @@ pub fn find_leaf(
     }
 }
 
-/// The slot of an operation of the module that has this operand.
-pub fn find_operand(rows: &Rows, keys: &Keys, op: OpId, place: usize) -> Result<usize, Refusal>
+/// Returns the slot of an operation of the module that has this operand, or the reason that there is none.
+pub fn find_operand(rows: &Slots, keys: &Keys, op: OpId, place: usize) -> Result<usize, Refusal>
     ensures { result ≡ operand_in rows.now place (live_slot rows.now (finmap.get keys.now) op) }
 {
     let Some(key) = find(rows, keys, op) else {
@@ -86,8 +85,8 @@ pub fn find_operand(rows: &Rows, keys: &Keys, op: OpId, place: usize) -> Result<
     }
 }
 
-/// How many operands the operation of a slot has.
-fn operand_count(rows: &Rows, key: usize) -> usize
+/// Returns the number of operands of the operation in a slot.
+fn operand_count(rows: &Slots, key: usize) -> usize
     ensures { result ≡ length (row_at rows.now key).head.operands }
 {
     rows.operands(key).len()

@@ -1,7 +1,7 @@
-//! Slots and nodes that are added.
+//! Adds slots and nodes.
 ghost use Rattle.std.specs.Prelude.{◌≡◌, true, false, ℕ, ◌+◌, ◌<◌, ◌≤◌, ◌++◌, ◌∷◌, [], length, map, IfOk, MatchResult, IfSome};
-ghost use Rattle.ir_store_rows.specs.trees.View.{region_view};
-ghost use Rattle.ir_store_rows.specs.trees.Tree.{block, no_ops, head};
+ghost use Rattle.ir_store_arena.specs.trees.View.{region_view};
+ghost use Rattle.ir_store_arena.specs.trees.Tree.{block, no_ops, head};
 ghost use Rattle.ir_store_slots.specs.Rows.{shape_of};
 ghost use Rattle.ir_store_slots.specs.Index.{cells_of};
 ghost use Rattle.ir_store_slots.specs.Grows.{parts_of, IsEven, Wider, Runs, AddsSlot, KeepsSlots, AreBlocks, IsBlock, Grown, AreEmptied, row_spare, row_held, bare_region};
@@ -9,16 +9,16 @@ ghost use Rattle.ir_store_slots.specs.Emptied.{emptied_region};
 ghost use Rattle.ir_store_lists.specs.Lists.{free};
 ghost use Rattle.std.specs.Prelude.{if◌then◌else◌};
 
-use crate::row::{Area, Cell};
-use ir_store_lists::{Chains, Ordered};
-use ir_store_rows::trees::tree::{TreeOp, TreeRegion};
-use ir_store_rows::trees::value::Value;
-use ir_store_rows::types::ids::{OpId, TypeId};
-use ir_store_rows::{Draft, Rows};
+use crate::row::{RegionData, UseNode};
+use ir_store_arena::trees::tree::{TreeOp, TreeRegion};
+use ir_store_arena::trees::value::Value;
+use ir_store_arena::types::ids::{OpId, TypeId};
+use ir_store_arena::{Draft, Slots};
+use ir_store_lists::{LinkedLists, OrderedLists};
 use std::alloc::{AllocError, Global};
 
-/// One slot more, which holds nothing.
-fn add_spare(rows: &mut Rows, sibs: &mut Ordered) -> Result<(), AllocError>
+/// Adds a free slot.
+fn add_spare(rows: &mut Slots, sibs: &mut OrderedLists) -> Result<(), AllocError>
     ensures { MatchResult result
         (λ _. AddsSlot false (row_spare 0 0 0) rows.old rows.new sibs.old sibs.new)
         (λ _. KeepsSlots rows.old rows.new sibs.old sibs.new) }
@@ -36,10 +36,10 @@ fn add_spare(rows: &mut Rows, sibs: &mut Ordered) -> Result<(), AllocError>
     }
 }
 
-/// One slot more, the head of a block: it has an owner, and the number of its region.
+/// Adds a slot for the head of a block, with its owner and the index of its region.
 fn add_head(
-    rows: &mut Rows,
-    sibs: &mut Ordered,
+    rows: &mut Slots,
+    sibs: &mut OrderedLists,
     owner: u32,
     region: u32,
     values: usize,
@@ -62,8 +62,8 @@ fn add_head(
     }
 }
 
-/// One node of blocks more, which is a head or free.
-fn add_block_node(nodes: &mut Ordered, head: bool) -> Result<(), AllocError>
+/// Adds a node of blocks, which is a head or free.
+fn add_block_node(nodes: &mut OrderedLists, head: bool) -> Result<(), AllocError>
     ensures { MatchResult result
         (λ _. (nodes.new.lists ≡ nodes.old.lists ++ [] ∷ []) × (nodes.new.homes ≡ nodes.old.homes ++ (if head then length nodes.old.homes else free) ∷ []))
         (λ _. nodes.new ≡ nodes.old) }
@@ -81,8 +81,8 @@ fn add_block_node(nodes: &mut Ordered, head: bool) -> Result<(), AllocError>
     }
 }
 
-/// One node more, which is a head or free.
-fn add_node(nodes: &mut Chains, head: bool) -> Result<(), AllocError>
+/// Adds a node, which is a head or free.
+fn add_node(nodes: &mut LinkedLists, head: bool) -> Result<(), AllocError>
     ensures { MatchResult result
         (λ _. (nodes.new.lists ≡ nodes.old.lists ++ [] ∷ []) × (nodes.new.homes ≡ nodes.old.homes ++ (if head then length nodes.old.homes else free) ∷ []))
         (λ _. nodes.new ≡ nodes.old) }
@@ -100,11 +100,11 @@ fn add_node(nodes: &mut Chains, head: bool) -> Result<(), AllocError>
     }
 }
 
-/// One more cell, and its node.
+/// Adds a cell and its node.
 fn add_use(
-    uses: &mut Chains,
-    cells: &mut Vec<Cell>,
-    cell: Cell,
+    uses: &mut LinkedLists,
+    cells: &mut Vec<UseNode>,
+    cell: UseNode,
     head: bool,
 ) -> Result<(), AllocError>
     ensures { MatchResult result
@@ -124,10 +124,10 @@ fn add_use(
     }
 }
 
-/// So many nodes more, for the values or the operands of a slot: heads, or free ones. The first of them.
+/// Adds nodes for the values of a slot (heads), or for its operands (free nodes). Returns the first one.
 fn add_run(
-    uses: &mut Chains,
-    cells: &mut Vec<Cell>,
+    uses: &mut LinkedLists,
+    cells: &mut Vec<UseNode>,
     row: usize,
     count: usize,
     heads: bool,
@@ -142,7 +142,7 @@ fn add_run(
     let mut place = 0;
     'nodes: while place < count {
         uses.laws();
-        let cell = Cell {
+        let cell = UseNode {
             row: row as u32,
             place: place as u32,
         };
@@ -155,45 +155,45 @@ fn add_run(
     Ok(base)
 }
 
-/// How many rows there are.
-fn row_count(rows: &Rows) -> usize
+/// Returns the number of rows.
+fn row_count(rows: &Slots) -> usize
     ensures { result ≡ length rows.now }
 {
     rows.len()
 }
 
-/// How many types there are.
+/// Returns the number of types.
 fn type_count(types: &[TypeId]) -> usize
     ensures { result ≡ length types.now }
 {
     types.len()
 }
 
-/// How many operands there are.
+/// Returns the number of operands.
 fn operand_count(operands: &[Value]) -> usize
     ensures { result ≡ length operands.now }
 {
     operands.len()
 }
 
-/// The region of a slot, with no operation in it.
+/// Adds the region of a slot, without operations.
 fn add_area(
     alloc: Global,
-    rows: &mut Rows,
-    sibs: &mut Ordered,
-    uses: &mut Chains,
-    cells: &mut Vec<Cell>,
+    rows: &mut Slots,
+    sibs: &mut OrderedLists,
+    uses: &mut LinkedLists,
+    cells: &mut Vec<UseNode>,
     owner: u32,
     number: u32,
     region: &TreeRegion,
-) -> Result<Area, AllocError>
+) -> Result<RegionData, AllocError>
     requires { IsEven (parts_of rows.old sibs.old uses.old cells.old.items) }
     ensures wider { Wider (parts_of rows.old sibs.old uses.old cells.old.items) (parts_of rows.new sibs.new uses.new cells.new.items) }
     ensures area { IfOk result (λ a. (bare_region (shape_of a) ≡ emptied_region (region_view region.now))
         × IsBlock (parts_of rows.new sibs.new uses.new cells.new.items) (length uses.old.homes) owner number (shape_of a)) }
 {
     match region {
-        TreeRegion::Empty => Ok(Area::Empty),
+        TreeRegion::Empty => Ok(RegionData::Empty),
         TreeRegion::Block { args, .. } => {
             let args = match Vec::from_slice(alloc, args) {
                 Ok(args) => args,
@@ -204,16 +204,16 @@ fn add_area(
     }
 }
 
-/// A block of a slot, with no operation in it.
+/// Adds a block of a slot, without operations.
 fn add_block(
-    rows: &mut Rows,
-    sibs: &mut Ordered,
-    uses: &mut Chains,
-    cells: &mut Vec<Cell>,
+    rows: &mut Slots,
+    sibs: &mut OrderedLists,
+    uses: &mut LinkedLists,
+    cells: &mut Vec<UseNode>,
     owner: u32,
     number: u32,
     args: Vec<TypeId>,
-) -> Result<Area, AllocError>
+) -> Result<RegionData, AllocError>
     requires { IsEven (parts_of rows.old sibs.old uses.old cells.old.items) }
     ensures wider { Wider (parts_of rows.old sibs.old uses.old cells.old.items) (parts_of rows.new sibs.new uses.new cells.new.items) }
     ensures area { IfOk result (λ a. (bare_region (shape_of a) ≡ block args.items no_ops)
@@ -228,21 +228,21 @@ fn add_block(
         Err(e) => return Err(e),
     };
     match add_head(rows, sibs, owner, number, values) {
-        Ok(()) => Ok(Area::Block { args, head }),
+        Ok(()) => Ok(RegionData::Block { args, head }),
         Err(e) => Err(e),
     }
 }
 
-/// The regions of a slot, with no operation in them.
+/// Adds the regions of a slot, without operations.
 fn add_areas(
     alloc: Global,
-    rows: &mut Rows,
-    sibs: &mut Ordered,
-    uses: &mut Chains,
-    cells: &mut Vec<Cell>,
+    rows: &mut Slots,
+    sibs: &mut OrderedLists,
+    uses: &mut LinkedLists,
+    cells: &mut Vec<UseNode>,
     owner: u32,
     regions: &[TreeRegion],
-) -> Result<Vec<Area>, AllocError>
+) -> Result<Vec<RegionData>, AllocError>
     requires { IsEven (parts_of rows.old sibs.old uses.old cells.old.items) }
     ensures wider { Wider (parts_of rows.old sibs.old uses.old cells.old.items) (parts_of rows.new sibs.new uses.new cells.new.items) }
     ensures areas { IfOk result (λ a. AreEmptied (map shape_of a.items) (map region_view regions.now)
@@ -269,13 +269,14 @@ fn add_areas(
     Ok(areas)
 }
 
-/// A slot for an operation, with the nodes of its values and operands; and the row that is to be written there.
+/// Adds a slot for an operation, with the nodes of its values and operands. Returns the slot and the row to write into
+/// it.
 pub fn grow_slot(
     alloc: Global,
-    rows: &mut Rows,
-    sibs: &mut Ordered,
-    uses: &mut Chains,
-    cells: &mut Vec<Cell>,
+    rows: &mut Slots,
+    sibs: &mut OrderedLists,
+    uses: &mut LinkedLists,
+    cells: &mut Vec<UseNode>,
     op: OpId,
     header: &TreeOp,
 ) -> Result<(usize, Draft), AllocError>

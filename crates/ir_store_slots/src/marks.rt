@@ -1,18 +1,18 @@
-//! Two lists of slots: those of the held operations, and those of the operations of the module that have gone keys.
+//! Two lists of slots: those of held operations, and those of the module's operations with removed keys.
 ghost use Rattle.std.specs.Prelude.{◌≡◌, suc, ◌+◌, ◌<◌, ◌∷◌, [], length, slice_set, IfOk, OnOk};
 ghost use Rattle.ir_store_lists.specs.Lists.{free};
 ghost use Rattle.ir_store_slots.specs.Rows.{row_at};
 ghost use Rattle.ir_store_slots.specs.Marks.{mark, home_of, node_of_slot, CanMark, CanPut, Reaches};
 
-use ir_store_lists::Chains;
-use ir_store_rows::Rows;
+use ir_store_arena::Slots;
+use ir_store_lists::LinkedLists;
 use std::alloc::{AllocError, Global};
 
-/// Both lists, and no slots.
-pub fn new_marks(alloc: Global) -> Result<Chains, AllocError>
+/// Returns both lists, empty.
+pub fn new_marks(alloc: Global) -> Result<LinkedLists, AllocError>
     ensures { IfOk result (λ c. c.homes ≡ 0 ∷ 1 ∷ []) }
 {
-    let mut marks = Chains::new(alloc);
+    let mut marks = LinkedLists::new(alloc);
     match marks.add_head() {
         Ok(_) => {}
         Err(e) => return Err(e),
@@ -24,8 +24,8 @@ pub fn new_marks(alloc: Global) -> Result<Chains, AllocError>
     Ok(marks)
 }
 
-/// Nodes for so many slots.
-pub fn reach(marks: &mut Chains, count: usize) -> Result<(), AllocError>
+/// Adds nodes until there is one for each of `count` slots.
+pub fn reach(marks: &mut LinkedLists, count: usize) -> Result<(), AllocError>
     requires { count < free }
     ensures nodes { Reaches marks.old.homes marks.new.homes }
     ensures there { OnOk result (suc count < length marks.new.homes) }
@@ -39,8 +39,8 @@ pub fn reach(marks: &mut Chains, count: usize) -> Result<(), AllocError>
     Ok(())
 }
 
-/// The list of a slot.
-fn mark_at(rows: &Rows, key: usize) -> Option<usize>
+/// Returns the list to which a slot belongs, or `None` if it belongs to neither.
+fn mark_at(rows: &Slots, key: usize) -> Option<usize>
     ensures { result ≡ mark (row_at rows.now key) }
 {
     if !rows.is_live(key) {
@@ -49,12 +49,12 @@ fn mark_at(rows: &Rows, key: usize) -> Option<usize>
     if rows.has_gone(key) { Some(1) } else { None }
 }
 
-/// Takes a node out of its list, if it stands in one, and puts it into another, if there is one.
-fn set_home(marks: &mut Chains, node: usize, list: Option<usize>)
+/// Removes a node from its list, if it is in one, and appends it to another list, if one is given.
+fn set_home(marks: &mut LinkedLists, node: usize, list: Option<usize>)
     requires { CanPut marks.old.homes node list }
     ensures { marks.new.homes ≡ slice_set marks.old.homes node (home_of list) }
 {
-    if marks.home(node).is_some() {
+    if marks.head_of(node).is_some() {
         marks.remove(node);
     }
     if let Some(head) = list {
@@ -62,8 +62,8 @@ fn set_home(marks: &mut Chains, node: usize, list: Option<usize>)
     }
 }
 
-/// Puts a slot into the list that its row asks for.
-pub fn put_mark(marks: &mut Chains, rows: &Rows, key: usize)
+/// Moves a slot to the list to which its row belongs.
+pub fn link_slot(marks: &mut LinkedLists, rows: &Slots, key: usize)
     requires { CanMark marks.old.homes key }
     ensures { marks.new.homes ≡ slice_set marks.old.homes (node_of_slot key) (home_of (mark (row_at rows.now key))) }
 {

@@ -1,4 +1,4 @@
-//! Held operations are given up.
+//! Releases held operations.
 ghost use Rattle.std.specs.Prelude.{◌≡◌, ◌<◌, true, length, if◌then◌else◌, ◌-◌};
 ghost use Rattle.std.specs.FinMap as finmap;
 ghost use Rattle.ir_store_lists.specs.Lists.{free, has, list_at, without};
@@ -7,12 +7,12 @@ ghost use Rattle.ir_store_slots.specs.Marks.{Marked};
 ghost use Rattle.ir_store_slots.specs.Rows.{row_at};
 
 use crate::find::Keys;
-use ir_store_lists::Chains;
-use ir_store_rows::Rows;
+use ir_store_arena::Slots;
+use ir_store_lists::LinkedLists;
 
-/// Gives up what a slot holds, where its id is one of those that are given up: it is spare then, as another was before
-/// it, and the id has no slot. Whether there was such an operation.
-fn release_slot(rows: &mut Rows, keys: &mut Keys, spare: &mut u32, key: usize, from: u32) -> bool
+/// Frees a slot if it holds an operation to be released, and returns whether it does. The slot is added to the free
+/// list, and the id loses its slot.
+fn release_slot(rows: &mut Slots, keys: &mut Keys, spare: &mut u32, key: usize, from: u32) -> bool
     requires inside { key < length rows.old }
     requires small { key < free }
     ensures slot { ReleasesSlot from key rows.old rows.new keys.old keys.new }
@@ -22,25 +22,24 @@ fn release_slot(rows: &mut Rows, keys: &mut Keys, spare: &mut u32, key: usize, f
         return false;
     }
     let op = rows.id(key);
-    rows.give_up(key, *spare);
+    rows.free(key, *spare);
     *spare = key as u32;
     keys.remove(op.number());
     true
 }
 
-/// Whether what a slot holds is given up.
-fn is_given(rows: &Rows, key: usize, from: u32) -> bool
+/// Returns whether a slot holds an operation to be released.
+fn is_given(rows: &Slots, key: usize, from: u32) -> bool
     ensures { result ≡ is_given from (row_at rows.now key) }
 {
     rows.is_used(key) && !rows.is_live(key) && rows.id(key).number() >= from
 }
 
-/// Gives up what the slot of a node in the list of those that hold something holds, where its id is one of those that
-/// are given up.
+/// Frees the slot of a node in the list of held operations, if its operation is to be released.
 fn release_node(
-    rows: &mut Rows,
+    rows: &mut Slots,
     keys: &mut Keys,
-    marks: &mut Chains,
+    marks: &mut LinkedLists,
     spare: &mut u32,
     node: usize,
     from: u32,
@@ -57,11 +56,11 @@ fn release_node(
     }
 }
 
-/// Gives up what the slot of an id holds, if it has one and the id is one of those that are given up.
+/// Frees the slot of an id, if it has one and its operation is to be released.
 fn release_id(
-    rows: &mut Rows,
+    rows: &mut Slots,
     keys: &mut Keys,
-    marks: &mut Chains,
+    marks: &mut LinkedLists,
     spare: &mut u32,
     id: u32,
     from: u32,
@@ -78,8 +77,14 @@ fn release_id(
     release_node(rows, keys, marks, spare, key + 2, from);
 }
 
-/// Gives up the held operations with ids from `from` on, by their ids, the greatest first.
-fn release_ids(rows: &mut Rows, keys: &mut Keys, marks: &mut Chains, spare: &mut u32, from: u32)
+/// Releases the held operations with ids from `from` on, by descending id.
+fn release_ids(
+    rows: &mut Slots,
+    keys: &mut Keys,
+    marks: &mut LinkedLists,
+    spare: &mut u32,
+    from: u32,
+)
     requires keyed { IsKeyed rows.old (finmap.get keys.old) }
     requires marked { Marked rows.old marks.old.homes }
     ensures given { GivenUp from rows.old rows.new (finmap.get keys.old) (finmap.get keys.new) }
@@ -92,8 +97,14 @@ fn release_ids(rows: &mut Rows, keys: &mut Keys, marks: &mut Chains, spare: &mut
     }
 }
 
-/// Gives up the held operations with ids from `from` on, by a walk along the slots that hold something.
-fn release_held(rows: &mut Rows, keys: &mut Keys, marks: &mut Chains, spare: &mut u32, from: u32)
+/// Releases the held operations with ids from `from` on, by a walk through the list of held operations.
+fn release_held(
+    rows: &mut Slots,
+    keys: &mut Keys,
+    marks: &mut LinkedLists,
+    spare: &mut u32,
+    from: u32,
+)
     requires keyed { IsKeyed rows.old (finmap.get keys.old) }
     requires marked { Marked rows.old marks.old.homes }
     ensures given { GivenUp from rows.old rows.new (finmap.get keys.old) (finmap.get keys.new) }
@@ -108,9 +119,15 @@ fn release_held(rows: &mut Rows, keys: &mut Keys, marks: &mut Chains, spare: &mu
     }
 }
 
-/// Gives up the held operations with ids from `from` on, along the ids where those are no more than the slots: a few
-/// that came last are given up in as many steps, whatever else is held.
-fn release_from(rows: &mut Rows, keys: &mut Keys, marks: &mut Chains, spare: &mut u32, from: u32)
+/// Releases the held operations with ids from `from` on. If there are at most as many such ids as slots, it goes by id,
+/// so the cost is the number of these ids, whatever else is held.
+fn release_from(
+    rows: &mut Slots,
+    keys: &mut Keys,
+    marks: &mut LinkedLists,
+    spare: &mut u32,
+    from: u32,
+)
     requires keyed { IsKeyed rows.old (finmap.get keys.old) }
     requires marked { Marked rows.old marks.old.homes }
     ensures given { GivenUp from rows.old rows.new (finmap.get keys.old) (finmap.get keys.new) }
@@ -123,8 +140,8 @@ fn release_from(rows: &mut Rows, keys: &mut Keys, marks: &mut Chains, spare: &mu
     }
 }
 
-/// Gives up the slots of the keys that are gone of each operation of the module.
-fn forget_keys(rows: &mut Rows, marks: &mut Chains)
+/// Releases the slots of removed keys of each operation of the module.
+fn forget_keys(rows: &mut Slots, marks: &mut LinkedLists)
     requires { Marked rows.old marks.old.homes }
     ensures forgets { Forgets rows.old rows.new }
     ensures marked { Marked rows.new marks.new.homes }
@@ -139,11 +156,12 @@ fn forget_keys(rows: &mut Rows, marks: &mut Chains)
     marks.laws();
 }
 
-/// What is held from an id on is given up, and from 0 on the slots of gone keys. Tells the newest spare slot.
+/// Releases the held operations with ids from `from` on, and for 0 also the slots of removed keys. Returns the head of
+/// the free list.
 pub fn release_slots(
-    rows: &mut Rows,
+    rows: &mut Slots,
     keys: &mut Keys,
-    marks: &mut Chains,
+    marks: &mut LinkedLists,
     spare: &mut u32,
     from: u32,
 )

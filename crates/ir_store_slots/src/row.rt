@@ -1,10 +1,10 @@
-//! What the nodes among the uses of values stand for.
+//! The nodes of the use lists.
 
-pub use ir_store_rows::Area;
+pub use ir_store_arena::RegionData;
 
-/// A node among the uses of values: the slot of the operation, and the place of the operand.
+/// A node of a use list: the slot of the operation, and the index of the operand.
 #[derive(Clone, Copy, Drop)]
-pub struct Cell {
+pub struct UseNode {
     pub row: u32,
     pub place: u32,
 }

@@ -1,4 +1,4 @@
-//! The uses of values.
+//! The use lists of values.
 ghost use Rattle.std.specs.Prelude.{◌≡◌, ◌<◌, ℕ, List, map, length, slice_get, Some, option_and_then};
 ghost use Rattle.ir_store_slots.specs.Rows.{row_at, shape_of};
 ghost use Rattle.ir_store_slots.specs.Index.{AreHeads, ArgHeads, CanFree, HasHeads, all_idle, args_idle, row_idle, freed, result_head, argument_head, slot_head};
@@ -6,7 +6,7 @@ ghost use Rattle.std.specs.Prelude.{eqb};
 ghost use Rattle.std.specs.FinMap as finmap;
 ghost use Rattle.std.specs.Ordering.{nat_cmp};
 ghost use Rattle.ir_store_lists.specs.Lists.{free, IsHead};
-ghost use Rattle.ir_store_rows.specs.trees.Frames.{owner_of};
+ghost use Rattle.ir_store_arena.specs.trees.Frames.{owner_of};
 ghost use Rattle.ir_store_slots.specs.Rows.{live_slot};
 ghost use Rattle.ir_store_slots.specs.Right.{Live};
 ghost use Rattle.ir_store_slots.specs.Plans.{AllHeads, leaf_in, operand_in};
@@ -15,15 +15,15 @@ ghost use Rattle.ir_store_slots.specs.Index.{shape_type, type_in};
 ghost use Rattle.ir_store_slots.specs.Index.{CanLead, all_led, value_head, use_at};
 
 use crate::find::{Keys, find, find_leaf, find_operand, slot};
-use crate::row::Area;
-use ir_store_lists::{Chains, Ordered};
-use ir_store_rows::Rows;
-use ir_store_rows::trees::value::Value;
-use ir_store_rows::types::ids::{OpId, TypeId};
-use ir_store_rows::types::refusal::Refusal;
+use crate::row::RegionData;
+use ir_store_arena::Slots;
+use ir_store_arena::trees::value::Value;
+use ir_store_arena::types::ids::{OpId, TypeId};
+use ir_store_arena::types::refusal::Refusal;
+use ir_store_lists::{LinkedLists, OrderedLists};
 
-/// Whether the lists of some heads are empty.
-fn all_idle(uses: &Chains, base: usize, count: usize) -> bool
+/// Returns whether the lists of some heads are empty.
+fn all_idle(uses: &LinkedLists, base: usize, count: usize) -> bool
     requires { AreHeads base count uses.now.homes }
     ensures { result ≡ all_idle uses.now.lists base count }
 {
@@ -39,22 +39,22 @@ fn all_idle(uses: &Chains, base: usize, count: usize) -> bool
     true
 }
 
-/// The first head of the values of a slot.
+/// Returns the first head of the values of a slot.
 #[inline(always)]
-fn first_value(rows: &Rows, key: usize) -> usize
+fn first_value(rows: &Slots, key: usize) -> usize
     ensures { result ≡ (row_at rows.now key).values }
 {
     rows.values(key)
 }
 
-/// Whether no argument of some blocks is used.
-fn args_idle(uses: &Chains, rows: &Rows, areas: &[Area]) -> bool
+/// Returns whether the arguments of some blocks have no uses.
+fn args_idle(uses: &LinkedLists, rows: &Slots, areas: &[RegionData]) -> bool
     requires { ArgHeads rows.now uses.now.homes (map shape_of areas.now) }
     ensures { result ≡ args_idle rows.now uses.now.lists (map shape_of areas.now) }
 {
     let mut rest = areas;
     'areas: while let [area, tail @ ..] = rest {
-        if let Area::Block { args, head } = area {
+        if let RegionData::Block { args, head } = area {
             if !all_idle(uses, first_value(rows, *head), args.len()) {
                 return false;
             }
@@ -64,8 +64,8 @@ fn args_idle(uses: &Chains, rows: &Rows, areas: &[Area]) -> bool
     true
 }
 
-/// Whether no value of the operation of a slot is used.
-pub fn is_idle(uses: &Chains, rows: &Rows, key: usize) -> bool
+/// Returns whether the values of the operation in a slot have no uses.
+pub fn is_unused(uses: &LinkedLists, rows: &Slots, key: usize) -> bool
     requires { HasHeads rows.now uses.now.homes key }
     ensures { result ≡ row_idle rows.now uses.now.lists key }
 {
@@ -73,8 +73,8 @@ pub fn is_idle(uses: &Chains, rows: &Rows, key: usize) -> bool
         && args_idle(uses, rows, rows.areas(key))
 }
 
-/// Takes nodes out of their lists.
-pub fn free_uses(uses: &mut Chains, base: usize, count: usize)
+/// Removes consecutive nodes from their lists.
+pub fn free_uses(uses: &mut LinkedLists, base: usize, count: usize)
     requires { CanFree base count uses.old.homes }
     ensures { uses.new.homes ≡ freed base count uses.old.homes }
 {
@@ -87,9 +87,9 @@ pub fn free_uses(uses: &mut Chains, base: usize, count: usize)
     }
 }
 
-/// The head of the uses of a result.
+/// Returns the head of the use list of a result, or `None` if there is no such result.
 #[inline(always)]
-fn result_head(rows: &Rows, key: usize, place: usize) -> Option<usize>
+fn result_head(rows: &Slots, key: usize, place: usize) -> Option<usize>
     requires { (h : ℕ) → result_head place (row_at rows.now key) ≡ Some h → h < free }
     ensures { result ≡ result_head place (row_at rows.now key) }
 {
@@ -101,14 +101,14 @@ fn result_head(rows: &Rows, key: usize, place: usize) -> Option<usize>
     }
 }
 
-/// The head of the uses of an argument of a block.
-fn argument_head(rows: &Rows, area: &Area, place: usize) -> Option<usize>
+/// Returns the head of the use list of a block argument, or `None` if there is no such argument.
+fn argument_head(rows: &Slots, area: &RegionData, place: usize) -> Option<usize>
     requires { (h : ℕ) → argument_head rows.now place (shape_of area.now) ≡ Some h → h < free }
     ensures { result ≡ argument_head rows.now place (shape_of area.now) }
 {
     match area {
-        Area::Empty => None,
-        Area::Block { args, head } => {
+        RegionData::Empty => None,
+        RegionData::Block { args, head } => {
             let base = first_value(rows, *head);
             if place < args.len() {
                 Some(base + place)
@@ -119,19 +119,19 @@ fn argument_head(rows: &Rows, area: &Area, place: usize) -> Option<usize>
     }
 }
 
-/// The head of the uses of an argument of the block of a region of the operation in a slot.
+/// Returns the head of the use list of an argument of the block of a region of the operation in a slot.
 #[inline(never)]
-fn area_head(rows: &Rows, key: usize, region: usize, place: usize) -> Option<usize>
+fn area_head(rows: &Slots, key: usize, region: usize, place: usize) -> Option<usize>
     requires { (h : ℕ) → option_and_then (argument_head rows.now place) (slice_get (row_at rows.now key).shapes region) ≡ Some h → h < free }
     ensures { result ≡ option_and_then (argument_head rows.now place) (slice_get (row_at rows.now key).shapes region) }
 {
     argument_head(rows, rows.areas(key).get(region)?, place)
 }
 
-/// The head of the uses of a value whose operation is in a slot. Most often it is a result, which is read where this is
-/// called.
+/// Returns the head of the use list of a value whose operation is in a slot. The common case, a result, is inlined into
+/// the caller.
 #[inline(always)]
-pub fn slot_head(rows: &Rows, key: usize, value: &Value) -> Option<usize>
+pub fn slot_head(rows: &Slots, key: usize, value: &Value) -> Option<usize>
     requires { (h : ℕ) → slot_head rows.now value.now key ≡ Some h → h < free }
     ensures { result ≡ slot_head rows.now value.now key }
 {
@@ -141,8 +141,8 @@ pub fn slot_head(rows: &Rows, key: usize, value: &Value) -> Option<usize>
     }
 }
 
-/// The head of the uses of a value of an operation that has a slot.
-pub fn value_head(rows: &Rows, keys: &Keys, uses: &Chains, value: &Value) -> Option<usize>
+/// Returns the head of the use list of a value, or `None` if the value's operation has no slot or no such value.
+pub fn value_head(rows: &Slots, keys: &Keys, uses: &LinkedLists, value: &Value) -> Option<usize>
     requires head { (h : ℕ) → value_head rows.now (finmap.get keys.now) value.now ≡ Some h → IsHead uses.now.homes h }
     requires few { length uses.now.homes < free }
     ensures { result ≡ value_head rows.now (finmap.get keys.now) value.now }
@@ -151,7 +151,7 @@ pub fn value_head(rows: &Rows, keys: &Keys, uses: &Chains, value: &Value) -> Opt
     slot_head(rows, key, value)
 }
 
-/// The operation of a value.
+/// Returns the operation that defines a value, or that has the block of the argument.
 pub fn owner(value: &Value) -> OpId
     ensures { result ≡ (owner_of value.now).0 }
 {
@@ -161,8 +161,8 @@ pub fn owner(value: &Value) -> OpId
     }
 }
 
-/// Puts nodes into the lists of the heads of operands.
-pub fn lead_uses(uses: &mut Chains, rows: &Rows, keys: &Keys, base: usize, operands: &[Value])
+/// Appends consecutive nodes to the use lists of `operands`.
+pub fn link_uses(uses: &mut LinkedLists, rows: &Slots, keys: &Keys, base: usize, operands: &[Value])
     requires { CanLead (value_head rows.now (finmap.get keys.now)) base operands.now uses.old.homes }
     ensures { uses.new.homes ≡ all_led (value_head rows.now (finmap.get keys.now)) base operands.now uses.old.homes }
 {
@@ -177,19 +177,20 @@ pub fn lead_uses(uses: &mut Chains, rows: &Rows, keys: &Keys, base: usize, opera
     }
 }
 
-/// The nodes of the operands of a slot: the first, and how many.
-pub fn use_run(rows: &Rows, key: usize) -> (usize, usize)
+/// Returns the nodes of the operands of a slot: the first one, and their number.
+pub fn use_run(rows: &Slots, key: usize) -> (usize, usize)
     ensures { result ≡ ((row_at rows.now key).uses, length (row_at rows.now key).head.operands) }
 {
     (rows.uses(key), rows.operands(key).len())
 }
 
-/// The slot of an operation that isn't the root, in which none stands, and of which no value is used.
+/// Returns the slot of an operation that isn't the root, has no operations inside it, and has no uses; or the reason
+/// that it isn't one.
 pub fn find_idle(
-    rows: &Rows,
+    rows: &Slots,
     keys: &Keys,
-    sibs: &Ordered,
-    uses: &Chains,
+    sibs: &OrderedLists,
+    uses: &LinkedLists,
     root: usize,
     op: OpId,
 ) -> Result<usize, Refusal>
@@ -201,15 +202,15 @@ pub fn find_idle(
         Ok(key) => key,
         Err(e) => return Err(e),
     };
-    if is_idle(uses, rows, key) {
+    if is_unused(uses, rows, key) {
         Ok(key)
     } else {
         Err(Refusal::HasUses)
     }
 }
 
-/// The head of the uses of a value of the module.
-fn live_head(rows: &Rows, keys: &Keys, uses: &Chains, value: &Value) -> Option<usize>
+/// Returns the head of the use list of a value of the module, or `None` if the module has no such value.
+fn live_head(rows: &Slots, keys: &Keys, uses: &LinkedLists, value: &Value) -> Option<usize>
     requires head { (h : ℕ) → value_head rows.now (finmap.get keys.now) value.now ≡ Some h → IsHead uses.now.homes h }
     requires few { length uses.now.homes < free }
     ensures { result ≡ value_head rows.now (live_slot rows.now (finmap.get keys.now)) value.now }
@@ -218,13 +219,13 @@ fn live_head(rows: &Rows, keys: &Keys, uses: &Chains, value: &Value) -> Option<u
     slot_head(rows, key, value)
 }
 
-/// The slot of an operation of the module that has this operand, and the head of the uses of a value of the module.
-/// The head is looked up first: values are mostly in the cache, and so what is read of the operation is read at once,
-/// by this and by who unlinks the operand.
+/// Returns the slot of an operation of the module that has this operand, and the head of the use list of `value`, a
+/// value of the module. The head is looked up first. Values are mostly in the cache, so the row of the operation is
+/// then read together with the reads of the caller that unlinks the operand.
 pub fn find_rewire(
-    rows: &Rows,
+    rows: &Slots,
     keys: &Keys,
-    uses: &Chains,
+    uses: &LinkedLists,
     op: OpId,
     place: usize,
     value: &Value,
@@ -244,8 +245,8 @@ pub fn find_rewire(
     }
 }
 
-/// The node of an operand.
-pub fn use_node(rows: &Rows, key: usize, place: usize) -> usize
+/// Returns the node of an operand.
+pub fn use_node(rows: &Slots, key: usize, place: usize) -> usize
     requires { use_at rows.now key place < free }
     ensures { result ≡ use_at rows.now key place }
 {
@@ -253,23 +254,23 @@ pub fn use_node(rows: &Rows, key: usize, place: usize) -> usize
     base + place
 }
 
-/// Puts the nodes of a slot's operands into the lists of the operands.
-pub fn lead_row(uses: &mut Chains, rows: &Rows, keys: &Keys, key: usize)
+/// Appends the nodes of a slot's operands to the use lists of the operands.
+pub fn link_operands(uses: &mut LinkedLists, rows: &Slots, keys: &Keys, key: usize)
     requires { CanLead (value_head rows.now (finmap.get keys.now)) (row_at rows.now key).uses (row_at rows.now key).head.operands uses.old.homes }
     ensures { uses.new.homes ≡ all_led (value_head rows.now (finmap.get keys.now)) (row_at rows.now key).uses (row_at rows.now key).head.operands uses.old.homes }
 {
-    lead_uses(uses, rows, keys, rows.uses(key), rows.operands(key));
+    link_uses(uses, rows, keys, rows.uses(key), rows.operands(key));
 }
 
-/// The id of the operation in a slot.
-pub fn id_at(rows: &Rows, key: usize) -> OpId
+/// Returns the id of the operation in a slot.
+pub fn id_at(rows: &Slots, key: usize) -> OpId
     ensures { result ≡ (row_at rows.now key).head.id }
 {
     rows.id(key)
 }
 
-/// The type of a value of the module.
-pub fn live_type(rows: &Rows, keys: &Keys, value: &Value) -> Option<TypeId>
+/// Returns the type of a value of the module, or `None` if the module has no such value.
+pub fn live_type(rows: &Slots, keys: &Keys, value: &Value) -> Option<TypeId>
     ensures { result ≡ type_in rows.now (live_slot rows.now (finmap.get keys.now)) value.now }
 {
     let key = find(rows, keys, owner(value))?;
@@ -282,12 +283,12 @@ pub fn live_type(rows: &Rows, keys: &Keys, value: &Value) -> Option<TypeId>
     }
 }
 
-/// The type of an argument of a block.
-fn arg_type(area: &Area, place: usize) -> Option<TypeId>
+/// Returns the type of a block argument, or `None` if there is no such argument.
+fn arg_type(area: &RegionData, place: usize) -> Option<TypeId>
     ensures { result ≡ shape_type place (shape_of area.now) }
 {
     match area {
-        Area::Empty => None,
-        Area::Block { args, .. } => args.get(place).copied(),
+        RegionData::Empty => None,
+        RegionData::Block { args, .. } => args.get(place).copied(),
     }
 }

@@ -1,4 +1,4 @@
--- Attributes that are read fit.
+-- A parse of an attribute stays within the capacity.
 use Rattle.std.proofs.Common.{◌≡◌, ◌≤◌, ◌+◌, ℕ, zero, suc, Bool, true, false, List, [], ◌∷◌, ◌++◌, length, Option, Some, None, ℤ, refl, ap, arith, length-append, le-leb}
 use Rattle.std.specs.Prelude.{nat_eq, ◌&&◌, if◌then◌else◌, nat_le, map, option_and_then}
 use Rattle.std.specs.List.{list_all}
@@ -15,7 +15,7 @@ use Rattle.ir_types.specs.declared.node.AttrNode.TheVariants as attr
 use Rattle.ir_types.specs.declared.refusal.Refusal.{Refusal}
 use Rattle.ir_types.specs.declared.refusal.Refusal.TheVariants.{TooMany, TooDeep, BadValue, DuplicateKey}
 use Rattle.ir_types.specs.Depths.{attr_depth}
-use Rattle.ir_types.specs.Dictionaries.{kept, has_twin}
+use Rattle.ir_types.specs.Dictionaries.{kept, has_duplicate}
 use Rattle.ir_types.specs.Interning.{with_name, with_attr}
 use Rattle.ir_types.specs.Ranges.{is_value_number}
 use Rattle.ir_types.specs.Readings.{literal_bits, is_bits_of, reading_of}
@@ -23,7 +23,7 @@ use Rattle.ir_types.specs.Reasons.{first_reason, full_reason, depth_reason, attr
 use Rattle.ir_types.specs.Same.{same_attr}
 use Rattle.ir_types.specs.Terms.{TypeTerm, AttrTerm, type_term, attr_node_term}
 use Rattle.ir_types.specs.Terms as terms
-use Rattle.ir_types.specs.Things.{Things}
+use Rattle.ir_types.specs.Things.{ContextModel}
 use Rattle.ir_types.proofs.Growth.{attr_names, attr_types, attr_attrs}
 use Rattle.ir_types.proofs.Placing.{length-with_last}
 use Rattle.ir_text_types.specs.Outcomes.{Outcome, Read, Wrong, Full, ◌>>=◌, of_option, interned, Parse}
@@ -41,16 +41,16 @@ use Rattle.ir_text_operations.specs.attributes.declared.tail.Tail.TheVariants.{S
 use Rattle.ir_text_operations.specs.attributes.OpaqueAttributes.{tail_in, kept_text, with_angles, distinct_word, location_word, quoted_text, signed_text, is_hexadecimal, is_opaque_type, opens_other}
 use Rattle.ir_text_types.specs.OpaqueTypes.{with_body, bracketed, dialect_text}
 use Rattle.ir_text_types.proofs.Shorter.{IsWithin, within_if, within_more, with_body_within, bracketed_within, dialect_within}
-use Rattle.ir_text_bodies.specs.Bodies.{begins}
+use Rattle.ir_text_tokens.specs.Bodies.{begins}
 use Rattle.ir_text.specs.Room.{Fits}
 use Rattle.ir_text.proofs.Lengths.{gain, skip_length}
 use Rattle.ir_text.proofs.Fits.{fits_to, Has, Good, wrong, reads, good_then, good_some, unless_good, more_good, list_good, text, things}
 use Rattle.ir_text.proofs.Steps.{token_fits, mark_fits, call_good, with_name_fits, name_not_full, type_done_good, full_count}
 use Rattle.ir_text.proofs.TypeRoom.{type_good}
 
--- ---- what is interned
+-- ---- interned entries
 
--- a fault of an attribute is not that the context is full
+-- a fault of an attribute isn't a full context
 fault_apart : (y : AttrTerm) (other : Option Refusal) → first_reason (attr_fault y) other ≡ Some TooMany → other ≡ Some TooMany
 fault_apart y other e = by_value y e
   where
@@ -74,17 +74,17 @@ fault_apart y other e = by_value y e
     by_value (terms.Overflow nsw nuw) e = by_depth (nat_le 1 32) e
     by_value (terms.OpaqueOf text ty) e = by_depth (nat_le (attr_depth (terms.OpaqueOf text ty)) 32) e
 
--- twins are another fault
-twins_apart : (node : AttrNode) (o : Option Refusal) → first_reason o (key_reason node) ≡ Some TooMany → o ≡ Some TooMany
-twins_apart node (Some r) e = e
-twins_apart node None e = absurd (by node e)
+-- a repeated key isn't a full context
+duplicates_apart : (node : AttrNode) (o : Option Refusal) → first_reason o (key_reason node) ≡ Some TooMany → o ≡ Some TooMany
+duplicates_apart node (Some r) e = e
+duplicates_apart node None e = absurd (by node e)
   where
     by_test : (b : Bool) → (if b then Some DuplicateKey else None) ≡ Some TooMany → ⊥
     by_test true e = absurd cc
     by_test false e = absurd cc
 
     by : (node : AttrNode) → key_reason node ≡ Some TooMany → ⊥
-    by (attr.Dict es) e = by_test (has_twin (map (λ (x : ℕ × ℕ). x.0) es)) e
+    by (attr.Dict es) e = by_test (has_duplicate (map (λ (x : ℕ × ℕ). x.0) es)) e
     by (attr.Int ty v) e = absurd cc
     by (attr.Str n) e = absurd cc
     by (attr.Ty t) e = absurd cc
@@ -95,12 +95,12 @@ twins_apart node None e = absurd (by node e)
     by (attr.Overflow a b) e = absurd cc
     by (attr.Opaque text ty) e = absurd cc
 
-attr_not_full : (i j k : ℕ) (node : AttrNode) (b : List ℕ) (c : Things) → count_reason node ≡ None → Fits i j (k + 1) b c → attr_reason node c ≡ Some TooMany → ⊥
+attr_not_full : (i j k : ℕ) (node : AttrNode) (b : List ℕ) (c : ContextModel) → count_reason node ≡ None → Fits i j (k + 1) b c → attr_reason node c ≡ Some TooMany → ⊥
 attr_not_full i j k node b c few h e =
     let room = full_reason (same_attr (kept c.names node)) c.attrs in
     let past = fault_apart (attr_node_term c node) (first_reason (count_reason node) (first_reason room (key_reason node))) e in
     let rest : first_reason room (key_reason node) ≡ Some TooMany = rw few at past in
-    let f = full_count (same_attr (kept c.names node)) c.attrs (twins_apart node room rest) in
+    let f = full_count (same_attr (kept c.names node)) c.attrs (duplicates_apart node room rest) in
     omega (arith, h.attrs, f)
 
 done_good : (i j k : ℕ) (node : AttrNode) (s : Typed) → count_reason node ≡ None → Has text things i j (k + 1) s → Good text things i j k (attr_done node s)
@@ -129,7 +129,7 @@ string_good : (i j k : ℕ) (raw : List ℕ) (s : Typed) → Has text things (i 
 unfolding string_attr_at name_step
 string_good i j k raw s h = by (name_reason (string_bytes raw) s.1) refl
   where
-    go : ℕ × Things → Outcome (ℕ × Typed)
+    go : ℕ × ContextModel → Outcome (ℕ × Typed)
     go n = attr_done (attr.Str n.0) (s.0, n.1)
 
     by : (o : Option Refusal) → name_reason (string_bytes raw) s.1 ≡ o → Good text things i j k (interned o (with_name (string_bytes raw) s.1) >>= go)
@@ -166,7 +166,7 @@ literal_good o i j k negative digits s h =
     by n t ty s f true = done_good i j k (attr.Opaque (signed_text negative digits) (Some t)) s refl f
     by n t ty s f false = good_some text things (literal_bits ty negative n) (λ bits. attr_done (attr.Int t bits) s) (λ bits b. done_good i j k (attr.Int t bits) s refl f)
 
--- ---- attributes that are kept as they are spelled
+-- ---- opaque attributes
 
 kept_text_within : (word rest : List ℕ) → IsWithin (length rest) (kept_text word rest)
 unfolding kept_text
@@ -201,7 +201,7 @@ module _ (o : Bool) (types : ℕ) where
       by t s f true = done_good i j k (attr.Opaque text' (Some t)) s refl f
       by t s f false = wrong text things
 
-  -- behind a colon, or where none stands
+  -- the parse after a colon, or without one
   colon_good : (p q : Parse Typed ℕ) (i j k : ℕ) (s : Typed) → ((c : Typed) → Has text things i j k c → Good text things i j k (p c)) → Good text things i j k (q s) → Has text things i j k s → Good text things i j k (colon_from o p q s (after_typed Colon s))
   colon_good p q i j k s first second h = by (after_typed Colon s) refl
     where
@@ -218,7 +218,7 @@ module _ (o : Bool) (types : ℕ) where
       colon_good (opaque_typed_at o types text') (attr_done (attr.Opaque text' None)) i j k s (λ c f. opaque_typed_good text' i j k c f) (done_good i j k (attr.Opaque text' None) s refl h) (fits_to h (omega arith) (omega arith) (omega arith))
   tail_good NoType text' i j k s h = done_good i j k (attr.Opaque text' None) s refl h
 
-  kept_good : (tail : Tail) (found : Option (List ℕ × List ℕ)) (bytes : List ℕ) (c : Things) (i j k : ℕ) → IsWithin (length bytes) found → Fits i j (k + 1) bytes c → Good text things i j k (kept_at o types tail found c)
+  kept_good : (tail : Tail) (found : Option (List ℕ × List ℕ)) (bytes : List ℕ) (c : ContextModel) (i j k : ℕ) → IsWithin (length bytes) found → Fits i j (k + 1) bytes c → Good text things i j k (kept_at o types tail found c)
   kept_good tail None bytes c i j k w h = wrong text things
   kept_good tail (Some x) bytes c i j k w h = tail_good tail x.0 i j k (x.1, c) (fits_to h (omega (arith, w)) (omega (arith, w)) (omega (arith, w)))
 
@@ -386,7 +386,7 @@ unfolding unit_value_at
 unit_good zero i j k s h = wrong text things
 unit_good (suc depth) i j k s h = done_good i j k attr.Unit s refl h
 
--- how many entries were read
+-- the number of entries that were parsed
 few_more : {A : Type 0} (p : List A → Parse Typed A) (room : ℕ) (front : List A) (s s' : Typed) (all : List A) → more_at after_typed CloseCurly p room front s ≡ Read (all, s') → length all ≤ length front + room
 unfolding more_at
 few_more {A = A} p zero front s s' all e = absurd cc
@@ -413,7 +413,7 @@ few_entries {A = A} p room s s' all e = by (after_typed CloseCurly s) e
 count_fine : (es : Entries) → length es ≤ 256 → count_reason (attr.Dict es) ≡ None
 count_fine es h = rw (le-leb (length es) 256 h) refl
 
--- p reads attributes, and adds no more than it has bytes
+-- p parses attributes and adds no more entries than it reads bytes
 module _ (depth : ℕ) (p : Parse Typed ℕ) (one : (i j k : ℕ) (s : Typed) → Has text things i j k s → Good text things i j k (p s)) where
   pub value_good : (i j k : ℕ) (s : Typed) → Has text things i j (k + 1) s → Good text things i j k (value_by depth p s)
   unfolding value_by
@@ -448,7 +448,7 @@ module _ (depth : ℕ) (p : Parse Typed ℕ) (one : (i j k : ℕ) (s : Typed) �
 -- ---- by the first token
 
 module _ (o : Bool) (types : ℕ) where
-  array_word_good : (i j k : ℕ) (rest : List ℕ) (c : Things) → Fits (i + 1) (j + 1) (k + 1) rest c → Good text things i j k (array_word_at o types c rest)
+  array_word_good : (i j k : ℕ) (rest : List ℕ) (c : ContextModel) → Fits (i + 1) (j + 1) (k + 1) rest c → Good text things i j k (array_word_at o types c rest)
   array_word_good i j k rest c f = by (o && opens_other rest)
     where
       by : (b : Bool) → Good text things i j k (if b then kept_at o types NoType (bracketed 60 array_word (skip rest)) c else dense_at (rest, c))

@@ -1,4 +1,4 @@
--- The decimal texts of numbers of one digit and of two.
+-- The decimal texts of numbers of one and two digits.
 use Rattle.std.proofs.Common.{◌≡◌, ◌∙◌, ℕ, ◌+◌, ◌/◌, ◌%◌, ◌<◌, ◌≤◌, List, [], ◌∷◌, ◌++◌, ap, append_assoc, arith}
 use Rattle.std.specs.Fmt.{decimal}
 use Rattle.std.proofs.lemmas.Fmt.{decimal_digit, decimal_step}
@@ -9,10 +9,10 @@ one_digit n lt = decimal_digit n lt
 pub two_digits : (n : ℕ) → 10 ≤ n → n < 100 → decimal n ≡ (48 + n / 10) ∷ (48 + n % 10) ∷ []
 two_digits n ge lt = decimal_step n ge (omega arith) ∙ ap (λ ds. ds ++ (48 + n % 10) ∷ []) (decimal_digit (n / 10) (omega arith))
 
--- what is written where both digits are put behind a text
+-- appending both digits of a number
 pub put_two : (out mid new : List ℕ) (n : ℕ) → mid ≡ out ++ (48 + n / 10) ∷ [] → new ≡ mid ++ (48 + n % 10) ∷ [] → 10 ≤ n → n < 100 → new ≡ out ++ decimal n
 put_two out mid new n e f ge lt = rw (f, e, two_digits n ge lt) (append_assoc out _ _)
 
--- and where the last digit is put behind the number that the others write
+-- appending the last digit after the other digits
 pub put_last : (out mid new : List ℕ) (n : ℕ) → mid ≡ out ++ decimal (n / 10) → new ≡ mid ++ (48 + n % 10) ∷ [] → 10 ≤ n → n < 10000 → new ≡ out ++ decimal n
 put_last out mid new n e f ge lt = rw (f, e, decimal_step n ge (omega arith)) (append_assoc out _ _)

@@ -1,4 +1,4 @@
--- Dictionaries of operations that are read fit.
+-- A parse of an operation's dictionaries stays within the capacity.
 use Rattle.std.proofs.Common.{◌≡◌, ◌+◌, ℕ, [], Option, Some, None, refl, arith}
 use Rattle.std.specs.Prelude.{if◌then◌else◌}
 use Rattle.ir_text_tokens.specs.declared.token.Mark.TheVariants.{OpenCurly, CloseCurly, Less, Greater}

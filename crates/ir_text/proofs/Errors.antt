@@ -1,4 +1,4 @@
--- What an error of reading a text is told as.
+-- The conversion of the errors of reading a text.
 use Rattle.std.proofs.Common.{◌≡◌, ◌≤◌, ◌-◌, ◌∙◌, ℕ, List, length, inl, refl, ap, arith}
 use Rattle.std.specs.Prelude.{Result, Err}
 use Rattle.ir_types.specs.declared.refusal.Refusal.{Refusal}
@@ -10,37 +10,37 @@ use Rattle.ir_text_operations.specs.declared.single.OpError.{OpError}
 use Rattle.ir_text_operations.specs.declared.single.OpError.TheVariants.{Text}
 use Rattle.ir_text.specs.declared.error.ReadError.{ReadError}
 use Rattle.ir_text.specs.declared.error.ReadError.TheVariants as errors
-use Rattle.ir_text.specs.Answers.{IsTold, IsOpTold, error_at}
+use Rattle.ir_text.specs.Answers.{IsTextRefusal, IsOpRefusal, error_at}
 
 within : (n left : ℕ) → n - left ≤ n
 within n left = omega arith
 
--- it is one of those of texts, and stands in the text
-pub error_told : (bytes : List ℕ) (e : Inner) → IsTold bytes (error_at (length bytes) e)
+-- the result is an error of a text, with an offset in the text
+pub error_told : (bytes : List ℕ) (e : Inner) → IsTextRefusal bytes (error_at (length bytes) e)
 error_told bytes inner.Memory = tt
 error_told bytes (inner.Full left) = within (length bytes) left
 error_told bytes (inner.Refused f) = (of_texts f.refusal, within (length bytes) f.left)
 
--- so it may be told of an operation
-pub told_of_op : (bytes : List ℕ) (e : ReadError) → IsTold bytes e → IsOpTold bytes e
+-- such an error is also an error of an operation's text
+pub told_of_op : (bytes : List ℕ) (e : ReadError) → IsTextRefusal bytes e → IsOpRefusal bytes e
 told_of_op bytes errors.Memory h = tt
 told_of_op bytes (errors.Full offset) h = h
 told_of_op bytes (errors.Refused refusal offset) h = (inl h.0, h.1)
 
--- what follows from any refusal of the text follows from that which is told
+-- a consequence of every refusal is one of the converted refusal
 pub refused_so : {X Y : Type 0} (n : ℕ) (e : Inner) (g : ReadError) (P : Type 0) → ((f : Fault) → ◌≡◌ {A = Result X Inner} (Err e) (Err (inner.Refused f)) → P) → g ≡ error_at n e
     → (r : Refusal) (o : ℕ) → ◌≡◌ {A = Result Y ReadError} (Err g) (Err (errors.Refused r o)) → P
 refused_so n inner.Memory g P h same r o k = absurd cc
 refused_so n (inner.Full left) g P h same r o k = absurd cc
 refused_so n (inner.Refused f) g P h same r o k = h f refl
 
--- so it is where the context is full
+-- the same for a full context
 pub full_so : {X Y : Type 0} (n : ℕ) (e : Inner) (g : ReadError) (P : Type 0) → ((left : ℕ) → ◌≡◌ {A = Result X Inner} (Err e) (Err (inner.Full left)) → P) → g ≡ error_at n e
     → (o : ℕ) → ◌≡◌ {A = Result Y ReadError} (Err g) (Err (errors.Full o)) → P
 full_so n inner.Memory g P h same o k = absurd cc
 full_so n (inner.Full left) g P h same o k = h left refl
 full_so n (inner.Refused f) g P h same o k = absurd cc
 
--- what is met of an operation's text is what its error holds
-pub text_met : {X Y : Type 0} (k : OpError) (e g : Inner) → k ≡ Text e → ◌≡◌ {A = Result X Inner} (Err e) (Err g) → ◌≡◌ {A = Result Y OpError} (Err k) (Err (Text g))
-text_met {X} {Y} k e g is same = let one : e ≡ g = cc in ap Err (is ∙ ap Text one)
+-- the error of an operation's text has the error of the text inside
+pub text_visited : {X Y : Type 0} (k : OpError) (e g : Inner) → k ≡ Text e → ◌≡◌ {A = Result X Inner} (Err e) (Err g) → ◌≡◌ {A = Result Y OpError} (Err k) (Err (Text g))
+text_visited {X} {Y} k e g is same = let one : e ≡ g = cc in ap Err (is ∙ ap Text one)

@@ -1,4 +1,4 @@
--- What follows a token is shorter by what the token has at least.
+-- The rest of the text after a token is shorter by at least the token's minimum length.
 use Rattle.std.proofs.Common.{◌≡◌, ◌≤◌, ◌+◌, ℕ, zero, suc, Bool, true, false, List, [], ◌∷◌, length, take, drop, Option, Some, None, refl, subst, arith, length-drop}
 use Rattle.std.specs.Prelude.{if◌then◌else◌, ◌==◌, ◌||◌, ◌&&◌, nat_le, option_map}
 use Rattle.std.specs.List.{prefix_len}
@@ -30,7 +30,7 @@ mutual
   line_length [] = omega arith
   line_length (c ∷ cs) = lined cs (c == 10) (line_length cs) (skip_length cs)
 
--- how many bytes a token has at least
+-- the minimum length of a token
 abbrev pub gain : Lexeme → ℕ
 gain (mark End) = 0
 gain (mark _) = 1
@@ -45,7 +45,7 @@ gain (bang s) = 1
 gain (symbol s) = 2
 gain (quoted s) = 2
 
--- what stands there leaves no more than so much behind what it has
+-- the rest after the token, with the token's minimum length, is at most n bytes
 abbrev Within : ℕ → Option (Lexeme × List ℕ) → Type 0
 Within n None = Unit {0}
 Within n (Some t) = length t.1 + gain t.0 ≤ n
@@ -57,7 +57,7 @@ not_none (suc n) e = omega arith
 pub drop_less : (n : ℕ) (b : List ℕ) → length (drop n b) ≤ length b
 drop_less n b = let e = length-drop n b in omega arith
 
--- one byte or more is cut off
+-- at least one byte is removed
 cut_one : (make : List ℕ → Lexeme) → ((s : List ℕ) → gain (make s) ≡ 1) → (n b : ℕ) (bs : List ℕ) → 1 ≤ n → Within (suc (length bs)) (cut make n (b ∷ bs))
 cut_one make one n b bs h = let e = length-drop n (b ∷ bs) in let g = one (take n (b ∷ bs)) in omega arith
 
@@ -79,7 +79,7 @@ number_length b bs digit = by_hex (hex_len (b ∷ bs) == 0) refl
 bare_length : (b : ℕ) (bs : List ℕ) → is_letter b ≡ true → Within (suc (length bs)) (cut bare (prefix_len is_word (b ∷ bs)) (b ∷ bs))
 bare_length b bs e = cut_one bare (λ s. refl) (prefix_len is_word (b ∷ bs)) b bs (rw (letter_word b e) (omega arith))
 
--- ---- behind a sign
+-- ---- after a sigil
 
 name_length : (make : List ℕ → Lexeme) → ((s : List ℕ) → gain (make s) ≡ 1) → (bs : List ℕ) → Within (suc (length bs)) (name_at make bs)
 name_length make one bs = by (suffix_len bs == 0)
@@ -114,7 +114,7 @@ symbol_length (c ∷ cs) = by (c == 34)
     by true = more (string_at quoted cs) (string_length quoted (λ s. refl) cs)
     by false = by_suffix (suffix_len (c ∷ cs)) (suffix_len (c ∷ cs) == 0) refl
 
--- ---- marks
+-- ---- punctuation marks
 
 mark_gain : (m : Mark) → gain (mark m) ≤ 1
 mark_gain End = omega arith
@@ -163,7 +163,7 @@ first_length : (b : List ℕ) → Within (length b) (first_token b)
 first_length [] = omega arith
 first_length (b ∷ bs) = token_length b bs
 
--- what follows the next token, with the bytes of the token
+-- the rest after the next token, with the bytes of the token
 pub next_length : (b rest : List ℕ) (t : Lexeme) → next b ≡ Some (t, rest) → length rest + gain t ≤ length b
 unfolding next
 next_length b rest t e = let h : Within (length (skip b)) (Some (t, rest)) = subst (Within (length (skip b))) e (first_length (skip b)) in omega (arith, skip_length b, h)

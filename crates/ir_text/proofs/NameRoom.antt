@@ -1,4 +1,4 @@
--- What a text alone gives fits: nothing is added.
+-- A parse of the text alone stays within the capacity, since it adds nothing.
 use Rattle.std.proofs.Common.{◌≡◌, ◌+◌, ℕ, Bool, true, false, List, [], length, slice_get, Option, Some, None, refl, arith}
 use Rattle.std.specs.Prelude.{if◌then◌else◌, ◌==◌, nat_le}
 use Rattle.std.specs.List.{list_all}
@@ -9,10 +9,10 @@ use Rattle.ir_text_tokens.specs.Tokens.{Lexeme, mark, integer, string, value, ha
 use Rattle.ir_text_tokens.specs.Strings.{string_bytes}
 use Rattle.ir_text_tokens.specs.Numbers.{integer_of, place_value}
 use Rattle.ir_text_tokens.specs.Scopes.{Binding}
-use Rattle.ir_types.specs.Things.{Things}
+use Rattle.ir_types.specs.Things.{ContextModel}
 use Rattle.ir_text_types.specs.Marks.{after}
 use Rattle.ir_text_types.specs.Outcomes.{Outcome, Read, Wrong}
-use Rattle.ir_text_operations.specs.names.declared.bound.Bound.{Bound}
+use Rattle.ir_text_operations.specs.names.declared.bound.TypedValue.{TypedValue}
 use Rattle.ir_text_operations.specs.names.Packs.{Counted, counts}
 use Rattle.ir_text_types.specs.Typed.{Text}
 use Rattle.ir_text_operations.specs.names.NameReading.{name_from, value_name_at, number_from, nonzero_at, some_count, count_within, count_at, result_at, names_at, results_from, results_at}
@@ -23,12 +23,12 @@ use Rattle.ir_text.proofs.Lengths.{gain}
 use Rattle.ir_text.proofs.Fits.{fits_to, after_length, Good, wrong, reads, good_then, good_some, more_good, list_good}
 use Rattle.ir_text.proofs.Steps.{token_fits}
 
--- the text itself, where these things are held
+-- the text itself, with a fixed context
 abbrev pub same : Text → List ℕ
 same b = b
 
-module _ (c : Things) where
-  abbrev pub held : Text → Things
+module _ (c : ContextModel) where
+  abbrev pub held : Text → ContextModel
   held b = c
 
   pub mark_passes : (m : Mark) → gain (mark m) ≡ 1 → (i j k : ℕ) (b r : Text) → after m b ≡ Some r → Fits i j k b c → Fits (i + 1) (j + 1) (k + 1) r c
@@ -112,7 +112,7 @@ module _ (c : Things) where
       by None e = reads same held (0, b) h
       by (Some t) e = by_token t.0 t.1 e
 
-  use_good : (i j k : ℕ) (free : Frees) (here : List (Binding (List Bound))) (b : Text) → Fits i j k b c → Good same held i j k (use_at free here b)
+  use_good : (i j k : ℕ) (free : Frees) (here : List (Binding (List TypedValue))) (b : Text) → Fits i j k b c → Good same held i j k (use_at free here b)
   unfolding use_at member_at
   use_good i j k free here b h = good_some same held (next b) (λ t. use_from free here t.0 t.1) (λ t e. by t.0 t.1 e)
     where
@@ -123,7 +123,7 @@ module _ (c : Things) where
           good_some same held (slice_get pack m.0) _ (λ v g. reads same held (v, m.1) f)))
       by _ rest e = wrong same held
 
-  pub start_good : (i j k : ℕ) (free : Frees) (here : List (Binding (List Bound))) (b : Text) → Fits i j k b c → Good same held (i + 2) j k (start_at free here b)
+  pub start_good : (i j k : ℕ) (free : Frees) (here : List (Binding (List TypedValue))) (b : Text) → Fits i j k b c → Good same held (i + 2) j k (start_at free here b)
   unfolding start_at uses_at
   start_good i j k free here b h =
       good_then same held (results_at b) _ (results_good i j k b h) (λ results f.

@@ -1,4 +1,4 @@
--- Operations that are read fit.
+-- A parse of operations stays within the capacity.
 use Rattle.std.proofs.Common.{◌≡◌, ◌+◌, ℕ, zero, suc, Bool, true, false, List, [], ◌∷◌, ◌++◌, length, take, drop, Option, Some, None, is_some, refl, arith}
 use Rattle.std.specs.Prelude.{if◌then◌else◌, ◌==◌, nat_lt, option_map}
 use Rattle.std.specs.Str.{bytes_eq}
@@ -10,14 +10,14 @@ use Rattle.ir_types.specs.declared.refusal.Refusal.{Refusal}
 use Rattle.ir_types.specs.declared.refusal.Refusal.TheVariants.{TooMany}
 use Rattle.ir_types.specs.Interning.{with_name}
 use Rattle.ir_types.specs.Reasons.{name_reason}
-use Rattle.ir_types.specs.Things.{Things}
+use Rattle.ir_types.specs.Things.{ContextModel}
 use Rattle.ir_tree.specs.declared.value.Value.TheVariants as values
 use Rattle.ir_tree.specs.Meaning.{isolated_in}
 use Rattle.ir_tree.specs.Tree.{Op, Region}
 use Rattle.ir_text_types.specs.Marks.{after}
 use Rattle.ir_text_types.specs.Outcomes.{Outcome, Read, Wrong, Full, ◌>>=◌, interned, Parse}
 use Rattle.ir_text_types.specs.Typed.{Typed, after_typed, name_step}
-use Rattle.ir_text_operations.specs.names.declared.bound.Bound.{Bound}
+use Rattle.ir_text_operations.specs.names.declared.bound.TypedValue.{TypedValue}
 use Rattle.ir_text_operations.specs.names.BlockReading.{bind, type_here, results_of, bind_results, finish, arg_at, args_at, label_args_from, some_args_at, label_args_at, head_from, head_at}
 use Rattle.ir_text_operations.specs.names.NameReading.{value_name_at}
 use Rattle.ir_text_operations.specs.names.Packs.{Counted, counts}
@@ -38,7 +38,7 @@ use Rattle.ir_text.proofs.EntryRoom.{properties_good, attributes_good}
 abbrev pub left : State → List ℕ
 left s = s.bytes
 
-abbrev pub known : State → Things
+abbrev pub known : State → ContextModel
 known s = s.things
 
 passed : (m : Mark) (s s' : State) (o : Option (List ℕ)) → after m s.bytes ≡ o → option_map (to_bytes s) o ≡ Some s' → (i j k : ℕ) → Has left known i j k s → Has left known (i + gain (mark m)) (j + gain (mark m)) (k + gain (mark m)) s'
@@ -54,9 +54,9 @@ mark_goes m one i j k s s' e h = fits_to (passed m s s' (after m s.bytes) refl e
 end_goes : (m : Mark) (i j k : ℕ) (s s' : State) → after_in m s ≡ Some s' → Has left known i j k s → Has left known i j k s'
 end_goes m i j k s s' e h = fits_to (passed m s s' (after m s.bytes) refl e i j k h) (omega arith) (omega arith) (omega arith)
 
--- ---- names are bound without the context
+-- ---- binding a name doesn't change the context
 
-bind_quiet : (name : List ℕ) (pack : List Bound) (s : Scopes (List Bound)) → bind name pack s ≡ Full → ⊥
+bind_quiet : (name : List ℕ) (pack : List TypedValue) (s : Scopes (List TypedValue)) → bind name pack s ≡ Full → ⊥
 unfolding bind
 bind_quiet name pack s e = by (is_some (find name s.here)) e
   where
@@ -64,17 +64,17 @@ bind_quiet name pack s e = by (is_some (find name s.here)) e
     by true e = absurd cc
     by false e = absurd cc
 
-results_quiet : (id k : ℕ) (ns : List Counted) (ys : List ℕ) (s : Scopes (List Bound)) → bind_results id k ns ys s ≡ Full → ⊥
+results_quiet : (id k : ℕ) (ns : List Counted) (ys : List ℕ) (s : Scopes (List TypedValue)) → bind_results id k ns ys s ≡ Full → ⊥
 unfolding bind_results
 results_quiet id k [] ys s e = absurd cc
 results_quiet id k (n ∷ ns) ys s e = by (bind n.0 (results_of id k (take n.1 ys)) s) (bind_quiet n.0 (results_of id k (take n.1 ys)) s) (λ x. results_quiet id (k + n.1) ns (drop n.1 ys) x) e
   where
-    by : (o : Outcome (Scopes (List Bound))) → (o ≡ Full → ⊥) → ((x : Scopes (List Bound)) → bind_results id (k + n.1) ns (drop n.1 ys) x ≡ Full → ⊥) → (o >>= bind_results id (k + n.1) ns (drop n.1 ys)) ≡ Full → ⊥
+    by : (o : Outcome (Scopes (List TypedValue))) → (o ≡ Full → ⊥) → ((x : Scopes (List TypedValue)) → bind_results id (k + n.1) ns (drop n.1 ys) x ≡ Full → ⊥) → (o >>= bind_results id (k + n.1) ns (drop n.1 ys)) ≡ Full → ⊥
     by (Read x) quiet go e = go x e
     by Wrong quiet go e = absurd cc
     by Full quiet go e = quiet refl
 
-finish_quiet : (id : ℕ) (names : Option (List Counted)) (ys : List ℕ) (s : Scopes (List Bound)) → finish id names ys s ≡ Full → ⊥
+finish_quiet : (id : ℕ) (names : Option (List Counted)) (ys : List ℕ) (s : Scopes (List TypedValue)) → finish id names ys s ≡ Full → ⊥
 finish_quiet id None ys s e = absurd cc
 finish_quiet id (Some ns) ys s e = by (counts ns == length ys) e
   where
@@ -115,7 +115,7 @@ head_good i j k id r s h = good_some left known (next s.bytes) (λ t. head_from 
     by (label n) rest e = good_then left known (label_args_at id r (to_bytes s rest)) some (label_good i j k id r (to_bytes s rest) (fits_to (token_fits i j k s.bytes rest s.things (label n) e h) (omega arith) (omega arith) (omega arith))) (λ a f. reads left known (Some a.0, a.1) f)
     by _ rest e = reads left known (None, s) h
 
--- ---- operations up to a mark
+-- ---- operations up to a closing mark
 
 module _ (close : Mark) (p : Parse State Op) (one : (i j k : ℕ) (s : State) → Has left known i j k s → Good left known i j k (p s)) where
   pub ops_good : (room i j k : ℕ) (items : List Op) (s : State) → Has left known i j k s → Good left known i j k (ops_at close p room items s)
@@ -166,10 +166,10 @@ module _ (free : Frees) (p : Parse State (List Op)) (one : (i j k : ℕ) (s : St
       good_into same (λ b. s.things) left known (start_at free s.scopes.here s.bytes) _ (start_good s.things i j k free s.scopes.here s.bytes h) (λ m f.
       by m (name_reason m.0.name s.things) refl f)
     where
-      behind : Start × List ℕ → ℕ × Things → Outcome (Op × State)
-      behind m n = properties_at (m.1, n.1) >>= λ e. regions_at p s.next (isolated_in n.1 n.0) (begun s e.1) >>= λ rs. tail_at s.next n.0 m.0 e.0 rs.0 rs.1
+      trailing : Start × List ℕ → ℕ × ContextModel → Outcome (Op × State)
+      trailing m n = properties_at (m.1, n.1) >>= λ e. regions_at p s.next (isolated_in n.1 n.0) (begun s e.1) >>= λ rs. tail_at s.next n.0 m.0 e.0 rs.0 rs.1
 
-      by : (m : Start × List ℕ) (o : Option Refusal) → name_reason m.0.name s.things ≡ o → Fits (i + 2) j k m.1 s.things → Good left known i j k (interned o (with_name m.0.name s.things) >>= behind m)
+      by : (m : Start × List ℕ) (o : Option Refusal) → name_reason m.0.name s.things ≡ o → Fits (i + 2) j k m.1 s.things → Good left known i j k (interned o (with_name m.0.name s.things) >>= trailing m)
       by m None e f =
           let n = with_name m.0.name s.things in
           good_into text things left known (properties_at (m.1, n.1)) _ (properties_good i j k (m.1, n.1) (with_name_fits i j k m.0.name m.1 s.things f)) (λ e g.

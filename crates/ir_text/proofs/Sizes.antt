@@ -1,4 +1,4 @@
--- How large types and attributes are, by which the printer's recursions end.
+-- The sizes of types and attributes, by which the printer's recursions terminate.
 use Rattle.std.proofs.Common.{◌≡◌, ℕ, zero, suc, ◌+◌, ◌<◌, List, [], ◌∷◌, length, get_or, arith}
 use Rattle.ir_types.specs.Terms.{attr_at, entries_at, TypeTerm, Integer, Index, Function, Memref, OpaqueType, TypeTerms, no_types, next_type, AttrTerm, Array, Dictionary, AttrTerms, no_attrs, next_attr, EntryTerms, no_entries, next_entry}
 

@@ -1,11 +1,11 @@
--- A text that is read with a new context.
+-- A text that is read into a new context.
 use Rattle.std.proofs.Common.{◌≡◌, ◌≤◌, ℕ, Bool, true, false, List, length, Option, Some, None, refl, arith}
 use Rattle.std.specs.Prelude.{Result, Ok, Err, IfOk, if◌then◌else◌, nat_lt, not, ◌==◌}
 use Rattle.std.specs.Str.Lossy.{utf8_valid_len}
 use Rattle.std.proofs.lemmas.Bool.Decides.{nat_tests}
 use Rattle.ir_text_tokens.specs.declared.refusal.TextRefusal.{TextRefusal}
 use Rattle.ir_text_tokens.specs.declared.refusal.TextRefusal.TheVariants.{TooMany, NotUtf8}
-use Rattle.ir_types.specs.Things.{Things}
+use Rattle.ir_types.specs.Things.{ContextModel}
 use Rattle.ir_tree.specs.Tree.{Op}
 use Rattle.ir_text_tokens.specs.Limits.{most_bytes, text_reason}
 use Rattle.ir_text_types.specs.declared.error.ReadError.{ReadError}
@@ -13,11 +13,11 @@ use Rattle.ir_text_operations.specs.Claims.{IsOnly, IsNone, IsBody, IsSource}
 use Rattle.ir_text_operations.specs.Spelling.{IsExplicit}
 use Rattle.ir_text_operations.proofs.Modules.{body_is_source}
 
-pub source_read : (o : Bool) (bytes : List ℕ) (r : Result (Things × Op) ReadError) → IsNone (IsExplicit o bytes) → IfOk r (λ x. IsOnly (IsBody o bytes) x.0 x.1) → IfOk r (λ x. IsOnly (IsSource o bytes) x.0 x.1)
+pub source_read : (o : Bool) (bytes : List ℕ) (r : Result (ContextModel × Op) ReadError) → IsNone (IsExplicit o bytes) → IfOk r (λ x. IsOnly (IsBody o bytes) x.0 x.1) → IfOk r (λ x. IsOnly (IsSource o bytes) x.0 x.1)
 source_read o bytes (Ok x) none h = body_is_source o bytes x.0 x.1 none h
 source_read o bytes (Err e) none h = tt
 
--- a text that is not refused is within its limit
+-- a text that isn't refused is within its limit
 pub within_limit : (bytes : List ℕ) → None ≡ text_reason bytes → length bytes ≤ 16777216
 within_limit bytes e = by (nat_lt most_bytes (length bytes)) refl e
   where

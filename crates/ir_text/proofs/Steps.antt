@@ -1,4 +1,4 @@
--- What is interned fits.
+-- Interning stays within the capacity.
 use Rattle.std.proofs.Common.{◌≡◌, ◌≤◌, ◌+◌, ℕ, Bool, true, false, ◌&&◌, List, length, Option, Some, None, refl, ap, arith, leb-true}
 use Rattle.std.specs.Prelude.{if◌then◌else◌, nat_le, not, option_map}
 use Rattle.std.specs.List.{list_all, list_any}
@@ -14,7 +14,7 @@ use Rattle.ir_types.specs.Reasons.{is_width, is_dimension, first_reason, full_re
 use Rattle.ir_types.specs.Same.{same_type}
 use Rattle.ir_types.specs.Terms.{TypeTerm, type_node_term}
 use Rattle.ir_types.specs.Terms as terms
-use Rattle.ir_types.specs.Things.{Things}
+use Rattle.ir_types.specs.Things.{ContextModel}
 use Rattle.ir_types.proofs.Growth.{name_names, name_types, name_attrs, type_names, type_types, type_attrs}
 use Rattle.ir_types.proofs.Placing.{length-with_last}
 use Rattle.ir_text_types.specs.Outcomes.{Read, Full, ◌>>=◌, interned}
@@ -27,29 +27,29 @@ use Rattle.ir_text.proofs.Fits.{fits_to, after_length, Has, Good, wrong, reads, 
 
 -- ---- tokens
 
-pub token_fits : (i j k : ℕ) (b rest : List ℕ) (c : Things) (t : Lexeme) → next b ≡ Some (t, rest) → Fits i j k b c → Fits (i + gain t) (j + gain t) (k + gain t) rest c
+pub token_fits : (i j k : ℕ) (b rest : List ℕ) (c : ContextModel) (t : Lexeme) → next b ≡ Some (t, rest) → Fits i j k b c → Fits (i + gain t) (j + gain t) (k + gain t) rest c
 token_fits i j k b rest c t e h = let l = next_length b rest t e in fits_to h (omega (arith, l)) (omega (arith, l)) (omega (arith, l))
 
-behind : (m : Mark) (s s' : Typed) (o : Option (List ℕ)) → after m s.0 ≡ o → option_map (λ (r : List ℕ). (r, s.1)) o ≡ Some s' → (i j k : ℕ) → gain (mark m) ≡ 1 → Fits i j k s.0 s.1 → Fits (i + 1) (j + 1) (k + 1) s'.0 s'.1
-behind m s s' None e f i j k one h = absurd cc
-behind m s s' (Some r) e f i j k one h =
+trailing : (m : Mark) (s s' : Typed) (o : Option (List ℕ)) → after m s.0 ≡ o → option_map (λ (r : List ℕ). (r, s.1)) o ≡ Some s' → (i j k : ℕ) → gain (mark m) ≡ 1 → Fits i j k s.0 s.1 → Fits (i + 1) (j + 1) (k + 1) s'.0 s'.1
+trailing m s s' None e f i j k one h = absurd cc
+trailing m s s' (Some r) e f i j k one h =
     let same : (r, s.1) ≡ s' = cc in
     let l = after_length m s.0 r e in
     rw (← same) (fits_to h (omega (arith, l, one)) (omega (arith, l, one)) (omega (arith, l, one)))
 
--- behind a mark there is room for one more of each
+-- after a mark there is capacity for one more of each kind
 pub mark_fits : (m : Mark) → gain (mark m) ≡ 1 → (i j k : ℕ) (s s' : Typed) → after_typed m s ≡ Some s' → Has text things i j k s → Has text things (i + 1) (j + 1) (k + 1) s'
-mark_fits m one i j k s s' e h = behind m s s' (after m s.0) refl e i j k one h
+mark_fits m one i j k s s' e h = trailing m s s' (after m s.0) refl e i j k one h
 
 -- ---- names, types and attributes
 
--- a call that finds the context full was refused for that
+-- a call with the result `Full` was refused with `TooMany`
 pub full_interned : {A : Type 0} (reason : Option Refusal) (x : A) → interned reason x ≡ Full → reason ≡ Some TooMany
 full_interned None x e = absurd cc
 full_interned (Some TooMany) x e = refl
 full_interned (Some _) x e = absurd cc
 
--- and then so many things are there
+-- a full list has that many entries
 pub full_count : {A : Type 0} (is : A → Bool) (xs : List A) → full_reason is xs ≡ Some TooMany → 16777216 ≤ length xs
 full_count is xs e = by_case (not (list_any is xs)) (nat_le 16777216 (length xs)) refl e
   where
@@ -58,13 +58,13 @@ full_count is xs e = by_case (not (list_any is xs)) (nat_le 16777216 (length xs)
     by_case true false h e = absurd cc
     by_case false b h e = absurd cc
 
--- so it is with each call of a context
-pub call_good : (i j k : ℕ) (o : Option Refusal) (x : ℕ × Things) (b : List ℕ) → (o ≡ None → Fits i j k b x.1) → (o ≡ Some TooMany → ⊥) → Good text things i j k (interned o x >>= λ n. Read (n.0, (b, n.1)))
+-- every call of a context stays within the capacity
+pub call_good : (i j k : ℕ) (o : Option Refusal) (x : ℕ × ContextModel) (b : List ℕ) → (o ≡ None → Fits i j k b x.1) → (o ≡ Some TooMany → ⊥) → Good text things i j k (interned o x >>= λ n. Read (n.0, (b, n.1)))
 call_good i j k None x b fine full = reads text things (x.0, (b, x.1)) (fine refl)
 call_good i j k (Some TooMany) x b fine full = absurd (full refl)
 call_good i j k (Some _) x b fine full = wrong text things
 
-pub with_name_fits : (i j k : ℕ) (bytes b : List ℕ) (c : Things) → Fits (i + 2) j k b c → Fits i j k b (with_name bytes c).1
+pub with_name_fits : (i j k : ℕ) (bytes b : List ℕ) (c : ContextModel) → Fits (i + 2) j k b c → Fits i j k b (with_name bytes c).1
 with_name_fits i j k bytes b c h =
     let n = length-with_last (bytes_eq bytes) bytes c.names in
     let l = ap length (name_names bytes c) in
@@ -72,10 +72,10 @@ with_name_fits i j k bytes b c h =
     let a = ap length (name_attrs bytes c) in
     record { names = omega (arith, h.names, n.1, l); types = omega (arith, h.types, t); attrs = omega (arith, h.attrs, a) }
 
-pub name_not_full : (i j k : ℕ) (bytes b : List ℕ) (c : Things) → Fits (i + 2) j k b c → name_reason bytes c ≡ Some TooMany → ⊥
+pub name_not_full : (i j k : ℕ) (bytes b : List ℕ) (c : ContextModel) → Fits (i + 2) j k b c → name_reason bytes c ≡ Some TooMany → ⊥
 name_not_full i j k bytes b c h e = let f = full_count (bytes_eq bytes) c.names e in omega (arith, h.names, f)
 
--- a fault of a type is not that the context is full
+-- a fault of a type isn't a full context
 fault_apart : (y : TypeTerm) (other : Option Refusal) → first_reason (type_fault y) other ≡ Some TooMany → other ≡ Some TooMany
 fault_apart y other e = by_size y e
   where
@@ -98,7 +98,7 @@ fault_apart y other e = by_size y e
     by_size (terms.Function inputs outputs) e = by_depth (nat_le (type_depth (terms.Function inputs outputs)) 32) e
     by_size (terms.OpaqueType text) e = by_depth (nat_le 1 32) e
 
-type_not_full : (i j k : ℕ) (node : TypeNode) (b : List ℕ) (c : Things) → Fits i (j + 1) k b c → type_reason node c ≡ Some TooMany → ⊥
+type_not_full : (i j k : ℕ) (node : TypeNode) (b : List ℕ) (c : ContextModel) → Fits i (j + 1) k b c → type_reason node c ≡ Some TooMany → ⊥
 type_not_full i j k node b c h e = let f = full_count (same_type node) c.types (fault_apart (type_node_term c node) (full_reason (same_type node) c.types) e) in omega (arith, h.types, f)
 
 pub type_done_good : (i j k : ℕ) (node : TypeNode) (s : Typed) → Has text things i (j + 1) k s → Good text things i j k (type_done node s)

@@ -1,4 +1,4 @@
--- Types that are read fit: a type takes a byte or more of its text beside those that its number stands for.
+-- A parse of a type stays within the capacity: a type takes at least one byte more than its parts.
 use Rattle.std.proofs.Common.{◌≡◌, ◌≤◌, ◌+◌, ℕ, zero, suc, Bool, true, false, List, [], ◌∷◌, ◌++◌, length, take, drop, Option, Some, None, refl, arith}
 use Rattle.std.specs.Prelude.{if◌then◌else◌, ◌==◌, ◌&&◌, option_map, option_and_then}
 use Rattle.std.specs.Char.{is_ascii_digit}
@@ -6,7 +6,7 @@ use Rattle.std.specs.Str.{bytes_eq}
 use Rattle.ir_text_tokens.specs.declared.token.Mark.TheVariants.{OpenRound, CloseRound, Less, Greater, Arrow}
 use Rattle.ir_text_tokens.specs.Tokens.{Lexeme, bare, bang, next, skip, digits_len}
 use Rattle.ir_types.specs.declared.node.TypeNode.TheVariants.{Func, Memref, Opaque}
-use Rattle.ir_types.specs.Things.{Things}
+use Rattle.ir_types.specs.Things.{ContextModel}
 use Rattle.ir_text_types.specs.Outcomes.{Read, Wrong, ◌>>=◌, of_option, Parse}
 use Rattle.ir_text_types.specs.OpaqueTypes.{is_opaque_word, word_text, dialect_text}
 use Rattle.ir_text_types.specs.Typed.{Typed, after_typed}
@@ -22,74 +22,74 @@ use Rattle.ir_text.proofs.Steps.{token_fits, mark_fits, type_done_good}
 
 -- ---- dimensions
 
-abbrev Behind : {A : Type 0} → List ℕ → Option (A × List ℕ) → Type 0
-Behind b None = Unit {0}
-Behind b (Some x) = length x.1 ≤ length b
+abbrev Following : {A : Type 0} → List ℕ → Option (A × List ℕ) → Type 0
+Following b None = Unit {0}
+Following b (Some x) = length x.1 ≤ length b
 
-crossed_length : (d : Option ℕ) (b : List ℕ) → Behind b (crossed d b)
+crossed_length : (d : Option ℕ) (b : List ℕ) → Following b (crossed d b)
 unfolding cross_at
 crossed_length d b = by (skip b) (skip_length b)
   where
-    by : (cs : List ℕ) → length cs ≤ length b → Behind b (option_map (λ (r : List ℕ). (d, r)) (cross_from cs))
+    by : (cs : List ℕ) → length cs ≤ length b → Following b (option_map (λ (r : List ℕ). (d, r)) (cross_from cs))
     by [] h = tt
     by (c ∷ cs) h = by_byte (c == 120)
       where
-        by_byte : (p : Bool) → Behind b (option_map (λ (r : List ℕ). (d, r)) (if p then Some cs else None))
+        by_byte : (p : Bool) → Following b (option_map (λ (r : List ℕ). (d, r)) (if p then Some cs else None))
         by_byte true = omega (arith, h)
         by_byte false = tt
 
-longer : {A : Type 0} (b c : List ℕ) (o : Option (A × List ℕ)) → length c ≤ length b → Behind c o → Behind b o
+longer : {A : Type 0} (b c : List ℕ) (o : Option (A × List ℕ)) → length c ≤ length b → Following c o → Following b o
 longer b c None h k = tt
 longer b c (Some x) h k = omega (arith, h, k)
 
-sized_length : (n : ℕ) (b : List ℕ) → Behind b (sized n b)
+sized_length : (n : ℕ) (b : List ℕ) → Following b (sized n b)
 sized_length n b = by (size_of (take n b))
   where
-    by : (o : Option ℕ) → Behind b (option_and_then (λ size. crossed (Some size) (drop n b)) o)
+    by : (o : Option ℕ) → Following b (option_and_then (λ size. crossed (Some size) (drop n b)) o)
     by None = tt
     by (Some size) = longer b (drop n b) (crossed (Some size) (drop n b)) (drop_less n b) (crossed_length (Some size) (drop n b))
 
-dimension_length : (b : List ℕ) → Behind b (dimension_at b)
+dimension_length : (b : List ℕ) → Following b (dimension_at b)
 unfolding dimension_at
 dimension_length b = by (skip b) (skip_length b)
   where
-    by : (cs : List ℕ) → length cs ≤ length b → Behind b (dimension_from cs)
+    by : (cs : List ℕ) → length cs ≤ length b → Following b (dimension_from cs)
     by [] h = tt
     by (c ∷ cs) h = by_mark (c == 63)
       where
-        by_digit : (p : Bool) → Behind b (if p then sized (digits_len (c ∷ cs)) (c ∷ cs) else None)
+        by_digit : (p : Bool) → Following b (if p then sized (digits_len (c ∷ cs)) (c ∷ cs) else None)
         by_digit true = longer b (c ∷ cs) (sized (digits_len (c ∷ cs)) (c ∷ cs)) h (sized_length (digits_len (c ∷ cs)) (c ∷ cs))
         by_digit false = tt
 
-        by_mark : (p : Bool) → Behind b (if p then crossed None cs else if is_ascii_digit c then sized (digits_len (c ∷ cs)) (c ∷ cs) else None)
+        by_mark : (p : Bool) → Following b (if p then crossed None cs else if is_ascii_digit c then sized (digits_len (c ∷ cs)) (c ∷ cs) else None)
         by_mark true = longer b cs (crossed None cs) (omega (arith, h)) (crossed_length None cs)
         by_mark false = by_digit (is_ascii_digit c)
 
-dimensions_length : (room : ℕ) (front : List (Option ℕ)) (b : List ℕ) → Behind b (dimensions_at room front b)
+dimensions_length : (room : ℕ) (front : List (Option ℕ)) (b : List ℕ) → Following b (dimensions_at room front b)
 unfolding dimensions_at
 dimensions_length zero front b = by (begins_dimension (skip b))
   where
-    by : (p : Bool) → Behind b (if p then None else Some (front, b))
+    by : (p : Bool) → Following b (if p then None else Some (front, b))
     by true = tt
     by false = omega arith
 dimensions_length (suc room) front b = by (begins_dimension (skip b)) (dimensions_length room)
   where
-    next_one : ((front : List (Option ℕ)) (b : List ℕ) → Behind b (dimensions_at room front b)) → (o : Option (Option ℕ × List ℕ)) → Behind b o → Behind b (option_and_then (λ x. dimensions_at room (front ++ x.0 ∷ []) x.1) o)
+    next_one : ((front : List (Option ℕ)) (b : List ℕ) → Following b (dimensions_at room front b)) → (o : Option (Option ℕ × List ℕ)) → Following b o → Following b (option_and_then (λ x. dimensions_at room (front ++ x.0 ∷ []) x.1) o)
     next_one go None h = tt
     next_one go (Some x) h = longer b x.1 (dimensions_at room (front ++ x.0 ∷ []) x.1) h (go (front ++ x.0 ∷ []) x.1)
 
-    by : (p : Bool) → ((front : List (Option ℕ)) (b : List ℕ) → Behind b (dimensions_at room front b)) → Behind b (if p then option_and_then (λ x. dimensions_at room (front ++ x.0 ∷ []) x.1) (dimension_at b) else Some (front, b))
+    by : (p : Bool) → ((front : List (Option ℕ)) (b : List ℕ) → Following b (dimensions_at room front b)) → Following b (if p then option_and_then (λ x. dimensions_at room (front ++ x.0 ∷ []) x.1) (dimension_at b) else Some (front, b))
     by true go = next_one go (dimension_at b) (dimension_length b)
     by false go = omega arith
 
 shape_good : (i j k : ℕ) (s : Typed) → Has text things i j k s → Good text things i j k (shape_at s)
 shape_good i j k s h = by (dimensions_at many [] s.0) (dimensions_length many [] s.0)
   where
-    by : (o : Option (List (Option ℕ) × List ℕ)) → Behind s.0 o → Good text things i j k (of_option o >>= λ x. Read (x.0, (x.1, s.1)))
+    by : (o : Option (List (Option ℕ) × List ℕ)) → Following s.0 o → Good text things i j k (of_option o >>= λ x. Read (x.0, (x.1, s.1)))
     by None l = wrong text things
     by (Some x) l = reads text things (x.0, (x.1, s.1)) (fits_to h (omega (arith, l)) (omega (arith, l)) (omega (arith, l)))
 
--- ---- types that are words
+-- ---- types of one word
 
 scalar_done_good : (i j k : ℕ) (word : List ℕ) (s : Typed) → Has text things i (j + 1) k s → Good text things i j k (scalar_done word s)
 scalar_done_good i j k word s h = good_some text things (scalar_of word) (λ node. type_done node s) (λ node e. type_done_good i j k node s h)
@@ -102,9 +102,9 @@ scalar_good i j k s h = good_some text things (next s.0) (λ t. scalar_from s.1 
     by (bare word) rest e = scalar_done_good (i + 1) j (k + 1) word (rest, s.1) (token_fits i j k s.0 rest s.1 (bare word) e h)
     by _ rest e = wrong text things
 
--- ---- types that begin with a word, or the name of a dialect
+-- ---- types that begin with a word or a dialect's name
 
-opaque_done_good : (i j k : ℕ) (found : Option (List ℕ × List ℕ)) (bytes : List ℕ) (c : Things) → IsWithin (length bytes) found → Fits i (j + 1) k bytes c → Good text things i j k (opaque_done found c)
+opaque_done_good : (i j k : ℕ) (found : Option (List ℕ × List ℕ)) (bytes : List ℕ) (c : ContextModel) → IsWithin (length bytes) found → Fits i (j + 1) k bytes c → Good text things i j k (opaque_done found c)
 opaque_done_good i j k None bytes c w h = wrong text things
 opaque_done_good i j k (Some x) bytes c w h = type_done_good i j k (Opaque x.0) (x.1, c) (fits_to h (omega (arith, w)) (omega (arith, w)) (omega (arith, w)))
 

@@ -5,7 +5,7 @@ use Rattle.ir_text_tokens.specs.declared.token.Mark.{Mark}
 use Rattle.ir_text_tokens.specs.declared.token.Mark.TheVariants.{End}
 use Rattle.ir_types.specs.Interning.{with_name}
 use Rattle.ir_types.specs.Reasons.{name_reason}
-use Rattle.ir_types.specs.Things.{Things}
+use Rattle.ir_types.specs.Things.{ContextModel}
 use Rattle.ir_types.specs.Words.{words}
 use Rattle.ir_types.proofs.WordNumbers.{word_count}
 use Rattle.ir_tree.specs.Tree.{Op}
@@ -26,38 +26,38 @@ use Rattle.ir_text.proofs.TypeRoom.{type_good, function_type_good}
 use Rattle.ir_text.proofs.AttrRoom.{attr_good}
 use Rattle.ir_text.proofs.OpRoom.{left, known, op_good, ops_good}
 
--- what was read has the room that is left
-kept : {S A : Type 0} (bytes : S → List ℕ) (held : S → Things) (i j k : ℕ) (o : Outcome (A × S)) (x : A) (s : S) → o ≡ Read (x, s) → Good bytes held i j k o → HasRoom (bytes s) (held s)
+-- after a parse there is capacity for the rest of the text
+kept : {S A : Type 0} (bytes : S → List ℕ) (held : S → ContextModel) (i j k : ℕ) (o : Outcome (A × S)) (x : A) (s : S) → o ≡ Read (x, s) → Good bytes held i j k o → HasRoom (bytes s) (held s)
 kept bytes held i j k o x s e g = let h = (subst (Good bytes held i j k) e g).still in fits_to h (omega arith) (omega arith) (omega arith)
 
 -- ---- types
 
-pub type_room : (o : Bool) (depth : ℕ) (c : Things) (bytes : List ℕ) → HasRoom bytes c → type_at o depth (bytes, c) ≡ Full → ⊥
+pub type_room : (o : Bool) (depth : ℕ) (c : ContextModel) (bytes : List ℕ) → HasRoom bytes c → type_at o depth (bytes, c) ≡ Full → ⊥
 type_room o depth c bytes h e = never text things (type_at o depth (bytes, c)) e (type_good o depth 0 0 0 (bytes, c) h)
 
-pub type_left : (o : Bool) (depth n : ℕ) (c d : Things) (bytes rest : List ℕ) → HasRoom bytes c → type_at o depth (bytes, c) ≡ Read (n, (rest, d)) → HasRoom rest d
+pub type_left : (o : Bool) (depth n : ℕ) (c d : ContextModel) (bytes rest : List ℕ) → HasRoom bytes c → type_at o depth (bytes, c) ≡ Read (n, (rest, d)) → HasRoom rest d
 type_left o depth n c d bytes rest h e = kept text things 1 0 1 (type_at o depth (bytes, c)) n (rest, d) e (type_good o depth 0 0 0 (bytes, c) h)
 
-pub function_type_room : (o : Bool) (c : Things) (bytes : List ℕ) → HasRoom bytes c → function_type_at o (bytes, c) ≡ Full → ⊥
+pub function_type_room : (o : Bool) (c : ContextModel) (bytes : List ℕ) → HasRoom bytes c → function_type_at o (bytes, c) ≡ Full → ⊥
 function_type_room o c bytes h e = never text things (function_type_at o (bytes, c)) e (function_type_good o 0 0 0 (bytes, c) h)
 
 -- ---- attributes
 
-pub attr_room : (o : Bool) (depth : ℕ) (c : Things) (bytes : List ℕ) → HasRoom bytes c → attr_at o depth (bytes, c) ≡ Full → ⊥
+pub attr_room : (o : Bool) (depth : ℕ) (c : ContextModel) (bytes : List ℕ) → HasRoom bytes c → attr_at o depth (bytes, c) ≡ Full → ⊥
 attr_room o depth c bytes h e = never text things (attr_at o depth (bytes, c)) e (attr_good o depth 0 0 0 (bytes, c) h)
 
-pub attr_left : (o : Bool) (depth n : ℕ) (c d : Things) (bytes rest : List ℕ) → HasRoom bytes c → attr_at o depth (bytes, c) ≡ Read (n, (rest, d)) → HasRoom rest d
+pub attr_left : (o : Bool) (depth n : ℕ) (c d : ContextModel) (bytes rest : List ℕ) → HasRoom bytes c → attr_at o depth (bytes, c) ≡ Read (n, (rest, d)) → HasRoom rest d
 attr_left o depth n c d bytes rest h e = kept text things 0 0 0 (attr_at o depth (bytes, c)) n (rest, d) e (attr_good o depth 0 0 0 (bytes, c) h)
 
 -- ---- operations
 
-pub op_room : (free : Frees) (last depth first : ℕ) (c : Things) (bytes : List ℕ) → HasRoom bytes c → op_at free last depth (fresh first bytes c) ≡ Full → ⊥
+pub op_room : (free : Frees) (last depth first : ℕ) (c : ContextModel) (bytes : List ℕ) → HasRoom bytes c → op_at free last depth (fresh first bytes c) ≡ Full → ⊥
 op_room free last depth first c bytes h e = never left known (op_at free last depth (fresh first bytes c)) e (op_good free last depth 0 0 0 (fresh first bytes c) h)
 
-pub op_left : (free : Frees) (last depth first : ℕ) (c : Things) (bytes : List ℕ) (o : Op) (s : State) → HasRoom bytes c → op_at free last depth (fresh first bytes c) ≡ Read (o, s) → HasRoom s.bytes s.things
+pub op_left : (free : Frees) (last depth first : ℕ) (c : ContextModel) (bytes : List ℕ) (o : Op) (s : State) → HasRoom bytes c → op_at free last depth (fresh first bytes c) ≡ Read (o, s) → HasRoom s.bytes s.things
 op_left free last depth first c bytes o s h e = kept left known 0 0 0 (op_at free last depth (fresh first bytes c)) o s e (op_good free last depth 0 0 0 (fresh first bytes c) h)
 
-pub ops_room : (free : Frees) (close : Mark) (last depth first : ℕ) (c : Things) (bytes : List ℕ) → HasRoom bytes c → ops_at close (op_at free last depth) 1048576 [] (fresh first bytes c) ≡ Full → ⊥
+pub ops_room : (free : Frees) (close : Mark) (last depth first : ℕ) (c : ContextModel) (bytes : List ℕ) → HasRoom bytes c → ops_at close (op_at free last depth) 1048576 [] (fresh first bytes c) ≡ Full → ⊥
 ops_room free close last depth first c bytes h e =
     never left known (ops_at close (op_at free last depth) 1048576 [] (fresh first bytes c)) e (ops_good close (op_at free last depth) (op_good free last depth) 1048576 0 0 0 [] (fresh first bytes c) h)
 

@@ -1,4 +1,4 @@
--- How attributes are written.
+-- The printed form of attributes.
 use Rattle.std.specs.Prelude.{ℕ, ℤ, pos, Bool, true, false, ◌==◌, if◌then◌else◌, List, [], ◌∷◌, ◌++◌, map, codes, Option, None, Some}
 use Rattle.std.specs.Ordering.{int_eq}
 use Rattle.std.specs.Fmt.{signed_decimal}
@@ -14,19 +14,19 @@ abbrev pub is_truth : TypeTerm → Bool
 is_truth (Integer Signless width) = width == 1
 is_truth _ = false
 
--- a truth value: the number 0 or another
+-- a truth value, by whether its number is 0
 abbrev pub truth_text : Bool → List ℕ
 truth_text is_zero = if is_zero then codes "false" else codes "true"
 
--- a number without its type, in a word where the type is `i1`
+-- a number without its type; a word if the type is `i1`
 unfoldable pub number_text : Bool → ℤ → List ℕ
 number_text truth z = if truth then truth_text (int_eq z (pos 0)) else signed_decimal z
 
--- an integer: a decimal number with its type, but for `i1` the word alone
+-- an integer: a decimal number with its type, or a word if the type is `i1`
 abbrev pub integer_text : TypeTerm → ℤ → List ℕ
 integer_text ty z = if is_truth ty then number_text true z else number_text false z ++ (codes " : " ++ type_text ty)
 
--- the items of a dense array, none with its type
+-- the items of a dense array, without types
 abbrev pub items_text : Bool → List ℤ → List ℕ
 items_text truth [] = []
 items_text truth (z ∷ zs) = codes ": " ++ parted (codes ", ") true (map (number_text truth) (z ∷ zs))
@@ -39,14 +39,14 @@ dense_text elem zs = codes "array<" ++ (type_text elem ++ (items_text (is_truth 
 abbrev pub part_text : List ℕ → List ℕ
 part_text name = codes "@" ++ key_text name
 
--- the flags of an integer operation: no signed wrap, no unsigned wrap
+-- the overflow flags of an integer operation: no signed wrap, no unsigned wrap
 abbrev pub flags_text : Bool → Bool → List ℕ
 flags_text false false = codes "none"
 flags_text true false = codes "nsw"
 flags_text false true = codes "nuw"
 flags_text true true = codes "nsw, nuw"
 
--- an opaque attribute: its text and, where there is one, its type
+-- an opaque attribute: its text, and its type if it has one
 abbrev pub opaque_text : List ℕ → Option TypeTerm → List ℕ
 opaque_text text None = text
 opaque_text text (Some ty) = text ++ (codes " : " ++ type_text ty)
@@ -56,15 +56,15 @@ abbrev pub is_flag : AttrTerm → Bool
 is_flag Flag = true
 is_flag _ = false
 
--- an entry of a dictionary: its key, and, unless it is `unit`, its attribute
+-- an entry of a dictionary: its key, and its attribute unless that is `unit`
 abbrev pub entry_text : List ℕ → Bool → List ℕ → List ℕ
 entry_text key flag text = if flag then key_text key else key_text key ++ (codes " = " ++ text)
 
--- a list between curly braces, parted by `, `
+-- a list in curly braces, separated by `, `
 abbrev pub in_curly : List (List ℕ) → List ℕ
 in_curly ts = codes "{" ++ (parted (codes ", ") true ts ++ codes "}")
 
--- an attribute; the bits of an integer are written as the number that they are read as
+-- an attribute; an integer is printed as the number that its bits denote
 abbrev mutual
   pub attr_text : AttrTerm → List ℕ
   attr_text (IntegerOf ty bits) = integer_text ty (reading_of ty bits)

@@ -1,4 +1,4 @@
--- How a module is written: one thing after the other, in pre-order.
+-- The printed form of a module, in pre-order.
 use Rattle.std.specs.Prelude.{ℕ, ◌+◌, ◌==◌, if◌then◌else◌, List, [], ◌∷◌, ◌++◌, length, map, codes}
 use Rattle.std.specs.Fmt.{decimal}
 use Rattle.ir_types.specs.Terms.{TypeTerm, Function, AttrTerm}
@@ -12,45 +12,44 @@ use Rattle.ir_text.specs.AttrText.{in_curly, entry_texts}
 use Rattle.ir_tree.specs.Meaning.{Operation}
 use Rattle.ir_text.specs.Naming.{Named, value_text, value_type, name_results, name_argument}
 
--- the text so far, the values that are named, and the numbers of the next operation with results and of
--- the next argument
+-- the text so far, the named values, and the numbers of the next operation with results and of the next argument
 pub record Printed : Type 0 where
   pub text : List ℕ
   pub named : Named
   pub results : ℕ
   pub arguments : ℕ
 
--- more text
+-- appends a text
 abbrev pub put : List ℕ → Printed → Printed
 put t o = record { text = o.text ++ t; named = o.named; results = o.results; arguments = o.arguments }
 
--- what is inside an operation stands two blanks further in
+-- the margin inside an operation has two more blanks
 abbrev pub deeper : List ℕ → List ℕ
 deeper margin = margin ++ codes "  "
 
--- what stands in front of an operation with `count` results, not 0, where n is its number
+-- the text before an operation with `count` results, where `count` isn't 0; n is the operation's number
 abbrev pub results_text : ℕ → ℕ → List ℕ
 results_text n count = codes "%" ++ (decimal n ++ (if count == 1 then codes " = " else codes ":" ++ (decimal count ++ codes " = ")))
 
--- the results of operation x are named, all by one number
+-- names the results of operation x by one number
 abbrev pub count_results : ℕ → List TypeTerm → Printed → Printed
 count_results x ts o =
     record { text = o.text; named = name_results x (length ts == 1) o.results 0 ts o.named; results = o.results + 1; arguments = o.arguments }
 
--- and written, where the operation has any
+-- prints and names the results, if the operation has any
 abbrev pub put_results : ℕ → List TypeTerm → Printed → Printed
 put_results x [] o = o
 put_results x (t ∷ ts) o = count_results x (t ∷ ts) (put (results_text o.results (length (t ∷ ts))) o)
 
--- the operands by their names
+-- prints the operands by their names
 abbrev pub put_operands : List Value → Printed → Printed
 put_operands vs o = put (in_round (map (value_text o.named) vs)) o
 
--- a dictionary between its braces
+-- a dictionary in braces
 abbrev pub dictionary_text : List (List ℕ × AttrTerm) → List ℕ
 dictionary_text es = in_curly (entry_texts (entries_of es))
 
--- properties and attributes, which stand nowhere if there are none
+-- properties and attributes; an empty dictionary isn't printed
 abbrev pub properties_text : List (List ℕ × AttrTerm) → List ℕ
 properties_text [] = []
 properties_text (e ∷ es) = codes " <" ++ (dictionary_text (e ∷ es) ++ codes ">")
@@ -59,54 +58,54 @@ abbrev pub attributes_text : List (List ℕ × AttrTerm) → List ℕ
 attributes_text [] = []
 attributes_text (e ∷ es) = codes " " ++ dictionary_text (e ∷ es)
 
--- the name, the operands and the properties of an operation
+-- prints the name, the operands and the properties of an operation
 abbrev pub put_name : HeadOf (List ℕ) TypeTerm AttrTerm → Printed → Printed
 put_name h o = put (properties_text h.properties) (put_operands h.operands (put (string_text h.name) o))
 
--- an operation up to its regions
+-- prints an operation up to its regions
 abbrev pub put_head : List ℕ → HeadOf (List ℕ) TypeTerm AttrTerm → Printed → Printed
 put_head margin h o = put_name h (put_results h.id h.results (put margin o))
 
--- the function type of the operands and results
+-- prints the function type of the operands and results
 abbrev pub put_type_of : List Value → List TypeTerm → Printed → Printed
 put_type_of vs ts o = put (type_text (Function (types_of (map (value_type o.named) vs)) (types_of ts))) o
 
--- an operation from behind its regions on
+-- prints an operation after its regions
 abbrev pub put_tail : HeadOf (List ℕ) TypeTerm AttrTerm → Printed → Printed
 put_tail h o = put (codes "\n") (put_type_of h.operands h.results (put (codes " : ") (put (attributes_text h.attributes) o)))
 
--- what stands in front of all but the first of a list, k being the place
+-- the comma before the item at index k, unless the index is 0
 abbrev pub comma_at : ℕ → List ℕ
 comma_at k = if k == 0 then [] else codes ", "
 
--- an argument is named by a number of its own
+-- names an argument by the next number
 abbrev pub count_argument : ℕ → ℕ → ℕ → TypeTerm → Printed → Printed
 count_argument x r k t o = record { text = o.text; named = name_argument x r k o.arguments t o.named; results = o.results; arguments = o.arguments + 1 }
 
--- and written with its type
+-- an argument with its type
 abbrev pub argument_text : ℕ → TypeTerm → List ℕ
 argument_text n t = codes "%arg" ++ (decimal n ++ (codes ": " ++ type_text t))
 
--- an argument: its text, and then it has its name
+-- prints an argument, and names it
 abbrev pub put_argument : ℕ → ℕ → ℕ → TypeTerm → Printed → Printed
 put_argument x r k t o = count_argument x r k t (put (argument_text o.arguments t) o)
 
--- the arguments of a block from place k on
+-- prints the arguments of a block from index k on
 abbrev pub put_arguments : ℕ → ℕ → ℕ → List TypeTerm → Printed → Printed
 put_arguments x r k [] o = o
 put_arguments x r k (t ∷ ts) o = put_arguments x r (k + 1) ts (put_argument x r k t (put (comma_at k) o))
 
--- the label of a block without arguments, where the block has no operation
+-- prints the label of a block without arguments, if the block has no operations
 abbrev pub put_bare_label : {N T A : Type 0} → List ℕ → OpsOf N T A → Printed → Printed
 put_bare_label margin no_ops o = put (codes "^bb0:\n") (put margin o)
 put_bare_label margin (next t ts) o = o
 
--- the label of a block, where the block has arguments or no operation
+-- prints the label of a block, if the block has arguments or no operations
 abbrev pub put_label : {N T A : Type 0} → List ℕ → ℕ → ℕ → List TypeTerm → OpsOf N T A → Printed → Printed
 put_label margin x r [] os o = put_bare_label margin os o
 put_label margin x r (t ∷ ts) os o = put (codes "):\n") (put_arguments x r 0 (t ∷ ts) (put (codes "^bb0(") (put margin o)))
 
--- the parentheses round the regions of an operation, where it has regions
+-- the opening parenthesis of the regions of an operation, if it has any
 abbrev pub opening : {N T A : Type 0} → RegionsOf N T A → List ℕ
 opening no_regions = []
 opening (region g rs) = codes " ("
@@ -115,27 +114,27 @@ abbrev pub closing_text : {N T A : Type 0} → RegionsOf N T A → List ℕ
 closing_text no_regions = []
 closing_text (region g rs) = codes ")"
 
--- an operation and its regions, where `margin` are the blanks in front of it
+-- prints an operation with its regions; `margin` is the blanks before it
 abbrev mutual
   pub put_op : List ℕ → Operation → Printed → Printed
   put_op margin (op h rs) o = put_tail h (put (closing_text rs) (put_regions margin h.id 0 rs (put (opening rs) (put_head margin h o))))
 
-  -- from region r on
+  -- prints the regions from region r on
   pub put_regions : List ℕ → ℕ → ℕ → RegionsOf (List ℕ) TypeTerm AttrTerm → Printed → Printed
   put_regions margin x r no_regions o = o
   put_regions margin x r (region g rs) o = put_regions margin x (r + 1) rs (put_region margin x r g (put (comma_at r) o))
 
-  -- region r
+  -- prints region r
   pub put_region : List ℕ → ℕ → ℕ → RegionOf (List ℕ) TypeTerm AttrTerm → Printed → Printed
   put_region margin x r empty o = put (codes "{}") o
   put_region margin x r (block args os) o = put (codes "}") (put margin (put_ops (deeper margin) os (put_label margin x r args os (put (codes "{\n") o))))
 
-  -- the operations of a block
+  -- prints the operations of a block
   pub put_ops : List ℕ → OpsOf (List ℕ) TypeTerm AttrTerm → Printed → Printed
   put_ops margin no_ops o = o
   put_ops margin (next t ts) o = put_ops margin ts (put_op margin t o)
 
--- before anything is written
+-- the state of the printer before anything is printed
 abbrev pub blank : Printed
 blank = record { text = []; named = []; results = 0; arguments = 0 }
 

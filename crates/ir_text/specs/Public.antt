@@ -1,4 +1,4 @@
--- The words of reading and printing, for whoever stands on this crate.
+-- The definitions for users of this crate: reading and printing.
 pub use Rattle.ir_text_tokens.specs.Printing.{symbol_text}
 pub use Rattle.ir_text_types.specs.Laws.{IsFull}
 pub use Rattle.ir_text_operations.specs.attributes.Claims.{IsNoAttr}
@@ -8,4 +8,4 @@ unfoldable pub use Rattle.ir_text_operations.specs.Free.{free_bound}
 pub use Rattle.ir_text_operations.specs.Seen.{BoundTerm}
 pub use Rattle.ir_text_operations.specs.Spelling.{Spells, SpellsOp}
 pub use Rattle.ir_text_operations.specs.Claims.{IsOnly, IsNone}
-pub use Rattle.ir_text.specs.Answers.{IsTold, IsOpTold}
+pub use Rattle.ir_text.specs.Answers.{IsTextRefusal, IsOpRefusal}

@@ -1,4 +1,4 @@
--- How types are written.
+-- The printed form of types.
 use Rattle.std.specs.Prelude.{ℕ, Bool, true, false, not, if◌then◌else◌, List, [], ◌∷◌, ◌++◌, flat_map, codes, Option, Some, None}
 use Rattle.std.specs.Fmt.{decimal}
 use Rattle.ir_types.specs.declared.node.Sign.{Sign}
@@ -6,13 +6,13 @@ use Rattle.ir_types.specs.declared.node.Sign.TheVariants.{Signless, Signed, Unsi
 use Rattle.ir_types.specs.Terms.{TypeTerm, Integer, Index, Function, Memref, OpaqueType, TypeTerms, no_types, next_type}
 use Rattle.ir_text.specs.Rows.{parted}
 
--- what stands in front of an integer type's width
+-- the letters before the width of an integer type
 abbrev pub sign_text : Sign → List ℕ
 sign_text Signless = codes "i"
 sign_text Signed = codes "si"
 sign_text Unsigned = codes "ui"
 
--- a dimension of a memref, `?` where it isn't known
+-- a dimension of a memref; `?` if it is dynamic
 abbrev pub dimension_text : Option ℕ → List ℕ
 dimension_text None = codes "?x"
 dimension_text (Some n) = decimal n ++ codes "x"
@@ -22,16 +22,16 @@ abbrev pub is_function : TypeTerm → Bool
 is_function (Function inputs outputs) = true
 is_function _ = false
 
--- whether outputs stand without parentheses: exactly one type, that is no function type
+-- whether the outputs are printed without parentheses: exactly one type that is no function type
 abbrev pub is_lone : TypeTerms → Bool
 is_lone (next_type t no_types) = not (is_function t)
 is_lone _ = false
 
--- a list between parentheses, parted by `, `
+-- a list in parentheses, separated by `, `
 abbrev pub in_round : List (List ℕ) → List ℕ
 in_round ts = codes "(" ++ (parted (codes ", ") true ts ++ codes ")")
 
--- outputs, by whether they stand without parentheses
+-- the outputs, with or without parentheses
 abbrev pub outputs_text : Bool → List (List ℕ) → List ℕ
 outputs_text lone ts = if lone then parted (codes ", ") true ts else in_round ts
 

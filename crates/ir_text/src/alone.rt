@@ -1,4 +1,4 @@
-//! A module's text, read with a context of its own. Language Reference, "High-Level Structure".
+//! Reads the text of a module into a new context. Language Reference, "High-Level Structure".
 ghost use Rattle.std.specs.Prelude.{◌≡◌, ℕ, IfOk, IfErr, Err};
 ghost use Rattle.ir_tree.specs.Meaning.{IsSoundIn};
 ghost use Rattle.ir_text_tokens.specs.declared.fault.Fault.{Fault as TextFault};
@@ -7,14 +7,14 @@ ghost use Rattle.ir_text_operations.specs.Filling.{new_things, RootFills, BodyFi
 ghost use Rattle.ir_text_operations.specs.Limits.{most_levels};
 ghost use Rattle.ir_text_operations.specs.Spelling.{Spells};
 
-use ir_text_operations::module::{Root, as_written, explicit, implicit, looked_at};
+use ir_text_operations::module::{Root, as_written, check_dominance, explicit, implicit};
 use ir_text_tokens::fault::Fault;
 use ir_text_types::error::{ReadError, within_limits};
 use ir_tree::tree::TreeOp;
 use ir_types::context::Context;
 use std::alloc::Global;
 
-/// A context with nothing but the words of the operation table, which hashes with a key.
+/// Returns a context that has only the words of the operation table. `key` is its hash key.
 fn new_context(alloc: Global, key: u64, opaque: bool) -> Result<Context, ReadError>
     ensures ok { IfOk result (λ c. c ≡ new_things opaque) }
     ensures err { IfErr result (λ e. e ≡ ReadError.Memory) }
@@ -25,7 +25,7 @@ fn new_context(alloc: Global, key: u64, opaque: bool) -> Result<Context, ReadErr
     }
 }
 
-/// The root, where the text is one module without operands and results.
+/// Parses the explicit root of a text, which is one module without operands and results.
 fn root_alone(
     alloc: Global,
     key: u64,
@@ -47,7 +47,7 @@ fn root_alone(
     }
 }
 
-/// An implicit root of the operations of a text.
+/// Parses the operations of a text into an implicit root.
 fn body_alone(
     alloc: Global,
     key: u64,
@@ -69,7 +69,7 @@ fn body_alone(
     }
 }
 
-/// The fault of a text as it is written.
+/// Returns the fault to report for a text without an explicit root.
 fn fault_alone(
     alloc: Global,
     key: u64,
@@ -89,8 +89,8 @@ fn fault_alone(
     }
 }
 
-/// The operations of a text that is no root: those of an implicit root, or their fault, where what stood in
-/// the way of the root itself comes first.
+/// Parses the operations of a text that has no explicit root into an implicit one. If both fail, the fault of the
+/// explicit root is returned first.
 fn without_root(
     alloc: Global,
     key: u64,
@@ -116,7 +116,7 @@ fn without_root(
     }
 }
 
-/// The tree of a text, before its limits are looked at.
+/// Parses the tree of a text, before its limits are checked.
 fn source_alone(
     alloc: Global,
     key: u64,
@@ -133,12 +133,12 @@ fn source_alone(
         Err(e) => return Err(e),
     };
     match root {
-        Root::Is(tree) => Ok((ctx, tree)),
+        Root::Explicit(tree) => Ok((ctx, tree)),
         Root::Other(other) => without_root(alloc, key, opaque, bytes, other),
     }
 }
 
-/// The tree that a text spells, and a context that holds what it names. No text within its limit fills it.
+/// Returns the tree of a text, and a new context for it. No text within its limit fills the context.
 pub(crate) fn tree_alone(
     alloc: Global,
     key: u64,
@@ -159,7 +159,7 @@ pub(crate) fn tree_alone(
         Ok(found) => found,
         Err(e) => return Err(e),
     };
-    match looked_at(alloc, &ctx, &tree) {
+    match check_dominance(alloc, &ctx, &tree) {
         Ok(()) => Ok((ctx, tree)),
         Err(e) => Err(e),
     }

@@ -1,16 +1,16 @@
-//! What is printed for a module is the text of its tree, byte for byte; what is read is the only tree that the
-//! text spells, and no text fills a context of its own.
+//! Reads and prints the generic form. A text is read as the only tree that it denotes, and a tree is printed as its
+//! text, byte for byte. No text within its limit fills a new context.
 #![tactic(auto)]
 
 mod alone;
 pub mod attributes;
-mod between;
+pub mod capacity_laws;
 pub mod error;
 mod naming;
 mod numbers;
 mod operations;
 pub mod printer;
 pub mod reader;
-pub mod room;
+mod separators;
 pub mod types;
 mod values;

@@ -1,9 +1,9 @@
-//! What the printer keeps: the text so far, and how values are named.
+//! The state of the printer: the text so far, and the names of values.
 use indexmap::IndexMap;
 use ir_types::ids::{OpId, TypeId};
 
-/// Where a value comes from: a place among the results of an operation, or among the arguments of the
-/// block of one of its regions.
+/// The source of a value: an index among the results of an operation, or among the arguments of the block of one of
+/// its regions.
 #[derive(Clone, Copy, PartialEq, Eq, Hash)]
 pub enum Source {
     Result(OpId, u32),
@@ -13,23 +13,22 @@ pub enum Source {
 /// The name of a value.
 #[derive(Clone, Copy)]
 pub enum ValueName {
-    /// The only result of an operation, as `%0`.
+    /// The only result of an operation: `%0`.
     Only(u32),
-    /// One of several results, as `%0#1`.
+    /// One of several results: `%0#1`.
     Part(u32, u32),
-    /// An argument of a block, as `%arg0`.
+    /// An argument of a block: `%arg0`.
     Argument(u32),
 }
 
-/// A value that has a name.
+/// The name and the type of a value.
 #[derive(Clone, Copy)]
 pub struct NamedValue {
     pub name: ValueName,
     pub ty: TypeId,
 }
 
-/// The text so far, the values that are named, and the numbers of the next operation with results and
-/// of the next argument.
+/// The text so far, the named values, and the numbers of the next operation with results and of the next argument.
 #[derive(Drop)]
 pub struct Printer {
     pub text: Vec<u8>,

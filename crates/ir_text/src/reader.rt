@@ -1,7 +1,7 @@
-//! The reader of modules, into a context that is there (`read`) or into a new one (`read_new`); of operations and
-//! of attributes.
+//! Reads modules, operations and attributes. `read` reads a module into an existing context, and `read_new` into a
+//! new one.
 ghost use Rattle.std.specs.Prelude.{◌≡◌, ℕ, IfOk, IfErr, IfSome, Err};
-ghost use Rattle.ir_types.specs.Things.{IsType, Grows};
+ghost use Rattle.ir_types.specs.Things.{IsType, IsExtendedBy};
 ghost use Rattle.ir_tree.specs.declared.value.Value.{Value as TreeValue};
 ghost use Rattle.ir_tree.specs.Meaning.{IsSoundIn};
 ghost use Rattle.ir_text_types.specs.Laws.{IsFull};
@@ -10,7 +10,7 @@ ghost use Rattle.ir_text_operations.specs.attributes.Claims.{IsOnlyAttr, IsNoAtt
 ghost use Rattle.ir_text_operations.specs.Free.{free_term};
 ghost use Rattle.ir_text_operations.specs.Spelling.{Spells, SpellsOp};
 ghost use Rattle.ir_text_operations.specs.Claims.{IsOnly, IsNone};
-ghost use Rattle.ir_text.specs.Answers.{IsTold, IsOpTold};
+ghost use Rattle.ir_text.specs.Answers.{IsTextRefusal, IsOpRefusal};
 
 use crate::alone::tree_alone;
 pub use crate::error::ReadError;
@@ -24,21 +24,21 @@ use ir_types::ids::AttrId;
 use ir_types::refusal::Refusal;
 use std::alloc::Global;
 
-/// The tree that a text spells, numbered from 0 in pre-order; it is the only one, and what it names is
-/// interned: the context only grows, whatever is answered. A text that is one `builtin.module` without
-/// operands and results has it as its root; any other is the body of an implicit root (Language Reference,
-/// "High-Level Structure").
+/// Returns the only tree that a text denotes. Its ids are 0, 1, .. in pre-order, and its names, types and attributes
+/// are interned. The context only grows, on success and on errors. If the text is one `builtin.module` without
+/// operands and results, that module is the root; otherwise the text is the body of an implicit root (Language
+/// Reference, "High-Level Structure").
 ///
-/// `Refused` has the reason and the offset of the byte where it stands; such a text spells no tree.
-/// Refusals: `BadToken`, `Unexpected`, `UnknownValue`, `Redefined`, `TypeMismatch`, `BadWidth`, `BadValue`,
-/// `MultipleBlocks`, `Successors`, `TooDeep`, `TooMany`, `DuplicateKey`, `LeftOut`, `NotUtf8`. `Full` is answered
-/// where the context grew full, and `Memory` where there is none.
+/// `Refused` has the reason and its byte offset; such a text denotes no tree. Refusals: `BadToken`, `Unexpected`,
+/// `UnknownValue`, `Redefined`, `TypeMismatch`, `BadWidth`, `BadValue`, `MultipleBlocks`, `Successors`, `TooDeep`,
+/// `TooMany`, `DuplicateKey`, `LeftOut`, `NotUtf8`. `Full` is returned if the context fills up, and `Memory` if
+/// memory runs out.
 pub fn read(alloc: Global, ctx: &mut Context, bytes: &[u8]) -> Result<TreeOp, ReadError>
     ensures read { IfOk result (λ t. IsOnly (Spells ctx.old.opaque bytes.now) ctx.new t) }
     ensures sound { IfOk result (λ t. IsSoundIn ctx.new t) }
     ensures refused { (r : Refusal) (o : ℕ) → result ≡ Err (ReadError.Refused r o) → IsNone (Spells ctx.old.opaque bytes.now) }
-    ensures told { IfErr result (λ e. IsTold bytes.now e) }
-    ensures grows { Grows ctx.old ctx.new }
+    ensures told { IfErr result (λ e. IsTextRefusal bytes.now e) }
+    ensures grows { IsExtendedBy ctx.old ctx.new }
     ensures full { (o : ℕ) → result ≡ Err (ReadError.Full o) → IsFull ctx.new }
 {
     match module::read(alloc, ctx, bytes) {
@@ -47,14 +47,15 @@ pub fn read(alloc: Global, ctx: &mut Context, bytes: &[u8]) -> Result<TreeOp, Re
     }
 }
 
-/// The tree that a text spells, numbered from 0 in pre-order, and a context that holds what it names. A text
-/// that is one `builtin.module` without operands and results has it as its root; any other is the body of an
-/// implicit root. The context hashes with a key, on which no answer depends; to whoever writes the text it is to be
-/// unknown, so that no text has names that collide. `opaque` says whether types and attributes that aren't known are
-/// read as opaque ones, here and in whatever is read into the context from then on.
+/// Returns the tree of a text, and a new context for it. The ids are 0, 1, .. in pre-order. If the text is one
+/// `builtin.module` without operands and results, that module is the root; otherwise the text is the body of an
+/// implicit root.
 ///
-/// Refusals: those of reading into a context that is there. `Full` is none of them: no text within its limit
-/// fills a new context.
+/// `key` is the hash key of the context; no result depends on it. Choose a key that the author of the text doesn't
+/// know, so that names can't be made to collide. `opaque` says whether unknown types and attributes are read as
+/// opaque ones, here and in every later text that is read into the context.
+///
+/// Refusals: those of `read`. `Full` is never returned: no text within its limit fills a new context.
 pub fn read_new(
     alloc: Global,
     key: u64,
@@ -65,7 +66,7 @@ pub fn read_new(
     ensures sound { IfOk result (λ x. IsSoundIn x.0 x.1) }
     ensures mode { IfOk result (λ x. x.0.opaque ≡ opaque) }
     ensures refused { (r : Refusal) (o : ℕ) → result ≡ Err (ReadError.Refused r o) → IsNone (Spells opaque bytes.now) }
-    ensures told { IfErr result (λ e. IsTold bytes.now e) }
+    ensures told { IfErr result (λ e. IsTextRefusal bytes.now e) }
     ensures room { (o : ℕ) → result ≡ Err (ReadError.Full o) → ⊥ }
 {
     match tree_alone(alloc, key, opaque, bytes) {
@@ -74,13 +75,13 @@ pub fn read_new(
     }
 }
 
-/// The operation that a text spells, with nothing after it. It is numbered from the outer module's next id
-/// in pre-order, each id below 4,294,967,295, and what it names is interned: the context only grows, whatever
-/// is answered. A name that isn't bound where it stands and has the form `%v12.0` or `%a12.0.1` is that value
-/// of the outer module, also inside an isolated operation.
+/// Returns the operation of a text, which has nothing after the operation. The ids are in pre-order from the outer
+/// module's next id on, each less than 4,294,967,295. Names, types and attributes are interned; the context only
+/// grows, on success and on errors. An unbound name of the form `%v12.0` or `%a12.0.1` denotes that value of the
+/// outer module, also inside an isolated operation.
 ///
-/// Refusals: those of `read`, but for a root's; and at last `IdsExhausted`, at the end of the text. `Full` where the
-/// context grew full.
+/// Refusals: those of `read` except those of a root, and `IdsExhausted` at the end of the text if there is no other.
+/// `Full` is returned if the context fills up.
 pub fn read_op<O: Outer>(
     alloc: Global,
     ctx: &mut Context,
@@ -91,8 +92,8 @@ pub fn read_op<O: Outer>(
     ensures read { IfOk result (λ t. IsOnly (SpellsOp ctx.old.opaque (free_term (O.types outer.now) ctx.old) (O.next outer.now) bytes.now) ctx.new t) }
     ensures sound { IfOk result (λ t. IsSoundIn ctx.new t) }
     ensures refused { (r : Refusal) (o : ℕ) → result ≡ Err (ReadError.Refused r o) → IsNone (SpellsOp ctx.old.opaque (free_term (O.types outer.now) ctx.old) (O.next outer.now) bytes.now) }
-    ensures told { IfErr result (λ e. IsOpTold bytes.now e) }
-    ensures grows { Grows ctx.old ctx.new }
+    ensures told { IfErr result (λ e. IsOpRefusal bytes.now e) }
+    ensures grows { IsExtendedBy ctx.old ctx.new }
     ensures full { (o : ℕ) → result ≡ Err (ReadError.Full o) → IsFull ctx.new }
 {
     match single::read_op(alloc, ctx, bytes, outer) {
@@ -105,17 +106,17 @@ pub fn read_op<O: Outer>(
     }
 }
 
-/// The attribute that a text spells, with nothing after it. It is interned, and so is what it names: the
-/// context only grows, whatever is answered.
+/// Returns the attribute of a text, which has nothing after the attribute. The attribute and its parts are interned;
+/// the context only grows, on success and on errors.
 ///
-/// `Refused` has the reason and the offset of the byte where it stands; such a text spells no attribute.
-/// Refusals: `TooMany` for a text over its limit, and `NotUtf8`; those of attributes; `Unexpected` for a token
-/// behind the attribute. `Full` is answered where the context grew full, and `Memory` where there is none.
+/// `Refused` has the reason and its byte offset; such a text denotes no attribute. Refusals: `TooMany` for a text
+/// over its limit, and `NotUtf8`; those of attributes; `Unexpected` for a token after the attribute. `Full` is
+/// returned if the context fills up, and `Memory` if memory runs out.
 pub fn parse_attr(alloc: Global, ctx: &mut Context, bytes: &[u8]) -> Result<AttrId, ReadError>
     ensures read { IfOk result (λ n. IsOnlyAttr (SpellsAttr ctx.old.opaque bytes.now) ctx.new n) }
-    ensures grows { Grows ctx.old ctx.new }
+    ensures grows { IsExtendedBy ctx.old ctx.new }
     ensures refused { (r : Refusal) (o : ℕ) → result ≡ Err (ReadError.Refused r o) → IsNoAttr (SpellsAttr ctx.old.opaque bytes.now) }
-    ensures told { IfErr result (λ e. IsTold bytes.now e) }
+    ensures told { IfErr result (λ e. IsTextRefusal bytes.now e) }
     ensures full { (o : ℕ) → result ≡ Err (ReadError.Full o) → IsFull ctx.new }
 {
     let opaque = ctx.is_opaque();

@@ -1,4 +1,4 @@
-//! The text of types.
+//! Prints types.
 ghost use Rattle.std.specs.Prelude.{◌≡◌, ◌<◌, ◌++◌, OnOk, true, length, flat_map, codes};
 ghost use Rattle.std.specs.List.{All};
 ghost use Rattle.ir_types.specs.Things.{IsType};
@@ -7,8 +7,8 @@ ghost use Rattle.std.specs.Fmt.{decimal};
 ghost use Rattle.ir_text.specs.Rows.{parted};
 ghost use Rattle.ir_text.specs.TypeText.{sign_text, dimension_text, is_function, is_lone, in_round, outputs_text, type_text, type_texts};
 
-use crate::between::{put_between, put_short};
-use crate::numbers::put_number;
+use crate::numbers::write_number;
+use crate::separators::{write_between, write_short};
 use ir_types::context::Context;
 use ir_types::ids::TypeId;
 use ir_types::node::{Sign, TypeNode};
@@ -25,31 +25,30 @@ fn sign_text(sign: Sign) -> &'static [u8]
     }
 }
 
-/// Appends an integer type.
-fn put_integer_type(out: &mut Vec<u8>, sign: Sign, width: u32) -> Result<(), AllocError>
+fn write_integer_type(out: &mut Vec<u8>, sign: Sign, width: u32) -> Result<(), AllocError>
     ensures { OnOk result (out.new.items ≡ out.old.items ++ (sign_text sign ++ decimal width)) }
 {
-    put_short(out, sign_text(sign))?;
-    put_number(out, u64::from(width))
+    write_short(out, sign_text(sign))?;
+    write_number(out, u64::from(width))
 }
 
-fn put_dimension(out: &mut Vec<u8>, dim: Option<u64>) -> Result<(), AllocError>
+fn write_dimension(out: &mut Vec<u8>, dim: Option<u64>) -> Result<(), AllocError>
     ensures { OnOk result (out.new.items ≡ out.old.items ++ dimension_text dim) }
 {
     match dim {
-        None => put_short(out, b"?x"),
+        None => write_short(out, b"?x"),
         Some(size) => {
-            put_number(out, size)?;
-            put_short(out, b"x")
+            write_number(out, size)?;
+            write_short(out, b"x")
         }
     }
 }
 
-fn put_dimensions(out: &mut Vec<u8>, dims: &[Option<u64>]) -> Result<(), AllocError>
+fn write_dimensions(out: &mut Vec<u8>, dims: &[Option<u64>]) -> Result<(), AllocError>
     ensures { OnOk result (out.new.items ≡ out.old.items ++ flat_map dimension_text dims.now) }
 {
     'dims: for dim in dims {
-        put_dimension(out, *dim)?;
+        write_dimension(out, *dim)?;
     }
     Ok(())
 }
@@ -61,7 +60,7 @@ fn is_function(ctx: &Context, id: TypeId) -> bool
     matches!(type_of(ctx, id), TypeNode::Func { .. })
 }
 
-/// Whether outputs stand without parentheses.
+/// Returns whether the outputs are printed without parentheses.
 fn is_lone(ctx: &Context, outputs: &[TypeId]) -> bool
     requires { All (λ t. t < length ctx.now.types) outputs.now }
     ensures { result ≡ is_lone (types_at (type_terms ctx.now) outputs.now) }
@@ -75,48 +74,47 @@ fn is_lone(ctx: &Context, outputs: &[TypeId]) -> bool
 
 /// Appends a type (Builtin Dialect, "Types").
 #[cycle(types)]
-pub fn put_type(ctx: &Context, out: &mut Vec<u8>, id: TypeId) -> Result<(), AllocError>
+pub fn print_type(ctx: &Context, out: &mut Vec<u8>, id: TypeId) -> Result<(), AllocError>
     requires { IsType ctx.now id }
     ensures { OnOk result (out.new.items ≡ out.old.items ++ type_text (type_term ctx.now id)) }
 {
     match type_of(ctx, id) {
-        TypeNode::Int { sign, width } => put_integer_type(out, *sign, *width),
-        TypeNode::Index => put_short(out, b"index"),
+        TypeNode::Int { sign, width } => write_integer_type(out, *sign, *width),
+        TypeNode::Index => write_short(out, b"index"),
         TypeNode::Func { inputs, outputs } => {
-            put_short(out, b"(")?;
-            put_types(ctx, out, inputs.as_slice())?;
-            put_short(out, b") -> ")?;
-            put_outputs(ctx, out, outputs.as_slice())
+            write_short(out, b"(")?;
+            write_types(ctx, out, inputs.as_slice())?;
+            write_short(out, b") -> ")?;
+            write_outputs(ctx, out, outputs.as_slice())
         }
         TypeNode::Memref { dims, elem } => {
             out.extend_from_slice(b"memref<")?;
-            put_dimensions(out, dims.as_slice())?;
-            put_type(ctx, out, *elem)?;
-            put_short(out, b">")
+            write_dimensions(out, dims.as_slice())?;
+            print_type(ctx, out, *elem)?;
+            write_short(out, b">")
         }
         TypeNode::Opaque(text) => out.extend_from_slice(text.as_slice()),
     }
 }
 
-/// Appends types, parted by commas.
+/// Appends types, separated by commas.
 #[cycle(types)]
-fn put_types(ctx: &Context, out: &mut Vec<u8>, ids: &[TypeId]) -> Result<(), AllocError>
+fn write_types(ctx: &Context, out: &mut Vec<u8>, ids: &[TypeId]) -> Result<(), AllocError>
     requires { All (λ t. t < length ctx.now.types) ids.now }
     ensures { OnOk result (out.new.items ≡ out.old.items ++ parted (codes ", ") true (type_texts (types_at (type_terms ctx.now) ids.now))) }
 {
     let mut first = true;
     'ids: for id in ids {
-        put_between(out, first, b", ")?;
+        write_between(out, first, b", ")?;
         first = false;
-        put_type(ctx, out, *id)?;
+        print_type(ctx, out, *id)?;
     }
     Ok(())
 }
 
-/// Appends the outputs of a function type, in parentheses unless they are one type that is no function
-/// type.
+/// Appends the outputs of a function type. A single type that is no function type is printed without parentheses.
 #[cycle(types)]
-pub(crate) fn put_outputs(
+pub(crate) fn write_outputs(
     ctx: &Context,
     out: &mut Vec<u8>,
     ids: &[TypeId],
@@ -125,9 +123,9 @@ pub(crate) fn put_outputs(
     ensures { OnOk result (out.new.items ≡ out.old.items ++ outputs_text (is_lone (types_at (type_terms ctx.now) ids.now)) (type_texts (types_at (type_terms ctx.now) ids.now))) }
 {
     if is_lone(ctx, ids) {
-        return put_types(ctx, out, ids);
+        return write_types(ctx, out, ids);
     }
-    put_short(out, b"(")?;
-    put_types(ctx, out, ids)?;
-    put_short(out, b")")
+    write_short(out, b"(")?;
+    write_types(ctx, out, ids)?;
+    write_short(out, b")")
 }

@@ -1,15 +1,15 @@
--- What follows a value is the end of the text.
+-- The rest of the text after a value is a suffix of the text.
 use Rattle.std.proofs.Common.{◌≡◌, ℕ, zero, suc, Bool, true, false, cond, List, [], ◌∷◌, length, drop, Option, Some, None, refl, ap, subst}
 use Rattle.std.specs.Prelude.{◌==◌, ◌&&◌, ◌||◌, Ok, Err}
 use Rattle.ir_text_tokens.specs.declared.refusal.TextRefusal.{TextRefusal}
 use Rattle.ir_text_tokens.specs.declared.refusal.TextRefusal.TheVariants.{LeftOut, Unexpected}
-use Rattle.ir_text_tokens.specs.Tokens.{Lexeme, mark, integer, float, string, bare, value, label, hash, bang, symbol, quoted, behind_first, next, skip}
+use Rattle.ir_text_tokens.specs.Tokens.{Lexeme, mark, integer, float, string, bare, value, label, hash, bang, symbol, quoted, trailing_first, next, skip}
 use Rattle.ir_text_tokens.proofs.Fronts.{next_front}
-use Rattle.ir_text_bodies.specs.Bodies.{begins, has_dot, is_arrow, refused_at}
+use Rattle.ir_text_tokens.specs.Bodies.{begins, has_dot, is_arrow, refused_at}
 use Rattle.ir_text_aliases.specs.Pieces.{from_quote, piece_len}
-use Rattle.ir_text_aliases.specs.Values.{Ends, coming_behind, enclosed, group_end, unless, value_fault}
+use Rattle.ir_text_aliases.specs.Values.{Ends, coming_after, enclosed, group_end, unless, value_fault}
 use Rattle.ir_text_aliases.specs.Words.{is_distinct, is_element, is_listed, is_lone, is_place_word, is_scalar, is_shaped}
-use Rattle.ir_text_aliases.specs.Terms.{arrow_end, at_token, attr_end, attr_from, begins_digit, behind, behind_colons, distinct_end, elements_end, function_end, hash_end, name_end, needed_end, number_end, number_from, plain_attr_end, plain_type_end, results_end, symbol_end, symbol_from, symbols_end, symbols_or, type_end, type_from, type_or, typed_end, value_end, word_end, word_type_end}
+use Rattle.ir_text_aliases.specs.Terms.{arrow_end, at_token, attr_end, attr_from, begins_digit, trailing, after_colons, distinct_end, elements_end, function_end, hash_end, name_end, needed_end, number_end, number_from, plain_attr_end, plain_type_end, results_end, symbol_end, symbol_from, symbols_end, symbols_or, type_end, type_from, type_or, typed_end, value_end, word_end, word_type_end}
 use Rattle.ir_text_aliases.proofs.Tails.{IsTail, dropped, longer, same, skipped, within}
 
 abbrev rest_of : Ends → List ℕ
@@ -19,14 +19,14 @@ rest_of (Err fault) = []
 here : (bs r : List ℕ) → ◌≡◌ {A = Ends} (Ok bs) (Ok r) → IsTail bs r
 here bs r e = subst (IsTail bs) (ap rest_of e) (same bs)
 
--- of a function that gives what follows
+-- the results of the function are suffixes of its argument
 abbrev AreTails : (List ℕ → Ends) → Type 0
 AreTails f = (bs r : List ℕ) → f bs ≡ Ok r → IsTail bs r
 
 skipped_to : (f : List ℕ → Ends) → AreTails f → (bs r : List ℕ) → f (skip bs) ≡ Ok r → IsTail bs r
 skipped_to f h bs r e = within bs (skip bs) r (skipped bs) (h (skip bs) r e)
 
-one_more : (x : Ends) (more : List ℕ → Ends) (bs r : List ℕ) → ((m : List ℕ) → x ≡ Ok m → IsTail bs m) → AreTails more → behind x more ≡ Ok r → IsTail bs r
+one_more : (x : Ends) (more : List ℕ → Ends) (bs r : List ℕ) → ((m : List ℕ) → x ≡ Ok m → IsTail bs m) → AreTails more → trailing x more ≡ Ok r → IsTail bs r
 one_more (Ok m) more bs r h k e = within bs m r (h m refl) (k m r e)
 one_more (Err fault) more bs r h k e = absurd cc
 
@@ -37,9 +37,9 @@ unfolding group_end
 grouped [] n bs r e = subst (IsTail bs) (ap rest_of e) (dropped n bs)
 grouped (o ∷ os) n [] r e = absurd cc
 grouped (o ∷ os) (suc n) (c ∷ cs) r e = longer c cs r (grouped (o ∷ os) n cs r e)
-grouped (o ∷ os) zero (c ∷ cs) r e = from (value_fault c cs (o ∷ os)) e (grouped (coming_behind c (o ∷ os)) (piece_len c cs) cs r)
+grouped (o ∷ os) zero (c ∷ cs) r e = from (value_fault c cs (o ∷ os)) e (grouped (coming_after c (o ∷ os)) (piece_len c cs) cs r)
   where
-    from : (x : Option TextRefusal) → unless x (from_quote c cs) (group_end (coming_behind c (o ∷ os)) (piece_len c cs) cs) ≡ Ok r → (group_end (coming_behind c (o ∷ os)) (piece_len c cs) cs ≡ Ok r → IsTail cs r) → IsTail (c ∷ cs) r
+    from : (x : Option TextRefusal) → unless x (from_quote c cs) (group_end (coming_after c (o ∷ os)) (piece_len c cs) cs) ≡ Ok r → (group_end (coming_after c (o ∷ os)) (piece_len c cs) cs ≡ Ok r → IsTail cs r) → IsTail (c ∷ cs) r
     from None k h = longer c cs r (h k)
     from (Some x) k h = absurd cc
 
@@ -127,9 +127,9 @@ type_tail bs r e = from (begins 40 bs) e
     from true k = function_tail bs r k
     from false k = plain_type_tail bs r k
 
--- ---- a type behind a colon
+-- ---- a type after a colon
 
-first_tail : (b : ℕ) (bs rest : List ℕ) → behind_first b bs ≡ Some rest → IsTail bs rest
+first_tail : (b : ℕ) (bs rest : List ℕ) → trailing_first b bs ≡ Some rest → IsTail bs rest
 first_tail b [] rest e = absurd cc
 first_tail b (c ∷ cs) rest e = from (c == b) e
   where
@@ -141,20 +141,20 @@ first_tail b (c ∷ cs) rest e = from (c == b) e
     from true k = subst (IsTail (c ∷ cs)) (ap in' k) (longer c cs cs (same cs))
     from false k = absurd cc
 
-colon_tail : (bs rest : List ℕ) → behind_first 58 (skip bs) ≡ Some rest → IsTail bs rest
+colon_tail : (bs rest : List ℕ) → trailing_first 58 (skip bs) ≡ Some rest → IsTail bs rest
 colon_tail bs rest e = within bs (skip bs) rest (skipped bs) (first_tail 58 (skip bs) rest e)
 
-or_tail : (other : Ends) (bs r : List ℕ) (o : Option (List ℕ)) → behind_first 58 (skip bs) ≡ o → (other ≡ Ok r → IsTail bs r) → type_or other o ≡ Ok r → IsTail bs r
+or_tail : (other : Ends) (bs r : List ℕ) (o : Option (List ℕ)) → trailing_first 58 (skip bs) ≡ o → (other ≡ Ok r → IsTail bs r) → type_or other o ≡ Ok r → IsTail bs r
 or_tail other bs r None n h e = h e
 or_tail other bs r (Some rest) n h e = within bs rest r (colon_tail bs rest n) (skipped_to type_end type_tail rest r e)
 
 typed_tail : AreTails typed_end
 unfolding typed_end
-typed_tail bs r e = or_tail (Ok bs) bs r (behind_first 58 (skip bs)) refl (λ k. here bs r k) e
+typed_tail bs r e = or_tail (Ok bs) bs r (trailing_first 58 (skip bs)) refl (λ k. here bs r k) e
 
 needed_tail : AreTails needed_end
 unfolding needed_end
-needed_tail bs r e = or_tail (refused_at Unexpected (skip bs)) bs r (behind_first 58 (skip bs)) refl (λ k. absurd cc) e
+needed_tail bs r e = or_tail (refused_at Unexpected (skip bs)) bs r (trailing_first 58 (skip bs)) refl (λ k. absurd cc) e
 
 -- ---- attributes
 
@@ -178,7 +178,7 @@ number_tail bs r e = by_token number_from numbers_follow bs (next bs) refl r e
 hash_tail : (all name rest r : List ℕ) → hash_end all name rest ≡ Ok r → IsTail rest r
 hash_tail all name rest r e = from (begins 60 rest || has_dot name) e
   where
-    from : (t : Bool) → cond t (behind (name_end all name rest) typed_end) (name_end all name rest) ≡ Ok r → IsTail rest r
+    from : (t : Bool) → cond t (trailing (name_end all name rest) typed_end) (name_end all name rest) ≡ Ok r → IsTail rest r
     from true k = one_more (name_end all name rest) typed_end rest r (λ m k. name_tail all name rest m k) typed_tail k
     from false k = name_tail all name rest r k
 
@@ -218,7 +218,7 @@ symbol_tail : AreTails symbol_end
 unfolding symbol_end
 symbol_tail bs r e = by_token symbol_from symbols_follow bs (next bs) refl r e
 
-colons_tail : (bs rest : List ℕ) → behind_colons bs ≡ Some rest → IsTail bs rest
+colons_tail : (bs rest : List ℕ) → after_colons bs ≡ Some rest → IsTail bs rest
 colons_tail [] rest e = absurd cc
 colons_tail (c ∷ []) rest e = absurd cc
 colons_tail (c ∷ d ∷ cs) rest e = from (c == 58 && d == 58) e
@@ -231,16 +231,16 @@ colons_tail (c ∷ d ∷ cs) rest e = from (c == 58 && d == 58) e
     from true k = subst (IsTail (c ∷ d ∷ cs)) (ap in' k) (longer c (d ∷ cs) cs (longer d cs cs (same cs)))
     from false k = absurd cc
 
-further_tail : (more : List ℕ → Ends) → AreTails more → (bs r : List ℕ) (o : Option (List ℕ)) → behind_colons (skip bs) ≡ o → symbols_or (Ok bs) more o ≡ Ok r → IsTail bs r
-further_tail more h bs r None n e = here bs r e
-further_tail more h bs r (Some rest) n e =
+extra_tail : (more : List ℕ → Ends) → AreTails more → (bs r : List ℕ) (o : Option (List ℕ)) → after_colons (skip bs) ≡ o → symbols_or (Ok bs) more o ≡ Ok r → IsTail bs r
+extra_tail more h bs r None n e = here bs r e
+extra_tail more h bs r (Some rest) n e =
     within bs rest r (within bs (skip bs) rest (skipped bs) (colons_tail (skip bs) rest n))
     (one_more (symbol_end (skip rest)) more rest r (λ m k. skipped_to symbol_end symbol_tail rest m k) h e)
 
 symbols_tail : (room : ℕ) → AreTails (symbols_end room)
 unfolding symbols_end
 symbols_tail zero bs r e = here bs r e
-symbols_tail (suc room) bs r e = further_tail (symbols_end room) (symbols_tail room) bs r (behind_colons (skip bs)) refl e
+symbols_tail (suc room) bs r e = extra_tail (symbols_end room) (symbols_tail room) bs r (after_colons (skip bs)) refl e
 
 attrs_follow : FollowTokens attr_from
 attrs_follow all (integer s) rest r e = typed_tail rest r e

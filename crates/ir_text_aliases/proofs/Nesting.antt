@@ -1,4 +1,4 @@
--- The closing brackets to come in a value, in a list, the nearest last.
+-- The expected closing brackets in a value as a list, the nearest last.
 use Rattle.std.proofs.Common.{◌≡◌, ℕ, ◌+◌, ◌<◌, true, false, List, [], ◌∷◌, ◌++◌, length, take, drop, Option, Some, None, refl, sym, ap, ◌∙◌, arith}
 use Rattle.std.specs.Prelude.{◌==◌, reverse, option_map}
 use Rattle.std.proofs.lemmas.List.{length-reverse}
@@ -7,9 +7,9 @@ use Rattle.ir_text_tokens.specs.declared.refusal.TextRefusal.TheVariants.{TooDee
 use Rattle.ir_text_tokens.specs.Strings.{closing}
 use Rattle.ir_text_tokens.specs.Tokens.{Lexeme, string, next}
 use Rattle.ir_text_tokens.proofs.Decimals.{eqb_self}
-use Rattle.ir_text_bodies.specs.Bodies.{closer_of, closes_nearest, is_closed, opened}
-use Rattle.ir_text_bodies.proofs.Walk.{pushed, popped}
-use Rattle.ir_text_aliases.specs.Values.{bracket_fault, coming_behind, is_first, open_fault}
+use Rattle.ir_text_tokens.specs.Bodies.{closer_of, closes_nearest, is_closed, opened}
+use Rattle.ir_text_tokens.proofs.Walk.{pushed, popped}
+use Rattle.ir_text_aliases.specs.Values.{bracket_fault, coming_after, is_first, open_fault}
 use Rattle.ir_text_tokens.proofs.Facts.{string_token}
 
 -- ---- strings
@@ -48,7 +48,7 @@ one_more c d items new e h room p = (rw (e, h, length-reverse items, room) refl,
 -- ---- a bracket that closes or opens
 
 abbrev Nested : ℕ → List ℕ → List ℕ → Type 0
-Nested c items new = (bracket_fault c (reverse items) ≡ None) × (reverse new ≡ coming_behind c (reverse items))
+Nested c items new = (bracket_fault c (reverse items) ≡ None) × (reverse new ≡ coming_after c (reverse items))
 
 pub closes : (c o : ℕ) (items new : List ℕ) → items ≡ new ++ o ∷ [] → c ≡ o → Nested c items new
 closes c o items new p e =

@@ -1,4 +1,4 @@
--- What a piece is, and how long.
+-- Lexemes and their lengths.
 use Rattle.std.proofs.Common.{◌≡◌, ℕ, zero, suc, ◌+◌, ◌-◌, ◌≤◌, Bool, true, false, cond, List, [], ◌∷◌, length, take, drop, Option, Some, None, refl, sym, ap, ◌∙◌, arith}
 use Rattle.std.specs.Prelude.{◌==◌, ◌&&◌, not, option_map}
 use Rattle.std.proofs.lemmas.List.{length-drop}
@@ -8,16 +8,16 @@ use Rattle.std.proofs.Math.Seq.{drop-length}
 use Rattle.ir_text_tokens.specs.Strings.{closing}
 use Rattle.ir_text_tokens.specs.Tokens.{Lexeme, string, next, suffix_len}
 use Rattle.ir_text_tokens.specs.Bytes.{is_letter, is_word}
-use Rattle.ir_text_bodies.specs.Bodies.{are_slashes, begins, is_arrow, is_sign}
-use Rattle.ir_text_bodies.specs.Bodies as bodies
-use Rattle.ir_text_bodies.proofs.Kept.{string_within, name_within, some_behind}
+use Rattle.ir_text_tokens.specs.Bodies.{are_slashes, begins, is_arrow, is_sign}
+use Rattle.ir_text_tokens.specs.Bodies as bodies
+use Rattle.ir_text_tokens.proofs.KeptBodies.{string_within, name_within, some_after}
 use Rattle.ir_text_aliases.specs.Pieces.{ends_in_arrow, is_name_sign, is_quoted, line_len, named_len, own_len, piece_len, quoted_len, string_len, word_len}
 use Rattle.ir_text_tokens.proofs.Facts.{string_token}
 
 -- ---- strings
 
-pub behind_string : (cs rest : List ℕ) (t : Lexeme) → next (34 ∷ cs) ≡ Some (t, rest) → rest ≡ drop (quoted_len cs) cs
-behind_string cs rest t e = from (closing cs) (sym (string_token cs) ∙ e)
+pub after_string : (cs rest : List ℕ) (t : Lexeme) → next (34 ∷ cs) ≡ Some (t, rest) → rest ≡ drop (quoted_len cs) cs
+after_string cs rest t e = from (closing cs) (sym (string_token cs) ∙ e)
   where
     from : (o : Option ℕ) → option_map {U = Lexeme × List ℕ} (λ (x : List ℕ × List ℕ). (string x.0, x.1)) (option_map {U = List ℕ × List ℕ} (λ n. (take n cs, drop (n + 1) cs)) o) ≡ Some (t, rest)
         → rest ≡ drop (string_len o cs) cs
@@ -81,10 +81,10 @@ piece_within c cs = from (c == 34) (is_quoted c cs) refl (are_slashes c cs) (is_
     from false false k true u l v e = prefix_len-le-length (λ b. not (b == 10)) cs
     from false false k false true l v e = named_within c cs
     from false false k false false true v e = prefix_len-le-length is_word cs
-    from false false k false false false true e = some_behind c cs e
+    from false false k false false false true e = some_after c cs e
     from false false k false false false false e = omega arith
 
--- the front that was passed over
+-- the prefix that was read
 pub front_is : (c n : ℕ) (all tail rest : List ℕ) → all ≡ c ∷ tail → n ≤ length tail → rest ≡ drop n tail → take (length all - length rest) all ≡ c ∷ take n tail
 front_is c n all tail rest a le r =
     let k : length all - length rest ≡ suc n = omega (arith, ap length a, ap length r, length-drop n tail) in

@@ -1,4 +1,4 @@
--- What a step comes to.
+-- The result of a step.
 use Rattle.std.proofs.Common.{◌≡◌, ℕ, ◌+◌, ◌-◌, List, [], ◌∷◌, ◌++◌, length, take, drop, Some, None, refl, sym, ap, ◌∙◌}
 use Rattle.std.specs.Prelude.{option_map, Ok}
 use Rattle.std.specs.Result.{result_err}
@@ -6,14 +6,14 @@ use Rattle.std.proofs.lemmas.List.{append-nil, length-append}
 use Rattle.ir_text_tokens.specs.declared.refusal.TextRefusal.{TextRefusal}
 use Rattle.ir_text_tokens.specs.declared.fault.Fault.{Fault}
 use Rattle.ir_text_tokens.specs.Tokens.{suffix_len}
-use Rattle.ir_text_bodies.proofs.Kept.{name_within}
-use Rattle.ir_text_aliases.specs.declared.front.Bracket.{Bracket}
-use Rattle.ir_text_aliases.specs.declared.front.Front.{Front}
+use Rattle.ir_text_tokens.proofs.KeptBodies.{name_within}
+use Rattle.ir_text_aliases.specs.declared.scan_state.Bracket.{Bracket}
+use Rattle.ir_text_aliases.specs.declared.scan_state.ScanState.{ScanState}
 use Rattle.ir_text_aliases.specs.declared.mark.Mark.{Mark}
-use Rattle.ir_text_aliases.specs.declared.part.Part.{Part}
-use Rattle.ir_text_aliases.specs.Fronts.{behind_alias, behind_place, next_front, outer_behind}
+use Rattle.ir_text_aliases.specs.declared.part.TextPart.{TextPart}
+use Rattle.ir_text_aliases.specs.Fronts.{trailing_alias, after_place, next_front, outer_after}
 use Rattle.ir_text_aliases.specs.Pieces.{name_of, piece_len}
-use Rattle.ir_text_aliases.specs.Places.{behind_loc, located, place_len}
+use Rattle.ir_text_aliases.specs.Places.{trailing_loc, located, place_len}
 use Rattle.ir_text_aliases.specs.Uses.{Aliases, spelling, use_fault, value_of}
 use Rattle.ir_text_aliases.specs.Walk.{alias_move, fault_at, piece_move, place_move}
 use Rattle.ir_text_aliases.specs.Steps.{Moved}
@@ -25,11 +25,11 @@ name_is c all tail rest a r = front_is c (suffix_len tail) all tail rest a (name
 
 -- ---- a location
 
-pub place_moved : (f front : Front) (outer : List Bracket) (c : ℕ) (all tail rest behind out : List ℕ) (marks more : List Mark) (len : ℕ) → all ≡ c ∷ tail → Ok rest ≡ located behind → behind ≡ behind_loc tail
-    → more ≡ marks ++ record { front = len; past = len; left = length all } ∷ [] → len ≡ length out → front ≡ behind_place f
+pub place_moved : (f front : ScanState) (outer : List Bracket) (c : ℕ) (all tail rest trailing out : List ℕ) (marks more : List Mark) (len : ℕ) → all ≡ c ∷ tail → Ok rest ≡ located trailing → trailing ≡ trailing_loc tail
+    → more ≡ marks ++ record { front = len; past = len; left = length all } ∷ [] → len ≡ length out → front ≡ after_place f
     → Moved (place_move f outer (length out) c tail) front outer tail rest out out marks more
-place_moved f front outer c all tail rest behind out marks more len a e b m is_len g =
-    let k : located (behind_loc tail) ≡ Ok rest = ap located (sym b) ∙ sym e in (
+place_moved f front outer c all tail rest trailing out marks more len a e b m is_len g =
+    let k : located (trailing_loc tail) ≡ Ok rest = ap located (sym b) ∙ sym e in (
       ap result_err k,
       g,
       refl,
@@ -40,7 +40,7 @@ place_moved f front outer c all tail rest behind out marks more len a e b m is_l
 
 -- ---- an alias
 
-pub alias_stuck : (p : Part) (values : List ℕ) (env : Aliases) (f : Front) (c : ℕ) (all tail rest out : List ℕ) (before : ℕ) (x : TextRefusal) (fault : Fault) → all ≡ c ∷ tail → rest ≡ drop (suffix_len tail) tail
+pub alias_stuck : (p : TextPart) (values : List ℕ) (env : Aliases) (f : ScanState) (c : ℕ) (all tail rest out : List ℕ) (before : ℕ) (x : TextRefusal) (fault : Fault) → all ≡ c ∷ tail → rest ≡ drop (suffix_len tail) tail
     → use_fault f (value_of values env f (take (length all - length rest) all)) (p.before + before) ≡ Some x → before ≡ length out → fault.refusal ≡ x → fault.left ≡ length all
     → option_map (fault_at (c ∷ tail)) (use_fault f (value_of values env f (name_of c tail)) (p.before + length out)) ≡ Some fault
 alias_stuck p values env f c all tail rest out before x fault a r k is_len h l =
@@ -48,9 +48,9 @@ alias_stuck p values env f c all tail rest out before x fault a r k is_len h l =
     ∙ ap (option_map (fault_at (c ∷ tail))) k
     ∙ (λ i. Some (record { refusal = sym h i; left = (ap length (sym a) ∙ sym l) i }))
 
-pub alias_moved : (p : Part) (values : List ℕ) (env : Aliases) (f front : Front) (outer : List Bracket) (c : ℕ) (all tail rest out new v : List ℕ) (marks more : List Mark) (before past : ℕ) → all ≡ c ∷ tail → rest ≡ drop (suffix_len tail) tail
+pub alias_moved : (p : TextPart) (values : List ℕ) (env : Aliases) (f front : ScanState) (outer : List Bracket) (c : ℕ) (all tail rest out new v : List ℕ) (marks more : List Mark) (before past : ℕ) → all ≡ c ∷ tail → rest ≡ drop (suffix_len tail) tail
     → value_of values env f (take (length all - length rest) all) ≡ Some v → use_fault f (Some v) (p.before + before) ≡ None → new ≡ out ++ spelling f (Some v)
-    → more ≡ marks ++ record { front = before; past = past; left = length all } ∷ [] → before ≡ length out → past ≡ length new → front ≡ behind_alias f
+    → more ≡ marks ++ record { front = before; past = past; left = length all } ∷ [] → before ≡ length out → past ≡ length new → front ≡ trailing_alias f
     → Moved (alias_move p (value_of values env f (name_of c tail)) f outer (length out) c tail) front outer tail rest out new marks more
 alias_moved p values env f front outer c all tail rest out new v marks more before past a r e n w m is_before is_past g =
     let value : value_of values env f (name_of c tail) ≡ Some v = ap (value_of values env f) (sym (name_is c all tail rest a r)) ∙ e in
@@ -63,10 +63,10 @@ alias_moved p values env f front outer c all tail rest out new v marks more befo
       m ∙ (λ i. marks ++ record { front = is_before i; past = len i; left = ap length a i } ∷ []) ∙ ap (λ x. marks ++ record { front = length out; past = length out + length (spelling f x); left = length (c ∷ tail) } ∷ []) (sym value),
     )
 
--- ---- anything else
+-- ---- any other lexeme
 
-pub piece_moved : (f front : Front) (outer after : List Bracket) (c : ℕ) (all tail rest out new : List ℕ) (marks : List Mark) → all ≡ c ∷ tail → rest ≡ drop (piece_len c tail) tail → new ≡ out ++ take (length all - length rest) all
-    → front ≡ next_front f outer c tail → after ≡ outer_behind f outer c
+pub piece_moved : (f front : ScanState) (outer after : List Bracket) (c : ℕ) (all tail rest out new : List ℕ) (marks : List Mark) → all ≡ c ∷ tail → rest ≡ drop (piece_len c tail) tail → new ≡ out ++ take (length all - length rest) all
+    → front ≡ next_front f outer c tail → after ≡ outer_after f outer c
     → Moved (piece_move f outer c tail) front after tail rest out new marks marks
 piece_moved f front outer after c all tail rest out new marks a r w g o =
     (refl, g, o, r, w ∙ ap (λ l. out ++ l) (front_is c (piece_len c tail) all tail rest a (piece_within c tail) r), sym (append-nil marks))

@@ -1,4 +1,4 @@
--- What follows a part of a text is the end of the text.
+-- The rest of the text after a part is a suffix of the text.
 use Rattle.std.proofs.Common.{◌≡◌, ℕ, zero, suc, ◌-◌, ◌≤◌, Bool, true, false, cond, List, [], ◌∷◌, ◌++◌, length, take, drop, Option, Some, None, refl, sym, ap, ◌∙◌, subst, append_assoc, arith}
 use Rattle.std.specs.Prelude.{◌==◌, Result, Ok, Err}
 use Rattle.std.proofs.lemmas.List.{length-append, take-append-drop}
@@ -8,11 +8,11 @@ use Rattle.ir_text_tokens.specs.declared.refusal.TextRefusal.TheVariants.{Unexpe
 use Rattle.ir_text_tokens.specs.declared.fault.Fault.{Fault}
 use Rattle.ir_text_tokens.specs.Bytes.{is_blank}
 use Rattle.ir_text_tokens.specs.Tokens.{is_comment, skip, skip_line}
-use Rattle.ir_text_bodies.specs.Bodies.{refused_at}
+use Rattle.ir_text_tokens.specs.Bodies.{refused_at}
 use Rattle.ir_text_aliases.specs.Pieces.{piece_len, word_len}
-use Rattle.ir_text_aliases.specs.Places.{behind_loc, located, place_end, place_fault}
+use Rattle.ir_text_aliases.specs.Places.{trailing_loc, located, place_end, place_fault}
 use Rattle.ir_text_aliases.specs.Places as places
-use Rattle.ir_text_aliases.specs.Values.{coming_behind}
+use Rattle.ir_text_aliases.specs.Values.{coming_after}
 
 abbrev pub IsTail : List ℕ → List ℕ → Type 0
 IsTail bs r = (w : List ℕ) × (bs ≡ w ++ r)
@@ -68,9 +68,9 @@ unfolding place_end
 placed [] n bs r e = subst (IsTail bs) (ap rest_of e) (dropped n bs)
 placed (o ∷ os) n [] r e = absurd cc
 placed (o ∷ os) (suc n) (c ∷ cs) r e = longer c cs r (placed (o ∷ os) n cs r e)
-placed (o ∷ os) zero (c ∷ cs) r e = from (place_fault c cs (o ∷ os)) e (placed (coming_behind c (o ∷ os)) (piece_len c cs) cs r)
+placed (o ∷ os) zero (c ∷ cs) r e = from (place_fault c cs (o ∷ os)) e (placed (coming_after c (o ∷ os)) (piece_len c cs) cs r)
   where
-    from : (x : Option TextRefusal) → places.unless x (c ∷ cs) (place_end (coming_behind c (o ∷ os)) (piece_len c cs) cs) ≡ Ok r → (place_end (coming_behind c (o ∷ os)) (piece_len c cs) cs ≡ Ok r → IsTail cs r) → IsTail (c ∷ cs) r
+    from : (x : Option TextRefusal) → places.unless x (c ∷ cs) (place_end (coming_after c (o ∷ os)) (piece_len c cs) cs) ≡ Ok r → (place_end (coming_after c (o ∷ os)) (piece_len c cs) cs ≡ Ok r → IsTail cs r) → IsTail (c ∷ cs) r
     from None k h = longer c cs r (h k)
     from (Some x) k h = absurd cc
 
@@ -82,8 +82,8 @@ located_tail (c ∷ cs) r e = from (c == 40) e
     from true k = longer c cs r (placed (41 ∷ []) 0 cs r k)
     from false k = absurd cc
 
-pub behind_tail : (bs : List ℕ) → IsTail bs (behind_loc bs)
-behind_tail bs = within bs (drop (word_len bs) bs) (behind_loc bs) (dropped (word_len bs) bs) (skipped (drop (word_len bs) bs))
+pub after_tail : (bs : List ℕ) → IsTail bs (trailing_loc bs)
+after_tail bs = within bs (drop (word_len bs) bs) (trailing_loc bs) (dropped (word_len bs) bs) (skipped (drop (word_len bs) bs))
 
-pub place_tail : (cs r : List ℕ) → located (behind_loc cs) ≡ Ok r → IsTail cs r
-place_tail cs r e = within cs (behind_loc cs) r (behind_tail cs) (located_tail (behind_loc cs) r e)
+pub place_tail : (cs r : List ℕ) → located (trailing_loc cs) ≡ Ok r → IsTail cs r
+place_tail cs r e = within cs (trailing_loc cs) r (after_tail cs) (located_tail (trailing_loc cs) r e)

@@ -1,29 +1,29 @@
--- A text piece by piece, as an alias or a location can stand in it. MLIR Language Reference, "Common
--- syntax" and "Identifiers and keywords".
+-- The lexemes of a text, by which aliases and locations are found. MLIR Language Reference, "Common syntax" and
+-- "Identifiers and keywords".
 use Rattle.std.specs.Prelude.{ℕ, suc, ◌-◌, Bool, false, not, ◌&&◌, ◌||◌, ◌==◌, if◌then◌else◌, List, [], ◌∷◌, length, take, drop, get_or, Option, Some, None}
 use Rattle.std.specs.List.{prefix_len}
 use Rattle.ir_text_tokens.specs.Bytes.{is_blank, is_letter, is_word}
 use Rattle.ir_text_tokens.specs.Strings.{closing}
 use Rattle.ir_text_tokens.specs.Tokens.{suffix_len}
-use Rattle.ir_text_bodies.specs.Bodies.{are_slashes, begins, is_arrow, is_closed, is_sign}
+use Rattle.ir_text_tokens.specs.Bodies.{are_slashes, begins, is_arrow, is_closed, is_sign}
 
--- the bytes up to the end of a line
+-- the number of bytes up to the end of the line
 abbrev pub line_len : List ℕ → ℕ
 line_len bytes = prefix_len (λ c. not (c == 10)) bytes
 
--- the further bytes of a word
+-- the number of word bytes, which continue a word
 abbrev pub word_len : List ℕ → ℕ
 word_len bytes = prefix_len is_word bytes
 
--- `#`, `!`, `%`, `^` or `@`, behind which a name may stand
+-- `#`, `!`, `%`, `^` or `@`, the sigil of a name
 abbrev pub is_name_sign : ℕ → Bool
 is_name_sign c = is_sign c || (c == 37 || (c == 94 || c == 64))
 
--- a symbol in quotes
+-- a quoted symbol
 abbrev pub is_quoted : ℕ → List ℕ → Bool
 is_quoted c cs = c == 64 && begins 34 cs
 
--- a string with its quote, or all where nothing ends it
+-- the length of a string with its closing quote, or of the whole text if the string isn't closed
 abbrev pub string_len : Option ℕ → List ℕ → ℕ
 string_len None bytes = length bytes
 string_len (Some n) bytes = suc n
@@ -31,20 +31,20 @@ string_len (Some n) bytes = suc n
 abbrev pub quoted_len : List ℕ → ℕ
 quoted_len bytes = string_len (closing bytes) bytes
 
--- an arrow begins with the last byte of a name of so many bytes
+-- the last of n bytes of a name begins an arrow
 abbrev pub ends_in_arrow : List ℕ → ℕ → Bool
 ends_in_arrow bytes n = not (n == 0) && is_arrow (get_or bytes (n - 1) 0) (drop n bytes)
 
--- the bytes of a name behind `%`, `^` or `@`: an arrow is no part of it, as it is none of what stands in a body
+-- the length of a name after `%`, `^` or `@`; an arrow is no part of the name, and no part of a body either
 abbrev pub own_len : List ℕ → ℕ
 own_len bytes = if ends_in_arrow bytes (suffix_len bytes) then suffix_len bytes - 1 else suffix_len bytes
 
--- the bytes of a name behind its sign
+-- the length of a name after its sigil
 abbrev pub named_len : ℕ → List ℕ → ℕ
 named_len c cs = if is_sign c then suffix_len cs else own_len cs
 
--- how many further bytes belong to what begins with the byte: those of a string, of a symbol in quotes, of
--- a comment, of a name behind its sign, of a word, and of an arrow
+-- how many more bytes belong to the lexeme that begins with the byte: those of a string, a quoted symbol, a comment,
+-- a name after its sigil, a word, or an arrow
 abbrev pub piece_len : ℕ → List ℕ → ℕ
 piece_len c cs =
     if c == 34 then quoted_len cs
@@ -55,7 +55,7 @@ piece_len c cs =
     else if is_arrow c cs then 1
     else 0
 
--- what begins with the byte
+-- the lexeme that begins with the byte
 abbrev pub piece_of : ℕ → List ℕ → List ℕ
 piece_of c cs = c ∷ take (piece_len c cs) cs
 
@@ -63,7 +63,7 @@ piece_of c cs = c ∷ take (piece_len c cs) cs
 abbrev pub is_gap : ℕ → List ℕ → Bool
 is_gap c cs = is_blank c || are_slashes c cs
 
--- a string, or a symbol in quotes, that nothing ends; and what begins with its quote
+-- a string or a quoted symbol that isn't closed
 abbrev pub is_open_string : ℕ → List ℕ → Bool
 is_open_string c cs = (c == 34 && not (is_closed (closing cs))) || (is_quoted c cs && not (is_closed (closing (drop 1 cs))))
 
@@ -80,6 +80,6 @@ is_oc (a ∷ b ∷ c ∷ cs) = false
 abbrev pub is_loc : ℕ → List ℕ → Bool
 is_loc c cs = c == 108 && is_oc (take (word_len cs) cs)
 
--- an alias with its sign
+-- an alias with its sigil
 abbrev pub name_of : ℕ → List ℕ → List ℕ
 name_of c cs = c ∷ take (suffix_len cs) cs

@@ -1,17 +1,16 @@
--- What an alias is spelled by.
+-- The text that replaces an alias.
 use Rattle.std.specs.Prelude.{ℕ, suc, ◌+◌, ◌-◌, Bool, true, false, not, ◌&&◌, ◌==◌, nat_lt, if◌then◌else◌, List, [], ◌∷◌, ◌++◌, length, take, drop, reverse, Option, Some, None, option_map}
 use Rattle.std.specs.List.{prefix_len}
 use Rattle.ir_text_tokens.specs.declared.refusal.TextRefusal.{TextRefusal}
 use Rattle.ir_text_tokens.specs.declared.refusal.TextRefusal.TheVariants.{UnknownValue, Unexpected, TooMany}
 use Rattle.ir_text_tokens.specs.Limits.{most_bytes}
 use Rattle.ir_text_tokens.specs.Scopes.{Binding, find}
-use Rattle.ir_text_bodies.specs.Bodies.{begins}
-use Rattle.ir_text_aliases.specs.declared.front.Front.{Front}
+use Rattle.ir_text_tokens.specs.Bodies.{begins}
+use Rattle.ir_text_aliases.specs.declared.scan_state.ScanState.{ScanState}
 use Rattle.ir_text_aliases.specs.Pieces.{is_loc}
 use Rattle.ir_text_aliases.specs.Fronts.{is_minus, is_place}
 
--- the aliases that are known, each with where its value begins and ends among all values, which stand
--- one behind the other
+-- the known aliases, each with the start and the end of its value in the concatenation of all values
 abbrev pub Aliases : Type 0
 Aliases = List (Binding (ℕ × ℕ))
 
@@ -20,20 +19,20 @@ value_at values r = take (r.1 - r.0) (drop r.0 values)
 
 -- ---- within a location
 
--- the word `loc` begins it
+-- the value begins with the word `loc`
 abbrev pub begins_loc : List ℕ → Bool
 begins_loc [] = false
 begins_loc (c ∷ cs) = is_loc c cs
 
--- a location: `)` ends it
+-- a location: the value ends with `)`
 abbrev pub is_location : List ℕ → Bool
 is_location v = begins_loc v && begins 41 (reverse v)
 
--- how many bytes stand in front of the first bracket
+-- the number of bytes before the first opening bracket
 abbrev pub bracket_len : List ℕ → ℕ
 bracket_len v = prefix_len (λ c. not (c == 40)) v
 
--- what stands between the first bracket and the last
+-- the text between the first opening bracket and the last closing bracket
 abbrev pub inside : List ℕ → List ℕ
 inside v = take (length v - suc (suc (bracket_len v))) (drop (suc (bracket_len v)) v)
 
@@ -41,24 +40,24 @@ abbrev pub bared : Bool → List ℕ → List ℕ
 bared true v = if is_location v then inside v else v
 bared false v = v
 
--- ---- the value in its place
+-- ---- the value in place of the alias
 
--- the value of an alias, without its `loc( )` where it is a location within another
-abbrev pub value_of : List ℕ → Aliases → Front → List ℕ → Option (List ℕ)
+-- the value of an alias, without its `loc( )` if it is a location inside another one
+abbrev pub value_of : List ℕ → Aliases → ScanState → List ℕ → Option (List ℕ)
 value_of values env f name = option_map (λ r. bared (is_place f.around.holds) (value_at values r)) (find name env)
 
--- a blank, where the value could be a part of what stands in front
+-- a blank, unless the value can't be read as a part of the token before it
 abbrev pub gap_of : Bool → List ℕ
 gap_of true = []
 gap_of false = 32 ∷ []
 
-abbrev pub spelling : Front → Option (List ℕ) → List ℕ
+abbrev pub spelling : ScanState → Option (List ℕ) → List ℕ
 spelling f None = []
 spelling f (Some v) = gap_of f.apart ++ v
 
--- why an alias may not stand there, behind so many bytes: it is not known, or stands behind a minus, or
--- more bytes would be put there than a text may have
-abbrev pub use_fault : Front → Option (List ℕ) → ℕ → Option TextRefusal
+-- why an alias can't be replaced after `len` bytes of output: the alias is unknown, or follows a minus sign, or its
+-- value makes the text too long
+abbrev pub use_fault : ScanState → Option (List ℕ) → ℕ → Option TextRefusal
 use_fault f None len = Some UnknownValue
 use_fault f (Some v) len =
     if is_minus f.last then Some Unexpected

@@ -1,21 +1,21 @@
--- The words that begin an attribute or a type. MLIR Language Reference, "Type System" and "Attributes";
--- Builtin Dialect, "Types" and "Attributes".
+-- The words that begin an attribute or a type. MLIR Language Reference, "Type System" and "Attributes"; Builtin
+-- Dialect, "Types" and "Attributes".
 use Rattle.std.specs.Prelude.{ℕ, Bool, false, not, ◌&&◌, ◌||◌, ◌==◌, if◌then◌else◌, List, [], ◌∷◌, codes}
 use Rattle.std.specs.List.{list_all}
 use Rattle.std.specs.Str.{bytes_eq}
 use Rattle.std.specs.Char.{is_ascii_digit}
-use Rattle.ir_text_bodies.specs.Bodies.{is_none}
+use Rattle.ir_text_tokens.specs.Bodies.{is_none}
 use Rattle.ir_text_types.specs.OpaqueTypes.{is_alone, is_one_of}
 
--- the words of attributes that nothing follows
+-- the words that are attributes by themselves
 abbrev pub lone_words : List (List ℕ)
 lone_words = codes "true" ∷ codes "false" ∷ codes "unit" ∷ []
 
--- the words of elements, which angle brackets and a type follow
+-- the words of elements, which continue with angle brackets and a type
 abbrev pub element_words : List (List ℕ)
 element_words = codes "dense" ∷ codes "sparse" ∷ codes "dense_resource" ∷ []
 
--- the words of attributes, and those of types, that angle brackets alone follow
+-- the words of attributes, and the words of types, that continue with angle brackets only
 abbrev pub listed_words : List (List ℕ)
 listed_words = codes "array" ∷ codes "affine_map" ∷ codes "affine_set" ∷ codes "strided" ∷ []
 
@@ -34,16 +34,16 @@ is_listed word = is_one_of listed_words word
 unfoldable pub is_shaped : List ℕ → Bool
 is_shaped word = is_one_of shaped_words word
 
--- `loc`, which round brackets follow, and `distinct`, which square brackets and angle brackets do
+-- `loc` continues with round brackets, and `distinct` with square and angle brackets
 unfoldable pub is_place_word : List ℕ → Bool
 is_place_word word = bytes_eq word (codes "loc")
 
 unfoldable pub is_distinct : List ℕ → Bool
 is_distinct word = bytes_eq word (codes "distinct")
 
--- ---- types that are one word
+-- ---- types of one word
 
--- digits, one at least
+-- one or more digits
 abbrev pub is_width : List ℕ → Bool
 is_width digits = not (is_none digits) && list_all is_ascii_digit digits
 
@@ -51,7 +51,7 @@ abbrev pub is_signed_width : List ℕ → Bool
 is_signed_width [] = false
 is_signed_width (d ∷ ds) = d == 105 && is_width ds
 
--- `iN`, `siN` or `uiN`, whatever the width
+-- `iN`, `siN` or `uiN` with any width
 abbrev pub is_integer_word : List ℕ → Bool
 is_integer_word [] = false
 is_integer_word (c ∷ ds) = if c == 105 then is_width ds else (c == 115 || c == 117) && is_signed_width ds

@@ -1,7 +1,7 @@
-//! Where a text goes on behind a spelling.
+//! Where the expanded text continues after a replacement.
 
-/// A spelling in a text: how many bytes stand in front of it and up to its end, and how many of the text
-/// that was given are left where the alias stands.
+/// A replacement in the expanded text: its start offset, its end offset, and the number of bytes of the original text
+/// left at the alias.
 #[derive(Clone, Copy)]
 pub struct Mark {
     pub front: usize,

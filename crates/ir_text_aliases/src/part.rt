@@ -1,9 +1,9 @@
 //! A part of a text.
 
-/// A part of a text that is put in place: how many bytes count with it that stand elsewhere, how many of
-/// the text are left where it ends, and whether aliases stand in it.
+/// A part of a text to expand. `before` is the number of bytes elsewhere that count towards the length limit, `left`
+/// the number of bytes of the text after the end of the part, and `reads` says whether the part may have aliases.
 #[derive(Clone, Copy)]
-pub struct Part {
+pub struct TextPart {
     pub before: usize,
     pub left: usize,
     pub reads: bool,

@@ -1,15 +1,15 @@
-//! Locations, which are taken away.
+//! Finds locations, which the expansion removes.
 ghost use Rattle.std.specs.Prelude.{◌≡◌, ◌≤◌, ◌<◌, [], ◌∷◌, None, Some, Err, length, drop, reverse, IfOk, IfErr};
 ghost use Rattle.std.specs.Result.{result_err, result_map_both};
 ghost use Rattle.arrayvec.specs.ArrayVec.{array_vec_len};
 ghost use Rattle.ir_text_aliases.specs.Fronts.{is_arguments, is_ending};
 ghost use Rattle.ir_text_aliases.specs.Pieces.{piece_len};
-ghost use Rattle.ir_text_aliases.specs.Places.{behind_loc, byte_fault, goes, located, place_end, place_fault};
-ghost use Rattle.ir_text_aliases.specs.Values.{coming_behind};
+ghost use Rattle.ir_text_aliases.specs.Places.{trailing_loc, byte_fault, goes, located, place_end, place_fault};
+ghost use Rattle.ir_text_aliases.specs.Values.{coming_after};
 
-use crate::front::{Front, Holds, Last};
+use crate::lexemes::{are_slashes, is_loc, word_len};
 use crate::nests::{is_operations, is_typed};
-use crate::pieces::{are_slashes, is_loc, word_len};
+use crate::scan_state::{BracketContents, LastToken, ScanState};
 use crate::values::value_piece;
 use arrayvec::ArrayVec;
 use ir_text_tokens::fault::Fault;
@@ -29,7 +29,7 @@ fn check_byte(byte: u8, tail: &[u8]) -> Result<(), TextRefusal>
     }
 }
 
-/// What follows the piece of a location that begins with the byte.
+/// Returns the rest of the text after the lexeme of a location that begins with `byte`.
 fn place_piece<'a>(
     coming: &mut ArrayVec<u8, 32>,
     byte: u8,
@@ -38,7 +38,7 @@ fn place_piece<'a>(
 ) -> Result<&'a [u8], TextRefusal>
     requires all { all.now ≡ byte ∷ tail.now }
     requires room { array_vec_len coming.old ≤ 32 }
-    ensures ok { IfOk result (λ r. (place_fault byte tail.now (reverse coming.old.items) ≡ None) × (reverse coming.new.items ≡ coming_behind byte (reverse coming.old.items)) × (r.now ≡ drop (piece_len byte tail.now) tail.now)) }
+    ensures ok { IfOk result (λ r. (place_fault byte tail.now (reverse coming.old.items) ≡ None) × (reverse coming.new.items ≡ coming_after byte (reverse coming.old.items)) × (r.now ≡ drop (piece_len byte tail.now) tail.now)) }
     ensures err { IfErr result (λ x. place_fault byte tail.now (reverse coming.old.items) ≡ Some x) }
     ensures room { array_vec_len coming.new ≤ 32 }
 {
@@ -48,7 +48,7 @@ fn place_piece<'a>(
     }
 }
 
-/// What follows the piece of a location that begins with the byte, or the fault there.
+/// Returns the rest of the text after the lexeme of a location that begins with `byte`, or the fault at the lexeme.
 fn place_step<'a>(
     coming: &mut ArrayVec<u8, 32>,
     byte: u8,
@@ -69,7 +69,7 @@ fn place_step<'a>(
     }
 }
 
-/// What follows a location, behind the bracket that opens it.
+/// Returns the rest of the text after a location, given the text after its opening bracket.
 fn place_end(bytes: &[u8]) -> Result<&[u8], Fault>
     ensures { result_map_both (λ r. r.now) (λ f. f) result ≡ place_end (41 ∷ []) 0 bytes.now }
 {
@@ -84,13 +84,13 @@ fn place_end(bytes: &[u8]) -> Result<&[u8], Fault>
             return Err(Fault::at(TextRefusal::Unexpected, rest));
         };
         match place_step(&mut coming, *byte, rest, tail) {
-            Ok(behind) => rest = behind,
+            Ok(trailing) => rest = trailing,
             Err(fault) => return Err(fault),
         }
     }
 }
 
-/// What follows a location from its bracket on.
+/// Returns the rest of the text after a location, given the text from its opening bracket on.
 pub fn located(bytes: &[u8]) -> Result<&[u8], Fault>
     ensures { result_map_both (λ r. r.now) (λ f. f) result ≡ located bytes.now }
 {
@@ -100,30 +100,30 @@ pub fn located(bytes: &[u8]) -> Result<&[u8], Fault>
     }
 }
 
-/// What follows the word `loc` and the blanks behind it, behind the first byte of the word.
-pub fn behind_loc(tail: &[u8]) -> &[u8]
-    ensures { result.now ≡ behind_loc tail.now }
+/// Returns the rest of the text after the word `loc` and blanks. `tail` is the text after the first byte of the word.
+pub fn after_loc(tail: &[u8]) -> &[u8]
+    ensures { result.now ≡ trailing_loc tail.now }
 {
     skip(&tail[word_len(tail)..])
 }
 
-fn is_arguments(holds: Holds) -> bool
+fn is_arguments(holds: BracketContents) -> bool
     ensures { result ≡ is_arguments holds }
 {
-    matches!(holds, Holds::Arguments)
+    matches!(holds, BracketContents::Arguments)
 }
 
-fn is_ending(last: Last) -> bool
+fn is_ending(last: LastToken) -> bool
     ensures { result ≡ is_ending last }
 {
-    matches!(last, Last::Loc | Last::Label | Last::Ending)
+    matches!(last, LastToken::Loc | LastToken::Label | LastToken::Ending)
 }
 
-/// Whether a location begins with the byte that is taken away.
-pub(crate) fn goes(front: &Front, byte: u8, tail: &[u8]) -> bool
+/// Returns whether `byte` begins a location that the expansion removes.
+pub(crate) fn goes(front: &ScanState, byte: u8, tail: &[u8]) -> bool
     ensures { result ≡ goes front.now byte tail.now }
 {
-    if !is_loc(byte, tail) || !matches!(behind_loc(tail), [b'(', ..]) {
+    if !is_loc(byte, tail) || !matches!(after_loc(tail), [b'(', ..]) {
         return false;
     }
     let holds = front.around.holds;

@@ -1,13 +1,13 @@
-//! Where the attribute or the type ends that an alias stands for.
+//! Finds the end of the attribute or type that is the value of an alias.
 ghost use Rattle.std.specs.Prelude.{◌≡◌, option_map};
 ghost use Rattle.std.specs.Result.{result_map_both};
-ghost use Rattle.ir_text_aliases.specs.Terms.{arrow_end, attr_end, begins_digit, behind_colons, distinct_end, elements_end, function_end, hash_end, name_end, needed_end, number_end, plain_attr_end, plain_type_end, results_end, symbol_end, symbols_end, type_end, typed_end, value_end, word_end, word_type_end};
+ghost use Rattle.ir_text_aliases.specs.Terms.{arrow_end, attr_end, begins_digit, after_colons, distinct_end, elements_end, function_end, hash_end, name_end, needed_end, number_end, plain_attr_end, plain_type_end, results_end, symbol_end, symbols_end, type_end, typed_end, value_end, word_end, word_type_end};
 
 use crate::values::{enclosed, group_end};
 use crate::words::{
     is_distinct, is_element, is_listed, is_lone, is_place_word, is_scalar, is_shaped,
 };
-use ir_text_bodies::bodies::has_dot;
+use ir_text_tokens::bodies::has_dot;
 use ir_text_tokens::fault::Fault;
 use ir_text_tokens::lexer::{after_byte, skip, token};
 use ir_text_tokens::refusal::TextRefusal;
@@ -24,7 +24,7 @@ fn begins_digit(name: &[u8]) -> bool
     }
 }
 
-/// What follows a name behind its sign, with which all begins, and its angle brackets.
+/// Returns the rest of the text after a name and its angle brackets. `all` begins with the sigil of the name.
 fn name_end<'a>(all: &'a [u8], name: &'a [u8], rest: &'a [u8]) -> Result<&'a [u8], Fault>
     ensures { result_map_both (λ r. r.now) (λ f. f) result ≡ name_end all.now name.now rest.now }
 {
@@ -39,7 +39,7 @@ fn name_end<'a>(all: &'a [u8], name: &'a [u8], rest: &'a [u8]) -> Result<&'a [u8
 
 // ---- types
 
-/// What follows the type that a word begins, with which all begins.
+/// Returns the rest of the text after the type that `word` begins. `all` begins with the word.
 fn word_type_end<'a>(all: &'a [u8], word: &'a [u8], rest: &'a [u8]) -> Result<&'a [u8], Fault>
     ensures { result_map_both (λ r. r.now) (λ f. f) result ≡ word_type_end all.now word.now rest.now }
 {
@@ -52,7 +52,7 @@ fn word_type_end<'a>(all: &'a [u8], word: &'a [u8], rest: &'a [u8]) -> Result<&'
     Err(Fault::at(TextRefusal::Unexpected, all))
 }
 
-/// What follows a type that is no function type.
+/// Returns the rest of the text after a type that is no function type.
 #[tactic(auto, unfolding(crate::specs::Terms::plain_type_end))]
 fn plain_type_end(bytes: &[u8]) -> Result<&[u8], Fault>
     ensures { result_map_both (λ r. r.now) (λ f. f) result ≡ plain_type_end bytes.now }
@@ -67,7 +67,7 @@ fn plain_type_end(bytes: &[u8]) -> Result<&[u8], Fault>
     }
 }
 
-/// What follows the results of a function type.
+/// Returns the rest of the text after the results of a function type.
 fn results_end(bytes: &[u8]) -> Result<&[u8], Fault>
     ensures { result_map_both (λ r. r.now) (λ f. f) result ≡ results_end bytes.now }
 {
@@ -77,7 +77,7 @@ fn results_end(bytes: &[u8]) -> Result<&[u8], Fault>
     plain_type_end(bytes)
 }
 
-/// What follows the arrow of a function type and its results.
+/// Returns the rest of the text after the arrow and the results of a function type.
 fn arrow_end(bytes: &[u8]) -> Result<&[u8], Fault>
     ensures { result_map_both (λ r. r.now) (λ f. f) result ≡ arrow_end bytes.now }
 {
@@ -87,7 +87,7 @@ fn arrow_end(bytes: &[u8]) -> Result<&[u8], Fault>
     }
 }
 
-/// What follows a function type.
+/// Returns the rest of the text after a function type.
 #[tactic(auto, unfolding(crate::specs::Terms::function_end))]
 fn function_end(bytes: &[u8]) -> Result<&[u8], Fault>
     ensures { result_map_both (λ r. r.now) (λ f. f) result ≡ function_end bytes.now }
@@ -107,7 +107,7 @@ fn type_end(bytes: &[u8]) -> Result<&[u8], Fault>
     plain_type_end(bytes)
 }
 
-/// What follows a colon and a type, where a colon is next.
+/// Returns the rest of the text after an optional colon and type.
 #[tactic(auto, unfolding(crate::specs::Terms::typed_end))]
 fn typed_end(bytes: &[u8]) -> Result<&[u8], Fault>
     ensures { result_map_both (λ r. r.now) (λ f. f) result ≡ typed_end bytes.now }
@@ -118,7 +118,7 @@ fn typed_end(bytes: &[u8]) -> Result<&[u8], Fault>
     }
 }
 
-/// What follows a colon and a type, which have to be next.
+/// Returns the rest of the text after a required colon and type.
 #[tactic(auto, unfolding(crate::specs::Terms::needed_end))]
 fn needed_end(bytes: &[u8]) -> Result<&[u8], Fault>
     ensures { result_map_both (λ r. r.now) (λ f. f) result ≡ needed_end bytes.now }
@@ -131,7 +131,7 @@ fn needed_end(bytes: &[u8]) -> Result<&[u8], Fault>
 
 // ---- attributes
 
-/// What follows a number behind a minus, and its type.
+/// Returns the rest of the text after a number and its type, given the text after a minus sign.
 #[tactic(auto, unfolding(crate::specs::Terms::number_end))]
 fn number_end(bytes: &[u8]) -> Result<&[u8], Fault>
     ensures { result_map_both (λ r. r.now) (λ f. f) result ≡ number_end bytes.now }
@@ -146,7 +146,8 @@ fn number_end(bytes: &[u8]) -> Result<&[u8], Fault>
     }
 }
 
-/// What follows an alias, or the attribute of a dialect and its type; all begins with the sign of the name.
+/// Returns the rest of the text after an alias, or after a dialect's attribute and its type. `all` begins with the
+/// sigil.
 fn hash_end<'a>(all: &'a [u8], name: &'a [u8], rest: &'a [u8]) -> Result<&'a [u8], Fault>
     ensures { result_map_both (λ r. r.now) (λ f. f) result ≡ hash_end all.now name.now rest.now }
 {
@@ -154,12 +155,12 @@ fn hash_end<'a>(all: &'a [u8], name: &'a [u8], rest: &'a [u8]) -> Result<&'a [u8
         return name_end(all, name, rest);
     }
     match name_end(all, name, rest) {
-        Ok(behind) => typed_end(behind),
+        Ok(trailing) => typed_end(trailing),
         Err(fault) => Err(fault),
     }
 }
 
-/// What follows the angle brackets of elements, and their type.
+/// Returns the rest of the text after the angle brackets of elements and their type.
 fn elements_end(bytes: &[u8]) -> Result<&[u8], Fault>
     ensures { result_map_both (λ r. r.now) (λ f. f) result ≡ elements_end bytes.now }
 {
@@ -169,7 +170,7 @@ fn elements_end(bytes: &[u8]) -> Result<&[u8], Fault>
     }
 }
 
-/// What follows the square brackets of a distinct attribute, and its angle brackets.
+/// Returns the rest of the text after the square and angle brackets of a distinct attribute.
 fn distinct_end(bytes: &[u8]) -> Result<&[u8], Fault>
     ensures { result_map_both (λ r. r.now) (λ f. f) result ≡ distinct_end bytes.now }
 {
@@ -179,7 +180,7 @@ fn distinct_end(bytes: &[u8]) -> Result<&[u8], Fault>
     }
 }
 
-/// What follows the attribute that a word begins, with which all begins.
+/// Returns the rest of the text after the attribute that `word` begins. `all` begins with the word.
 fn word_end<'a>(all: &'a [u8], word: &'a [u8], rest: &'a [u8]) -> Result<&'a [u8], Fault>
     ensures { result_map_both (λ r. r.now) (λ f. f) result ≡ word_end all.now word.now rest.now }
 {
@@ -201,7 +202,7 @@ fn word_end<'a>(all: &'a [u8], word: &'a [u8], rest: &'a [u8]) -> Result<&'a [u8
     word_type_end(all, word, rest)
 }
 
-/// What follows a symbol.
+/// Returns the rest of the text after a symbol.
 #[tactic(auto, unfolding(crate::specs::Terms::symbol_end))]
 fn symbol_end(bytes: &[u8]) -> Result<&[u8], Fault>
     ensures { result_map_both (λ r. r.now) (λ f. f) result ≡ symbol_end bytes.now }
@@ -216,8 +217,8 @@ fn symbol_end(bytes: &[u8]) -> Result<&[u8], Fault>
     }
 }
 
-fn behind_colons(bytes: &[u8]) -> Option<&[u8]>
-    ensures { option_map (λ r. r.now) result ≡ behind_colons bytes.now }
+fn after_colons(bytes: &[u8]) -> Option<&[u8]>
+    ensures { option_map (λ r. r.now) result ≡ after_colons bytes.now }
 {
     match bytes {
         [b':', b':', rest @ ..] => Some(rest),
@@ -225,7 +226,8 @@ fn behind_colons(bytes: &[u8]) -> Option<&[u8]>
     }
 }
 
-/// What follows the nested symbols of a reference, behind the first: so many at most.
+/// Returns the rest of the text after the nested symbols of a reference, at most `most` of them. The first symbol was
+/// read.
 #[tactic(auto, unfolding(crate::specs::Terms::symbols_end))]
 fn symbols_end(most: usize, bytes: &[u8]) -> Result<&[u8], Fault>
     ensures { result_map_both (λ r. r.now) (λ f. f) result ≡ symbols_end most bytes.now }
@@ -233,11 +235,11 @@ fn symbols_end(most: usize, bytes: &[u8]) -> Result<&[u8], Fault>
     let mut rest = bytes;
     let mut room = most;
     'symbols: while room > 0 {
-        let Some(behind) = behind_colons(skip(rest)) else {
+        let Some(trailing) = after_colons(skip(rest)) else {
             return Ok(rest);
         };
-        match symbol_end(skip(behind)) {
-            Ok(further) => rest = further,
+        match symbol_end(skip(trailing)) {
+            Ok(extra) => rest = extra,
             Err(fault) => return Err(fault),
         }
         room -= 1;
@@ -245,7 +247,7 @@ fn symbols_end(most: usize, bytes: &[u8]) -> Result<&[u8], Fault>
     Ok(rest)
 }
 
-/// What follows an attribute that neither a bracket nor a minus begins.
+/// Returns the rest of the text after an attribute that begins with neither a bracket nor a minus sign.
 #[tactic(auto, unfolding(crate::specs::Terms::plain_attr_end))]
 fn plain_attr_end(bytes: &[u8]) -> Result<&[u8], Fault>
     ensures { result_map_both (λ r. r.now) (λ f. f) result ≡ plain_attr_end bytes.now }
@@ -281,9 +283,11 @@ fn attr_end(bytes: &[u8]) -> Result<&[u8], Fault>
 
 // ---- values
 
-/// What follows the value that the bytes begin with: the alias of a type stands for one type, another for one
-/// attribute. It is refused at the token at which it is none (Unexpected), at what is no token (BadToken), at a
-/// name of digits (LeftOut), and where its brackets don't end.
+/// Returns the rest of the text after the value of an alias: a type if `of_type`, otherwise an attribute.
+///
+/// - `Unexpected`: a token doesn't fit, or brackets aren't closed.
+/// - `BadToken`: no token begins there.
+/// - `LeftOut`: a name consists of digits.
 pub fn value_end(of_type: bool, bytes: &[u8]) -> Result<&[u8], Fault>
     ensures { result_map_both (λ r. r.now) (λ f. f) result ≡ value_end of_type bytes.now }
 {

@@ -1,20 +1,20 @@
-//! The value of an alias, put in its place.
+//! Writes the value of an alias in place of the alias.
 ghost use Rattle.std.specs.Prelude.{◌≡◌, ◌==◌, ◌≤◌, ◌++◌, ◌+◌, ◌-◌, not, None, Some, length, option_map, reverse, take, drop, OnOk, IfOk, IfErr};
 ghost use Rattle.std.specs.List.{prefix_len};
 ghost use Rattle.ir_text_tokens.specs.Scopes.{find};
-ghost use Rattle.ir_text_bodies.specs.Bodies.{begins};
+ghost use Rattle.ir_text_tokens.specs.Bodies.{begins};
 ghost use Rattle.ir_text_aliases.specs.Fronts.{is_minus, is_place};
 ghost use Rattle.ir_text_aliases.specs.Uses.{bared, begins_loc, bracket_len, inside, spelling, use_fault, value_at, value_of};
 
-use crate::front::{Front, Holds, Last};
-use crate::pieces::is_loc;
+use crate::lexemes::is_loc;
+use crate::scan_state::{BracketContents, LastToken, ScanState};
 use ir_text_tokens::limits::MOST_BYTES;
-use ir_text_tokens::names::Names;
+use ir_text_tokens::names::ScopedNames;
 use ir_text_tokens::refusal::TextRefusal;
 use std::alloc::AllocError;
 
-/// What stands between two places.
-fn between(values: &[u8], start: usize, past: usize) -> &[u8]
+/// Returns the bytes of `values` from `start` to `past`.
+fn text_between(values: &[u8], start: usize, past: usize) -> &[u8]
     ensures { result.now ≡ take (past - start) (drop start values.now) }
 {
     let past = past.min(values.len());
@@ -24,7 +24,7 @@ fn between(values: &[u8], start: usize, past: usize) -> &[u8]
 
 // ---- within a location
 
-/// Whether the word `loc` begins the value.
+/// Returns whether the value begins with the word `loc`.
 pub fn begins_loc(value: &[u8]) -> bool
     ensures { result ≡ begins_loc value.now }
 {
@@ -56,15 +56,16 @@ fn bracket_len(value: &[u8]) -> usize
     value.iter().take_while(|b| is_no_bracket(**b)).count()
 }
 
-/// What stands between the first bracket of a location and the last.
+/// Returns the text between the first opening bracket and the last closing bracket of a location.
 fn inside(value: &[u8]) -> &[u8]
     ensures { result.now ≡ inside value.now }
 {
     let past = value.len().saturating_sub(1);
-    between(value, bracket_len(value) + 1, past)
+    text_between(value, bracket_len(value) + 1, past)
 }
 
-/// The value, or what stands within it where it is a location within another.
+/// Returns the value, without its `loc( )` if it is a location and `placed` says that the alias is inside another
+/// one.
 fn bared(placed: bool, value: &[u8]) -> &[u8]
     ensures { result.now ≡ bared placed value.now }
 {
@@ -74,40 +75,40 @@ fn bared(placed: bool, value: &[u8]) -> &[u8]
     value
 }
 
-fn is_place(holds: Holds) -> bool
+fn is_place(holds: BracketContents) -> bool
     ensures { result ≡ is_place holds }
 {
-    matches!(holds, Holds::Place)
+    matches!(holds, BracketContents::Place)
 }
 
-// ---- in its place
+// ---- in place of the alias
 
-/// The value of an alias, where it is known.
+/// Returns the value of an alias, or `None` if the alias is unknown.
 fn value_of<'v, 'a>(
-    names: &Names<'a, (usize, usize)>,
+    names: &ScopedNames<'a, (usize, usize)>,
     values: &'v [u8],
-    front: &Front,
+    front: &ScanState,
     name: &'a [u8],
 ) -> Option<&'v [u8]>
     ensures { option_map (λ v. v.now) result ≡ value_of values.now names.now.here front.now name.now }
 {
     match names.find(name) {
         Some((start, past)) => {
-            let value = between(values, *start, *past);
+            let value = text_between(values, *start, *past);
             Some(bared(is_place(front.around.holds), value))
         }
         None => None,
     }
 }
 
-fn is_minus(last: Last) -> bool
+fn is_minus(last: LastToken) -> bool
     ensures { result ≡ is_minus last }
 {
-    matches!(last, Last::Minus)
+    matches!(last, LastToken::Minus)
 }
 
-/// Why a value may not stand there, behind so many bytes and so many elsewhere.
-fn check_use(front: &Front, value: &[u8], before: usize, len: usize) -> Option<TextRefusal>
+/// Returns why the value can't replace the alias. `before + len` bytes count towards the length limit.
+fn check_use(front: &ScanState, value: &[u8], before: usize, len: usize) -> Option<TextRefusal>
     ensures { result ≡ use_fault front.now (Some value.now) (before + len) }
 {
     if is_minus(front.last) {
@@ -127,12 +128,12 @@ fn check_use(front: &Front, value: &[u8], before: usize, len: usize) -> Option<T
     }
 }
 
-/// The value of an alias, where it is known and may stand there, behind so many bytes and so many
-/// elsewhere.
+/// Returns the value of an alias if the alias is known and its value may replace it. `before + len` bytes count
+/// towards the length limit.
 pub(crate) fn usable<'v, 'a>(
-    names: &Names<'a, (usize, usize)>,
+    names: &ScopedNames<'a, (usize, usize)>,
     values: &'v [u8],
-    front: &Front,
+    front: &ScanState,
     name: &'a [u8],
     before: usize,
     len: usize,
@@ -149,8 +150,12 @@ pub(crate) fn usable<'v, 'a>(
     }
 }
 
-/// Puts the value there.
-pub(crate) fn put_value(front: &Front, value: &[u8], out: &mut Vec<u8>) -> Result<(), AllocError>
+/// Appends the value, after a blank if the value could be read as a part of the token before it.
+pub(crate) fn put_value(
+    front: &ScanState,
+    value: &[u8],
+    out: &mut Vec<u8>,
+) -> Result<(), AllocError>
     ensures { OnOk result (out.new.items ≡ out.old.items ++ spelling front.now (Some value.now)) }
 {
     if !front.apart {

@@ -1,22 +1,22 @@
-//! Definitions of aliases, and groups.
+//! Definitions of aliases, and bracketed groups.
 ghost use Rattle.std.specs.Prelude.{◌≡◌, ◌<◌, ◌≤◌, [], ◌∷◌, None, Some, true, false, Err, length, drop, reverse, option_map, IfOk, IfErr};
 ghost use Rattle.std.specs.Result.{result_map_both};
 ghost use Rattle.arrayvec.specs.ArrayVec.{array_vec_len};
 ghost use Rattle.ir_text_tokens.specs.Tokens.{skip};
-ghost use Rattle.ir_text_bodies.specs.Bodies.{closer_of, opened};
-ghost use Rattle.ir_text_aliases.specs.Values.{behind_equal, bracket_fault, coming_behind, definition_at, enclosed, group_end, is_defined, open_fault, value_fault};
+ghost use Rattle.ir_text_tokens.specs.Bodies.{closer_of, opened};
+ghost use Rattle.ir_text_aliases.specs.Values.{after_equal, bracket_fault, coming_after, definition_at, enclosed, group_end, is_defined, open_fault, value_fault};
 ghost use Rattle.ir_text_aliases.specs.Pieces.{piece_len};
 
-use crate::pieces::{behind_piece, from_quote, is_open_string};
+use crate::lexemes::{after_lexeme, from_quote, is_open_string};
 use arrayvec::ArrayVec;
-use ir_text_bodies::bodies::{behind_alias, closer_of};
+use ir_text_tokens::bodies::{after_alias, closer_of};
 use ir_text_tokens::fault::Fault;
 use ir_text_tokens::lexer::skip;
 use ir_text_tokens::refusal::TextRefusal;
 
-/// What follows an equals sign and the blanks behind it.
-fn behind_equal(bytes: &[u8]) -> Option<&[u8]>
-    ensures { option_map (λ r. r.now) result ≡ behind_equal (skip bytes.now) }
+/// Returns the rest of the text after an equal sign and blanks.
+fn after_equal(bytes: &[u8]) -> Option<&[u8]>
+    ensures { option_map (λ r. r.now) result ≡ after_equal (skip bytes.now) }
 {
     match skip(bytes) {
         [b'=', value @ ..] => Some(skip(value)),
@@ -24,14 +24,13 @@ fn behind_equal(bytes: &[u8]) -> Option<&[u8]>
     }
 }
 
-/// The value of the definition that begins with the byte, with which all begins, where one does, and
-/// what follows it.
+/// Returns the text from the value on if `all` begins with the definition of an alias.
 pub fn definition<'a>(byte: u8, all: &'a [u8], tail: &'a [u8]) -> Option<&'a [u8]>
     requires all { all.now ≡ byte ∷ tail.now }
     ensures { option_map (λ r. r.now) result ≡ definition_at byte tail.now }
 {
-    match behind_alias(byte, all, tail) {
-        Some(rest) => behind_equal(rest),
+    match after_alias(byte, all, tail) {
+        Some(rest) => after_equal(rest),
         None => None,
     }
 }
@@ -46,7 +45,7 @@ pub(crate) fn is_defined(byte: u8, all: &[u8], tail: &[u8]) -> bool
     }
 }
 
-/// Opens the bracket that the byte is, where it is one; it closes none.
+/// Pushes the closing bracket for `byte` if it is an opening bracket. `byte` closes none.
 fn open_bracket(coming: &mut ArrayVec<u8, 32>, byte: u8) -> Result<(), TextRefusal>
     requires room { array_vec_len coming.old ≤ 32 }
     ensures ok { IfOk result (λ _. (open_fault byte (reverse coming.old.items) ≡ None) × (reverse coming.new.items ≡ opened (closer_of byte) (reverse coming.old.items))) }
@@ -66,10 +65,10 @@ fn open_bracket(coming: &mut ArrayVec<u8, 32>, byte: u8) -> Result<(), TextRefus
     Ok(())
 }
 
-/// Closes the nearest bracket, or opens one, where the byte does.
+/// Closes the innermost bracket or opens one, if `byte` is a bracket.
 fn nest(coming: &mut ArrayVec<u8, 32>, byte: u8) -> Result<(), TextRefusal>
     requires room { array_vec_len coming.old ≤ 32 }
-    ensures ok { IfOk result (λ _. (bracket_fault byte (reverse coming.old.items) ≡ None) × (reverse coming.new.items ≡ coming_behind byte (reverse coming.old.items))) }
+    ensures ok { IfOk result (λ _. (bracket_fault byte (reverse coming.old.items) ≡ None) × (reverse coming.new.items ≡ coming_after byte (reverse coming.old.items))) }
     ensures err { IfErr result (λ x. bracket_fault byte (reverse coming.old.items) ≡ Some x) }
     ensures room { array_vec_len coming.new ≤ 32 }
 {
@@ -83,7 +82,7 @@ fn nest(coming: &mut ArrayVec<u8, 32>, byte: u8) -> Result<(), TextRefusal>
     open_bracket(coming, byte)
 }
 
-/// What follows the piece of a value that begins with the byte.
+/// Returns the rest of the text after the lexeme of a value that begins with `byte`.
 pub(crate) fn value_piece<'a>(
     coming: &mut ArrayVec<u8, 32>,
     byte: u8,
@@ -92,7 +91,7 @@ pub(crate) fn value_piece<'a>(
 ) -> Result<&'a [u8], TextRefusal>
     requires all { all.now ≡ byte ∷ tail.now }
     requires room { array_vec_len coming.old ≤ 32 }
-    ensures ok { IfOk result (λ r. (value_fault byte tail.now (reverse coming.old.items) ≡ None) × (reverse coming.new.items ≡ coming_behind byte (reverse coming.old.items)) × (r.now ≡ drop (piece_len byte tail.now) tail.now)) }
+    ensures ok { IfOk result (λ r. (value_fault byte tail.now (reverse coming.old.items) ≡ None) × (reverse coming.new.items ≡ coming_after byte (reverse coming.old.items)) × (r.now ≡ drop (piece_len byte tail.now) tail.now)) }
     ensures err { IfErr result (λ x. value_fault byte tail.now (reverse coming.old.items) ≡ Some x) }
     ensures room { array_vec_len coming.new ≤ 32 }
 {
@@ -100,14 +99,14 @@ pub(crate) fn value_piece<'a>(
         return Err(TextRefusal::BadToken);
     }
     match nest(coming, byte) {
-        Ok(()) => Ok(behind_piece(byte, all, tail)),
+        Ok(()) => Ok(after_lexeme(byte, all, tail)),
         Err(refusal) => Err(refusal),
     }
 }
 
 // ---- groups
 
-/// What follows the piece of a group that begins with the byte, or the fault there.
+/// Returns the rest of the text after the lexeme of a group that begins with `byte`, or the fault at the lexeme.
 fn group_step<'a>(
     coming: &mut ArrayVec<u8, 32>,
     byte: u8,
@@ -128,7 +127,7 @@ fn group_step<'a>(
     }
 }
 
-/// What follows a group, behind the bracket that opens it.
+/// Returns the rest of the text after a group, given the text after its opening bracket.
 pub(crate) fn group_end(closer: u8, bytes: &[u8]) -> Result<&[u8], Fault>
     ensures { result_map_both (λ r. r.now) (λ f. f) result ≡ group_end (closer ∷ []) 0 bytes.now }
 {
@@ -143,15 +142,17 @@ pub(crate) fn group_end(closer: u8, bytes: &[u8]) -> Result<&[u8], Fault>
             return Err(Fault::at(TextRefusal::Unexpected, rest));
         };
         match group_step(&mut coming, *byte, rest, tail) {
-            Ok(behind) => rest = behind,
+            Ok(trailing) => rest = trailing,
             Err(fault) => return Err(fault),
         }
     }
 }
 
-/// What follows a group that one bracket begins and another ends. It is refused at a bracket that closes
-/// another than the nearest, and where the text ends in it (Unexpected); at a bracket with 32 around it
-/// (TooDeep); and at a string that nothing ends (BadToken).
+/// Returns the rest of the text after a group in the brackets `first` and `closer`.
+///
+/// - `Unexpected`: a bracket doesn't match the innermost one, or the text ends inside the group.
+/// - `TooDeep`: a bracket has 32 brackets around it.
+/// - `BadToken`: a string isn't closed.
 pub(crate) fn enclosed(first: u8, closer: u8, bytes: &[u8]) -> Result<&[u8], Fault>
     ensures { result_map_both (λ r. r.now) (λ f. f) result ≡ enclosed first closer bytes.now }
 {

@@ -1,79 +1,77 @@
-//! A text with the value of each alias in its place, and without its locations.
+//! Expands a text: replaces each alias by its value and removes locations.
 ghost use Rattle.std.specs.Prelude.{◌≡◌, ◌≤◌, ◌&&◌, if◌then◌else◌, option_map, [], ◌∷◌, ◌++◌, None, Some, true, length, drop, reverse, IfOk, IfErr, IfSome, IfNone, OnOk};
-ghost use Rattle.ir_text_bodies.specs.Bodies.{is_alias};
+ghost use Rattle.ir_text_tokens.specs.Bodies.{is_alias};
 ghost use Rattle.ir_text_tokens.specs.Tokens.{suffix_len};
 ghost use Rattle.ir_text_tokens.specs.declared.fault.Fault.{Fault as Reason};
-ghost use Rattle.ir_text_aliases.specs.Fronts.{at_first, behind_alias, behind_place, is_behind, is_outside};
+ghost use Rattle.ir_text_aliases.specs.Fronts.{at_first, trailing_alias, after_place, is_after, is_outside};
 ghost use Rattle.ir_text_aliases.specs.Pieces.{name_of};
 ghost use Rattle.ir_text_aliases.specs.Places.{goes};
 ghost use Rattle.ir_text_aliases.specs.Steps.{Moved, Stuck};
 ghost use Rattle.ir_text_aliases.specs.Uses.{value_of};
 ghost use Rattle.ir_text_aliases.specs.Walk.{alias_move, ends_operations, move, piece_move, place_move, stops, walk, walk_text, walked};
 
-use crate::front::{Bracket, Front, Holds, Last, Stage};
+use crate::lexemes::after_lexeme;
 use crate::mark::Mark;
 use crate::nests::{is_operations, is_typed, pass};
-use crate::part::Part;
-use crate::pieces::behind_piece;
-use crate::places::{behind_loc, goes, located};
+use crate::part::TextPart;
+use crate::places::{after_loc, goes, located};
+use crate::scan_state::{Bracket, BracketContents, LastToken, OpStage, ScanState};
 use crate::uses::{put_value, usable};
 use crate::values::is_defined;
-use ir_text_bodies::bodies::behind_alias;
+use ir_text_tokens::bodies::after_alias;
 use ir_text_tokens::fault::Fault;
-use ir_text_tokens::names::Names;
+use ir_text_tokens::names::ScopedNames;
 use std::alloc::{AllocError, Global};
 
-/// What is put there: a text, and a mark for each spelling in it and each location that was taken away.
+/// An expanded text, with a mark for each replacement and for each removed location.
 #[derive(Drop)]
-pub struct Written {
+pub struct ExpandedText {
     pub text: Vec<u8>,
     pub marks: Vec<Mark>,
 }
 
-/// Where a text is read: what stands in front, and the brackets around the nearest, the nearer last.
+/// The position of the scan: its state, and the brackets around the innermost one, the innermost of them last.
 #[derive(Drop)]
-pub(crate) struct Place {
-    pub front: Front,
+pub(crate) struct ScanPosition {
+    pub front: ScanState,
     pub outer: Vec<Bracket>,
 }
 
-/// Puts bytes there.
-fn put(out: &mut Vec<u8>, bytes: &[u8]) -> Result<(), AllocError>
+fn write_bytes(out: &mut Vec<u8>, bytes: &[u8]) -> Result<(), AllocError>
     ensures { OnOk result (out.new.items ≡ out.old.items ++ bytes.now) }
 {
     out.extend_from_slice(bytes)
 }
 
-/// How many bytes stand there.
+/// Returns the number of bytes that were written.
 fn len_of(out: &Vec<u8>) -> usize
     ensures { result ≡ length out.now.items }
 {
     out.len()
 }
 
-/// Puts a mark behind the others.
-fn put_mark(marks: &mut Vec<Mark>, mark: Mark) -> Result<(), AllocError>
+fn push_mark(marks: &mut Vec<Mark>, mark: Mark) -> Result<(), AllocError>
     ensures { OnOk result (marks.new.items ≡ marks.old.items ++ mark ∷ []) }
 {
     marks.push(mark)?;
     Ok(())
 }
 
-// ---- one piece
+// ---- one lexeme
 
-/// Takes the location away that begins with the byte.
+/// Removes the location that begins with `byte`.
 fn take_place<'a>(
-    at: &mut Place,
+    at: &mut ScanPosition,
     byte: u8,
     all: &'a [u8],
     tail: &'a [u8],
-    out: &mut Written,
+    out: &mut ExpandedText,
 ) -> Result<Result<&'a [u8], Fault>, AllocError>
     requires all { all.now ≡ byte ∷ tail.now }
     ensures moved { IfOk result (λ s. IfOk s (λ r. Moved (place_move at.old.front (reverse at.old.outer.items) (length out.old.text.items) byte tail.now) at.new.front (reverse at.new.outer.items) tail.now r.now out.old.text.items out.new.text.items out.old.marks.items out.new.marks.items)) }
     ensures stuck { IfOk result (λ s. IfErr s (λ f. Stuck (place_move at.old.front (reverse at.old.outer.items) (length out.old.text.items) byte tail.now) f out.old.text.items out.new.text.items out.old.marks.items out.new.marks.items)) }
 {
-    let rest = match located(behind_loc(tail)) {
+    let rest = match located(after_loc(tail)) {
         Ok(rest) => rest,
         Err(fault) => return Ok(Err(fault)),
     };
@@ -83,51 +81,51 @@ fn take_place<'a>(
         past: len,
         left: all.len(),
     };
-    put_mark(&mut out.marks, mark)?;
-    at.front = behind_place(&at.front);
+    push_mark(&mut out.marks, mark)?;
+    at.front = after_place(&at.front);
     Ok(Ok(rest))
 }
 
-fn behind_place(front: &Front) -> Front
-    ensures { result ≡ behind_place front.now }
+fn after_place(front: &ScanState) -> ScanState
+    ensures { result ≡ after_place front.now }
 {
-    Front {
+    ScanState {
         apart: false,
         counts: false,
-        last: Last::Ending,
-        stage: Stage::Behind,
+        last: LastToken::Ending,
+        stage: OpStage::AfterType,
         around: front.around,
     }
 }
 
-fn behind_alias_of(front: &Front) -> Front
-    ensures { result ≡ behind_alias front.now }
+fn after_alias_of(front: &ScanState) -> ScanState
+    ensures { result ≡ trailing_alias front.now }
 {
     let stage = if is_typed(front.stage) {
-        Stage::Typed
+        OpStage::InType
     } else {
-        Stage::Before
+        OpStage::Before
     };
-    Front {
+    ScanState {
         apart: false,
         counts: false,
-        last: Last::Ending,
+        last: LastToken::Ending,
         stage,
         around: front.around,
     }
 }
 
-/// Puts the value of the alias there that begins with the byte; `rest` follows it.
-fn put_alias<'a>(
-    part: &Part,
-    names: &Names<'a, (usize, usize)>,
+/// Appends the value of the alias that begins with `byte`. `rest` is the text after the alias.
+fn write_alias<'a>(
+    part: &TextPart,
+    names: &ScopedNames<'a, (usize, usize)>,
     values: &[u8],
-    at: &mut Place,
+    at: &mut ScanPosition,
     byte: u8,
     all: &'a [u8],
     tail: &'a [u8],
     rest: &'a [u8],
-    out: &mut Written,
+    out: &mut ExpandedText,
 ) -> Result<Option<Fault>, AllocError>
     requires all { all.now ≡ byte ∷ tail.now }
     requires rest { rest.now ≡ drop (suffix_len tail.now) tail.now }
@@ -146,52 +144,52 @@ fn put_alias<'a>(
         past: len_of(&out.text),
         left: all.len(),
     };
-    put_mark(&mut out.marks, mark)?;
-    at.front = behind_alias_of(&at.front);
+    push_mark(&mut out.marks, mark)?;
+    at.front = after_alias_of(&at.front);
     Ok(None)
 }
 
-/// Puts the piece there that begins with the byte, and gives what follows it.
+/// Appends the lexeme that begins with `byte`, and returns the rest of the text after it.
 fn put_piece<'a>(
-    at: &mut Place,
+    at: &mut ScanPosition,
     byte: u8,
     all: &'a [u8],
     tail: &'a [u8],
-    out: &mut Written,
+    out: &mut ExpandedText,
 ) -> Result<&'a [u8], AllocError>
     requires all { all.now ≡ byte ∷ tail.now }
     ensures moved { IfOk result (λ r. Moved (piece_move at.old.front (reverse at.old.outer.items) byte tail.now) at.new.front (reverse at.new.outer.items) tail.now r.now out.old.text.items out.new.text.items out.old.marks.items out.new.marks.items) }
 {
-    let rest = behind_piece(byte, all, tail);
-    put(&mut out.text, &all[..all.len() - rest.len()])?;
+    let rest = after_lexeme(byte, all, tail);
+    write_bytes(&mut out.text, &all[..all.len() - rest.len()])?;
     at.front = pass(&at.front, &mut at.outer, byte, tail)?;
     Ok(rest)
 }
 
-// ---- all pieces
+// ---- all lexemes
 
-/// What follows the alias that begins with the byte, where aliases stand in the part.
-fn alias_in<'a>(part: &Part, byte: u8, all: &'a [u8], tail: &'a [u8]) -> Option<&'a [u8]>
+/// Returns the rest of the text after the alias that begins with `byte`, if the part may have aliases.
+fn alias_in<'a>(part: &TextPart, byte: u8, all: &'a [u8], tail: &'a [u8]) -> Option<&'a [u8]>
     requires all { all.now ≡ byte ∷ tail.now }
     ensures { option_map (λ r. r.now) result ≡ (if part.now.reads && is_alias byte tail.now then Some (drop (suffix_len tail.now) tail.now) else None) }
 {
     if part.reads {
-        behind_alias(byte, all, tail)
+        after_alias(byte, all, tail)
     } else {
         None
     }
 }
 
-/// Puts what begins with the byte, and gives what follows it, or the fault there.
+/// Expands the lexeme that begins with `byte`, and returns the rest of the text after it, or the fault at the lexeme.
 fn step<'a>(
-    part: &Part,
-    names: &Names<'a, (usize, usize)>,
+    part: &TextPart,
+    names: &ScopedNames<'a, (usize, usize)>,
     values: &[u8],
-    at: &mut Place,
+    at: &mut ScanPosition,
     byte: u8,
     all: &'a [u8],
     tail: &'a [u8],
-    out: &mut Written,
+    out: &mut ExpandedText,
 ) -> Result<Result<&'a [u8], Fault>, AllocError>
     requires all { all.now ≡ byte ∷ tail.now }
     ensures moved { IfOk result (λ s. IfOk s (λ r. Moved (move part.now values.now names.now.here at.old.front (reverse at.old.outer.items) (length out.old.text.items) byte tail.now) at.new.front (reverse at.new.outer.items) tail.now r.now out.old.text.items out.new.text.items out.old.marks.items out.new.marks.items)) }
@@ -203,16 +201,16 @@ fn step<'a>(
     let Some(rest) = alias_in(part, byte, all, tail) else {
         return Ok(Ok(put_piece(at, byte, all, tail, out)?));
     };
-    match put_alias(part, names, values, at, byte, all, tail, rest, out)? {
+    match write_alias(part, names, values, at, byte, all, tail, rest, out)? {
         None => Ok(Ok(rest)),
         Some(fault) => Ok(Err(fault)),
     }
 }
 
-fn is_behind(stage: Stage) -> bool
-    ensures { result ≡ is_behind stage }
+fn is_after(stage: OpStage) -> bool
+    ensures { result ≡ is_after stage }
 {
-    matches!(stage, Stage::Typed | Stage::Behind)
+    matches!(stage, OpStage::InType | OpStage::AfterType)
 }
 
 fn is_outside(closer: Option<u8>) -> bool
@@ -224,35 +222,35 @@ fn is_outside(closer: Option<u8>) -> bool
     }
 }
 
-/// Whether a definition begins behind the last operation.
-fn ends_operations(front: &Front, byte: u8, all: &[u8], tail: &[u8]) -> bool
+/// Returns whether a definition begins here, after the last operation.
+fn ends_operations(front: &ScanState, byte: u8, all: &[u8], tail: &[u8]) -> bool
     requires all { all.now ≡ byte ∷ tail.now }
     ensures { result ≡ ends_operations front.now byte tail.now }
 {
     let around = front.around;
-    if !is_outside(around.closer) || !is_operations(around.holds) || !is_behind(front.stage) {
+    if !is_outside(around.closer) || !is_operations(around.holds) || !is_after(front.stage) {
         return false;
     }
     is_defined(byte, all, tail)
 }
 
-fn stops(part: &Part, front: &Front, byte: u8, all: &[u8], tail: &[u8]) -> bool
+fn stops(part: &TextPart, front: &ScanState, byte: u8, all: &[u8], tail: &[u8]) -> bool
     requires all { all.now ≡ byte ∷ tail.now }
     ensures { result ≡ stops part.now front.now byte tail.now }
 {
     all.len() <= part.left || ends_operations(front, byte, all, tail)
 }
 
-/// Puts what begins with the byte, and gives what follows it, or ends in front of it.
+/// Expands the lexeme that begins with `byte`, and returns the rest of the text, or stops before the lexeme.
 fn turn<'a>(
-    part: &Part,
-    names: &Names<'a, (usize, usize)>,
+    part: &TextPart,
+    names: &ScopedNames<'a, (usize, usize)>,
     values: &[u8],
-    at: &mut Place,
+    at: &mut ScanPosition,
     byte: u8,
     all: &'a [u8],
     tail: &'a [u8],
-    out: &mut Written,
+    out: &mut ExpandedText,
 ) -> Result<Result<&'a [u8], Option<Fault>>, AllocError>
     requires all { all.now ≡ byte ∷ tail.now }
     ensures on { IfOk result (λ s. IfOk s (λ r. walk part.now values.now names.now.here at.old.front (reverse at.old.outer.items) 0 all.now out.old.text.items out.old.marks.items ≡ walk part.now values.now names.now.here at.new.front (reverse at.new.outer.items) 0 r.now out.new.text.items out.new.marks.items)) }
@@ -268,59 +266,60 @@ fn turn<'a>(
     }
 }
 
-/// Puts piece by piece, and gives what is left, with the fault there if there is one.
+/// Expands lexeme by lexeme. Returns the text that is left, and the fault there, if there is one.
 fn pieces<'a>(
-    part: &Part,
-    names: &Names<'a, (usize, usize)>,
+    part: &TextPart,
+    names: &ScopedNames<'a, (usize, usize)>,
     values: &[u8],
-    at: &mut Place,
+    at: &mut ScanPosition,
     bytes: &'a [u8],
-    out: &mut Written,
+    out: &mut ExpandedText,
 ) -> Result<(&'a [u8], Option<Fault>), AllocError>
     ensures { IfOk result (λ x. walk part.now values.now names.now.here at.old.front (reverse at.old.outer.items) 0 bytes.now out.old.text.items out.old.marks.items ≡ walked out.new.text.items out.new.marks.items x.0.now x.1) }
 {
     let mut rest = bytes;
     'pieces: while let [byte, tail @ ..] = rest {
         match turn(part, names, values, at, *byte, rest, tail, out)? {
-            Ok(behind) => rest = behind,
+            Ok(trailing) => rest = trailing,
             Err(end) => return Ok((rest, end)),
         }
     }
     Ok((rest, None))
 }
 
-/// Puts a text there, or a part of it, with the value of each alias in its place: `names` has where it
-/// begins and ends among the values. Locations behind an operation's function type and behind the type of a
-/// block's argument are taken away. Gives what is left: where the part ends, where definitions begin behind
-/// the last operation, or where it is refused: at an alias that is not known (UnknownValue), that stands
-/// behind a minus (Unexpected), or whose value makes it longer than a text may be (TooMany), and in a
-/// location that does not end.
+/// Appends the expansion of a text, or of a part of it, to `out`. `names` maps an alias to the start and end of its
+/// value in `values`. Locations after the function type of an operation and after the type of a block argument are
+/// removed.
+///
+/// Returns the text that is left: after the part, from the first definition after the last operation, or from a
+/// fault. Faults: `UnknownValue` at an unknown alias; `Unexpected` at an alias after a minus sign; `TooMany` at an
+/// alias whose value makes the text longer than a text may be; and those of a location that doesn't end.
 pub fn walk<'a>(
     alloc: Global,
-    part: &Part,
-    names: &Names<'a, (usize, usize)>,
+    part: &TextPart,
+    names: &ScopedNames<'a, (usize, usize)>,
     values: &[u8],
-    holds: Holds,
+    holds: BracketContents,
     bytes: &'a [u8],
-    out: &mut Written,
+    out: &mut ExpandedText,
 ) -> Result<(&'a [u8], Option<Fault>), AllocError>
     ensures { IfOk result (λ x. walk_text part.now values.now names.now.here holds bytes.now out.old.text.items out.old.marks.items ≡ walked out.new.text.items out.new.marks.items x.0.now x.1) }
 {
-    let mut at = Place {
+    let mut at = ScanPosition {
         front: first(holds),
         outer: Vec::new(alloc),
     };
     pieces(part, names, values, &mut at, bytes, out)
 }
 
-fn first(holds: Holds) -> Front
+fn first(holds: BracketContents) -> ScanState
     ensures { result ≡ at_first holds }
 {
-    Front {
+    ScanState {
         apart: true,
         counts: false,
-        last: Last::Other,
-        stage: Stage::Before,
+        last: LastToken::Other,
+        stage: OpStage::Before,
         around: Bracket {
             closer: None,
             holds,

@@ -5,7 +5,7 @@ ghost use Rattle.ir_text_aliases.specs.Words.{is_distinct, is_element, is_intege
 use ir_text_tokens::numbers::are_digits;
 use ir_text_types::opaque::is_alone;
 
-/// Whether a word is an attribute that nothing follows.
+/// Returns whether the word is an attribute by itself.
 #[tactic(auto, unfolding(crate::specs::Words::is_lone))]
 pub(crate) fn is_lone(word: &[u8]) -> bool
     ensures { result ≡ is_lone word.now }
@@ -19,7 +19,7 @@ pub(crate) fn is_lone(word: &[u8]) -> bool
     word == b"unit".as_slice()
 }
 
-/// Whether a word begins elements: angle brackets and a type follow.
+/// Returns whether the word begins elements, which continue with angle brackets and a type.
 #[tactic(auto, unfolding(crate::specs::Words::is_element))]
 pub(crate) fn is_element(word: &[u8]) -> bool
     ensures { result ≡ is_element word.now }
@@ -33,7 +33,7 @@ pub(crate) fn is_element(word: &[u8]) -> bool
     word == b"dense_resource".as_slice()
 }
 
-/// Whether a word begins an attribute of which angle brackets are the rest.
+/// Returns whether the word begins an attribute that consists of the word and angle brackets.
 #[tactic(auto, unfolding(crate::specs::Words::is_listed))]
 pub(crate) fn is_listed(word: &[u8]) -> bool
     ensures { result ≡ is_listed word.now }
@@ -50,7 +50,7 @@ pub(crate) fn is_listed(word: &[u8]) -> bool
     word == b"strided".as_slice()
 }
 
-/// Whether a word begins a type of which angle brackets are the rest.
+/// Returns whether the word begins a type that consists of the word and angle brackets.
 #[tactic(auto, unfolding(crate::specs::Words::is_shaped))]
 pub(crate) fn is_shaped(word: &[u8]) -> bool
     ensures { result ≡ is_shaped word.now }
@@ -70,7 +70,7 @@ pub(crate) fn is_shaped(word: &[u8]) -> bool
     word == b"memref".as_slice()
 }
 
-/// Whether a word is `loc`.
+/// Returns whether the word is `loc`.
 #[tactic(auto, unfolding(crate::specs::Words::is_place_word))]
 pub(crate) fn is_place_word(word: &[u8]) -> bool
     ensures { result ≡ is_place_word word.now }
@@ -78,7 +78,7 @@ pub(crate) fn is_place_word(word: &[u8]) -> bool
     word == b"loc".as_slice()
 }
 
-/// Whether a word is `distinct`.
+/// Returns whether the word is `distinct`.
 #[tactic(auto, unfolding(crate::specs::Words::is_distinct))]
 pub(crate) fn is_distinct(word: &[u8]) -> bool
     ensures { result ≡ is_distinct word.now }
@@ -86,7 +86,7 @@ pub(crate) fn is_distinct(word: &[u8]) -> bool
     word == b"distinct".as_slice()
 }
 
-// ---- types that are one word
+// ---- types of one word
 
 fn is_width(digits: &[u8]) -> bool
     ensures { result ≡ is_width digits.now }
@@ -113,7 +113,7 @@ fn is_integer_word(word: &[u8]) -> bool
     }
 }
 
-/// Whether a word is a type.
+/// Returns whether the word is a type by itself.
 #[tactic(auto, unfolding(crate::specs::Words::is_scalar))]
 pub fn is_scalar(word: &[u8]) -> bool
     ensures { result ≡ is_scalar word.now }

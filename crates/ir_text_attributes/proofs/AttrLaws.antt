@@ -1,4 +1,4 @@
--- Attributes that are read are spelled, and attributes that are spelled are read.
+-- The parser and the grammar of attributes agree.
 use Rattle.std.specs.Prelude.{◌&&◌, if◌then◌else◌}
 use Rattle.std.specs.Str.{bytes_eq}
 use Rattle.std.proofs.Common.{◌≡◌, ℕ, zero, suc, Bool, true, false, List, Option, Some, None, refl, sym, ap, subst, ◌∙◌, ◌⊎◌, inl, inr, ⊎_elim}
@@ -7,7 +7,7 @@ use Rattle.ir_text_tokens.specs.declared.token.Mark.TheVariants.{OpenRound, Open
 use Rattle.ir_text_tokens.specs.Tokens.{Lexeme, mark, integer, float, string, bare, hash, bang, symbol, quoted, skip}
 use Rattle.ir_types.specs.declared.node.Sign.TheVariants.{Signless}
 use Rattle.ir_types.specs.declared.node.AttrNode.TheVariants as attr
-use Rattle.ir_types.specs.Things.{Things, AttrIsOf, Grows}
+use Rattle.ir_types.specs.Things.{ContextModel, AttrIsOf, IsExtendedBy}
 use Rattle.ir_types.specs.Things as of
 use Rattle.ir_types.specs.Terms.{Integer, AttrTerm, IntegerOf, Flag, attr_term}
 use Rattle.ir_types.specs.Sound.{IsSound}
@@ -25,7 +25,7 @@ use Rattle.ir_text_attributes.specs.AttrGrammar.{IsFine, IsLiteral, IsKept, IsSt
 use Rattle.ir_text_types.specs.Standing.{AttrStands}
 use Rattle.ir_text_types.proofs.Worlds.{Exact, Step, nothing_exact, choice_exact, guard_exact}
 use Rattle.ir_text_types.proofs.TextLaws.{things, Same, text_now}
-use Rattle.ir_text_types.proofs.TokenLaws.{behind_exact, token_exact}
+use Rattle.ir_text_types.proofs.TokenLaws.{trailing_exact, token_exact}
 use Rattle.ir_text_attributes.proofs.NodeLaws.{zero_exact, attr_done_exact}
 use Rattle.ir_text_attributes.proofs.LeafLaws.{unit_node, truth_exact, type_attr_exact, literal_exact, kept_exact, float_exact, string_or_kept_exact, negative_exact, overflow_exact}
 use Rattle.ir_text_attributes.proofs.SymbolLaws.{symbol_exact}
@@ -35,67 +35,67 @@ use Rattle.ir_text_attributes.proofs.PartLaws.{array_exact, dictionary_exact}
 -- ---- by the first token
 
 module _ (o : Bool) (types : ℕ) where
-  array_word_exact : (rest : Text) (c : Things) → Exact things Same c AttrStands (λ s. array_word_at o types s.1 rest) (λ y old new. IsArrayWord o types rest y new)
+  array_word_exact : (rest : Text) (c : ContextModel) → Exact things Same c AttrStands (λ s. array_word_at o types s.1 rest) (λ y old new. IsArrayWord o types rest y new)
   array_word_exact rest c =
       choice_exact things Same c AttrStands (o && opens_other rest) (λ s. kept_at o types NoType (bracketed 60 array_word (skip rest)) s.1) (λ s. dense_at (rest, s.1))
       (λ y old new. IsKept o types NoType (bracketed 60 array_word (skip rest)) y new) (λ y old new. IsDense y rest new)
-      (kept_exact o types NoType (bracketed 60 array_word (skip rest)) c) (behind_exact c AttrStands rest dense_at IsDense (dense_exact c))
+      (kept_exact o types NoType (bracketed 60 array_word (skip rest)) c) (trailing_exact c AttrStands rest dense_at IsDense (dense_exact c))
 
-  word_exact : (w : Word) (rest : Text) (c : Things) → Exact things Same c AttrStands (λ s. word_attr o types w s rest) (IsWordAttr o types w rest)
-  word_exact (Truth b) rest c = behind_exact c AttrStands rest (truth_at b) (IsFine (IntegerOf (Integer Signless 1) (truth_bits b))) (truth_exact b c)
-  word_exact UnitWord rest c = behind_exact c AttrStands rest (attr_done attr.Unit) (IsFine Flag) (attr_done_exact c attr.Unit Flag (refl, refl) (λ z k w. unit_node z))
+  word_exact : (w : Word) (rest : Text) (c : ContextModel) → Exact things Same c AttrStands (λ s. word_attr o types w s rest) (IsWordAttr o types w rest)
+  word_exact (Truth b) rest c = trailing_exact c AttrStands rest (truth_at b) (IsFine (IntegerOf (Integer Signless 1) (truth_bits b))) (truth_exact b c)
+  word_exact UnitWord rest c = trailing_exact c AttrStands rest (attr_done attr.Unit) (IsFine Flag) (attr_done_exact c attr.Unit Flag (refl, refl) (λ z k w. unit_node z))
   word_exact ArrayWord rest c = array_word_exact rest c
   word_exact TypeWord rest c = type_attr_exact o types c
 
-  bare_exact : (tail : Option Tail) (w : List ℕ) (rest : Text) (c : Things) → Exact things Same c AttrStands (λ s. bare_attr o types tail w s rest) (IsBare o types tail w rest)
+  bare_exact : (tail : Option Tail) (w : List ℕ) (rest : Text) (c : ContextModel) → Exact things Same c AttrStands (λ s. bare_attr o types tail w s rest) (IsBare o types tail w rest)
   bare_exact None w rest c = word_exact (word_of w) rest c
   bare_exact (Some tail) w rest c = kept_exact o types tail (kept_text w rest) c
 
-  hash_exact : (name : List ℕ) (rest : Text) (c : Things) → Exact things Same c AttrStands (λ s. hash_attr o types name s rest) (λ y old new. IsHash o types name rest y new)
+  hash_exact : (name : List ℕ) (rest : Text) (c : ContextModel) → Exact things Same c AttrStands (λ s. hash_attr o types name s rest) (λ y old new. IsHash o types name rest y new)
   hash_exact name rest c =
       choice_exact things Same c AttrStands (bytes_eq name overflow_word) (λ s. overflow_at (rest, s.1)) (λ s. if o then kept_at o types TypeOrNone (dialect_text 35 name rest) s.1 else Wrong)
       (λ y old new. IsOverflow y rest new) (λ y old new. (o ≡ true) × IsKept o types TypeOrNone (dialect_text 35 name rest) y new)
-      (behind_exact c AttrStands rest overflow_at IsOverflow (overflow_exact c))
+      (trailing_exact c AttrStands rest overflow_at IsOverflow (overflow_exact c))
       (guard_exact things Same c AttrStands o (λ s. kept_at o types TypeOrNone (dialect_text 35 name rest) s.1) (λ y old new. IsKept o types TypeOrNone (dialect_text 35 name rest) y new) (kept_exact o types TypeOrNone (dialect_text 35 name rest) c))
 
-module _ (o : Bool) (depth : ℕ) (p : Parse Typed ℕ) (P : Grammar Text AttrTerm) (item : (c : Things) → Exact things Same c AttrStands p P) where
-  mark_exact : (m : Mark) (rest : Text) (c : Things) → Exact things Same c AttrStands (λ s. mark_attr o (suc depth) depth p m s rest) (IsMarkAttr o depth P m rest)
-  mark_exact Minus rest c = behind_exact c AttrStands rest (negative_at o (suc depth)) (IsNegative o (suc depth)) (negative_exact o (suc depth) c)
+module _ (o : Bool) (depth : ℕ) (p : Parse Typed ℕ) (P : Grammar Text AttrTerm) (item : (c : ContextModel) → Exact things Same c AttrStands p P) where
+  mark_exact : (m : Mark) (rest : Text) (c : ContextModel) → Exact things Same c AttrStands (λ s. mark_attr o (suc depth) depth p m s rest) (IsMarkAttr o depth P m rest)
+  mark_exact Minus rest c = trailing_exact c AttrStands rest (negative_at o (suc depth)) (IsNegative o (suc depth)) (negative_exact o (suc depth) c)
   mark_exact OpenRound rest c = type_attr_exact o (suc depth) c
-  mark_exact OpenSquare rest c = behind_exact c AttrStands rest (array_by depth p) (IsArray depth P) (array_exact depth p P item c)
-  mark_exact OpenCurly rest c = behind_exact c AttrStands rest (dictionary_by depth p) (IsDictionary depth P) (dictionary_exact depth p P item c)
+  mark_exact OpenSquare rest c = trailing_exact c AttrStands rest (array_by depth p) (IsArray depth P) (array_exact depth p P item c)
+  mark_exact OpenCurly rest c = trailing_exact c AttrStands rest (dictionary_by depth p) (IsDictionary depth P) (dictionary_exact depth p P item c)
   mark_exact _ rest c = nothing_exact things Same c AttrStands
 
-  attr_from_exact : (c : Things) (l : Lexeme) (rest : Text) → Exact things Same c AttrStands (λ s. attr_from o (suc depth) depth p s l rest) (IsAttrFrom o depth P l rest)
+  attr_from_exact : (c : ContextModel) (l : Lexeme) (rest : Text) → Exact things Same c AttrStands (λ s. attr_from o (suc depth) depth p s l rest) (IsAttrFrom o depth P l rest)
   attr_from_exact c (bare w) rest = bare_exact o (suc depth) (tail_in o w) w rest c
   attr_from_exact c (mark m) rest = mark_exact m rest c
-  attr_from_exact c (integer digits) rest = behind_exact c AttrStands rest (literal_at o false digits) (IsLiteral o false digits) (literal_exact o false digits c)
+  attr_from_exact c (integer digits) rest = trailing_exact c AttrStands rest (literal_at o false digits) (IsLiteral o false digits) (literal_exact o false digits c)
   attr_from_exact c (float digits) rest = float_exact o (suc depth) digits rest c
-  attr_from_exact c (string raw) rest = behind_exact c AttrStands rest (string_at o (suc depth) raw) (IsString o (suc depth) raw) (string_or_kept_exact o (suc depth) raw c)
+  attr_from_exact c (string raw) rest = trailing_exact c AttrStands rest (string_at o (suc depth) raw) (IsString o (suc depth) raw) (string_or_kept_exact o (suc depth) raw c)
   attr_from_exact c (symbol n) rest = symbol_exact c
   attr_from_exact c (quoted raw) rest = symbol_exact c
   attr_from_exact c (hash name) rest = hash_exact o (suc depth) name rest c
   attr_from_exact c (bang name) rest = type_attr_exact o (suc depth) c
   attr_from_exact c _ rest = nothing_exact things Same c AttrStands
 
-pub attr_exact : (o : Bool) (depth : ℕ) (c : Things) → Exact things Same c AttrStands (attr_at o depth) (IsAttr o depth)
+pub attr_exact : (o : Bool) (depth : ℕ) (c : ContextModel) → Exact things Same c AttrStands (attr_at o depth) (IsAttr o depth)
 unfolding attr_at IsAttr
 attr_exact o zero c = zero_exact c
 attr_exact o (suc depth) c = token_exact c AttrStands (attr_from o (suc depth) depth (attr_at o depth)) (IsAttrFrom o depth (IsAttr o depth)) (attr_from_exact o depth (attr_at o depth) (IsAttr o depth) (attr_exact o depth) c)
 
 -- ---- from a text
 
-pub attr_read : (o : Bool) (depth : ℕ) (c d : Things) (bytes rest : List ℕ) (n : ℕ) → IsSound c → attr_at o depth (bytes, c) ≡ Read (n, (rest, d)) → Grows c d × IsSound d × of.IsAttr d n × IsAttr o depth (attr_term d n) bytes rest
+pub attr_read : (o : Bool) (depth : ℕ) (c d : ContextModel) (bytes rest : List ℕ) (n : ℕ) → IsSound c → attr_at o depth (bytes, c) ≡ Read (n, (rest, d)) → IsExtendedBy c d × IsSound d × of.IsAttr d n × IsAttr o depth (attr_term d n) bytes rest
 attr_read o depth c d bytes rest n sound e =
     let f = (attr_exact o depth c).found (bytes, c) bytes n (rest, d) (grows_refl c) sound (λ z g w. refl) e in
     let r = f.3.stands d (grows_refl d) f.3.sound in
     let spelled : IsAttr o depth (attr_term d n) bytes f.1 = subst (λ y. IsAttr o depth y bytes f.1) (sym r.1) f.2 in
     (f.3.grows, f.3.sound, r.0, subst (λ b. IsAttr o depth (attr_term d n) bytes b) (sym (text_now (rest, d) f.1 f.3.sound f.3.agree)) spelled)
 
-abbrev pair : ℕ → Things → List ℕ → Outcome (ℕ × Typed)
+abbrev pair : ℕ → ContextModel → List ℕ → Outcome (ℕ × Typed)
 pair x d b = Read (x, (b, d))
 
-pub attr_spelled : (o : Bool) (depth : ℕ) (c : Things) (bytes rest : List ℕ) (y : AttrTerm) → IsSound c → IsAttr o depth y bytes rest → (attr_at o depth (bytes, c) ≡ Full) ⊎ ((n : ℕ) × (d : Things) × (attr_at o depth (bytes, c) ≡ Read (n, (rest, d))) × Grows c d × IsSound d × AttrStands d n y)
+pub attr_spelled : (o : Bool) (depth : ℕ) (c : ContextModel) (bytes rest : List ℕ) (y : AttrTerm) → IsSound c → IsAttr o depth y bytes rest → (attr_at o depth (bytes, c) ≡ Full) ⊎ ((n : ℕ) × (d : ContextModel) × (attr_at o depth (bytes, c) ≡ Read (n, (rest, d))) × IsExtendedBy c d × IsSound d × AttrStands d n y)
 attr_spelled o depth c bytes rest y sound k = ⊎_elim
     (λ (e : attr_at o depth (bytes, c) ≡ Full). inl e)
     (λ (f : (n : ℕ) × (s : Typed) × (attr_at o depth (bytes, c) ≡ Read (n, s)) × Step things Same AttrStands (bytes, c) n y s rest).

@@ -1,11 +1,11 @@
--- Names and nodes that are interned, and what more is said of readers.
+-- Names and nodes that are interned, and further lemmas about agreement.
 use Rattle.std.specs.Str.{bytes_eq}
 use Rattle.std.proofs.Common.{◌≡◌, ℕ, List, [], Option, Some, None, slice_get, refl, sym, ap, subst, ◌∙◌, inl, inr, ⊎_elim}
 use Rattle.std.proofs.lemmas.Option.{slice_get_within, get_or_from_slice_get}
 use Rattle.ir_types.specs.declared.node.AttrNode.{AttrNode}
 use Rattle.ir_types.specs.declared.refusal.Refusal.{Refusal}
 use Rattle.ir_types.specs.declared.refusal.Refusal.TheVariants.{TooMany}
-use Rattle.ir_types.specs.Things.{Things, AttrIsOf, Grows}
+use Rattle.ir_types.specs.Things.{ContextModel, AttrIsOf, IsExtendedBy}
 use Rattle.ir_types.specs.Terms.{AttrTerm, attr_node_term}
 use Rattle.ir_types.specs.Dictionaries.{kept}
 use Rattle.ir_types.specs.Same.{same_attr}
@@ -27,7 +27,7 @@ use Rattle.ir_text_types.proofs.TextLaws.{things, Same, text_now}
 use Rattle.ir_text_types.proofs.TypeLaws.{read_interned, full_cases}
 use Rattle.ir_text_attributes.specs.AttrReading.{name_done, attr_done}
 
-abbrev pub moved : Typed → ℕ × Things → ℕ × Typed
+abbrev pub moved : Typed → ℕ × ContextModel → ℕ × Typed
 moved s n = (n.0, (s.0, n.1))
 
 abbrev pub done : ℕ × Typed → Outcome (ℕ × Typed)
@@ -49,7 +49,7 @@ name_step_on bytes s t sound same fine = record {
 abbrev pub name_at : List ℕ → Parse Typed ℕ
 name_at bytes s = name_step bytes s.1 >>= λ n. Read (moved s n)
 
-pub name_exact : (c : Things) (bytes : List ℕ) → Exact things Same c NameStands (name_at bytes) (Done bytes)
+pub name_exact : (c : ContextModel) (bytes : List ℕ) → Exact things Same c NameStands (name_at bytes) (Done bytes)
 unfolding name_step
 name_exact c bytes = record {
   found = λ s t x s' g sound h e.
@@ -65,22 +65,22 @@ name_exact c bytes = record {
       (full_cases (bytes_eq bytes) s.1.names));
 }
 
-pub name_done_exact : (c : Things) (bytes : List ℕ) → Exact things Same c NameStands (name_done bytes) (Done bytes)
+pub name_done_exact : (c : ContextModel) (bytes : List ℕ) → Exact things Same c NameStands (name_done bytes) (Done bytes)
 unfolding name_done
 name_done_exact c bytes = name_exact c bytes
 
 -- ---- a node that is interned
 
--- in z the node's parts are there, and, with a dictionary's entries sorted, it is y
-abbrev pub IsNodeOf : AttrNode → AttrTerm → Things → Type 0
+-- the context z has the parts of the node, and the node with its entries sorted denotes y
+abbrev pub IsNodeOf : AttrNode → AttrTerm → ContextModel → Type 0
 IsNodeOf node y z = AttrIsOf z node × (attr_node_term z (kept z.names node) ≡ y)
 
--- no reason stands against the node itself
+-- the node itself has no reason for a refusal
 abbrev pub IsAllowed : AttrNode → Type 0
 IsAllowed node = (count_reason node ≡ None) × (key_reason node ≡ None)
 
--- the list of attributes as a reason
-abbrev room_of : AttrNode → Things → Option Refusal
+-- the refusal of a full list of attributes
+abbrev room_of : AttrNode → ContextModel → Option Refusal
 room_of node c = full_reason (same_attr (kept c.names node)) c.attrs
 
 attr_step_on : (node : AttrNode) (y : AttrTerm) (s : Typed) (t : List ℕ) → IsSound s.1 → s.0 ≡ t → IsNodeOf node y s.1 → attr_reason node s.1 ≡ None → Step things Same AttrStands s (with_attr node s.1).0 y (s.0, (with_attr node s.1).1) t
@@ -95,8 +95,8 @@ attr_step_on node y s t sound same r fine = record {
   agree = λ z g w. same;
 }
 
--- where the node is allowed, it has a fault, or there is no room
-reason_parts : (node : AttrNode) (c : Things) → IsAllowed node → attr_reason node c ≡ first_reason (attr_fault (attr_node_term c node)) (room_of node c)
+-- an allowed node is refused only for its fault or for a full list
+reason_parts : (node : AttrNode) (c : ContextModel) → IsAllowed node → attr_reason node c ≡ first_reason (attr_fault (attr_node_term c node)) (room_of node c)
 reason_parts node c allowed = ap (λ o. first_reason (attr_fault (attr_node_term c node)) (first_reason o (first_reason (room_of node c) (key_reason node)))) allowed.0
     ∙ ap (λ o. first_reason (attr_fault (attr_node_term c node)) (first_reason (room_of node c) o)) allowed.1
     ∙ ap (first_reason (attr_fault (attr_node_term c node))) (last (room_of node c))
@@ -105,7 +105,7 @@ reason_parts node c allowed = ap (λ o. first_reason (attr_fault (attr_node_term
     last None = refl
     last (Some r) = refl
 
-pub attr_done_exact : (c : Things) (node : AttrNode) (y : AttrTerm) → IsAllowed node → From (IsNodeOf node y) c → Exact things Same c AttrStands (attr_done node) (DoneIf (attr_fault y ≡ None) y)
+pub attr_done_exact : (c : ContextModel) (node : AttrNode) (y : AttrTerm) → IsAllowed node → From (IsNodeOf node y) c → Exact things Same c AttrStands (attr_done node) (DoneIf (attr_fault y ≡ None) y)
 unfolding attr_done attr_step
 attr_done_exact c node y allowed r = record {
   found = λ s t x s' g sound h e.
@@ -128,10 +128,10 @@ attr_done_exact c node y allowed r = record {
       (full_cases (same_attr (kept s.1.names node)) s.1.attrs));
 }
   where
-    fault_of : (z : Things) → IsNodeOf node y z → attr_fault (attr_node_term z node) ≡ attr_fault y
+    fault_of : (z : ContextModel) → IsNodeOf node y z → attr_fault (attr_node_term z node) ≡ attr_fault y
     fault_of z n = sym (kept_fault z node) ∙ ap attr_fault n.1
 
--- ---- a value before which something is interned
+-- ---- a value with an entry interned before it
 
 module _ {B C : Type 0} (z : B) (Q : B → Grammar Text C) where
   pub done_then : (y : C) (t t' : Text) → Then (Done z) Q y t t' → Q z y t t'
@@ -140,25 +140,25 @@ module _ {B C : Type 0} (z : B) (Q : B → Grammar Text C) where
   pub then_done : (y : C) (t t' : Text) → Q z y t t' → Then (Done z) Q y t t'
   then_done y t t' k = (z, t, (refl, refl), k)
 
-pub done_if_exact : {A B : Type 0} (c : Things) (R : Things → A → B → Type 0) (p : Parse Typed A) (F : Type 0) (z : B) → F → Exact things Same c R p (DoneIf F z) → Exact things Same c R p (Done z)
+pub done_if_exact : {A B : Type 0} (c : ContextModel) (R : ContextModel → A → B → Type 0) (p : Parse Typed A) (F : Type 0) (z : B) → F → Exact things Same c R p (DoneIf F z) → Exact things Same c R p (Done z)
 done_if_exact c R p F z holds = exact_spelled things Same c R p (DoneIf F z) (Done z) (λ y t t' k. (k.1, k.2)) (λ y t t' k. (holds, k.0, k.1))
 
--- ---- more of readers that are exact
+-- ---- more lemmas about agreement
 
--- nothing is at the depth of none
-pub zero_exact : (c : Things) → Exact things Same c AttrStands (λ s. Wrong) (λ y old new. ⊥)
+-- no attribute has depth 0
+pub zero_exact : (c : ContextModel) → Exact things Same c AttrStands (λ s. Wrong) (λ y old new. ⊥)
 zero_exact c = nothing_exact things Same c AttrStands
 
--- what is so in each sound context may be used
-pub exact_given : {A B : Type 0} (c : Things) (R : Things → A → B → Type 0) (p : Parse Typed A) (P : Grammar Text B) → ((z : Things) → Grows c z → IsSound z → Exact things Same z R p P) → Exact things Same c R p P
+-- a fact that holds in each sound context may be used
+pub exact_given : {A B : Type 0} (c : ContextModel) (R : ContextModel → A → B → Type 0) (p : Parse Typed A) (P : Grammar Text B) → ((z : ContextModel) → IsExtendedBy c z → IsSound z → Exact things Same z R p P) → Exact things Same c R p P
 exact_given c R p P each = record {
   found = λ s t x s' g sound h e. (each s.1 g sound).found s t x s' (grows_refl s.1) sound h e;
   only = λ s t y t' g sound h k. (each s.1 g sound).only s t y t' (grows_refl s.1) sound h k;
 }
 
--- what is so of all that is read may be used
-module _ {A B : Type 0} (c : Things) (R : Things → A → B → Type 0) (p : Parse Typed A) (P : Grammar Text B) (F : A → Type 0) (fact : (s : Typed) (x : A) (s' : Typed) → p s ≡ Read (x, s') → F x) where
-  abbrev Both : Things → A → B → Type 0
+-- a fact about every result of a parser may be used
+module _ {A B : Type 0} (c : ContextModel) (R : ContextModel → A → B → Type 0) (p : Parse Typed A) (P : Grammar Text B) (F : A → Type 0) (fact : (s : Typed) (x : A) (s' : Typed) → p s ≡ Read (x, s') → F x) where
+  abbrev Both : ContextModel → A → B → Type 0
   Both z x y = R z x y × F x
 
   step_with : (s : Typed) (x : A) (y : B) (s' : Typed) (t' : Text) → F x → Step things Same R s x y s' t' → Step things Same Both s x y s' t'

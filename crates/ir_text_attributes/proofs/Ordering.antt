@@ -1,4 +1,4 @@
--- Entries in order are the given ones, and rise where each key stands once.
+-- Sorting permutes the entries, and the keys rise if they are distinct.
 use Rattle.std.proofs.Common.{◌≡◌, refl, sym, ap, ◌∙◌, ℕ, Bool, true, false, true≢false, ◌&&◌, List, [], ◌∷◌, map, arith}
 use Rattle.std.specs.Prelude.{IsPermutation, if◌then◌else◌}
 use Rattle.std.specs.List.{AllByRecursion, IsDistinct}
@@ -43,7 +43,7 @@ module _ {K A : Type 0} (before : K → K → Bool) where
 
 -- ---- their keys rise
 
--- of two keys that differ one comes before the other
+-- of two different keys, one is less than the other
 other_way : (k l : List ℕ) → bytes_eq k l ≡ false → key_before k l ≡ false → key_before l k ≡ true
 other_way k l differ late = go (slice_cmp nat_cmp k l) refl
   where

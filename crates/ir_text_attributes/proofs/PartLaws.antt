@@ -1,4 +1,4 @@
--- Arrays and dictionaries that are read are spelled, and those that are spelled are read.
+-- The parser and the grammar of arrays and dictionaries agree.
 use Rattle.std.specs.Prelude.{if◌then◌else◌, nat_eq, ◌||◌, ◌==◌}
 use Rattle.std.specs.List.{AllByRecursion, list_any}
 use Rattle.std.specs.Str.{bytes_eq}
@@ -11,10 +11,10 @@ use Rattle.ir_text_tokens.specs.Strings.{string_bytes}
 use Rattle.ir_text_tokens.specs.Tokens.{Lexeme, bare, string}
 use Rattle.ir_types.specs.declared.node.AttrNode.TheVariants as attr
 use Rattle.ir_types.specs.declared.refusal.Refusal.TheVariants.{TooMany, DuplicateKey}
-use Rattle.ir_types.specs.Things.{Things, AttrIsOf}
+use Rattle.ir_types.specs.Things.{ContextModel, AttrIsOf}
 use Rattle.ir_types.specs.Terms.{AttrTerm, AttrTerms, Flag, Array, Dictionary, next_attr, next_entry, attr_terms, attrs_at, name_term}
 use Rattle.ir_types.specs.Terms as terms
-use Rattle.ir_types.specs.Dictionaries.{comes_before, placed_among, sorted, kept, has_twin}
+use Rattle.ir_types.specs.Dictionaries.{comes_before, placed_among, sorted, kept, has_duplicate}
 use Rattle.ir_types.specs.Sound.{IsSound}
 use Rattle.ir_types.proofs.Growth.{grows_refl, grows_trans, name_is, name_refl}
 use Rattle.ir_types.proofs.Terms.{name_term_one}
@@ -28,7 +28,7 @@ use Rattle.ir_text_types.specs.Standing.{NameStands, AttrStands}
 use Rattle.ir_text_types.specs.Laws.{Each}
 use Rattle.ir_text_types.proofs.Worlds.{bind_read, option_read, Exact, exact_where, exact_spelled, nothing_exact, then_exact, done_exact, either_exact, list_exact}
 use Rattle.ir_text_types.proofs.TextLaws.{things, Same, typed_marks}
-use Rattle.ir_text_types.proofs.TokenLaws.{behind_exact, token_exact}
+use Rattle.ir_text_types.proofs.TokenLaws.{trailing_exact, token_exact}
 use Rattle.ir_text_attributes.specs.AttrReading.{Entries, name_done, attr_done, key_from, key_at, unit_value_at, value_from, value_by, entry_by, entries_by, dictionary_by, attrs_by, array_by}
 use Rattle.ir_text_attributes.specs.AttrGrammar.{EntryTerm, IsFine, IsKey, IsUnitValue, IsValue, IsEntry, IsArray, IsDictionary, attrs_of, entries_of}
 use Rattle.ir_tree.specs.Meaning.{key_before}
@@ -38,7 +38,7 @@ use Rattle.ir_text_attributes.proofs.LeafLaws.{unit_node}
 use Rattle.ir_types.proofs.Truths.{same_bool}
 
 -- a key and an attribute
-abbrev pub EntryStands : Things → ℕ × ℕ → EntryTerm → Type 0
+abbrev pub EntryStands : ContextModel → ℕ × ℕ → EntryTerm → Type 0
 EntryStands z x y = NameStands z x.0 y.0 × AttrStands z x.1 y.1
 
 -- ---- keys
@@ -48,9 +48,9 @@ KeyFrom (bare w) rest y old new = Done w y rest new
 KeyFrom (string raw) rest y old new = Done (string_bytes raw) y rest new
 KeyFrom _ rest y old new = ⊥
 
-key_from_exact : (c : Things) (l : Lexeme) (rest : Text) → Exact things Same c NameStands (λ s. key_from s.1 l rest) (KeyFrom l rest)
-key_from_exact c (bare w) rest = behind_exact c NameStands rest (name_done w) (Done w) (name_done_exact c w)
-key_from_exact c (string raw) rest = behind_exact c NameStands rest (name_done (string_bytes raw)) (Done (string_bytes raw)) (name_done_exact c (string_bytes raw))
+key_from_exact : (c : ContextModel) (l : Lexeme) (rest : Text) → Exact things Same c NameStands (λ s. key_from s.1 l rest) (KeyFrom l rest)
+key_from_exact c (bare w) rest = trailing_exact c NameStands rest (name_done w) (Done w) (name_done_exact c w)
+key_from_exact c (string raw) rest = trailing_exact c NameStands rest (name_done (string_bytes raw)) (Done (string_bytes raw)) (name_done_exact c (string_bytes raw))
 key_from_exact c _ rest = nothing_exact things Same c NameStands
 
 key_into : (y : List ℕ) (t t' : Text) → (l : Lexeme) × (rest : Text) × Token l t rest × KeyFrom l rest y t t' → IsKey y t t'
@@ -65,20 +65,20 @@ key_back : (y : List ℕ) (t t' : Text) → IsKey y t t' → (l : Lexeme) × (re
 key_back y t t' (inl k) = (bare y, t', k, (refl, refl))
 key_back y t t' (inr k) = (string k.0, t', k.1, (k.2, refl))
 
-pub key_exact : (c : Things) → Exact things Same c NameStands key_at IsKey
+pub key_exact : (c : ContextModel) → Exact things Same c NameStands key_at IsKey
 unfolding key_at
 key_exact c =
     exact_spelled things Same c NameStands key_at (λ y old new. (l : Lexeme) × (rest : Text) × Token l old rest × KeyFrom l rest y old new) IsKey key_into key_back
     (token_exact c NameStands (λ s l rest. key_from s.1 l rest) KeyFrom (key_from_exact c))
 
--- names of a sound context are equal exactly where their bytes are
-pub keys_agree : (z : Things) → IsSound z → (k l : ℕ) (x y : List ℕ) → NameStands z k x → NameStands z l y → nat_eq k l ≡ bytes_eq x y
+-- two names of a sound context are equal if and only if their bytes are
+pub keys_agree : (z : ContextModel) → IsSound z → (k l : ℕ) (x y : List ℕ) → NameStands z k x → NameStands z l y → nat_eq k l ≡ bytes_eq x y
 keys_agree z sound k l x y h j =
     same_bool (nat_eq k l) (bytes_eq x y)
     (λ e. subst (λ w. bytes_eq x w ≡ true) (sym h.1 ∙ ap (name_term z) (eqb-true k l e) ∙ j.1) (name_refl x))
     (λ e. eq-eqb k l (name_term_one z k l sound h.0 j.0 (h.1 ∙ name_is x y e ∙ sym j.1)))
 
-known_same : (z : Things) → IsSound z → (k : ℕ) (y : List ℕ) (es : Entries) (fs : List EntryTerm) → NameStands z k y → Each EntryStands z es fs → has_key nat_eq k es ≡ has_key bytes_eq y fs
+known_same : (z : ContextModel) → IsSound z → (k : ℕ) (y : List ℕ) (es : Entries) (fs : List EntryTerm) → NameStands z k y → Each EntryStands z es fs → has_key nat_eq k es ≡ has_key bytes_eq y fs
 known_same z sound k y [] [] h all = refl
 known_same z sound k y [] (f ∷ fs) h all = absurd all
 known_same z sound k y (e ∷ es) [] h all = absurd all
@@ -86,10 +86,10 @@ known_same z sound k y (e ∷ es) (f ∷ fs) h all = λ i. keys_agree z sound e.
 
 -- ---- the order of entries
 
-same_order : (z : Things) (a b : ℕ × ℕ) (x y : EntryTerm) → EntryStands z a x → EntryStands z b y → comes_before z.names a b ≡ key_before x.0 y.0
+same_order : (z : ContextModel) (a b : ℕ × ℕ) (x y : EntryTerm) → EntryStands z a x → EntryStands z b y → comes_before z.names a b ≡ key_before x.0 y.0
 same_order z a b x y h j = λ i. key_before (h.0.1 i) (j.0.1 i)
 
-placed_stands : (z : Things) (e : ℕ × ℕ) (x : EntryTerm) (fs : Entries) (ys : List EntryTerm) → EntryStands z e x → Each EntryStands z fs ys → Each EntryStands z (placed_among z.names e fs) (put_among key_before x ys)
+placed_stands : (z : ContextModel) (e : ℕ × ℕ) (x : EntryTerm) (fs : Entries) (ys : List EntryTerm) → EntryStands z e x → Each EntryStands z fs ys → Each EntryStands z (placed_among z.names e fs) (put_among key_before x ys)
 placed_stands z e x [] [] h all = (h, tt)
 placed_stands z e x [] (y ∷ ys) h all = absurd all
 placed_stands z e x (f ∷ fs) [] h all = absurd all
@@ -101,7 +101,7 @@ placed_stands z e x (f ∷ fs) (y ∷ ys) h all = by_test (placed_stands z e x f
     by_test rest false true same = absurd (true≢false (sym same))
     by_test rest false false same = (all.0, rest)
 
-sorted_stands : (z : Things) (es : Entries) (ys : List EntryTerm) → Each EntryStands z es ys → Each EntryStands z (sorted z.names es) (in_order key_before ys)
+sorted_stands : (z : ContextModel) (es : Entries) (ys : List EntryTerm) → Each EntryStands z es ys → Each EntryStands z (sorted z.names es) (in_order key_before ys)
 sorted_stands z [] [] all = tt
 sorted_stands z [] (y ∷ ys) all = absurd all
 sorted_stands z (e ∷ es) [] all = absurd all
@@ -109,48 +109,48 @@ sorted_stands z (e ∷ es) (y ∷ ys) all = placed_stands z e y (sorted z.names 
 
 -- ---- nodes
 
-entries_term : (z : Things) (es : Entries) (ys : List EntryTerm) → Each EntryStands z es ys → terms.entries_at z.names (attr_terms z) es ≡ entries_of ys
+entries_term : (z : ContextModel) (es : Entries) (ys : List EntryTerm) → Each EntryStands z es ys → terms.entries_at z.names (attr_terms z) es ≡ entries_of ys
 entries_term z [] [] all = refl
 entries_term z [] (y ∷ ys) all = absurd all
 entries_term z (e ∷ es) [] all = absurd all
 entries_term z (e ∷ es) (y ∷ ys) all = λ i. next_entry (all.0.0.1 i) (all.0.1.1 i) (entries_term z es ys all.1 i)
 
-keys_below : (z : Things) (es : Entries) (ys : List EntryTerm) → Each EntryStands z es ys → AllByRecursion (λ (e : ℕ × ℕ). e.0 < length z.names) es
+keys_below : (z : ContextModel) (es : Entries) (ys : List EntryTerm) → Each EntryStands z es ys → AllByRecursion (λ (e : ℕ × ℕ). e.0 < length z.names) es
 keys_below z [] [] all = tt
 keys_below z [] (y ∷ ys) all = absurd all
 keys_below z (e ∷ es) [] all = absurd all
 keys_below z (e ∷ es) (y ∷ ys) all = (all.0.0.0, keys_below z es ys all.1)
 
-values_below : (z : Things) (es : Entries) (ys : List EntryTerm) → Each EntryStands z es ys → AllByRecursion (λ (e : ℕ × ℕ). e.1 < length z.attrs) es
+values_below : (z : ContextModel) (es : Entries) (ys : List EntryTerm) → Each EntryStands z es ys → AllByRecursion (λ (e : ℕ × ℕ). e.1 < length z.attrs) es
 values_below z [] [] all = tt
 values_below z [] (y ∷ ys) all = absurd all
 values_below z (e ∷ es) [] all = absurd all
 values_below z (e ∷ es) (y ∷ ys) all = (all.0.1.0, values_below z es ys all.1)
 
-dictionary_node : (z : Things) (es : Entries) (ys : List EntryTerm) → Each EntryStands z es ys → IsNodeOf (attr.Dict es) (Dictionary (entries_of (in_order key_before ys))) z
+dictionary_node : (z : ContextModel) (es : Entries) (ys : List EntryTerm) → Each EntryStands z es ys → IsNodeOf (attr.Dict es) (Dictionary (entries_of (in_order key_before ys))) z
 unfolding kept
 dictionary_node z es ys all = (
   (All-from_recursion (λ (e : ℕ × ℕ). e.0 < length z.names) es (keys_below z es ys all), All-from_recursion (λ (e : ℕ × ℕ). e.1 < length z.attrs) es (values_below z es ys all)),
   ap Dictionary (entries_term z (sorted z.names es) (in_order key_before ys) (sorted_stands z es ys all)),
 )
 
-attrs_below : (z : Things) (xs : List ℕ) (ys : List AttrTerm) → Each AttrStands z xs ys → AllByRecursion (λ a. a < length z.attrs) xs
+attrs_below : (z : ContextModel) (xs : List ℕ) (ys : List AttrTerm) → Each AttrStands z xs ys → AllByRecursion (λ a. a < length z.attrs) xs
 attrs_below z [] [] all = tt
 attrs_below z [] (y ∷ ys) all = absurd all
 attrs_below z (x ∷ xs) [] all = absurd all
 attrs_below z (x ∷ xs) (y ∷ ys) all = (all.0.0, attrs_below z xs ys all.1)
 
-attrs_term : (z : Things) (xs : List ℕ) (ys : List AttrTerm) → Each AttrStands z xs ys → attrs_at (attr_terms z) xs ≡ attrs_of ys
+attrs_term : (z : ContextModel) (xs : List ℕ) (ys : List AttrTerm) → Each AttrStands z xs ys → attrs_at (attr_terms z) xs ≡ attrs_of ys
 attrs_term z [] [] all = refl
 attrs_term z [] (y ∷ ys) all = absurd all
 attrs_term z (x ∷ xs) [] all = absurd all
 attrs_term z (x ∷ xs) (y ∷ ys) all = λ i. next_attr (all.0.1 i) (attrs_term z xs ys all.1 i)
 
-array_node : (z : Things) (xs : List ℕ) (ys : List AttrTerm) → Each AttrStands z xs ys → IsNodeOf (attr.Array xs) (Array (attrs_of ys)) z
+array_node : (z : ContextModel) (xs : List ℕ) (ys : List AttrTerm) → Each AttrStands z xs ys → IsNodeOf (attr.Array xs) (Array (attrs_of ys)) z
 unfolding kept
 array_node z xs ys all = (All-from_recursion (λ a. a < length z.attrs) xs (attrs_below z xs ys all), ap Array (attrs_term z xs ys all))
 
--- ---- no key stands twice
+-- ---- no key is repeated
 
 abbrev keys : Entries → List ℕ
 keys es = map (λ (e : ℕ × ℕ). e.0) es
@@ -161,18 +161,18 @@ any_push k (f ∷ fs) e h j =
     let b = or_parts (k == f.0) (list_any (λ l. k == l) (keys fs)) h in
     rw b.0 (any_push k fs e b.1 j)
 
-twin_push : (es : Entries) (e : ℕ × ℕ) → has_twin (keys es) ≡ false → has_key nat_eq e.0 es ≡ false → has_twin (keys (es ++ e ∷ [])) ≡ false
-twin_push [] e once new = refl
-twin_push (f ∷ fs) e once new =
-    let b = or_parts (list_any (λ l. f.0 == l) (keys fs)) (has_twin (keys fs)) once in
+duplicate_push : (es : Entries) (e : ℕ × ℕ) → has_duplicate (keys es) ≡ false → has_key nat_eq e.0 es ≡ false → has_duplicate (keys (es ++ e ∷ [])) ≡ false
+duplicate_push [] e once new = refl
+duplicate_push (f ∷ fs) e once new =
+    let b = or_parts (list_any (λ l. f.0 == l) (keys fs)) (has_duplicate (keys fs)) once in
     let n = or_parts (nat_eq f.0 e.0) (has_key nat_eq e.0 fs) new in
-    rw (any_push f.0 fs e b.0 n.0) (twin_push fs e b.1 n.1)
+    rw (any_push f.0 fs e b.0 n.0) (duplicate_push fs e b.1 n.1)
 
 abbrev with_value : ℕ → Outcome (ℕ × Typed) → Outcome ((ℕ × ℕ) × Typed)
 with_value k o = o >>= λ a. Read ((k, a.0), a.1)
 
 module _ (depth : ℕ) (p : Parse Typed ℕ) where
-  -- the value of an entry whose key is free
+  -- the value of an entry whose key is new
   abbrev valued : Entries → ℕ × Typed → Outcome ((ℕ × ℕ) × Typed)
   valued before k = with_value k.0 (if has_key nat_eq k.0 before then Wrong else value_by depth p k.1)
 
@@ -192,12 +192,12 @@ module _ (depth : ℕ) (p : Parse Typed ℕ) where
           entry_read : ℕ → ℕ × Typed → Outcome ((ℕ × ℕ) × Typed)
           entry_read k a = Read ((k, a.0), a.1)
 
-  -- an item was read: the end, or a comma and more
+  -- after an item: the end, or a comma and more items
   abbrev ends : ℕ → Entries → Typed → Option Typed → Outcome (Entries × Typed)
   ends room items mid o = more_from after_typed CloseCurly (entry_by depth p) (more_at after_typed CloseCurly (entry_by depth p) room) items mid o
 
   abbrev Few : ℕ → Entries → Type 0
-  Few n es = (has_twin (keys es) ≡ false) × (length es ≤ n)
+  Few n es = (has_duplicate (keys es) ≡ false) × (length es ≤ n)
 
   ends_few : (room n : ℕ) (items : Entries) (mid : Typed) (all : Entries) (s' : Typed) → ((items : Entries) (s : Typed) → Few (n - room) items → more_at after_typed CloseCurly (entry_by depth p) room items s ≡ Read (all, s') → Few n all)
       → room ≤ n → Few (n - room) items → (o : Option Typed) → ends room items mid o ≡ Read (all, s') → Few n all
@@ -213,7 +213,7 @@ module _ (depth : ℕ) (p : Parse Typed ℕ) where
   more_few n zero le items s all s' few e = absurd cc
   more_few n (suc room) le items s all s' few e =
       let a = bind_read (entry_by depth p items s) (λ x. ends room (items ++ x.0 ∷ []) x.1 (after_typed CloseCurly x.1)) (all, s') e in
-      let longer : Few (n - room) (items ++ a.0.0 ∷ []) = (twin_push items a.0.0 few.0 (entry_new items s a.0.0 a.0.1 a.1), omega (arith, few.1, le, length-append items (a.0.0 ∷ []))) in
+      let longer : Few (n - room) (items ++ a.0.0 ∷ []) = (duplicate_push items a.0.0 few.0 (entry_new items s a.0.0 a.0.1 a.1), omega (arith, few.1, le, length-append items (a.0.0 ∷ []))) in
       ends_few room n (items ++ a.0.0 ∷ []) a.0.1 all s' (λ is t k f. more_few n room (omega (arith, le)) is t all s' k f) (omega (arith, le)) longer (after_typed CloseCurly a.0.1) a.2
 
   allowed_from : (es : Entries) → Few 256 es → IsAllowed (attr.Dict es)
@@ -232,18 +232,18 @@ module _ (depth : ℕ) (p : Parse Typed ℕ) where
 
 -- ---- values and entries
 
-unit_value_exact : (depth : ℕ) (c : Things) → Exact things Same c AttrStands (unit_value_at depth) (IsUnitValue depth)
+unit_value_exact : (depth : ℕ) (c : ContextModel) → Exact things Same c AttrStands (unit_value_at depth) (IsUnitValue depth)
 unfolding unit_value_at
 unit_value_exact zero c = zero_exact c
 unit_value_exact (suc depth) c = attr_done_exact c attr.Unit Flag (refl, refl) (λ z k w. unit_node z)
 
-module _ (depth : ℕ) (p : Parse Typed ℕ) (P : Grammar Text AttrTerm) (item : (c : Things) → Exact things Same c AttrStands p P) where
-  pub value_exact : (c : Things) → Exact things Same c AttrStands (value_by depth p) (IsValue depth P)
+module _ (depth : ℕ) (p : Parse Typed ℕ) (P : Grammar Text AttrTerm) (item : (c : ContextModel) → Exact things Same c AttrStands p P) where
+  pub value_exact : (c : ContextModel) → Exact things Same c AttrStands (value_by depth p) (IsValue depth P)
   unfolding value_by
   value_exact c =
       either_exact things Same after_typed IsMark typed_marks c AttrStands Equal (value_from depth p) p (unit_value_at depth) P (IsUnitValue depth) (λ s mid. refl) (λ s. refl) (item c) (unit_value_exact depth c)
 
-  module _ (d : Things) (k : ℕ) (y : List ℕ) (stands : From (λ z. NameStands z k y) d) where
+  module _ (d : ContextModel) (k : ℕ) (y : List ℕ) (stands : From (λ z. NameStands z k y) d) where
     free_exact : (b : Bool) → Exact things Same d EntryStands (λ s. with_value k (if b then Wrong else value_by depth p s)) (When (b ≡ false) (Then (IsValue depth P) (λ a. Done (y, a))))
     free_exact true =
         exact_spelled things Same d EntryStands (λ s. Wrong) (λ v old new. ⊥) (When (true ≡ false) (Then (IsValue depth P) (λ a. Done (y, a)))) (λ v t t' e. absurd e) (λ v t t' e. absurd (true≢false e.0))
@@ -253,7 +253,7 @@ module _ (depth : ℕ) (p : Parse Typed ℕ) (P : Grammar Text AttrTerm) (item :
         (then_exact things Same d AttrStands EntryStands (value_by depth p) (IsValue depth P) (λ a s. Read ((k, a), s)) (λ a. Done (y, a)) (value_exact d) (λ e a v g r.
         done_exact things Same e EntryStands (k, a) (y, v) (λ z j w. (stands z (grows_trans d e z g j) w, r z j w))))
 
-  entry_exact : (c : Things) (es : Entries) (fs : List EntryTerm) → From (λ z. Each EntryStands z es fs) c → Exact things Same c EntryStands (entry_by depth p es) (IsEntry depth P fs)
+  entry_exact : (c : ContextModel) (es : Entries) (fs : List EntryTerm) → From (λ z. Each EntryStands z es fs) c → Exact things Same c EntryStands (entry_by depth p es) (IsEntry depth P fs)
   unfolding entry_by
   entry_exact c es fs front =
       then_exact things Same c NameStands EntryStands key_at IsKey (λ k s. with_value k (if has_key nat_eq k es then Wrong else value_by depth p s)) (λ y. When (has_key bytes_eq y fs ≡ false) (Then (IsValue depth P) (λ a. Done (y, a))))
@@ -262,11 +262,11 @@ module _ (depth : ℕ) (p : Parse Typed ℕ) (P : Grammar Text AttrTerm) (item :
       (λ s h sound. ap (λ t. with_value k (if t then Wrong else value_by depth p s)) (known_same s.1 sound k y es fs (r s.1 h sound) (front s.1 (grows_trans c d s.1 g h) sound)))
       (free_exact d k y r (has_key bytes_eq y fs)))
 
-  entries_exact : (c : Things) → Exact things Same c (Each EntryStands) (entries_by depth p) (IsList IsMark CloseCurly (IsEntry depth P) 256)
+  entries_exact : (c : ContextModel) → Exact things Same c (Each EntryStands) (entries_by depth p) (IsList IsMark CloseCurly (IsEntry depth P) 256)
   unfolding entries_by
   entries_exact c = list_exact things Same after_typed IsMark typed_marks EntryStands CloseCurly (entry_by depth p) (IsEntry depth P) entry_exact 256 c
 
-  pub dictionary_exact : (c : Things) → Exact things Same c AttrStands (dictionary_by depth p) (IsDictionary depth P)
+  pub dictionary_exact : (c : ContextModel) → Exact things Same c AttrStands (dictionary_by depth p) (IsDictionary depth P)
   unfolding dictionary_by IsDictionary
   dictionary_exact c =
       then_exact things Same c (λ z x y. Each EntryStands z x y × IsAllowed (attr.Dict x)) AttrStands (entries_by depth p) (IsList IsMark CloseCurly (IsEntry depth P) 256) (λ es. attr_done (attr.Dict es)) (λ ys. IsFine (Dictionary (entries_of (in_order key_before ys))))
@@ -274,23 +274,23 @@ module _ (depth : ℕ) (p : Parse Typed ℕ) (P : Grammar Text AttrTerm) (item :
       exact_given d AttrStands (attr_done (attr.Dict es)) (IsFine (Dictionary (entries_of (in_order key_before ys)))) (λ z k sound.
       attr_done_exact z (attr.Dict es) (Dictionary (entries_of (in_order key_before ys))) (r z k sound).1 (λ z' k' w. dictionary_node z' es ys (r z' (grows_trans d z z' k k') w).0)))
 
-  attrs_exact : (c : Things) → Exact things Same c (Each AttrStands) (attrs_by depth p) (IsList IsMark CloseSquare (λ before. P) many)
+  attrs_exact : (c : ContextModel) → Exact things Same c (Each AttrStands) (attrs_by depth p) (IsList IsMark CloseSquare (λ before. P) many)
   unfolding attrs_by
   attrs_exact c = list_exact things Same after_typed IsMark typed_marks AttrStands CloseSquare (λ before. p) (λ before. P) (λ d xs ys r. item d) many c
 
-  pub array_exact : (c : Things) → Exact things Same c AttrStands (array_by depth p) (IsArray depth P)
+  pub array_exact : (c : ContextModel) → Exact things Same c AttrStands (array_by depth p) (IsArray depth P)
   unfolding array_by IsArray
   array_exact c =
       then_exact things Same c (Each AttrStands) AttrStands (attrs_by depth p) (IsList IsMark CloseSquare (λ before. P) many) (λ xs. attr_done (attr.Array xs)) (λ ys. IsFine (Array (attrs_of ys))) (attrs_exact c) (λ d xs ys g r.
       attr_done_exact d (attr.Array xs) (Array (attrs_of ys)) (refl, refl) (λ z k w. array_node z xs ys (r z k w)))
 
-  -- what is read is of the context as it is then
-  pub entries_known : (bytes rest : List ℕ) (c d : Things) (es : Entries) → IsSound c → entries_by depth p (bytes, c) ≡ Read (es, (rest, d)) → AttrIsOf d (attr.Dict es)
+  -- the entries that are parsed are entries of the grown context
+  pub entries_known : (bytes rest : List ℕ) (c d : ContextModel) (es : Entries) → IsSound c → entries_by depth p (bytes, c) ≡ Read (es, (rest, d)) → AttrIsOf d (attr.Dict es)
   entries_known bytes rest c d es sound e =
       let f = (entries_exact c).found (bytes, c) bytes es (rest, d) (grows_refl c) sound (λ z g w. refl) e in
       (dictionary_node d es f.0 (f.3.stands d (grows_refl d) f.3.sound)).0
 
-  pub attrs_known : (bytes rest : List ℕ) (c d : Things) (xs : List ℕ) → IsSound c → attrs_by depth p (bytes, c) ≡ Read (xs, (rest, d)) → AttrIsOf d (attr.Array xs)
+  pub attrs_known : (bytes rest : List ℕ) (c d : ContextModel) (xs : List ℕ) → IsSound c → attrs_by depth p (bytes, c) ≡ Read (xs, (rest, d)) → AttrIsOf d (attr.Array xs)
   attrs_known bytes rest c d xs sound e =
       let f = (attrs_exact c).found (bytes, c) bytes xs (rest, d) (grows_refl c) sound (λ z g w. refl) e in
       (array_node d xs f.0 (f.3.stands d (grows_refl d) f.3.sound)).0

@@ -1,4 +1,4 @@
--- The parts of a symbol reference read one after the other, as a loop does.
+-- The parts of a symbol reference are parsed one by one, as a loop does.
 use Rattle.std.proofs.Common.{◌≡◌, ℕ, suc, ◌+◌, ◌-◌, ◌<◌, ◌≤◌, List, [], ◌∷◌, ◌++◌, Some, None, refl, sym, ◌∙◌, arith}
 use Rattle.ir_text_tokens.specs.declared.token.Mark.TheVariants.{DoubleColon}
 use Rattle.ir_text_types.specs.declared.error.ReadError.{ReadError}

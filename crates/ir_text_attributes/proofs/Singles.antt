@@ -1,11 +1,11 @@
--- One attribute of a text, by the laws of attributes.
+-- One attribute as a whole text, from the theorems about attributes.
 use Rattle.std.specs.Prelude.{Result, Err}
 use Rattle.std.proofs.Common.{◌≡◌, ℕ, Bool, List, [], Option, Some, None, refl, sym, ap, subst, ◌∙◌, ⊎_elim}
 use Rattle.ir_text_tokens.specs.declared.fault.Fault.{Fault}
 use Rattle.ir_text_tokens.specs.declared.token.Mark.TheVariants.{End}
 use Rattle.ir_text_tokens.specs.Limits.{text_reason}
 use Rattle.ir_text_tokens.specs.declared.refusal.TextRefusal.{TextRefusal}
-use Rattle.ir_types.specs.Things.{Things, Grows}
+use Rattle.ir_types.specs.Things.{ContextModel, IsExtendedBy}
 use Rattle.ir_types.specs.Sound.{IsSound}
 use Rattle.ir_types.specs.Terms.{AttrTerm, attr_term}
 use Rattle.ir_text_types.specs.declared.error.ReadError.{ReadError}
@@ -25,14 +25,14 @@ use Rattle.ir_text_attributes.specs.Claims.{IsOnlyAttr, IsNoAttr}
 use Rattle.ir_text_attributes.proofs.AttrLaws.{attr_read, attr_spelled}
 use Rattle.ir_text_attributes.proofs.UniqueAttributes.{attr_one}
 
-module _ (o : Bool) (bytes : List ℕ) (c : Things) (sound : IsSound c) where
-  -- what is left behind an attribute that is spelled
+module _ (o : Bool) (bytes : List ℕ) (c : ContextModel) (sound : IsSound c) where
+  -- the rest of the text after an attribute
   rest_is : (n : ℕ) (s : Typed) → attr_at o 32 (bytes, c) ≡ Read (n, s) → (y : AttrTerm) (rest : List ℕ) → IsAttr o 32 y bytes rest → rest ≡ s.0
   rest_is n s e y rest k =
       let r = attr_read o 32 c s.1 bytes s.0 n sound e in
       (attr_one o 32 bytes y (attr_term s.1 n) rest s.0 k r.3).1
 
-  alone_read : (n : ℕ) (s : Typed) (end : List ℕ) → attr_at o 32 (bytes, c) ≡ Read (n, s) → after End s.0 ≡ Some end → IsOnlyAttr (IsSingleAttr o bytes) s.1 n × Grows c s.1
+  alone_read : (n : ℕ) (s : Typed) (end : List ℕ) → attr_at o 32 (bytes, c) ≡ Read (n, s) → after End s.0 ≡ Some end → IsOnlyAttr (IsSingleAttr o bytes) s.1 n × IsExtendedBy c s.1
   unfolding IsSingleAttr
   alone_read n s end e ends =
       let r = attr_read o 32 c s.1 bytes s.0 n sound e in (
@@ -55,29 +55,29 @@ module _ (o : Bool) (bytes : List ℕ) (c : Things) (sound : IsSound c) where
   unfolding IsSingleAttr
   none_wrong e y h = ⊎_elim
       (λ (f : attr_at o 32 (bytes, c) ≡ Full). absurd cc)
-      (λ (f : (n : ℕ) × (d : Things) × (attr_at o 32 (bytes, c) ≡ Read (n, (h.0, d))) × Grows c d × IsSound d × AttrStands d n y). let g = f.2 in absurd cc)
+      (λ (f : (n : ℕ) × (d : ContextModel) × (attr_at o 32 (bytes, c) ≡ Read (n, (h.0, d))) × IsExtendedBy c d × IsSound d × AttrStands d n y). let g = f.2 in absurd cc)
       (attr_spelled o 32 c bytes h.0 y sound h.2)
 
-  abbrev told : ℕ → Things → List ℕ → Outcome (ℕ × Things)
+  abbrev told : ℕ → ContextModel → List ℕ → Outcome (ℕ × ContextModel)
   told n d end = Read (n, d)
 
-  abbrev whole : ℕ × Typed → Outcome (ℕ × Things)
+  abbrev whole : ℕ × Typed → Outcome (ℕ × ContextModel)
   whole x = of_option (after End x.1.0) >>= told x.0 x.1.1
 
-  -- what was read
-  parts_are : (n m : ℕ) (d z : Things) → told n d [] ≡ told m z [] → (n ≡ m) × (d ≡ z)
+  -- equal results of a parse have equal parts
+  parts_are : (n m : ℕ) (d z : ContextModel) → told n d [] ≡ told m z [] → (n ≡ m) × (d ≡ z)
   parts_are n m d z e =
       let p : (n, d) ≡ (m, z) = cc in
-      (ap (λ (q : ℕ × Things). q.0) p, ap (λ (q : ℕ × Things). q.1) p)
+      (ap (λ (q : ℕ × ContextModel). q.0) p, ap (λ (q : ℕ × ContextModel). q.1) p)
 
-  -- the same, by the reader of one attribute
-  pub single_read : (n : ℕ) (d : Things) → single_attr_at o bytes c ≡ Read (n, d) → IsOnlyAttr (IsSingleAttr o bytes) d n × Grows c d
+  -- the same for the parser of one attribute
+  pub single_read : (n : ℕ) (d : ContextModel) → single_attr_at o bytes c ≡ Read (n, d) → IsOnlyAttr (IsSingleAttr o bytes) d n × IsExtendedBy c d
   unfolding single_attr_at
   single_read n d e =
       let a = bind_read (attr_at o 32 (bytes, c)) whole (n, d) e in
       let b = option_read (after End a.0.1.0) (told a.0.0 a.0.1.1) (n, d) a.2 in
       let q = parts_are a.0.0 n a.0.1.1 d b.2 in
-      subst (λ (u : ℕ × Things). IsOnlyAttr (IsSingleAttr o bytes) u.1 u.0 × Grows c u.1) (λ i. (q.0 i, q.1 i)) (alone_read a.0.0 a.0.1 b.0 a.1 b.1)
+      subst (λ (u : ℕ × ContextModel). IsOnlyAttr (IsSingleAttr o bytes) u.1 u.0 × IsExtendedBy c u.1) (λ i. (q.0 i, q.1 i)) (alone_read a.0.0 a.0.1 b.0 a.1 b.1)
 
   pub single_wrong : single_attr_at o bytes c ≡ Wrong → IsNoAttr (IsSingleAttr o bytes)
   unfolding single_attr_at
@@ -95,7 +95,7 @@ module _ (o : Bool) (bytes : List ℕ) (c : Things) (sound : IsSound c) where
 -- ---- and the limits of a text
 
 module _ (o : Bool) (bytes : List ℕ) where
-  pub attr_spells : (c : Things) (n : ℕ) → text_reason bytes ≡ None → IsOnlyAttr (IsSingleAttr o bytes) c n → IsOnlyAttr (SpellsAttr o bytes) c n
+  pub attr_spells : (c : ContextModel) (n : ℕ) → text_reason bytes ≡ None → IsOnlyAttr (IsSingleAttr o bytes) c n → IsOnlyAttr (SpellsAttr o bytes) c n
   attr_spells c n text h = record {
     known = h.known;
     holds = record { text = text; spelled = h.holds };
@@ -108,7 +108,7 @@ module _ (o : Bool) (bytes : List ℕ) where
   pub no_text : (r : TextRefusal × ℕ) → text_reason bytes ≡ Some r → IsNoAttr (SpellsAttr o bytes)
   no_text r e y s = let t = s.text in absurd cc
 
--- ---- and what is answered
+-- ---- and the results
 
 pub fails_wrong : {X Y : Type 0} (e : ReadError) (o : Outcome Y) (f : Fault) → Fails e o → ◌≡◌ {A = Result X ReadError} (Err e) (Err (errors.Refused f)) → o ≡ Wrong
 fails_wrong errors.Memory o f h k = absurd cc

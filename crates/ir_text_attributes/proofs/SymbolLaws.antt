@@ -1,4 +1,4 @@
--- Symbol references that are read are spelled, and those that are spelled are read.
+-- The parser and the grammar of symbol references agree.
 use Rattle.std.specs.List.{AllByRecursion}
 use Rattle.std.proofs.Common.{◌≡◌, ◌<◌, ℕ, zero, suc, List, [], ◌∷◌, ◌++◌, length, map, slice_index_or, refl, sym, ap, subst, ◌⊎◌, inl, inr}
 use Rattle.std.proofs.lemmas.List.Elements.{All-from_recursion}
@@ -6,7 +6,7 @@ use Rattle.ir_text_tokens.specs.declared.token.Mark.TheVariants.{DoubleColon}
 use Rattle.ir_text_tokens.specs.Strings.{string_bytes}
 use Rattle.ir_text_tokens.specs.Tokens.{Lexeme, symbol, quoted}
 use Rattle.ir_types.specs.declared.node.AttrNode.TheVariants as attr
-use Rattle.ir_types.specs.Things.{Things, AttrIsOf}
+use Rattle.ir_types.specs.Things.{ContextModel, AttrIsOf}
 use Rattle.ir_types.specs.Terms.{Symbol}
 use Rattle.ir_types.specs.Dictionaries.{kept}
 use Rattle.ir_types.specs.Sound.{IsSound}
@@ -20,7 +20,7 @@ use Rattle.ir_text_types.specs.Standing.{NameStands, AttrStands}
 use Rattle.ir_text_types.specs.Laws.{Each}
 use Rattle.ir_text_types.proofs.Worlds.{Exact, exact_spelled, nothing_exact, then_exact, done_exact, either_exact, each_push}
 use Rattle.ir_text_types.proofs.TextLaws.{things, Same, typed_marks}
-use Rattle.ir_text_types.proofs.TokenLaws.{behind_exact, token_exact}
+use Rattle.ir_text_types.proofs.TokenLaws.{trailing_exact, token_exact}
 use Rattle.ir_text_attributes.specs.AttrReading.{name_done, attr_done, part_from, part_at, parts_from, parts_at, symbol_attr_at}
 use Rattle.ir_text_attributes.specs.AttrGrammar.{IsFine, IsPart, IsParts, IsSymbol}
 use Rattle.ir_text_attributes.proofs.NodeLaws.{IsNodeOf, name_done_exact, attr_done_exact}
@@ -30,9 +30,9 @@ PartFrom (symbol n) rest y old new = Done n y rest new
 PartFrom (quoted raw) rest y old new = Done (string_bytes raw) y rest new
 PartFrom _ rest y old new = ⊥
 
-part_from_exact : (c : Things) (l : Lexeme) (rest : Text) → Exact things Same c NameStands (λ s. part_from s.1 l rest) (PartFrom l rest)
-part_from_exact c (symbol n) rest = behind_exact c NameStands rest (name_done n) (Done n) (name_done_exact c n)
-part_from_exact c (quoted raw) rest = behind_exact c NameStands rest (name_done (string_bytes raw)) (Done (string_bytes raw)) (name_done_exact c (string_bytes raw))
+part_from_exact : (c : ContextModel) (l : Lexeme) (rest : Text) → Exact things Same c NameStands (λ s. part_from s.1 l rest) (PartFrom l rest)
+part_from_exact c (symbol n) rest = trailing_exact c NameStands rest (name_done n) (Done n) (name_done_exact c n)
+part_from_exact c (quoted raw) rest = trailing_exact c NameStands rest (name_done (string_bytes raw)) (Done (string_bytes raw)) (name_done_exact c (string_bytes raw))
 part_from_exact c _ rest = nothing_exact things Same c NameStands
 
 part_into : (y : List ℕ) (t t' : Text) → (l : Lexeme) × (rest : Text) × Token l t rest × PartFrom l rest y t t' → IsPart y t t'
@@ -47,7 +47,7 @@ part_back : (y : List ℕ) (t t' : Text) → IsPart y t t' → (l : Lexeme) × (
 part_back y t t' (inl k) = (symbol y, t', k, (refl, refl))
 part_back y t t' (inr k) = (quoted k.0, t', k.1, (k.2, refl))
 
-part_exact : (c : Things) → Exact things Same c NameStands part_at IsPart
+part_exact : (c : ContextModel) → Exact things Same c NameStands part_at IsPart
 unfolding part_at
 part_exact c =
     exact_spelled things Same c NameStands part_at (λ y old new. (l : Lexeme) × (rest : Text) × Token l old rest × PartFrom l rest y old new) IsPart part_into part_back
@@ -55,7 +55,7 @@ part_exact c =
 
 -- ---- parts
 
--- the end, or a mark and more
+-- the end, or a `::` and more parts
 abbrev More : ℕ → List (List ℕ) → Grammar Text (List (List ℕ))
 More room ys = Either IsMark DoubleColon (IsParts room ys) (Done ys)
 
@@ -77,7 +77,7 @@ parts_back room front ys t t' k = (k.0, k.1, k.2, by_case k.3)
     by_case (inl j) = inr (j.0, (j.1, j.2))
     by_case (inr j) = inl j
 
-pub parts_exact : (room : ℕ) (c : Things) (ns : List ℕ) (ys : List (List ℕ)) → From (λ z. Each NameStands z ns ys) c → Exact things Same c (Each NameStands) (parts_at room ns) (IsParts room ys)
+pub parts_exact : (room : ℕ) (c : ContextModel) (ns : List ℕ) (ys : List (List ℕ)) → From (λ z. Each NameStands z ns ys) c → Exact things Same c (Each NameStands) (parts_at room ns) (IsParts room ys)
 unfolding parts_at IsParts
 parts_exact zero c ns ys r = nothing_exact things Same c (Each NameStands)
 parts_exact (suc room) c ns ys r =
@@ -88,30 +88,30 @@ parts_exact (suc room) c ns ys r =
     either_exact things Same after_typed IsMark typed_marks d (Each NameStands) DoubleColon (parts_from (parts_at room (ns ++ x ∷ [])) (ns ++ x ∷ [])) (parts_at room (ns ++ x ∷ [])) (λ s. Read (ns ++ x ∷ [], s)) (IsParts room (ys ++ y ∷ [])) (Done (ys ++ y ∷ []))
     (λ s mid. refl) (λ s. refl) (parts_exact room d (ns ++ x ∷ []) (ys ++ y ∷ []) front) (done_exact things Same d (Each NameStands) (ns ++ x ∷ []) (ys ++ y ∷ []) front)))
 
-names_below : (z : Things) (ns : List ℕ) (ys : List (List ℕ)) → Each NameStands z ns ys → AllByRecursion (λ n. n < length z.names) ns
+names_below : (z : ContextModel) (ns : List ℕ) (ys : List (List ℕ)) → Each NameStands z ns ys → AllByRecursion (λ n. n < length z.names) ns
 names_below z [] [] h = tt
 names_below z [] (y ∷ ys) h = absurd h
 names_below z (n ∷ ns) [] h = absurd h
 names_below z (n ∷ ns) (y ∷ ys) h = (h.0.0, names_below z ns ys h.1)
 
-names_term : (z : Things) (ns : List ℕ) (ys : List (List ℕ)) → Each NameStands z ns ys → map (λ n. slice_index_or z.names n []) ns ≡ ys
+names_term : (z : ContextModel) (ns : List ℕ) (ys : List (List ℕ)) → Each NameStands z ns ys → map (λ n. slice_index_or z.names n []) ns ≡ ys
 names_term z [] [] h = refl
 names_term z [] (y ∷ ys) h = absurd h
 names_term z (n ∷ ns) [] h = absurd h
 names_term z (n ∷ ns) (y ∷ ys) h = λ i. h.0.1 i ∷ names_term z ns ys h.1 i
 
-symbol_node : (z : Things) (ns : List ℕ) (ys : List (List ℕ)) → Each NameStands z ns ys → IsNodeOf (attr.Sym ns) (Symbol ys) z
+symbol_node : (z : ContextModel) (ns : List ℕ) (ys : List (List ℕ)) → Each NameStands z ns ys → IsNodeOf (attr.Sym ns) (Symbol ys) z
 unfolding kept
 symbol_node z ns ys h = (All-from_recursion (λ n. n < length z.names) ns (names_below z ns ys h), ap Symbol (names_term z ns ys h))
 
-pub symbol_exact : (c : Things) → Exact things Same c AttrStands symbol_attr_at IsSymbol
+pub symbol_exact : (c : ContextModel) → Exact things Same c AttrStands symbol_attr_at IsSymbol
 unfolding symbol_attr_at
 symbol_exact c =
     then_exact things Same c (Each NameStands) AttrStands (parts_at many []) (IsParts many []) (λ ns. attr_done (attr.Sym ns)) (λ ys. IsFine (Symbol ys)) (parts_exact many c [] [] (λ z g w. tt)) (λ d ns ys g r.
     attr_done_exact d (attr.Sym ns) (Symbol ys) (refl, refl) (λ z k w. symbol_node z ns ys (r z k w)))
 
--- parts that are read are names of the context as it is then
-pub parts_known : (bytes rest : List ℕ) (c d : Things) (ns : List ℕ) → IsSound c → parts_at many [] (bytes, c) ≡ Read (ns, (rest, d)) → AttrIsOf d (attr.Sym ns)
+-- the parts that are parsed are names of the grown context
+pub parts_known : (bytes rest : List ℕ) (c d : ContextModel) (ns : List ℕ) → IsSound c → parts_at many [] (bytes, c) ≡ Read (ns, (rest, d)) → AttrIsOf d (attr.Sym ns)
 parts_known bytes rest c d ns sound e =
     let f = (parts_exact many c [] [] (λ z g w. tt)).found (bytes, c) bytes ns (rest, d) (grows_refl c) sound (λ z g w. refl) e in
     (symbol_node d ns f.0 (f.3.stands d (grows_refl d) f.3.sound)).0

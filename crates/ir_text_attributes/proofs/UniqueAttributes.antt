@@ -1,4 +1,4 @@
--- A text spells at most one attribute.
+-- A text has at most one attribute as a prefix.
 use Rattle.std.specs.Prelude.{ℤ, ◌&&◌, Option}
 use Rattle.std.specs.Str.{bytes_eq}
 use Rattle.std.proofs.Common.{◌≡◌, ℕ, zero, suc, Bool, true, false, true≢false, List, [], ◌∷◌, ◌++◌, Some, None, refl, sym, ap, subst, ◌∙◌, ◌⊎◌, inl, inr}
@@ -26,8 +26,8 @@ use Rattle.ir_text_attributes.specs.declared.tail.Tail.TheVariants.{SomeType, Ty
 use Rattle.ir_text_attributes.specs.OpaqueAttributes.{tail_in, kept_text, quoted_text, signed_text, is_hexadecimal, is_opaque_type, opens_other}
 use Rattle.ir_text_types.proofs.Unique.{IsOne, then_one, done_one, done_if_one, after_one, either_one, more_one, list_one, token_one, mark_one, type_one}
 
-behind_one : {B : Type 0} (rest : Text) (P : Grammar Text B) → IsOne P → IsOne {T = Text} (λ y old new. P y rest new)
-behind_one rest P one t y y' n n' k l = one rest y y' n n' k l
+trailing_one : {B : Type 0} (rest : Text) (P : Grammar Text B) → IsOne P → IsOne {T = Text} (λ y old new. P y rest new)
+trailing_one rest P one t y y' n n' k l = one rest y y' n n' k l
 
 first_one : {B : Type 0} (F : Lexeme → Text → Grammar Text B) → ((l : Lexeme) (rest : Text) → IsOne (F l rest)) → IsOne {T = Text} (λ y old new. (l : Lexeme) × (rest : Text) × Token l old rest × F l rest y old new)
 first_one F each t y y' n n' k l =
@@ -52,7 +52,7 @@ integer_of_one negative n ty t y y' m m' k l =
     let same : k.0 ≡ l.0 = cc (some) in
     fine_one (IntegerOf ty k.0) t y y' m m' k.2 (subst (λ bits. IsFine (IntegerOf ty bits) y' t m') (sym same) l.2)
 
--- one of two, by a test
+-- one of two grammars, chosen by a test
 choice_one : {B : Type 0} (b : Bool) (P Q : Grammar Text B) → IsOne P → IsOne Q → IsOne {T = Text} (λ y old new. ((b ≡ true) × P y old new) ⊎ ((b ≡ false) × Q y old new))
 choice_one b P Q first second t y y' n n' (inl k) (inl l) = first t y y' n n' k.1 l.1
 choice_one b P Q first second t y y' n n' (inl k) (inr l) = absurd (true≢false (sym k.0 ∙ l.0))
@@ -73,7 +73,7 @@ literal_one o negative digits t y y' n n' k l =
     then_one (IsSuffix o) (IsLiteralOf negative digits k.0) (suffix_one o) (literal_of_one negative digits k.0) t y y' n n' k.2
     (subst (λ m. Then (IsSuffix o) (IsLiteralOf negative digits m) y' t n') (sym same) l.2)
 
--- ---- attributes that are kept as they are spelled
+-- ---- opaque attributes
 
 module _ (o : Bool) (types : ℕ) where
   typed_one : (text : List ℕ) → IsOne (IsTyped o types text)
@@ -106,7 +106,7 @@ module _ (o : Bool) (types : ℕ) where
   negative_from_one _ = none_one
 
   negative_one : IsOne (IsNegative o types)
-  negative_one = first_one (λ l rest y old new. IsNegativeFrom o types l y rest new) (λ l rest. behind_one rest (IsNegativeFrom o types l) (negative_from_one l))
+  negative_one = first_one (λ l rest y old new. IsNegativeFrom o types l y rest new) (λ l rest. trailing_one rest (IsNegativeFrom o types l) (negative_from_one l))
 
 flag_one : IsOne IsFlag
 flag_one t y y' n n' k l =
@@ -115,7 +115,7 @@ flag_one t y y' n n' k l =
     let some : Some y ≡ Some y' = sym k.2 ∙ ap flag_of word ∙ l.2 in
     (cc (some), e.1)
 
--- what stands behind the first word of flags
+-- the flags after their first word
 abbrev FlagsRest : Text → List ℕ → Text → List code.Flag → Text → Type 0
 FlagsRest t w rest fs new = ((bytes_eq w none_word ≡ true) × IsMark Greater rest new × (fs ≡ [])) ⊎ ((bytes_eq w none_word ≡ false) × IsMore IsMark Greater (λ before. IsFlag) many [] fs t new)
 
@@ -153,7 +153,7 @@ part_one t y y' n n' (inr k) (inr l) =
     let raw : k.0 ≡ l.0 = cc (e.0) in
     (k.2 ∙ ap string_bytes raw ∙ sym l.2, e.1)
 
--- the end, or a mark and more
+-- the end, or a `::` and more parts
 abbrev PartsEnd : ℕ → List (List ℕ) → Grammar Text (List (List ℕ))
 PartsEnd room front ys mid new = (Not IsMark DoubleColon mid × (ys ≡ front) × (new ≡ mid)) ⊎ ((next : Text) × IsMark DoubleColon mid next × IsParts room front ys next new)
 
@@ -193,7 +193,7 @@ item_number_one elem negative digits v w k l =
     let bits : k.2 ≡ l.2 = cc (both) in
     k.4 ∙ ap (reading_of elem) bits ∙ sym l.4
 
--- an item by its first token, behind which stands `rest`
+-- an item by its first token; `rest` is the text after the token
 abbrev ItemFrom : TypeTerm → Lexeme → Text → Grammar Text ℤ
 ItemFrom elem (bare w) rest v old new = (b : Bool) × (word_of w ≡ Truth b) × (v ≡ reading_of elem (truth_bits b)) × (new ≡ rest)
 ItemFrom elem (integer digits) rest v old new = IsItemNumber elem false digits v × (new ≡ rest)
@@ -282,11 +282,11 @@ module _ (o : Bool) (types : ℕ) where
   array_word_one : (rest : Text) → IsOne {T = Text} (λ y old new. IsArrayWord o types rest y new)
   array_word_one rest =
       choice_one (o && opens_other rest) (λ y old new. IsKept o types NoType (bracketed 60 array_word (skip rest)) y new) (λ y old new. IsDense y rest new)
-      (λ t y y' n n' k l. kept_one o types NoType (bracketed 60 array_word (skip rest)) y y' n n' k l) (behind_one rest IsDense dense_one)
+      (λ t y y' n n' k l. kept_one o types NoType (bracketed 60 array_word (skip rest)) y y' n n' k l) (trailing_one rest IsDense dense_one)
 
   word_one : (w : Word) (rest : Text) → IsOne (IsWordAttr o types w rest)
-  word_one (Truth b) rest = behind_one rest (IsFine (IntegerOf (Integer Signless 1) (truth_bits b))) (fine_one (IntegerOf (Integer Signless 1) (truth_bits b)))
-  word_one UnitWord rest = behind_one rest (IsFine Flag) (fine_one Flag)
+  word_one (Truth b) rest = trailing_one rest (IsFine (IntegerOf (Integer Signless 1) (truth_bits b))) (fine_one (IntegerOf (Integer Signless 1) (truth_bits b)))
+  word_one UnitWord rest = trailing_one rest (IsFine Flag) (fine_one Flag)
   word_one ArrayWord rest = array_word_one rest
   word_one TypeWord rest = type_attr_one o types
 
@@ -297,22 +297,22 @@ module _ (o : Bool) (types : ℕ) where
   hash_one : (name : List ℕ) (rest : Text) → IsOne {T = Text} (λ y old new. IsHash o types name rest y new)
   hash_one name rest =
       choice_one (bytes_eq name overflow_word) (λ y old new. IsOverflow y rest new) (λ y old new. (o ≡ true) × IsKept o types TypeOrNone (dialect_text 35 name rest) y new)
-      (behind_one rest IsOverflow overflow_one) (λ t y y' n n' k l. kept_one o types TypeOrNone (dialect_text 35 name rest) y y' n n' k.1 l.1)
+      (trailing_one rest IsOverflow overflow_one) (λ t y y' n n' k l. kept_one o types TypeOrNone (dialect_text 35 name rest) y y' n n' k.1 l.1)
 
 module _ (o : Bool) (depth : ℕ) (P : Grammar Text AttrTerm) (item : IsOne P) where
   marked_one : (m : Mark) (rest : Text) → IsOne (IsMarkAttr o depth P m rest)
-  marked_one Minus rest = behind_one rest (IsNegative o (suc depth)) (negative_one o (suc depth))
+  marked_one Minus rest = trailing_one rest (IsNegative o (suc depth)) (negative_one o (suc depth))
   marked_one OpenRound rest = type_attr_one o (suc depth)
-  marked_one OpenSquare rest = behind_one rest (IsArray depth P) (array_one depth P item)
-  marked_one OpenCurly rest = behind_one rest (IsDictionary depth P) (dictionary_one depth P item)
+  marked_one OpenSquare rest = trailing_one rest (IsArray depth P) (array_one depth P item)
+  marked_one OpenCurly rest = trailing_one rest (IsDictionary depth P) (dictionary_one depth P item)
   marked_one _ rest = none_one
 
   attr_from_one : (l : Lexeme) (rest : Text) → IsOne (IsAttrFrom o depth P l rest)
   attr_from_one (bare w) rest = bare_one o (suc depth) (tail_in o w) w rest
   attr_from_one (mark m) rest = marked_one m rest
-  attr_from_one (integer digits) rest = behind_one rest (IsLiteral o false digits) (literal_one o false digits)
+  attr_from_one (integer digits) rest = trailing_one rest (IsLiteral o false digits) (literal_one o false digits)
   attr_from_one (float digits) rest = λ t y y' n n' k l. tail_one o (suc depth) OpaqueOrNone digits rest y y' n n' k.1 l.1
-  attr_from_one (string raw) rest = behind_one rest (IsString o (suc depth) raw) (string_one o (suc depth) raw)
+  attr_from_one (string raw) rest = trailing_one rest (IsString o (suc depth) raw) (string_one o (suc depth) raw)
   attr_from_one (symbol n) rest = symbol_one
   attr_from_one (quoted raw) rest = symbol_one
   attr_from_one (hash name) rest = hash_one o (suc depth) name rest

@@ -1,5 +1,4 @@
--- The grammar of attributes, in terms of what is spelled. Language Reference, "Attributes"; Builtin
--- Dialect, "Attributes".
+-- The grammar of attributes, as terms. Language Reference, "Attributes"; Builtin Dialect, "Attributes".
 use Rattle.std.specs.Prelude.{◌≡◌, ◌⊎◌, ℕ, zero, suc, Bool, true, false, ◌&&◌, List, [], ◌∷◌, ◌++◌, Option, Some, None, ℤ}
 use Rattle.std.specs.Str.{bytes_eq}
 use Rattle.ir_text_tokens.specs.declared.token.Mark.{Mark}
@@ -26,22 +25,22 @@ use Rattle.ir_text_attributes.specs.Literals.{Word, Truth, UnitWord, ArrayWord, 
 use Rattle.ir_text_attributes.specs.Keyed.{has_key, in_order}
 pub use Rattle.ir_text_attributes.specs.Elements.{is_bit, element_of}
 
--- nothing more, where the attribute is one: its number is a value of its type, and it is not too deep
+-- the end, if the attribute is valid: its number is a value of its type, and it isn't too deep
 abbrev pub IsFine : AttrTerm → Grammar Text AttrTerm
 IsFine y = DoneIf (attr_fault y ≡ None) y
 
--- a magnitude, with a minus before it or none, as a literal of a type, which has bits of it
+-- a magnitude with an optional minus sign, as a literal of a type, which determines its bits
 abbrev pub IsIntegerOf : Bool → ℕ → TypeTerm → Grammar Text AttrTerm
 IsIntegerOf negative n t y old new = (bits : ℕ) × (literal_bits t negative n ≡ Some bits) × IsFine (IntegerOf t bits) y old new
 
--- hexadecimal digits of an opaque type are kept as they are spelled, other digits are an integer
+-- hexadecimal digits of an opaque type are an opaque attribute; other digits are an integer
 abbrev pub IsLiteralOf : Bool → List ℕ → ℕ → TypeTerm → Grammar Text AttrTerm
 IsLiteralOf negative digits n t y old new =
     (((is_opaque_type t && is_hexadecimal digits) ≡ true) × IsFine (OpaqueOf (signed_text negative digits) (Some t)) y old new)
     ⊎ (((is_opaque_type t && is_hexadecimal digits) ≡ false) × IsIntegerOf negative n t y old new)
 
--- what begins with a type; `opaque` tells whether types and attributes that aren't known are spelled by their texts,
--- and `types` how deep a type may be
+-- attributes that begin with a type; `opaque` says whether opaque types and attributes are allowed, and `types` is
+-- the depth limit of types
 module _ (opaque : Bool) where
   -- a type as an attribute
   abbrev pub IsTypeAttr : ℕ → Grammar Text AttrTerm
@@ -49,42 +48,42 @@ module _ (opaque : Bool) where
 
   -- ---- literals
 
-  -- the type behind a colon, or 64 bits where none follows
+  -- the type after a colon, or `i64` if there is no colon
   abbrev pub IsSuffix : Grammar Text TypeTerm
   IsSuffix = Either IsMark Colon (IsType opaque most_depth) (Done (Integer Signless 64))
 
-  -- behind the digits
+  -- a literal after its digits
   abbrev pub IsLiteral : Bool → List ℕ → Grammar Text AttrTerm
   IsLiteral negative digits y old new =
       (n : ℕ) × (below_limit (integer_of digits) ≡ Some n) × Then IsSuffix (IsLiteralOf negative digits n) y old new
 
-  -- ---- attributes that are kept as they are spelled
+  -- ---- opaque attributes
 
-  -- the type behind the colon
+  -- the type after the colon
   abbrev pub IsTyped : ℕ → List ℕ → Grammar Text AttrTerm
   IsTyped types text = Then (IsType opaque types) (λ t. IsFine (OpaqueOf text (Some t)))
 
   abbrev pub IsOpaqueTyped : ℕ → List ℕ → Grammar Text AttrTerm
   IsOpaqueTyped types text = Then (IsType opaque types) (λ t. When (is_opaque_type t ≡ true) (IsFine (OpaqueOf text (Some t))))
 
-  -- what stands behind the text
+  -- what follows the text
   abbrev pub IsTail : ℕ → Tail → List ℕ → Grammar Text AttrTerm
   IsTail types SomeType text = After IsMark Colon (IsTyped types text)
   IsTail types TypeOrNone text = Either IsMark Colon (IsTyped types text) (IsFine (OpaqueOf text None))
   IsTail types OpaqueOrNone text = Either IsMark Colon (IsOpaqueTyped types text) (IsFine (OpaqueOf text None))
   IsTail types NoType text = IsFine (OpaqueOf text None)
 
-  -- a text, where there is one, with what follows it
+  -- a text, if there is one, and what follows it
   abbrev pub IsKept : ℕ → Tail → Option (List ℕ × List ℕ) → AttrTerm → Text → Type 0
   IsKept types tail found y new = (x : List ℕ × List ℕ) × (found ≡ Some x) × IsTail types tail x.0 y x.1 new
 
-  -- a string: one that a type follows is kept as it is spelled
+  -- a string; with a type it is an opaque attribute
   abbrev pub IsString : ℕ → List ℕ → Grammar Text AttrTerm
   IsString types raw y old new =
       ((opaque ≡ true) × Either IsMark Colon (IsTyped types (quoted_text raw)) (IsFine (String (string_bytes raw))) y old new)
       ⊎ ((opaque ≡ false) × IsFine (String (string_bytes raw)) y old new)
 
-  -- behind a minus, by the token
+  -- the attribute after a minus sign, given the token
   abbrev pub IsNegativeFrom : ℕ → Lexeme → Grammar Text AttrTerm
   IsNegativeFrom types (integer digits) y rest new = IsLiteral true digits y rest new
   IsNegativeFrom types (float digits) y rest new = (opaque ≡ true) × IsTail types OpaqueOrNone (45 ∷ digits) y rest new
@@ -98,7 +97,7 @@ module _ (opaque : Bool) where
 abbrev pub IsFlag : Grammar Text code.Flag
 IsFlag f old new = (w : List ℕ) × Token (bare w) old new × (flag_of w ≡ Some f)
 
--- the word none, or flags parted by commas, up to the closing mark
+-- the word `none`, or comma-separated flags, up to the closing mark
 abbrev pub IsFlags : Grammar Text (List code.Flag)
 IsFlags fs old new =
     (w : List ℕ) × (rest : Text) × Token (bare w) old rest
@@ -113,7 +112,7 @@ IsOverflow = After IsMark Less (Then IsFlags (λ fs. IsFine (Overflow (has_nsw f
 abbrev pub IsPart : Grammar Text (List ℕ)
 IsPart n old new = Token (symbol n) old new ⊎ ((raw : List ℕ) × Token (quoted raw) old new × (n ≡ string_bytes raw))
 
--- the parts of `front` and at least one more, parted by `::`; at most `room` come
+-- the parts of `front` and at least one more, separated by `::`; at most `room` more
 unfoldable pub IsParts : ℕ → List (List ℕ) → Grammar Text (List (List ℕ))
 IsParts zero front ys old new = ⊥
 IsParts (suc room) front ys old new =
@@ -125,42 +124,42 @@ IsSymbol = Then (IsParts many []) (λ parts. IsFine (Symbol parts))
 
 -- ---- dense arrays
 
--- one of the types that elements have
+-- an element type
 abbrev pub IsElement : Grammar Text TypeTerm
 IsElement elem old new = (w : List ℕ) × Token (bare w) old new × (element_of w ≡ Some elem)
 
--- digits, with a minus before them or none, as a literal of the type, by the number that its bits are read as
+-- digits with an optional minus sign, as a literal of the type; v is the number that its bits denote
 abbrev pub IsItemNumber : TypeTerm → Bool → List ℕ → ℤ → Type 0
 IsItemNumber elem negative digits v =
     (n : ℕ) × (below_limit (integer_of digits) ≡ Some n) × (bits : ℕ) × (literal_bits elem negative n ≡ Some bits) × (v ≡ reading_of elem bits)
 
--- a number, or a truth value where the items have one bit
+-- a number, or a truth value if the items have one bit
 abbrev pub IsItem : TypeTerm → Grammar Text ℤ
 IsItem elem v old new =
     ((w : List ℕ) × (b : Bool) × Token (bare w) old new × (is_bit elem ≡ true) × (word_of w ≡ Truth b) × (v ≡ reading_of elem (truth_bits b)))
     ⊎ (((digits : List ℕ) × Token (integer digits) old new × IsItemNumber elem false digits v)
     ⊎ ((digits : List ℕ) × (mid : Text) × IsMark Minus old mid × Token (integer digits) mid new × IsItemNumber elem true digits v))
 
--- behind the element type: a colon and items, or none, up to the closing mark
+-- after the element type: a colon and items, or no items, up to the closing mark
 abbrev pub IsItems : TypeTerm → Grammar Text (List ℤ)
 IsItems elem = Either IsMark Colon (IsMore IsMark Greater (λ before. IsItem elem) many []) (After IsMark Greater (Done []))
 
--- behind its word
+-- a dense array after its word
 abbrev pub IsDense : Grammar Text AttrTerm
 IsDense = After IsMark Less (Then IsElement (λ elem. Then (IsItems elem) (λ vs. IsFine (DenseArray elem vs))))
 
 -- ---- arrays and dictionaries
 
--- attributes as one term
+-- a list of attributes as one term
 abbrev pub attrs_of : List AttrTerm → AttrTerms
 attrs_of [] = no_attrs
 attrs_of (a ∷ as') = next_attr a (attrs_of as')
 
--- a key's bytes and an attribute
+-- the bytes of a key, and an attribute
 abbrev pub EntryTerm : Type 0
 EntryTerm = List ℕ × AttrTerm
 
--- entries as one term
+-- a list of entries as one term
 abbrev pub entries_of : List EntryTerm → EntryTerms
 entries_of [] = no_entries
 entries_of (e ∷ es) = next_entry e.0 e.1 (entries_of es)
@@ -168,33 +167,33 @@ entries_of (e ∷ es) = next_entry e.0 e.1 (entries_of es)
 abbrev pub IsKey : Grammar Text (List ℕ)
 IsKey k old new = Token (bare k) old new ⊎ ((raw : List ℕ) × Token (string raw) old new × (k ≡ string_bytes raw))
 
--- unit, which has a depth of 1, where so much is left
+-- unit, which has depth 1, if the depth limit allows it
 abbrev pub IsUnitValue : ℕ → Grammar Text AttrTerm
 IsUnitValue zero y old new = ⊥
 IsUnitValue (suc depth) y old new = IsFine Flag y old new
 
--- P spells attributes of at most that depth
+-- P derives attributes of at most this depth
 module _ (depth : ℕ) (P : Grammar Text AttrTerm) where
-  -- the attribute behind an equal sign, or unit where none stands
+  -- the attribute after an equal sign, or unit if there is no equal sign
   abbrev pub IsValue : Grammar Text AttrTerm
   IsValue = Either IsMark Equal P (IsUnitValue depth)
 
-  -- an entry whose key does not stand before it
+  -- an entry whose key isn't in `before`
   abbrev pub IsEntry : List EntryTerm → Grammar Text EntryTerm
   IsEntry before = Then IsKey (λ k. When (has_key bytes_eq k before ≡ false) (Then IsValue (λ a. Done (k, a))))
 
-  -- behind the opening brace: at most as many entries as a dictionary may have
+  -- a dictionary after its opening brace, with at most as many entries as a dictionary may have
   unfoldable pub IsDictionary : Grammar Text AttrTerm
   IsDictionary = Then (IsList IsMark CloseCurly IsEntry most_entries) (λ es. IsFine (Dictionary (entries_of (in_order key_before es))))
 
-  -- behind the opening bracket
+  -- an array after its opening bracket
   unfoldable pub IsArray : Grammar Text AttrTerm
   IsArray = Then (IsList IsMark CloseSquare (λ before. P) many) (λ xs. IsFine (Array (attrs_of xs)))
 
--- ---- by the first token, behind which stands `rest`
+-- ---- by the first token; `rest` is the text after the token
 
 module _ (opaque : Bool) (types : ℕ) where
-  -- a dense array of integers, or one that is kept as it is spelled
+  -- a dense array of integers, or an opaque array
   abbrev pub IsArrayWord : Text → AttrTerm → Text → Type 0
   IsArrayWord rest y new =
       (((opaque && opens_other rest) ≡ true) × IsKept opaque types NoType (bracketed 60 array_word (skip rest)) y new)
@@ -206,12 +205,12 @@ module _ (opaque : Bool) (types : ℕ) where
   IsWordAttr ArrayWord rest y old new = IsArrayWord rest y new
   IsWordAttr TypeWord rest y old new = IsTypeAttr opaque types y old new
 
-  -- by what follows the text that a word begins, where one does
+  -- given what follows the text of an opaque attribute that begins with the word, if one does
   abbrev pub IsBare : Option Tail → List ℕ → Text → Grammar Text AttrTerm
   IsBare None word rest y old new = IsWordAttr (word_of word) rest y old new
   IsBare (Some tail) word rest y old new = IsKept opaque types tail (kept_text word rest) y new
 
-  -- behind a name with its sign: flags, or an attribute of a dialect
+  -- after a sigil and a name: overflow flags, or a dialect's attribute
   abbrev pub IsHash : List ℕ → Text → AttrTerm → Text → Type 0
   IsHash name rest y new =
       ((bytes_eq name overflow_word ≡ true) × IsOverflow y rest new)
@@ -237,7 +236,7 @@ module _ (opaque : Bool) (depth : ℕ) (P : Grammar Text AttrTerm) where
   IsAttrFrom (bang name) rest y old new = IsTypeAttr opaque (suc depth) y old new
   IsAttrFrom _ rest y old new = ⊥
 
--- an attribute of at most that depth
+-- an attribute of at most this depth
 unfoldable pub IsAttr : Bool → ℕ → Grammar Text AttrTerm
 IsAttr opaque zero y old new = ⊥
 IsAttr opaque (suc depth) y old new = (t : Lexeme) × (rest : Text) × Token t old rest × IsAttrFrom opaque depth (IsAttr opaque depth) t rest y old new

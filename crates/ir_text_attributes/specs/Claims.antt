@@ -1,10 +1,10 @@
--- What is read against what is spelled.
+-- The results of parsing an attribute, in terms of the grammar.
 use Rattle.std.specs.Prelude.{◌≡◌, ℕ}
-use Rattle.ir_types.specs.Things.{Things, IsAttr}
+use Rattle.ir_types.specs.Things.{ContextModel, IsAttr}
 use Rattle.ir_types.specs.Terms.{AttrTerm, attr_term}
 
--- a number of the context stands for the one attribute for which F holds
-pub record IsOnlyAttr (F : AttrTerm → Type 0) (c : Things) (n : ℕ) : Type 0 where
+-- the id denotes the only attribute for which F holds
+pub record IsOnlyAttr (F : AttrTerm → Type 0) (c : ContextModel) (n : ℕ) : Type 0 where
   pub known : IsAttr c n
   pub holds : F (attr_term c n)
   pub only : (y : AttrTerm) → F y → y ≡ attr_term c n

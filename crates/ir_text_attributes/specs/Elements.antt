@@ -8,7 +8,7 @@ use Rattle.ir_types.specs.Readings.{literal_bits, reading_of}
 use Rattle.ir_text_attributes.specs.declared.element.Element.{Element}
 use Rattle.ir_text_attributes.specs.declared.element.Element.TheVariants.{I1, I8, I16, I32, I64}
 
--- how many bits an element has
+-- the number of bits of an element
 abbrev pub bits_of : Element → ℕ
 bits_of I1 = 1
 bits_of I8 = 8
@@ -33,15 +33,15 @@ element_named w =
 abbrev pub element_of : List ℕ → Option TypeTerm
 element_of w = option_map type_of (element_named w)
 
--- whether a type has one bit, so that truth values are among its items
+-- whether the items of a type have one bit, so that truth values are allowed
 abbrev pub is_bit : TypeTerm → Bool
 is_bit (Integer Signless w) = w == 1
 is_bit _ = false
 
--- the bits of a type that digits write as a literal, with a minus before them or none
+-- the bits of a type that the digits denote, with an optional minus sign
 abbrev pub item_bits : TypeTerm → Bool → List ℕ → Option ℕ
 item_bits elem negative digits = option_and_then (literal_bits elem negative) (below_limit (integer_of digits))
 
--- and the number that they are read as
+-- the number that these bits denote
 abbrev pub item_value : TypeTerm → Bool → List ℕ → Option ℤ
 item_value elem negative digits = option_map (reading_of elem) (item_bits elem negative digits)

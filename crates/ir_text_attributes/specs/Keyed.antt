@@ -1,4 +1,4 @@
--- Entries of dictionaries by their keys: numbers while they are read, bytes where they are spelled.
+-- Entries of dictionaries by their keys: ids in a parse, bytes in a grammar.
 use Rattle.std.specs.Prelude.{◌≡◌, ℕ, Bool, true, if◌then◌else◌, List, [], ◌∷◌, map, IsPermutation}
 use Rattle.std.specs.List.{list_any, IsDistinct}
 use Rattle.std.specs.Str.{bytes_eq}
@@ -10,21 +10,21 @@ module _ {K A : Type 0} (same : K → K → Bool) where
   has_key k es = list_any (λ e. same e.0 k) es
 
 module _ {K A : Type 0} (before : K → K → Bool) where
-  -- an entry among sorted ones: in front of the first whose key its own comes before
+  -- inserts an entry into a sorted list, before the first entry with a greater key
   abbrev pub put_among : K × A → List (K × A) → List (K × A)
   put_among e [] = e ∷ []
   put_among e (f ∷ fs) = if before e.0 f.0 then e ∷ f ∷ fs else f ∷ put_among e fs
 
-  -- entries put among sorted ones, the last one first
+  -- inserts entries into a sorted list, the last one first
   abbrev pub put_all : List (K × A) → List (K × A) → List (K × A)
   put_all done [] = done
   put_all done (e ∷ es) = put_among e (put_all done es)
 
-  -- entries in the order of their keys
+  -- the entries sorted by their keys
   abbrev pub in_order : List (K × A) → List (K × A)
   in_order es = put_all [] es
 
--- what in_order does: the entries are those that were given, and where no two of these have one key, each key comes
--- before the next one, byte by byte
+-- the specification of in_order: the result is a permutation of the entries; if their keys are distinct, they rise
+-- byte by byte
 abbrev pub IsInOrder : {A : Type 0} → (given sorted : List (List ℕ × A)) → Type 0
 IsInOrder given sorted = IsPermutation given sorted × (IsDistinct bytes_eq (map (λ e. e.0) given) → rises key_before sorted ≡ true)

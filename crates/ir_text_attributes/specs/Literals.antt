@@ -5,7 +5,7 @@ use Rattle.std.specs.Str.{bytes_eq}
 use Rattle.ir_text_attributes.specs.declared.flag.Flag.{Flag}
 use Rattle.ir_text_attributes.specs.declared.flag.Flag.TheVariants.{NoSignedWrap, NoUnsignedWrap}
 
--- what a word is where an attribute is wanted
+-- the meaning of a word at the start of an attribute
 pub data Word : Type 0 where
   Truth : Bool → Word
   UnitWord : Word

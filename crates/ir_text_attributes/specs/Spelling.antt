@@ -1,4 +1,4 @@
--- Which attribute a text spells. Language Reference, "Attributes".
+-- Which attribute a text denotes. Language Reference, "Attributes".
 use Rattle.std.specs.Prelude.{◌≡◌, ℕ, Bool, List, None}
 use Rattle.ir_text_tokens.specs.declared.token.Mark.TheVariants.{End}
 use Rattle.ir_text_tokens.specs.Limits.{text_reason}
@@ -7,12 +7,12 @@ use Rattle.ir_types.specs.Terms.{AttrTerm}
 use Rattle.ir_text_types.specs.Grammars.{IsMark}
 use Rattle.ir_text_attributes.specs.AttrGrammar.{IsAttr}
 
--- the text is one attribute, no deeper than it may be, and nothing after it
+-- the text is one attribute within the depth limit, and the end
 unfoldable pub IsSingleAttr : Bool → List ℕ → AttrTerm → Type 0
 IsSingleAttr opaque bytes y = (rest end : List ℕ) × IsAttr opaque most_depth y bytes rest × IsMark End rest end
 
--- a text spells an attribute that stands alone, and passes no limit of a text; `opaque` tells whether types and
--- attributes that aren't known are spelled by their texts
+-- the text is one attribute and is within the limits of a text; `opaque` says whether opaque types and attributes are
+-- allowed
 pub record SpellsAttr (opaque : Bool) (bytes : List ℕ) (y : AttrTerm) : Type 0 where
   pub text : text_reason bytes ≡ None
   pub spelled : IsSingleAttr opaque bytes y

@@ -1,18 +1,20 @@
 //! Attributes. Language Reference, "Attributes"; Builtin Dialect, "Attributes".
 ghost use Rattle.std.specs.Prelude.{◌≡◌, if◌then◌else◌};
-ghost use Rattle.ir_types.specs.Things.{AttrIsOf, Grows};
-ghost use Rattle.ir_text_types.specs.Outcomes.{Gives, Wrong};
+ghost use Rattle.ir_types.specs.Things.{AttrIsOf, IsExtendedBy};
+ghost use Rattle.ir_text_types.specs.Outcomes.{Returns, Wrong};
 ghost use Rattle.ir_text_attributes.specs.Literals.{word_of};
 ghost use Rattle.ir_text_attributes.specs.OpaqueAttributes.{tail_in};
 ghost use Rattle.ir_text_attributes.specs.declared.tail.Tail.TheVariants.{OpaqueOrNone};
 ghost use Rattle.ir_text_attributes.specs.AttrReading.{attr_done, truth_at, string_attr_at, type_attr_at, overflow_at, tail_at, string_at, array_word_at, word_attr, bare_attr, mark_attr, hash_attr, attr_at};
 
 use crate::arrays::array;
+use crate::attribute_text::{
+    array_text, kept_text, opens_other, quoted_text, signed_text, tail_in,
+};
 use crate::dense::dense;
 use crate::dictionaries::dictionary;
 use crate::flags::{flags, has_nsw, has_nuw};
 use crate::literals::{literal, negative};
-use crate::spelled::{array_text, kept_text, opens_other, quoted_text, signed_text, tail_in};
 use crate::symbols::symbol;
 use crate::tail::Tail;
 use crate::tails::{tail, typed};
@@ -26,56 +28,56 @@ use ir_text_types::types::{self, token_refusal, ty};
 use ir_types::context::Context;
 use ir_types::ids::AttrId;
 use ir_types::node::{AttrNode, Sign, TypeNode};
-use ir_types_items::lists::Items;
+use ir_types_interner::lists::Items;
 use std::alloc::Global;
 
-/// The number of an attribute that stands in front of these bytes.
+/// Interns an attribute node. Returns its id and `rest`, the text after the attribute.
 #[tactic(auto, using(ir_types::proofs::Growth::grows_refl, ir_types::proofs::Growth::grows_trans), unfolding(crate::specs::AttrReading::attr_done))]
-pub(crate) fn kept<'a>(
+pub(crate) fn intern_node<'a>(
     ctx: &mut Context,
     node: AttrNode,
     rest: &'a [u8],
 ) -> Result<(AttrId, &'a [u8]), ReadError>
     requires { AttrIsOf ctx.old node }
-    ensures reads { Gives (λ x. (x.0, (x.1.now, ctx.new))) result (attr_done node (rest.now, ctx.old)) }
-    ensures grows { Grows ctx.old ctx.new }
+    ensures reads { Returns (λ x. (x.0, (x.1.now, ctx.new))) result (attr_done node (rest.now, ctx.old)) }
+    ensures grows { IsExtendedBy ctx.old ctx.new }
 {
     let id = steps::attr(ctx, node, rest)?;
     Ok((id, rest))
 }
 
-/// The unit attribute, in front of these bytes (Builtin Dialect, "UnitAttr").
+/// Interns the unit attribute (Builtin Dialect, "UnitAttr"). Returns its id and `rest`.
 #[tactic(auto, using(ir_types::proofs::Growth::grows_refl, ir_types::proofs::Growth::grows_trans))]
 pub fn unit<'a>(ctx: &mut Context, rest: &'a [u8]) -> Result<(AttrId, &'a [u8]), ReadError>
-    ensures reads { Gives (λ x. (x.0, (x.1.now, ctx.new))) result (attr_done AttrNode.Unit (rest.now, ctx.old)) }
-    ensures grows { Grows ctx.old ctx.new }
+    ensures reads { Returns (λ x. (x.0, (x.1.now, ctx.new))) result (attr_done AttrNode.Unit (rest.now, ctx.old)) }
+    ensures grows { IsExtendedBy ctx.old ctx.new }
 {
-    kept(ctx, AttrNode::Unit, rest)
+    intern_node(ctx, AttrNode::Unit, rest)
 }
 
-/// `true` or `false`, 1 or 0 of one bit (Builtin Dialect, "IntegerAttr").
+/// Interns `true` or `false` as 1 or 0 of type `i1` (Builtin Dialect, "IntegerAttr").
 #[tactic(auto, using(ir_types::proofs::Growth::grows_refl, ir_types::proofs::Growth::grows_trans), unfolding(crate::specs::AttrReading::truth_at))]
 fn truth<'a>(
     ctx: &mut Context,
     is_true: bool,
     bytes: &'a [u8],
 ) -> Result<(AttrId, &'a [u8]), ReadError>
-    ensures reads { Gives (λ x. (x.0, (x.1.now, ctx.new))) result (truth_at is_true (bytes.now, ctx.old)) }
-    ensures grows { Grows ctx.old ctx.new }
+    ensures reads { Returns (λ x. (x.0, (x.1.now, ctx.new))) result (truth_at is_true (bytes.now, ctx.old)) }
+    ensures grows { IsExtendedBy ctx.old ctx.new }
 {
     let bit = TypeNode::Int {
         sign: Sign::Signless,
         width: 1,
     };
-    let (ty, rest) = match types::kept(ctx, bit, bytes) {
+    let (ty, rest) = match types::intern_node(ctx, bit, bytes) {
         Ok(found) => found,
         Err(e) => return Err(e),
     };
     let value = if is_true { 1 } else { 0 };
-    kept(ctx, AttrNode::Int { ty, value }, rest)
+    intern_node(ctx, AttrNode::Int { ty, value }, rest)
 }
 
-/// A string, by what stands between its quotes (Builtin Dialect, "StringAttr").
+/// Interns a string attribute, given the text between its quotes (Builtin Dialect, "StringAttr").
 #[tactic(auto, using(ir_types::proofs::Growth::grows_refl, ir_types::proofs::Growth::grows_trans), unfolding(crate::specs::AttrReading::string_attr_at))]
 fn string<'a>(
     alloc: Global,
@@ -83,15 +85,15 @@ fn string<'a>(
     raw: &[u8],
     rest: &'a [u8],
 ) -> Result<(AttrId, &'a [u8]), ReadError>
-    ensures reads { Gives (λ x. (x.0, (x.1.now, ctx.new))) result (string_attr_at raw.now (rest.now, ctx.old)) }
-    ensures grows { Grows ctx.old ctx.new }
+    ensures reads { Returns (λ x. (x.0, (x.1.now, ctx.new))) result (string_attr_at raw.now (rest.now, ctx.old)) }
+    ensures grows { IsExtendedBy ctx.old ctx.new }
 {
     let text = string_value(alloc, raw)?;
     let name = steps::name(ctx, text.as_slice(), rest)?;
-    kept(ctx, AttrNode::Str(name), rest)
+    intern_node(ctx, AttrNode::Str(name), rest)
 }
 
-/// A type of at most that depth as an attribute (Builtin Dialect, "TypeAttr").
+/// Parses a type of at most `depth` as an attribute (Builtin Dialect, "TypeAttr").
 #[tactic(auto, using(ir_types::proofs::Growth::grows_refl, ir_types::proofs::Growth::grows_trans), unfolding(crate::specs::AttrReading::type_attr_at))]
 fn type_attr<'a>(
     alloc: Global,
@@ -100,36 +102,36 @@ fn type_attr<'a>(
     opaque: bool,
     depth: u32,
 ) -> Result<(AttrId, &'a [u8]), ReadError>
-    ensures reads { Gives (λ x. (x.0, (x.1.now, ctx.new))) result (type_attr_at opaque depth (bytes.now, ctx.old)) }
-    ensures grows { Grows ctx.old ctx.new }
+    ensures reads { Returns (λ x. (x.0, (x.1.now, ctx.new))) result (type_attr_at opaque depth (bytes.now, ctx.old)) }
+    ensures grows { IsExtendedBy ctx.old ctx.new }
 {
     ctx.sound();
     let (id, rest) = match ty(alloc, ctx, bytes, opaque, depth) {
         Ok(found) => found,
         Err(e) => return Err(e),
     };
-    kept(ctx, AttrNode::Ty(id), rest)
+    intern_node(ctx, AttrNode::Ty(id), rest)
 }
 
-/// The flags of an integer operation, behind their name (`arith` Dialect, "IntegerOverflowFlagsAttr").
+/// Parses the overflow flags of an integer operation after their name (`arith` Dialect, "IntegerOverflowFlagsAttr").
 #[tactic(auto, using(ir_types::proofs::Growth::grows_refl, ir_types::proofs::Growth::grows_trans), unfolding(crate::specs::AttrReading::overflow_at))]
 fn overflow<'a>(
     alloc: Global,
     ctx: &mut Context,
     bytes: &'a [u8],
 ) -> Result<(AttrId, &'a [u8]), ReadError>
-    ensures reads { Gives (λ x. (x.0, (x.1.now, ctx.new))) result (overflow_at (bytes.now, ctx.old)) }
-    ensures grows { Grows ctx.old ctx.new }
+    ensures reads { Returns (λ x. (x.0, (x.1.now, ctx.new))) result (overflow_at (bytes.now, ctx.old)) }
+    ensures grows { IsExtendedBy ctx.old ctx.new }
 {
     let rest = expect(bytes, Mark::Less)?;
     let (found, rest) = flags(alloc, rest)?;
     let nsw = has_nsw(found.as_slice());
     let nuw = has_nuw(found.as_slice());
-    kept(ctx, AttrNode::Overflow { nsw, nuw }, rest)
+    intern_node(ctx, AttrNode::Overflow { nsw, nuw }, rest)
 }
 
-/// A string, behind which these bytes stand: one that a type follows is kept as it is spelled, where such attributes
-/// are read.
+/// Parses the rest of a string attribute. `bytes` is the text after the string. If opaque attributes are allowed, a
+/// string with a type is one.
 #[tactic(auto, using(ir_types::proofs::Growth::grows_refl, ir_types::proofs::Growth::grows_trans))]
 fn string_attr<'a>(
     alloc: Global,
@@ -139,8 +141,8 @@ fn string_attr<'a>(
     opaque: bool,
     types: u32,
 ) -> Result<(AttrId, &'a [u8]), ReadError>
-    ensures reads { Gives (λ x. (x.0, (x.1.now, ctx.new))) result (string_at opaque types raw.now (bytes.now, ctx.old)) }
-    ensures grows { Grows ctx.old ctx.new }
+    ensures reads { Returns (λ x. (x.0, (x.1.now, ctx.new))) result (string_at opaque types raw.now (bytes.now, ctx.old)) }
+    ensures grows { IsExtendedBy ctx.old ctx.new }
 {
     if !opaque {
         return string(alloc, ctx, raw, bytes);
@@ -154,7 +156,7 @@ fn string_attr<'a>(
     }
 }
 
-/// A dense array of integers behind its word, or one that is kept as it is spelled.
+/// Parses a dense array of integers after the word `array`, or an opaque array.
 #[tactic(auto, using(ir_types::proofs::Growth::grows_refl, ir_types::proofs::Growth::grows_trans))]
 fn array_attr<'a>(
     alloc: Global,
@@ -163,14 +165,14 @@ fn array_attr<'a>(
     opaque: bool,
     types: u32,
 ) -> Result<(AttrId, &'a [u8]), ReadError>
-    ensures reads { Gives (λ x. (x.0, (x.1.now, ctx.new))) result (array_word_at opaque types ctx.old rest.now) }
-    ensures grows { Grows ctx.old ctx.new }
+    ensures reads { Returns (λ x. (x.0, (x.1.now, ctx.new))) result (array_word_at opaque types ctx.old rest.now) }
+    ensures grows { IsExtendedBy ctx.old ctx.new }
 {
     if opaque && opens_other(rest) {
         return match array_text(alloc, rest) {
-            Ok((text, behind)) => {
+            Ok((text, trailing)) => {
                 let text = Items::new(text);
-                tail(alloc, ctx, Tail::NoType, text, behind, opaque, types)
+                tail(alloc, ctx, Tail::NoType, text, trailing, opaque, types)
             }
             Err(e) => Err(e),
         };
@@ -178,8 +180,8 @@ fn array_attr<'a>(
     dense(alloc, ctx, rest)
 }
 
-/// An attribute that begins with a word that nothing is kept behind, behind which stands `rest`; a type of at most that
-/// depth.
+/// Parses an attribute that begins with a word and isn't opaque. `bytes` is the text from the word on, and `rest` the
+/// text after it. A type is at most `types` deep.
 #[tactic(auto, using(ir_types::proofs::Growth::grows_refl, ir_types::proofs::Growth::grows_trans))]
 fn word_attr<'a>(
     alloc: Global,
@@ -190,8 +192,8 @@ fn word_attr<'a>(
     opaque: bool,
     types: u32,
 ) -> Result<(AttrId, &'a [u8]), ReadError>
-    ensures reads { Gives (λ x. (x.0, (x.1.now, ctx.new))) result (word_attr opaque types (word_of word.now) (bytes.now, ctx.old) rest.now) }
-    ensures grows { Grows ctx.old ctx.new }
+    ensures reads { Returns (λ x. (x.0, (x.1.now, ctx.new))) result (word_attr opaque types (word_of word.now) (bytes.now, ctx.old) rest.now) }
+    ensures grows { IsExtendedBy ctx.old ctx.new }
 {
     if word == b"true".as_slice() {
         return truth(ctx, true, rest);
@@ -200,7 +202,7 @@ fn word_attr<'a>(
         return truth(ctx, false, rest);
     }
     if word == b"unit".as_slice() {
-        return kept(ctx, AttrNode::Unit, rest);
+        return intern_node(ctx, AttrNode::Unit, rest);
     }
     if word == b"array".as_slice() {
         return array_attr(alloc, ctx, rest, opaque, types);
@@ -208,7 +210,7 @@ fn word_attr<'a>(
     type_attr(alloc, ctx, bytes, opaque, types)
 }
 
-/// An attribute that begins with a word, behind which stands `rest`.
+/// Parses an attribute that begins with a word. `bytes` is the text from the word on, and `rest` the text after it.
 #[tactic(auto, using(ir_types::proofs::Growth::grows_refl, ir_types::proofs::Growth::grows_trans))]
 fn bare_attr<'a>(
     alloc: Global,
@@ -219,23 +221,23 @@ fn bare_attr<'a>(
     opaque: bool,
     types: u32,
 ) -> Result<(AttrId, &'a [u8]), ReadError>
-    ensures reads { Gives (λ x. (x.0, (x.1.now, ctx.new))) result (bare_attr opaque types (tail_in opaque word.now) word.now (bytes.now, ctx.old) rest.now) }
-    ensures grows { Grows ctx.old ctx.new }
+    ensures reads { Returns (λ x. (x.0, (x.1.now, ctx.new))) result (bare_attr opaque types (tail_in opaque word.now) word.now (bytes.now, ctx.old) rest.now) }
+    ensures grows { IsExtendedBy ctx.old ctx.new }
 {
     let Some(following) = tail_in(opaque, word) else {
         return word_attr(alloc, ctx, word, bytes, rest, opaque, types);
     };
     match kept_text(alloc, word, rest) {
-        Ok((text, behind)) => {
+        Ok((text, trailing)) => {
             let text = Items::new(text);
-            tail(alloc, ctx, following, text, behind, opaque, types)
+            tail(alloc, ctx, following, text, trailing, opaque, types)
         }
         Err(e) => Err(e),
     }
 }
 
-/// An attribute that begins with a mark, behind which stands `rest`: a type of at most `types` deep, or
-/// of parts that are at most `depth` deep.
+/// Parses an attribute that begins with a punctuation mark. `bytes` is the text from the mark on, and `rest` the text
+/// after it. A type is at most `types` deep, and the parts of the attribute are at most `depth` deep.
 #[cycle(attr)]
 #[tactic(auto, using(ir_types::proofs::Growth::grows_refl, ir_types::proofs::Growth::grows_trans))]
 fn mark_attr<'a>(
@@ -248,8 +250,8 @@ fn mark_attr<'a>(
     types: u32,
     depth: u32,
 ) -> Result<(AttrId, &'a [u8]), ReadError>
-    ensures reads { Gives (λ x. (x.0, (x.1.now, ctx.new))) result (mark_attr opaque types depth (attr_at opaque depth) mark (bytes.now, ctx.old) rest.now) }
-    ensures grows { Grows ctx.old ctx.new }
+    ensures reads { Returns (λ x. (x.0, (x.1.now, ctx.new))) result (mark_attr opaque types depth (attr_at opaque depth) mark (bytes.now, ctx.old) rest.now) }
+    ensures grows { IsExtendedBy ctx.old ctx.new }
 {
     match mark {
         Mark::Minus => negative(alloc, ctx, bytes, rest, opaque, types),
@@ -260,7 +262,7 @@ fn mark_attr<'a>(
     }
 }
 
-/// What stands behind a name and its sign: the flags of an integer operation, or an attribute of a dialect.
+/// Parses an attribute that begins with `#` and a name: overflow flags, or a dialect's attribute.
 #[tactic(auto, using(ir_types::proofs::Growth::grows_refl, ir_types::proofs::Growth::grows_trans))]
 fn hash_attr<'a>(
     alloc: Global,
@@ -271,8 +273,8 @@ fn hash_attr<'a>(
     opaque: bool,
     types: u32,
 ) -> Result<(AttrId, &'a [u8]), ReadError>
-    ensures reads { Gives (λ x. (x.0, (x.1.now, ctx.new))) result (hash_attr opaque types word.now (bytes.now, ctx.old) rest.now) }
-    ensures grows { Grows ctx.old ctx.new }
+    ensures reads { Returns (λ x. (x.0, (x.1.now, ctx.new))) result (hash_attr opaque types word.now (bytes.now, ctx.old) rest.now) }
+    ensures grows { IsExtendedBy ctx.old ctx.new }
 {
     if word == b"arith.overflow".as_slice() {
         return overflow(alloc, ctx, rest);
@@ -281,12 +283,12 @@ fn hash_attr<'a>(
         return Err(ReadError::Refused(wrong(TextRefusal::LeftOut, bytes)));
     }
     match dialect_text(alloc, b'#', word, bytes, rest) {
-        Ok((text, behind)) => tail(alloc, ctx, Tail::TypeOrNone, text, behind, opaque, types),
+        Ok((text, trailing)) => tail(alloc, ctx, Tail::TypeOrNone, text, trailing, opaque, types),
         Err(e) => Err(e),
     }
 }
 
-/// The digits of a float, behind which stands `rest`.
+/// Parses a float attribute after its digits. `rest` is the text after the digits.
 #[tactic(auto, using(ir_types::proofs::Growth::grows_refl, ir_types::proofs::Growth::grows_trans))]
 fn float_attr<'a>(
     alloc: Global,
@@ -297,8 +299,8 @@ fn float_attr<'a>(
     opaque: bool,
     types: u32,
 ) -> Result<(AttrId, &'a [u8]), ReadError>
-    ensures reads { Gives (λ x. (x.0, (x.1.now, ctx.new))) result (if opaque then tail_at opaque types OpaqueOrNone digits.now (rest.now, ctx.old) else Wrong) }
-    ensures grows { Grows ctx.old ctx.new }
+    ensures reads { Returns (λ x. (x.0, (x.1.now, ctx.new))) result (if opaque then tail_at opaque types OpaqueOrNone digits.now (rest.now, ctx.old) else Wrong) }
+    ensures grows { IsExtendedBy ctx.old ctx.new }
 {
     if !opaque {
         return Err(ReadError::Refused(wrong(TextRefusal::LeftOut, bytes)));
@@ -307,7 +309,7 @@ fn float_attr<'a>(
     tail(alloc, ctx, Tail::OpaqueOrNone, text, rest, opaque, types)
 }
 
-/// Whether a mark begins an attribute.
+/// Returns whether a punctuation mark begins an attribute.
 fn mark_begins(mark: Mark) -> bool {
     match mark {
         Mark::Minus => true,
@@ -318,7 +320,7 @@ fn mark_begins(mark: Mark) -> bool {
     }
 }
 
-/// Why no attribute may begin here: it is too deep, where one begins.
+/// Returns `TooDeep` if an attribute begins here, and otherwise why none does.
 fn past_refusal(bytes: &[u8], opaque: bool) -> TextRefusal {
     let Ok((found, _)) = token(bytes) else {
         return TextRefusal::Unexpected;
@@ -338,15 +340,16 @@ fn past_refusal(bytes: &[u8], opaque: bool) -> TextRefusal {
     }
 }
 
-/// An attribute of at most that depth: a literal, a truth value, a string, `unit`, a type, a symbol
-/// reference, an array, a dictionary, a dense array, or the flags of an integer operation. It is
-/// interned, and so are its parts.
+/// Parses an attribute of at most `depth`, and interns the attribute and its parts. It is a literal, a truth value, a
+/// string, `unit`, a type, a symbol reference, an array, a dictionary, a dense array, or overflow flags.
 ///
-/// Refusals, each at the first byte of its token: what the lexer refuses; `Unexpected`; `LeftOut` for
-/// an attribute or a type that is left out; those of types; `TooDeep` at the part that is too deep;
-/// `BadValue` for a literal, at its minus where it has one, that does not fit its type or passes
-/// 2^128 - 1; `TypeMismatch` at the type of a literal that is neither an integer type nor index;
-/// `DuplicateKey` at a key that stands twice, and `TooMany` at the 257th entry of a dictionary.
+/// Refusals, each at the first byte of its token:
+///
+/// - those of the lexer and those of types; `Unexpected`; `LeftOut` for an unsupported attribute or type;
+/// - `TooDeep` at the part that is too deep;
+/// - `BadValue` for a literal, at its minus sign if it has one, that doesn't fit its type or is over 2^128 - 1;
+/// - `TypeMismatch` at the type of a literal that is neither an integer type nor `index`;
+/// - `DuplicateKey` at a repeated key, and `TooMany` at the 257th entry of a dictionary.
 #[cycle(attr)]
 #[tactic(auto, using(ir_types::proofs::Growth::grows_refl, ir_types::proofs::Growth::grows_trans), unfolding(crate::specs::AttrReading::attr_at))]
 pub fn attr<'a>(
@@ -356,8 +359,8 @@ pub fn attr<'a>(
     opaque: bool,
     depth: u32,
 ) -> Result<(AttrId, &'a [u8]), ReadError>
-    ensures reads { Gives (λ x. (x.0, (x.1.now, ctx.new))) result (attr_at opaque depth (bytes.now, ctx.old)) }
-    ensures grows { Grows ctx.old ctx.new }
+    ensures reads { Returns (λ x. (x.0, (x.1.now, ctx.new))) result (attr_at opaque depth (bytes.now, ctx.old)) }
+    ensures grows { IsExtendedBy ctx.old ctx.new }
 {
     if depth == 0 {
         return Err(ReadError::Refused(wrong(past_refusal(bytes, opaque), bytes)));

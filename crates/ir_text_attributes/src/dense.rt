@@ -1,15 +1,15 @@
 //! Dense arrays of integers. Builtin Dialect, "DenseArrayAttr".
 ghost use Rattle.std.specs.Prelude.{◌≡◌, ◌<◌, ◌≤◌, ◌^◌, IfSome, is_some};
-ghost use Rattle.ir_types.specs.Things.{Things, Grows};
+ghost use Rattle.ir_types.specs.Things.{ContextModel, IsExtendedBy};
 ghost use Rattle.ir_types.specs.Readings as readings;
 ghost use Rattle.ir_types.specs.Readings.{reading_of};
-ghost use Rattle.ir_text_types.specs.Outcomes.{Gives};
+ghost use Rattle.ir_text_types.specs.Outcomes.{Returns};
 ghost use Rattle.ir_text_attributes.specs.Elements.{bits_of, type_of, element_named, item_bits, item_value};
 ghost use Rattle.ir_text_attributes.specs.Literals.{truth_bits, word_of};
 ghost use Rattle.ir_text_attributes.specs.declared.element.Element.TheVariants.{I1};
 ghost use Rattle.ir_text_attributes.specs.AttrReading.{element_at, truth_item, number_item, minus_item, mark_item, item_at, some_items_at, no_items_at, items_at, dense_done, dense_at};
 
-use crate::attributes::kept;
+use crate::attributes::intern_node;
 use crate::element::Element;
 use ir_text_tokens::numbers::integer_value;
 use ir_text_tokens::refusal::TextRefusal;
@@ -22,10 +22,10 @@ use ir_types::context::Context;
 use ir_types::ids::AttrId;
 use ir_types::node::{AttrNode, Sign, TypeNode};
 use ir_types::readings::{literal_bits, signed_number};
-use ir_types_items::lists::Items;
+use ir_types_interner::lists::Items;
 use std::alloc::Global;
 
-/// The element type that a word names.
+/// Returns the element type that a word names.
 fn element_named(word: &[u8]) -> Option<Element>
     ensures { result ≡ element_named word.now }
 {
@@ -47,14 +47,14 @@ fn element_named(word: &[u8]) -> Option<Element>
     None
 }
 
-/// Whether a word names an element type.
+/// Returns whether a word names an element type.
 pub(crate) fn is_element(word: &[u8]) -> bool
     ensures { result ≡ is_some (element_named word.now) }
 {
     element_named(word).is_some()
 }
 
-/// How many bits an element has.
+/// Returns the number of bits of an element type.
 fn bits_of(element: &Element) -> u32
     ensures bits { result ≡ bits_of element.now }
     ensures low { 1 ≤ result }
@@ -69,10 +69,10 @@ fn bits_of(element: &Element) -> u32
     }
 }
 
-/// An element type.
+/// Parses an element type.
 #[tactic(auto, unfolding(crate::specs::AttrReading::element_at))]
 fn element(bytes: &[u8]) -> Result<(Element, &[u8]), ReadError>
-    ensures { (c : Things) → Gives (λ x. (x.0, (x.1.now, c))) result (element_at (bytes.now, c)) }
+    ensures { (c : ContextModel) → Returns (λ x. (x.0, (x.1.now, c))) result (element_at (bytes.now, c)) }
 {
     let (found, rest) = token(bytes)?;
     match found {
@@ -87,7 +87,7 @@ fn element(bytes: &[u8]) -> Result<(Element, &[u8]), ReadError>
     }
 }
 
-/// The bits of a literal, where it is one of the element type.
+/// Returns the bits of a literal, or `None` if the literal doesn't fit the element type.
 fn literal_in(element: &Element, negative: bool, magnitude: u128) -> Option<u128>
     ensures bits { result ≡ readings.literal_bits (type_of element.now) negative magnitude }
     ensures below { IfSome result (λ bits. bits < 2 ^ bits_of element.now) }
@@ -99,7 +99,7 @@ fn literal_in(element: &Element, negative: bool, magnitude: u128) -> Option<u128
     literal_bits(&node, negative, magnitude)
 }
 
-/// The bits of an element type that digits write as a literal, with a minus before them or none.
+/// Returns the bits of the element type that the digits denote, after a minus sign if `negative`.
 fn item_bits(element: &Element, negative: bool, digits: &[u8]) -> Option<u128>
     ensures bits { result ≡ item_bits (type_of element.now) negative digits.now }
     ensures below { IfSome result (λ bits. bits < 2 ^ bits_of element.now) }
@@ -108,7 +108,7 @@ fn item_bits(element: &Element, negative: bool, digits: &[u8]) -> Option<u128>
     literal_in(element, negative, magnitude)
 }
 
-/// The number that the bits of an element type are read as.
+/// Returns the number that the bits of an element type denote.
 fn reading(element: &Element, bits: u128) -> i64
     requires { bits < 2 ^ bits_of element.now }
     ensures { result ≡ reading_of (type_of element.now) bits }
@@ -116,7 +116,7 @@ fn reading(element: &Element, bits: u128) -> i64
     signed_number(bits_of(element), bits) as i64
 }
 
-/// The value of an element type that digits write, with a minus before them or none.
+/// Returns the value of the element type that the digits denote, after a minus sign if `negative`.
 fn item_value(element: &Element, negative: bool, digits: &[u8]) -> Option<i64>
     ensures { result ≡ item_value (type_of element.now) negative digits.now }
 {
@@ -124,7 +124,7 @@ fn item_value(element: &Element, negative: bool, digits: &[u8]) -> Option<i64>
     Some(reading(element, bits))
 }
 
-/// An item behind its digits. It begins, its minus included, at `start`.
+/// Returns an item, given its digits, and `rest`. The item begins at `start`, with its minus sign if it has one.
 fn number_item<'a>(
     element: &Element,
     negative: bool,
@@ -132,7 +132,7 @@ fn number_item<'a>(
     start: &[u8],
     rest: &'a [u8],
 ) -> Result<(i64, &'a [u8]), ReadError>
-    ensures { (c : Things) → Gives (λ x. (x.0, (x.1.now, c))) result (number_item (type_of element.now) negative digits.now (rest.now, c)) }
+    ensures { (c : ContextModel) → Returns (λ x. (x.0, (x.1.now, c))) result (number_item (type_of element.now) negative digits.now (rest.now, c)) }
 {
     match item_value(element, negative, digits) {
         Some(value) => Ok((value, rest)),
@@ -140,7 +140,7 @@ fn number_item<'a>(
     }
 }
 
-/// The number that the bit of a truth value is read as.
+/// Returns the number that the bit of a truth value denotes.
 #[tactic(auto, unfolding(ir_types::specs::Readings::signed_of))]
 fn truth_value(is_true: bool) -> i64
     ensures { result ≡ reading_of (type_of I1) (truth_bits is_true) }
@@ -148,14 +148,14 @@ fn truth_value(is_true: bool) -> i64
     if is_true { -1 } else { 0 }
 }
 
-/// A truth value as an item, behind which stands `rest`.
+/// Returns a truth value as an item. `rest` is the text after its word.
 fn truth_item<'a>(
     element: &Element,
     word: &[u8],
     bytes: &[u8],
     rest: &'a [u8],
 ) -> Result<(i64, &'a [u8]), ReadError>
-    ensures { (c : Things) → Gives (λ x. (x.0, (x.1.now, c))) result (truth_item (type_of element.now) (word_of word.now) (rest.now, c)) }
+    ensures { (c : ContextModel) → Returns (λ x. (x.0, (x.1.now, c))) result (truth_item (type_of element.now) (word_of word.now) (rest.now, c)) }
 {
     let is_bit = matches!(element, Element::I1);
     if is_bit && word == b"true".as_slice() {
@@ -167,14 +167,14 @@ fn truth_item<'a>(
     Err(ReadError::Refused(wrong(TextRefusal::Unexpected, bytes)))
 }
 
-/// An item behind its minus, which stands at `start`.
+/// Parses an item after its minus sign, which is at `start`.
 #[tactic(auto, unfolding(crate::specs::AttrReading::minus_item))]
 fn minus_item<'a>(
     element: &Element,
     start: &[u8],
     bytes: &'a [u8],
 ) -> Result<(i64, &'a [u8]), ReadError>
-    ensures { (c : Things) → Gives (λ x. (x.0, (x.1.now, c))) result (minus_item (type_of element.now) (bytes.now, c)) }
+    ensures { (c : ContextModel) → Returns (λ x. (x.0, (x.1.now, c))) result (minus_item (type_of element.now) (bytes.now, c)) }
 {
     let (found, rest) = token(bytes)?;
     match found {
@@ -183,14 +183,14 @@ fn minus_item<'a>(
     }
 }
 
-/// An item that begins with a mark.
+/// Parses an item that begins with a punctuation mark.
 fn mark_item<'a>(
     element: &Element,
     mark: Mark,
     bytes: &[u8],
     rest: &'a [u8],
 ) -> Result<(i64, &'a [u8]), ReadError>
-    ensures { (c : Things) → Gives (λ x. (x.0, (x.1.now, c))) result (mark_item (type_of element.now) mark (rest.now, c)) }
+    ensures { (c : ContextModel) → Returns (λ x. (x.0, (x.1.now, c))) result (mark_item (type_of element.now) mark (rest.now, c)) }
 {
     match mark {
         Mark::Minus => minus_item(element, bytes, rest),
@@ -198,10 +198,10 @@ fn mark_item<'a>(
     }
 }
 
-/// An item: a literal of the element type, or of `i1` a truth value.
+/// Parses an item: a literal of the element type, or a truth value if the element type is `i1`.
 #[tactic(auto, unfolding(crate::specs::AttrReading::item_at))]
 fn item<'a>(element: &Element, bytes: &'a [u8]) -> Result<(i64, &'a [u8]), ReadError>
-    ensures { (c : Things) → Gives (λ x. (x.0, (x.1.now, c))) result (item_at (type_of element.now) (bytes.now, c)) }
+    ensures { (c : ContextModel) → Returns (λ x. (x.0, (x.1.now, c))) result (item_at (type_of element.now) (bytes.now, c)) }
 {
     let (found, rest) = token(bytes)?;
     match found {
@@ -212,14 +212,14 @@ fn item<'a>(element: &Element, bytes: &'a [u8]) -> Result<(i64, &'a [u8]), ReadE
     }
 }
 
-/// Items parted by commas, up to the closing mark.
+/// Parses comma-separated items up to the closing mark.
 #[tactic(auto, unfolding(crate::specs::AttrReading::some_items_at))]
 fn some_items<'a>(
     alloc: Global,
     element: &Element,
     bytes: &'a [u8],
 ) -> Result<(Vec<i64>, &'a [u8]), ReadError>
-    ensures { (c : Things) → Gives (λ x. (x.0.items, (x.1.now, c))) result (some_items_at (type_of element.now) (bytes.now, c)) }
+    ensures { (c : ContextModel) → Returns (λ x. (x.0.items, (x.1.now, c))) result (some_items_at (type_of element.now) (bytes.now, c)) }
 {
     let mut items = Vec::new(alloc);
     let mut rest = bytes;
@@ -237,23 +237,23 @@ fn some_items<'a>(
     Err(ReadError::Refused(wrong(TextRefusal::TooMany, rest)))
 }
 
-/// No items: the closing mark behind the element type.
+/// Parses an empty list of items: the closing mark directly after the element type.
 #[tactic(auto, unfolding(crate::specs::AttrReading::no_items_at))]
 fn no_items(alloc: Global, bytes: &[u8]) -> Result<(Vec<i64>, &[u8]), ReadError>
-    ensures { (c : Things) → Gives (λ x. (x.0.items, (x.1.now, c))) result (no_items_at (bytes.now, c)) }
+    ensures { (c : ContextModel) → Returns (λ x. (x.0.items, (x.1.now, c))) result (no_items_at (bytes.now, c)) }
 {
     let rest = expect(bytes, Mark::Greater)?;
     Ok((Vec::new(alloc), rest))
 }
 
-/// The items behind a colon, or none, up to the closing mark.
+/// Parses the items after a colon, or an empty list, up to the closing mark.
 #[tactic(auto, unfolding(crate::specs::AttrReading::items_at))]
 fn items<'a>(
     alloc: Global,
     element: &Element,
     bytes: &'a [u8],
 ) -> Result<(Vec<i64>, &'a [u8]), ReadError>
-    ensures { (c : Things) → Gives (λ x. (x.0.items, (x.1.now, c))) result (items_at (type_of element.now) (bytes.now, c)) }
+    ensures { (c : ContextModel) → Returns (λ x. (x.0.items, (x.1.now, c))) result (items_at (type_of element.now) (bytes.now, c)) }
 {
     match after(bytes, Mark::Colon) {
         Some(rest) => some_items(alloc, element, rest),
@@ -261,7 +261,7 @@ fn items<'a>(
     }
 }
 
-/// A dense array behind its element type.
+/// Parses a dense array after its element type.
 #[tactic(auto, using(ir_types::proofs::Growth::grows_refl, ir_types::proofs::Growth::grows_trans), unfolding(crate::specs::AttrReading::dense_done))]
 fn dense_of<'a>(
     alloc: Global,
@@ -269,34 +269,34 @@ fn dense_of<'a>(
     element: &Element,
     bytes: &'a [u8],
 ) -> Result<(AttrId, &'a [u8]), ReadError>
-    ensures reads { Gives (λ x. (x.0, (x.1.now, ctx.new))) result (dense_done element.now (bytes.now, ctx.old)) }
-    ensures grows { Grows ctx.old ctx.new }
+    ensures reads { Returns (λ x. (x.0, (x.1.now, ctx.new))) result (dense_done element.now (bytes.now, ctx.old)) }
+    ensures grows { IsExtendedBy ctx.old ctx.new }
 {
     let node = TypeNode::Int {
         sign: Sign::Signless,
         width: bits_of(element),
     };
-    let (elem, rest) = match types::kept(ctx, node, bytes) {
+    let (elem, rest) = match types::intern_node(ctx, node, bytes) {
         Ok(found) => found,
         Err(e) => return Err(e),
     };
     let (values, rest) = items(alloc, element, rest)?;
     let values = Items::new(values);
-    kept(ctx, AttrNode::Dense { elem, values }, rest)
+    intern_node(ctx, AttrNode::Dense { elem, values }, rest)
 }
 
-/// A dense array behind its word.
+/// Parses a dense array after the word `array`.
 ///
-/// Refusals: `Unexpected` where no `<` follows; `LeftOut` at another element type, or `BadWidth`; and
-/// `BadValue` at an item, or its minus, that does not fit.
+/// Refusals: `Unexpected` if no `<` follows; `LeftOut` or `BadWidth` at another element type; `BadValue` at an item,
+/// or at its minus sign, that doesn't fit.
 #[tactic(auto, using(ir_types::proofs::Growth::grows_refl, ir_types::proofs::Growth::grows_trans), unfolding(crate::specs::AttrReading::dense_at))]
 pub(crate) fn dense<'a>(
     alloc: Global,
     ctx: &mut Context,
     bytes: &'a [u8],
 ) -> Result<(AttrId, &'a [u8]), ReadError>
-    ensures reads { Gives (λ x. (x.0, (x.1.now, ctx.new))) result (dense_at (bytes.now, ctx.old)) }
-    ensures grows { Grows ctx.old ctx.new }
+    ensures reads { Returns (λ x. (x.0, (x.1.now, ctx.new))) result (dense_at (bytes.now, ctx.old)) }
+    ensures grows { IsExtendedBy ctx.old ctx.new }
 {
     let rest = expect(bytes, Mark::Less)?;
     let (element, rest) = element(rest)?;

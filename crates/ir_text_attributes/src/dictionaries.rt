@@ -1,11 +1,11 @@
 //! Dictionaries. Builtin Dialect, "DictionaryAttr"; Language Reference, "Attributes".
 ghost use Rattle.std.specs.Prelude.{◌≡◌, nat_eq};
-ghost use Rattle.ir_types.specs.Things.{Grows};
-ghost use Rattle.ir_text_types.specs.Outcomes.{Gives};
+ghost use Rattle.ir_types.specs.Things.{IsExtendedBy};
+ghost use Rattle.ir_text_types.specs.Outcomes.{Returns};
 ghost use Rattle.ir_text_attributes.specs.Keyed.{has_key};
 ghost use Rattle.ir_text_attributes.specs.AttrReading.{key_at, unit_value_at, value_at, entry_by, entries_by, dictionary_by, attr_at};
 
-use crate::attributes::{attr, kept};
+use crate::attributes::{attr, intern_node};
 use crate::symbols::named;
 use ir_text_tokens::fault::Fault;
 use ir_text_tokens::lexer;
@@ -18,23 +18,23 @@ use ir_types::context::Context;
 use ir_types::ids::{AttrId, NameId};
 use ir_types::limits::MOST_ENTRIES;
 use ir_types::node::AttrNode;
-use ir_types_items::lists::Items;
+use ir_types_interner::lists::Items;
 use std::alloc::Global;
 
 /// A key and an attribute.
 pub type Entry = (NameId, AttrId);
 
-/// The number of a key: a bare identifier or a string.
+/// Parses a key, which is a bare identifier or a string, and returns its id.
 ///
-/// Refusals: what the lexer refuses; `Unexpected` at another token.
+/// Refusals: those of the lexer; `Unexpected` at another token.
 #[tactic(auto, using(ir_types::proofs::Growth::grows_refl, ir_types::proofs::Growth::grows_trans), unfolding(crate::specs::AttrReading::key_at))]
 pub fn key<'a>(
     alloc: Global,
     ctx: &mut Context,
     bytes: &'a [u8],
 ) -> Result<(NameId, &'a [u8]), ReadError>
-    ensures reads { Gives (λ x. (x.0, (x.1.now, ctx.new))) result (key_at (bytes.now, ctx.old)) }
-    ensures grows { Grows ctx.old ctx.new }
+    ensures reads { Returns (λ x. (x.0, (x.1.now, ctx.new))) result (key_at (bytes.now, ctx.old)) }
+    ensures grows { IsExtendedBy ctx.old ctx.new }
 {
     if let Some((word, rest)) = lexer::word(bytes) {
         return named(ctx, word, rest);
@@ -50,14 +50,14 @@ pub fn key<'a>(
     }
 }
 
-/// Whether an entry has the key.
+/// Returns whether an entry has the key.
 pub fn has_key(key: NameId, entries: &[Entry]) -> bool
     ensures { result ≡ has_key nat_eq key entries.now }
 {
     entries.iter().any(|entry| entry.0 == key)
 }
 
-/// The unit attribute of a key that stands at `start`, in front of these bytes.
+/// Interns the unit attribute of a key without a value. The key is at `start`.
 #[tactic(auto, using(ir_types::proofs::Growth::grows_refl, ir_types::proofs::Growth::grows_trans), unfolding(crate::specs::AttrReading::unit_value_at))]
 fn unit_value<'a>(
     ctx: &mut Context,
@@ -65,19 +65,19 @@ fn unit_value<'a>(
     bytes: &'a [u8],
     depth: u32,
 ) -> Result<(AttrId, &'a [u8]), ReadError>
-    ensures reads { Gives (λ x. (x.0, (x.1.now, ctx.new))) result (unit_value_at depth (bytes.now, ctx.old)) }
-    ensures grows { Grows ctx.old ctx.new }
+    ensures reads { Returns (λ x. (x.0, (x.1.now, ctx.new))) result (unit_value_at depth (bytes.now, ctx.old)) }
+    ensures grows { IsExtendedBy ctx.old ctx.new }
 {
     if depth == 0 {
         return Err(ReadError::Refused(wrong(TextRefusal::TooDeep, start)));
     }
-    kept(ctx, AttrNode::Unit, bytes)
+    intern_node(ctx, AttrNode::Unit, bytes)
 }
 
-/// The attribute of at most that depth behind an equal sign, or unit where none stands. Its key stands
+/// Parses the attribute of at most `depth` after an equal sign, or returns unit if there is no equal sign. The key is
 /// at `start`.
 ///
-/// Refusals: those of attributes; `TooDeep` at the key where no depth is left for unit.
+/// Refusals: those of attributes; `TooDeep` at the key if no depth is left for unit.
 #[cycle(attr)]
 #[tactic(auto, using(ir_types::proofs::Growth::grows_refl, ir_types::proofs::Growth::grows_trans), unfolding(crate::specs::AttrReading::value_by))]
 pub fn value<'a>(
@@ -88,8 +88,8 @@ pub fn value<'a>(
     opaque: bool,
     depth: u32,
 ) -> Result<(AttrId, &'a [u8]), ReadError>
-    ensures reads { Gives (λ x. (x.0, (x.1.now, ctx.new))) result (value_at opaque depth (bytes.now, ctx.old)) }
-    ensures grows { Grows ctx.old ctx.new }
+    ensures reads { Returns (λ x. (x.0, (x.1.now, ctx.new))) result (value_at opaque depth (bytes.now, ctx.old)) }
+    ensures grows { IsExtendedBy ctx.old ctx.new }
 {
     match after(bytes, Mark::Equal) {
         Some(rest) => attr(alloc, ctx, rest, opaque, depth),
@@ -97,7 +97,7 @@ pub fn value<'a>(
     }
 }
 
-/// An entry whose key does not stand before it.
+/// Parses an entry whose key isn't in `before`.
 #[cycle(attr)]
 #[tactic(auto, using(ir_types::proofs::Growth::grows_refl, ir_types::proofs::Growth::grows_trans), unfolding(crate::specs::AttrReading::entry_by))]
 fn entry<'a>(
@@ -108,8 +108,8 @@ fn entry<'a>(
     opaque: bool,
     depth: u32,
 ) -> Result<(Entry, &'a [u8]), ReadError>
-    ensures reads { Gives (λ x. (x.0, (x.1.now, ctx.new))) result (entry_by depth (attr_at opaque depth) before.now (bytes.now, ctx.old)) }
-    ensures grows { Grows ctx.old ctx.new }
+    ensures reads { Returns (λ x. (x.0, (x.1.now, ctx.new))) result (entry_by depth (attr_at opaque depth) before.now (bytes.now, ctx.old)) }
+    ensures grows { IsExtendedBy ctx.old ctx.new }
 {
     let (key, rest) = match key(alloc, ctx, bytes) {
         Ok(found) => found,
@@ -125,10 +125,10 @@ fn entry<'a>(
     Ok(((key, attr), rest))
 }
 
-/// Why no entry may come behind so many: its key stands there, or there is no room, where one begins.
+/// Returns why there is no further entry: its key is repeated, or the dictionary is full, or no entry begins here.
 #[tactic(auto, using(ir_types::proofs::Growth::grows_refl, ir_types::proofs::Growth::grows_trans))]
 fn past_fault(alloc: Global, ctx: &mut Context, before: &[Entry], bytes: &[u8]) -> Fault
-    ensures { Grows ctx.old ctx.new }
+    ensures { IsExtendedBy ctx.old ctx.new }
 {
     let (key, _) = match key(alloc, ctx, bytes) {
         Ok(found) => found,
@@ -142,7 +142,7 @@ fn past_fault(alloc: Global, ctx: &mut Context, before: &[Entry], bytes: &[u8]) 
     wrong(TextRefusal::TooMany, bytes)
 }
 
-/// Entries up to the closing brace.
+/// Parses entries up to the closing brace.
 #[cycle(attr)]
 #[tactic(auto, using(ir_types::proofs::Growth::grows_refl, ir_types::proofs::Growth::grows_trans), unfolding(ir_text_types::specs::Lists::list_at, crate::specs::AttrReading::entries_by))]
 fn entries<'a>(
@@ -152,8 +152,8 @@ fn entries<'a>(
     opaque: bool,
     depth: u32,
 ) -> Result<(Vec<Entry>, &'a [u8]), ReadError>
-    ensures reads { Gives (λ x. (x.0.items, (x.1.now, ctx.new))) result (entries_by depth (attr_at opaque depth) (bytes.now, ctx.old)) }
-    ensures grows { Grows ctx.old ctx.new }
+    ensures reads { Returns (λ x. (x.0.items, (x.1.now, ctx.new))) result (entries_by depth (attr_at opaque depth) (bytes.now, ctx.old)) }
+    ensures grows { IsExtendedBy ctx.old ctx.new }
 {
     let mut items = Vec::new(alloc);
     if let Some(rest) = after(bytes, Mark::CloseCurly) {
@@ -174,7 +174,7 @@ fn entries<'a>(
     Err(ReadError::Refused(past_fault(alloc, ctx, &items, rest)))
 }
 
-/// A dictionary behind its opening brace, of attributes of at most that depth.
+/// Parses a dictionary after its opening brace. Its attributes are at most `depth` deep.
 #[cycle(attr)]
 #[tactic(auto, using(ir_types::proofs::Growth::grows_refl, ir_types::proofs::Growth::grows_trans), unfolding(crate::specs::AttrReading::dictionary_by))]
 pub(crate) fn dictionary<'a>(
@@ -184,13 +184,13 @@ pub(crate) fn dictionary<'a>(
     opaque: bool,
     depth: u32,
 ) -> Result<(AttrId, &'a [u8]), ReadError>
-    ensures reads { Gives (λ x. (x.0, (x.1.now, ctx.new))) result (dictionary_by depth (attr_at opaque depth) (bytes.now, ctx.old)) }
-    ensures grows { Grows ctx.old ctx.new }
+    ensures reads { Returns (λ x. (x.0, (x.1.now, ctx.new))) result (dictionary_by depth (attr_at opaque depth) (bytes.now, ctx.old)) }
+    ensures grows { IsExtendedBy ctx.old ctx.new }
 {
     ctx.sound();
     let (entries, rest) = match entries(alloc, ctx, bytes, opaque, depth) {
         Ok(found) => found,
         Err(e) => return Err(e),
     };
-    kept(ctx, AttrNode::Dict(Items::new(entries)), rest)
+    intern_node(ctx, AttrNode::Dict(Items::new(entries)), rest)
 }

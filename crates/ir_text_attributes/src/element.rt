@@ -1,9 +1,9 @@
 //! The element types of dense arrays.
 
-/// A signless integer type that elements of dense arrays have (Builtin Dialect, "DenseArrayAttr").
+/// A signless integer type that a dense array may have as its element type (Builtin Dialect, "DenseArrayAttr").
 #[derive(Clone, Copy, PartialEq, Eq)]
 pub enum Element {
-    /// `i1`, of truth values.
+    /// `i1`, the type of truth values.
     I1,
     /// `i8`.
     I8,

@@ -1,10 +1,10 @@
-//! The flags of integer operations.
+//! The overflow flags of integer operations.
 
-/// What an integer operation may not do (`arith` Dialect, "IntegerOverflowFlagsAttr").
+/// What an integer operation must not do (`arith` Dialect, "IntegerOverflowFlagsAttr").
 #[derive(Clone, Copy, PartialEq, Eq)]
 pub enum Flag {
-    /// `nsw`: wrap as a signed number.
+    /// `nsw`: no signed wrap.
     NoSignedWrap,
-    /// `nuw`: wrap as an unsigned number.
+    /// `nuw`: no unsigned wrap.
     NoUnsignedWrap,
 }

@@ -1,7 +1,7 @@
-//! The flags of integer operations in a text. `arith` Dialect, "IntegerOverflowFlagsAttr".
+//! Parses the overflow flags of integer operations. `arith` Dialect, "IntegerOverflowFlagsAttr".
 ghost use Rattle.std.specs.Prelude.{◌≡◌};
-ghost use Rattle.ir_types.specs.Things.{Things};
-ghost use Rattle.ir_text_types.specs.Outcomes.{Gives};
+ghost use Rattle.ir_types.specs.Things.{ContextModel};
+ghost use Rattle.ir_text_types.specs.Outcomes.{Returns};
 ghost use Rattle.ir_text_attributes.specs.Literals.{flag_of, is_nsw, is_nuw, has_nsw, has_nuw};
 ghost use Rattle.ir_text_attributes.specs.AttrReading.{flag_at, some_flags_at, no_flags_at, flags_at};
 
@@ -13,7 +13,7 @@ use ir_text_types::steps::{after, expect, token};
 use ir_text_types::types::MANY;
 use std::alloc::Global;
 
-/// The flag that a word is.
+/// Returns the flag that a word names.
 fn flag_of(word: &[u8]) -> Option<Flag>
     ensures { result ≡ flag_of word.now }
 {
@@ -44,24 +44,24 @@ fn is_nuw(flag: Flag) -> bool
     }
 }
 
-/// Whether `nsw` is among the flags.
+/// Returns whether `nsw` is among the flags.
 pub(crate) fn has_nsw(flags: &[Flag]) -> bool
     ensures { result ≡ has_nsw flags.now }
 {
     flags.iter().any(|flag| is_nsw(*flag))
 }
 
-/// Whether `nuw` is among the flags.
+/// Returns whether `nuw` is among the flags.
 pub(crate) fn has_nuw(flags: &[Flag]) -> bool
     ensures { result ≡ has_nuw flags.now }
 {
     flags.iter().any(|flag| is_nuw(*flag))
 }
 
-/// One flag.
+/// Parses one flag.
 #[tactic(auto, unfolding(crate::specs::AttrReading::flag_at))]
 fn flag(bytes: &[u8]) -> Result<(Flag, &[u8]), ReadError>
-    ensures { (c : Things) → Gives (λ x. (x.0, (x.1.now, c))) result (flag_at (bytes.now, c)) }
+    ensures { (c : ContextModel) → Returns (λ x. (x.0, (x.1.now, c))) result (flag_at (bytes.now, c)) }
 {
     let (found, rest) = token(bytes)?;
     match found {
@@ -73,10 +73,10 @@ fn flag(bytes: &[u8]) -> Result<(Flag, &[u8]), ReadError>
     }
 }
 
-/// Flags parted by commas, up to the closing mark.
+/// Parses comma-separated flags up to the closing mark.
 #[tactic(auto, unfolding(crate::specs::AttrReading::some_flags_at))]
 fn some_flags(alloc: Global, bytes: &[u8]) -> Result<(Vec<Flag>, &[u8]), ReadError>
-    ensures { (c : Things) → Gives (λ x. (x.0.items, (x.1.now, c))) result (some_flags_at (bytes.now, c)) }
+    ensures { (c : ContextModel) → Returns (λ x. (x.0.items, (x.1.now, c))) result (some_flags_at (bytes.now, c)) }
 {
     let mut items = Vec::new(alloc);
     let mut rest = bytes;
@@ -94,21 +94,21 @@ fn some_flags(alloc: Global, bytes: &[u8]) -> Result<(Vec<Flag>, &[u8]), ReadErr
     Err(ReadError::Refused(wrong(TextRefusal::TooMany, rest)))
 }
 
-/// No flags: the closing mark behind `none`.
+/// Parses the closing mark after `none`, which means no flags.
 #[tactic(auto, unfolding(crate::specs::AttrReading::no_flags_at))]
 fn no_flags(alloc: Global, bytes: &[u8]) -> Result<(Vec<Flag>, &[u8]), ReadError>
-    ensures { (c : Things) → Gives (λ x. (x.0.items, (x.1.now, c))) result (no_flags_at (bytes.now, c)) }
+    ensures { (c : ContextModel) → Returns (λ x. (x.0.items, (x.1.now, c))) result (no_flags_at (bytes.now, c)) }
 {
     let rest = expect(bytes, Mark::Greater)?;
     Ok((Vec::new(alloc), rest))
 }
 
-/// `none`, or flags parted by commas, up to the closing mark.
+/// Parses `none`, or comma-separated flags, up to the closing mark.
 ///
-/// Refusals: `Unexpected` where no flag stands, or no comma and no closing mark follows one.
+/// Refusals: `Unexpected` if no flag is there, or if neither a comma nor the closing mark follows a flag.
 #[tactic(auto, unfolding(crate::specs::AttrReading::flags_at))]
 pub(crate) fn flags(alloc: Global, bytes: &[u8]) -> Result<(Vec<Flag>, &[u8]), ReadError>
-    ensures { (c : Things) → Gives (λ x. (x.0.items, (x.1.now, c))) result (flags_at (bytes.now, c)) }
+    ensures { (c : ContextModel) → Returns (λ x. (x.0.items, (x.1.now, c))) result (flags_at (bytes.now, c)) }
 {
     let (found, rest) = token(bytes)?;
     match found {

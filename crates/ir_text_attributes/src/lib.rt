@@ -1,7 +1,8 @@
-//! Attributes are read from a text, and interned as they are read.
+//! Parses attributes, and interns them and their parts while it parses.
 #![tactic(auto)]
 
 mod arrays;
+mod attribute_text;
 pub mod attributes;
 mod dense;
 pub mod dictionaries;
@@ -11,7 +12,6 @@ mod flags;
 pub mod laws;
 mod literals;
 pub mod single;
-mod spelled;
 mod symbols;
 pub mod tail;
 mod tails;

@@ -1,13 +1,13 @@
 //! Integer literals. Builtin Dialect, "IntegerAttr".
 ghost use Rattle.std.specs.Prelude.{◌≡◌};
-ghost use Rattle.ir_types.specs.Things.{IsType, Grows};
-ghost use Rattle.ir_text_types.specs.Outcomes.{Gives};
+ghost use Rattle.ir_types.specs.Things.{IsType, IsExtendedBy};
+ghost use Rattle.ir_text_types.specs.Outcomes.{Returns};
 ghost use Rattle.ir_types.specs.Terms.{type_term};
 ghost use Rattle.ir_text_attributes.specs.OpaqueAttributes.{is_opaque_type};
 ghost use Rattle.ir_text_attributes.specs.AttrReading.{suffix_at, literal_done, literal_at, negative_at};
 
-use crate::attributes::kept;
-use crate::spelled::{is_hexadecimal, signed_text};
+use crate::attribute_text::{is_hexadecimal, signed_text};
+use crate::attributes::intern_node;
 use crate::tail::Tail;
 use crate::tails::tail;
 use ir_text_tokens::fault::Fault;
@@ -24,7 +24,7 @@ use ir_types::node::{AttrNode, Sign, TypeNode};
 use ir_types::things::type_of;
 use std::alloc::Global;
 
-/// The type of a literal behind a colon, or `i64` where none follows.
+/// Parses the type of a literal after a colon, or returns `i64` if there is no colon.
 #[tactic(auto, using(ir_types::proofs::Growth::grows_refl, ir_types::proofs::Growth::grows_trans), unfolding(crate::specs::AttrReading::suffix_at))]
 fn suffix<'a>(
     alloc: Global,
@@ -32,8 +32,8 @@ fn suffix<'a>(
     bytes: &'a [u8],
     opaque: bool,
 ) -> Result<(TypeId, &'a [u8]), ReadError>
-    ensures reads { Gives (λ x. (x.0, (x.1.now, ctx.new))) result (suffix_at opaque (bytes.now, ctx.old)) }
-    ensures grows { Grows ctx.old ctx.new }
+    ensures reads { Returns (λ x. (x.0, (x.1.now, ctx.new))) result (suffix_at opaque (bytes.now, ctx.old)) }
+    ensures grows { IsExtendedBy ctx.old ctx.new }
 {
     match after(bytes, Mark::Colon) {
         Some(rest) => ty(alloc, ctx, rest, opaque, MOST_DEPTH),
@@ -42,12 +42,12 @@ fn suffix<'a>(
                 sign: Sign::Signless,
                 width: 64,
             };
-            types::kept(ctx, word, bytes)
+            types::intern_node(ctx, word, bytes)
         }
     }
 }
 
-/// Whether literals may have the type: an integer type or index.
+/// Returns whether a literal may have the type: an integer type or `index`.
 fn has_literals(ctx: &Context, ty: TypeId) -> bool
     requires { IsType ctx.now ty }
 {
@@ -58,8 +58,8 @@ fn has_literals(ctx: &Context, ty: TypeId) -> bool
     }
 }
 
-/// Why a literal is none of its type: `BadValue` at the literal, or `TypeMismatch` at the type, which
-/// stands behind the colon that follows the digits.
+/// Returns why a literal doesn't fit its type: `BadValue` at the literal, or `TypeMismatch` at the type. The type
+/// follows the colon after the digits.
 fn misfit(ctx: &Context, ty: TypeId, start: &[u8], bytes: &[u8]) -> Fault
     requires { IsType ctx.now ty }
 {
@@ -72,7 +72,7 @@ fn misfit(ctx: &Context, ty: TypeId, start: &[u8], bytes: &[u8]) -> Fault
     }
 }
 
-/// Whether a type is kept as it is spelled.
+/// Returns whether a type is opaque.
 pub(crate) fn is_opaque_type(ctx: &Context, ty: TypeId) -> bool
     requires { IsType ctx.now ty }
     ensures { result ≡ is_opaque_type (type_term ctx.now ty) }
@@ -80,8 +80,8 @@ pub(crate) fn is_opaque_type(ctx: &Context, ty: TypeId) -> bool
     matches!(type_of(ctx, ty), TypeNode::Opaque(_))
 }
 
-/// A literal behind its digits, where `bytes` stand. It begins, its minus included, at `start`. Hexadecimal digits of
-/// an opaque type are kept as they are spelled.
+/// Parses the rest of a literal. `bytes` is the text after its digits, and the literal begins at `start`, with its
+/// minus sign if it has one. Hexadecimal digits of an opaque type are an opaque attribute.
 #[tactic(auto, using(ir_types::proofs::Growth::grows_refl, ir_types::proofs::Growth::grows_trans), unfolding(crate::specs::AttrReading::literal_at, crate::specs::AttrReading::literal_done))]
 pub(crate) fn literal<'a>(
     alloc: Global,
@@ -92,8 +92,8 @@ pub(crate) fn literal<'a>(
     bytes: &'a [u8],
     opaque: bool,
 ) -> Result<(AttrId, &'a [u8]), ReadError>
-    ensures reads { Gives (λ x. (x.0, (x.1.now, ctx.new))) result (literal_at opaque negative digits.now (bytes.now, ctx.old)) }
-    ensures grows { Grows ctx.old ctx.new }
+    ensures reads { Returns (λ x. (x.0, (x.1.now, ctx.new))) result (literal_at opaque negative digits.now (bytes.now, ctx.old)) }
+    ensures grows { IsExtendedBy ctx.old ctx.new }
 {
     ctx.sound();
     let Some(magnitude) = integer_value(digits) else {
@@ -106,18 +106,18 @@ pub(crate) fn literal<'a>(
     if is_opaque_type(ctx, ty) && is_hexadecimal(digits) {
         let text = signed_text(alloc, negative, digits)?;
         let ty = Some(ty);
-        return kept(ctx, AttrNode::Opaque { text, ty }, rest);
+        return intern_node(ctx, AttrNode::Opaque { text, ty }, rest);
     }
     match ctx.literal_bits(ty, negative, magnitude) {
-        Some(value) => kept(ctx, AttrNode::Int { ty, value }, rest),
+        Some(value) => intern_node(ctx, AttrNode::Int { ty, value }, rest),
         None => Err(ReadError::Refused(misfit(ctx, ty, start, bytes))),
     }
 }
 
-/// A literal behind its minus, which stands at `start`, or a float.
+/// Parses a literal or a float after its minus sign, which is at `start`.
 ///
-/// Refusals: `LeftOut` at a float where none is kept as it is spelled, and `Unexpected` at what is no number; and
-/// those of literals.
+/// Refusals: those of literals; `LeftOut` at a float if opaque attributes aren't allowed; `Unexpected` if no number
+/// follows.
 #[tactic(auto, using(ir_types::proofs::Growth::grows_refl, ir_types::proofs::Growth::grows_trans), unfolding(crate::specs::AttrReading::negative_at))]
 pub(crate) fn negative<'a>(
     alloc: Global,
@@ -127,8 +127,8 @@ pub(crate) fn negative<'a>(
     opaque: bool,
     types: u32,
 ) -> Result<(AttrId, &'a [u8]), ReadError>
-    ensures reads { Gives (λ x. (x.0, (x.1.now, ctx.new))) result (negative_at opaque types (bytes.now, ctx.old)) }
-    ensures grows { Grows ctx.old ctx.new }
+    ensures reads { Returns (λ x. (x.0, (x.1.now, ctx.new))) result (negative_at opaque types (bytes.now, ctx.old)) }
+    ensures grows { IsExtendedBy ctx.old ctx.new }
 {
     let (found, rest) = token(bytes)?;
     match found {

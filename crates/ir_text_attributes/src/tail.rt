@@ -1,13 +1,13 @@
-//! What follows the text of an attribute that is kept as it is spelled.
+//! What follows the text of an opaque attribute.
 
-/// What follows such a text.
+/// What follows the text of an opaque attribute.
 #[derive(Clone, Copy, PartialEq, Eq)]
 pub enum Tail {
     /// A type.
     SomeType,
-    /// A type or none.
+    /// An optional type.
     TypeOrNone,
-    /// An opaque type or none.
+    /// An optional type, which must be opaque.
     OpaqueOrNone,
     /// Nothing.
     NoType,

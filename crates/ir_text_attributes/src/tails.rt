@@ -1,10 +1,10 @@
-//! What follows the text of an attribute that is kept as it is spelled.
+//! Parses what follows the text of an opaque attribute.
 ghost use Rattle.std.specs.Prelude.{◌≡◌, None};
-ghost use Rattle.ir_types.specs.Things.{Grows};
-ghost use Rattle.ir_text_types.specs.Outcomes.{Gives};
+ghost use Rattle.ir_types.specs.Things.{IsExtendedBy};
+ghost use Rattle.ir_text_types.specs.Outcomes.{Returns};
 ghost use Rattle.ir_text_attributes.specs.AttrReading.{opaque_typed_at, opaque_typed_done, tail_at, typed_at, attr_done};
 
-use crate::attributes::kept;
+use crate::attributes::intern_node;
 use crate::literals::is_opaque_type;
 use crate::tail::Tail;
 use ir_text_tokens::refusal::TextRefusal;
@@ -18,7 +18,7 @@ use ir_types::ids::AttrId;
 use ir_types::node::AttrNode;
 use std::alloc::Global;
 
-/// The type behind a colon, and the attribute.
+/// Parses the type after a colon, and interns the attribute.
 #[tactic(auto, using(ir_types::proofs::Growth::grows_refl, ir_types::proofs::Growth::grows_trans), unfolding(crate::specs::AttrReading::typed_at))]
 pub(crate) fn typed<'a>(
     alloc: Global,
@@ -28,8 +28,8 @@ pub(crate) fn typed<'a>(
     opaque: bool,
     types: u32,
 ) -> Result<(AttrId, &'a [u8]), ReadError>
-    ensures reads { Gives (λ x. (x.0, (x.1.now, ctx.new))) result (typed_at opaque types text (bytes.now, ctx.old)) }
-    ensures grows { Grows ctx.old ctx.new }
+    ensures reads { Returns (λ x. (x.0, (x.1.now, ctx.new))) result (typed_at opaque types text (bytes.now, ctx.old)) }
+    ensures grows { IsExtendedBy ctx.old ctx.new }
 {
     ctx.sound();
     let (id, rest) = match ty(alloc, ctx, bytes, opaque, types) {
@@ -37,10 +37,10 @@ pub(crate) fn typed<'a>(
         Err(e) => return Err(e),
     };
     let ty = Some(id);
-    kept(ctx, AttrNode::Opaque { text, ty }, rest)
+    intern_node(ctx, AttrNode::Opaque { text, ty }, rest)
 }
 
-/// The type behind a colon, which has to be kept as it is spelled, and the attribute.
+/// Parses the type after a colon, which must be opaque, and interns the attribute.
 ///
 /// Refusals: `TypeMismatch` at another type.
 #[tactic(auto, using(ir_types::proofs::Growth::grows_refl, ir_types::proofs::Growth::grows_trans), unfolding(crate::specs::AttrReading::opaque_typed_at, crate::specs::AttrReading::opaque_typed_done))]
@@ -52,8 +52,8 @@ fn opaque_typed<'a>(
     opaque: bool,
     types: u32,
 ) -> Result<(AttrId, &'a [u8]), ReadError>
-    ensures reads { Gives (λ x. (x.0, (x.1.now, ctx.new))) result (opaque_typed_at opaque types text (bytes.now, ctx.old)) }
-    ensures grows { Grows ctx.old ctx.new }
+    ensures reads { Returns (λ x. (x.0, (x.1.now, ctx.new))) result (opaque_typed_at opaque types text (bytes.now, ctx.old)) }
+    ensures grows { IsExtendedBy ctx.old ctx.new }
 {
     ctx.sound();
     let (id, rest) = match ty(alloc, ctx, bytes, opaque, types) {
@@ -64,25 +64,25 @@ fn opaque_typed<'a>(
         return Err(ReadError::Refused(wrong(TextRefusal::TypeMismatch, bytes)));
     }
     let ty = Some(id);
-    kept(ctx, AttrNode::Opaque { text, ty }, rest)
+    intern_node(ctx, AttrNode::Opaque { text, ty }, rest)
 }
 
-/// The attribute without a type, in front of these bytes.
+/// Interns the attribute without a type. `rest` is the text after the attribute.
 #[tactic(auto, using(ir_types::proofs::Growth::grows_refl, ir_types::proofs::Growth::grows_trans))]
 fn untyped<'a>(
     ctx: &mut Context,
     text: Items<u8>,
     rest: &'a [u8],
 ) -> Result<(AttrId, &'a [u8]), ReadError>
-    ensures reads { Gives (λ x. (x.0, (x.1.now, ctx.new))) result (attr_done (AttrNode.Opaque text None) (rest.now, ctx.old)) }
-    ensures grows { Grows ctx.old ctx.new }
+    ensures reads { Returns (λ x. (x.0, (x.1.now, ctx.new))) result (attr_done (AttrNode.Opaque text None) (rest.now, ctx.old)) }
+    ensures grows { IsExtendedBy ctx.old ctx.new }
 {
-    kept(ctx, AttrNode::Opaque { text, ty: None }, rest)
+    intern_node(ctx, AttrNode::Opaque { text, ty: None }, rest)
 }
 
-/// The attribute of a text, with the type that follows it.
+/// Interns the opaque attribute of `text`, with the type that follows it as `tail` requires.
 ///
-/// Refusals: `Unexpected` where a type has to follow; `TypeMismatch` at a float's type that is known.
+/// Refusals: `Unexpected` if a required type is missing; `TypeMismatch` at a float's type that isn't opaque.
 #[tactic(auto, using(ir_types::proofs::Growth::grows_refl, ir_types::proofs::Growth::grows_trans))]
 pub(crate) fn tail<'a>(
     alloc: Global,
@@ -93,8 +93,8 @@ pub(crate) fn tail<'a>(
     opaque: bool,
     types: u32,
 ) -> Result<(AttrId, &'a [u8]), ReadError>
-    ensures reads { Gives (λ x. (x.0, (x.1.now, ctx.new))) result (tail_at opaque types tail text (bytes.now, ctx.old)) }
-    ensures grows { Grows ctx.old ctx.new }
+    ensures reads { Returns (λ x. (x.0, (x.1.now, ctx.new))) result (tail_at opaque types tail text (bytes.now, ctx.old)) }
+    ensures grows { IsExtendedBy ctx.old ctx.new }
 {
     match tail {
         Tail::SomeType => match expect(bytes, Mark::Colon) {

@@ -1,8 +1,8 @@
-//! The answer to a line.
+//! Computes the answer to a line.
 ghost use Rattle.ir_tree.specs.Meaning.{IsSoundIn};
 
 use crate::near::near_of;
-use crate::pieces::{bytes_of, first};
+use crate::pieces::{bytes_of, first_word};
 use crate::shown::{refused, shown, shown_op};
 use crate::tokens::front;
 use ir_text::printer::print;
@@ -14,7 +14,7 @@ use ir_types::ids::{AttrId, OpId};
 use ir_types::refusal::Refusal;
 use std::alloc::{AllocError, Global};
 
-/// An operation that has an attribute.
+/// Returns an operation with this attribute.
 fn holder(alloc: Global, ctx: &mut Context, attr: AttrId) -> Result<TreeOp, Refusal> {
     let name = ctx.name(b"a")?;
     Ok(TreeOp {
@@ -41,7 +41,7 @@ fn attribute_text(alloc: Global, ctx: &mut Context, attr: AttrId) -> Result<Stri
     holder_text(alloc, ctx, &op)
 }
 
-/// An attribute, which is shown in an operation.
+/// Returns the answer for an attribute: an operation that has the attribute, or why the text is refused.
 fn attribute(alloc: Global, ctx: &mut Context, bytes: &[u8]) -> Result<String, Refusal> {
     match parse_attr(alloc, ctx, bytes) {
         Ok(attr) => attribute_text(alloc, ctx, attr),
@@ -63,7 +63,7 @@ fn operation_text(alloc: Global, ctx: &Context, op: &TreeOp) -> Result<String, R
     Ok(shown_op(alloc, op, text.as_slice())?)
 }
 
-/// An operation among the values of a module.
+/// Returns the answer for an operation that is read into the outer module that `words` describes.
 fn operation(
     alloc: Global,
     ctx: &mut Context,
@@ -86,12 +86,12 @@ fn number_of(alloc: Global, ctx: &mut Context, text: &str) -> Result<Option<Attr
     Ok(number_in(alloc, ctx, bytes.as_slice()))
 }
 
-/// Whether two attributes are one, where both were read.
+/// Returns whether two attributes are equal, or `None` if one of them wasn't read.
 fn are_same(one: Option<AttrId>, other: Option<AttrId>) -> Option<bool> {
     Some(one? == other?)
 }
 
-/// Whether two texts are one attribute.
+/// Returns whether two texts denote the same attribute.
 fn same(alloc: Global, ctx: &mut Context, text: &str) -> Result<String, AllocError> {
     let (one, other) = text.split_once(" == ").unwrap_or((text, ""));
     let one = number_of(alloc, ctx, one)?;
@@ -113,7 +113,7 @@ fn answer_bytes(
 }
 
 fn answer_in(alloc: Global, ctx: &mut Context, line: &str) -> Result<String, Refusal> {
-    let (kind, text) = first(line);
+    let (kind, text) = first_word(line);
     if kind == "same" {
         return Ok(same(alloc, ctx, text)?);
     }
@@ -121,8 +121,8 @@ fn answer_in(alloc: Global, ctx: &mut Context, line: &str) -> Result<String, Ref
     answer_bytes(alloc, ctx, kind, bytes.as_slice())
 }
 
-/// The answer to a line: `attr`, `token`, or the module around an operation as `9/32/-`, and a text; or `same` and two
-/// attributes.
+/// Returns the answer to a line. A line is `attr`, `token` or an outer module such as `9/32/-`, and a text; or `same`
+/// and two attributes.
 pub fn answer(alloc: Global, line: &str) -> Result<String, Refusal> {
     let mut ctx = Context::new(alloc)?;
     answer_in(alloc, &mut ctx, line)

@@ -1,5 +1,5 @@
-//! Answers the texts that standard input has, one a line, one answer a line. `bench/cases/ir_text_cases.py` writes
-//! both tables.
+//! Reads texts from standard input, one a line, and prints one answer a line. `tests/generate/ir_text_cases.py` writes
+//! the texts and the expected answers.
 #![tactic(auto)]
 
 mod answers;

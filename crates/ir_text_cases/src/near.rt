@@ -1,4 +1,4 @@
-//! The module that an operation is read among.
+//! The outer module of an operation's text.
 ghost use Rattle.std.specs.Prelude.{◌≡◌, IfSome};
 ghost use Rattle.ir_types.specs.Things.{IsType};
 ghost use Rattle.ir_tree.specs.declared.value.Value.{Value as TreeValue};
@@ -10,7 +10,7 @@ use ir_types::context::Context;
 use ir_types::ids::TypeId;
 use ir_types::node::{Sign, TypeNode};
 
-/// A module in which all results have one type, and all arguments another, or which has none of them.
+/// A module in which all results have one type and all arguments another. Either type may be missing.
 #[derive(Drop)]
 pub struct Near {
     pub results: Option<TypeId>,
@@ -35,7 +35,7 @@ impl Outer for Near {
     }
 }
 
-/// The signless integer type of a width, or none.
+/// Returns the signless integer type of a width, or `None`.
 fn integer(ctx: &mut Context, width: &str) -> Option<TypeId> {
     let node = TypeNode::Int {
         sign: Sign::Signless,
@@ -53,7 +53,8 @@ fn known(ctx: &Context, ty: Option<TypeId>) -> Option<TypeId>
     }
 }
 
-/// The module whose next id, type of results and type of arguments are written, as `9/32/-`.
+/// Returns the module that `words` describes, such as `9/32/-`: its next id, the width of its results, and the width
+/// of its arguments.
 pub fn near_of(ctx: &mut Context, words: &str) -> Near
     ensures { (v : TreeValue) → IfSome (type_of result.results result.arguments v) (λ ty. IsType ctx.new ty) }
 {

@@ -1,20 +1,20 @@
-//! The bytes of a text that a line has.
+//! Decodes the text of a line.
 //!
-//! A text is pieces that are parted by a backtick. A piece `256*%a,` is 256 times `%a,`. What stands between
-//! two tildes is a byte by its two digits: `a~0A~b` has a line feed.
+//! A text consists of pieces that are separated by backticks. A piece `256*%a,` is 256 copies of `%a,`. Two
+//! hexadecimal digits between tildes are a byte: `a~0A~b` has a line feed.
 use std::alloc::{AllocError, Global};
 
-/// The first word of a text, and what stands behind it.
-pub fn first(text: &str) -> (&str, &str) {
+/// Returns the first word of a text, and the text after it.
+pub fn first_word(text: &str) -> (&str, &str) {
     text.split_once(' ').unwrap_or((text, ""))
 }
 
-/// A byte by its digits, or a question mark.
+/// Returns the byte that two digits denote, or a question mark.
 fn byte_of(digits: &str) -> u8 {
     u8::from_str_radix(digits, 16).unwrap_or(b'?')
 }
 
-fn put_part(bytes: &mut Vec<u8>, part: &str, escaped: bool) -> Result<(), AllocError> {
+fn write_part(bytes: &mut Vec<u8>, part: &str, escaped: bool) -> Result<(), AllocError> {
     if escaped {
         bytes.push(byte_of(part))?;
         Ok(())
@@ -23,23 +23,23 @@ fn put_part(bytes: &mut Vec<u8>, part: &str, escaped: bool) -> Result<(), AllocE
     }
 }
 
-fn put_once(bytes: &mut Vec<u8>, piece: &str) -> Result<(), AllocError> {
+fn write_once(bytes: &mut Vec<u8>, piece: &str) -> Result<(), AllocError> {
     let mut escaped = false;
     for part in piece.split('~') {
-        put_part(bytes, part, escaped)?;
+        write_part(bytes, part, escaped)?;
         escaped = !escaped;
     }
     Ok(())
 }
 
-fn put_times(bytes: &mut Vec<u8>, times: u32, piece: &str) -> Result<(), AllocError> {
+fn write_times(bytes: &mut Vec<u8>, times: u32, piece: &str) -> Result<(), AllocError> {
     for _ in 0..times {
-        put_once(bytes, piece)?;
+        write_once(bytes, piece)?;
     }
     Ok(())
 }
 
-/// How many times a piece stands there, and what.
+/// Returns the number of copies of a piece, and the piece.
 fn times_of(piece: &str) -> (u32, &str) {
     match piece.split_once('*') {
         Some((times, part)) => match times.parse::<u32>() {
@@ -50,16 +50,16 @@ fn times_of(piece: &str) -> (u32, &str) {
     }
 }
 
-fn put_piece(bytes: &mut Vec<u8>, piece: &str) -> Result<(), AllocError> {
+fn write_piece(bytes: &mut Vec<u8>, piece: &str) -> Result<(), AllocError> {
     let (times, piece) = times_of(piece);
-    put_times(bytes, times, piece)
+    write_times(bytes, times, piece)
 }
 
-/// The bytes of a text.
+/// Returns the bytes of a text.
 pub fn bytes_of(alloc: Global, text: &str) -> Result<Vec<u8>, AllocError> {
     let mut bytes = Vec::new(alloc);
     for piece in text.split('`') {
-        put_piece(&mut bytes, piece)?;
+        write_piece(&mut bytes, piece)?;
     }
     Ok(bytes)
 }

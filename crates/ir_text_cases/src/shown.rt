@@ -1,4 +1,4 @@
-//! What a line of the output has.
+//! Formats a line of the output.
 use ir_text::reader::ReadError;
 use ir_tree::numbered::numbered;
 use ir_tree::tree::{TreeOp, TreeRegion};
@@ -7,10 +7,10 @@ use ir_types::refusal::Refusal;
 use std::alloc::{AllocError, Global};
 use std::fmt::Write;
 
-/// The longest text that is shown whole.
+/// The length limit of a text that is printed in full.
 const MOST_SHOWN: usize = 4_096;
 
-/// Why a text is refused, and where.
+/// Returns the reason why a text is refused, and its offset.
 pub fn refused(alloc: Global, error: ReadError) -> Result<String, Refusal> {
     match error {
         ReadError::Memory => Err(Refusal::Memory),
@@ -19,7 +19,7 @@ pub fn refused(alloc: Global, error: ReadError) -> Result<String, Refusal> {
     }
 }
 
-fn put_byte(out: &mut String, byte: u8) -> Result<(), AllocError> {
+fn write_byte(out: &mut String, byte: u8) -> Result<(), AllocError> {
     match byte {
         b'\n' => out.push_str("~0A~"),
         b'~' => out.push_str("~7E~"),
@@ -27,40 +27,40 @@ fn put_byte(out: &mut String, byte: u8) -> Result<(), AllocError> {
     }
 }
 
-/// Bytes in one line.
-pub fn put_bytes(out: &mut String, bytes: &[u8]) -> Result<(), AllocError> {
+/// Appends bytes in one line.
+pub fn write_bytes(out: &mut String, bytes: &[u8]) -> Result<(), AllocError> {
     for byte in bytes {
-        put_byte(out, *byte)?;
+        write_byte(out, *byte)?;
     }
     Ok(())
 }
 
-/// A text in one line, or how long it is.
-fn put_text(out: &mut String, text: &[u8]) -> Result<(), AllocError> {
+/// Appends a text in one line, or its length if it is too long.
+fn write_text(out: &mut String, text: &[u8]) -> Result<(), AllocError> {
     if text.len() > MOST_SHOWN {
         write!(out, "{} bytes", text.len())
     } else {
-        put_bytes(out, text)
+        write_bytes(out, text)
     }
 }
 
-fn put_value(out: &mut String, value: Value) -> Result<(), AllocError> {
+fn write_value(out: &mut String, value: Value) -> Result<(), AllocError> {
     match value {
         Value::Result(op, place) => write!(out, "%v{}.{place} ", op.number()),
         Value::Arg(op, region, place) => write!(out, "%a{}.{region}.{place} ", op.number()),
     }
 }
 
-/// The number of an operation, and its operands.
-fn put_op(out: &mut String, op: &TreeOp) -> Result<(), AllocError> {
+/// Appends the id of an operation, and its operands.
+fn write_op(out: &mut String, op: &TreeOp) -> Result<(), AllocError> {
     write!(out, "#{} ", op.id.number())?;
     for value in op.operands.as_slice() {
-        put_value(out, *value)?;
+        write_value(out, *value)?;
     }
     Ok(())
 }
 
-/// The first operation inside an operation's first region.
+/// Returns the first operation of an operation's first region.
 fn first_inside(op: &TreeOp) -> Option<&TreeOp> {
     match op.regions.as_slice().first() {
         Some(TreeRegion::Block { ops, .. }) => ops.as_slice().first(),
@@ -68,28 +68,28 @@ fn first_inside(op: &TreeOp) -> Option<&TreeOp> {
     }
 }
 
-/// The numbers and operands of an operation and of the first inside it, three deep.
-fn put_firsts(out: &mut String, op: &TreeOp) -> Result<(), AllocError> {
+/// Appends the ids and operands of an operation and of its first nested operations, three levels deep.
+fn write_firsts(out: &mut String, op: &TreeOp) -> Result<(), AllocError> {
     let mut here = Some(op);
     for _ in 0..3u8 {
         let Some(op) = here else {
             return Ok(());
         };
-        put_op(out, op)?;
+        write_op(out, op)?;
         here = first_inside(op);
     }
     Ok(())
 }
 
-/// A text in one line.
+/// Returns a text in one line.
 pub fn shown(alloc: Global, text: &[u8]) -> Result<String, AllocError> {
     let mut out = String::new(alloc);
-    put_text(&mut out, text)?;
+    write_text(&mut out, text)?;
     Ok(out)
 }
 
-/// Says that the operations inside an operation have other ids than the next ones in pre-order, where they have.
-fn put_numbered(out: &mut String, op: &TreeOp) -> Result<(), AllocError> {
+/// Appends a note if the ids inside an operation aren't consecutive in pre-order.
+fn write_numbered(out: &mut String, op: &TreeOp) -> Result<(), AllocError> {
     if numbered(op, op.id.number()) {
         Ok(())
     } else {
@@ -97,15 +97,15 @@ fn put_numbered(out: &mut String, op: &TreeOp) -> Result<(), AllocError> {
     }
 }
 
-fn put_all(out: &mut String, op: &TreeOp, text: &[u8]) -> Result<(), AllocError> {
-    put_firsts(out, op)?;
-    put_numbered(out, op)?;
-    put_text(out, text)
+fn write_all(out: &mut String, op: &TreeOp, text: &[u8]) -> Result<(), AllocError> {
+    write_firsts(out, op)?;
+    write_numbered(out, op)?;
+    write_text(out, text)
 }
 
-/// The first numbers of an operation, and its text in one line.
+/// Returns the first ids of an operation, and its text in one line.
 pub fn shown_op(alloc: Global, op: &TreeOp, text: &[u8]) -> Result<String, AllocError> {
     let mut out = String::new(alloc);
-    put_all(&mut out, op, text)?;
+    write_all(&mut out, op, text)?;
     Ok(out)
 }

@@ -1,12 +1,12 @@
-//! The token at the front of a text.
-use crate::shown::{put_bytes, refused};
+//! Lexes the token at the front of a text.
+use crate::shown::{refused, write_bytes};
 use ir_text::reader::ReadError;
 use ir_text_tokens::lexer::token;
 use ir_text_tokens::token::Token;
 use ir_types::refusal::Refusal;
 use std::alloc::{AllocError, Global};
 
-/// A token's kind in a word.
+/// Returns the kind of a token as a word.
 fn kind_of(token: &Token<'_>) -> &'static str {
     match token {
         Token::Mark(_) => "mark",
@@ -23,7 +23,7 @@ fn kind_of(token: &Token<'_>) -> &'static str {
     }
 }
 
-/// What a token holds.
+/// Returns the text that a token carries.
 fn held_by<'a>(token: &Token<'a>) -> &'a [u8] {
     match token {
         Token::Mark(_) => b"",
@@ -40,22 +40,22 @@ fn held_by<'a>(token: &Token<'a>) -> &'a [u8] {
     }
 }
 
-fn put_token(out: &mut String, found: &Token<'_>, rest: &[u8]) -> Result<(), AllocError> {
+fn write_token(out: &mut String, found: &Token<'_>, rest: &[u8]) -> Result<(), AllocError> {
     out.push_str(kind_of(found))?;
     out.push_str(" [")?;
-    put_bytes(out, held_by(found))?;
+    write_bytes(out, held_by(found))?;
     out.push_str("] [")?;
-    put_bytes(out, rest)?;
+    write_bytes(out, rest)?;
     out.push_str("]")
 }
 
 fn shown_token(alloc: Global, found: &Token<'_>, rest: &[u8]) -> Result<String, AllocError> {
     let mut out = String::new(alloc);
-    put_token(&mut out, found, rest)?;
+    write_token(&mut out, found, rest)?;
     Ok(out)
 }
 
-/// The token at the front of a text, what it holds, and what is left; or why there is none.
+/// Returns the token at the front of a text, its text and the rest; or why no token begins there.
 pub fn front(alloc: Global, bytes: &[u8]) -> Result<String, Refusal> {
     match token(bytes) {
         Ok((found, rest)) => Ok(shown_token(alloc, &found, rest)?),

@@ -1,10 +1,10 @@
--- The place in a text of a byte of its expansion is within the text.
+-- The offset in a text of a byte of its expansion is within the text.
 use Rattle.std.proofs.Common.{◌≤◌, ℕ, ◌-◌, Bool, true, false, List, [], ◌∷◌, Option, Some, None, arith}
 use Rattle.std.specs.Prelude.{if◌then◌else◌, nat_lt}
 use Rattle.ir_text_tokens.specs.declared.fault.Fault.{Fault}
 use Rattle.ir_text_aliases.specs.declared.mark.Mark.{Mark}
-use Rattle.ir_text_expanded.specs.Expanded.{Expanded, end_of, place_in}
-use Rattle.ir_text_expanded.specs.Marks.{carried}
+use Rattle.ir_text_expansion.specs.Expanded.{Expanded, end_of, place_in}
+use Rattle.ir_text_expansion.specs.Marks.{carried}
 
 either : (b : Bool) (x y n : ℕ) → x ≤ n → y ≤ n → (if b then x else y) ≤ n
 either true x y n l m = l

@@ -1,33 +1,35 @@
-//! The reader of modules as they come.
+//! Reads modules.
 ghost use Rattle.std.specs.Prelude.{◌≡◌, ◌≤◌, ℕ, IfOk, IfErr, Err, false, true, length};
 ghost use Rattle.ir_types.specs.Refusals.{number_of};
 ghost use Rattle.ir_tree.specs.Meaning.{IsSoundIn};
-ghost use Rattle.ir_text.specs.Public.{IsNone, IsOnly, IsTold, Spells};
-ghost use Rattle.ir_text_expanded.specs.Expanded.{expanded};
-ghost use Rattle.ir_text_expanded.specs.Expansions.{expansion_of};
-ghost use Rattle.ir_text_expanded.specs.Stays.{has_more};
+ghost use Rattle.ir_text.specs.Public.{IsNone, IsOnly, IsTextRefusal, Spells};
+ghost use Rattle.ir_text_expansion.specs.Expanded.{expanded};
+ghost use Rattle.ir_text_expansion.specs.Expansions.{expansion_of};
+ghost use Rattle.ir_text_expansion.specs.Stays.{has_more};
 ghost use Rattle.ir_text_modules.specs.Modules.{SpellsModule};
 
 use ir_text::error::ReadError;
 use ir_text::reader::read_new;
-use ir_text_expanded::expansion::{Expansion, expand};
-use ir_text_expanded::unchanged::has_more;
+use ir_text_expansion::expansion::{Expansion, expand};
+use ir_text_expansion::unchanged::has_more;
 use ir_text_tokens::refusal::TextRefusal;
 use ir_tree::tree::TreeOp;
 use ir_types::context::Context;
 use ir_types::refusal::Refusal;
-use ir_types_items::keyed::Keyed;
+use ir_types_interner::keyed::Keyed;
 use std::alloc::Global;
 
-/// The tree that a text spells, numbered from 0 in pre-order, and a context that holds what it names. The context hashes
-/// with a key, on which no answer depends. `opaque` says whether types and attributes that aren't known are kept as
-/// opaque ones, here and in whatever is read into the context from then on; then the text may define aliases in front of
-/// its operations (Language Reference, "Type Aliases", "Attribute Value Aliases") and say locations (Builtin Dialect,
-/// "Location Attributes"), which go.
+/// Returns the module of a text and its context. The ids are 0, 1, .. in pre-order. `key` is the hash key of the
+/// context; no result depends on it.
 ///
-/// Refusals: those of reading a text; with `opaque` also a name that is defined twice (`Redefined`), an alias that isn't
-/// defined there (`UnknownValue`), a text that is too long without its aliases (`TooMany`). The offset is that of the
-/// byte of the text, in a spelling that of its alias. `Full` is never answered.
+/// `opaque` says whether unknown types and attributes are read as opaque ones, here and in every later text that is
+/// read into the context. If it is set, the text may also define aliases before its operations (Language Reference,
+/// "Type Aliases", "Attribute Value Aliases") and have locations (Builtin Dialect, "Location Attributes"), which are
+/// removed.
+///
+/// Refusals: those of reading a text; with `opaque` also `Redefined` for a name that is defined twice, `UnknownValue`
+/// for an undefined alias, and `TooMany` for a text that is too long after the expansion. The offset is that in
+/// `text`; a fault in the value of an alias is reported at the alias. `Full` is never returned.
 pub fn read_module(
     alloc: Global,
     key: u64,
@@ -38,7 +40,7 @@ pub fn read_module(
     ensures sound { IfOk result (λ x. IsSoundIn x.0 x.1) }
     ensures mode { IfOk result (λ x. x.0.opaque ≡ opaque) }
     ensures refused { (r : Refusal) (o : ℕ) → result ≡ Err (ReadError.Refused r o) → IsNone (SpellsModule opaque text.now) }
-    ensures told { IfErr result (λ e. IsTold text.now e) }
+    ensures told { IfErr result (λ e. IsTextRefusal text.now e) }
     ensures room { (o : ℕ) → result ≡ Err (ReadError.Full o) → ⊥ }
 {
     if !opaque {
@@ -51,20 +53,20 @@ pub fn read_module(
     }
 }
 
-/// That of a text as it is.
+/// Reads a module of a text without opaque types and attributes.
 #[tactic(auto, using(crate::proofs::Reading::only_module, crate::proofs::Reading::no_module))]
 fn read_plain(alloc: Global, key: u64, text: &[u8]) -> Result<(Context, TreeOp), ReadError>
     ensures read { IfOk result (λ x. IsOnly (SpellsModule false text.now) x.0 x.1) }
     ensures sound { IfOk result (λ x. IsSoundIn x.0 x.1) }
     ensures mode { IfOk result (λ x. x.0.opaque ≡ false) }
     ensures refused { (r : Refusal) (o : ℕ) → result ≡ Err (ReadError.Refused r o) → IsNone (SpellsModule false text.now) }
-    ensures told { IfErr result (λ e. IsTold text.now e) }
+    ensures told { IfErr result (λ e. IsTextRefusal text.now e) }
     ensures room { (o : ℕ) → result ≡ Err (ReadError.Full o) → ⊥ }
 {
     read_new(alloc, key, false, text)
 }
 
-/// That of a text that may have aliases and locations, and has none.
+/// Reads a module of a text that may have aliases and locations but has none.
 #[tactic(auto, using(crate::proofs::Reading::only_unchanged, crate::proofs::Reading::none_unchanged))]
 fn read_unchanged(alloc: Global, key: u64, text: &[u8]) -> Result<(Context, TreeOp), ReadError>
     requires { has_more 0 text.now ≡ false }
@@ -72,20 +74,20 @@ fn read_unchanged(alloc: Global, key: u64, text: &[u8]) -> Result<(Context, Tree
     ensures sound { IfOk result (λ x. IsSoundIn x.0 x.1) }
     ensures mode { IfOk result (λ x. x.0.opaque ≡ true) }
     ensures refused { (r : Refusal) (o : ℕ) → result ≡ Err (ReadError.Refused r o) → IsNone (SpellsModule true text.now) }
-    ensures told { IfErr result (λ e. IsTold text.now e) }
+    ensures told { IfErr result (λ e. IsTextRefusal text.now e) }
     ensures room { (o : ℕ) → result ≡ Err (ReadError.Full o) → ⊥ }
 {
     read_new(alloc, key, true, text)
 }
 
-/// That of a text with aliases and locations.
+/// Reads a module of a text with aliases and locations.
 #[tactic(auto, using(crate::proofs::Reading::only_module, crate::proofs::Reading::no_module, crate::proofs::Reading::faulty))]
 fn read_expanded(alloc: Global, key: u64, text: &[u8]) -> Result<(Context, TreeOp), ReadError>
     ensures read { IfOk result (λ x. IsOnly (SpellsModule true text.now) x.0 x.1) }
     ensures sound { IfOk result (λ x. IsSoundIn x.0 x.1) }
     ensures mode { IfOk result (λ x. x.0.opaque ≡ true) }
     ensures refused { (r : Refusal) (o : ℕ) → result ≡ Err (ReadError.Refused r o) → IsNone (SpellsModule true text.now) }
-    ensures told { IfErr result (λ e. IsTold text.now e) }
+    ensures told { IfErr result (λ e. IsTextRefusal text.now e) }
     ensures room { (o : ℕ) → result ≡ Err (ReadError.Full o) → ⊥ }
 {
     let Ok(expansion) = expand(alloc, Keyed::new(key), text) else {
@@ -100,7 +102,7 @@ fn read_expanded(alloc: Global, key: u64, text: &[u8]) -> Result<(Context, TreeO
             }),
         },
         Err(ReadError::Refused { refusal, offset }) => {
-            let (refusal, offset) = further_left(text, &expansion, refusal, offset);
+            let (refusal, offset) = extra_left(text, &expansion, refusal, offset);
             Err(ReadError::Refused { refusal, offset })
         }
         Err(ReadError::Memory) => Err(ReadError::Memory),
@@ -108,9 +110,9 @@ fn read_expanded(alloc: Global, key: u64, text: &[u8]) -> Result<(Context, TreeO
     }
 }
 
-/// A refusal at a byte of the expansion, told in the text; or the expansion's own fault, where that stands no further
-/// right.
-fn further_left(
+/// Returns the refusal to report for a refusal in the expanded text, and its offset in `text`. The expansion's own
+/// fault is reported instead if it isn't after that offset.
+fn extra_left(
     text: &[u8],
     expansion: &Expansion,
     refusal: Refusal,

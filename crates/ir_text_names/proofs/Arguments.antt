@@ -1,9 +1,9 @@
--- An argument of a block, read part by part.
+-- An argument of a block is parsed part by part.
 use Rattle.std.proofs.Common.{◌≡◌, ℕ, List, [], ◌∷◌, length, Option, Some, None, Result, Ok, Err, refl, ◌∙◌}
 use Rattle.std.specs.Prelude.{option_map}
 use Rattle.ir_text_tokens.specs.declared.token.Mark.TheVariants.{CloseRound, Comma, Colon}
 use Rattle.ir_text_tokens.specs.Scopes.{Scopes}
-use Rattle.ir_types.specs.Things.{Things}
+use Rattle.ir_types.specs.Things.{ContextModel}
 use Rattle.ir_tree.specs.declared.value.Value.TheVariants as values
 use Rattle.ir_text_types.specs.declared.error.ReadError.{ReadError}
 use Rattle.ir_text_types.specs.declared.error.ReadError.TheVariants as errors
@@ -11,30 +11,30 @@ use Rattle.ir_text_types.specs.Marks.{after}
 use Rattle.ir_text_types.specs.Outcomes.{Outcome, Read, ◌>>=◌, of_option, Fails}
 use Rattle.ir_text_types.specs.Typed.{Typed}
 use Rattle.ir_text_types.proofs.ListSteps.{fails_with, fails_option}
-use Rattle.ir_text_names.specs.declared.bound.Bound.{Bound}
-use Rattle.ir_text_names.specs.declared.lists.Behind.{Behind}
-use Rattle.ir_text_names.specs.declared.lists.Behind.TheVariants.{End, More}
+use Rattle.ir_text_names.specs.declared.bound.TypedValue.{TypedValue}
+use Rattle.ir_text_names.specs.declared.lists.AfterItem.{AfterItem}
+use Rattle.ir_text_names.specs.declared.lists.AfterItem.TheVariants.{End, More}
 use Rattle.ir_text_names.specs.Alike.{IsAlike}
-use Rattle.ir_text_names.specs.ListSteps.{IsBehind}
+use Rattle.ir_text_names.specs.ListSteps.{IsAfter}
 use Rattle.ir_text_names.specs.States.{State, to_bytes, after_in, typed, with_typed, with_scopes}
 use Rattle.ir_text_names.specs.NameReading.{value_name_at}
-use Rattle.ir_text_names.specs.BlockReading.{bind, arg_behind_name, arg_at, colon_type_at, type_here}
-use Rattle.ir_text_names.proofs.ItemSteps.{BehindIn}
+use Rattle.ir_text_names.specs.BlockReading.{bind, arg_after_name, arg_at, colon_type_at, type_here}
+use Rattle.ir_text_names.proofs.ItemSteps.{AfterIn}
 
--- an error alike fails where the other does
+-- an error of the same kind agrees with the definition if the other one does
 pub alike_fails : {A : Type 0} (e other : ReadError) (o : Outcome A) → IsAlike e other → Fails e o → Fails other o
 alike_fails errors.Memory other o same f = rw same tt
 alike_fails (errors.Full left) other o same f = rw same f
 alike_fails (errors.Refused fault) other o same f = rw same.1 f
 
 module _ (id r : ℕ) (before : List ℕ) (s : State) where
-  abbrev pack : ℕ → List Bound
+  abbrev pack : ℕ → List TypedValue
   pack ty = (record { value = values.Arg id r (length before); ty = ty }) ∷ []
 
   bound_as : List ℕ → ℕ × Typed → Outcome (ℕ × State)
   bound_as n y = bind n (pack y.0) s.scopes >>= λ scopes. Read (y.0, with_scopes (with_typed s y.1) scopes)
 
-  -- the argument with the type that stands behind its colon
+  -- the argument with the type after its colon
   abbrev from_type : List ℕ × List ℕ → Outcome (ℕ × State)
   from_type n = colon_type_at (n.1, s.things) >>= bound_as n.0
 
@@ -44,7 +44,7 @@ module _ (id r : ℕ) (before : List ℕ) (s : State) where
   colon_same n (Some rest) = refl
   colon_same n None = refl
 
-  named_same : (n : List ℕ × List ℕ) → arg_behind_name id r (length before) (to_bytes s n.1) n.0 ≡ from_type n
+  named_same : (n : List ℕ × List ℕ) → arg_after_name id r (length before) (to_bytes s n.1) n.0 ≡ from_type n
   unfolding colon_type_at
   named_same n = colon_same n (after Colon n.1)
 
@@ -68,13 +68,13 @@ module _ (id r : ℕ) (before : List ℕ) (s : State) where
       unfolding bound_as
       not_bound e f = fails_with e (bind n.0 (pack ty) s.scopes) (arg_at id r before s) (λ none. with_type ∙ rw none refl) (λ none. with_type ∙ rw none refl) f
 
-      pub is_bound : (scopes : Scopes (List Bound)) → bind n.0 (pack ty) s.scopes ≡ Read scopes → arg_at id r before s ≡ Read (ty, with_scopes (with_typed s t) scopes)
+      pub is_bound : (scopes : Scopes (List TypedValue)) → bind n.0 (pack ty) s.scopes ≡ Read scopes → arg_at id r before s ≡ Read (ty, with_scopes (with_typed s t) scopes)
       unfolding bound_as
       is_bound scopes bound = with_type ∙ rw bound refl
 
--- what stands behind an argument, with the names and things then known
-pub behind_in : (scopes : Scopes (List Bound)) (next : ℕ) (c : Things) (bytes : List ℕ) (result : Result Behind ReadError) → IsBehind CloseRound bytes result
-    → BehindIn after_in CloseRound (record { bytes = bytes; scopes = scopes; next = next; things = c }) result (λ rest. record { bytes = rest; scopes = scopes; next = next; things = c })
-behind_in scopes next c bytes (Ok (End rest)) b = rw b refl
-behind_in scopes next c bytes (Ok (More rest)) b = let going = b.0 in let comma = b.1 in (rw going refl, rw comma refl)
-behind_in scopes next c bytes (Err e) b = let going = b.0 in (rw going refl, fails_option e (after Comma bytes) (of_option (option_map (λ rest. record { bytes = rest; scopes = scopes; next = next; things = c }) (after Comma bytes))) (λ none. rw none refl) b.1)
+-- what follows an argument, with the names and the context after it
+pub trailing_in : (scopes : Scopes (List TypedValue)) (next : ℕ) (c : ContextModel) (bytes : List ℕ) (result : Result AfterItem ReadError) → IsAfter CloseRound bytes result
+    → AfterIn after_in CloseRound (record { bytes = bytes; scopes = scopes; next = next; things = c }) result (λ rest. record { bytes = rest; scopes = scopes; next = next; things = c })
+trailing_in scopes next c bytes (Ok (End rest)) b = rw b refl
+trailing_in scopes next c bytes (Ok (More rest)) b = let going = b.0 in let comma = b.1 in (rw going refl, rw comma refl)
+trailing_in scopes next c bytes (Err e) b = let going = b.0 in (rw going refl, fails_option e (after Comma bytes) (of_option (option_map (λ rest. record { bytes = rest; scopes = scopes; next = next; things = c }) (after Comma bytes))) (λ none. rw none refl) b.1)

@@ -1,4 +1,4 @@
--- How many results names stand for.
+-- The total number of results of names.
 use Rattle.std.specs.Prelude.{nat_le, if◌then◌else◌}
 use Rattle.std.proofs.Common.{◌≡◌, ◌≤◌, ◌+◌, ℕ, Bool, true, false, List, [], ◌∷◌, ◌++◌, refl, ap, arith}
 use Rattle.std.proofs.lemmas.Bool.{leb-true}
@@ -10,7 +10,7 @@ use Rattle.ir_text_names.specs.Packs.{Counted, counts}
 use Rattle.ir_text_types.specs.Typed.{Text}
 use Rattle.ir_text_names.specs.NameReading.{value_name_at, some_count, count_within, count_at, result_at}
 
--- one name more
+-- with one more name
 pub counts_push : (ns : List Counted) (n : Counted) → counts (ns ++ n ∷ []) ≡ counts ns + n.1
 counts_push [] n = omega arith
 counts_push (m ∷ ns) n = omega (arith, counts_push ns n)
@@ -24,7 +24,7 @@ count_read (Read x) = x.0.1
 count_read Wrong = 0
 count_read Full = 0
 
--- a name that is read fits behind those before it
+-- the count of a name and the counts before it are within the limit
 pub result_fits : (before : ℕ) (s : Text) (n : Counted) (s' : Text) → result_at before s ≡ Read (n, s') → before + n.1 ≤ 256
 unfolding result_at count_at
 result_fits before s n s' e =

@@ -1,4 +1,4 @@
--- Lists read one item after the other, as a loop does.
+-- Lists are parsed item by item, as a loop does.
 use Rattle.std.proofs.Common.{◌≡◌, ℕ, suc, ◌+◌, ◌-◌, ◌<◌, List, [], ◌∷◌, ◌++◌, Option, Some, None, Result, Ok, Err, refl, sym, ◌∙◌, arith}
 use Rattle.ir_text_tokens.specs.declared.token.Mark.{Mark}
 use Rattle.ir_text_tokens.specs.declared.token.Mark.TheVariants.{Comma}
@@ -6,20 +6,20 @@ use Rattle.ir_text_types.specs.declared.error.ReadError.{ReadError}
 use Rattle.ir_text_types.specs.Lists.{more_at}
 use Rattle.ir_text_types.specs.Outcomes.{Outcome, Read, of_option, Parse, Fails}
 use Rattle.ir_text_types.proofs.ListSteps.{fails_with, fails_option}
-use Rattle.ir_text_names.specs.declared.lists.Behind.{Behind}
-use Rattle.ir_text_names.specs.declared.lists.Behind.TheVariants.{End, More}
+use Rattle.ir_text_names.specs.declared.lists.AfterItem.{AfterItem}
+use Rattle.ir_text_names.specs.declared.lists.AfterItem.TheVariants.{End, More}
 use Rattle.ir_text_names.specs.ListSteps.{Steps}
 
--- what stands behind an item, over any state
-abbrev pub BehindIn : {S : Type 0} → (Mark → S → Option S) → Mark → S → Result Behind ReadError → (List ℕ → S) → Type 0
-BehindIn after close mid (Ok (End rest)) at = after close mid ≡ Some (at rest.now)
-BehindIn after close mid (Ok (More rest)) at = (after close mid ≡ None) × (after Comma mid ≡ Some (at rest.now))
-BehindIn after close mid (Err e) at = (after close mid ≡ None) × Fails e (of_option (after Comma mid))
+-- what follows an item, over any state
+abbrev pub AfterIn : {S : Type 0} → (Mark → S → Option S) → Mark → S → Result AfterItem ReadError → (List ℕ → S) → Type 0
+AfterIn after close mid (Ok (End rest)) at = after close mid ≡ Some (at rest.now)
+AfterIn after close mid (Ok (More rest)) at = (after close mid ≡ None) × (after Comma mid ≡ Some (at rest.now))
+AfterIn after close mid (Err e) at = (after close mid ≡ None) × Fails e (of_option (after Comma mid))
 
 module _ {S A : Type 0} (after : Mark → S → Option S) (close : Mark) (p : List A → Parse S A) where
   module _ (items : List A) (s : S) where
-    -- an item that is read, and what stands behind it, are a step
-    pub step : (x : A) (mid : S) (r : Result Behind ReadError) (at : List ℕ → S) → p items s ≡ Read (x, mid) → BehindIn after close mid r at → Steps after close p items s r (items ++ x ∷ []) at
+    -- an item and what follows it are a step
+    pub step : (x : A) (mid : S) (r : Result AfterItem ReadError) (at : List ℕ → S) → p items s ≡ Read (x, mid) → AfterIn after close mid r at → Steps after close p items s r (items ++ x ∷ []) at
     unfolding more_at
     step x mid (Ok (End rest)) at item b = λ room. rw (item, b) refl
     step x mid (Ok (More rest)) at item b = λ room. let going = b.0 in let comma = b.1 in rw (item, going, comma) refl

@@ -1,4 +1,4 @@
--- Reading the names of an operation's results. Language Reference, "Operations".
+-- Parses the names of an operation's results. Language Reference, "Operations".
 use Rattle.std.specs.Prelude.{ℕ, ◌+◌, nat_le, if◌then◌else◌, List, [], Option, Some, None}
 use Rattle.ir_text_tokens.specs.declared.token.Mark.TheVariants.{Equal, Colon}
 use Rattle.ir_text_tokens.specs.Tokens.{Lexeme, integer, value, next}
@@ -14,7 +14,7 @@ abbrev pub name_from : Lexeme → List ℕ → Outcome (List ℕ × Text)
 name_from (value n) rest = Read (n, rest)
 name_from _ rest = Wrong
 
--- a name behind its sign
+-- a name after its sigil
 unfoldable pub value_name_at : Parse Text (List ℕ)
 value_name_at bytes = of_option (next bytes) >>= λ t. name_from t.0 t.1
 
@@ -33,11 +33,11 @@ some_count bytes None = Read (1, bytes)
 abbrev pub count_within : ℕ → ℕ × Text → Outcome (ℕ × Text)
 count_within before k = if nat_le (before + k.0) most_items then Read k else Wrong
 
--- the count behind a colon, behind names of so many results
+-- the count after a colon, after names of `before` results
 abbrev pub written_at : ℕ → Parse Text ℕ
 written_at before bytes = nonzero_at bytes >>= count_within before
 
--- for how many results a name stands, behind names of so many: 1 where no count stands
+-- the number of results of a name, after names of `before` results; 1 if no count is written
 unfoldable pub count_at : ℕ → Parse Text ℕ
 count_at before bytes = some_count bytes (after Colon bytes) >>= count_within before
 
@@ -47,7 +47,7 @@ result_at before bytes = do
   k ← count_at before n.1
   Read ((n.0, k.0), k.1)
 
--- names up to an equal sign, of as many results as an operation may have
+-- names up to an equal sign, for at most as many results as an operation may have
 unfoldable pub names_at : Parse Text (List Counted)
 names_at = more_at after Equal (λ before. result_at (counts before)) most_items []
 
@@ -55,6 +55,6 @@ abbrev pub results_from : Text → Lexeme → Outcome (Option (List Counted) × 
 results_from bytes (value n) = names_at bytes >>= λ x. Read (Some x.0, x.1)
 results_from bytes _ = Read (None, bytes)
 
--- the names of the results, where a name comes first
+-- the names of the results, if a name comes first
 unfoldable pub results_at : Parse Text (Option (List Counted))
 results_at bytes = of_option (next bytes) >>= λ t. results_from bytes t.0

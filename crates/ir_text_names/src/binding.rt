@@ -1,22 +1,22 @@
-//! Names that come into sight. Language Reference, "Identifiers and keywords".
-ghost use Rattle.ir_text_types.specs.Outcomes.{Gives};
+//! Binds names. Language Reference, "Identifiers and keywords".
+ghost use Rattle.ir_text_types.specs.Outcomes.{Returns};
 ghost use Rattle.ir_text_names.specs.BlockReading.{bind};
 
-use crate::pack::Pack;
+use crate::pack::ValueGroup;
 use ir_text_tokens::fault::Fault;
-use ir_text_tokens::names::Names;
+use ir_text_tokens::names::ScopedNames;
 use ir_text_tokens::refusal::TextRefusal;
 use ir_text_types::error::ReadError;
 
-/// Binds a name that is not bound yet; so many bytes are left where it stands.
+/// Binds a new name. `left` is the number of bytes left at the name. Refuses a bound name with `Redefined`.
 #[tactic(auto, unfolding(crate::specs::BlockReading::bind))]
 pub fn bind<'a>(
-    names: &mut Names<'a, Pack>,
+    names: &mut ScopedNames<'a, ValueGroup>,
     name: &'a [u8],
-    pack: Pack,
+    pack: ValueGroup,
     left: usize,
 ) -> Result<(), ReadError>
-    ensures { Gives (λ _. names.new) result (bind name.now pack names.old) }
+    ensures { Returns (λ _. names.new) result (bind name.now pack names.old) }
 {
     if names.find(name).is_some() {
         return Err(ReadError::Refused(Fault {

@@ -1,21 +1,21 @@
-//! What stands before the operations of a block. Language Reference, "Blocks".
+//! Parses a region up to the operations of its block. Language Reference, "Blocks".
 ghost use Rattle.std.specs.Prelude.{◌≡◌, ◌≤◌, ◌+◌, [], length, option_map, OnOk};
-ghost use Rattle.ir_types.specs.Things.{Grows};
+ghost use Rattle.ir_types.specs.Things.{IsExtendedBy};
 ghost use Rattle.ir_tree.specs.Limits.{most_items};
-ghost use Rattle.ir_text_types.specs.Outcomes.{Gives, of_option};
+ghost use Rattle.ir_text_types.specs.Outcomes.{Returns, of_option};
 ghost use Rattle.ir_text_names.specs.Alike.{IsAlike};
 ghost use Rattle.ir_text_types.specs.Marks.{after};
 ghost use Rattle.ir_text_tokens.specs.declared.token.Mark.TheVariants.{CloseRound, Comma};
 ghost use Rattle.ir_text_names.specs.States.{after_in, state_of};
-ghost use Rattle.ir_text_names.specs.ListSteps.{IsBehind, Steps};
+ghost use Rattle.ir_text_names.specs.ListSteps.{IsAfter, Steps};
 ghost use Rattle.ir_text_names.specs.BlockReading.{colon_type_at, arg_at, args_at, some_args_at, label_args_at, head_at, region_head_at};
 
 use crate::binding::bind;
-use crate::bound::Bound;
-use crate::lists::Behind;
-use crate::named::{name, one_too_many};
-use crate::pack::Pack;
+use crate::bound::TypedValue;
+use crate::lists::AfterItem;
+use crate::pack::ValueGroup;
 use crate::scope::Scope;
+use crate::value_names::{name, one_too_many};
 use ir_text_tokens::lexer::{self, skip};
 use ir_text_tokens::refusal::TextRefusal;
 use ir_text_tokens::token::{Mark, Token};
@@ -29,7 +29,8 @@ use ir_types::ids::{OpId, TypeId};
 use ir_types::limits::MOST_DEPTH;
 use std::alloc::Global;
 
-/// The fault at the name of an argument, where it is bound already, or else the one behind it.
+/// Returns the error of an argument: `Redefined` at its name if `error` is a refusal and the name is bound already,
+/// otherwise `error`.
 fn sooner<'a>(scope: &Scope<'a>, name: &'a [u8], bytes: &'a [u8], error: ReadError) -> ReadError
     ensures { IsAlike error result }
 {
@@ -41,7 +42,7 @@ fn sooner<'a>(scope: &Scope<'a>, name: &'a [u8], bytes: &'a [u8], error: ReadErr
     }
 }
 
-/// Why a token does not fit behind a type: a location is left out.
+/// Returns why a token can't follow a type: `LeftOut` for a location, otherwise `Unexpected`.
 pub fn location_refusal(bytes: &[u8]) -> TextRefusal {
     match lexer::token(bytes) {
         Ok((Token::Bare(word), _)) if word == b"loc".as_slice() => TextRefusal::LeftOut,
@@ -49,9 +50,9 @@ pub fn location_refusal(bytes: &[u8]) -> TextRefusal {
     }
 }
 
-/// What follows the comma behind an argument.
+/// Returns the rest of the text after the comma that follows an argument.
 fn next_argument(bytes: &[u8]) -> Result<&[u8], ReadError>
-    ensures { Gives (λ r. r.now) result (of_option (after Comma bytes.now)) }
+    ensures { Returns (λ r. r.now) result (of_option (after Comma bytes.now)) }
 {
     match after(bytes, Mark::Comma) {
         Some(rest) => Ok(rest),
@@ -59,28 +60,28 @@ fn next_argument(bytes: &[u8]) -> Result<&[u8], ReadError>
     }
 }
 
-/// What stands behind an argument.
-fn behind_argument(bytes: &[u8]) -> Result<Behind<'_>, ReadError>
-    ensures { IsBehind CloseRound bytes.now result }
+/// Returns what follows an argument: the closing parenthesis or a comma.
+fn after_argument(bytes: &[u8]) -> Result<AfterItem<'_>, ReadError>
+    ensures { IsAfter CloseRound bytes.now result }
 {
     if let Some(rest) = after(bytes, Mark::CloseRound) {
-        return Ok(Behind::End(rest));
+        return Ok(AfterItem::End(rest));
     }
     match next_argument(bytes) {
-        Ok(rest) => Ok(Behind::More(rest)),
+        Ok(rest) => Ok(AfterItem::More(rest)),
         Err(e) => Err(e),
     }
 }
 
-/// A colon and a type.
+/// Parses a colon and a type.
 #[tactic(auto, using(ir_types::proofs::Growth::grows_refl, ir_types::proofs::Growth::grows_trans), unfolding(crate::specs::BlockReading::colon_type_at))]
 fn colon_type<'a>(
     alloc: Global,
     ctx: &mut Context,
     bytes: &'a [u8],
 ) -> Result<(TypeId, &'a [u8]), ReadError>
-    ensures reads { Gives (λ x. (x.0, (x.1.now, ctx.new))) result (colon_type_at (bytes.now, ctx.old)) }
-    ensures grows { Grows ctx.old ctx.new }
+    ensures reads { Returns (λ x. (x.0, (x.1.now, ctx.new))) result (colon_type_at (bytes.now, ctx.old)) }
+    ensures grows { IsExtendedBy ctx.old ctx.new }
 {
     let opaque = ctx.is_opaque();
     match expect(bytes, Mark::Colon) {
@@ -89,7 +90,7 @@ fn colon_type<'a>(
     }
 }
 
-/// An argument, bound as it is read, behind so many others.
+/// Parses an argument after the arguments of `before`, and binds its name.
 #[tactic(auto, using(ir_types::proofs::Growth::grows_refl, ir_types::proofs::Growth::grows_trans))]
 fn argument<'a>(
     alloc: Global,
@@ -101,8 +102,8 @@ fn argument<'a>(
     bytes: &'a [u8],
 ) -> Result<(TypeId, &'a [u8]), ReadError>
     requires { length before.now ≤ most_items }
-    ensures reads { Gives (λ x. (x.0, state_of x.1.now scope.new ctx.new)) result (arg_at id region before.now (state_of bytes.now scope.old ctx.old)) }
-    ensures grows { Grows ctx.old ctx.new }
+    ensures reads { Returns (λ x. (x.0, state_of x.1.now scope.new ctx.new)) result (arg_at id region before.now (state_of bytes.now scope.old ctx.old)) }
+    ensures grows { IsExtendedBy ctx.old ctx.new }
 {
     let (name, rest) = match name(bytes) {
         Ok(found) => found,
@@ -113,14 +114,14 @@ fn argument<'a>(
         Err(e) => return Err(sooner(scope, name, bytes, e)),
     };
     let value = Value::Arg(OpId::new(id), region, before.len() as u32);
-    let pack = Pack::one(Bound { value, ty });
+    let pack = ValueGroup::one(TypedValue { value, ty });
     match bind(&mut scope.names, name, pack, skip(bytes).len()) {
         Ok(()) => Ok((ty, rest)),
         Err(e) => Err(e),
     }
 }
 
-/// An argument, put behind others, and what stands behind it.
+/// Parses an argument, appends its type to `items`, and returns what follows it.
 #[tactic(auto, using(ir_types::proofs::Growth::grows_refl, ir_types::proofs::Growth::grows_trans))]
 fn push_argument<'a>(
     alloc: Global,
@@ -130,21 +131,22 @@ fn push_argument<'a>(
     region: u32,
     items: &mut Vec<TypeId>,
     bytes: &'a [u8],
-) -> Result<Behind<'a>, ReadError>
+) -> Result<AfterItem<'a>, ReadError>
     requires { length items.old.items ≤ most_items }
     ensures steps { Steps after_in CloseRound (arg_at id region) items.old.items (state_of bytes.now scope.old ctx.old) result items.new.items (λ rest. state_of rest scope.new ctx.new) }
     ensures one { OnOk result (length items.new.items ≡ length items.old.items + 1) }
-    ensures grows { Grows ctx.old ctx.new }
+    ensures grows { IsExtendedBy ctx.old ctx.new }
 {
     let (item, rest) = match argument(alloc, scope, ctx, id, region, items, bytes) {
         Ok(found) => found,
         Err(e) => return Err(e),
     };
     items.push(item)?;
-    behind_argument(rest)
+    after_argument(rest)
 }
 
-/// Puts arguments behind each other up to the closing parenthesis, as many as a block may have.
+/// Parses arguments up to the closing parenthesis, at most as many as a block may have, and appends their types to
+/// `items`.
 #[tactic(auto, using(ir_types::proofs::Growth::grows_refl, ir_types::proofs::Growth::grows_trans), unfolding(ir_text_types::specs::Lists::list_at, crate::specs::BlockReading::args_at))]
 fn push_arguments<'a>(
     alloc: Global,
@@ -156,8 +158,8 @@ fn push_arguments<'a>(
     bytes: &'a [u8],
 ) -> Result<&'a [u8], ReadError>
     requires { items.old.items ≡ [] }
-    ensures reads { Gives (λ r. (items.new.items, state_of r.now scope.new ctx.new)) result (args_at id region (state_of bytes.now scope.old ctx.old)) }
-    ensures grows { Grows ctx.old ctx.new }
+    ensures reads { Returns (λ r. (items.new.items, state_of r.now scope.new ctx.new)) result (args_at id region (state_of bytes.now scope.old ctx.old)) }
+    ensures grows { IsExtendedBy ctx.old ctx.new }
 {
     if let Some(rest) = after(bytes, Mark::CloseRound) {
         return Ok(rest);
@@ -165,15 +167,15 @@ fn push_arguments<'a>(
     let mut rest = bytes;
     'items: for _ in 0..MOST_ITEMS {
         match push_argument(alloc, scope, ctx, id, region, items, rest) {
-            Ok(Behind::More(more)) => rest = more,
-            Ok(Behind::End(end)) => return Ok(end),
+            Ok(AfterItem::More(more)) => rest = more,
+            Ok(AfterItem::End(end)) => return Ok(end),
             Err(e) => return Err(e),
         }
     }
     Err(ReadError::Refused(one_too_many(rest)))
 }
 
-/// Arguments up to the closing parenthesis, as many as a block may have.
+/// Parses arguments up to the closing parenthesis, at most as many as a block may have.
 #[tactic(auto, using(ir_types::proofs::Growth::grows_refl, ir_types::proofs::Growth::grows_trans))]
 fn arguments<'a>(
     alloc: Global,
@@ -183,8 +185,8 @@ fn arguments<'a>(
     region: u32,
     bytes: &'a [u8],
 ) -> Result<(Vec<TypeId>, &'a [u8]), ReadError>
-    ensures reads { Gives (λ x. (x.0.items, state_of x.1.now scope.new ctx.new)) result (args_at id region (state_of bytes.now scope.old ctx.old)) }
-    ensures grows { Grows ctx.old ctx.new }
+    ensures reads { Returns (λ x. (x.0.items, state_of x.1.now scope.new ctx.new)) result (args_at id region (state_of bytes.now scope.old ctx.old)) }
+    ensures grows { IsExtendedBy ctx.old ctx.new }
 {
     let mut items = Vec::new(alloc);
     match push_arguments(alloc, scope, ctx, id, region, &mut items, bytes) {
@@ -193,7 +195,7 @@ fn arguments<'a>(
     }
 }
 
-/// The arguments in parentheses, or none.
+/// Parses arguments in parentheses, or none.
 #[tactic(auto, using(ir_types::proofs::Growth::grows_refl, ir_types::proofs::Growth::grows_trans))]
 fn some_arguments<'a>(
     alloc: Global,
@@ -203,8 +205,8 @@ fn some_arguments<'a>(
     region: u32,
     bytes: &'a [u8],
 ) -> Result<(Vec<TypeId>, &'a [u8]), ReadError>
-    ensures reads { Gives (λ x. (x.0.items, state_of x.1.now scope.new ctx.new)) result (some_args_at id region (state_of bytes.now scope.old ctx.old)) }
-    ensures grows { Grows ctx.old ctx.new }
+    ensures reads { Returns (λ x. (x.0.items, state_of x.1.now scope.new ctx.new)) result (some_args_at id region (state_of bytes.now scope.old ctx.old)) }
+    ensures grows { IsExtendedBy ctx.old ctx.new }
 {
     if let Some(rest) = after(bytes, Mark::OpenRound) {
         return arguments(alloc, scope, ctx, id, region, rest);
@@ -212,7 +214,7 @@ fn some_arguments<'a>(
     Ok((Vec::new(alloc), bytes))
 }
 
-/// The arguments behind a label, and the colon.
+/// Parses the arguments after a label, and the colon.
 #[tactic(auto, using(ir_types::proofs::Growth::grows_refl, ir_types::proofs::Growth::grows_trans), unfolding(crate::specs::BlockReading::label_args_at))]
 fn label_arguments<'a>(
     alloc: Global,
@@ -222,8 +224,8 @@ fn label_arguments<'a>(
     region: u32,
     bytes: &'a [u8],
 ) -> Result<(Vec<TypeId>, &'a [u8]), ReadError>
-    ensures reads { Gives (λ x. (x.0.items, state_of x.1.now scope.new ctx.new)) result (label_args_at id region (state_of bytes.now scope.old ctx.old)) }
-    ensures grows { Grows ctx.old ctx.new }
+    ensures reads { Returns (λ x. (x.0.items, state_of x.1.now scope.new ctx.new)) result (label_args_at id region (state_of bytes.now scope.old ctx.old)) }
+    ensures grows { IsExtendedBy ctx.old ctx.new }
 {
     match some_arguments(alloc, scope, ctx, id, region, bytes) {
         Ok((args, rest)) => match expect(rest, Mark::Colon) {
@@ -234,7 +236,7 @@ fn label_arguments<'a>(
     }
 }
 
-/// A label with the arguments of its block, where a label comes first.
+/// Parses a label with the arguments of its block, if a label comes first.
 #[tactic(auto, using(ir_types::proofs::Growth::grows_refl, ir_types::proofs::Growth::grows_trans), unfolding(crate::specs::BlockReading::head_at))]
 fn head<'a>(
     alloc: Global,
@@ -244,8 +246,8 @@ fn head<'a>(
     region: u32,
     bytes: &'a [u8],
 ) -> Result<(Option<Vec<TypeId>>, &'a [u8]), ReadError>
-    ensures reads { Gives (λ x. (option_map (λ v. v.items) x.0, state_of x.1.now scope.new ctx.new)) result (head_at id region (state_of bytes.now scope.old ctx.old)) }
-    ensures grows { Grows ctx.old ctx.new }
+    ensures reads { Returns (λ x. (option_map (λ v. v.items) x.0, state_of x.1.now scope.new ctx.new)) result (head_at id region (state_of bytes.now scope.old ctx.old)) }
+    ensures grows { IsExtendedBy ctx.old ctx.new }
 {
     match token(bytes) {
         Ok((Token::Label(_), rest)) => {
@@ -259,8 +261,8 @@ fn head<'a>(
     }
 }
 
-/// The brace of a region, and what its block begins with. The region's names are hidden again at its end,
-/// and in a region of an isolated operation no others are seen. Traits, "IsolatedFromAbove".
+/// Parses the opening brace of a region and the label of its block. The region's names go out of scope at its end,
+/// and in a region of an isolated operation no outer name is visible. Traits, "IsolatedFromAbove".
 #[tactic(auto, using(ir_types::proofs::Growth::grows_refl, ir_types::proofs::Growth::grows_trans), unfolding(crate::specs::BlockReading::region_head_at))]
 pub fn region_head<'a>(
     alloc: Global,
@@ -271,8 +273,8 @@ pub fn region_head<'a>(
     isolated: bool,
     bytes: &'a [u8],
 ) -> Result<(Option<Vec<TypeId>>, &'a [u8]), ReadError>
-    ensures reads { Gives (λ x. (option_map (λ v. v.items) x.0, state_of x.1.now scope.new ctx.new)) result (region_head_at id region isolated (state_of bytes.now scope.old ctx.old)) }
-    ensures grows { Grows ctx.old ctx.new }
+    ensures reads { Returns (λ x. (option_map (λ v. v.items) x.0, state_of x.1.now scope.new ctx.new)) result (region_head_at id region isolated (state_of bytes.now scope.old ctx.old)) }
+    ensures grows { IsExtendedBy ctx.old ctx.new }
 {
     match expect(bytes, Mark::OpenCurly) {
         Ok(rest) => {

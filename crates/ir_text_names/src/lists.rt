@@ -1,29 +1,29 @@
-//! Lists in which items are parted by commas.
-ghost use Rattle.ir_text_names.specs.ListSteps.{IsBehind};
+//! Comma-separated lists.
+ghost use Rattle.ir_text_names.specs.ListSteps.{IsAfter};
 
 use ir_text_tokens::token::Mark;
 use ir_text_types::error::ReadError;
 use ir_text_types::steps::{after, expect};
 
-/// What stands behind an item of a list.
+/// What follows an item of a list.
 #[derive(Clone, Copy)]
-pub enum Behind<'a> {
-    /// The closing mark, and then these bytes.
+pub enum AfterItem<'a> {
+    /// The closing mark. The bytes are the rest of the text after it.
     End(&'a [u8]),
-    /// A comma, and then these bytes, where the next item stands.
+    /// A comma. The bytes are the rest of the text, from the next item on.
     More(&'a [u8]),
 }
 
-/// What stands behind an item of a list with this closing mark. `Unexpected` where it is neither.
+/// Returns what follows an item of a list with the closing mark `close`. Refuses any other token with `Unexpected`.
 #[inline(always)]
-pub fn behind_item(bytes: &[u8], close: Mark) -> Result<Behind<'_>, ReadError>
-    ensures { IsBehind close bytes.now result }
+pub fn after_item(bytes: &[u8], close: Mark) -> Result<AfterItem<'_>, ReadError>
+    ensures { IsAfter close bytes.now result }
 {
     if let Some(rest) = after(bytes, close) {
-        return Ok(Behind::End(rest));
+        return Ok(AfterItem::End(rest));
     }
     match expect(bytes, Mark::Comma) {
-        Ok(rest) => Ok(Behind::More(rest)),
+        Ok(rest) => Ok(AfterItem::More(rest)),
         Err(e) => Err(e),
     }
 }

@@ -1,25 +1,25 @@
-//! What a name stands for while a text is read.
+//! The values of a name while a text is parsed.
 ghost use Rattle.std.specs.Prelude.{◌≡◌, ◌∷◌, [], length, option_map, slice_get};
 
-use crate::bound::Bound;
+use crate::bound::TypedValue;
 use std::marker::Model;
 
-/// One value, which takes no memory of its own, or any number.
+/// One value, which is stored without allocating, or several.
 #[derive(Drop)]
-enum Held {
-    One(Bound),
-    Many(Vec<Bound>),
+enum ValueGroupData {
+    One(TypedValue),
+    Many(Vec<TypedValue>),
 }
 
-/// The values that a name stands for, in order: a contract sees their list.
+/// The values of a name, in order. A contract sees them as a list.
 #[derive(Drop)]
-pub struct Pack {
-    held: Held,
+pub struct ValueGroup {
+    held: ValueGroupData,
 }
 
-impl Model for Pack {
+impl Model for ValueGroup {
     ghost use Rattle.std.specs.Prelude.{List};
-    ghost use Rattle.ir_text_names.specs.declared.bound.Bound.{Bound as Value_of};
+    ghost use Rattle.ir_text_names.specs.declared.bound.TypedValue.{TypedValue as Value_of};
 
     ghost Value = { List Value_of };
 
@@ -28,42 +28,42 @@ impl Model for Pack {
     ghost view = { λ p. held_values p.held };
 }
 
-impl Pack {
-    /// A pack of one value.
-    pub fn one(value: Bound) -> Pack
+impl ValueGroup {
+    /// Returns a pack of one value.
+    pub fn one(value: TypedValue) -> ValueGroup
         ensures { result ≡ value ∷ [] }
     {
-        Pack {
-            held: Held::One(value),
+        ValueGroup {
+            held: ValueGroupData::One(value),
         }
     }
 
-    /// A pack of these values.
-    pub fn many(values: Vec<Bound>) -> Pack
+    /// Returns a pack of these values.
+    pub fn many(values: Vec<TypedValue>) -> ValueGroup
         ensures { result ≡ values.items }
     {
-        Pack {
-            held: Held::Many(values),
+        ValueGroup {
+            held: ValueGroupData::Many(values),
         }
     }
 
-    /// How many values there are.
+    /// Returns the number of values.
     pub fn len(&self) -> usize
         ensures { result ≡ length self.now }
     {
         match &self.held {
-            Held::One(_) => 1,
-            Held::Many(values) => values.len(),
+            ValueGroupData::One(_) => 1,
+            ValueGroupData::Many(values) => values.len(),
         }
     }
 
-    /// The value at a place.
-    pub fn get(&self, place: usize) -> Option<&Bound>
+    /// Returns the value at an index.
+    pub fn get(&self, place: usize) -> Option<&TypedValue>
         ensures { option_map (λ b. b.now) result ≡ slice_get self.now place }
     {
         match &self.held {
-            Held::One(value) => { if place == 0 { Some(value) } else { None } }
-            Held::Many(values) => values.get(place),
+            ValueGroupData::One(value) => { if place == 0 { Some(value) } else { None } }
+            ValueGroupData::Many(values) => values.get(place),
         }
     }
 }

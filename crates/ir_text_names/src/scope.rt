@@ -1,10 +1,10 @@
-//! Where a reader is.
-use crate::pack::Pack;
-use ir_text_tokens::names::Names;
+//! The state of a parser of operations.
+use crate::pack::ValueGroup;
+use ir_text_tokens::names::ScopedNames;
 
-/// The names that are bound, and the next free id.
+/// The bound names, and the next free id.
 #[derive(Drop)]
 pub struct Scope<'a> {
-    pub names: Names<'a, Pack>,
+    pub names: ScopedNames<'a, ValueGroup>,
     pub next: u32,
 }

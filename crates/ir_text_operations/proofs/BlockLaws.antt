@@ -1,4 +1,4 @@
--- Blocks and regions that are read are spelled, and those that are spelled are read.
+-- The parser and the grammar of blocks and regions agree.
 use Rattle.std.specs.Prelude.{option_map}
 use Rattle.std.specs.List.{list_all}
 use Rattle.std.proofs.Common.{◌≡◌, ℕ, zero, suc, Bool, true, List, [], ◌∷◌, ◌++◌, length, map, Option, Some, None, refl, sym, ap, subst, ◌∙◌, ◌⊎◌, inl, inr}
@@ -7,7 +7,7 @@ use Rattle.ir_text_tokens.specs.declared.token.Mark.{Mark}
 use Rattle.ir_text_tokens.specs.declared.token.Mark.TheVariants.{OpenRound, CloseRound, OpenCurly, Colon}
 use Rattle.ir_text_tokens.specs.Tokens.{Lexeme, label}
 use Rattle.ir_text_tokens.specs.Scopes.{Scopes}
-use Rattle.ir_types.specs.Things.{Things, Grows}
+use Rattle.ir_types.specs.Things.{ContextModel, IsExtendedBy}
 use Rattle.ir_types.specs.Terms.{TypeTerm, name_term, type_term, attr_term}
 use Rattle.ir_types.proofs.Growth.{grows_trans}
 use Rattle.ir_tree.specs.declared.value.Value.TheVariants as values
@@ -33,18 +33,18 @@ use Rattle.ir_text_types.proofs.TypeLaws.{type_exact}
 use Rattle.ir_text_names.specs.States.{State, to_bytes, after_in, typed, with_typed, with_scopes, inside, outside}
 use Rattle.ir_text_names.specs.NameReading.{value_name_at}
 use Rattle.ir_text_operations.specs.Made.{region_of}
-use Rattle.ir_text_names.specs.BlockReading.{bind, type_here, arg_behind_name, arg_at, args_at, label_args_from, label_args_at, head_from, head_at}
+use Rattle.ir_text_names.specs.BlockReading.{bind, type_here, arg_after_name, arg_at, args_at, label_args_from, label_args_at, head_from, head_at}
 use Rattle.ir_text_operations.specs.OpReading.{ops_from, ops_at, region_at, regions_from, regions_at}
 use Rattle.ir_text_operations.specs.Seen.{PackTerm, Seen, seen_scopes, seen_inside, seen_outside, IsMarkSeen, InText, IsBound}
 use Rattle.ir_text_operations.specs.OpGrammar.{IsName, IsArg, IsLabelArgs, IsHeadFrom, IsHead, IsOps, RegionTerm, IsRegion, IsRegions}
 use Rattle.ir_text_operations.specs.Standing.{Equals, Both, StateStands, OpStands, RegionStands}
 use Rattle.ir_text_operations.proofs.FrontLaws.{name_exact, begin_exact, items_exact, some_items_exact}
 use Rattle.ir_text_operations.proofs.EntryLaws.{each_length}
-use Rattle.ir_text_operations.proofs.NameLaws.{held, state_marks, behind_exact, state_token, in_typed, in_text, typed_exact, text_exact, inside_exact, outside_exact, each_more, bind_scoped, scoped_exact}
+use Rattle.ir_text_operations.proofs.NameLaws.{held, state_marks, trailing_exact, state_token, in_typed, in_text, typed_exact, text_exact, inside_exact, outside_exact, each_more, bind_scoped, scoped_exact}
 
 -- ---- arguments
 
-type_read : (o : Bool) (c : Things) → c.opaque ≡ o → Exact things Same c TypeStands (type_here 32) (IsType o 32)
+type_read : (o : Bool) (c : ContextModel) → c.opaque ≡ o → Exact things Same c TypeStands (type_here 32) (IsType o 32)
 type_read o c mode =
     exact_where things Same c TypeStands (type_here 32) (type_at o 32) (IsType o 32) (λ s g sound. ap (λ b. type_at b 32 s) (g.opaque ∙ mode))
     (type_exact o 32 c)
@@ -58,7 +58,7 @@ arg_type id r k n s = in_typed (type_here 32) s >>= λ y. binding id r k n y.0 y
 abbrev arg_rest : ℕ → ℕ → ℕ → List ℕ → State → Outcome (ℕ × State)
 arg_rest id r k n s = of_option (after_in Colon s) >>= arg_type id r k n
 
-named_same : (id r k : ℕ) (n : List ℕ) (s : State) → arg_behind_name id r k s n ≡ arg_rest id r k n s
+named_same : (id r k : ℕ) (n : List ℕ) (s : State) → arg_after_name id r k s n ≡ arg_rest id r k n s
 named_same id r k n s = by_rest (after Colon s.bytes)
   where
     put : Text → ℕ × Typed → Outcome (ℕ × State)
@@ -82,13 +82,13 @@ arg_same id r before s =
 abbrev Binds : ℕ → ℕ → ℕ → List ℕ → TypeTerm → Grammar Seen TypeTerm
 Binds id r k n t y old new = (scopes : Scopes PackTerm) × IsBound n ((record { value = values.Arg id r k; type = t }) ∷ []) old.scopes scopes × (y ≡ t) × (new ≡ seen_scopes old scopes)
 
-bound_exact : (id r k j : ℕ) (n m : List ℕ) (y : ℕ) (t : TypeTerm) (c : Things) → k ≡ j → n ≡ m → From (λ z. TypeStands z y t) c → Exact held StateStands c TypeStands (binding id r k n y) (Binds id r j m t)
+bound_exact : (id r k j : ℕ) (n m : List ℕ) (y : ℕ) (t : TypeTerm) (c : ContextModel) → k ≡ j → n ≡ m → From (λ z. TypeStands z y t) c → Exact held StateStands c TypeStands (binding id r k n y) (Binds id r j m t)
 bound_exact id r k j n m y t c place same stands =
     subst (λ l. Exact held StateStands c TypeStands (binding id r k n y) (Binds id r j l t)) same
     (scoped_exact c TypeStands y t stands (bind n ((record { value = values.Arg id r k; ty = y }) ∷ [])) (IsBound n ((record { value = values.Arg id r j; type = t }) ∷ []))
     (bind_scoped c n ((record { value = values.Arg id r k; ty = y }) ∷ []) ((record { value = values.Arg id r j; type = t }) ∷ []) (λ z g w. ((ap (values.Arg id r) place, stands z g w), tt))))
 
-arg_exact : (id r : ℕ) (c : Things) (xs : List ℕ) (ys : List TypeTerm) → length xs ≡ length ys → Exact held StateStands c TypeStands (arg_at id r xs) (IsArg c.opaque id r ys)
+arg_exact : (id r : ℕ) (c : ContextModel) (xs : List ℕ) (ys : List TypeTerm) → length xs ≡ length ys → Exact held StateStands c TypeStands (arg_at id r xs) (IsArg c.opaque id r ys)
 arg_exact id r c xs ys len =
     exact_where held StateStands c TypeStands (arg_at id r xs) (arg_in id r (length xs)) (IsArg c.opaque id r ys) (λ s g sound. arg_same id r xs s)
     (then_exact held StateStands c Equals TypeStands (in_text value_name_at) (InText IsName) (λ n. arg_rest id r (length xs) n) (λ n. After IsMarkSeen Colon (Then (InText (IsType c.opaque 32)) (λ t. Binds id r (length ys) n t)))
@@ -97,19 +97,19 @@ arg_exact id r c xs ys len =
     (then_exact held StateStands d TypeStands TypeStands (in_typed (type_here 32)) (InText (IsType c.opaque 32)) (λ y. binding id r (length xs) n y) (λ t. Binds id r (length ys) n' t) (typed_exact d TypeStands (type_here 32) (IsType c.opaque 32) (type_read c.opaque d g.opaque)) (λ e y t h stands.
     begin_exact held StateStands e TypeStands (λ s. binding id r (length xs) n y) (λ u. Binds id r (length ys) n' t) (λ s u up sound now. bound_exact id r (length xs) (length ys) n n' y t s.things len (same s.things (grows_trans d e s.things h up) sound) (later (λ z. TypeStands z y t) e s.things up stands))))))
 
-item_exact : (id r : ℕ) (base c : Things) (xs : List ℕ) (ys : List TypeTerm) → Grows base c → From (λ z. Each TypeStands z xs ys) c → Exact held StateStands c TypeStands (arg_at id r xs) (IsArg base.opaque id r ys)
+item_exact : (id r : ℕ) (base c : ContextModel) (xs : List ℕ) (ys : List TypeTerm) → IsExtendedBy base c → From (λ z. Each TypeStands z xs ys) c → Exact held StateStands c TypeStands (arg_at id r xs) (IsArg base.opaque id r ys)
 item_exact id r base c xs ys b stand =
     begin_exact held StateStands c TypeStands (λ s. arg_at id r xs) (λ t. IsArg base.opaque id r ys) (λ s t g sound h.
     subst (λ o. Exact held StateStands s.things TypeStands (arg_at id r xs) (IsArg o id r ys)) (g.opaque ∙ b.opaque)
     (arg_exact id r s.things xs ys (each_length TypeStands s.things xs ys (stand s.things g sound))))
 
-args_exact : (id r : ℕ) (c : Things) → Exact held StateStands c (Each TypeStands) (args_at id r) (IsList IsMarkSeen CloseRound (IsArg c.opaque id r) 256)
+args_exact : (id r : ℕ) (c : ContextModel) → Exact held StateStands c (Each TypeStands) (args_at id r) (IsList IsMarkSeen CloseRound (IsArg c.opaque id r) 256)
 unfolding args_at
 args_exact id r c = items_exact held StateStands c after_in IsMarkSeen state_marks TypeStands CloseRound (arg_at id r) (IsArg c.opaque id r) (item_exact id r c) 256
 
--- ---- the head of a block
+-- ---- the label of a block
 
-label_args_exact : (id r : ℕ) (c : Things) → Exact held StateStands c (Each TypeStands) (label_args_at id r) (IsLabelArgs c.opaque id r)
+label_args_exact : (id r : ℕ) (c : ContextModel) → Exact held StateStands c (Each TypeStands) (label_args_at id r) (IsLabelArgs c.opaque id r)
 unfolding label_args_at
 label_args_exact id r c =
     then_exact held StateStands c (Each TypeStands) (Each TypeStands) (λ s. label_args_from id r s (after_in OpenRound s)) (Either IsMarkSeen OpenRound (IsList IsMarkSeen CloseRound (IsArg c.opaque id r) 256) (Done [])) (λ a s. of_option (after_in Colon s) >>= λ c. Read (a, c)) (λ args. After IsMarkSeen Colon (Done args))
@@ -117,27 +117,27 @@ label_args_exact id r c =
     (done_exact held StateStands c (Each TypeStands) [] [] (λ z g w. tt)))
     (λ d xs ys g stand. after_exact held StateStands after_in IsMarkSeen state_marks d (Each TypeStands) Colon (λ s. Read (xs, s)) (Done ys) (done_exact held StateStands d (Each TypeStands) xs ys stand))
 
-abbrev pub HeadStands : Things → Option (List ℕ) → Option (List TypeTerm) → Type 0
+abbrev pub HeadStands : ContextModel → Option (List ℕ) → Option (List TypeTerm) → Type 0
 HeadStands = Both (Each TypeStands)
 
-labelled_exact : (id r : ℕ) (c : Things) → Exact held StateStands c HeadStands (λ s. label_args_at id r s >>= λ a. Read (Some a.0, a.1)) (λ y old new. (args : List TypeTerm) × IsLabelArgs c.opaque id r args old new × (y ≡ Some args))
+labelled_exact : (id r : ℕ) (c : ContextModel) → Exact held StateStands c HeadStands (λ s. label_args_at id r s >>= λ a. Read (Some a.0, a.1)) (λ y old new. (args : List TypeTerm) × IsLabelArgs c.opaque id r args old new × (y ≡ Some args))
 labelled_exact id r c =
     exact_spelled held StateStands c HeadStands (λ s. label_args_at id r s >>= λ a. Read (Some a.0, a.1)) (Then (IsLabelArgs c.opaque id r) (λ args. Done (Some args))) (λ y old new. (args : List TypeTerm) × IsLabelArgs c.opaque id r args old new × (y ≡ Some args))
     (λ y t t' k. (k.0, subst (λ u. IsLabelArgs c.opaque id r k.0 t u) (sym k.3.1) k.2, k.3.0)) (λ y t t' k. (k.0, t', k.1, (k.2, refl)))
     (then_exact held StateStands c (Each TypeStands) HeadStands (label_args_at id r) (IsLabelArgs c.opaque id r) (λ a s. Read (Some a, s)) (λ args. Done (Some args)) (label_args_exact id r c) (λ d xs ys g stand.
     done_exact held StateStands d HeadStands (Some xs) (Some ys) stand))
 
-head_from_exact : (id r : ℕ) (c : Things) (l : Lexeme) (rest : Text) → Exact held StateStands c HeadStands (λ s. head_from id r s l rest) (IsHeadFrom c.opaque id r l rest)
-head_from_exact id r c (label l) rest = behind_exact c HeadStands rest (λ s. label_args_at id r s >>= λ a. Read (Some a.0, a.1)) (λ y old new. (args : List TypeTerm) × IsLabelArgs c.opaque id r args old new × (y ≡ Some args)) (labelled_exact id r c)
+head_from_exact : (id r : ℕ) (c : ContextModel) (l : Lexeme) (rest : Text) → Exact held StateStands c HeadStands (λ s. head_from id r s l rest) (IsHeadFrom c.opaque id r l rest)
+head_from_exact id r c (label l) rest = trailing_exact c HeadStands rest (λ s. label_args_at id r s >>= λ a. Read (Some a.0, a.1)) (λ y old new. (args : List TypeTerm) × IsLabelArgs c.opaque id r args old new × (y ≡ Some args)) (labelled_exact id r c)
 head_from_exact id r c _ rest = done_exact held StateStands c HeadStands None None (λ z g w. tt)
 
-head_exact : (id r : ℕ) (c : Things) → Exact held StateStands c HeadStands (head_at id r) (IsHead c.opaque id r)
+head_exact : (id r : ℕ) (c : ContextModel) → Exact held StateStands c HeadStands (head_at id r) (IsHead c.opaque id r)
 unfolding head_at
 head_exact id r c = state_token c HeadStands (head_from id r) (IsHeadFrom c.opaque id r) (head_from_exact id r c)
 
--- ---- operations up to a mark
+-- ---- operations up to a closing mark
 
-module _ (close : Mark) (p : Parse State Op) (P : Grammar Seen Operation) (base : Things) (item : (c : Things) → Grows base c → Exact held StateStands c OpStands p P) where
+module _ (close : Mark) (p : Parse State Op) (P : Grammar Seen Operation) (base : ContextModel) (item : (c : ContextModel) → IsExtendedBy base c → Exact held StateStands c OpStands p P) where
   abbrev Goes : ℕ → List Operation → Grammar Seen (List Operation)
   Goes room front = Either IsMarkSeen close (Done front) (Then P (λ y. IsOps close P room (front ++ y ∷ [])))
 
@@ -152,7 +152,7 @@ module _ (close : Mark) (p : Parse State Op) (P : Grammar Seen Operation) (base 
   goes_back room front ys t t' (inl k) = inl (t', k.0, (k.1, refl))
   goes_back room front ys t t' (inr k) = inr (k.0, (k.1, k.2, k.3, k.4))
 
-  pub ops_exact : (room : ℕ) (c : Things) → Grows base c → (xs : List Op) (ys : List Operation) → From (λ z. Each OpStands z xs ys) c → Exact held StateStands c (Each OpStands) (ops_at close p room xs) (IsOps close P room ys)
+  pub ops_exact : (room : ℕ) (c : ContextModel) → IsExtendedBy base c → (xs : List Op) (ys : List Operation) → From (λ z. Each OpStands z xs ys) c → Exact held StateStands c (Each OpStands) (ops_at close p room xs) (IsOps close P room ys)
   unfolding ops_at IsOps
   ops_exact zero c b xs ys r = record { found = λ s t x s' g sound h e. absurd cc; only = λ s t y t' g sound h k. absurd k }
   ops_exact (suc room) c b xs ys r =
@@ -164,31 +164,31 @@ module _ (close : Mark) (p : Parse State Op) (P : Grammar Seen Operation) (base 
 
 -- ---- regions
 
-pub types_known : (z : Things) (xs : List ℕ) (ys : List TypeTerm) → Each TypeStands z xs ys → list_all (is_type z) xs ≡ true
+pub types_known : (z : ContextModel) (xs : List ℕ) (ys : List TypeTerm) → Each TypeStands z xs ys → list_all (is_type z) xs ≡ true
 types_known z [] [] h = refl
 types_known z [] (y ∷ ys) h = absurd h
 types_known z (x ∷ xs) [] h = absurd h
 types_known z (x ∷ xs) (y ∷ ys) h = and_from (is_type z x) (list_all (is_type z) xs) (lt-ltb x (length z.types) h.0.0) (types_known z xs ys h.1)
 
-pub types_are : (z : Things) (xs : List ℕ) (ys : List TypeTerm) → Each TypeStands z xs ys → map (type_term z) xs ≡ ys
+pub types_are : (z : ContextModel) (xs : List ℕ) (ys : List TypeTerm) → Each TypeStands z xs ys → map (type_term z) xs ≡ ys
 types_are z [] [] h = refl
 types_are z [] (y ∷ ys) h = absurd h
 types_are z (x ∷ xs) [] h = absurd h
 types_are z (x ∷ xs) (y ∷ ys) h = λ i. h.0.1 i ∷ types_are z xs ys h.1 i
 
-pub ops_known : (z : Things) (xs : List Op) (ys : List Operation) → Each OpStands z xs ys → ops_every (op_passes (is_name z) (is_type z) (is_attr z)) (ops_of xs) ≡ true
+pub ops_known : (z : ContextModel) (xs : List Op) (ys : List Operation) → Each OpStands z xs ys → ops_every (op_passes (is_name z) (is_type z) (is_attr z)) (ops_of xs) ≡ true
 ops_known z [] [] h = refl
 ops_known z [] (y ∷ ys) h = absurd h
 ops_known z (x ∷ xs) [] h = absurd h
 ops_known z (x ∷ xs) (y ∷ ys) h = and_from _ _ h.0.0 (ops_known z xs ys h.1)
 
-pub ops_are : (z : Things) (xs : List Op) (ys : List Operation) → Each OpStands z xs ys → map_ops (name_term z) (type_term z) (attr_term z) (ops_of xs) ≡ ops_of ys
+pub ops_are : (z : ContextModel) (xs : List Op) (ys : List Operation) → Each OpStands z xs ys → map_ops (name_term z) (type_term z) (attr_term z) (ops_of xs) ≡ ops_of ys
 ops_are z [] [] h = refl
 ops_are z [] (y ∷ ys) h = absurd h
 ops_are z (x ∷ xs) [] h = absurd h
 ops_are z (x ∷ xs) (y ∷ ys) h = λ i. tree.next (h.0.1 i) (ops_are z xs ys h.1 i)
 
-region_stands : (z : Things) (args : Option (List ℕ)) (types : Option (List TypeTerm)) (xs : List Op) (ys : List Operation) → HeadStands z args types → Each OpStands z xs ys → RegionStands z (region_of args xs) (region_of types ys)
+region_stands : (z : ContextModel) (args : Option (List ℕ)) (types : Option (List TypeTerm)) (xs : List Op) (ys : List Operation) → HeadStands z args types → Each OpStands z xs ys → RegionStands z (region_of args xs) (region_of types ys)
 region_stands z (Some us) (Some ts) xs ys h k = (types_known z us ts h, ops_known z xs ys k, λ i. tree.block (types_are z us ts h i) (ops_are z xs ys k i))
 region_stands z (Some us) None xs ys h k = absurd h
 region_stands z None (Some ts) xs ys h k = absurd h
@@ -197,7 +197,7 @@ region_stands z None None [] (y ∷ ys) h k = absurd k
 region_stands z None None (x ∷ xs) [] h k = absurd k
 region_stands z None None (x ∷ xs) (y ∷ ys) h k = (refl, ops_known z (x ∷ xs) (y ∷ ys) k, λ i. tree.block [] (ops_are z (x ∷ xs) (y ∷ ys) k i))
 
-module _ (p : Parse State (List Op)) (P : Grammar Seen (List Operation)) (base : Things) (body : (c : Things) → Grows base c → Exact held StateStands c (Each OpStands) p P) (id : ℕ) (isolated : Bool) where
+module _ (p : Parse State (List Op)) (P : Grammar Seen (List Operation)) (base : ContextModel) (body : (c : ContextModel) → IsExtendedBy base c → Exact held StateStands c (Each OpStands) p P) (id : ℕ) (isolated : Bool) where
   abbrev Leaves : RegionTerm → Grammar Seen RegionTerm
   Leaves g y old new = (y ≡ g) × (new ≡ seen_outside old)
 
@@ -207,26 +207,26 @@ module _ (p : Parse State (List Op)) (P : Grammar Seen (List Operation)) (base :
   abbrev IsBlock : ℕ → Grammar Seen RegionTerm
   IsBlock k = Then (IsHead base.opaque id k) (λ h. Then P (λ os. Leaves (region_of h os)))
 
-  head_here : (k : ℕ) (c : Things) → Grows base c → Exact held StateStands c HeadStands (head_at id k) (IsHead base.opaque id k)
+  head_here : (k : ℕ) (c : ContextModel) → IsExtendedBy base c → Exact held StateStands c HeadStands (head_at id k) (IsHead base.opaque id k)
   head_here k c b = subst (λ o. Exact held StateStands c HeadStands (head_at id k) (IsHead o id k)) b.opaque (head_exact id k c)
 
-  block_exact : (k : ℕ) (c : Things) → Grows base c → Exact held StateStands c RegionStands (block_in k) (IsBlock k)
+  block_exact : (k : ℕ) (c : ContextModel) → IsExtendedBy base c → Exact held StateStands c RegionStands (block_in k) (IsBlock k)
   block_exact k c b =
       then_exact held StateStands c HeadStands RegionStands (head_at id k) (IsHead base.opaque id k) (λ h s. p s >>= λ os. Read (region_of h os.0, outside os.1)) (λ h. Then P (λ os. Leaves (region_of h os))) (head_here k c b) (λ d h h' g heads.
       then_exact held StateStands d (Each OpStands) RegionStands p P (λ os s. Read (region_of h os, outside s)) (λ os. Leaves (region_of h' os)) (body d (grows_trans base c d b g)) (λ e os os' up stand.
       outside_exact e RegionStands (region_of h os) (region_of h' os') (λ z j w. region_stands z h h' os os' (heads z (grows_trans d e z up j) w) (stand z j w))))
 
-  region_exact : (c : Things) → Grows base c → (xs : List Region) (ys : List RegionTerm) → length xs ≡ length ys → Exact held StateStands c RegionStands (region_at p id isolated xs) (IsRegion base.opaque P id isolated ys)
+  region_exact : (c : ContextModel) → IsExtendedBy base c → (xs : List Region) (ys : List RegionTerm) → length xs ≡ length ys → Exact held StateStands c RegionStands (region_at p id isolated xs) (IsRegion base.opaque P id isolated ys)
   unfolding region_at
   region_exact c b xs ys len =
       after_exact held StateStands after_in IsMarkSeen state_marks c RegionStands OpenCurly (λ s. block_in (length xs) (inside isolated s)) (λ y old new. IsBlock (length ys) y (seen_inside isolated old) new)
       (inside_exact c RegionStands isolated (block_in (length xs)) (IsBlock (length ys)) (subst (λ k. Exact held StateStands c RegionStands (block_in (length xs)) (IsBlock k)) len (block_exact (length xs) c b)))
 
-  one_region_exact : (c : Things) → Grows base c → (xs : List Region) (ys : List RegionTerm) → From (λ z. Each RegionStands z xs ys) c → Exact held StateStands c RegionStands (region_at p id isolated xs) (IsRegion base.opaque P id isolated ys)
+  one_region_exact : (c : ContextModel) → IsExtendedBy base c → (xs : List Region) (ys : List RegionTerm) → From (λ z. Each RegionStands z xs ys) c → Exact held StateStands c RegionStands (region_at p id isolated xs) (IsRegion base.opaque P id isolated ys)
   one_region_exact c b xs ys stand =
       begin_exact held StateStands c RegionStands (λ s. region_at p id isolated xs) (λ t. IsRegion base.opaque P id isolated ys) (λ s t g sound h. region_exact s.things (grows_trans base c s.things b g) xs ys (each_length RegionStands s.things xs ys (stand s.things g sound)))
 
-  pub regions_exact : (c : Things) → Grows base c → Exact held StateStands c (Each RegionStands) (regions_at p id isolated) (IsRegions base.opaque P id isolated)
+  pub regions_exact : (c : ContextModel) → IsExtendedBy base c → Exact held StateStands c (Each RegionStands) (regions_at p id isolated) (IsRegions base.opaque P id isolated)
   unfolding regions_at
   regions_exact c b =
       either_exact held StateStands after_in IsMarkSeen state_marks c (Each RegionStands) OpenRound (regions_from p id isolated) (more_at after_in CloseRound (region_at p id isolated) 16 []) (λ s. Read ([], s)) (IsMore IsMarkSeen CloseRound (IsRegion base.opaque P id isolated) 16 []) (Done [])

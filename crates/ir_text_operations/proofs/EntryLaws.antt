@@ -1,10 +1,10 @@
--- Dictionaries that are read are spelled, and dictionaries that are spelled are read.
+-- The parser and the grammar of dictionaries agree.
 use Rattle.std.specs.Prelude.{if◌then◌else◌, nat_eq, nat_le, not, ◌||◌}
 use Rattle.std.specs.List.{list_any, filter}
 use Rattle.std.specs.Str.{bytes_eq}
 use Rattle.std.proofs.Common.{◌≡◌, ◌+◌, ℕ, suc, Bool, true, false, true≢false, cond, List, [], ◌∷◌, length, Option, Some, None, refl, sym, ap, subst, ◌∙◌}
 use Rattle.ir_text_tokens.specs.declared.token.Mark.TheVariants.{OpenCurly, CloseCurly, Less, Greater}
-use Rattle.ir_types.specs.Things.{Things, Grows}
+use Rattle.ir_types.specs.Things.{ContextModel, IsExtendedBy}
 use Rattle.ir_types.specs.Terms.{name_term}
 use Rattle.ir_types.specs.Words.{is_inherent}
 use Rattle.ir_types.specs.Sound.{IsSound}
@@ -27,9 +27,9 @@ use Rattle.ir_text_operations.specs.OpGrammar.{is_property, IsEntryValue, IsOpEn
 use Rattle.ir_text_operations.specs.Standing.{Both, EntryStands}
 use Rattle.ir_text_operations.proofs.FrontLaws.{items_exact}
 
--- ---- lists whose items stand for each other
+-- ---- lists whose items denote each other
 
-module _ {A B : Type 0} (R : Things → A → B → Type 0) (z : Things) where
+module _ {A B : Type 0} (R : ContextModel → A → B → Type 0) (z : ContextModel) where
   pub each_length : (xs : List A) (ys : List B) → Each R z xs ys → length xs ≡ length ys
   each_length [] [] h = refl
   each_length [] (y ∷ ys) h = absurd h
@@ -57,13 +57,13 @@ module _ {A B : Type 0} (R : Things → A → B → Type 0) (z : Things) where
 
 -- ---- keys
 
-pub property_agrees : (z : Things) (op : Option ℕ) (name : Option (List ℕ)) (k : ℕ) (y : List ℕ) → Both NameStands z op name → name_term z k ≡ y → is_property_in z op k ≡ is_property name y
+pub property_agrees : (z : ContextModel) (op : Option ℕ) (name : Option (List ℕ)) (k : ℕ) (y : List ℕ) → Both NameStands z op name → name_term z k ≡ y → is_property_in z op k ≡ is_property name y
 property_agrees z None None k y h e = refl
 property_agrees z None (Some n) k y h e = absurd h
 property_agrees z (Some o) None k y h e = absurd h
 property_agrees z (Some o) (Some n) k y h e = λ i. is_inherent (h.1 i) (e i)
 
-refused_same : (z : Things) (op : Option ℕ) (name : Option (List ℕ)) (ps : Entries) (qs : List EntryTerm) (k : ℕ) (y : List ℕ) (es : Entries) (fs : List EntryTerm)
+refused_same : (z : ContextModel) (op : Option ℕ) (name : Option (List ℕ)) (ps : Entries) (qs : List EntryTerm) (k : ℕ) (y : List ℕ) (es : Entries) (fs : List EntryTerm)
     → IsSound z → Both NameStands z op name → Each EntryStands z ps qs → NameStands z k y → Each EntryStands z es fs → refused_in z op ps k es ≡ is_refused bytes_eq (is_property name) qs y fs
 refused_same z op name ps qs k y es fs sound o p h e =
     let key : (x : ℕ × ℕ) (v : EntryTerm) → EntryStands z x v → nat_eq x.0 k ≡ bytes_eq v.0 y = λ x v r. keys_agree z sound x.0 k v.0 y r.0 h in
@@ -78,7 +78,7 @@ refused_same z op name ps qs k y es fs sound o p h e =
 
 -- ---- entries
 
-value_read : (o : Bool) (c : Things) → c.opaque ≡ o → Exact things Same c AttrStands (value_here 32) (IsEntryValue o)
+value_read : (o : Bool) (c : ContextModel) → c.opaque ≡ o → Exact things Same c AttrStands (value_here 32) (IsEntryValue o)
 value_read o c mode =
     exact_where things Same c AttrStands (value_here 32) (value_at o 32) (IsEntryValue o) (λ s g sound. ap (λ b. value_at b 32 s) (g.opaque ∙ mode))
     (value_exact 32 (attr_at o 32) (IsAttr o 32) (attr_exact o 32) c)
@@ -86,7 +86,7 @@ value_read o c mode =
 abbrev with_value : ℕ → Outcome (ℕ × Typed) → Outcome ((ℕ × ℕ) × Typed)
 with_value k o = o >>= λ a. Read ((k, a.0), a.1)
 
-module _ (o : Bool) (d : Things) (mode : d.opaque ≡ o) (k : ℕ) (y : List ℕ) (stands : From (λ z. NameStands z k y) d) where
+module _ (o : Bool) (d : ContextModel) (mode : d.opaque ≡ o) (k : ℕ) (y : List ℕ) (stands : From (λ z. NameStands z k y) d) where
   allowed_exact : (b : Bool) → Exact things Same d EntryStands (λ s. with_value k (if b then Wrong else value_here 32 s)) (When (b ≡ false) (Then (IsEntryValue o) (λ a. Done (y, a))))
   allowed_exact true =
       exact_spelled things Same d EntryStands (λ s. Wrong) (λ v old new. ⊥) (When (true ≡ false) (Then (IsEntryValue o) (λ a. Done (y, a)))) (λ v t t' e. absurd e) (λ v t t' e. absurd (true≢false e.0))
@@ -96,8 +96,8 @@ module _ (o : Bool) (d : Things) (mode : d.opaque ≡ o) (k : ℕ) (y : List ℕ
       (then_exact things Same d AttrStands EntryStands (value_here 32) (IsEntryValue o) (λ a s. Read ((k, a), s)) (λ a. Done (y, a)) (value_read o d mode) (λ e a v g r.
       done_exact things Same e EntryStands (k, a) (y, v) (λ z j w. (stands z (grows_trans d e z g j) w, r z j w))))
 
-module _ (base : Things) (op : Option ℕ) (name : Option (List ℕ)) (ps : Entries) (qs : List EntryTerm) (names : From (λ z. Both NameStands z op name) base) (before : From (λ z. Each EntryStands z ps qs) base) where
-  entry_exact : (c : Things) (es : Entries) (fs : List EntryTerm) → Grows base c → From (λ z. Each EntryStands z es fs) c → Exact things Same c EntryStands (entry_at op ps es) (IsOpEntry base.opaque name qs fs)
+module _ (base : ContextModel) (op : Option ℕ) (name : Option (List ℕ)) (ps : Entries) (qs : List EntryTerm) (names : From (λ z. Both NameStands z op name) base) (before : From (λ z. Each EntryStands z ps qs) base) where
+  entry_exact : (c : ContextModel) (es : Entries) (fs : List EntryTerm) → IsExtendedBy base c → From (λ z. Each EntryStands z es fs) c → Exact things Same c EntryStands (entry_at op ps es) (IsOpEntry base.opaque name qs fs)
   unfolding entry_at
   entry_exact c es fs b front =
       then_exact things Same c NameStands EntryStands key_at IsKey (λ k s. with_value k (if refused_in s.1 op ps k es then Wrong else value_here 32 s)) (λ y. When (is_refused bytes_eq (is_property name) qs y fs ≡ false) (Then (IsEntryValue base.opaque) (λ a. Done (y, a))))
@@ -115,22 +115,22 @@ module _ (base : Things) (op : Option ℕ) (name : Option (List ℕ)) (ps : Entr
 
 -- ---- both dictionaries
 
-no_entries_exact : (c : Things) → Exact things Same c (Each EntryStands) (λ s. Read ([], s)) (Done [])
+no_entries_exact : (c : ContextModel) → Exact things Same c (Each EntryStands) (λ s. Read ([], s)) (Done [])
 no_entries_exact c = done_exact things Same c (Each EntryStands) [] [] (λ z g w. tt)
 
-some_properties_exact : (c : Things) → Exact things Same c (Each EntryStands) some_properties (After IsMark OpenCurly (Then (IsEntries c.opaque None []) (λ es. After IsMark Greater (Done es))))
+some_properties_exact : (c : ContextModel) → Exact things Same c (Each EntryStands) some_properties (After IsMark OpenCurly (Then (IsEntries c.opaque None []) (λ es. After IsMark Greater (Done es))))
 unfolding some_properties
 some_properties_exact c =
     after_exact things Same after_typed IsMark typed_marks c (Each EntryStands) OpenCurly _ _
     (then_exact things Same c (Each EntryStands) (Each EntryStands) _ _ _ _ (entries_exact c None None [] [] (λ z g w. tt) (λ z g w. tt)) (λ d es fs g r.
     after_exact things Same after_typed IsMark typed_marks d (Each EntryStands) Greater (λ s. Read (es, s)) (Done fs) (done_exact things Same d (Each EntryStands) es fs r)))
 
-pub properties_exact : (c : Things) → Exact things Same c (Each EntryStands) properties_at (IsProperties c.opaque)
+pub properties_exact : (c : ContextModel) → Exact things Same c (Each EntryStands) properties_at (IsProperties c.opaque)
 unfolding properties_at
 properties_exact c =
     either_exact things Same after_typed IsMark typed_marks c (Each EntryStands) Less properties_from some_properties (λ s. Read ([], s)) _ _ (λ s mid. refl) (λ s. refl) (some_properties_exact c) (no_entries_exact c)
 
-pub attributes_exact : (c : Things) (op : ℕ) (name : List ℕ) (ps : Entries) (qs : List EntryTerm) → From (λ z. NameStands z op name) c → From (λ z. Each EntryStands z ps qs) c → Exact things Same c (Each EntryStands) (attributes_at op ps) (IsAttributes c.opaque name qs)
+pub attributes_exact : (c : ContextModel) (op : ℕ) (name : List ℕ) (ps : Entries) (qs : List EntryTerm) → From (λ z. NameStands z op name) c → From (λ z. Each EntryStands z ps qs) c → Exact things Same c (Each EntryStands) (attributes_at op ps) (IsAttributes c.opaque name qs)
 unfolding attributes_at
 attributes_exact c op name ps qs o p =
     either_exact things Same after_typed IsMark typed_marks c (Each EntryStands) OpenCurly (attributes_from op ps) (entries_at (Some op) ps) (λ s. Read ([], s)) (IsEntries c.opaque (Some name) qs) (Done []) (λ s mid. refl) (λ s. refl)

@@ -1,9 +1,9 @@
--- An operation that is made of numbers stands for the one that is made of what they stand for.
+-- An operation that is built from ids denotes the operation that is built from what they denote.
 use Rattle.std.specs.Prelude.{not, if◌then◌else◌}
 use Rattle.std.specs.List.{list_all}
 use Rattle.std.proofs.Common.{◌≡◌, ℕ, Bool, true, false, true≢false, List, [], ◌∷◌, ◌++◌, length, map, Some, refl, sym, ap}
 use Rattle.std.proofs.lemmas.Bool.{lt-ltb, and_from}
-use Rattle.ir_types.specs.Things.{Things}
+use Rattle.ir_types.specs.Things.{ContextModel}
 use Rattle.ir_types.specs.Terms.{TypeTerm, name_term, type_term, attr_term}
 use Rattle.ir_tree.specs.declared.value.Value.{Value}
 use Rattle.ir_tree.specs.Tree as tree
@@ -14,7 +14,7 @@ use Rattle.ir_tree.specs.Passing.{entry_passes, op_passes}
 use Rattle.ir_tree.specs.Meaning.{is_name, is_type, is_attr, key_before, key_before_in}
 use Rattle.ir_text_types.specs.Standing.{NameStands, TypeStands}
 use Rattle.ir_text_types.specs.Laws.{Each}
-use Rattle.ir_text_names.specs.declared.bound.Bound.{Bound}
+use Rattle.ir_text_names.specs.declared.bound.TypedValue.{TypedValue}
 use Rattle.ir_text_operations.specs.Entries.{moved, staying, properties_of, attributes_of}
 use Rattle.ir_text_attributes.specs.Keyed.{put_among, in_order}
 use Rattle.ir_text_attributes.specs.AttrReading.{Entries}
@@ -30,14 +30,14 @@ use Rattle.ir_text_operations.proofs.BlockLaws.{types_known, types_are}
 
 -- ---- sorted entries
 
-module _ {A B : Type 0} (R : Things → A → B → Type 0) (z : Things) where
+module _ {A B : Type 0} (R : ContextModel → A → B → Type 0) (z : ContextModel) where
   each_append : (xs : List A) (ys : List B) (us : List A) (vs : List B) → Each R z xs ys → Each R z us vs → Each R z (xs ++ us) (ys ++ vs)
   each_append [] [] us vs h k = k
   each_append [] (y ∷ ys) us vs h k = absurd h
   each_append (x ∷ xs) [] us vs h k = absurd h
   each_append (x ∷ xs) (y ∷ ys) us vs h k = (h.0, each_append xs ys us vs h.1 k)
 
-module _ {K L A B : Type 0} (R : Things → K × A → L × B → Type 0) (z : Things) (before : K → K → Bool) (earlier : L → L → Bool)
+module _ {K L A B : Type 0} (R : ContextModel → K × A → L × B → Type 0) (z : ContextModel) (before : K → K → Bool) (earlier : L → L → Bool)
     (same : (x u : K × A) (y v : L × B) → R z x y → R z u v → before x.0 u.0 ≡ earlier y.0 v.0) where
   each_among : (e : K × A) (f : L × B) (xs : List (K × A)) (ys : List (L × B)) → R z e f → Each R z xs ys → Each R z (put_among before e xs) (put_among earlier f ys)
   each_among e f [] [] r h = (r, tt)
@@ -66,44 +66,44 @@ module _ {K L A B : Type 0} (R : Things → K × A → L × B → Type 0) (z : T
     each_attributes es fs k = each_order (staying test es) (staying passes fs) (each_filter R z (λ x. not (test x.0)) (λ y. not (passes y.0)) (λ x y r. ap not (agrees x y r)) es fs k)
 
 -- in two contexts at once
-module _ {A B : Type 0} (R : Things → A → B → Type 0) (c : Things) where
-  abbrev Twice : Things → A → B → Type 0
+module _ {A B : Type 0} (R : ContextModel → A → B → Type 0) (c : ContextModel) where
+  abbrev Twice : ContextModel → A → B → Type 0
   Twice z x y = R c x y × R z x y
 
-  each_twice : (z : Things) (xs : List A) (ys : List B) → Each R c xs ys → Each R z xs ys → Each Twice z xs ys
+  each_twice : (z : ContextModel) (xs : List A) (ys : List B) → Each R c xs ys → Each R z xs ys → Each Twice z xs ys
   each_twice z [] [] h k = tt
   each_twice z [] (y ∷ ys) h k = absurd h
   each_twice z (x ∷ xs) [] h k = absurd h
   each_twice z (x ∷ xs) (y ∷ ys) h k = ((h.0, k.0), each_twice z xs ys h.1 k.1)
 
-  each_once : (z : Things) (xs : List A) (ys : List B) → Each Twice z xs ys → Each R z xs ys
+  each_once : (z : ContextModel) (xs : List A) (ys : List B) → Each Twice z xs ys → Each R z xs ys
   each_once z [] [] h = tt
   each_once z [] (y ∷ ys) h = absurd h
   each_once z (x ∷ xs) [] h = absurd h
   each_once z (x ∷ xs) (y ∷ ys) h = (h.0.1, each_once z xs ys h.1)
 
--- ---- what the parts of an operation stand for
+-- ---- the meanings of the parts of an operation
 
-entries_known : (z : Things) (es : Entries) (fs : List EntryTerm) → Each EntryStands z es fs → list_all (entry_passes (is_name z) (is_attr z)) es ≡ true
+entries_known : (z : ContextModel) (es : Entries) (fs : List EntryTerm) → Each EntryStands z es fs → list_all (entry_passes (is_name z) (is_attr z)) es ≡ true
 entries_known z [] [] h = refl
 entries_known z [] (y ∷ ys) h = absurd h
 entries_known z (x ∷ xs) [] h = absurd h
 entries_known z (x ∷ xs) (y ∷ ys) h =
     and_from (entry_passes (is_name z) (is_attr z) x) (list_all (entry_passes (is_name z) (is_attr z)) xs) (and_from (is_name z x.0) (is_attr z x.1) (lt-ltb x.0 (length z.names) h.0.0.0) (lt-ltb x.1 (length z.attrs) h.0.1.0)) (entries_known z xs ys h.1)
 
-entries_are : (z : Things) (es : Entries) (fs : List EntryTerm) → Each EntryStands z es fs → map (map_entry (name_term z) (attr_term z)) es ≡ fs
+entries_are : (z : ContextModel) (es : Entries) (fs : List EntryTerm) → Each EntryStands z es fs → map (map_entry (name_term z) (attr_term z)) es ≡ fs
 entries_are z [] [] h = refl
 entries_are z [] (y ∷ ys) h = absurd h
 entries_are z (x ∷ xs) [] h = absurd h
 entries_are z (x ∷ xs) (y ∷ ys) h = λ i. (h.0.0.1 i, h.0.1.1 i) ∷ entries_are z xs ys h.1 i
 
-values_are : (z : Things) (os : List Bound) (us : List BoundTerm) → Each BoundStands z os us → values_of os ≡ map (λ b. b.value) us
+values_are : (z : ContextModel) (os : List TypedValue) (us : List BoundTerm) → Each BoundStands z os us → values_of os ≡ map (λ b. b.value) us
 values_are z [] [] h = refl
 values_are z [] (y ∷ ys) h = absurd h
 values_are z (x ∷ xs) [] h = absurd h
 values_are z (x ∷ xs) (y ∷ ys) h = λ i. h.0.0 i ∷ values_are z xs ys h.1 i
 
-module _ (z : Things) where
+module _ (z : ContextModel) where
   arguments_known : (gs : List Region) (ys : List RegionTerm) → Each RegionStands z gs ys → all_arguments_pass (list_all (is_type z)) (regions_of gs) ≡ true
   arguments_known [] [] h = refl
   arguments_known [] (y ∷ ys) h = absurd h
@@ -125,11 +125,11 @@ module _ (z : Things) where
 
 -- ---- the operation
 
-module _ (c z : Things) (id name : ℕ) (word : List ℕ) (operands : List Bound) (uses : List BoundTerm) (ps : Entries) (qs : List EntryTerm) (es : Entries) (fs : List EntryTerm)
+module _ (c z : ContextModel) (id name : ℕ) (word : List ℕ) (operands : List TypedValue) (uses : List BoundTerm) (ps : Entries) (qs : List EntryTerm) (es : Entries) (fs : List EntryTerm)
     (outputs : List ℕ) (types : List TypeTerm) (gs : List Region) (ys : List RegionTerm)
     (first : NameStands c name word) (now : NameStands z name word) (used : Each BoundStands z operands uses) (ps_first : Each EntryStands c ps qs) (ps_now : Each EntryStands z ps qs) (es_first : Each EntryStands c es fs) (es_now : Each EntryStands z es fs)
     (typed : Each TypeStands z outputs types) (regions : Each RegionStands z gs ys) where
-  abbrev Entry : Things → ℕ × ℕ → EntryTerm → Type 0
+  abbrev Entry : ContextModel → ℕ × ℕ → EntryTerm → Type 0
   Entry = Twice EntryStands c
 
   order_agrees : (x u : ℕ × ℕ) (y v : EntryTerm) → Entry z x y → Entry z u v → key_before_in c x.0 u.0 ≡ key_before y.0 v.0

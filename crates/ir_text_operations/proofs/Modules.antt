@@ -1,9 +1,9 @@
--- The tree of a text, by the laws of operations.
+-- The tree of a text, from the theorems about operations.
 use Rattle.std.proofs.Common.{◌≡◌, ℕ, Bool, true, false, ◌&&◌, List, [], ◌∷◌, map, length, Option, Some, None, is_some, refl, sym, ap, subst, ◌∙◌, inl, inr, ⊎_elim, arith, lt-ltb}
 use Rattle.std.specs.Prelude.{IsTrue, option_map, option_and_then}
 use Rattle.ir_text_tokens.specs.declared.token.Mark.TheVariants.{End}
 use Rattle.ir_text_tokens.specs.Limits.{text_reason}
-use Rattle.ir_types.specs.Things.{Things, IsName, Grows}
+use Rattle.ir_types.specs.Things.{ContextModel, IsName, IsExtendedBy}
 use Rattle.ir_types.specs.Sound.{IsSound}
 use Rattle.ir_types.specs.Terms.{name_term, type_term, attr_term}
 use Rattle.ir_types.specs.Words.{is_isolated}
@@ -28,7 +28,7 @@ use Rattle.ir_tree.specs.Maps.{map_entry, map_ops}
 use Rattle.ir_tree.specs.Passing.{op_passes}
 use Rattle.ir_tree.specs.Meaning.{Operation, meaning, is_known, is_name, is_type, is_attr, key_before, key_before_in, rises, rises_after, dictionaries_rise}
 use Rattle.ir_tree.proofs.Mapped.{map_ids, map_operands_visible, map_depth, map_counts, map_every}
-use Rattle.ir_tree.specs.WellFormed.{IsFormed}
+use Rattle.ir_tree.specs.WellFormed.{IsValidTree}
 use Rattle.ir_text_types.specs.Grammars.{Grammar, IsMark}
 use Rattle.ir_text_types.specs.Worlds.{From}
 use Rattle.ir_text_types.specs.Laws.{Each}
@@ -51,15 +51,15 @@ use Rattle.ir_text_operations.proofs.OpLaws.{op_exact, source_exact}
 use Rattle.ir_text_attributes.proofs.Singles.{fails_wrong}
 use Rattle.ir_text_operations.proofs.BlockLaws.{ops_are, ops_known}
 
--- no module is around, and so no name is free
+-- there is no outer module, so no name is free
 abbrev pub no_free : Frees
 no_free = free_bound no_types
 
-nothing_free : (z : Things) (v : Option Value) → Both BoundStands z (option_and_then (λ x. option_map (λ ty. record { value = x; ty = ty }) (no_types x)) v) None
+nothing_free : (z : ContextModel) (v : Option Value) → Both BoundStands z (option_and_then (λ x. option_map (λ ty. record { value = x; ty = ty }) (no_types x)) v) None
 nothing_free z None = tt
 nothing_free z (Some x) = tt
 
-no_frees : (c : Things) → From (λ z. FreeStands z no_free no_names) c
+no_frees : (c : ContextModel) → From (λ z. FreeStands z no_free no_names) c
 unfolding free_bound
 no_frees c = λ z g w name. nothing_free z (value_named name)
 
@@ -69,10 +69,10 @@ reading depth = op_at no_free 1048576 depth
 abbrev pub spelling : Bool → ℕ → Grammar Seen Operation
 spelling opaque depth = IsOp opaque no_names 1048576 depth
 
-pub fresh_agrees : (first : ℕ) (bytes : List ℕ) (c : Things) → Agree held StateStands (fresh first bytes c) (seen_fresh first bytes)
+pub fresh_agrees : (first : ℕ) (bytes : List ℕ) (c : ContextModel) → Agree held StateStands (fresh first bytes c) (seen_fresh first bytes)
 fresh_agrees first bytes c z g w = (refl, (tt, tt), refl)
 
--- what was read
+-- a parse that succeeds
 abbrev pair : {A S : Type 0} → A → S → Outcome (A × S)
 pair x s = Read (x, s)
 
@@ -87,8 +87,8 @@ pub not_begun : (o : Bool) (bytes : List ℕ) → begins_module bytes ≡ false 
 unfolding IsExplicit
 not_begun o bytes e y h = let g = h.0 in absurd cc
 
--- what is spelled was read
-explicit_is : (bytes : List ℕ) (c : Things) (x : Op) (s : State) → IsSound c → reading 129 (fresh 0 bytes c) ≡ Read (x, s) → (y : Operation) → IsExplicit c.opaque bytes y
+-- a tree that the grammar derives is the one that was parsed
+explicit_is : (bytes : List ℕ) (c : ContextModel) (x : Op) (s : State) → IsSound c → reading 129 (fresh 0 bytes c) ≡ Read (x, s) → (y : Operation) → IsExplicit c.opaque bytes y
     → (y ≡ meaning s.things x) × ((rest : List ℕ) × IsMark End s.bytes rest) × (is_root y ≡ true)
 unfolding IsExplicit
 explicit_is bytes c x s sound e y h = ⊎_elim
@@ -102,7 +102,7 @@ explicit_is bytes c x s sound e y h = ⊎_elim
     ))
     ((op_exact no_free no_names 1048576 c (no_frees c) 129 c (grows_refl c)).only (fresh 0 bytes c) (seen_fresh 0 bytes) y h.1.0 (grows_refl c) sound (fresh_agrees 0 bytes c) h.1.2)
 
-pub explicit_read : (bytes : List ℕ) (c : Things) (x : Op) (s : State) (rest : List ℕ) → IsSound c → begins_module bytes ≡ true → reading 129 (fresh 0 bytes c) ≡ Read (x, s)
+pub explicit_read : (bytes : List ℕ) (c : ContextModel) (x : Op) (s : State) (rest : List ℕ) → IsSound c → begins_module bytes ≡ true → reading 129 (fresh 0 bytes c) ≡ Read (x, s)
     → after End s.bytes ≡ Some rest → is_root (meaning s.things x) ≡ true → IsOnly (IsExplicit c.opaque bytes) s.things x
 unfolding IsExplicit
 explicit_read bytes c x s rest sound begins e ends root =
@@ -115,7 +115,7 @@ explicit_read bytes c x s rest sound begins e ends root =
       only = λ y h. (explicit_is bytes c x s sound e y h).0;
     }
 
-pub explicit_whole : (bytes : List ℕ) (c : Things) (x : Op) (s : State) → IsSound c → begins_module bytes ≡ true → reading 129 (fresh 0 bytes c) ≡ Read (x, s)
+pub explicit_whole : (bytes : List ℕ) (c : ContextModel) (x : Op) (s : State) → IsSound c → begins_module bytes ≡ true → reading 129 (fresh 0 bytes c) ≡ Read (x, s)
     → (is_some (after End s.bytes) && is_root (meaning s.things x)) ≡ true → IsOnly (IsExplicit c.opaque bytes) s.things x
 explicit_whole bytes c x s sound begins e whole = by (after End s.bytes) refl whole
   where
@@ -123,27 +123,27 @@ explicit_whole bytes c x s sound begins e whole = by (after End s.bytes) refl wh
     by None k w = absurd cc
     by (Some rest) k w = explicit_read bytes c x s rest sound begins e k w
 
--- the context is full, where reading says so
+-- if the error is `Full`, the definition says that the context is full
 pub fails_full : {X Y : Type 0} (e : ReadError) (o : Outcome Y) (left : ℕ) → Fails e o → ◌≡◌ {A = Result X ReadError} (Err e) (Err (errors.Full left)) → o ≡ Full
 fails_full errors.Memory o left h k = absurd cc
 fails_full (errors.Full other) o left h k = h
 fails_full (errors.Refused g) o left h k = absurd cc
 
--- and where there is no room for the name of a module
-pub name_fills : (c : Things) → name_reason module_word c ≡ Some TooMany → name_step module_word c ≡ Full
+-- if the name of a module doesn't fit, the context is full
+pub name_fills : (c : ContextModel) → name_reason module_word c ≡ Some TooMany → name_step module_word c ≡ Full
 unfolding name_step
 name_fills c e = rw e refl
 
--- the same error of another function
+-- the same error as the result of another function
 pub error_is : {X Y : Type 0} (e g : ReadError) → ◌≡◌ {A = Result X ReadError} (Err e) (Err g) → ◌≡◌ {A = Result Y ReadError} (Err e) (Err g)
 error_is {X} {Y} e g k = let same : e ≡ g = cc in λ i. Err (same i)
 
--- the name of a module is there
-pub named_module : (c d : Things) (n : ℕ) → (n, d) ≡ with_name module_word c → IsName d n × (name_term d n ≡ module_word)
-named_module c d n e = subst (λ (p : ℕ × Things). IsName p.1 p.0 × (name_term p.1 p.0 ≡ module_word)) (sym e)
+-- the context has the name of a module
+pub named_module : (c d : ContextModel) (n : ℕ) → (n, d) ≡ with_name module_word c → IsName d n × (name_term d n ≡ module_word)
+named_module c d n e = subst (λ (p : ℕ × ContextModel). IsName p.1 p.0 × (name_term p.1 p.0 ≡ module_word)) (sym e)
     (slice_get_within _ _ _ (name_stands module_word c), new_name module_word c)
 
-pub explicit_other : (bytes : List ℕ) (c : Things) (x : Op) (s : State) → IsSound c → reading 129 (fresh 0 bytes c) ≡ Read (x, s)
+pub explicit_other : (bytes : List ℕ) (c : ContextModel) (x : Op) (s : State) → IsSound c → reading 129 (fresh 0 bytes c) ≡ Read (x, s)
     → (is_some (after End s.bytes) && is_root (meaning s.things x)) ≡ false → IsNone (IsExplicit c.opaque bytes)
 explicit_other bytes c x s sound e not_whole y h =
     let k = explicit_is bytes c x s sound e y h in
@@ -151,26 +151,26 @@ explicit_other bytes c x s sound e not_whole y h =
     let root : is_root (meaning s.things x) ≡ true = ap is_root (sym k.0) ∙ k.2 in
     let g = sym not_whole ∙ (λ i. is_some (ends i) && root i) in absurd cc
 
-pub explicit_wrong : (bytes : List ℕ) (c : Things) → IsSound c → reading 129 (fresh 0 bytes c) ≡ Wrong → IsNone (IsExplicit c.opaque bytes)
+pub explicit_wrong : (bytes : List ℕ) (c : ContextModel) → IsSound c → reading 129 (fresh 0 bytes c) ≡ Wrong → IsNone (IsExplicit c.opaque bytes)
 unfolding IsExplicit
 explicit_wrong bytes c sound e y h = ⊎_elim
     (λ (f : reading 129 (fresh 0 bytes c) ≡ Full). absurd cc)
     (λ (f : (x' : Op) × (s' : State) × (reading 129 (fresh 0 bytes c) ≡ Read (x', s')) × Step held StateStands OpStands (fresh 0 bytes c) x' y s' h.1.0). let g = f.2 in absurd cc)
     ((op_exact no_free no_names 1048576 c (no_frees c) 129 c (grows_refl c)).only (fresh 0 bytes c) (seen_fresh 0 bytes) y h.1.0 (grows_refl c) sound (fresh_agrees 0 bytes c) h.1.2)
 
--- ---- an implicit one
+-- ---- an implicit root
 
-name_is_there : (c d : Things) (n : ℕ) → Grows c d → IsName c n → is_name d n ≡ true
+name_is_there : (c d : ContextModel) (n : ℕ) → IsExtendedBy c d → IsName c n → is_name d n ≡ true
 name_is_there c d n g h = lt-ltb n (length d.names) (omega (arith, h, front_length c.names d.names g.names))
 
-with_parts : (z : Things) (n : ℕ) (xs : List Op) (ys : List Operation) → name_term z n ≡ module_word → Each OpStands z xs ys → meaning z (module_with n xs) ≡ module_of ys
+with_parts : (z : ContextModel) (n : ℕ) (xs : List Op) (ys : List Operation) → name_term z n ≡ module_word → Each OpStands z xs ys → meaning z (module_with n xs) ≡ module_of ys
 with_parts z n xs ys name h = λ i. op (record { id = 0; name = name i; operands = []; results = []; properties = []; attributes = [] }) (region (block [] (ops_are z xs ys h i)) no_regions)
 
-known_parts : (z : Things) (n : ℕ) (xs : List Op) (ys : List Operation) → is_name z n ≡ true → Each OpStands z xs ys → is_known z (module_with n xs) ≡ true
+known_parts : (z : ContextModel) (n : ℕ) (xs : List Op) (ys : List Operation) → is_name z n ≡ true → Each OpStands z xs ys → is_known z (module_with n xs) ≡ true
 known_parts z n xs ys name h = rw (name, ops_known z xs ys h) refl
 
--- the operations that are spelled were read
-body_is : (bytes : List ℕ) (c : Things) (xs : List Op) (s : State) → IsSound c → ops_at End (reading 128) 1048576 [] (fresh 1 bytes c) ≡ Read (xs, s) → (y : Operation) → IsBody c.opaque bytes y
+-- the operations that the grammar derives are the ones that were parsed
+body_is : (bytes : List ℕ) (c : ContextModel) (xs : List Op) (s : State) → IsSound c → ops_at End (reading 128) 1048576 [] (fresh 1 bytes c) ≡ Read (xs, s) → (y : Operation) → IsBody c.opaque bytes y
     → (os : List Operation) × Each OpStands s.things xs os × (y ≡ module_of os)
 unfolding IsBody
 body_is bytes c xs s sound e y h = ⊎_elim
@@ -180,7 +180,7 @@ body_is bytes c xs s sound e y h = ⊎_elim
     (h.0, subst (λ (u : List Op × State). Each OpStands u.1.things u.0 h.0) (λ i. (q.0 i, q.1 i)) (f.3.stands f.1.things (grows_refl f.1.things) f.3.sound), h.3))
     ((source_exact no_free no_names 1048576 c (no_frees c) 128 c (grows_refl c)).only (fresh 1 bytes c) (seen_fresh 1 bytes) h.0 h.1 (grows_refl c) sound (fresh_agrees 1 bytes c) h.2)
 
-body_read : (bytes : List ℕ) (c : Things) (n : ℕ) (xs : List Op) (s : State) → IsSound c → IsName c n → name_term c n ≡ module_word → ops_at End (reading 128) 1048576 [] (fresh 1 bytes c) ≡ Read (xs, s)
+body_read : (bytes : List ℕ) (c : ContextModel) (n : ℕ) (xs : List Op) (s : State) → IsSound c → IsName c n → name_term c n ≡ module_word → ops_at End (reading 128) 1048576 [] (fresh 1 bytes c) ≡ Read (xs, s)
     → IsOnly (IsBody c.opaque bytes) s.things (module_with n xs)
 unfolding IsBody
 body_read bytes c n xs s sound of_c name e =
@@ -193,24 +193,24 @@ body_read bytes c n xs s sound of_c name e =
       only = λ y h. let k = body_is bytes c xs s sound e y h in k.2 ∙ sym (with_parts s.things n xs k.0 named k.1);
     }
 
-body_wrong : (bytes : List ℕ) (c : Things) → IsSound c → ops_at End (reading 128) 1048576 [] (fresh 1 bytes c) ≡ Wrong → IsNone (IsBody c.opaque bytes)
+body_wrong : (bytes : List ℕ) (c : ContextModel) → IsSound c → ops_at End (reading 128) 1048576 [] (fresh 1 bytes c) ≡ Wrong → IsNone (IsBody c.opaque bytes)
 unfolding IsBody
 body_wrong bytes c sound e y h = ⊎_elim
     (λ (f : ops_at End (reading 128) 1048576 [] (fresh 1 bytes c) ≡ Full). absurd cc)
     (λ (f : (xs' : List Op) × (s' : State) × (ops_at End (reading 128) 1048576 [] (fresh 1 bytes c) ≡ Read (xs', s')) × Step held StateStands (Each OpStands) (fresh 1 bytes c) xs' h.0 s' h.1). let g = f.2 in absurd cc)
     ((source_exact no_free no_names 1048576 c (no_frees c) 128 c (grows_refl c)).only (fresh 1 bytes c) (seen_fresh 1 bytes) h.0 h.1 (grows_refl c) sound (fresh_agrees 1 bytes c) h.2)
 
--- in a context that grew from one of that flag
-pub body_read_in : (o : Bool) (bytes : List ℕ) (c : Things) (n : ℕ) (xs : List Op) (s : State) → c.opaque ≡ o → IsSound c → IsName c n → name_term c n ≡ module_word → ops_at End (reading 128) 1048576 [] (fresh 1 bytes c) ≡ Read (xs, s)
+-- in a context with the given flag
+pub body_read_in : (o : Bool) (bytes : List ℕ) (c : ContextModel) (n : ℕ) (xs : List Op) (s : State) → c.opaque ≡ o → IsSound c → IsName c n → name_term c n ≡ module_word → ops_at End (reading 128) 1048576 [] (fresh 1 bytes c) ≡ Read (xs, s)
     → IsOnly (IsBody o bytes) s.things (module_with n xs)
 body_read_in o bytes c n xs s mode sound of_c name e = subst (λ b. IsOnly (IsBody b bytes) s.things (module_with n xs)) mode (body_read bytes c n xs s sound of_c name e)
 
-pub body_wrong_in : (o : Bool) (bytes : List ℕ) (c : Things) → c.opaque ≡ o → IsSound c → ops_at End (reading 128) 1048576 [] (fresh 1 bytes c) ≡ Wrong → IsNone (IsBody o bytes)
+pub body_wrong_in : (o : Bool) (bytes : List ℕ) (c : ContextModel) → c.opaque ≡ o → IsSound c → ops_at End (reading 128) 1048576 [] (fresh 1 bytes c) ≡ Wrong → IsNone (IsBody o bytes)
 body_wrong_in o bytes c mode sound e = subst (λ b. IsNone (IsBody b bytes)) mode (body_wrong bytes c sound e)
 
--- ---- the one or the other
+-- ---- explicit or implicit
 
-pub root_is_source : (o : Bool) (bytes : List ℕ) (c : Things) (t : Op) → IsOnly (IsExplicit o bytes) c t → IsOnly (IsSource o bytes) c t
+pub root_is_source : (o : Bool) (bytes : List ℕ) (c : ContextModel) (t : Op) → IsOnly (IsExplicit o bytes) c t → IsOnly (IsSource o bytes) c t
 unfolding IsImplicit
 root_is_source o bytes c t h = record {
   known = h.known;
@@ -218,7 +218,7 @@ root_is_source o bytes c t h = record {
   only = λ y k. ⊎_elim (λ (e : IsExplicit o bytes y). h.only y e) (λ (i : IsImplicit o bytes y). absurd (i.0 (meaning c t) h.holds)) k;
 }
 
-pub body_is_source : (o : Bool) (bytes : List ℕ) (c : Things) (t : Op) → IsNone (IsExplicit o bytes) → IsOnly (IsBody o bytes) c t → IsOnly (IsSource o bytes) c t
+pub body_is_source : (o : Bool) (bytes : List ℕ) (c : ContextModel) (t : Op) → IsNone (IsExplicit o bytes) → IsOnly (IsBody o bytes) c t → IsOnly (IsSource o bytes) c t
 unfolding IsImplicit IsBody
 body_is_source o bytes c t none h = record {
   known = h.known;
@@ -230,9 +230,9 @@ pub no_source : (o : Bool) (bytes : List ℕ) → IsNone (IsExplicit o bytes) �
 unfolding IsImplicit IsBody
 no_source o bytes none other y k = ⊎_elim (λ (e : IsExplicit o bytes y). none y e) (λ (i : IsImplicit o bytes y). other y i.1) k
 
--- ---- what is looked at afterwards
+-- ---- the checks after the parse
 
-module _ (c : Things) where
+module _ (c : ContextModel) where
   entries_rise_after : (k : ℕ) (es : List (ℕ × ℕ)) → rises_after key_before (name_term c k) (map (map_entry (name_term c) (attr_term c)) es) ≡ rises_after (key_before_in c) k es
   entries_rise_after k [] = refl
   entries_rise_after k (e ∷ es) = λ i. key_before_in c k e.0 && entries_rise_after e.0 es i
@@ -270,7 +270,7 @@ module _ (c : Things) where
   pub none_of : (o : Bool) (bytes : List ℕ) (t : Op) → IsOnly (IsSource o bytes) c t → (IsModuleTree c t → ⊥) → IsNone (Spells o bytes)
   none_of o bytes t h not_whole y s =
       let same : y ≡ meaning c t = h.only y s.spelled in
-      let formed : IsFormed is_isolated (meaning c t) = subst (IsFormed is_isolated) same s.formed in
+      let formed : IsValidTree is_isolated (meaning c t) = subst (IsValidTree is_isolated) same s.formed in
       let numbered : IsNumberedFrom 0 (meaning c t) = subst (λ (u : Operation). ids u ≡ range_with_len 0 (length (ids u))) same s.numbered in
       let sorted : IsTrue (every (dictionaries_rise key_before) (meaning c t)) = subst (λ (u : Operation). IsTrue (every (dictionaries_rise key_before) u)) same s.sorted in
       not_whole (

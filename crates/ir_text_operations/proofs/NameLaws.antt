@@ -1,11 +1,11 @@
--- Names and the state of a reader: what they stand for, step by step.
+-- Names and the state of a parser: what they denote, step by step.
 use Rattle.std.specs.Prelude.{if◌then◌else◌, ◌==◌, option_map, is_some, take, drop}
 use Rattle.std.proofs.lemmas.Bool.{eqb-true, eq-eqb}
 use Rattle.std.proofs.Common.{◌≡◌, ◌+◌, ℕ, zero, suc, length, Bool, true, false, List, [], ◌∷◌, ◌++◌, Option, Some, None, refl, sym, ap, subst, ◌∙◌, inl, inr}
 use Rattle.ir_text_tokens.specs.declared.token.Mark.{Mark}
 use Rattle.ir_text_tokens.specs.Tokens.{Lexeme, next}
 use Rattle.ir_text_tokens.specs.Scopes.{Binding, Scopes, find, bound, entered, left, left_to}
-use Rattle.ir_types.specs.Things.{Things, Grows}
+use Rattle.ir_types.specs.Things.{ContextModel, IsExtendedBy}
 use Rattle.ir_types.specs.Sound.{IsSound}
 use Rattle.ir_types.proofs.Growth.{grows_refl, grows_trans}
 use Rattle.ir_types.specs.Terms.{TypeTerm}
@@ -19,7 +19,7 @@ use Rattle.ir_text_types.specs.Laws.{Each}
 use Rattle.ir_text_types.proofs.Worlds.{bind_read, later, Agree, Exact, Step, Comes, Reads, Marks, done_exact}
 use Rattle.ir_text_types.proofs.TextLaws.{after_found, after_only, after_none, none_after}
 use Rattle.ir_text_types.proofs.TextLaws as typed
-use Rattle.ir_text_names.specs.declared.bound.Bound.{Bound}
+use Rattle.ir_text_names.specs.declared.bound.TypedValue.{TypedValue}
 use Rattle.ir_text_names.specs.States as states
 use Rattle.ir_text_names.specs.States.{State, to_bytes, after_in, with_typed, with_scopes, inside, outside}
 use Rattle.ir_text_names.specs.BlockReading.{bind, results_of, bind_results, finish}
@@ -30,7 +30,7 @@ use Rattle.ir_text_operations.specs.Standing.{Both, PackStands, BindingStands, H
 use Rattle.ir_text_operations.proofs.EntryLaws.{each_length}
 use Rattle.ir_text_operations.proofs.FrontLaws.{known, SameText, Plain, find_stands, shift_exact, token_exact}
 
-abbrev pub held : State → Things
+abbrev pub held : State → ContextModel
 held s = s.things
 
 -- ---- the text of a state
@@ -50,7 +50,7 @@ no_rest None s e = refl
 no_rest (Some rest) s e = absurd cc
 
 abbrev Marked : Mark → State → Seen → State → Type 0
-Marked m s t s' = (t' : Seen) × IsMarkSeen m t t' × Grows s.things s'.things × IsSound s'.things × Agree held StateStands s' t'
+Marked m s t s' = (t' : Seen) × IsMarkSeen m t t' × IsExtendedBy s.things s'.things × IsSound s'.things × Agree held StateStands s' t'
 
 pub state_marks : Marks held StateStands after_in IsMarkSeen
 state_marks = record {
@@ -64,16 +64,16 @@ state_marks = record {
   lacks = λ m s t sound h e. rw (none_after m s.bytes (λ rest k. e (seen_rest t rest) (rest, subst (λ r. IsMark m r rest) (bytes_now s t sound h) k, refl))) refl;
 }
 
-module _ {A B : Type 0} (c : Things) (R : Things → A → B → Type 0) where
-  -- what is read behind the next token
-  pub behind_exact : (rest : Text) (p : Parse State A) (P : Grammar Seen B) → Exact held StateStands c R p P → Exact held StateStands c R (λ s. p (to_bytes s rest)) (λ y old new. P y (seen_rest old rest) new)
-  behind_exact rest p P k = shift_exact held StateStands c R (λ s. to_bytes s rest) (λ t. seen_rest t rest) p P (λ s t sound a. (grows_refl s.things, sound, rest_agrees s t rest a)) k
+module _ {A B : Type 0} (c : ContextModel) (R : ContextModel → A → B → Type 0) where
+  -- the parse after the next token
+  pub trailing_exact : (rest : Text) (p : Parse State A) (P : Grammar Seen B) → Exact held StateStands c R p P → Exact held StateStands c R (λ s. p (to_bytes s rest)) (λ y old new. P y (seen_rest old rest) new)
+  trailing_exact rest p P k = shift_exact held StateStands c R (λ s. to_bytes s rest) (λ t. seen_rest t rest) p P (λ s t sound a. (grows_refl s.things, sound, rest_agrees s t rest a)) k
 
   pub state_token : (f : State → Lexeme → List ℕ → Outcome (A × State)) (F : Lexeme → List ℕ → Grammar Seen B) → ((l : Lexeme) (rest : Text) → Exact held StateStands c R (λ s. f s l rest) (F l rest))
       → Exact held StateStands c R (λ s. of_option (next s.bytes) >>= λ l. f s l.0 l.1) (λ y old new. (l : Lexeme) × (rest : Text) × Token l old.bytes rest × F l rest y old new)
   state_token f F each = token_exact held StateStands (λ s. s.bytes) (λ t. t.bytes) (λ z s t k. k.0) c R f F each
 
--- ---- what a text and the things read alone
+-- ---- parsers of the text and the context alone
 
 abbrev pub in_typed : {A : Type 0} → Parse Typed A → Parse State A
 in_typed p s = p (states.typed s) >>= λ x. Read (x.0, with_typed s x.1)
@@ -81,7 +81,7 @@ in_typed p s = p (states.typed s) >>= λ x. Read (x.0, with_typed s x.1)
 abbrev pub in_text : {A : Type 0} → Parse Text A → Parse State A
 in_text p s = p s.bytes >>= λ x. Read (x.0, to_bytes s x.1)
 
-module _ {A B : Type 0} (c : Things) (R : Things → A → B → Type 0) where
+module _ {A B : Type 0} (c : ContextModel) (R : ContextModel → A → B → Type 0) where
   module _ (p : Parse Typed A) (P : Grammar Text B) (k : Exact typed.things typed.Same c R p P) where
     abbrev put : State → A × Typed → Outcome (A × State)
     put s x = Read (x.0, with_typed s x.1)
@@ -104,7 +104,7 @@ module _ {A B : Type 0} (c : Things) (R : Things → A → B → Type 0) where
           subst (λ u. Reads held StateStands R s (p (states.typed s) >>= put s) y u) (sym j.2) (typed_reads s t (p (states.typed s)) y j.0 h (k.only (states.typed s) t.bytes y j.0 g sound (λ z i w. (h z i w).0) j.1));
     }
 
-  module _ (p : Parse Text A) (P : Grammar Text B) (k : (d : Things) → Grows c d → Plain d R p P) where
+  module _ (p : Parse Text A) (P : Grammar Text B) (k : (d : ContextModel) → IsExtendedBy c d → Plain d R p P) where
     abbrev put_text : State → A × Text → Outcome (A × State)
     put_text s x = Read (x.0, to_bytes s x.1)
 
@@ -128,30 +128,30 @@ module _ {A B : Type 0} (c : Things) (R : Things → A → B → Type 0) where
 
 -- ---- scopes
 
--- one more of each
-pub each_more : {A B : Type 0} (R : Things → A → B → Type 0) (z : Things) (xs : List A) (ys : List B) (x : A) (y : B) → Each R z xs ys → R z x y → Each R z (xs ++ x ∷ []) (ys ++ y ∷ [])
+-- related lists with one more item
+pub each_more : {A B : Type 0} (R : ContextModel → A → B → Type 0) (z : ContextModel) (xs : List A) (ys : List B) (x : A) (y : B) → Each R z xs ys → R z x y → Each R z (xs ++ x ∷ []) (ys ++ y ∷ [])
 each_more R z [] [] x y h r = (r, tt)
 each_more R z [] (v ∷ ys) x y h r = absurd h
 each_more R z (u ∷ xs) [] x y h r = absurd h
 each_more R z (u ∷ xs) (v ∷ ys) x y h r = (h.0, each_more R z xs ys x y h.1 r)
 
-bound_stand : (z : Things) (name : List ℕ) (b : List Bound) (y : PackTerm) (s : Scopes (List Bound)) (t : Scopes PackTerm) → PackStands z b y → ScopesStand z s t → ScopesStand z (bound name b s) (bound name y t)
+bound_stand : (z : ContextModel) (name : List ℕ) (b : List TypedValue) (y : PackTerm) (s : Scopes (List TypedValue)) (t : Scopes PackTerm) → PackStands z b y → ScopesStand z s t → ScopesStand z (bound name b s) (bound name y t)
 bound_stand z name b y s t r h = (each_more BindingStands z s.here t.here (record { name = name; value = b }) (record { name = name; value = y }) h.0 (refl, r), h.1)
 
-entered_stand : (z : Things) (isolated : Bool) (s : Scopes (List Bound)) (t : Scopes PackTerm) → ScopesStand z s t → ScopesStand z (entered isolated s) (entered isolated t)
+entered_stand : (z : ContextModel) (isolated : Bool) (s : Scopes (List TypedValue)) (t : Scopes PackTerm) → ScopesStand z s t → ScopesStand z (entered isolated s) (entered isolated t)
 entered_stand z true s t h = (tt, (h.0, h.1))
 entered_stand z false s t h = (h.0, (h.0, h.1))
 
-left_stand : (z : Things) (s : Scopes (List Bound)) (t : Scopes PackTerm) → ScopesStand z s t → ScopesStand z (left s) (left t)
+left_stand : (z : ContextModel) (s : Scopes (List TypedValue)) (t : Scopes PackTerm) → ScopesStand z s t → ScopesStand z (left s) (left t)
 left_stand z s t h = by_outer s.outer t.outer h.1
   where
-    by_outer : (us : List (List (Binding (List Bound)))) (vs : List (List (Binding PackTerm))) → Each HereStands z us vs → ScopesStand z (left_to s us) (left_to t vs)
+    by_outer : (us : List (List (Binding (List TypedValue)))) (vs : List (List (Binding PackTerm))) → Each HereStands z us vs → ScopesStand z (left_to s us) (left_to t vs)
     by_outer [] [] k = h
     by_outer [] (v ∷ vs) k = absurd k
     by_outer (u ∷ us) [] k = absurd k
     by_outer (u ∷ us) (v ∷ vs) k = k
 
-module _ {A B : Type 0} (c : Things) (R : Things → A → B → Type 0) where
+module _ {A B : Type 0} (c : ContextModel) (R : ContextModel → A → B → Type 0) where
   -- a region begins, and ends
   pub inside_exact : (isolated : Bool) (p : Parse State A) (P : Grammar Seen B) → Exact held StateStands c R p P → Exact held StateStands c R (λ s. p (inside isolated s)) (λ y old new. P y (seen_inside isolated old) new)
   inside_exact isolated p P k =
@@ -161,26 +161,26 @@ module _ {A B : Type 0} (c : Things) (R : Things → A → B → Type 0) where
   outside_exact x y r =
       shift_exact held StateStands c R outside seen_outside (λ s. Read (x, s)) (Done y) (λ s t sound a. (grows_refl s.things, sound, λ z g w. let now = a z g w in (now.0, left_stand z s.scopes t.scopes now.1, now.2))) (done_exact held StateStands c R x y r)
 
--- what binds names, and what the grammar says of it
-pub record Scoped (c : Things) (f : Scopes (List Bound) → Outcome (Scopes (List Bound))) (F : Scopes PackTerm → Scopes PackTerm → Type 0) : Type 0 where
-  pub found : (d : Things) (s : Scopes (List Bound)) (t : Scopes PackTerm) (s' : Scopes (List Bound)) → Grows c d → IsSound d → From (λ z. ScopesStand z s t) d → f s ≡ Read s' → (t' : Scopes PackTerm) × F t t' × From (λ z. ScopesStand z s' t') d
-  pub only : (d : Things) (s : Scopes (List Bound)) (t t' : Scopes PackTerm) → Grows c d → IsSound d → From (λ z. ScopesStand z s t) d → F t t' → (s' : Scopes (List Bound)) × (f s ≡ Read s') × From (λ z. ScopesStand z s' t') d
+-- a function that binds names agrees with the relation of the grammar
+pub record Scoped (c : ContextModel) (f : Scopes (List TypedValue) → Outcome (Scopes (List TypedValue))) (F : Scopes PackTerm → Scopes PackTerm → Type 0) : Type 0 where
+  pub found : (d : ContextModel) (s : Scopes (List TypedValue)) (t : Scopes PackTerm) (s' : Scopes (List TypedValue)) → IsExtendedBy c d → IsSound d → From (λ z. ScopesStand z s t) d → f s ≡ Read s' → (t' : Scopes PackTerm) × F t t' × From (λ z. ScopesStand z s' t') d
+  pub only : (d : ContextModel) (s : Scopes (List TypedValue)) (t t' : Scopes PackTerm) → IsExtendedBy c d → IsSound d → From (λ z. ScopesStand z s t) d → F t t' → (s' : Scopes (List TypedValue)) × (f s ≡ Read s') × From (λ z. ScopesStand z s' t') d
 
-none_there : {A B : Type 0} (R : Things → A → B → Type 0) (z : Things) (o : Option A) (u : Option B) → Both R z o u → o ≡ None → u ≡ None
+none_there : {A B : Type 0} (R : ContextModel → A → B → Type 0) (z : ContextModel) (o : Option A) (u : Option B) → Both R z o u → o ≡ None → u ≡ None
 none_there R z o None h e = refl
 none_there R z None (Some y) h e = absurd h
 none_there R z (Some x) (Some y) h e = absurd cc
 
-none_here : {A B : Type 0} (R : Things → A → B → Type 0) (z : Things) (o : Option A) (u : Option B) → Both R z o u → u ≡ None → o ≡ None
+none_here : {A B : Type 0} (R : ContextModel → A → B → Type 0) (z : ContextModel) (o : Option A) (u : Option B) → Both R z o u → u ≡ None → o ≡ None
 none_here R z None u h e = refl
 none_here R z (Some x) None h e = absurd h
 none_here R z (Some x) (Some y) h e = absurd cc
 
-free_read : {A : Type 0} (o : Option A) (s s' : Scopes (List Bound)) → (if is_some o then Wrong else Read s) ≡ Read s' → (o ≡ None) × (s ≡ s')
+free_read : {A : Type 0} (o : Option A) (s s' : Scopes (List TypedValue)) → (if is_some o then Wrong else Read s) ≡ Read s' → (o ≡ None) × (s ≡ s')
 free_read None s s' e = (refl, cc)
 free_read (Some x) s s' e = absurd cc
 
-pub bind_scoped : (c : Things) (name : List ℕ) (b : List Bound) (y : PackTerm) → From (λ z. PackStands z b y) c → Scoped c (bind name b) (IsBound name y)
+pub bind_scoped : (c : ContextModel) (name : List ℕ) (b : List TypedValue) (y : PackTerm) → From (λ z. PackStands z b y) c → Scoped c (bind name b) (IsBound name y)
 unfolding bind
 bind_scoped c name b y r = record {
   found = λ d s t s' g sound h e.
@@ -194,13 +194,13 @@ bind_scoped c name b y r = record {
       (bound name b s, rw free refl, subst (λ u. From (λ z. ScopesStand z (bound name b s) u) d) (sym k.1) (λ z j w. bound_stand z name b y s t (r z (grows_trans c d z g j) w) (h z j w)));
 }
 
-same_scoped : (c : Things) → Scoped c (λ s. Read s) (λ old new. new ≡ old)
+same_scoped : (c : ContextModel) → Scoped c (λ s. Read s) (λ old new. new ≡ old)
 same_scoped c = record {
   found = λ d s t s' g sound h e. let same : s ≡ s' = cc in (t, refl, subst (λ u. From (λ z. ScopesStand z u t) d) same h);
   only = λ d s t t' g sound h k. (s, refl, subst (λ u. From (λ z. ScopesStand z s u) d) (sym k) h);
 }
 
-then_scoped : (c : Things) (f g : Scopes (List Bound) → Outcome (Scopes (List Bound))) (F G : Scopes PackTerm → Scopes PackTerm → Type 0) → Scoped c f F → Scoped c g G → Scoped c (λ s. f s >>= g) (λ old new. (mid : Scopes PackTerm) × F old mid × G mid new)
+then_scoped : (c : ContextModel) (f g : Scopes (List TypedValue) → Outcome (Scopes (List TypedValue))) (F G : Scopes PackTerm → Scopes PackTerm → Type 0) → Scoped c f F → Scoped c g G → Scoped c (λ s. f s >>= g) (λ old new. (mid : Scopes PackTerm) × F old mid × G mid new)
 then_scoped c f g F G first second = record {
   found = λ d s t s' up sound h e.
       let b = bind_read (f s) g s' e in
@@ -213,14 +213,14 @@ then_scoped c f g F G first second = record {
       (n.0, ap (λ o. o >>= g) k.1 ∙ n.1, n.2);
 }
 
-results_stand : (z : Things) (id k : ℕ) (xs : List ℕ) (ys : List TypeTerm) → Each TypeStands z xs ys → PackStands z (results_of id k xs) (result_terms id k ys)
+results_stand : (z : ContextModel) (id k : ℕ) (xs : List ℕ) (ys : List TypeTerm) → Each TypeStands z xs ys → PackStands z (results_of id k xs) (result_terms id k ys)
 unfolding results_of
 results_stand z id k [] [] h = tt
 results_stand z id k [] (y ∷ ys) h = absurd h
 results_stand z id k (x ∷ xs) [] h = absurd h
 results_stand z id k (x ∷ xs) (y ∷ ys) h = ((refl, h.0), results_stand z id (k + 1) xs ys h.1)
 
-module _ {A B : Type 0} (R : Things → A → B → Type 0) (z : Things) where
+module _ {A B : Type 0} (R : ContextModel → A → B → Type 0) (z : ContextModel) where
   each_take : (n : ℕ) (xs : List A) (ys : List B) → Each R z xs ys → Each R z (take n xs) (take n ys)
   each_take zero xs ys h = tt
   each_take (suc n) [] [] h = tt
@@ -235,7 +235,7 @@ module _ {A B : Type 0} (R : Things → A → B → Type 0) (z : Things) where
   each_drop (suc n) (x ∷ xs) [] h = absurd h
   each_drop (suc n) (x ∷ xs) (y ∷ ys) h = each_drop n xs ys h.1
 
-results_scoped : (id k : ℕ) (c : Things) (names : List Counted) (xs : List ℕ) (ys : List TypeTerm) → From (λ z. Each TypeStands z xs ys) c → Scoped c (bind_results id k names xs) (IsBoundResults id k names ys)
+results_scoped : (id k : ℕ) (c : ContextModel) (names : List Counted) (xs : List ℕ) (ys : List TypeTerm) → From (λ z. Each TypeStands z xs ys) c → Scoped c (bind_results id k names xs) (IsBoundResults id k names ys)
 unfolding bind_results
 results_scoped id k c [] xs ys r = same_scoped c
 results_scoped id k c (n ∷ ns) xs ys r =
@@ -243,8 +243,8 @@ results_scoped id k c (n ∷ ns) xs ys r =
     (bind_scoped c n.0 (results_of id k (take n.1 xs)) (result_terms id k (take n.1 ys)) (λ z g w. results_stand z id k (take n.1 xs) (take n.1 ys) (each_take TypeStands z n.1 xs ys (r z g w))))
     (results_scoped id (k + n.1) c ns (drop n.1 xs) (drop n.1 ys) (λ z g w. each_drop TypeStands z n.1 xs ys (r z g w)))
 
--- where as many are counted as there are
-counted_scoped : (c : Things) (n : ℕ) (xs : List ℕ) (ys : List TypeTerm) (f : Scopes (List Bound) → Outcome (Scopes (List Bound))) (F : Scopes PackTerm → Scopes PackTerm → Type 0) → From (λ z. Each TypeStands z xs ys) c → Scoped c f F
+-- if the counts sum up to the number of results
+counted_scoped : (c : ContextModel) (n : ℕ) (xs : List ℕ) (ys : List TypeTerm) (f : Scopes (List TypedValue) → Outcome (Scopes (List TypedValue))) (F : Scopes PackTerm → Scopes PackTerm → Type 0) → From (λ z. Each TypeStands z xs ys) c → Scoped c f F
     → Scoped c (λ s. if n == length xs then f s else Wrong) (λ old new. (n ≡ length ys) × F old new)
 counted_scoped c n xs ys f F r k = record {
   found = λ d s t s' g sound h e.
@@ -257,23 +257,23 @@ counted_scoped c n xs ys f F r k = record {
       (m.0, rw test m.1, m.2);
 }
   where
-    test_read : (b : Bool) (o : Outcome (Scopes (List Bound))) (s' : Scopes (List Bound)) → (if b then o else Wrong) ≡ Read s' → (b ≡ true) × (o ≡ Read s')
+    test_read : (b : Bool) (o : Outcome (Scopes (List TypedValue))) (s' : Scopes (List TypedValue)) → (if b then o else Wrong) ≡ Read s' → (b ≡ true) × (o ≡ Read s')
     test_read true o s' e = (refl, e)
     test_read false o s' e = absurd cc
 
-pub finish_scoped : (id : ℕ) (c : Things) (names : Option (List Counted)) (xs : List ℕ) (ys : List TypeTerm) → From (λ z. Each TypeStands z xs ys) c → Scoped c (finish id names xs) (IsFinished id names ys)
+pub finish_scoped : (id : ℕ) (c : ContextModel) (names : Option (List Counted)) (xs : List ℕ) (ys : List TypeTerm) → From (λ z. Each TypeStands z xs ys) c → Scoped c (finish id names xs) (IsFinished id names ys)
 finish_scoped id c None xs ys r = same_scoped c
 finish_scoped id c (Some names) xs ys r = counted_scoped c (counts names) xs ys (bind_results id 0 names xs) (IsBoundResults id 0 names ys) r (results_scoped id 0 c names xs ys r)
 
--- binding in a state
-module _ {A B : Type 0} (c : Things) (R : Things → A → B → Type 0) (x : A) (y : B) (stands : From (λ z. R z x y) c) (f : Scopes (List Bound) → Outcome (Scopes (List Bound))) (F : Scopes PackTerm → Scopes PackTerm → Type 0) (k : Scoped c f F) where
+-- binding names in a state
+module _ {A B : Type 0} (c : ContextModel) (R : ContextModel → A → B → Type 0) (x : A) (y : B) (stands : From (λ z. R z x y) c) (f : Scopes (List TypedValue) → Outcome (Scopes (List TypedValue))) (F : Scopes PackTerm → Scopes PackTerm → Type 0) (k : Scoped c f F) where
   abbrev Scoping : Grammar Seen B
   Scoping v old new = (scopes : Scopes PackTerm) × F old.scopes scopes × (v ≡ y) × (new ≡ seen_scopes old scopes)
 
-  scoped_step : (s : State) (t : Seen) (u : Scopes (List Bound)) (v : Scopes PackTerm) → Grows c s.things → IsSound s.things → Agree held StateStands s t → From (λ z. ScopesStand z u v) s.things → Step held StateStands R s x y (with_scopes s u) (seen_scopes t v)
+  scoped_step : (s : State) (t : Seen) (u : Scopes (List TypedValue)) (v : Scopes PackTerm) → IsExtendedBy c s.things → IsSound s.things → Agree held StateStands s t → From (λ z. ScopesStand z u v) s.things → Step held StateStands R s x y (with_scopes s u) (seen_scopes t v)
   scoped_step s t u v g sound h new = record { grows = grows_refl s.things; sound = sound; stands = later (λ z. R z x y) c s.things g stands; agree = λ z j w. let now = h z j w in (now.0, new z j w, now.2) }
 
-  abbrev put_scopes : State → Scopes (List Bound) → Outcome (A × State)
+  abbrev put_scopes : State → Scopes (List TypedValue) → Outcome (A × State)
   put_scopes s u = Read (x, with_scopes s u)
 
   pub scoped_exact : Exact held StateStands c R (λ s. f s.scopes >>= λ u. Read (x, with_scopes s u)) Scoping

@@ -1,4 +1,4 @@
--- Operations that are read are spelled, and operations that are spelled are read.
+-- The parser and the grammar of operations agree.
 use Rattle.std.specs.Prelude.{if◌then◌else◌, option_map, nat_lt, IsTrue}
 use Rattle.std.specs.List.{list_all}
 use Rattle.std.specs.Str.{bytes_eq}
@@ -6,7 +6,7 @@ use Rattle.std.proofs.Common.{◌≡◌, ◌<◌, ◌+◌, ℕ, zero, suc, Bool,
 use Rattle.std.proofs.lemmas.Bool.{ltb-true, lt-ltb, and_from}
 use Rattle.ir_text_tokens.specs.declared.token.Mark.TheVariants.{CloseCurly, Colon, End}
 use Rattle.ir_text_tokens.specs.Scopes.{Binding, Scopes}
-use Rattle.ir_types.specs.Things.{Things, Grows}
+use Rattle.ir_types.specs.Things.{ContextModel, IsExtendedBy}
 use Rattle.ir_types.specs.Terms.{TypeTerm}
 use Rattle.ir_types.specs.Words.{is_isolated}
 use Rattle.ir_types.specs.Sound.{IsSound}
@@ -27,7 +27,7 @@ use Rattle.ir_text_types.proofs.Worlds.{bind_assoc, later, Exact, Step, Reads, e
 use Rattle.ir_text_types.proofs.TextLaws.{things, Same}
 use Rattle.ir_text_types.proofs.TypeLaws.{function_type_exact}
 use Rattle.ir_text_attributes.proofs.NodeLaws as attrs
-use Rattle.ir_text_names.specs.declared.bound.Bound.{Bound}
+use Rattle.ir_text_names.specs.declared.bound.TypedValue.{TypedValue}
 use Rattle.ir_text_names.specs.States.{State, to_bytes, after_in, typed, with_typed, with_scopes, fresh}
 use Rattle.ir_text_operations.specs.FrontReading.{Frees, Start, start_at}
 use Rattle.ir_text_attributes.specs.AttrReading.{Entries}
@@ -47,14 +47,14 @@ use Rattle.ir_text_operations.proofs.MadeLaws.{op_stands}
 
 -- ---- tests
 
-module _ {A B : Type 0} (c : Things) (R : Things → A → B → Type 0) where
-  -- where a test decides what the grammar asks for
+module _ {A B : Type 0} (c : ContextModel) (R : ContextModel → A → B → Type 0) where
+  -- a test that decides the condition of the grammar
   pub when_exact : (b : Bool) (F : Type 0) (p : Parse State A) (P : Grammar Seen B) → (b ≡ true → F) → (F → b ≡ true) → Exact held StateStands c R p P → Exact held StateStands c R (λ s. if b then p s else Wrong) (When F P)
   when_exact true F p P into back k = exact_spelled held StateStands c R p P (When F P) (λ y t t' j. (into refl, j)) (λ y t t' j. j.1) k
   when_exact false F p P into back k =
       exact_spelled held StateStands c R (λ s. Wrong) (λ y old new. ⊥) (When F P) (λ y t t' j. absurd j) (λ y t t' j. absurd (true≢false (sym (back j.0)))) (nothing_exact held StateStands c R)
 
-  -- one value alone is spelled, by nothing
+  -- a parser of a single possible value
   pub alone_exact : (p : Parse State A) (y : B) → Exact held StateStands c R p (Done y) → Exact held StateStands c (λ z x (u : Unit {0}). R z x y) p (Done tt)
   alone_exact p y k = record {
     found = λ s t x s' g sound h e.
@@ -70,13 +70,13 @@ module _ {A B : Type 0} (c : Things) (R : Things → A → B → Type 0) where
 
 -- ---- the types of operands
 
-operand_types : (z : Things) (os : List Bound) (us : List BoundTerm) → Each BoundStands z os us → Each TypeStands z (bound_types os) (map (λ b. b.type) us)
+operand_types : (z : ContextModel) (os : List TypedValue) (us : List BoundTerm) → Each BoundStands z os us → Each TypeStands z (bound_types os) (map (λ b. b.type) us)
 operand_types z [] [] h = tt
 operand_types z [] (y ∷ ys) h = absurd h
 operand_types z (x ∷ xs) [] h = absurd h
 operand_types z (x ∷ xs) (y ∷ ys) h = (h.0.1, operand_types z xs ys h.1)
 
-types_one : (z : Things) → IsSound z → (xs us : List ℕ) (ys : List TypeTerm) → Each TypeStands z xs ys → Each TypeStands z us ys → xs ≡ us
+types_one : (z : ContextModel) → IsSound z → (xs us : List ℕ) (ys : List TypeTerm) → Each TypeStands z xs ys → Each TypeStands z us ys → xs ≡ us
 types_one z sound [] [] [] h k = refl
 types_one z sound [] (u ∷ us) [] h k = absurd k
 types_one z sound (x ∷ xs) us [] h k = absurd h
@@ -84,7 +84,7 @@ types_one z sound [] us (y ∷ ys) h k = absurd h
 types_one z sound (x ∷ xs) [] (y ∷ ys) h k = absurd k
 types_one z sound (x ∷ xs) (u ∷ us) (y ∷ ys) h k = let same = type_term_one z x u sound h.0.0 k.0.0 (h.0.1 ∙ sym k.0.1) in λ i. same i ∷ types_one z sound xs us ys h.1 k.1 i
 
-terms_one : (z : Things) (xs : List ℕ) (ys vs : List TypeTerm) → Each TypeStands z xs ys → Each TypeStands z xs vs → ys ≡ vs
+terms_one : (z : ContextModel) (xs : List ℕ) (ys vs : List TypeTerm) → Each TypeStands z xs ys → Each TypeStands z xs vs → ys ≡ vs
 terms_one z [] [] [] h k = refl
 terms_one z [] (y ∷ ys) vs h k = absurd h
 terms_one z [] [] (v ∷ vs) h k = absurd k
@@ -92,9 +92,9 @@ terms_one z (x ∷ xs) [] vs h k = absurd h
 terms_one z (x ∷ xs) (y ∷ ys) [] h k = absurd k
 terms_one z (x ∷ xs) (y ∷ ys) (v ∷ vs) h k = λ i. (sym h.0.1 ∙ k.0.1) i ∷ terms_one z xs ys vs h.1 k.1 i
 
--- ---- behind the regions
+-- ---- after the regions
 
-signature_read : (o : Bool) (c : Things) → c.opaque ≡ o → Exact things Same c SignatureStands signature_here (IsFunctionType o)
+signature_read : (o : Bool) (c : ContextModel) → c.opaque ≡ o → Exact things Same c SignatureStands signature_here (IsFunctionType o)
 signature_read o c mode =
     exact_where things Same c SignatureStands signature_here (function_type_at o) (IsFunctionType o) (λ s g sound. ap (λ b. function_type_at b s) (g.opaque ∙ mode))
     (function_type_exact o c)
@@ -106,7 +106,7 @@ abbrev SignatureTerm : Type 0
 SignatureTerm = List TypeTerm × List TypeTerm
 
 module _ (id name : ℕ) (h : Start) (ps : Entries) (gs : List Region) where
-  abbrev ended : Things → Entries → Signature → State → Outcome (Op × State)
+  abbrev ended : ContextModel → Entries → Signature → State → Outcome (Op × State)
   ended c es sig s = (if bytes_eq (bound_types h.operands) sig.0 then finish id h.results sig.1 s.scopes else Wrong) >>= λ u. Read (op_of c id name h.operands ps es sig.1 gs, with_scopes s u)
 
   abbrev ends : Entries → Signature → State → Outcome (Op × State)
@@ -143,7 +143,7 @@ module _ (id name : ℕ) (h : Start) (ps : Entries) (gs : List Region) where
     abbrev Checked : List EntryTerm → SignatureTerm → Grammar Seen Operation
     Checked fs sig = When (map (λ b. b.type) begin.operands ≡ sig.0) (Ends fs sig.1)
 
-    module _ (c : Things) (sound : IsSound c) (starts : From (λ z. StartStands z h begin) c) (names : From (λ z. NameStands z name begin.name) c) (before : From (λ z. Each EntryStands z ps qs) c) (regions : From (λ z. Each RegionStands z gs ys) c)
+    module _ (c : ContextModel) (sound : IsSound c) (starts : From (λ z. StartStands z h begin) c) (names : From (λ z. NameStands z name begin.name) c) (before : From (λ z. Each EntryStands z ps qs) c) (regions : From (λ z. Each RegionStands z gs ys) c)
         (es : Entries) (fs : List EntryTerm) (sig : Signature) (terms : SignatureTerm) (entries : From (λ z. Each EntryStands z es fs) c) (types : From (λ z. SignatureStands z sig terms) c) where
       abbrev op_now : Op
       op_now = op_of c id name h.operands ps es sig.1 gs
@@ -187,7 +187,7 @@ module _ (id name : ℕ) (h : Start) (ps : Entries) (gs : List Region) where
           (λ s g w. test_out (bytes_eq (bound_types h.operands) sig.0) s)
           (when_exact c OpStands (bytes_eq (bound_types h.operands) sig.0) (map (λ b. b.type) begin.operands ≡ terms.0) finishing (Ends fs terms.1) fits fits_back finished_exact)
 
-    pub tail_exact : (c : Things) → From (λ z. StartStands z h begin) c → From (λ z. NameStands z name begin.name) c → From (λ z. Each EntryStands z ps qs) c → From (λ z. Each RegionStands z gs ys) c
+    pub tail_exact : (c : ContextModel) → From (λ z. StartStands z h begin) c → From (λ z. NameStands z name begin.name) c → From (λ z. Each EntryStands z ps qs) c → From (λ z. Each RegionStands z gs ys) c
         → Exact held StateStands c OpStands (tail_at id name h ps gs) (IsTail c.opaque id begin qs ys)
     tail_exact c starts names before regions =
         exact_where held StateStands c OpStands (tail_at id name h ps gs) tail_in (IsTail c.opaque id begin qs ys) (λ s g sound. tail_same s)
@@ -218,7 +218,7 @@ done_alone Q y t t' k = subst (λ m. Q y m t') k.2.1 k.3
 alone_done : {B : Type 0} (Q : Grammar Seen B) (y : B) (t t' : Seen) → Q y t t' → Then (Done {B = Unit {0}} tt) (λ u. Q) y t t'
 alone_done Q y t t' k = (tt, t, (refl, refl), k)
 
-module _ (free : Frees) (outer : FreeTerms) (base : Things) (frees : From (λ z. FreeStands z free outer) base) (p : Parse State (List Op)) (P : Grammar Seen (List Operation)) (body : (c : Things) → Grows base c → Exact held StateStands c (Each OpStands) p P) where
+module _ (free : Frees) (outer : FreeTerms) (base : ContextModel) (frees : From (λ z. FreeStands z free outer) base) (p : Parse State (List Op)) (P : Grammar Seen (List Operation)) (body : (c : ContextModel) → IsExtendedBy base c → Exact held StateStands c (Each OpStands) p P) where
   abbrev at_regions : ℕ → Start → ℕ → Bool → Entries → State → Outcome (Op × State)
   at_regions id h n isolated es s = regions_at p id isolated s >>= λ rs. tail_at id n h es rs.0 rs.1
 
@@ -228,7 +228,7 @@ module _ (free : Frees) (outer : FreeTerms) (base : Things) (frees : From (λ z.
   abbrev at_name : ℕ → Start → State → Outcome (Op × State)
   at_name id h s = in_typed (name_in h.name) s >>= λ n. at_properties id h n.0 (isolated_in n.1.things n.0) n.1
 
-  abbrev at_start : List (Binding (List Bound)) → ℕ → State → Outcome (Op × State)
+  abbrev at_start : List (Binding (List TypedValue)) → ℕ → State → Outcome (Op × State)
   at_start here id s = in_text (start_at free here) s >>= λ h. at_name id h.0 h.1
 
   properties_same : (id : ℕ) (h : Start) (n : ℕ) (isolated : Bool) (s : State) → (properties_at (typed s) >>= λ e. at_regions id h n isolated e.0 (begun s e.1)) ≡ at_properties id h n isolated s
@@ -270,30 +270,30 @@ module _ (free : Frees) (outer : FreeTerms) (base : Things) (frees : From (λ z.
   started_back : (y : Operation) (t t' : Seen) → IsOpWith base.opaque outer P y t t' → Started t.scopes.here t.next y t t'
   started_back y t t' k = (k.0, seen_rest t k.1, (k.1, k.4, refl), (k.2, seen_rest t k.3, (k.3, k.5, refl), k.6))
 
-  -- in a context that grew, as in the base
-  properties_here : (c : Things) → Grows base c → Exact things Same c (Each EntryStands) properties_at (IsProperties base.opaque)
+  -- in a context that extends the base
+  properties_here : (c : ContextModel) → IsExtendedBy base c → Exact things Same c (Each EntryStands) properties_at (IsProperties base.opaque)
   properties_here c b = subst (λ o. Exact things Same c (Each EntryStands) properties_at (IsProperties o)) b.opaque (properties_exact c)
 
   module _ (id : ℕ) (h : Start) (begin : StartTerm) where
-    regioned_exact : (c : Things) → Grows base c → (n : ℕ) (es : Entries) (qs : List EntryTerm) → From (λ z. StartStands z h begin) c → From (λ z. NameStands z n begin.name) c → From (λ z. Each EntryStands z es qs) c
+    regioned_exact : (c : ContextModel) → IsExtendedBy base c → (n : ℕ) (es : Entries) (qs : List EntryTerm) → From (λ z. StartStands z h begin) c → From (λ z. NameStands z n begin.name) c → From (λ z. Each EntryStands z es qs) c
         → Exact held StateStands c OpStands (at_regions id h n (is_isolated begin.name) es) (Regioned id begin qs)
     regioned_exact c b n es qs starts names before =
         then_exact held StateStands c (Each RegionStands) OpStands (regions_at p id (is_isolated begin.name)) (IsRegions base.opaque P id (is_isolated begin.name)) (λ gs. tail_at id n h es gs) (λ ys. IsTail base.opaque id begin qs ys) (regions_exact p P base body id (is_isolated begin.name) c b) (λ d gs ys g stand.
         subst (λ o. Exact held StateStands d OpStands (tail_at id n h es gs) (IsTail o id begin qs ys)) (g.opaque ∙ b.opaque)
         (tail_exact id n h es gs begin qs ys d (later (λ z. StartStands z h begin) c d g starts) (later (λ z. NameStands z n begin.name) c d g names) (later (λ z. Each EntryStands z es qs) c d g before) stand))
 
-    propertied_exact : (c : Things) → Grows base c → (n : ℕ) → From (λ z. StartStands z h begin) c → From (λ z. NameStands z n begin.name) c → Exact held StateStands c OpStands (at_properties id h n (is_isolated begin.name)) (Propertied id begin)
+    propertied_exact : (c : ContextModel) → IsExtendedBy base c → (n : ℕ) → From (λ z. StartStands z h begin) c → From (λ z. NameStands z n begin.name) c → Exact held StateStands c OpStands (at_properties id h n (is_isolated begin.name)) (Propertied id begin)
     propertied_exact c b n starts names =
         then_exact held StateStands c (Each EntryStands) OpStands (in_typed properties_at) (InText (IsProperties base.opaque)) (λ es s. at_regions id h n (is_isolated begin.name) es (next_id s)) (λ qs. Next id begin qs) (typed_exact c (Each EntryStands) properties_at (IsProperties base.opaque) (properties_here c b)) (λ d es qs g before.
         shift_exact held StateStands d OpStands next_id seen_next (at_regions id h n (is_isolated begin.name) es) (Regioned id begin qs) (λ s t sound a. (grows_refl s.things, sound, λ z k w. let now = a z k w in (now.0, now.1, ap (λ m. m + 1) now.2)))
         (regioned_exact d (grows_trans base c d b g) n es qs (later (λ z. StartStands z h begin) c d g starts) (later (λ z. NameStands z n begin.name) c d g names) before))
 
-    in_name : (c : Things) → h.name ≡ begin.name → Exact held StateStands c NameStands (in_typed (name_in h.name)) (Done begin.name)
+    in_name : (c : ContextModel) → h.name ≡ begin.name → Exact held StateStands c NameStands (in_typed (name_in h.name)) (Done begin.name)
     in_name c same =
         exact_spelled held StateStands c NameStands (in_typed (name_in h.name)) (InText (Done h.name)) (Done begin.name) (λ y t t' k. (k.1.0 ∙ same, k.2 ∙ ap (seen_rest t) k.1.1)) (λ y t t' k. (t.bytes, (k.0 ∙ sym same, refl), k.1))
         (typed_exact c NameStands (name_in h.name) (Done h.name) (attrs.name_exact c h.name))
 
-    named_exact : (c : Things) → Grows base c → IsSound c → From (λ z. StartStands z h begin) c → Exact held StateStands c OpStands (at_name id h) (Propertied id begin)
+    named_exact : (c : ContextModel) → IsExtendedBy base c → IsSound c → From (λ z. StartStands z h begin) c → Exact held StateStands c OpStands (at_name id h) (Propertied id begin)
     named_exact c b sound starts =
         exact_spelled held StateStands c OpStands (at_name id h) (Then (Done {B = Unit {0}} tt) (λ u. Propertied id begin)) (Propertied id begin) (done_alone (Propertied id begin)) (alone_done (Propertied id begin))
         (then_exact held StateStands c (λ z n (u : Unit {0}). NameStands z n begin.name) OpStands (in_typed (name_in h.name)) (Done tt) (λ n s. at_properties id h n (isolated_in s.things n) s) (λ u. Propertied id begin)
@@ -302,14 +302,14 @@ module _ (free : Frees) (outer : FreeTerms) (base : Things) (frees : From (λ z.
         subst (λ i. Exact held StateStands s.things OpStands (at_properties id h n i) (Propertied id begin)) (sym (ap is_isolated (names s.things k fine).1))
         (propertied_exact s.things (grows_trans base c s.things b (grows_trans c d s.things g k)) n (later (λ z. StartStands z h begin) c s.things (grows_trans c d s.things g k) starts) (later (λ z. NameStands z n begin.name) d s.things k names)))))
 
-  started_exact : (c : Things) → Grows base c → (here : List (Binding (List Bound))) (there : List (Binding PackTerm)) (id : ℕ) → From (λ z. HereStands z here there) c → Exact held StateStands c OpStands (at_start here id) (Started there id)
+  started_exact : (c : ContextModel) → IsExtendedBy base c → (here : List (Binding (List TypedValue))) (there : List (Binding PackTerm)) (id : ℕ) → From (λ z. HereStands z here there) c → Exact held StateStands c OpStands (at_start here id) (Started there id)
   started_exact c b here there id stand =
       then_exact held StateStands c StartStands OpStands (in_text (start_at free here)) (InText (IsStart outer there)) (at_name id) (λ begin. Propertied id begin)
       (text_exact c StartStands (start_at free here) (IsStart outer there) (λ d g. start_exact d free outer here there (later (λ z. FreeStands z free outer) base d (grows_trans base c d b g) frees) (later (λ z. HereStands z here there) c d g stand))) (λ d h begin g starts.
       begin_exact held StateStands d OpStands (λ s. at_name id h) (λ t. Propertied id begin) (λ s t k sound now.
       named_exact id h begin s.things (grows_trans base d s.things (grows_trans base c d b g) k) sound (later (λ z. StartStands z h begin) d s.things k starts)))
 
-  pub op_with_exact : (c : Things) → Grows base c → Exact held StateStands c OpStands (op_with free p) (IsOpWith base.opaque outer P)
+  pub op_with_exact : (c : ContextModel) → IsExtendedBy base c → Exact held StateStands c OpStands (op_with free p) (IsOpWith base.opaque outer P)
   op_with_exact c b =
       exact_where held StateStands c OpStands (op_with free p) (λ s. at_start s.scopes.here s.next s) (IsOpWith base.opaque outer P) (λ s g sound. op_same s)
       (exact_spelled held StateStands c OpStands (λ s. at_start s.scopes.here s.next s) (λ y old new. Started old.scopes.here old.next y old new) (IsOpWith base.opaque outer P) started_into started_back
@@ -317,8 +317,8 @@ module _ (free : Frees) (outer : FreeTerms) (base : Things) (frees : From (λ z.
       subst (λ n. Exact held StateStands s.things OpStands (at_start s.scopes.here s.next) (Started t.scopes.here n)) (now s.things (grows_refl s.things) sound).2
       (started_exact s.things (grows_trans base c s.things b g) s.scopes.here t.scopes.here s.next (λ z k w. (now z k w).1.0)))))
 
-module _ (free : Frees) (outer : FreeTerms) (last : ℕ) (base : Things) (frees : From (λ z. FreeStands z free outer) base) where
-  pub op_exact : (depth : ℕ) (c : Things) → Grows base c → Exact held StateStands c OpStands (op_at free last depth) (IsOp base.opaque outer last depth)
+module _ (free : Frees) (outer : FreeTerms) (last : ℕ) (base : ContextModel) (frees : From (λ z. FreeStands z free outer) base) where
+  pub op_exact : (depth : ℕ) (c : ContextModel) → IsExtendedBy base c → Exact held StateStands c OpStands (op_at free last depth) (IsOp base.opaque outer last depth)
   unfolding op_at IsOp
   op_exact zero c b = record { found = λ s t x s' g sound h e. absurd cc; only = λ s t y t' g sound h k. absurd k }
   op_exact (suc depth) c b =
@@ -331,55 +331,55 @@ module _ (free : Frees) (outer : FreeTerms) (last : ℕ) (base : Things) (frees 
       (op_with_exact free outer base frees p P (λ d up. ops_exact CloseCurly (op_at free last depth) (IsOp base.opaque outer last depth) base (op_exact depth) 1048576 d up [] [] (λ z k w. tt)) s.things (grows_trans base c s.things b g)))
 
   -- operations up to the end of a text
-  pub source_exact : (depth : ℕ) (c : Things) → Grows base c → Exact held StateStands c (Each OpStands) (ops_at End (op_at free last depth) 1048576 []) (IsOps End (IsOp base.opaque outer last depth) 1048576 [])
+  pub source_exact : (depth : ℕ) (c : ContextModel) → IsExtendedBy base c → Exact held StateStands c (Each OpStands) (ops_at End (op_at free last depth) 1048576 []) (IsOps End (IsOp base.opaque outer last depth) 1048576 [])
   source_exact depth c b = ops_exact End (op_at free last depth) (IsOp base.opaque outer last depth) base (op_exact depth) 1048576 c b [] [] (λ z k w. tt)
 
 -- ---- from a text
 
--- at the beginning no name is bound
-fresh_agrees : (next : ℕ) (bytes : Text) (c : Things) → From (λ z. StateStands z (fresh next bytes c) (seen_fresh next bytes)) c
+-- at the start no name is bound
+fresh_agrees : (next : ℕ) (bytes : Text) (c : ContextModel) → From (λ z. StateStands z (fresh next bytes c) (seen_fresh next bytes)) c
 fresh_agrees next bytes c = λ z g w. (refl, (tt, tt), refl)
 
 -- ---- and all operations of a text
 
-each_known : (z : Things) (os : List Op) (ys : List Operation) → Each OpStands z os ys → list_all (is_known z) os ≡ true
+each_known : (z : ContextModel) (os : List Op) (ys : List Operation) → Each OpStands z os ys → list_all (is_known z) os ≡ true
 each_known z [] [] h = refl
 each_known z [] (y ∷ ys) h = absurd h
 each_known z (x ∷ xs) [] h = absurd h
 each_known z (x ∷ xs) (y ∷ ys) h = and_from (is_known z x) (list_all (is_known z) xs) h.0.0 (each_known z xs ys h.1)
 
-each_meaning : (z : Things) (os : List Op) (ys : List Operation) → Each OpStands z os ys → map (meaning z) os ≡ ys
+each_meaning : (z : ContextModel) (os : List Op) (ys : List Operation) → Each OpStands z os ys → map (meaning z) os ≡ ys
 each_meaning z [] [] h = refl
 each_meaning z [] (y ∷ ys) h = absurd h
 each_meaning z (x ∷ xs) [] h = absurd h
 each_meaning z (x ∷ xs) (y ∷ ys) h = λ i. h.0.1 i ∷ each_meaning z xs ys h.1 i
 
 module _ (free : Frees) (outer : FreeTerms) (last : ℕ) where
-  pub op_read : (depth next : ℕ) (c : Things) (bytes : Text) (o : Op) (s : State) → IsSound c → From (λ z. FreeStands z free outer) c → op_at free last depth (fresh next bytes c) ≡ Read (o, s)
-      → Grows c s.things × IsSound s.things × IsTrue (is_known s.things o) × (t : Seen) × IsOp c.opaque outer last depth (meaning s.things o) (seen_fresh next bytes) t × StateStands s.things s t
+  pub op_read : (depth next : ℕ) (c : ContextModel) (bytes : Text) (o : Op) (s : State) → IsSound c → From (λ z. FreeStands z free outer) c → op_at free last depth (fresh next bytes c) ≡ Read (o, s)
+      → IsExtendedBy c s.things × IsSound s.things × IsTrue (is_known s.things o) × (t : Seen) × IsOp c.opaque outer last depth (meaning s.things o) (seen_fresh next bytes) t × StateStands s.things s t
   op_read depth next c bytes o s sound frees e =
       let f = (op_exact free outer last c frees depth c (grows_refl c)).found (fresh next bytes c) (seen_fresh next bytes) o s (grows_refl c) sound (fresh_agrees next bytes c) e in
       let r = f.3.stands s.things (grows_refl s.things) f.3.sound in
       (f.3.grows, f.3.sound, r.0, f.1, subst (λ y. IsOp c.opaque outer last depth y (seen_fresh next bytes) f.1) (sym r.1) f.2, f.3.agree s.things (grows_refl s.things) f.3.sound)
 
-  pub op_spelled : (depth next : ℕ) (c : Things) (bytes : Text) (y : Operation) (t : Seen) → IsSound c → From (λ z. FreeStands z free outer) c → IsOp c.opaque outer last depth y (seen_fresh next bytes) t
-      → (op_at free last depth (fresh next bytes c) ≡ Full) ⊎ ((o : Op) × (s : State) × (op_at free last depth (fresh next bytes c) ≡ Read (o, s)) × Grows c s.things × IsSound s.things × OpStands s.things o y × StateStands s.things s t)
+  pub op_spelled : (depth next : ℕ) (c : ContextModel) (bytes : Text) (y : Operation) (t : Seen) → IsSound c → From (λ z. FreeStands z free outer) c → IsOp c.opaque outer last depth y (seen_fresh next bytes) t
+      → (op_at free last depth (fresh next bytes c) ≡ Full) ⊎ ((o : Op) × (s : State) × (op_at free last depth (fresh next bytes c) ≡ Read (o, s)) × IsExtendedBy c s.things × IsSound s.things × OpStands s.things o y × StateStands s.things s t)
   op_spelled depth next c bytes y t sound frees k = ⊎_elim
       (λ (e : op_at free last depth (fresh next bytes c) ≡ Full). inl e)
       (λ (f : (o : Op) × (s : State) × (op_at free last depth (fresh next bytes c) ≡ Read (o, s)) × Step held StateStands OpStands (fresh next bytes c) o y s t).
       inr (f.0, f.1, f.2, f.3.grows, f.3.sound, f.3.stands f.1.things (grows_refl f.1.things) f.3.sound, f.3.agree f.1.things (grows_refl f.1.things) f.3.sound))
       ((op_exact free outer last c frees depth c (grows_refl c)).only (fresh next bytes c) (seen_fresh next bytes) y t (grows_refl c) sound (fresh_agrees next bytes c) k)
 
-  pub ops_read : (depth next : ℕ) (c : Things) (bytes : Text) (os : List Op) (s : State) → IsSound c → From (λ z. FreeStands z free outer) c → ops_at End (op_at free last depth) 1048576 [] (fresh next bytes c) ≡ Read (os, s)
-      → Grows c s.things × IsSound s.things × IsTrue (list_all (is_known s.things) os) × (t : Seen) × IsOps End (IsOp c.opaque outer last depth) 1048576 [] (map (meaning s.things) os) (seen_fresh next bytes) t × StateStands s.things s t
+  pub ops_read : (depth next : ℕ) (c : ContextModel) (bytes : Text) (os : List Op) (s : State) → IsSound c → From (λ z. FreeStands z free outer) c → ops_at End (op_at free last depth) 1048576 [] (fresh next bytes c) ≡ Read (os, s)
+      → IsExtendedBy c s.things × IsSound s.things × IsTrue (list_all (is_known s.things) os) × (t : Seen) × IsOps End (IsOp c.opaque outer last depth) 1048576 [] (map (meaning s.things) os) (seen_fresh next bytes) t × StateStands s.things s t
   ops_read depth next c bytes os s sound frees e =
       let f = (source_exact free outer last c frees depth c (grows_refl c)).found (fresh next bytes c) (seen_fresh next bytes) os s (grows_refl c) sound (fresh_agrees next bytes c) e in
       let r = f.3.stands s.things (grows_refl s.things) f.3.sound in
       (f.3.grows, f.3.sound, each_known s.things os f.0 r, f.1, subst (λ ys. IsOps End (IsOp c.opaque outer last depth) 1048576 [] ys (seen_fresh next bytes) f.1) (sym (each_meaning s.things os f.0 r)) f.2, f.3.agree s.things (grows_refl s.things) f.3.sound)
 
-  pub ops_spelled : (depth next : ℕ) (c : Things) (bytes : Text) (ys : List Operation) (t : Seen) → IsSound c → From (λ z. FreeStands z free outer) c → IsOps End (IsOp c.opaque outer last depth) 1048576 [] ys (seen_fresh next bytes) t
+  pub ops_spelled : (depth next : ℕ) (c : ContextModel) (bytes : Text) (ys : List Operation) (t : Seen) → IsSound c → From (λ z. FreeStands z free outer) c → IsOps End (IsOp c.opaque outer last depth) 1048576 [] ys (seen_fresh next bytes) t
       → (ops_at End (op_at free last depth) 1048576 [] (fresh next bytes c) ≡ Full)
-      ⊎ ((os : List Op) × (s : State) × (ops_at End (op_at free last depth) 1048576 [] (fresh next bytes c) ≡ Read (os, s)) × Grows c s.things × IsSound s.things × Each OpStands s.things os ys × StateStands s.things s t)
+      ⊎ ((os : List Op) × (s : State) × (ops_at End (op_at free last depth) 1048576 [] (fresh next bytes c) ≡ Read (os, s)) × IsExtendedBy c s.things × IsSound s.things × Each OpStands s.things os ys × StateStands s.things s t)
   ops_spelled depth next c bytes ys t sound frees k = ⊎_elim
       (λ (e : ops_at End (op_at free last depth) 1048576 [] (fresh next bytes c) ≡ Full). inl e)
       (λ (f : (os : List Op) × (s : State) × (ops_at End (op_at free last depth) 1048576 [] (fresh next bytes c) ≡ Read (os, s)) × Step held StateStands (Each OpStands) (fresh next bytes c) os ys s t).

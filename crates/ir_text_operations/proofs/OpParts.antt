@@ -1,11 +1,11 @@
--- An operation, read part by part.
+-- An operation is parsed part by part.
 use Rattle.std.specs.Prelude.{nat_lt, if◌then◌else◌}
 use Rattle.std.specs.Str.{bytes_eq}
 use Rattle.std.proofs.Common.{◌≡◌, ℕ, zero, suc, ◌-◌, ◌<◌, ◌≤◌, Bool, true, false, List, [], length, Option, Some, None, refl, sym, ◌∙◌, arith}
 use Rattle.std.proofs.lemmas.Bool.Decides.{nat_tests}
 use Rattle.ir_text_tokens.specs.declared.token.Mark.TheVariants.{OpenRound, OpenCurly, CloseCurly, Colon}
 use Rattle.ir_text_tokens.specs.Scopes.{Scopes, Binding}
-use Rattle.ir_types.specs.Things.{Things}
+use Rattle.ir_types.specs.Things.{ContextModel}
 use Rattle.ir_tree.specs.Tree.{Op, Region}
 use Rattle.ir_tree.specs.Meaning.{isolated_in}
 use Rattle.ir_text_types.specs.declared.error.ReadError.{ReadError}
@@ -15,7 +15,7 @@ use Rattle.ir_text_types.specs.Outcomes.{Outcome, Read, Wrong, Full, ◌>>=◌, 
 use Rattle.ir_text_types.specs.Typed.{Text, Typed, after_typed, name_step}
 use Rattle.ir_text_types.proofs.ListSteps.{fails_with}
 use Rattle.ir_text_types.proofs.Worlds.{bind_assoc}
-use Rattle.ir_text_names.specs.declared.bound.Bound.{Bound}
+use Rattle.ir_text_names.specs.declared.bound.TypedValue.{TypedValue}
 use Rattle.ir_text_names.specs.BlockReading.{finish, head_at, region_head_at}
 use Rattle.ir_text_names.specs.NameReading.{results_at}
 use Rattle.ir_text_names.specs.Packs.{Counted}
@@ -27,22 +27,22 @@ use Rattle.ir_text_operations.specs.Made.{region_of}
 use Rattle.ir_text_operations.specs.OpReading.{bound_types, op_of, signature_here, tail_at, begun, region_at, regions_at, ops_at, op_with, op_at}
 use Rattle.ir_text_operations.specs.Openings.{IsOfText, Opened, called_at, opening_at, result_types_at, finished_at}
 
--- what is read on where the same is read on
+-- equal continuations of a step
 same_then : {A B : Type 0} (o : Outcome A) (f g : A → Outcome B) → ((x : A) → f x ≡ g x) → (o >>= f) ≡ (o >>= g)
 same_then (Read x) f g h = h x
 same_then Wrong f g h = refl
 same_then Full f g h = refl
 
--- a failing step fails what it begins
+-- a failure of the first step is a failure of the whole
 fails_then : {A B : Type 0} (e : ReadError) (o : Outcome A) (f : A → Outcome B) (whole : Outcome B) → whole ≡ (o >>= f) → Fails e o → Fails e whole
 fails_then e o f whole same fails = fails_with e o whole (λ none. same ∙ rw none refl) (λ none. same ∙ rw none refl) fails
 
 reads_then : {A B : Type 0} (o : Outcome A) (f : A → Outcome B) (whole : Outcome B) (x : A) → whole ≡ (o >>= f) → o ≡ Read x → whole ≡ f x
 reads_then o f whole x same e = same ∙ rw e refl
 
--- ---- what stands before the dictionaries
+-- ---- the header
 
-module _ (free : Frees) (here : List (Binding (List Bound))) (bytes : Text) where
+module _ (free : Frees) (here : List (Binding (List TypedValue))) (bytes : Text) where
   abbrev with_operands : Option (List Counted) → List ℕ × Text → Outcome (Start × Text)
   with_operands results n = uses_at free here n.1 >>= λ operands. Read (record { results = results; name = n.0; operands = operands.0 }, operands.1)
 
@@ -73,13 +73,13 @@ module _ (free : Frees) (here : List (Binding (List Bound))) (bytes : Text) wher
       pub no_operands : (e : ReadError) → Fails e (uses_at free here n.1) → Fails e (start_at free here bytes)
       no_operands e = fails_then e (uses_at free here n.1) (λ operands. Read (record { results = r.0; name = n.0; operands = operands.0 }, operands.1)) (start_at free here bytes) used_is
 
-      pub started : (o : List Bound) (rest : Text) → uses_at free here n.1 ≡ Read (o, rest) → start_at free here bytes ≡ Read (record { results = r.0; name = n.0; operands = o }, rest)
+      pub started : (o : List TypedValue) (rest : Text) → uses_at free here n.1 ≡ Read (o, rest) → start_at free here bytes ≡ Read (record { results = r.0; name = n.0; operands = o }, rest)
       started o rest operands = reads_then (uses_at free here n.1) _ (start_at free here bytes) (o, rest) used_is operands
 
--- ---- what stands before the regions
+-- ---- up to the regions
 
-module _ (free : Frees) (here : List (Binding (List Bound))) (s : Typed) where
-  abbrev with_written : Start × Text → ℕ × Things → Outcome (Opened × Typed)
+module _ (free : Frees) (here : List (Binding (List TypedValue))) (s : Typed) where
+  abbrev with_written : Start × Text → ℕ × ContextModel → Outcome (Opened × Typed)
   with_written h n = properties_at (h.1, n.1) >>= λ e. Read (record { start = h.0; name = n.0; isolated = isolated_in n.1 n.0; written = e.0 }, e.1)
 
   abbrev with_number : Start × Text → Outcome (Opened × Typed)
@@ -99,7 +99,7 @@ module _ (free : Frees) (here : List (Binding (List Bound))) (s : Typed) where
     pub no_number : (e : ReadError) → Fails e (name_step h.0.name s.1) → Fails e (opening_at free here s)
     no_number e = fails_then e (name_step h.0.name s.1) (with_written h) (opening_at free here s) numbered_is
 
-    module _ (n : ℕ × Things) (name : name_step h.0.name s.1 ≡ Read n) where
+    module _ (n : ℕ × ContextModel) (name : name_step h.0.name s.1 ≡ Read n) where
       written_is : opening_at free here s ≡ with_written h n
       written_is = reads_then (name_step h.0.name s.1) (with_written h) (opening_at free here s) n numbered_is name
 
@@ -109,7 +109,7 @@ module _ (free : Frees) (here : List (Binding (List Bound))) (s : Typed) where
       pub opened : (es : Entries) (t : Typed) → properties_at (h.1, n.1) ≡ Read (es, t) → opening_at free here s ≡ Read (record { start = h.0; name = n.0; isolated = isolated_in n.1 n.0; written = es }, t)
       opened es t e = reads_then (properties_at (h.1, n.1)) _ (opening_at free here s) (es, t) written_is e
 
--- ---- what stands behind the regions
+-- ---- after the regions
 
 module _ (id : ℕ) (h : Start) (s : State) where
   abbrev bound_to : List ℕ × Typed → Outcome (List ℕ × State)
@@ -129,43 +129,43 @@ module _ (id : ℕ) (h : Start) (s : State) where
     pub not_bound : (e : ReadError) → Fails e (finish id h.results o.0 s.scopes) → Fails e (finished_at id h s)
     not_bound e = fails_then e (finish id h.results o.0 s.scopes) (λ scopes. Read (o.0, with_scopes (with_typed s o.1) scopes)) (finished_at id h s) bound_is
 
-    pub is_finished : (scopes : Scopes (List Bound)) → finish id h.results o.0 s.scopes ≡ Read scopes → finished_at id h s ≡ Read (o.0, with_scopes (with_typed s o.1) scopes)
+    pub is_finished : (scopes : Scopes (List TypedValue)) → finish id h.results o.0 s.scopes ≡ Read scopes → finished_at id h s ≡ Read (o.0, with_scopes (with_typed s o.1) scopes)
     is_finished scopes e = reads_then (finish id h.results o.0 s.scopes) _ (finished_at id h s) scopes bound_is e
 
 module _ (id name : ℕ) (h : Start) (properties : Entries) (regions : List Region) (s : State) where
-  abbrev op_behind : Entries → List ℕ × State → Outcome (Op × State)
-  op_behind e f = Read (op_of f.1.things id name h.operands properties e f.0 regions, f.1)
+  abbrev op_after : Entries → List ℕ × State → Outcome (Op × State)
+  op_after e f = Read (op_of f.1.things id name h.operands properties e f.0 regions, f.1)
 
   abbrev with_entries : Entries × Typed → Outcome (Op × State)
-  with_entries e = finished_at id h (with_typed s e.1) >>= op_behind e.0
+  with_entries e = finished_at id h (with_typed s e.1) >>= op_after e.0
 
-  abbrev with_scoped : Entries × Typed → (List ℕ × List ℕ) × Typed → Scopes (List Bound) → Outcome (Op × State)
+  abbrev with_scoped : Entries × Typed → (List ℕ × List ℕ) × Typed → Scopes (List TypedValue) → Outcome (Op × State)
   with_scoped e t scopes = Read (op_of t.1.1 id name h.operands properties e.0 t.0.1 regions, with_scopes (with_typed s t.1) scopes)
 
   abbrev tested : (List ℕ × List ℕ) × Typed → Bool → Outcome (List ℕ × Typed)
   tested t b = if b then Read (t.0.1, t.1) else Wrong
 
-  abbrev bound_as : Entries × Typed → List ℕ × Typed → Scopes (List Bound) → Outcome (List ℕ × State)
+  abbrev bound_as : Entries × Typed → List ℕ × Typed → Scopes (List TypedValue) → Outcome (List ℕ × State)
   bound_as e o scopes = Read (o.0, with_scopes (with_typed (with_typed s e.1) o.1) scopes)
 
-  abbrev bound_behind : Entries × Typed → List ℕ × Typed → Outcome (List ℕ × State)
-  bound_behind e o = finish id h.results o.0 s.scopes >>= bound_as e o
+  abbrev bound_after : Entries × Typed → List ℕ × Typed → Outcome (List ℕ × State)
+  bound_after e o = finish id h.results o.0 s.scopes >>= bound_as e o
 
-  by_test : (e : Entries × Typed) (t : (List ℕ × List ℕ) × Typed) (b : Bool) → ((if b then finish id h.results t.0.1 s.scopes else Wrong) >>= with_scoped e t) ≡ ((tested t b >>= bound_behind e) >>= op_behind e.0)
-  by_test e t true = sym (bind_assoc (finish id h.results t.0.1 s.scopes) (bound_as e (t.0.1, t.1)) (op_behind e.0))
+  by_test : (e : Entries × Typed) (t : (List ℕ × List ℕ) × Typed) (b : Bool) → ((if b then finish id h.results t.0.1 s.scopes else Wrong) >>= with_scoped e t) ≡ ((tested t b >>= bound_after e) >>= op_after e.0)
+  by_test e t true = sym (bind_assoc (finish id h.results t.0.1 s.scopes) (bound_as e (t.0.1, t.1)) (op_after e.0))
   by_test e t false = refl
 
   abbrev with_test : (List ℕ × List ℕ) × Typed → Outcome (List ℕ × Typed)
   with_test t = tested t (bytes_eq (bound_types h.operands) t.0.0)
 
   by_type : (e : Entries × Typed) (o : Outcome ((List ℕ × List ℕ) × Typed)) → (o >>= λ t. (if bytes_eq (bound_types h.operands) t.0.0 then finish id h.results t.0.1 s.scopes else Wrong) >>= with_scoped e t)
-      ≡ (((o >>= with_test) >>= bound_behind e) >>= op_behind e.0)
+      ≡ (((o >>= with_test) >>= bound_after e) >>= op_after e.0)
   by_type e (Read t) = by_test e t (bytes_eq (bound_types h.operands) t.0.0)
   by_type e Wrong = refl
   by_type e Full = refl
 
   by_colon : (e : Entries × Typed) (o : Option Typed) → (of_option o >>= λ c. signature_here c >>= λ t. (if bytes_eq (bound_types h.operands) t.0.0 then finish id h.results t.0.1 s.scopes else Wrong) >>= with_scoped e t)
-      ≡ (((of_option o >>= λ c. signature_here c >>= with_test) >>= bound_behind e) >>= op_behind e.0)
+      ≡ (((of_option o >>= λ c. signature_here c >>= with_test) >>= bound_after e) >>= op_after e.0)
   by_colon e (Some c) = by_type e (signature_here c)
   by_colon e None = refl
 
@@ -182,14 +182,14 @@ module _ (id name : ℕ) (h : Start) (properties : Entries) (regions : List Regi
   no_attributes e = fails_then e (attributes_at name properties (typed s)) with_entries (tail_at id name h properties regions s) tail_is
 
   module _ (es : Entries × Typed) (attributes : attributes_at name properties (typed s) ≡ Read es) where
-    behind_is : tail_at id name h properties regions s ≡ with_entries es
-    behind_is = reads_then (attributes_at name properties (typed s)) with_entries (tail_at id name h properties regions s) es tail_is attributes
+    after_is : tail_at id name h properties regions s ≡ with_entries es
+    after_is = reads_then (attributes_at name properties (typed s)) with_entries (tail_at id name h properties regions s) es tail_is attributes
 
     pub not_finished : (e : ReadError) → Fails e (finished_at id h (with_typed s es.1)) → Fails e (tail_at id name h properties regions s)
-    not_finished e = fails_then e (finished_at id h (with_typed s es.1)) (op_behind es.0) (tail_at id name h properties regions s) behind_is
+    not_finished e = fails_then e (finished_at id h (with_typed s es.1)) (op_after es.0) (tail_at id name h properties regions s) after_is
 
     pub closed : (f : List ℕ × State) → finished_at id h (with_typed s es.1) ≡ Read f → tail_at id name h properties regions s ≡ Read (op_of f.1.things id name h.operands properties es.0 f.0 regions, f.1)
-    closed f e = reads_then (finished_at id h (with_typed s es.1)) (op_behind es.0) (tail_at id name h properties regions s) f behind_is e
+    closed f e = reads_then (finished_at id h (with_typed s es.1)) (op_after es.0) (tail_at id name h properties regions s) f after_is e
 
 -- ---- regions
 
@@ -227,18 +227,18 @@ module _ (free : Frees) (p : Parse State (List Op)) (s : State) where
   abbrev with_opening : Opened × Typed → Outcome (Op × State)
   with_opening o = regions_at p s.next o.0.isolated (begun s o.1) >>= with_regions o
 
-  abbrev with_all : Start × Text → ℕ × Things → Entries × Typed → Outcome (Op × State)
+  abbrev with_all : Start × Text → ℕ × ContextModel → Entries × Typed → Outcome (Op × State)
   with_all h n e = regions_at p s.next (isolated_in n.1 n.0) (begun s e.1) >>= λ rs. tail_at s.next n.0 h.0 e.0 rs.0 rs.1
 
-  abbrev read_as : Start × Text → ℕ × Things → Entries × Typed → Outcome (Opened × Typed)
+  abbrev read_as : Start × Text → ℕ × ContextModel → Entries × Typed → Outcome (Opened × Typed)
   read_as h n e = Read (record { start = h.0; name = n.0; isolated = isolated_in n.1 n.0; written = e.0 }, e.1)
 
-  by_properties : (h : Start × Text) (n : ℕ × Things) (o : Outcome (Entries × Typed)) → (o >>= with_all h n) ≡ ((o >>= read_as h n) >>= with_opening)
+  by_properties : (h : Start × Text) (n : ℕ × ContextModel) (o : Outcome (Entries × Typed)) → (o >>= with_all h n) ≡ ((o >>= read_as h n) >>= with_opening)
   by_properties h n (Read e) = refl
   by_properties h n Wrong = refl
   by_properties h n Full = refl
 
-  by_name : (h : Start × Text) (o : Outcome (ℕ × Things)) → (o >>= λ n. properties_at (h.1, n.1) >>= with_all h n) ≡ ((o >>= λ n. properties_at (h.1, n.1) >>= read_as h n) >>= with_opening)
+  by_name : (h : Start × Text) (o : Outcome (ℕ × ContextModel)) → (o >>= λ n. properties_at (h.1, n.1) >>= with_all h n) ≡ ((o >>= λ n. properties_at (h.1, n.1) >>= read_as h n) >>= with_opening)
   by_name h (Read n) = by_properties h n (properties_at (h.1, n.1))
   by_name h Wrong = refl
   by_name h Full = refl

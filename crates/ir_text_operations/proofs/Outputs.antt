@@ -1,4 +1,4 @@
--- How long lists are that are read.
+-- The lengths of lists that are parsed.
 use Rattle.std.specs.Prelude.{if◌then◌else◌}
 use Rattle.std.specs.Str.{bytes_eq}
 use Rattle.std.proofs.Common.{◌≡◌, ℕ, zero, suc, ◌+◌, ◌≤◌, Bool, true, false, List, [], ◌∷◌, ◌++◌, length, Option, Some, None, ap, arith}
@@ -16,7 +16,7 @@ use Rattle.ir_text_operations.specs.Openings.{result_types_at}
 abbrev pair : {A S : Type 0} → A → S → Outcome (A × S)
 pair x s = Read (x, s)
 
--- what is read is read once
+-- a parse has one result
 read_parts : {A S : Type 0} (x y : A) (s t : S) → pair x s ≡ pair y t → (x ≡ y) × (s ≡ t)
 read_parts {A} {S} x y s t e =
     let p : (x, s) ≡ (y, t) = cc in
@@ -73,7 +73,7 @@ function_type_length s x s' e =
     let c = option_read (after_typed OpenRound s) (signature_at (type_at s.1.opaque 32) 256) (x, s') e in
     signature_length (type_at s.1.opaque 32) 256 c.0 x s' (omega arith) c.2
 
--- and so where its operands agree
+-- the same if the types of its operands agree
 abbrev tested : Bool → List ℕ × Typed → Outcome (List ℕ × Typed)
 tested b x = if b then Read x else Wrong
 

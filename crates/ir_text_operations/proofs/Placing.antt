@@ -1,14 +1,14 @@
--- Entries put among sorted ones, as places in a list.
+-- Insertion of entries into a sorted list, by indexes.
 use Rattle.std.specs.Prelude.{not}
 use Rattle.std.specs.List.{prefix_len}
 use Rattle.std.proofs.Common.{◌≡◌, ◌≤◌, ℕ, refl, ap, subst, suc, ◌+◌, arith, Bool, true, false, List, [], ◌∷◌, ◌++◌, length, take, drop}
-use Rattle.ir_types.specs.Things.{Things}
+use Rattle.ir_types.specs.Things.{ContextModel}
 use Rattle.ir_text_attributes.specs.Keyed.{put_among, put_all}
 use Rattle.ir_text_attributes.specs.AttrReading.{Entries}
 use Rattle.ir_text_operations.specs.Openings.{AreDictionaries}
 
 module _ {K A : Type 0} (before : K → K → Bool) where
-  -- an entry stands behind those before which its key does not come
+  -- an entry is inserted after the entries whose keys are not greater
   pub put_at : (e : K × A) (es : List (K × A)) → put_among before e es ≡ take (prefix_len (λ f. not (before e.0 f.0)) es) es ++ e ∷ drop (prefix_len (λ f. not (before e.0 f.0)) es) es
   put_at e [] = refl
   put_at e (f ∷ fs) = by_test (put_at e fs) (before e.0 f.0) refl
@@ -21,13 +21,13 @@ module _ {K A : Type 0} (before : K → K → Bool) where
           let one : suc n ≡ 1 + n = omega arith in
           rw h (subst (λ m. f ∷ put_among before e fs ≡ take m (f ∷ fs) ++ e ∷ drop m (f ∷ fs)) one (ap (λ (l : List (K × A)). f ∷ l) rest))
 
-  -- those behind go first
+  -- inserting two lists: the second one is inserted first
   pub put_both : (done front back : List (K × A)) → put_all before done (front ++ back) ≡ put_all before (put_all before done back) front
   put_both done [] back = refl
   put_both done (f ∷ fs) back = ap (put_among before f) (put_both done fs back)
 
--- one property alone is in order as it stands
-pub lone_dictionaries : (c : Things) (name : ℕ) (written others : Entries) → length written ≤ 1 → length others ≡ 0 → AreDictionaries c name written others written []
+-- a single property is sorted
+pub lone_dictionaries : (c : ContextModel) (name : ℕ) (written others : Entries) → length written ≤ 1 → length others ≡ 0 → AreDictionaries c name written others written []
 lone_dictionaries c name [] [] le e = (refl, refl)
 lone_dictionaries c name (x ∷ []) [] le e = (refl, refl)
 lone_dictionaries c name (x ∷ y ∷ zs) others le e = absurd (omega arith)

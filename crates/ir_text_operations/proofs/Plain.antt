@@ -1,17 +1,17 @@
--- A use of a value behind which no number is written.
+-- An operand without an index.
 use Rattle.std.proofs.Common.{◌≡◌, ◌∙◌, ℕ, Bool, true, false, cond, List, [], ◌∷◌, drop, Option, Some, None, refl, sym, ap}
 use Rattle.std.specs.Prelude.{option_map, ◌==◌, slice_get}
 use Rattle.std.specs.Char.{is_ascii_digit}
 use Rattle.ir_text_tokens.specs.declared.token.Mark.{Mark}
 use Rattle.ir_text_tokens.specs.declared.token.Mark.TheVariants.{Colon, DoubleColon, Minus, Arrow}
 use Rattle.ir_text_tokens.specs.Bytes.{is_letter}
-use Rattle.ir_text_tokens.specs.Tokens.{Lexeme, mark, string, value, label, hash, bang, symbol, quoted, skip, next, first_token, token_at, sign_at, symbol_at, mark_at, mark_of, longer, name_parts, string_parts, number_at, hex_len, digits_len, fraction_len, behind_first}
+use Rattle.ir_text_tokens.specs.Tokens.{Lexeme, mark, string, value, label, hash, bang, symbol, quoted, skip, next, first_token, token_at, sign_at, symbol_at, mark_at, mark_of, longer, name_parts, string_parts, number_at, hex_len, digits_len, fraction_len, trailing_first}
 use Rattle.ir_text_types.specs.Outcomes.{Outcome, Read, ◌>>=◌, of_option}
-use Rattle.ir_text_names.specs.declared.bound.Bound.{Bound}
+use Rattle.ir_text_names.specs.declared.bound.TypedValue.{TypedValue}
 use Rattle.ir_text_operations.specs.FrontReading.{place_of, place_from, place_at, first_at, member_at}
 
 module _ (bytes : List ℕ) where
-  -- a token that is no number of a value
+  -- the token is no index of a value
   abbrev Plain : Option (Lexeme × List ℕ) → Type 0
   Plain o = place_from bytes o ≡ Read (0, bytes)
 
@@ -59,19 +59,19 @@ module _ (bytes : List ℕ) where
   plain_token : (c : ℕ) (cs : List ℕ) → (c == 35) ≡ false → Plain (token_at c cs)
   plain_token c cs e = plain_if (is_ascii_digit c) _ _ (plain_number (c ∷ cs)) (plain_if (is_letter c) _ _ refl (plain_sign c cs e))
 
-  none_behind : (t : Bool) (cs : List ℕ) → cond t (Some cs) None ≡ None → t ≡ false
-  none_behind true cs e = absurd (cc)
-  none_behind false cs e = refl
+  none_after : (t : Bool) (cs : List ℕ) → cond t (Some cs) None ≡ None → t ≡ false
+  none_after true cs e = absurd (cc)
+  none_after false cs e = refl
 
-  plain_first : (cs : List ℕ) → behind_first 35 cs ≡ None → Plain (first_token cs)
+  plain_first : (cs : List ℕ) → trailing_first 35 cs ≡ None → Plain (first_token cs)
   plain_first [] e = refl
-  plain_first (c ∷ cs) e = plain_token c cs (none_behind (c == 35) cs e)
+  plain_first (c ∷ cs) e = plain_token c cs (none_after (c == 35) cs e)
 
-  plain_place : behind_first 35 (skip bytes) ≡ None → place_at bytes ≡ Read (0, bytes)
+  plain_place : trailing_first 35 (skip bytes) ≡ None → place_at bytes ≡ Read (0, bytes)
   unfolding place_at next
   plain_place e = plain_first (skip bytes) e
 
--- where no hash sign follows, the first value is meant
-pub first_member : (pack : List Bound) (bytes : List ℕ) → behind_first 35 (skip bytes) ≡ None → member_at pack bytes ≡ first_at pack bytes
+-- if no hash sign follows, the operand is the first value
+pub first_member : (pack : List TypedValue) (bytes : List ℕ) → trailing_first 35 (skip bytes) ≡ None → member_at pack bytes ≡ first_at pack bytes
 unfolding member_at
 first_member pack bytes e = ap (λ o. o >>= λ k. of_option (slice_get pack k.0) >>= λ b. Read (b, k.1)) (plain_place bytes e)

@@ -1,4 +1,4 @@
--- Where there are few entries, and no properties were written, there is room for one more.
+-- If there are few entries and no properties, there is capacity for one more.
 use Rattle.std.proofs.Common.{◌≡◌, refl, ap, sym, ◌∙◌, ℕ, ◌+◌, ◌<◌, Bool, true, false, cond, not, List, length, arith}
 use Rattle.std.specs.Prelude.{nat_le}
 use Rattle.std.specs.List.{filter}

@@ -1,11 +1,11 @@
--- One operation of a text, by the laws of operations.
+-- One operation as a whole text, from the theorems about operations.
 use Rattle.std.specs.Prelude.{IsTrue, IfSome, Result, Err, option_map, option_and_then}
 use Rattle.std.specs.List.{range_with_len}
 use Rattle.std.proofs.Common.{◌≡◌, ◌≤◌, ℕ, Bool, List, length, Option, Some, None, refl, sym, ap, subst, ◌∙◌, ⊎_elim, arith}
 use Rattle.ir_text_tokens.specs.declared.token.Mark.TheVariants.{End}
 use Rattle.ir_text_tokens.specs.Limits.{text_reason}
 use Rattle.ir_text_tokens.specs.declared.refusal.TextRefusal.{TextRefusal}
-use Rattle.ir_types.specs.Things.{Things, Grows, IsType}
+use Rattle.ir_types.specs.Things.{ContextModel, IsExtendedBy, IsType}
 use Rattle.ir_types.specs.Sound.{IsSound}
 use Rattle.ir_types.specs.Terms.{name_term, type_term, attr_term}
 use Rattle.ir_types.proofs.Growth.{grows_refl, front_length}
@@ -39,20 +39,20 @@ use Rattle.ir_text_operations.proofs.NameLaws.{held, bytes_now}
 use Rattle.ir_text_operations.proofs.OpLaws.{op_exact}
 use Rattle.ir_text_operations.proofs.Modules.{fresh_agrees, read_parts, all_rise, numbers_are}
 
--- an error of a text is the one that was met
+-- equal errors of a text are the same error
 pub text_is : {X Y : Type 0} (e g : ReadError) → ◌≡◌ {A = Result X OpError} (Err (Text e)) (Err (Text g)) → ◌≡◌ {A = Result Y ReadError} (Err e) (Err g)
 text_is {X} {Y} e g k = let same : e ≡ g = cc in λ i. Err (same i)
 
--- ---- what free names stand for
+-- ---- the values of free names
 
-module _ (types : Value → Option ℕ) (c : Things) (known : (v : Value) → IfSome (types v) (λ ty. IsType c ty)) where
-  type_free : (z : Things) → Grows c z → (v : Value) (o : Option ℕ) → types v ≡ o → Both BoundStands z (option_map (λ ty. record { value = v; ty = ty }) o) (option_map (bound_term c) (option_map (λ ty. record { value = v; ty = ty }) o))
+module _ (types : Value → Option ℕ) (c : ContextModel) (known : (v : Value) → IfSome (types v) (λ ty. IsType c ty)) where
+  type_free : (z : ContextModel) → IsExtendedBy c z → (v : Value) (o : Option ℕ) → types v ≡ o → Both BoundStands z (option_map (λ ty. record { value = v; ty = ty }) o) (option_map (bound_term c) (option_map (λ ty. record { value = v; ty = ty }) o))
   type_free z g v None e = tt
   type_free z g v (Some ty) e =
       let of_c : IsType c ty = subst (λ o. IfSome o (λ ty. IsType c ty)) e (known v) in
       (refl, (omega (arith, of_c, front_length c.types z.types g.types), type_stays c z ty g of_c))
 
-  name_free : (z : Things) → Grows c z → (o : Option Value) → Both BoundStands z (option_and_then (λ v. option_map (λ ty. record { value = v; ty = ty }) (types v)) o) (option_map (bound_term c) (option_and_then (λ v. option_map (λ ty. record { value = v; ty = ty }) (types v)) o))
+  name_free : (z : ContextModel) → IsExtendedBy c z → (o : Option Value) → Both BoundStands z (option_and_then (λ v. option_map (λ ty. record { value = v; ty = ty }) (types v)) o) (option_map (bound_term c) (option_and_then (λ v. option_map (λ ty. record { value = v; ty = ty }) (types v)) o))
   name_free z g None = tt
   name_free z g (Some v) = type_free z g v (types v) refl
 
@@ -60,10 +60,10 @@ module _ (types : Value → Option ℕ) (c : Things) (known : (v : Value) → If
   unfolding free_bound
   frees_stand = λ z g w name. name_free z g (value_named name)
 
--- ---- one operation and nothing after it
+-- ---- one operation, and the end
 
-module _ (free : Frees) (outer : FreeTerms) (last first : ℕ) (bytes : List ℕ) (c : Things) (sound : IsSound c) (frees : From (λ z. FreeStands z free outer) c) where
-  -- what is spelled was read
+module _ (free : Frees) (outer : FreeTerms) (last first : ℕ) (bytes : List ℕ) (c : ContextModel) (sound : IsSound c) (frees : From (λ z. FreeStands z free outer) c) where
+  -- an operation that the grammar derives is the one that was parsed
   single_is : (x : Op) (s : State) → op_at free last 129 (fresh first bytes c) ≡ Read (x, s) → (y : Operation) → IsSingleOp c.opaque outer last first bytes y → (y ≡ meaning s.things x) × ((rest : List ℕ) × IsMark End s.bytes rest)
   unfolding IsSingleOp
   single_is x s e y h = ⊎_elim
@@ -101,20 +101,20 @@ module _ (free : Frees) (outer : FreeTerms) (last first : ℕ) (bytes : List ℕ
       (λ (f : (x' : Op) × (s' : State) × (op_at free last 129 (fresh first bytes c) ≡ Read (x', s')) × Step held StateStands OpStands (fresh first bytes c) x' y s' h.0). let g = f.2 in absurd cc)
       ((op_exact free outer last c frees 129 c (grows_refl c)).only (fresh first bytes c) (seen_fresh first bytes) y h.0 (grows_refl c) sound (fresh_agrees first bytes c) h.2)
 
-  abbrev told : Op → Things → List ℕ → Outcome (Op × Things)
+  abbrev told : Op → ContextModel → List ℕ → Outcome (Op × ContextModel)
   told x d rest = Read (x, d)
 
-  abbrev whole : Op × State → Outcome (Op × Things)
+  abbrev whole : Op × State → Outcome (Op × ContextModel)
   whole x = of_option (after End x.1.bytes) >>= told x.0 x.1.things
 
-  -- the same, by the reader of one operation
-  pub alone_read : (x : Op) (d : Things) → single_op_at free last (fresh first bytes c) ≡ Read (x, d) → IsOnly (IsSingleOp c.opaque outer last first bytes) d x
+  -- the same for the parser of one operation
+  pub alone_read : (x : Op) (d : ContextModel) → single_op_at free last (fresh first bytes c) ≡ Read (x, d) → IsOnly (IsSingleOp c.opaque outer last first bytes) d x
   unfolding single_op_at
   alone_read x d e =
       let a = bind_read (op_at free last 129 (fresh first bytes c)) whole (x, d) e in
       let b = option_read (after End a.0.1.bytes) (told a.0.0 a.0.1.things) (x, d) a.2 in
       let q = read_parts a.0.0 x a.0.1.things d b.2 in
-      subst (λ (u : Op × Things). IsOnly (IsSingleOp c.opaque outer last first bytes) u.1 u.0) (λ i. (q.0 i, q.1 i)) (single_read a.0.0 a.0.1 b.0 a.1 b.1)
+      subst (λ (u : Op × ContextModel). IsOnly (IsSingleOp c.opaque outer last first bytes) u.1 u.0) (λ i. (q.0 i, q.1 i)) (single_read a.0.0 a.0.1 b.0 a.1 b.1)
 
   pub alone_wrong : single_op_at free last (fresh first bytes c) ≡ Wrong → IsNone (IsSingleOp c.opaque outer last first bytes)
   unfolding single_op_at
@@ -129,10 +129,10 @@ module _ (free : Frees) (outer : FreeTerms) (last first : ℕ) (bytes : List ℕ
       by_op Wrong wrong w = single_wrong wrong
       by_op Full full w = absurd cc
 
--- ---- what is looked at afterwards
+-- ---- the checks after the parse
 
 module _ (o : Bool) (outer : FreeTerms) (first : ℕ) (bytes : List ℕ) where
-  pub part_spelled : (c : Things) (t : Op) → text_reason bytes ≡ None → IsOnly (IsSingleOp o outer (last_from first) first bytes) c t → IsLoneTree first c t → IsOnly (SpellsOp o outer first bytes) c t
+  pub part_spelled : (c : ContextModel) (t : Op) → text_reason bytes ≡ None → IsOnly (IsSingleOp o outer (last_from first) first bytes) c t → IsLoneTree first c t → IsOnly (SpellsOp o outer first bytes) c t
   part_spelled c t text h w = record {
     known = h.known;
     holds = record {
@@ -146,7 +146,7 @@ module _ (o : Bool) (outer : FreeTerms) (first : ℕ) (bytes : List ℕ) where
     only = λ y s. h.only y s.spelled;
   }
 
-  pub no_part : (c : Things) (t : Op) → IsOnly (IsSingleOp o outer (last_from first) first bytes) c t → (IsLoneTree first c t → ⊥) → IsNone (SpellsOp o outer first bytes)
+  pub no_part : (c : ContextModel) (t : Op) → IsOnly (IsSingleOp o outer (last_from first) first bytes) c t → (IsLoneTree first c t → ⊥) → IsNone (SpellsOp o outer first bytes)
   no_part c t h not_part y s =
       let same : y ≡ meaning c t = h.only y s.spelled in
       let shallow : depth (meaning c t) ≤ most_around = subst (λ (u : Operation). depth u ≤ most_around) same s.shallow in

@@ -5,7 +5,7 @@ use Rattle.std.proofs.Common.{◌≡◌, ℕ, Bool, true, false, true≢false, L
 use Rattle.ir_text_tokens.specs.Strings.{string_bytes}
 use Rattle.std.proofs.lemmas.Bool.{or_parts}
 
--- where no byte is a backslash, a string stands for its own bytes
+-- a string without a backslash denotes its own bytes
 pub plain_is : (raw : List ℕ) → list_any (λ byte. eqb byte 92) raw ≡ false → string_bytes raw ≡ raw
 unfolding string_bytes
 plain_is [] e = refl

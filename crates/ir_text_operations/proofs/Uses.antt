@@ -1,18 +1,18 @@
--- Uses of values, read name first.
+-- Operands, parsed name first.
 use Rattle.std.proofs.Common.{◌≡◌, ℕ, List, Option, Some, None, refl, ◌∙◌}
 use Rattle.ir_text_tokens.specs.Scopes.{Binding}
 use Rattle.ir_text_tokens.specs.Tokens.{Lexeme, value, next}
 use Rattle.ir_text_types.specs.declared.error.ReadError.{ReadError}
 use Rattle.ir_text_types.specs.Outcomes.{Outcome, Read, ◌>>=◌, of_option, Fails}
 use Rattle.ir_text_types.proofs.ListSteps.{fails_with}
-use Rattle.ir_text_names.specs.declared.bound.Bound.{Bound}
+use Rattle.ir_text_names.specs.declared.bound.TypedValue.{TypedValue}
 use Rattle.ir_text_types.specs.Typed.{Text}
 use Rattle.ir_text_names.specs.NameReading.{name_from, value_name_at}
 use Rattle.ir_text_operations.specs.Free.{seen_as}
 use Rattle.ir_text_operations.specs.FrontReading.{Frees, member_of, use_from, use_at}
 
-module _ (free : Frees) (here : List (Binding (List Bound))) where
-  abbrev seen : List ℕ × Text → Outcome (Bound × Text)
+module _ (free : Frees) (here : List (Binding (List TypedValue))) where
+  abbrev seen : List ℕ × Text → Outcome (TypedValue × Text)
   seen n = member_of (seen_as free here n.0) n.1
 
   by_token : (l : Lexeme) (rest : Text) → use_from free here l rest ≡ (name_from l rest >>= seen)

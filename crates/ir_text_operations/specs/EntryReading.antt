@@ -1,7 +1,7 @@
--- Reading dictionaries.
+-- Parses dictionaries.
 use Rattle.std.specs.Prelude.{ℕ, nat_eq, Bool, false, if◌then◌else◌, List, [], Option, Some, None}
 use Rattle.ir_text_tokens.specs.declared.token.Mark.TheVariants.{OpenCurly, CloseCurly, Less, Greater}
-use Rattle.ir_types.specs.Things.{Things}
+use Rattle.ir_types.specs.Things.{ContextModel}
 use Rattle.ir_types.specs.Limits.{most_depth}
 use Rattle.ir_types.specs.Terms.{name_term}
 use Rattle.ir_types.specs.Words.{is_inherent}
@@ -12,16 +12,16 @@ use Rattle.ir_text_attributes.specs.AttrReading.{Entries, key_at, value_at}
 use Rattle.ir_text_operations.specs.Limits.{most_written}
 use Rattle.ir_text_operations.specs.Entries as keyed
 
--- whether a key is a property of an operation wherever it stands; no key is where no operation is given
-abbrev pub is_property_in : Things → Option ℕ → ℕ → Bool
+-- whether a key is always a property of an operation; if no operation is given, no key is
+abbrev pub is_property_in : ContextModel → Option ℕ → ℕ → Bool
 is_property_in c None k = false
 is_property_in c (Some op) k = is_inherent (name_term c op) (name_term c k)
 
--- whether a key may not come behind these entries
-abbrev pub refused_in : Things → Option ℕ → Entries → ℕ → Entries → Bool
+-- whether an entry with the key can't follow these entries
+abbrev pub refused_in : ContextModel → Option ℕ → Entries → ℕ → Entries → Bool
 refused_in c op properties k es = keyed.is_refused nat_eq (is_property_in c op) properties k es
 
--- the attribute of an entry, as the context's flag has it
+-- the attribute of an entry; the context's flag says whether opaque attributes are allowed
 abbrev pub value_here : ℕ → Parse Typed ℕ
 value_here depth s = value_at s.1.opaque depth s
 
@@ -46,7 +46,7 @@ abbrev pub properties_from : Typed → Option Typed → Outcome (Entries × Type
 properties_from s (Some c) = some_properties c
 properties_from s None = Read ([], s)
 
--- the properties, where they are written
+-- the properties, if they are written
 unfoldable pub properties_at : Parse Typed Entries
 properties_at s = properties_from s (after_typed Less s)
 
@@ -54,6 +54,6 @@ abbrev pub attributes_from : ℕ → Entries → Typed → Option Typed → Outc
 attributes_from op properties s (Some c) = entries_at (Some op) properties c
 attributes_from op properties s None = Read ([], s)
 
--- the attribute dictionary, where it is written
+-- the attribute dictionary, if it is written
 unfoldable pub attributes_at : ℕ → Entries → Parse Typed Entries
 attributes_at op properties s = attributes_from op properties s (after_typed OpenCurly s)

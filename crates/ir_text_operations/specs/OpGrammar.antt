@@ -1,5 +1,5 @@
--- The grammar of operations, in terms of what is spelled. Language Reference, "Operations", "Regions",
--- "Blocks"; Traits, "IsolatedFromAbove".
+-- The grammar of operations, as terms. Language Reference, "Operations", "Regions", "Blocks"; Traits,
+-- "IsolatedFromAbove".
 use Rattle.std.specs.Prelude.{◌≡◌, ◌⊎◌, ℕ, zero, suc, ◌+◌, ◌<◌, ◌≤◌, ◌==◌, Bool, true, false, List, [], ◌∷◌, ◌++◌, length, map, take, drop, slice_get, Option, Some, None}
 use Rattle.std.specs.List.{list_all}
 use Rattle.std.specs.Char.{is_ascii_digit}
@@ -28,18 +28,18 @@ use Rattle.ir_text_operations.specs.Free.{seen_as}
 use Rattle.ir_text_names.specs.Packs.{Counted, counts}
 use Rattle.ir_text_operations.specs.Seen.{BoundTerm, PackTerm, Seen, seen_rest, seen_scopes, seen_inside, seen_outside, IsMarkSeen, InText, IsBound}
 
--- ---- before the dictionaries
+-- ---- the header
 
--- a name behind its sign
+-- a name after its sigil
 abbrev pub IsName : Grammar Text (List ℕ)
 IsName n old new = Token (value n) old new
 
--- a number, decimal or hexadecimal, that isn't 0
+-- a decimal or hexadecimal number that isn't 0
 abbrev pub IsNumber : Grammar Text ℕ
 IsNumber k old new = (digits : List ℕ) × Token (integer digits) old new × (k ≡ integer_of digits) × (1 ≤ k)
 
--- how many results a name stands for, behind names of so many: 1 where no count stands; all have no more than an
--- operation may
+-- the count of results of a name after names of `before` results: 1 if no count is written; in total at most as many
+-- as an operation may have
 abbrev pub IsCount : ℕ → Grammar Text ℕ
 IsCount before = Then (Either IsMark Colon IsNumber (Done 1)) (λ k. When (before + k ≤ most_items) (Done k))
 
@@ -54,25 +54,25 @@ abbrev pub IsResultsFrom : Lexeme → Grammar Text (Option (List Counted))
 IsResultsFrom (value n) y old new = (ns : List Counted) × IsNames ns old new × (y ≡ Some ns)
 IsResultsFrom _ y old new = (y ≡ None) × (new ≡ old)
 
--- the names of the results, where a name comes first
+-- the names of the results, if a name comes first
 abbrev pub IsResults : Grammar Text (Option (List Counted))
 IsResults y old new = (t : Lexeme) × (rest : Text) × Token t old rest × IsResultsFrom t y old new
 
--- the name of an operation, which has one byte or more
+-- the name of an operation, which isn't empty
 abbrev pub IsOpName : Grammar Text (List ℕ)
 IsOpName n old new = (raw : List ℕ) × Token (string raw) old new × ((length (string_bytes raw) == 0) ≡ false) × (n ≡ string_bytes raw)
 
--- which of a pack is meant: the one whose decimal number stands behind a hash sign, or the first where no hash sign is next
+-- an index into a pack: the decimal number after a hash sign, or 0 if there is no hash sign
 abbrev pub IsPlace : Grammar Text ℕ
 IsPlace k old new =
     ((digits : List ℕ) × Token (hash digits) old new × (list_all is_ascii_digit digits ≡ true) × (k ≡ place_value 10 digits))
     ⊎ (((word rest : List ℕ) → Token (hash word) old rest → ⊥) × (k ≡ 0) × (new ≡ old))
 
--- what free names stand for
+-- the values of free names
 abbrev pub FreeTerms : Type 0
 FreeTerms = List ℕ → Option BoundTerm
 
--- a name that can be seen, or is free, and one of the values for which it stands
+-- a name that is visible or free, and one of its values
 abbrev pub IsUse : FreeTerms → List (Binding PackTerm) → Grammar Text BoundTerm
 IsUse free here b old new =
     (n : List ℕ) × (mid : Text) × (pack : PackTerm) × (k : ℕ) × Token (value n) old mid × (seen_as free here n ≡ Some pack) × IsPlace k mid new × (slice_get pack k ≡ Some b)
@@ -89,18 +89,18 @@ IsStart free here =
 
 -- ---- dictionaries
 
--- whether a key is a property of an operation wherever it stands; no key is where no operation is given
+-- whether a key is always a property of an operation; if no operation is given, no key is
 abbrev pub is_property : Option (List ℕ) → List ℕ → Bool
 is_property None k = false
 is_property (Some op) k = is_inherent op k
 
--- whether types and attributes that aren't known are spelled by their texts
+-- whether opaque types and attributes are allowed
 module _ (opaque : Bool) where
   -- the attribute of an entry
   abbrev pub IsEntryValue : Grammar Text AttrTerm
   IsEntryValue = IsValue most_depth (IsAttr opaque most_depth)
 
-  -- an entry whose key does not stand before it, nor among the properties, and for which there is room
+  -- an entry whose key is neither in `before` nor among the properties, in a dictionary that isn't full
   abbrev pub IsOpEntry : Option (List ℕ) → List EntryTerm → List EntryTerm → Grammar Text EntryTerm
   IsOpEntry op properties before =
       Then IsKey (λ k. When (is_refused bytes_eq (is_property op) properties k before ≡ false) (Then IsEntryValue (λ a. Done (k, a))))
@@ -108,24 +108,24 @@ module _ (opaque : Bool) where
   abbrev pub IsEntries : Option (List ℕ) → List EntryTerm → Grammar Text (List EntryTerm)
   IsEntries op properties = IsList IsMark CloseCurly (IsOpEntry op properties) most_written
 
-  -- the properties, where they are written
+  -- the properties, if they are written
   abbrev pub IsProperties : Grammar Text (List EntryTerm)
   IsProperties = Either IsMark Less (After IsMark OpenCurly (Then (IsEntries None []) (λ es. After IsMark Greater (Done es)))) (Done [])
 
-  -- the attribute dictionary, where it is written
+  -- the attribute dictionary, if it is written
   abbrev pub IsAttributes : List ℕ → List EntryTerm → Grammar Text (List EntryTerm)
   IsAttributes op properties = Either IsMark OpenCurly (IsEntries (Some op) properties) (Done [])
 
   -- ---- blocks
 
-  -- an argument, whose name can be seen from then on
+  -- an argument, whose name is visible from then on
   abbrev pub IsArg : ℕ → ℕ → List TypeTerm → Grammar Seen TypeTerm
   IsArg id r before = Then (InText IsName) (λ n. After IsMarkSeen Colon (Then (InText (IsType opaque most_depth)) (λ t. binds n t)))
     where
       binds : List ℕ → TypeTerm → Grammar Seen TypeTerm
       binds n t y old new = (scopes : Scopes PackTerm) × IsBound n ((record { value = values.Arg id r (length before); type = t }) ∷ []) old.scopes scopes × (y ≡ t) × (new ≡ seen_scopes old scopes)
 
-  -- arguments in parentheses or none, and a colon
+  -- optional arguments in parentheses, and a colon
   abbrev pub IsLabelArgs : ℕ → ℕ → Grammar Seen (List TypeTerm)
   IsLabelArgs id r = Then (Either IsMarkSeen OpenRound (IsList IsMarkSeen CloseRound (IsArg id r) most_items) (Done [])) (λ args. After IsMarkSeen Colon (Done args))
 
@@ -133,11 +133,11 @@ module _ (opaque : Bool) where
   IsHeadFrom id r (label l) rest y old new = (args : List TypeTerm) × IsLabelArgs id r args (seen_rest old rest) new × (y ≡ Some args)
   IsHeadFrom id r _ rest y old new = (y ≡ None) × (new ≡ old)
 
-  -- a label with the arguments of the block, where a label comes first
+  -- a label with the arguments of the block, if a label comes first
   abbrev pub IsHead : ℕ → ℕ → Grammar Seen (Option (List TypeTerm))
   IsHead id r y old new = (t : Lexeme) × (rest : Text) × Token t old.bytes rest × IsHeadFrom id r t rest y old new
 
--- ---- operations up to a closing mark, at most so many, behind those of `front`
+-- ---- operations up to a closing mark after those of `front`, at most `room`
 
 module _ (close : Mark) (P : Grammar Seen Operation) where
   unfoldable pub IsOps : ℕ → List Operation → Grammar Seen (List Operation)
@@ -150,7 +150,7 @@ abbrev pub RegionTerm : Type 0
 RegionTerm = RegionOf (List ℕ) TypeTerm AttrTerm
 
 module _ (opaque : Bool) where
-  -- the names of a region are hidden again at its end; in one of an isolated operation no other names are seen
+  -- a region; its names go out of scope at its end, and no outer name is visible in a region of an isolated operation
   abbrev pub IsRegion : Grammar Seen (List Operation) → ℕ → Bool → List RegionTerm → Grammar Seen RegionTerm
   IsRegion P id isolated before = After IsMarkSeen OpenCurly inner
     where
@@ -166,23 +166,23 @@ module _ (opaque : Bool) where
 
 -- ---- operations
 
--- the results from place k on, by their types
+-- the results from index k on, with their types
 abbrev pub result_terms : ℕ → ℕ → List TypeTerm → PackTerm
 result_terms id k [] = []
 result_terms id k (y ∷ ys) = record { value = values.Result id k; type = y } ∷ result_terms id (k + 1) ys
 
--- each name stands for as many of the results as it counts, from place k on
+-- each name is bound to as many results as its count, from index k on
 abbrev pub IsBoundResults : ℕ → ℕ → List Counted → List TypeTerm → (old new : Scopes PackTerm) → Type 0
 IsBoundResults id k [] ys old new = new ≡ old
 IsBoundResults id k (n ∷ ns) ys old new = (mid : Scopes PackTerm) × IsBound n.0 (result_terms id k (take n.1 ys)) old mid × IsBoundResults id (k + n.1) ns (drop n.1 ys) mid new
 
--- where names are written, their counts are as many as the results
+-- if names are written, their counts sum up to the number of results
 abbrev pub IsFinished : ℕ → Option (List Counted) → List TypeTerm → (old new : Scopes PackTerm) → Type 0
 IsFinished id None outputs old new = new ≡ old
 IsFinished id (Some names) outputs old new = (counts names ≡ length outputs) × IsBoundResults id 0 names outputs old new
 
 module _ (opaque : Bool) where
-  -- behind the regions: the attributes, and the function type, whose inputs are the types of the operands
+  -- after the regions: the attributes, and the function type, whose inputs are the types of the operands
   abbrev pub IsTail : ℕ → StartTerm → List EntryTerm → List RegionTerm → Grammar Seen Operation
   IsTail id h properties regions =
       Then (InText (IsAttributes opaque h.name properties)) (λ es. After IsMarkSeen Colon (Then (InText (IsFunctionType opaque)) (λ t. When (map (λ b. b.type) h.operands ≡ t.0) (ends es t.1))))
@@ -198,7 +198,7 @@ module _ (opaque : Bool) where
       × IsStart free old.scopes.here h old.bytes mid × IsProperties opaque properties mid rest
       × Then (IsRegions opaque P old.next (is_isolated h.name)) (λ regions. IsTail old.next h properties regions) y (record { bytes = rest; scopes = old.scopes; next = old.next + 1 }) new
 
-  -- an operation with at most that many levels, of which it is one; ids are given in pre-order, each below `last`
+  -- an operation of at most this many levels, including its own; ids are assigned in pre-order, each less than `last`
   unfoldable pub IsOp : FreeTerms → ℕ → ℕ → Grammar Seen Operation
   IsOp free last zero y old new = ⊥
   IsOp free last (suc depth) y old new = (old.next < last) × IsOpWith free (IsOps CloseCurly (IsOp free last depth) most_ops []) y old new

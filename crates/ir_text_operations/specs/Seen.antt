@@ -1,4 +1,4 @@
--- Where the grammar of operations is: the text that is left, the names with what they stand for, and the next id.
+-- The state of the grammar of operations: the rest of the text, the names with their values, and the next id.
 use Rattle.std.specs.Prelude.{◌≡◌, ℕ, Bool, List, None, []}
 use Rattle.ir_types.specs.Terms.{TypeTerm}
 use Rattle.ir_tree.specs.declared.value.Value.{Value}
@@ -11,7 +11,7 @@ pub record BoundTerm : Type 0 where
   pub value : Value
   pub type : TypeTerm
 
--- what a name stands for: one value, or all that a count speaks of
+-- the values of a name: one value, or as many as its count
 abbrev pub PackTerm : Type 0
 PackTerm = List BoundTerm
 
@@ -32,17 +32,17 @@ seen_inside isolated s = seen_scopes s (entered isolated s.scopes)
 abbrev pub seen_outside : Seen → Seen
 seen_outside s = seen_scopes s (left s.scopes)
 
--- at the beginning of a text
+-- the state at the start of a text
 abbrev pub seen_fresh : ℕ → List ℕ → Seen
 seen_fresh next bytes = record { bytes = bytes; scopes = record { here = []; outer = [] }; next = next }
 
 abbrev pub IsMarkSeen : Mark → Seen → Seen → Type 0
 IsMarkSeen m old new = (rest : List ℕ) × IsMark m old.bytes rest × (new ≡ seen_rest old rest)
 
--- what a text alone spells
+-- a derivation that depends on the text alone
 abbrev pub InText : {B : Type 0} → Grammar (List ℕ) B → Grammar Seen B
 InText P y old new = (rest : List ℕ) × P y old.bytes rest × (new ≡ seen_rest old rest)
 
--- a name that is not bound yet, and stands for the pack from here on
+-- a new name is bound to the pack
 abbrev pub IsBound : List ℕ → PackTerm → (old new : Scopes PackTerm) → Type 0
 IsBound name b old new = (find name old.here ≡ None) × (new ≡ bound name b old)

@@ -1,4 +1,5 @@
--- Which tree a text spells. Language Reference, "High-Level Structure" and "Regions"; Builtin Dialect, "builtin.module".
+-- Which tree a text denotes. Language Reference, "High-Level Structure" and "Regions"; Builtin Dialect,
+-- "builtin.module".
 use Rattle.std.specs.Prelude.{◌≡◌, ◌≤◌, ◌+◌, min, ◌⊎◌, ℕ, ◌==◌, Bool, true, false, ◌&&◌, List, [], length, codes, Option, Some, None, IsTrue}
 use Rattle.std.specs.Str.{bytes_eq}
 use Rattle.ir_text_tokens.specs.declared.token.Mark.TheVariants.{End}
@@ -10,7 +11,7 @@ use Rattle.ir_tree.specs.Tree.{op, region, no_regions, block, ops_of, head}
 use Rattle.ir_tree.specs.Limits.{every, depth, counts_fit, most_around, most_ops, most_next}
 use Rattle.ir_tree.specs.Meaning.{Operation, key_before, dictionaries_rise}
 use Rattle.ir_tree.specs.Ids.{IsNumberedFrom}
-use Rattle.ir_tree.specs.WellFormed.{IsFormed}
+use Rattle.ir_tree.specs.WellFormed.{IsValidTree}
 use Rattle.ir_text_types.specs.Grammars.{IsMark}
 use Rattle.ir_text_operations.specs.Seen.{Seen, seen_fresh}
 use Rattle.ir_text_operations.specs.Free.{no_names}
@@ -36,7 +37,7 @@ begins_module bytes = begins_from (next bytes)
 abbrev pub is_root : Operation → Bool
 is_root t = is_table (head t).name && (length (head t).operands == 0 && length (head t).results == 0)
 
--- the text is one operation, and that is such a module: it is the root
+-- an explicit root: the text is one operation, which is such a module
 unfoldable pub IsExplicit : Bool → List ℕ → Operation → Type 0
 IsExplicit opaque bytes t =
     (begins_module bytes ≡ true) × ((end : Seen) × (rest : List ℕ) × IsOp opaque no_names most_ops most_levels t (seen_fresh 0 bytes) end × IsMark End end.bytes rest) × (is_root t ≡ true)
@@ -45,36 +46,35 @@ IsExplicit opaque bytes t =
 abbrev pub module_of : List Operation → Operation
 module_of os = op (record { id = 0; name = module_word; operands = []; results = []; properties = []; attributes = [] }) (region (block [] (ops_of os)) no_regions)
 
--- the text is any other list of operations: they are those of an implicit root
+-- an implicit root: the text is any other list of operations
 unfoldable pub IsImplicit : Bool → List ℕ → Operation → Type 0
 IsImplicit opaque bytes t =
     ((o : Operation) → IsExplicit opaque bytes o → ⊥)
     × ((os : List Operation) × (end : Seen) × IsOps End (IsOp opaque no_names most_ops most_around) most_ops [] os (seen_fresh 1 bytes) end × (t ≡ module_of os))
 
--- a text spells a tree whose ids are 0, 1, .. in pre-order, whose operations see their operands, which passes
--- no limit, and whose dictionaries are sorted, each key once; `opaque` says whether types and attributes that aren't
--- known are spelled by their texts
+-- the text denotes a tree whose ids are 0, 1, .. in pre-order, whose operands are visible, which is within all
+-- limits, and whose dictionaries are sorted by distinct keys; `opaque` says whether opaque types and attributes are
+-- allowed
 pub record Spells (opaque : Bool) (bytes : List ℕ) (t : Operation) : Type 0 where
   pub text : text_reason bytes ≡ None
   pub spelled : IsExplicit opaque bytes t ⊎ IsImplicit opaque bytes t
-  pub formed : IsFormed is_isolated t
+  pub formed : IsValidTree is_isolated t
   pub numbered : IsNumberedFrom 0 t
   pub sorted : IsTrue (every (dictionaries_rise key_before) t)
 
--- ---- one operation alone
+-- ---- one operation
 
--- the first id that none may have, where ids begin with the next one: so many are read, and all are below the
--- limit of ids
+-- the first id that no operation may have, given the next id: it allows `most_ops` operations within the limit of ids
 abbrev pub last_from : ℕ → ℕ
 last_from next = min (next + most_ops) most_next
 
--- the text is one operation and nothing after it; the names that it leaves free stand for values of the module around
+-- the text is one operation, and the end; its free names denote values of the outer module
 unfoldable pub IsSingleOp : Bool → FreeTerms → ℕ → ℕ → List ℕ → Operation → Type 0
 IsSingleOp opaque free last next bytes t = (end : Seen) × (rest : List ℕ) × IsOp opaque free last most_levels t (seen_fresh next bytes) end × IsMark End end.bytes rest
 
--- a text spells an operation whose ids are next, next + 1, .. in pre-order, each below the greatest, which
--- passes no limit, and whose dictionaries are sorted, each key once. Its operands are seen where they stand,
--- as the grammar has it, or free
+-- the text denotes an operation whose ids are next, next + 1, .. in pre-order, each less than the limit, which is
+-- within all limits, and whose dictionaries are sorted by distinct keys; its operands are visible by the rules of the
+-- grammar, or free
 pub record SpellsOp (opaque : Bool) (free : FreeTerms) (next : ℕ) (bytes : List ℕ) (t : Operation) : Type 0 where
   pub text : text_reason bytes ≡ None
   pub spelled : IsSingleOp opaque free (last_from next) next bytes t

@@ -13,7 +13,7 @@ use ir_types::ids::NameId;
 use ir_types::limits::MOST_ENTRIES;
 use std::alloc::{AllocError, Global};
 
-/// Whether a key is a property of an operation wherever it is written.
+/// Returns whether a key is a property of the operation even if it is written among the attributes.
 fn is_property(ctx: &Context, op: &Option<NameId>, key: NameId) -> bool
     ensures { result ≡ is_property_in ctx.now op.now key }
 {
@@ -41,7 +41,7 @@ fn staying_count(ctx: &Context, op: &Option<NameId>, entries: &[Entry]) -> usize
         .count()
 }
 
-/// Whether the dictionary to which a key belongs is full.
+/// Returns whether the dictionary that a key belongs to is full.
 pub fn no_room(
     ctx: &Context,
     op: &Option<NameId>,
@@ -66,7 +66,7 @@ pub fn no_room(
     }
 }
 
-/// How many of the first entries have keys before which a key does not come.
+/// Returns the number of leading entries whose keys are not greater than `key`: the index at which `key` is inserted.
 fn place_of(ctx: &Context, sorted: &[Entry], key: NameId) -> usize
     ensures place { result ≡ prefix_len (λ f. not (key_before_in ctx.now key f.0)) sorted.now }
     ensures within { result ≤ length sorted.now }
@@ -77,8 +77,8 @@ fn place_of(ctx: &Context, sorted: &[Entry], key: NameId) -> usize
         .count()
 }
 
-/// Puts an entry among sorted ones.
-fn put_among(ctx: &Context, sorted: &mut Vec<Entry>, entry: Entry) -> Result<(), AllocError>
+/// Inserts an entry into a sorted list.
+fn push_among(ctx: &Context, sorted: &mut Vec<Entry>, entry: Entry) -> Result<(), AllocError>
     ensures { OnOk result (sorted.new.items ≡ put_among (key_before_in ctx.now) entry sorted.old.items) }
 {
     let place = place_of(ctx, sorted, entry.0);
@@ -86,18 +86,18 @@ fn put_among(ctx: &Context, sorted: &mut Vec<Entry>, entry: Entry) -> Result<(),
     Ok(())
 }
 
-/// Puts entries among sorted ones, the last one first.
-fn put_all(ctx: &Context, sorted: &mut Vec<Entry>, entries: &[Entry]) -> Result<(), AllocError>
+/// Inserts entries into a sorted list, the last one first.
+fn push_all(ctx: &Context, sorted: &mut Vec<Entry>, entries: &[Entry]) -> Result<(), AllocError>
     ensures { OnOk result (sorted.new.items ≡ put_all (key_before_in ctx.now) sorted.old.items entries.now) }
 {
-    let [entry, behind @ ..] = entries else {
+    let [entry, trailing @ ..] = entries else {
         return Ok(());
     };
-    put_all(ctx, sorted, behind)?;
-    put_among(ctx, sorted, *entry)
+    push_all(ctx, sorted, trailing)?;
+    push_among(ctx, sorted, *entry)
 }
 
-/// Puts those entries among sorted ones that are properties, the last one first.
+/// Inserts the entries that are properties into a sorted list, the last one first.
 fn put_moved(
     ctx: &Context,
     op: &Option<NameId>,
@@ -106,17 +106,17 @@ fn put_moved(
 ) -> Result<(), AllocError>
     ensures { OnOk result (sorted.new.items ≡ put_all (key_before_in ctx.now) sorted.old.items (moved (is_property_in ctx.now op.now) entries.now)) }
 {
-    let [entry, behind @ ..] = entries else {
+    let [entry, trailing @ ..] = entries else {
         return Ok(());
     };
-    put_moved(ctx, op, sorted, behind)?;
+    put_moved(ctx, op, sorted, trailing)?;
     if is_property(ctx, op, entry.0) {
-        put_among(ctx, sorted, *entry)?;
+        push_among(ctx, sorted, *entry)?;
     }
     Ok(())
 }
 
-/// Puts those entries among sorted ones that are no properties, the last one first.
+/// Inserts the entries that are no properties into a sorted list, the last one first.
 fn put_staying(
     ctx: &Context,
     op: &Option<NameId>,
@@ -125,17 +125,17 @@ fn put_staying(
 ) -> Result<(), AllocError>
     ensures { OnOk result (sorted.new.items ≡ put_all (key_before_in ctx.now) sorted.old.items (staying (is_property_in ctx.now op.now) entries.now)) }
 {
-    let [entry, behind @ ..] = entries else {
+    let [entry, trailing @ ..] = entries else {
         return Ok(());
     };
-    put_staying(ctx, op, sorted, behind)?;
+    put_staying(ctx, op, sorted, trailing)?;
     if !is_property(ctx, op, entry.0) {
-        put_among(ctx, sorted, *entry)?;
+        push_among(ctx, sorted, *entry)?;
     }
     Ok(())
 }
 
-/// The properties of an operation, sorted, with those that were written among its attributes.
+/// Returns the sorted properties of an operation, including those that were written among its attributes.
 #[tactic(auto, using(crate::proofs::Placing::put_both))]
 pub fn properties_of(
     alloc: Global,
@@ -148,11 +148,11 @@ pub fn properties_of(
 {
     let mut sorted = Vec::with_capacity(alloc, properties.len())?;
     put_moved(ctx, &Some(op), &mut sorted, attributes)?;
-    put_all(ctx, &mut sorted, properties)?;
+    push_all(ctx, &mut sorted, properties)?;
     Ok(sorted)
 }
 
-/// The other attributes of an operation, sorted.
+/// Returns the sorted attributes of an operation, without its properties.
 pub fn attributes_of(
     alloc: Global,
     ctx: &Context,

@@ -1,13 +1,13 @@
-//! Dictionaries as they are written. Language Reference, "Attributes" and "Properties".
+//! Parses the dictionaries of an operation. Language Reference, "Attributes" and "Properties".
 ghost use Rattle.std.specs.Prelude.{◌≡◌, is_some};
-ghost use Rattle.ir_types.specs.Things.{Grows};
-ghost use Rattle.ir_text_types.specs.Outcomes.{Gives};
+ghost use Rattle.ir_types.specs.Things.{IsExtendedBy};
+ghost use Rattle.ir_text_types.specs.Outcomes.{Returns};
 ghost use Rattle.ir_text_operations.specs.EntryReading.{refused_in, entry_at, entries_at, some_properties, properties_at, attributes_at};
 
 use crate::dictionaries::no_room;
 use crate::limits::MOST_WRITTEN;
 use ir_text_attributes::dictionaries::{Entry, has_key, key, value};
-use ir_text_names::lists::{Behind, behind_item};
+use ir_text_names::lists::{AfterItem, after_item};
 use ir_text_tokens::refusal::TextRefusal;
 use ir_text_tokens::token::Mark;
 use ir_text_types::error::{ReadError, wrong};
@@ -17,7 +17,8 @@ use ir_types::ids::NameId;
 use ir_types::limits::MOST_DEPTH;
 use std::alloc::Global;
 
-/// Why a key may not come behind these entries: it stands there, or there is no room.
+/// Returns why an entry with this key can't follow the entries of `before`: the key is repeated, or the dictionary is
+/// full.
 fn refusal(
     ctx: &Context,
     op: &Option<NameId>,
@@ -36,7 +37,7 @@ fn refusal(
     None
 }
 
-/// An entry whose key may come behind those before it.
+/// Parses an entry whose key is allowed after the entries of `before`.
 #[tactic(auto, using(ir_types::proofs::Growth::grows_refl, ir_types::proofs::Growth::grows_trans), unfolding(crate::specs::EntryReading::entry_at))]
 fn entry<'a>(
     alloc: Global,
@@ -46,8 +47,8 @@ fn entry<'a>(
     before: &[Entry],
     bytes: &'a [u8],
 ) -> Result<(Entry, &'a [u8]), ReadError>
-    ensures reads { Gives (λ x. (x.0, (x.1.now, ctx.new))) result (entry_at op.now properties.now before.now (bytes.now, ctx.old)) }
-    ensures grows { Grows ctx.old ctx.new }
+    ensures reads { Returns (λ x. (x.0, (x.1.now, ctx.new))) result (entry_at op.now properties.now before.now (bytes.now, ctx.old)) }
+    ensures grows { IsExtendedBy ctx.old ctx.new }
 {
     let (key, rest) = match key(alloc, ctx, bytes) {
         Ok(found) => found,
@@ -64,7 +65,7 @@ fn entry<'a>(
     Ok(((key, attr), rest))
 }
 
-/// Entries up to the closing brace. Most dictionaries have one, which takes no more memory than that.
+/// Parses entries up to the closing brace. A dictionary of one entry, the usual case, allocates memory for one entry.
 #[tactic(auto, using(ir_types::proofs::Growth::grows_refl, ir_types::proofs::Growth::grows_trans), unfolding(ir_text_types::specs::Lists::list_at, crate::specs::EntryReading::entries_at))]
 fn entries<'a>(
     alloc: Global,
@@ -73,8 +74,8 @@ fn entries<'a>(
     properties: &[Entry],
     bytes: &'a [u8],
 ) -> Result<(Vec<Entry>, &'a [u8]), ReadError>
-    ensures reads { Gives (λ x. (x.0.items, (x.1.now, ctx.new))) result (entries_at op.now properties.now (bytes.now, ctx.old)) }
-    ensures grows { Grows ctx.old ctx.new }
+    ensures reads { Returns (λ x. (x.0.items, (x.1.now, ctx.new))) result (entries_at op.now properties.now (bytes.now, ctx.old)) }
+    ensures grows { IsExtendedBy ctx.old ctx.new }
 {
     let mut items = Vec::new(alloc);
     if let Some(rest) = after(bytes, Mark::CloseCurly) {
@@ -88,24 +89,24 @@ fn entries<'a>(
             Err(e) => return Err(e),
         };
         items.push(item)?;
-        match behind_item(tail, Mark::CloseCurly) {
-            Ok(Behind::More(more)) => rest = more,
-            Ok(Behind::End(end)) => return Ok((items, end)),
+        match after_item(tail, Mark::CloseCurly) {
+            Ok(AfterItem::More(more)) => rest = more,
+            Ok(AfterItem::End(end)) => return Ok((items, end)),
             Err(e) => return Err(e),
         }
     }
     Err(ReadError::Refused(wrong(TextRefusal::TooMany, rest)))
 }
 
-/// The properties behind their opening sign.
+/// Parses the properties after their opening `<`.
 #[tactic(auto, using(ir_types::proofs::Growth::grows_refl, ir_types::proofs::Growth::grows_trans), unfolding(crate::specs::EntryReading::some_properties))]
 fn some_properties<'a>(
     alloc: Global,
     ctx: &mut Context,
     bytes: &'a [u8],
 ) -> Result<(Vec<Entry>, &'a [u8]), ReadError>
-    ensures reads { Gives (λ x. (x.0.items, (x.1.now, ctx.new))) result (some_properties (bytes.now, ctx.old)) }
-    ensures grows { Grows ctx.old ctx.new }
+    ensures reads { Returns (λ x. (x.0.items, (x.1.now, ctx.new))) result (some_properties (bytes.now, ctx.old)) }
+    ensures grows { IsExtendedBy ctx.old ctx.new }
 {
     let rest = match expect(bytes, Mark::OpenCurly) {
         Ok(rest) => rest,
@@ -120,15 +121,15 @@ fn some_properties<'a>(
     }
 }
 
-/// The properties, where they are written.
+/// Parses the properties, or returns none if they aren't written.
 #[tactic(auto, using(ir_types::proofs::Growth::grows_refl, ir_types::proofs::Growth::grows_trans), unfolding(crate::specs::EntryReading::properties_at))]
 pub fn properties<'a>(
     alloc: Global,
     ctx: &mut Context,
     bytes: &'a [u8],
 ) -> Result<(Vec<Entry>, &'a [u8]), ReadError>
-    ensures reads { Gives (λ x. (x.0.items, (x.1.now, ctx.new))) result (properties_at (bytes.now, ctx.old)) }
-    ensures grows { Grows ctx.old ctx.new }
+    ensures reads { Returns (λ x. (x.0.items, (x.1.now, ctx.new))) result (properties_at (bytes.now, ctx.old)) }
+    ensures grows { IsExtendedBy ctx.old ctx.new }
 {
     if let Some(rest) = after(bytes, Mark::Less) {
         return some_properties(alloc, ctx, rest);
@@ -136,7 +137,7 @@ pub fn properties<'a>(
     Ok((Vec::new(alloc), bytes))
 }
 
-/// The attribute dictionary of an operation with these properties, where it is written.
+/// Parses the attribute dictionary of an operation with these properties, or returns none if it isn't written.
 #[tactic(auto, using(ir_types::proofs::Growth::grows_refl, ir_types::proofs::Growth::grows_trans), unfolding(crate::specs::EntryReading::attributes_at))]
 pub fn attributes<'a>(
     alloc: Global,
@@ -145,8 +146,8 @@ pub fn attributes<'a>(
     properties: &[Entry],
     bytes: &'a [u8],
 ) -> Result<(Vec<Entry>, &'a [u8]), ReadError>
-    ensures reads { Gives (λ x. (x.0.items, (x.1.now, ctx.new))) result (attributes_at op properties.now (bytes.now, ctx.old)) }
-    ensures grows { Grows ctx.old ctx.new }
+    ensures reads { Returns (λ x. (x.0.items, (x.1.now, ctx.new))) result (attributes_at op properties.now (bytes.now, ctx.old)) }
+    ensures grows { IsExtendedBy ctx.old ctx.new }
 {
     if let Some(rest) = after(bytes, Mark::OpenCurly) {
         return entries(alloc, ctx, &Some(op), properties, rest);

@@ -1,16 +1,16 @@
-//! Operations are read from a text, and what they name is interned as it is read.
+//! Parses operations and modules, and interns their names, types and attributes while it parses.
 #![tactic(auto)]
 
 mod dictionaries;
 mod entries;
-pub mod free;
-pub mod front;
 pub mod laws;
 pub mod limits;
 pub mod module;
+pub mod op_header;
 mod opening;
 mod operands;
 pub mod ops;
+pub mod outer_names;
 mod places;
 pub mod single;
 mod tail;

@@ -1,16 +1,16 @@
-//! The limits of reading operations, each made of one of a module's.
+//! The limits of parsing operations, derived from those of a module.
 use ir_tree::limits;
 use ir_types::limits::MOST_ENTRIES;
 
-/// The most operations of a module.
+/// The maximum number of operations of a module.
 pub const MOST_OPS: u32 = limits::MOST_OPS as u32;
 
-/// The most levels of operations: those around an operation, and its own.
+/// The maximum depth of an operation: the limit of enclosing operations plus the operation itself.
 pub const MOST_LEVELS: u32 = limits::MOST_AROUND as u32 + 1;
 
-/// The most regions of an operation.
+/// The maximum number of regions of an operation.
 pub(crate) const MOST_REGIONS: u32 = limits::MOST_REGIONS as u32;
 
-/// The most entries between two braces: as many as the two dictionaries of an operation have, and one more. So the
-/// one that is too many is refused at its key, for the dictionary to which it belongs.
+/// The maximum number of entries between two braces: those of both dictionaries of an operation plus one, so that the
+/// first entry over a limit is refused at its key.
 pub(crate) const MOST_WRITTEN: usize = 2 * MOST_ENTRIES + 1;

@@ -2,7 +2,7 @@
 ghost use Rattle.std.specs.Prelude.{◌≡◌, ◌&&◌, ℕ, IfOk, IfErr, Err, Some, is_some};
 ghost use Rattle.ir_types.specs.Interning.{with_name};
 ghost use Rattle.ir_types.specs.Reasons.{name_reason};
-ghost use Rattle.ir_types.specs.Things.{Grows};
+ghost use Rattle.ir_types.specs.Things.{IsExtendedBy};
 ghost use Rattle.ir_text_tokens.specs.declared.token.Mark.TheVariants.{End};
 ghost use Rattle.ir_text_types.specs.Marks.{after};
 ghost use Rattle.ir_types.specs.Terms.{name_term};
@@ -16,19 +16,19 @@ ghost use Rattle.ir_text_types.specs.Laws.{IsFull};
 ghost use Rattle.ir_text_operations.specs.Filling.{RootFills, BodyFills, OpsFill};
 ghost use Rattle.ir_text_operations.specs.Claims.{IsOnly, IsNone, IsRootOrNone, IsBody, IsSource, IsModuleTree, module_with};
 
-use crate::free::{Around, NoOuter};
 use crate::limits::{MOST_LEVELS, MOST_OPS};
 use crate::ops::{op, ops};
+use crate::outer_names::{NoOuter, OuterScope};
 use crate::places::is_outside;
 use ir_text_names::scope::Scope;
 use ir_text_tokens::fault::Fault;
 use ir_text_tokens::lexer::token;
-use ir_text_tokens::names::Names;
+use ir_text_tokens::names::ScopedNames;
 use ir_text_tokens::refusal::TextRefusal;
 use ir_text_tokens::strings::string_value;
 use ir_text_tokens::token::{Mark, Token};
 use ir_text_types::error::{ReadError, within_limits, wrong};
-use ir_text_types::full::told;
+use ir_text_types::full::check_full;
 use ir_text_types::steps::after;
 use ir_tree::check::check;
 use ir_tree::numbered::numbered;
@@ -39,14 +39,15 @@ use ir_types::ids::{NameId, OpId};
 use ir_types::refusal::Refusal;
 use std::alloc::{AllocError, Global};
 
-/// A text's root, where it is written; else what stood in the way, if anything was wrong.
+/// The explicit root of a text; otherwise the fault that prevented one, or `None` if the text just has no explicit
+/// root.
 #[derive(Drop)]
 pub enum Root {
-    Is(TreeOp),
+    Explicit(TreeOp),
     Other(Option<Fault>),
 }
 
-/// Whether a text begins with the name of a module.
+/// Returns whether a text begins with the name of a module.
 fn begins_module(alloc: Global, bytes: &[u8]) -> Result<bool, ReadError>
     ensures ok { IfOk result (λ b. b ≡ begins_module bytes.now) }
     ensures err { IfErr result (λ e. e ≡ ReadError.Memory) }
@@ -64,26 +65,26 @@ fn begins_module(alloc: Global, bytes: &[u8]) -> Result<bool, ReadError>
     }
 }
 
-/// Whether an operation is a module without operands and results.
+/// Returns whether an operation is a module without operands and results.
 fn is_root(ctx: &Context, op: &TreeOp) -> bool
     ensures { result ≡ is_root (meaning ctx.now op.now) }
 {
     ctx.table(op.name) && op.operands.is_empty() && op.results.is_empty()
 }
 
-/// Whether an operation is a module without operands and results, and nothing stands behind it.
+/// Returns whether an operation is a module without operands and results, and the end of the text follows it.
 fn is_whole(ctx: &Context, op: &TreeOp, rest: &[u8]) -> bool
     ensures { result ≡ (is_some (after End rest.now) && is_root (meaning ctx.now op.now)) }
 {
     after(rest, Mark::End).is_some() && is_root(ctx, op)
 }
 
-/// The number of the name of a module.
+/// Interns the name of a module and returns its id.
 #[tactic(auto, using(ir_types::proofs::Growth::grows_refl, ir_types::proofs::Growth::grows_trans))]
 fn module_name(ctx: &mut Context, rest: &[u8]) -> Result<NameId, ReadError>
     ensures ok { IfOk result (λ n. (n, ctx.new) ≡ with_name module_word ctx.old) }
     ensures err { (f : TextFault) → result ≡ Err (ReadError.Refused f) → ⊥ }
-    ensures grows { Grows ctx.old ctx.new }
+    ensures grows { IsExtendedBy ctx.old ctx.new }
     ensures full { (left : ℕ) → result ≡ Err (ReadError.Full left) → name_reason module_word ctx.old ≡ Some Refusal.TooMany }
 {
     match ctx.name(b"builtin.module") {
@@ -93,12 +94,12 @@ fn module_name(ctx: &mut Context, rest: &[u8]) -> Result<NameId, ReadError>
     }
 }
 
-/// The root, where the text is one module without operands and results.
+/// Parses the explicit root of a text, which is one module without operands and results.
 #[tactic(auto, using(ir_types::proofs::Growth::grows_refl, ir_types::proofs::Growth::grows_trans))]
 pub fn explicit(alloc: Global, ctx: &mut Context, bytes: &[u8]) -> Result<Root, ReadError>
     ensures ok { IfOk result (λ r. IsRootOrNone ctx.old.opaque bytes.now ctx.new r) }
     ensures err { (f : TextFault) → result ≡ Err (ReadError.Refused f) → ⊥ }
-    ensures grows { Grows ctx.old ctx.new }
+    ensures grows { IsExtendedBy ctx.old ctx.new }
     ensures full { (left : ℕ) → result ≡ Err (ReadError.Full left) → RootFills bytes.now ctx.old }
 {
     ctx.sound();
@@ -108,17 +109,17 @@ pub fn explicit(alloc: Global, ctx: &mut Context, bytes: &[u8]) -> Result<Root, 
         Err(_) => return Err(ReadError::Memory),
     }
     let mut scope = Scope {
-        names: Names::new(alloc, ctx.hasher()),
+        names: ScopedNames::new(alloc, ctx.hasher()),
         next: 0,
     };
-    let around = Around {
+    let around = OuterScope {
         outer: &NoOuter,
         last: MOST_OPS,
     };
     match op(alloc, &mut scope, ctx, &around, bytes, MOST_LEVELS) {
         Ok((tree, rest)) => {
             if is_whole(ctx, &tree, rest) {
-                Ok(Root::Is(tree))
+                Ok(Root::Explicit(tree))
             } else {
                 Ok(Root::Other(None))
             }
@@ -128,7 +129,7 @@ pub fn explicit(alloc: Global, ctx: &mut Context, bytes: &[u8]) -> Result<Root, 
     }
 }
 
-/// A module of these operations.
+/// Returns a module of these operations.
 fn root_of(alloc: Global, name: NameId, body: Vec<TreeOp>) -> Result<TreeOp, AllocError>
     ensures { IfOk result (λ t. t ≡ module_with name body.items) }
 {
@@ -146,12 +147,12 @@ fn root_of(alloc: Global, name: NameId, body: Vec<TreeOp>) -> Result<TreeOp, All
     })
 }
 
-/// An implicit root of the operations of a text.
+/// Parses the operations of a text into an implicit root.
 #[tactic(auto, using(ir_types::proofs::Growth::grows_refl, ir_types::proofs::Growth::grows_trans))]
 pub fn implicit(alloc: Global, ctx: &mut Context, bytes: &[u8]) -> Result<TreeOp, ReadError>
     ensures read { IfOk result (λ t. IsOnly (IsBody ctx.old.opaque bytes.now) ctx.new t) }
     ensures refused { (f : TextFault) → result ≡ Err (ReadError.Refused f) → IsNone (IsBody ctx.old.opaque bytes.now) }
-    ensures grows { Grows ctx.old ctx.new }
+    ensures grows { IsExtendedBy ctx.old ctx.new }
     ensures full { (left : ℕ) → result ≡ Err (ReadError.Full left) → BodyFills bytes.now ctx.old }
 {
     let name = match module_name(ctx, bytes) {
@@ -160,10 +161,10 @@ pub fn implicit(alloc: Global, ctx: &mut Context, bytes: &[u8]) -> Result<TreeOp
     };
     ctx.sound();
     let mut scope = Scope {
-        names: Names::new(alloc, ctx.hasher()),
+        names: ScopedNames::new(alloc, ctx.hasher()),
         next: 1,
     };
-    let around = Around {
+    let around = OuterScope {
         outer: &NoOuter,
         last: MOST_OPS,
     };
@@ -185,7 +186,7 @@ pub fn implicit(alloc: Global, ctx: &mut Context, bytes: &[u8]) -> Result<TreeOp
     }
 }
 
-/// The fault with a label outside any region as one that does not fit.
+/// Returns the fault, with `Unexpected` for a label outside all regions.
 pub(crate) fn fault_of_label(bytes: &[u8], fault: Fault) -> Fault {
     match fault.refusal {
         TextRefusal::MultipleBlocks if is_outside(bytes, fault.left) => Fault {
@@ -196,7 +197,8 @@ pub(crate) fn fault_of_label(bytes: &[u8], fault: Fault) -> Fault {
     }
 }
 
-/// The fault of the operations of a text without a root around them, or at the end of the text.
+/// Returns the fault of the operations of a text if they are parsed without a root, or the fault at the end of the
+/// text if they have none.
 #[tactic(auto, using(ir_types::proofs::Growth::grows_refl, ir_types::proofs::Growth::grows_trans))]
 fn without_root(
     alloc: Global,
@@ -204,14 +206,14 @@ fn without_root(
     bytes: &[u8],
     fault: Fault,
 ) -> Result<Fault, ReadError>
-    ensures grows { Grows ctx.old ctx.new }
+    ensures grows { IsExtendedBy ctx.old ctx.new }
     ensures full { (left : ℕ) → result ≡ Err (ReadError.Full left) → OpsFill most_levels 0 bytes.now ctx.old }
 {
     let mut scope = Scope {
-        names: Names::new(alloc, ctx.hasher()),
+        names: ScopedNames::new(alloc, ctx.hasher()),
         next: 0,
     };
-    let around = Around {
+    let around = OuterScope {
         outer: &NoOuter,
         last: MOST_OPS,
     };
@@ -233,15 +235,15 @@ fn without_root(
     }
 }
 
-/// The fault of a text as it is written. What only the implicit root makes too deep or too many is told
-/// at the end, and a label outside any region does not fit.
+/// Returns the fault of a text without an explicit root. A depth or a count that only the implicit root makes too
+/// large is reported at the end of the text, and a label outside all regions as `Unexpected`.
 pub fn as_written(
     alloc: Global,
     ctx: &mut Context,
     bytes: &[u8],
     fault: Fault,
 ) -> Result<Fault, ReadError>
-    ensures grows { Grows ctx.old ctx.new }
+    ensures grows { IsExtendedBy ctx.old ctx.new }
     ensures full { (left : ℕ) → result ≡ Err (ReadError.Full left) → OpsFill most_levels 0 bytes.now ctx.old }
 {
     match fault.refusal {
@@ -250,15 +252,15 @@ pub fn as_written(
     }
 }
 
-/// The tree of a text, before its limits are looked at.
+/// Parses the tree of a text, before its limits are checked.
 #[tactic(auto, using(ir_types::proofs::Growth::grows_refl, ir_types::proofs::Growth::grows_trans))]
 fn source(alloc: Global, ctx: &mut Context, bytes: &[u8]) -> Result<TreeOp, ReadError>
     ensures read { IfOk result (λ t. IsOnly (IsSource ctx.old.opaque bytes.now) ctx.new t) }
     ensures refused { (f : TextFault) → result ≡ Err (ReadError.Refused f) → IsNone (IsSource ctx.old.opaque bytes.now) }
-    ensures grows { Grows ctx.old ctx.new }
+    ensures grows { IsExtendedBy ctx.old ctx.new }
 {
     let other = match explicit(alloc, ctx, bytes) {
-        Ok(Root::Is(tree)) => return Ok(tree),
+        Ok(Root::Explicit(tree)) => return Ok(tree),
         Ok(Root::Other(other)) => other,
         Err(e) => return Err(e),
     };
@@ -275,9 +277,9 @@ fn source(alloc: Global, ctx: &mut Context, bytes: &[u8]) -> Result<TreeOp, Read
     }
 }
 
-/// Looks at a tree that was read: every operand must be seen, and no limit passed; its ids must be 0, 1, ..
-/// and its dictionaries sorted.
-pub fn looked_at(alloc: Global, ctx: &Context, tree: &TreeOp) -> Result<(), ReadError>
+/// Checks a tree that was parsed: its operands are visible, it is within all limits, its ids are 0, 1, .., and its
+/// dictionaries are sorted.
+pub fn check_dominance(alloc: Global, ctx: &Context, tree: &TreeOp) -> Result<(), ReadError>
     ensures ok { IfOk result (λ _. IsModuleTree ctx.now tree.now) }
     ensures refused { (f : TextFault) → result ≡ Err (ReadError.Refused f) → IsModuleTree ctx.now tree.now → ⊥ }
     ensures room { (left : ℕ) → result ≡ Err (ReadError.Full left) → ⊥ }
@@ -287,7 +289,7 @@ pub fn looked_at(alloc: Global, ctx: &Context, tree: &TreeOp) -> Result<(), Read
         Err(Refusal::Memory) => return Err(ReadError::Memory),
         Err(refusal) => {
             return Err(ReadError::Refused(Fault {
-                refusal: TextRefusal::of(refusal),
+                refusal: TextRefusal::from_refusal(refusal),
                 left: 0,
             }));
         }
@@ -301,13 +303,13 @@ pub fn looked_at(alloc: Global, ctx: &Context, tree: &TreeOp) -> Result<(), Read
     Ok(())
 }
 
-/// The tree that a text spells, as far as its error is one of reading.
+/// Parses the tree of a text. The error may be `Full` even if the context isn't full.
 #[tactic(auto, using(ir_types::proofs::Growth::grows_refl, ir_types::proofs::Growth::grows_trans))]
 fn tree_of_text(alloc: Global, ctx: &mut Context, bytes: &[u8]) -> Result<TreeOp, ReadError>
     ensures read { IfOk result (λ t. IsOnly (Spells ctx.old.opaque bytes.now) ctx.new t) }
     ensures sound { IfOk result (λ t. IsSoundIn ctx.new t) }
     ensures refused { (f : TextFault) → result ≡ Err (ReadError.Refused f) → IsNone (Spells ctx.old.opaque bytes.now) }
-    ensures grows { Grows ctx.old ctx.new }
+    ensures grows { IsExtendedBy ctx.old ctx.new }
 {
     match within_limits(bytes) {
         Ok(()) => {}
@@ -317,29 +319,29 @@ fn tree_of_text(alloc: Global, ctx: &mut Context, bytes: &[u8]) -> Result<TreeOp
         Ok(tree) => tree,
         Err(e) => return Err(e),
     };
-    match looked_at(alloc, ctx, &tree) {
+    match check_dominance(alloc, ctx, &tree) {
         Ok(()) => Ok(tree),
         Err(e) => Err(e),
     }
 }
 
-/// The tree that a text spells. It is numbered from 0 in pre-order, and what it names is interned: the
-/// context only grows, whatever is answered. A text that is one `builtin.module` without operands and
-/// results has it as its root; any other is the body of an implicit root (Language Reference, "High-Level
-/// Structure").
+/// Parses the tree of a text. Its ids are 0, 1, .. in pre-order, and its names, types and attributes are interned.
+/// The context only grows, on success and on errors. If the text is one `builtin.module` without operands and
+/// results, that module is the root; otherwise the text is the body of an implicit root (Language Reference,
+/// "High-Level Structure").
 ///
 /// Refusals: those of texts and tokens; `Unexpected`, `UnknownValue`, `Redefined`, `TypeMismatch`, `BadWidth`,
-/// `BadValue`, `MultipleBlocks`, `Successors`, `TooDeep`, `TooMany`, `DuplicateKey`, `LeftOut`, with how many
-/// bytes are left where the fault stands; `Full` where the context grew full; `Memory`.
+/// `BadValue`, `MultipleBlocks`, `Successors`, `TooDeep`, `TooMany`, `DuplicateKey` and `LeftOut`, each with the
+/// number of bytes left at the fault. `Full` is returned if the context fills up, and `Memory` if memory runs out.
 pub fn read(alloc: Global, ctx: &mut Context, bytes: &[u8]) -> Result<TreeOp, ReadError>
     ensures read { IfOk result (λ t. IsOnly (Spells ctx.old.opaque bytes.now) ctx.new t) }
     ensures sound { IfOk result (λ t. IsSoundIn ctx.new t) }
     ensures refused { (f : TextFault) → result ≡ Err (ReadError.Refused f) → IsNone (Spells ctx.old.opaque bytes.now) }
-    ensures grows { Grows ctx.old ctx.new }
+    ensures grows { IsExtendedBy ctx.old ctx.new }
     ensures full { (left : ℕ) → result ≡ Err (ReadError.Full left) → IsFull ctx.new }
 {
     match tree_of_text(alloc, ctx, bytes) {
         Ok(tree) => Ok(tree),
-        Err(e) => Err(told(ctx, e)),
+        Err(e) => Err(check_full(ctx, e)),
     }
 }

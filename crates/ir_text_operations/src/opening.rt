@@ -1,14 +1,14 @@
-//! What stands before an operation's regions. Language Reference, "Operations".
-ghost use Rattle.ir_types.specs.Things.{Grows};
-ghost use Rattle.ir_text_types.specs.Outcomes.{Gives};
+//! Parses an operation up to its regions. Language Reference, "Operations".
+ghost use Rattle.ir_types.specs.Things.{IsExtendedBy};
+ghost use Rattle.ir_text_types.specs.Outcomes.{Returns};
 ghost use Rattle.ir_text_operations.specs.Free.{free_bound};
 ghost use Rattle.ir_text_operations.specs.Openings.{opening_view, opening_at};
 
 use crate::entries::properties;
-use crate::front::{Front, start};
+use crate::op_header::{OpHeader, start};
 use ir_text_attributes::dictionaries::Entry;
-use ir_text_names::pack::Pack;
-use ir_text_tokens::names::Names;
+use ir_text_names::pack::ValueGroup;
+use ir_text_tokens::names::ScopedNames;
 use ir_text_types::error::ReadError;
 use ir_text_types::steps;
 use ir_tree::outer::Outer;
@@ -16,41 +16,41 @@ use ir_types::context::Context;
 use ir_types::ids::NameId;
 use std::alloc::Global;
 
-/// What stands before an operation's regions, with its name interned.
+/// An operation up to its regions, with its name interned.
 #[derive(Drop)]
 pub(crate) struct Opening<'a> {
-    pub front: Front<'a>,
+    pub front: OpHeader<'a>,
     pub name: NameId,
-    /// Whether its regions see no names from outside.
+    /// Whether the regions see no names from outside.
     pub isolated: bool,
     /// The properties that are written.
     pub written: Vec<Entry>,
-    /// What follows the operands.
-    pub behind: &'a [u8],
+    /// The rest of the text after the operands.
+    pub trailing: &'a [u8],
 }
 
-/// Reads what stands before an operation's regions.
+/// Parses an operation up to its regions.
 #[tactic(auto, using(ir_types::proofs::Growth::grows_refl, ir_types::proofs::Growth::grows_trans))]
 pub(crate) fn read_opening<'a, O: Outer>(
     alloc: Global,
     ctx: &mut Context,
     outer: &O,
-    names: &Names<'a, Pack>,
+    names: &ScopedNames<'a, ValueGroup>,
     bytes: &'a [u8],
 ) -> Result<(Opening<'a>, &'a [u8]), ReadError>
-    ensures reads { Gives (λ x. (opening_view x.0, (x.1.now, ctx.new))) result (opening_at (free_bound (O.types outer.now)) names.now.here (bytes.now, ctx.old)) }
-    ensures grows { Grows ctx.old ctx.new }
+    ensures reads { Returns (λ x. (opening_view x.0, (x.1.now, ctx.new))) result (opening_at (free_bound (O.types outer.now)) names.now.here (bytes.now, ctx.old)) }
+    ensures grows { IsExtendedBy ctx.old ctx.new }
 {
-    let (front, behind) = match start(alloc, outer, names, bytes) {
+    let (front, trailing) = match start(alloc, outer, names, bytes) {
         Ok(found) => found,
         Err(e) => return Err(e),
     };
-    let name = match steps::name(ctx, front.name.as_slice(), behind) {
+    let name = match steps::name(ctx, front.name.as_slice(), trailing) {
         Ok(name) => name,
         Err(e) => return Err(e),
     };
     let isolated = ctx.isolated(name);
-    let (written, rest) = match properties(alloc, ctx, behind) {
+    let (written, rest) = match properties(alloc, ctx, trailing) {
         Ok(found) => found,
         Err(e) => return Err(e),
     };
@@ -59,7 +59,7 @@ pub(crate) fn read_opening<'a, O: Outer>(
         name,
         isolated,
         written,
-        behind,
+        trailing,
     };
     Ok((opening, rest))
 }

@@ -3,13 +3,13 @@ ghost use Rattle.std.specs.Prelude.{◌≡◌, IfOk};
 ghost use Rattle.std.specs.Str.{bytes_eq};
 ghost use Rattle.ir_text_operations.specs.OpReading.{bound_types, values_of};
 
-use ir_text_names::bound::Bound;
+use ir_text_names::bound::TypedValue;
 use ir_tree::value::Value;
 use ir_types::ids::TypeId;
 use std::alloc::{AllocError, Global};
 
-/// The types of operands agree with the inputs of a function type.
-pub fn agrees(operands: &[Bound], inputs: &[TypeId]) -> bool
+/// Returns whether the types of the operands equal the inputs of a function type.
+pub fn agrees(operands: &[TypedValue], inputs: &[TypeId]) -> bool
     ensures { result ≡ bytes_eq (bound_types operands.now) inputs.now }
 {
     let mut left = operands;
@@ -28,8 +28,8 @@ pub fn agrees(operands: &[Bound], inputs: &[TypeId]) -> bool
     right.is_empty()
 }
 
-/// The values of operands.
-pub fn values_of(alloc: Global, operands: &[Bound]) -> Result<Vec<Value>, AllocError>
+/// Returns the values of operands.
+pub fn values_of(alloc: Global, operands: &[TypedValue]) -> Result<Vec<Value>, AllocError>
     ensures { IfOk result (λ v. v.items ≡ values_of operands.now) }
 {
     let mut values = Vec::with_capacity(alloc, operands.len())?;

@@ -4,20 +4,20 @@ ghost use Rattle.ir_text_tokens.specs.declared.token.Mark.TheVariants.{CloseCurl
 ghost use Rattle.ir_tree.specs.Tree.{Region};
 ghost use Rattle.ir_tree.specs.Limits.{most_ops};
 ghost use Rattle.ir_tree.specs.View.{region_view};
-ghost use Rattle.ir_types.specs.Things.{Grows};
-ghost use Rattle.ir_text_types.specs.Outcomes.{Gives};
+ghost use Rattle.ir_types.specs.Things.{IsExtendedBy};
+ghost use Rattle.ir_text_types.specs.Outcomes.{Returns};
 ghost use Rattle.ir_text_names.specs.States.{state_of};
 ghost use Rattle.ir_text_operations.specs.Free.{free_bound};
 ghost use Rattle.ir_text_operations.specs.Made.{region_of};
 ghost use Rattle.ir_text_operations.specs.OpReading.{region_at, regions_at, ops_at, op_with, op_at};
 
-use crate::free::Around;
 use crate::limits::{MOST_OPS, MOST_REGIONS};
 use crate::opening::read_opening;
+use crate::outer_names::OuterScope;
 use crate::places::{error_at_name, past_ops, region_too_many};
 use crate::tail::closing;
 use ir_text_names::blocks::region_head;
-use ir_text_names::lists::{Behind, behind_item};
+use ir_text_names::lists::{AfterItem, after_item};
 use ir_text_names::scope::Scope;
 use ir_text_tokens::refusal::TextRefusal;
 use ir_text_tokens::token::Mark;
@@ -29,7 +29,7 @@ use ir_types::context::Context;
 use ir_types::ids::TypeId;
 use std::alloc::Global;
 
-/// A region: without a label and without an operation it has no block.
+/// Returns a region. A region without a label and without operations has no block.
 fn region_of(alloc: Global, args: Option<Vec<TypeId>>, ops: Vec<TreeOp>) -> TreeRegion
     ensures { region_view result ≡ region_of (option_map (λ v. v.items) args) ops.items }
 {
@@ -45,22 +45,23 @@ fn region_of(alloc: Global, args: Option<Vec<TypeId>>, ops: Vec<TreeOp>) -> Tree
     }
 }
 
-/// A region. Its names are hidden again at its end; in one of an isolated operation no others are seen.
+/// Parses a region. Its names go out of scope at its end. In a region of an isolated operation no outer name is
+/// visible.
 #[cycle(op)]
 #[tactic(auto, using(ir_types::proofs::Growth::grows_refl, ir_types::proofs::Growth::grows_trans))]
 fn region<'a, O: Outer>(
     alloc: Global,
     scope: &mut Scope<'a>,
     ctx: &mut Context,
-    around: &Around<'_, O>,
+    around: &OuterScope<'_, O>,
     id: u32,
     region: u32,
     isolated: bool,
     bytes: &'a [u8],
     depth: u32,
 ) -> Result<(TreeRegion, &'a [u8]), ReadError>
-    ensures reads { (before : List Region) → length before ≡ region → Gives (λ x. (region_view x.0, state_of x.1.now scope.new ctx.new)) result (region_at (ops_at CloseCurly (op_at (free_bound (O.types around.now.outer.now)) around.now.last depth) most_ops []) id isolated before (state_of bytes.now scope.old ctx.old)) }
-    ensures grows { Grows ctx.old ctx.new }
+    ensures reads { (before : List Region) → length before ≡ region → Returns (λ x. (region_view x.0, state_of x.1.now scope.new ctx.new)) result (region_at (ops_at CloseCurly (op_at (free_bound (O.types around.now.outer.now)) around.now.last depth) most_ops []) id isolated before (state_of bytes.now scope.old ctx.old)) }
+    ensures grows { IsExtendedBy ctx.old ctx.new }
 {
     let (args, rest) = match region_head(alloc, scope, ctx, id, region, isolated, bytes) {
         Ok(found) => found,
@@ -74,21 +75,21 @@ fn region<'a, O: Outer>(
     Ok((region_of(alloc, args, ops), rest))
 }
 
-/// Regions in parentheses, as many as an operation may have, or none.
+/// Parses regions in parentheses, at most as many as an operation may have, or none.
 #[cycle(op)]
 #[tactic(auto, using(ir_types::proofs::Growth::grows_refl, ir_types::proofs::Growth::grows_trans), unfolding(crate::specs::OpReading::regions_at))]
 fn regions<'a, O: Outer>(
     alloc: Global,
     scope: &mut Scope<'a>,
     ctx: &mut Context,
-    around: &Around<'_, O>,
+    around: &OuterScope<'_, O>,
     id: u32,
     isolated: bool,
     bytes: &'a [u8],
     depth: u32,
 ) -> Result<(Vec<TreeRegion>, &'a [u8]), ReadError>
-    ensures reads { Gives (λ x. (map region_view x.0.items, state_of x.1.now scope.new ctx.new)) result (regions_at (ops_at CloseCurly (op_at (free_bound (O.types around.now.outer.now)) around.now.last depth) most_ops []) id isolated (state_of bytes.now scope.old ctx.old)) }
-    ensures grows { Grows ctx.old ctx.new }
+    ensures reads { Returns (λ x. (map region_view x.0.items, state_of x.1.now scope.new ctx.new)) result (regions_at (ops_at CloseCurly (op_at (free_bound (O.types around.now.outer.now)) around.now.last depth) most_ops []) id isolated (state_of bytes.now scope.old ctx.old)) }
+    ensures grows { IsExtendedBy ctx.old ctx.new }
 {
     let mut items = Vec::new(alloc);
     let Some(rest) = after(bytes, Mark::OpenRound) else {
@@ -103,9 +104,9 @@ fn regions<'a, O: Outer>(
             Err(e) => return Err(e),
         };
         items.push(item)?;
-        match behind_item(tail, Mark::CloseRound) {
-            Ok(Behind::More(more)) => rest = more,
-            Ok(Behind::End(end)) => {
+        match after_item(tail, Mark::CloseRound) {
+            Ok(AfterItem::More(more)) => rest = more,
+            Ok(AfterItem::End(end)) => {
                 items.shrink_to_fit();
                 return Ok((items, end));
             }
@@ -115,20 +116,20 @@ fn regions<'a, O: Outer>(
     Err(ReadError::Refused(region_too_many(rest)))
 }
 
-/// Operations up to a closing mark.
+/// Parses operations up to a closing mark.
 #[cycle(op)]
 #[tactic(auto, using(ir_types::proofs::Growth::grows_refl, ir_types::proofs::Growth::grows_trans))]
 pub fn ops<'a, O: Outer>(
     alloc: Global,
     scope: &mut Scope<'a>,
     ctx: &mut Context,
-    around: &Around<'_, O>,
+    around: &OuterScope<'_, O>,
     close: Mark,
     bytes: &'a [u8],
     depth: u32,
 ) -> Result<(Vec<TreeOp>, &'a [u8]), ReadError>
-    ensures reads { Gives (λ x. (x.0.items, state_of x.1.now scope.new ctx.new)) result (ops_at close (op_at (free_bound (O.types around.now.outer.now)) around.now.last depth) most_ops [] (state_of bytes.now scope.old ctx.old)) }
-    ensures grows { Grows ctx.old ctx.new }
+    ensures reads { Returns (λ x. (x.0.items, state_of x.1.now scope.new ctx.new)) result (ops_at close (op_at (free_bound (O.types around.now.outer.now)) around.now.last depth) most_ops [] (state_of bytes.now scope.old ctx.old)) }
+    ensures grows { IsExtendedBy ctx.old ctx.new }
 {
     let mut items = Vec::new(alloc);
     let mut rest = bytes;
@@ -148,20 +149,20 @@ pub fn ops<'a, O: Outer>(
     Err(ReadError::Refused(fault))
 }
 
-/// An operation in which others stand with at most that many levels.
+/// Parses an operation whose nested operations have at most `depth` levels.
 #[cycle(op)]
 #[tactic(auto, using(ir_types::proofs::Growth::grows_refl, ir_types::proofs::Growth::grows_trans))]
 fn op_with<'a, O: Outer>(
     alloc: Global,
     scope: &mut Scope<'a>,
     ctx: &mut Context,
-    around: &Around<'_, O>,
+    around: &OuterScope<'_, O>,
     bytes: &'a [u8],
     depth: u32,
 ) -> Result<(TreeOp, &'a [u8]), ReadError>
     requires { scope.old.next < around.now.last }
-    ensures reads { Gives (λ x. (x.0, state_of x.1.now scope.new ctx.new)) result (op_with (free_bound (O.types around.now.outer.now)) (ops_at CloseCurly (op_at (free_bound (O.types around.now.outer.now)) around.now.last depth) most_ops []) (state_of bytes.now scope.old ctx.old)) }
-    ensures grows { Grows ctx.old ctx.new }
+    ensures reads { Returns (λ x. (x.0, state_of x.1.now scope.new ctx.new)) result (op_with (free_bound (O.types around.now.outer.now)) (ops_at CloseCurly (op_at (free_bound (O.types around.now.outer.now)) around.now.last depth) most_ops []) (state_of bytes.now scope.old ctx.old)) }
+    ensures grows { IsExtendedBy ctx.old ctx.new }
 {
     let id = scope.next;
     let (opening, rest) = match read_opening(alloc, ctx, around.outer, &scope.names, bytes) {
@@ -177,19 +178,19 @@ fn op_with<'a, O: Outer>(
     closing(alloc, scope, ctx, id, opening, regions, bytes, rest)
 }
 
-/// An operation with at most that many levels, of which it is one.
+/// Parses an operation of at most `depth` levels, including its own.
 #[cycle(op)]
 #[tactic(auto, using(ir_types::proofs::Growth::grows_refl, ir_types::proofs::Growth::grows_trans))]
 pub fn op<'a, O: Outer>(
     alloc: Global,
     scope: &mut Scope<'a>,
     ctx: &mut Context,
-    around: &Around<'_, O>,
+    around: &OuterScope<'_, O>,
     bytes: &'a [u8],
     depth: u32,
 ) -> Result<(TreeOp, &'a [u8]), ReadError>
-    ensures reads { Gives (λ x. (x.0, state_of x.1.now scope.new ctx.new)) result (op_at (free_bound (O.types around.now.outer.now)) around.now.last depth (state_of bytes.now scope.old ctx.old)) }
-    ensures grows { Grows ctx.old ctx.new }
+    ensures reads { Returns (λ x. (x.0, state_of x.1.now scope.new ctx.new)) result (op_at (free_bound (O.types around.now.outer.now)) around.now.last depth (state_of bytes.now scope.old ctx.old)) }
+    ensures grows { IsExtendedBy ctx.old ctx.new }
 {
     if depth == 0 {
         return Err(error_at_name(alloc, TextRefusal::TooDeep, bytes));

@@ -1,12 +1,12 @@
-//! Where the faults of an operation stand. Language Reference, "Operations".
+//! The places of the faults of an operation. Language Reference, "Operations".
 ghost use Rattle.ir_text_operations.specs.Openings.{IsOfText};
 
-use crate::front::begin_refusal;
-use ir_text_names::named::{counted, results};
-use ir_text_names::pack::Pack;
+use crate::op_header::begin_refusal;
+use ir_text_names::pack::ValueGroup;
+use ir_text_names::value_names::{counted, results};
 use ir_text_tokens::fault::Fault;
 use ir_text_tokens::lexer::{skip, token};
-use ir_text_tokens::names::Names;
+use ir_text_tokens::names::ScopedNames;
 use ir_text_tokens::refusal::TextRefusal;
 use ir_text_tokens::token::{Mark, Token};
 use ir_text_types::error::{ReadError, wrong};
@@ -16,7 +16,7 @@ use ir_tree::value::Value;
 use ir_types::ids::OpId;
 use std::alloc::{AllocError, Global};
 
-/// The fault at the name of an operation, or at what is none.
+/// Returns the fault at the name of an operation, or the fault of a token that is no name.
 fn fault_at(refusal: TextRefusal, bytes: &[u8], named: bool) -> Fault {
     match token(bytes) {
         Ok((Token::String([]), _)) => wrong(TextRefusal::Unexpected, bytes),
@@ -26,7 +26,7 @@ fn fault_at(refusal: TextRefusal, bytes: &[u8], named: bool) -> Fault {
     }
 }
 
-/// The error of an operation that may not stand here: it is told at the name.
+/// Returns the error of an operation that isn't allowed here. The fault is at the operation's name.
 pub(crate) fn error_at_name(alloc: Global, refusal: TextRefusal, bytes: &[u8]) -> ReadError
     ensures { IsOfText result }
 {
@@ -37,7 +37,7 @@ pub(crate) fn error_at_name(alloc: Global, refusal: TextRefusal, bytes: &[u8]) -
     }
 }
 
-/// The fault behind as many operations as there may be: at the name of one more, or where they end.
+/// Returns the fault after the maximum number of operations: at the name of one more, or at the closing mark.
 pub(crate) fn past_ops(alloc: Global, close: Mark, bytes: &[u8]) -> Result<Fault, AllocError> {
     match after(bytes, close) {
         Some(_) => Ok(wrong(TextRefusal::TooMany, bytes)),
@@ -48,8 +48,8 @@ pub(crate) fn past_ops(alloc: Global, close: Mark, bytes: &[u8]) -> Result<Fault
     }
 }
 
-/// Whether a name stands for the results of an operation from a place on.
-fn is_result<'a>(names: &Names<'a, Pack>, name: &'a [u8], id: u32, place: u32) -> bool {
+/// Returns whether a name is bound to the results of an operation from index `place` on.
+fn is_result<'a>(names: &ScopedNames<'a, ValueGroup>, name: &'a [u8], id: u32, place: u32) -> bool {
     let Some(pack) = names.find(name) else {
         return false;
     };
@@ -59,8 +59,8 @@ fn is_result<'a>(names: &Names<'a, Pack>, name: &'a [u8], id: u32, place: u32) -
     }
 }
 
-/// The count behind the name of a result, and what follows it.
-fn behind_name(bytes: &[u8]) -> (u32, &[u8]) {
+/// Returns the count after the name of a result, or 1, and the rest of the text.
+fn trailing_name(bytes: &[u8]) -> (u32, &[u8]) {
     let Some(rest) = after(bytes, Mark::Colon) else {
         return (1, bytes);
     };
@@ -70,8 +70,8 @@ fn behind_name(bytes: &[u8]) -> (u32, &[u8]) {
     }
 }
 
-/// The fault at the first name among the results of an operation that does not stand for its results.
-fn redefined<'a>(names: &Names<'a, Pack>, id: u32, bytes: &'a [u8]) -> Fault {
+/// Returns the fault at the first name of an operation's results that is bound to something else.
+fn redefined<'a>(names: &ScopedNames<'a, ValueGroup>, id: u32, bytes: &'a [u8]) -> Fault {
     let mut rest = bytes;
     let mut place = 0u32;
     for _ in 0..MOST_ITEMS {
@@ -81,7 +81,7 @@ fn redefined<'a>(names: &Names<'a, Pack>, id: u32, bytes: &'a [u8]) -> Fault {
         if !is_result(names, name, id, place) {
             return wrong(TextRefusal::Redefined, rest);
         }
-        let (count, tail) = behind_name(tail);
+        let (count, tail) = trailing_name(tail);
         place = place.saturating_add(count);
         match after(tail, Mark::Comma) {
             Some(next) => rest = next,
@@ -91,17 +91,17 @@ fn redefined<'a>(names: &Names<'a, Pack>, id: u32, bytes: &'a [u8]) -> Fault {
     wrong(TextRefusal::Redefined, rest)
 }
 
-/// The fault behind an operation's regions: `Successors` where they stand behind its operands, and a
-/// name that is bound already at the name. The operation begins at `bytes`.
+/// Returns the fault to report for the part of an operation after its regions: `Successors` if successors follow the
+/// operands, `Redefined` at the name that is bound already, or `fault`. The operation begins at `bytes`.
 pub(crate) fn placed<'a>(
-    names: &Names<'a, Pack>,
+    names: &ScopedNames<'a, ValueGroup>,
     id: u32,
     bytes: &'a [u8],
-    behind_operands: &'a [u8],
+    after_operands: &'a [u8],
     fault: Fault,
 ) -> Fault {
-    if after(behind_operands, Mark::OpenSquare).is_some() {
-        return wrong(TextRefusal::Successors, behind_operands);
+    if after(after_operands, Mark::OpenSquare).is_some() {
+        return wrong(TextRefusal::Successors, after_operands);
     }
     match fault.refusal {
         TextRefusal::Redefined => redefined(names, id, bytes),
@@ -109,7 +109,7 @@ pub(crate) fn placed<'a>(
     }
 }
 
-/// The fault at a region that is one too many, or at what is none.
+/// Returns the fault at a region over the limit, or at a token that begins no region.
 pub(crate) fn region_too_many(bytes: &[u8]) -> Fault {
     match after(bytes, Mark::OpenCurly) {
         Some(_) => wrong(TextRefusal::TooMany, bytes),
@@ -117,8 +117,8 @@ pub(crate) fn region_too_many(bytes: &[u8]) -> Fault {
     }
 }
 
-/// How many braces are open behind a token.
-fn open_behind(found: &Token<'_>, open: usize) -> usize {
+/// Returns the number of open braces after a token.
+fn open_after(found: &Token<'_>, open: usize) -> usize {
     match found {
         Token::Mark(Mark::OpenCurly) => open.saturating_add(1),
         Token::Mark(Mark::CloseCurly) => open.saturating_sub(1),
@@ -126,7 +126,7 @@ fn open_behind(found: &Token<'_>, open: usize) -> usize {
     }
 }
 
-/// Whether no brace is open where so many bytes are left.
+/// Returns whether no brace is open where `left` bytes of the text are left.
 pub(crate) fn is_outside(bytes: &[u8], left: usize) -> bool {
     let mut rest = bytes;
     let mut open = 0usize;
@@ -137,7 +137,7 @@ pub(crate) fn is_outside(bytes: &[u8], left: usize) -> bool {
         let Ok((found, tail)) = token(rest) else {
             return false;
         };
-        open = open_behind(&found, open);
+        open = open_after(&found, open);
         rest = tail;
     }
     open == 0

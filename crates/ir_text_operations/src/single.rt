@@ -1,29 +1,29 @@
-//! One operation alone, among those of a module. Language Reference, "Operations".
+//! One operation as a whole text, for use in an outer module. Language Reference, "Operations".
 ghost use Rattle.std.specs.Prelude.{◌≡◌, ℕ, IfOk, IfSome, Err};
-ghost use Rattle.ir_types.specs.Things.{IsType, Grows};
+ghost use Rattle.ir_types.specs.Things.{IsType, IsExtendedBy};
 ghost use Rattle.ir_tree.specs.declared.value.Value.{Value as TreeValue};
 ghost use Rattle.ir_tree.specs.Meaning.{IsSoundIn};
 ghost use Rattle.ir_text_tokens.specs.declared.fault.Fault.{Fault as TextFault};
 ghost use Rattle.ir_text_operations.specs.Free.{free_bound, free_term};
 ghost use Rattle.ir_text_types.specs.Laws.{IsFull};
-ghost use Rattle.ir_text_types.specs.Outcomes.{Gives};
+ghost use Rattle.ir_text_types.specs.Outcomes.{Returns};
 ghost use Rattle.ir_text_names.specs.States.{fresh};
 ghost use Rattle.ir_text_operations.specs.SingleReading.{single_op_at};
 ghost use Rattle.ir_text_operations.specs.Spelling.{last_from, SpellsOp};
 ghost use Rattle.ir_text_operations.specs.Claims.{IsOnly, IsNone, IsLoneTree};
 
-use crate::free::Around;
 use crate::limits::{MOST_LEVELS, MOST_OPS};
 use crate::module::fault_of_label;
 use crate::ops::op;
+use crate::outer_names::OuterScope;
 use ir_text_names::blocks::location_refusal;
 use ir_text_names::scope::Scope;
 use ir_text_tokens::fault::Fault;
-use ir_text_tokens::names::Names;
+use ir_text_tokens::names::ScopedNames;
 use ir_text_tokens::refusal::TextRefusal;
 use ir_text_tokens::token::Mark;
 use ir_text_types::error::{ReadError, within_limits, wrong};
-use ir_text_types::full::told;
+use ir_text_types::full::check_full;
 use ir_text_types::steps::after;
 use ir_tree::count::depth;
 use ir_tree::limits::{MOST_AROUND, counts_are_within};
@@ -38,18 +38,18 @@ use thiserror::Error;
 /// No operation has this id or a greater one.
 const MOST_ID: u32 = u32::MAX;
 
-/// Why the text of an operation is not read.
+/// Why the text of an operation isn't parsed.
 #[derive(Clone, Copy, Debug, PartialEq, Eq, Error)]
 pub enum OpError {
-    /// An error of the text, of the context or of memory.
+    /// An error of the text, the context or memory.
     #[error(transparent)]
     Text(ReadError),
-    /// The ids of the module around run out.
+    /// The ids of the outer module are exhausted.
     #[error("no operation id is left")]
     IdsExhausted,
 }
 
-/// The first id that none may have, where ids begin with the next one.
+/// Returns the first id that no operation may have, given the next id.
 fn last_from(next: u32) -> u32
     ensures { result ≡ last_from next }
 {
@@ -60,8 +60,8 @@ fn last_from(next: u32) -> u32
     }
 }
 
-/// The operation of a text in which nothing stands after it: its ids are `next`, `next + 1`, .., each
-/// below `last`.
+/// Parses an operation that is followed by the end of the text. Its ids are `next`, `next + 1`, .., each less than
+/// `last`.
 #[tactic(auto, using(ir_types::proofs::Growth::grows_refl, ir_types::proofs::Growth::grows_trans), unfolding(crate::specs::SingleReading::single_op_at))]
 fn single<O: Outer>(
     alloc: Global,
@@ -71,14 +71,14 @@ fn single<O: Outer>(
     next: u32,
     last: u32,
 ) -> Result<TreeOp, ReadError>
-    ensures reads { Gives (λ t. (t, ctx.new)) result (single_op_at (free_bound (O.types outer.now)) last (fresh next bytes.now ctx.old)) }
-    ensures grows { Grows ctx.old ctx.new }
+    ensures reads { Returns (λ t. (t, ctx.new)) result (single_op_at (free_bound (O.types outer.now)) last (fresh next bytes.now ctx.old)) }
+    ensures grows { IsExtendedBy ctx.old ctx.new }
 {
     let mut scope = Scope {
-        names: Names::new(alloc, ctx.hasher()),
+        names: ScopedNames::new(alloc, ctx.hasher()),
         next,
     };
-    let around = Around { outer, last };
+    let around = OuterScope { outer, last };
     match op(alloc, &mut scope, ctx, &around, bytes, MOST_LEVELS) {
         Ok((tree, rest)) => match after(rest, Mark::End) {
             Some(_) => Ok(tree),
@@ -88,8 +88,8 @@ fn single<O: Outer>(
     }
 }
 
-/// The fault of a text that was refused with ids from the outer module's next one on. Where these may
-/// have run out, it is read again with ids from 0 on: another fault comes first, and `IdsExhausted` last.
+/// Returns the fault of a text that was refused with ids from `next` on. If the ids may have run out, the text is
+/// parsed again with ids from 0 on, so any other fault takes precedence over `IdsExhausted`.
 #[tactic(auto, using(ir_types::proofs::Growth::grows_refl, ir_types::proofs::Growth::grows_trans))]
 fn before_ids<O: Outer>(
     alloc: Global,
@@ -99,7 +99,7 @@ fn before_ids<O: Outer>(
     next: u32,
     fault: Fault,
 ) -> Result<Fault, OpError>
-    ensures { Grows ctx.old ctx.new }
+    ensures { IsExtendedBy ctx.old ctx.new }
 {
     if next <= MOST_ID - MOST_OPS || fault.refusal != TextRefusal::TooMany {
         return Ok(fault);
@@ -111,8 +111,8 @@ fn before_ids<O: Outer>(
     }
 }
 
-/// Looks at an operation that was read: no limit may be passed, its ids must be `next`, `next + 1`, .. and
-/// its dictionaries sorted.
+/// Checks an operation that was parsed: it is within all limits, its ids are `next`, `next + 1`, .., and its
+/// dictionaries are sorted.
 fn looked_at(ctx: &Context, tree: &TreeOp, next: u32) -> Result<(), ReadError>
     ensures ok { IfOk result (λ _. IsLoneTree next ctx.now tree.now) }
     ensures refused { (f : TextFault) → result ≡ Err (ReadError.Refused f) → IsLoneTree next ctx.now tree.now → ⊥ }
@@ -138,7 +138,7 @@ fn looked_at(ctx: &Context, tree: &TreeOp, next: u32) -> Result<(), ReadError>
     Ok(())
 }
 
-/// The operation that a text spells, as far as its error is one of reading.
+/// Parses the operation of a text. The error may be `Full` even if the context isn't full.
 #[tactic(auto, using(ir_types::proofs::Growth::grows_refl, ir_types::proofs::Growth::grows_trans))]
 fn op_of_text<O: Outer>(
     alloc: Global,
@@ -151,7 +151,7 @@ fn op_of_text<O: Outer>(
     ensures sound { IfOk result (λ t. IsSoundIn ctx.new t) }
     ensures refused { (f : TextFault) → result ≡ Err (OpError.Text (ReadError.Refused f)) → IsNone (SpellsOp ctx.old.opaque (free_term (O.types outer.now) ctx.old) (O.next outer.now) bytes.now) }
     ensures exhausted { result ≡ Err OpError.IdsExhausted → IsNone (SpellsOp ctx.old.opaque (free_term (O.types outer.now) ctx.old) (O.next outer.now) bytes.now) }
-    ensures grows { Grows ctx.old ctx.new }
+    ensures grows { IsExtendedBy ctx.old ctx.new }
 {
     match within_limits(bytes) {
         Ok(()) => {}
@@ -179,12 +179,13 @@ fn op_of_text<O: Outer>(
     }
 }
 
-/// The operation that a text spells, with nothing after it. It is numbered from the outer module's next id
-/// in pre-order, each id below 4,294,967,295, and what it names is interned: the context only grows, whatever
-/// is answered. A name that isn't bound where it stands and has the form `%v12.0` or `%a12.0.1` is that value
-/// of the outer module, also inside an isolated operation.
+/// Parses the operation of a text, which has nothing after the operation. The ids are in pre-order from the outer
+/// module's next id on, each less than 4,294,967,295. Names, types and attributes are interned; the context only
+/// grows, on success and on errors. An unbound name of the form `%v12.0` or `%a12.0.1` denotes that value of the
+/// outer module, also inside an isolated operation.
 ///
-/// Refusals: those of `read`, but for a root's; and at last `IdsExhausted`. `Full` where the context grew full.
+/// Refusals: those of `read` except those of a root, and `IdsExhausted` if there is no other. `Full` is returned if
+/// the context fills up.
 pub fn read_op<O: Outer>(
     alloc: Global,
     ctx: &mut Context,
@@ -196,12 +197,12 @@ pub fn read_op<O: Outer>(
     ensures sound { IfOk result (λ t. IsSoundIn ctx.new t) }
     ensures refused { (f : TextFault) → result ≡ Err (OpError.Text (ReadError.Refused f)) → IsNone (SpellsOp ctx.old.opaque (free_term (O.types outer.now) ctx.old) (O.next outer.now) bytes.now) }
     ensures exhausted { result ≡ Err OpError.IdsExhausted → IsNone (SpellsOp ctx.old.opaque (free_term (O.types outer.now) ctx.old) (O.next outer.now) bytes.now) }
-    ensures grows { Grows ctx.old ctx.new }
+    ensures grows { IsExtendedBy ctx.old ctx.new }
     ensures full { (left : ℕ) → result ≡ Err (OpError.Text (ReadError.Full left)) → IsFull ctx.new }
 {
     match op_of_text(alloc, ctx, bytes, outer) {
         Ok(tree) => Ok(tree),
-        Err(OpError::Text(e)) => Err(OpError::Text(told(ctx, e))),
+        Err(OpError::Text(e)) => Err(OpError::Text(check_full(ctx, e))),
         Err(OpError::IdsExhausted) => Err(OpError::IdsExhausted),
     }
 }

@@ -1,8 +1,8 @@
-//! What stands behind an operation's regions. Language Reference, "Operations".
+//! Parses an operation after its regions. Language Reference, "Operations".
 ghost use Rattle.std.specs.Prelude.{◌≡◌, map, IfOk};
 ghost use Rattle.ir_tree.specs.View.{region_view};
-ghost use Rattle.ir_types.specs.Things.{Grows};
-ghost use Rattle.ir_text_types.specs.Outcomes.{Gives};
+ghost use Rattle.ir_types.specs.Things.{IsExtendedBy};
+ghost use Rattle.ir_text_types.specs.Outcomes.{Returns};
 ghost use Rattle.ir_text_names.specs.States.{state_of};
 ghost use Rattle.ir_text_operations.specs.FrontReading.{start_view};
 ghost use Rattle.ir_text_operations.specs.Openings.{AreDictionaries, result_types_at, finished_at};
@@ -10,12 +10,12 @@ ghost use Rattle.ir_text_operations.specs.OpReading.{bound_types, op_of, tail_at
 
 use crate::dictionaries::{attributes_of, properties_of};
 use crate::entries::attributes;
-use crate::front::Front;
+use crate::op_header::OpHeader;
 use crate::opening::Opening;
 use crate::operands::{agrees, values_of};
 use crate::places::placed;
 use ir_text_attributes::dictionaries::Entry;
-use ir_text_names::bound::Bound;
+use ir_text_names::bound::TypedValue;
 use ir_text_names::results::finish;
 use ir_text_names::scope::Scope;
 use ir_text_tokens::lexer::skip;
@@ -29,17 +29,17 @@ use ir_types::context::Context;
 use ir_types::ids::{NameId, OpId, TypeId};
 use std::alloc::{AllocError, Global};
 
-/// The types of the results, in a function type behind a colon. `TypeMismatch` at the colon where the
-/// operands don't have its inputs.
+/// Parses a colon and a function type, and returns the types of the results. Refuses operands whose types differ from
+/// the inputs with `TypeMismatch` at the colon.
 #[tactic(auto, using(ir_types::proofs::Growth::grows_refl, ir_types::proofs::Growth::grows_trans), unfolding(crate::specs::Openings::result_types_at))]
 fn outputs<'a>(
     alloc: Global,
     ctx: &mut Context,
-    operands: &[Bound],
+    operands: &[TypedValue],
     bytes: &'a [u8],
 ) -> Result<(Vec<TypeId>, &'a [u8]), ReadError>
-    ensures reads { Gives (λ x. (x.0.items, (x.1.now, ctx.new))) result (result_types_at (bound_types operands.now) (bytes.now, ctx.old)) }
-    ensures grows { Grows ctx.old ctx.new }
+    ensures reads { Returns (λ x. (x.0.items, (x.1.now, ctx.new))) result (result_types_at (bound_types operands.now) (bytes.now, ctx.old)) }
+    ensures grows { IsExtendedBy ctx.old ctx.new }
 {
     let rest = match expect(bytes, Mark::Colon) {
         Ok(rest) => rest,
@@ -56,18 +56,18 @@ fn outputs<'a>(
     Ok((results, rest))
 }
 
-/// The types of the results. Their names are bound.
+/// Parses the function type, binds the names of the results, and returns their types.
 #[tactic(auto, using(ir_types::proofs::Growth::grows_refl, ir_types::proofs::Growth::grows_trans))]
 fn finished<'a>(
     alloc: Global,
     scope: &mut Scope<'a>,
     ctx: &mut Context,
     id: u32,
-    front: &Front<'a>,
+    front: &OpHeader<'a>,
     bytes: &'a [u8],
 ) -> Result<(Vec<TypeId>, &'a [u8]), ReadError>
-    ensures reads { Gives (λ x. (x.0.items, state_of x.1.now scope.new ctx.new)) result (finished_at id (start_view front.now) (state_of bytes.now scope.old ctx.old)) }
-    ensures grows { Grows ctx.old ctx.new }
+    ensures reads { Returns (λ x. (x.0.items, state_of x.1.now scope.new ctx.new)) result (finished_at id (start_view front.now) (state_of bytes.now scope.old ctx.old)) }
+    ensures grows { IsExtendedBy ctx.old ctx.new }
 {
     let (results, rest) = match outputs(alloc, ctx, &front.operands, bytes) {
         Ok(found) => found,
@@ -80,7 +80,8 @@ fn finished<'a>(
     }
 }
 
-/// The properties and the other attributes of an operation, each sorted. One property alone stays as it was written.
+/// Returns the properties and the other attributes of an operation, each sorted. A single property is returned
+/// without sorting.
 fn dictionaries(
     alloc: Global,
     ctx: &Context,
@@ -103,7 +104,7 @@ fn dictionaries(
     }
 }
 
-/// An operation of its parts.
+/// Builds an operation from its parts.
 fn made(
     alloc: Global,
     ctx: &Context,
@@ -140,7 +141,7 @@ fn made(
     })
 }
 
-/// An operation's attributes and its function type. Then the names of its results are bound.
+/// Parses the attributes and the function type of an operation, and binds the names of its results.
 #[tactic(auto, using(ir_types::proofs::Growth::grows_refl, ir_types::proofs::Growth::grows_trans))]
 fn tail<'a>(
     alloc: Global,
@@ -151,8 +152,8 @@ fn tail<'a>(
     regions: Vec<TreeRegion>,
     bytes: &'a [u8],
 ) -> Result<(TreeOp, &'a [u8]), ReadError>
-    ensures reads { Gives (λ x. (x.0, state_of x.1.now scope.new ctx.new)) result (tail_at id opening.entry.name (start_view opening.entry.front) opening.entry.written.items (map region_view regions.items) (state_of bytes.now scope.old ctx.old)) }
-    ensures grows { Grows ctx.old ctx.new }
+    ensures reads { Returns (λ x. (x.0, state_of x.1.now scope.new ctx.new)) result (tail_at id opening.entry.name (start_view opening.entry.front) opening.entry.written.items (map region_view regions.items) (state_of bytes.now scope.old ctx.old)) }
+    ensures grows { IsExtendedBy ctx.old ctx.new }
 {
     let (others, rest) = match attributes(alloc, ctx, opening.name, &opening.written, bytes) {
         Ok(found) => found,
@@ -168,9 +169,9 @@ fn tail<'a>(
     }
 }
 
-/// The attributes and the function type of the operation that begins at `start`. Then the names of its results are
-/// bound. A fault is told where it stands: `Successors` where they stand behind its operands, and a name that is
-/// bound already at the name.
+/// Parses the attributes and the function type of the operation that begins at `start`, and binds the names of its
+/// results. Successors after the operands are refused with `Successors` at their place, and a name that is bound
+/// already with `Redefined` at the name.
 #[tactic(auto, using(ir_types::proofs::Growth::grows_refl, ir_types::proofs::Growth::grows_trans))]
 pub(crate) fn closing<'a>(
     alloc: Global,
@@ -182,14 +183,14 @@ pub(crate) fn closing<'a>(
     start: &'a [u8],
     bytes: &'a [u8],
 ) -> Result<(TreeOp, &'a [u8]), ReadError>
-    ensures reads { Gives (λ x. (x.0, state_of x.1.now scope.new ctx.new)) result (tail_at id opening.entry.name (start_view opening.entry.front) opening.entry.written.items (map region_view regions.items) (state_of bytes.now scope.old ctx.old)) }
-    ensures grows { Grows ctx.old ctx.new }
+    ensures reads { Returns (λ x. (x.0, state_of x.1.now scope.new ctx.new)) result (tail_at id opening.entry.name (start_view opening.entry.front) opening.entry.written.items (map region_view regions.items) (state_of bytes.now scope.old ctx.old)) }
+    ensures grows { IsExtendedBy ctx.old ctx.new }
 {
-    let behind = opening.behind;
+    let trailing = opening.trailing;
     match tail(alloc, scope, ctx, id, opening, regions, bytes) {
         Ok(found) => Ok(found),
         Err(ReadError::Refused(fault)) => {
-            let fault = placed(&scope.names, id, start, behind, fault);
+            let fault = placed(&scope.names, id, start, trailing, fault);
             Err(ReadError::Refused(fault))
         }
         Err(e) => Err(e),

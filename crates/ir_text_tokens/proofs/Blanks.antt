@@ -1,4 +1,4 @@
--- Blanks at the front.
+-- Leading blanks.
 use Rattle.std.proofs.Common.{◌≡◌, ℕ, ◌≤◌, true, false, not, nat_eq, ◌<◌, List, [], ◌∷◌, length, get_or, refl, arith}
 use Rattle.std.specs.Prelude.{◌==◌, IsTrue}
 use Rattle.std.proofs.lemmas.Bool.Decides.{nat_tests}
@@ -15,13 +15,13 @@ unfolding skip
 line_feed [] = refl
 line_feed (c ∷ cs) = refl
 
--- a byte with which a token begins
+-- a byte that is neither a blank nor a slash is not skipped
 pub skip_nothing : (b : ℕ) (bs : List ℕ) → (b == 47) ≡ false → is_blank b ≡ false → skip (b ∷ bs) ≡ b ∷ bs
 unfolding skip
 skip_nothing b [] slash blank = rw blank refl
 skip_nothing b (c ∷ cs) slash blank = rw (slash, blank) refl
 
--- a byte past the blanks that is no slash stands at the front
+-- a text whose first byte is over 32 and no slash has no leading blanks or comments
 pub begun : (bytes : List ℕ) → 1 ≤ length bytes → 32 < get_or bytes 0 0 → IsTrue (not (nat_eq (get_or bytes 0 0) 47)) → skip bytes ≡ bytes
 begun [] le past other = absurd (omega (arith, le))
 begun (b ∷ bs) le past other =

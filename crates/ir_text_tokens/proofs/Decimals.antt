@@ -1,4 +1,4 @@
--- A decimal number that is printed is read again.
+-- A printed decimal number is read again.
 use Rattle.std.proofs.Common.{◌≡◌, ℕ, suc, ◌+◌, ◌*◌, ◌/◌, ◌%◌, ◌^◌, ◌<◌, ◌≤◌, Bool, true, false, eqb, List, [], ◌∷◌, ◌++◌, length, Some, refl, ap, ◌∙◌, arith, inl, inr}
 use Rattle.std.specs.Prelude.{◌==◌, ◌&&◌}
 use Rattle.std.specs.List.{prefix_len}
@@ -24,7 +24,7 @@ no_run : (p : ℕ → Bool) (rest : List ℕ) → Stops p rest → prefix_len p 
 no_run p [] h = refl
 no_run p (c ∷ cs) h = rw h refl
 
--- a run ends where a byte outside the class follows
+-- a run ends at a byte outside the class
 pub run_ends : (p : ℕ → Bool) (w rest : List ℕ) → prefix_len p w ≡ length w → Stops p rest → prefix_len p (w ++ rest) ≡ length w
 run_ends p w rest h s = rw (prefix_len-append, h, eqb_self (length w), no_run p rest s) (omega arith)
 

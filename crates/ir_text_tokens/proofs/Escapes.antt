@@ -1,4 +1,4 @@
--- A string that is printed is read again.
+-- A printed string is read again.
 use Rattle.std.proofs.Common.{◌≡◌, ℕ, zero, suc, ◌+◌, ◌*◌, ◌/◌, ◌%◌, ◌<◌, Bool, true, false, leb, List, [], ◌∷◌, ◌++◌, length, drop, Option, Some, None, refl, sym, ap, ◌∙◌, append_assoc, arith, inl, inr}
 use Rattle.std.specs.Prelude.{option_map, ◌==◌, ◌&&◌, not, ◌⊎◌}
 use Rattle.std.proofs.lemmas.Bool.Decides.{nat_tests}
@@ -10,7 +10,7 @@ use Rattle.ir_text_tokens.specs.Strings.{closing, hex_value, is_short, string_by
 use Rattle.ir_text_tokens.specs.Tokens.{string_parts}
 use Rattle.ir_text_tokens.specs.Printing.{hex_digit, byte_text, raw_text, AreBytes}
 
--- a digit is hexadecimal, and none of the short escapes
+-- a printed digit is hexadecimal, has its value, and is no short escape
 pub record IsDigit (n : ℕ) : Type 0 where
   pub hex : is_hex (hex_digit n) ≡ true
   pub value : hex_value (hex_digit n) ≡ n
@@ -77,7 +77,7 @@ hex_passed : (h l : ℕ) (rest : List ℕ) → IsDigit h → IsDigit l → closi
 unfolding closing
 hex_passed h l rest d e = rw (d.short, d.hex, e.hex) (three (closing rest))
 
--- the text of a byte is passed over
+-- the search for the closing quote skips the printed form of a byte
 byte_passed : (c : ℕ) (rest : List ℕ) → c < 256 → Way c → closing (byte_text c ++ rest) ≡ option_map (λ n. length (byte_text c) + n) (closing rest)
 unfolding closing
 byte_passed c rest lt (doubled e f) = rw f (two (closing rest))
@@ -113,7 +113,7 @@ pub value_again : (v : List ℕ) → AreBytes v → string_bytes (raw_text v) �
 value_again [] h = nothing
 value_again (c ∷ cs) h = rw (flat_map-cons, byte_back c (raw_text cs) h.0 (way c)) (ap (λ (l : List ℕ). c ∷ l) (value_again cs h.1))
 
--- what stands behind the first quote
+-- the text after the opening quote is read back
 pub parts_again : (v rest : List ℕ) → AreBytes v → string_parts ((raw_text v ++ 34 ∷ []) ++ rest) ≡ Some (raw_text v, rest)
 parts_again v rest h =
     let raw = raw_text v in

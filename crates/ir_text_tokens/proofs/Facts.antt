@@ -1,4 +1,4 @@
--- What is asked of trees in many places.
+-- Lemmas about trees that many proofs use.
 use Rattle.ir_text_tokens.specs.Tokens.{next, skip, string, string_at}
 use Rattle.std.proofs.Common.{[], List, refl, ℕ, ◌+◌, ◌-◌, ◌∙◌, ◌∷◌, ◌≡◌, ◌≤◌}
 use Rattle.std.specs.Prelude.{◌&&◌, ◌==◌}

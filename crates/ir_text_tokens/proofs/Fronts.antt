@@ -1,4 +1,4 @@
--- A token that is read is what stands at the front of the text.
+-- A token that is read is a prefix of the text.
 use Rattle.std.proofs.Common.{◌≡◌, ℕ, zero, suc, ◌+◌, Bool, true, false, cond, List, [], ◌∷◌, ◌++◌, take, drop, Option, Some, None, refl, sym, ap, ◌∙◌, append_assoc, arith}
 use Rattle.std.specs.Prelude.{option_map, ◌==◌}
 use Rattle.std.proofs.lemmas.Bool.{eqb-true}
@@ -12,7 +12,7 @@ use Rattle.ir_text_tokens.specs.Strings.{closing, closing_escape, closing_digit,
 use Rattle.ir_text_tokens.specs.Tokens.{Lexeme, mark, string, value, label, hash, bang, symbol, quoted, longer, mark_of, mark_at, skip, next, first_token, token_at, sign_at, symbol_at, name_at, number_at, string_at, suffix_len, hex_len, digits_len, fraction_len}
 use Rattle.ir_text_tokens.specs.Printing.{lexeme_text, mark_text}
 
--- what was read stands at the front
+-- the text is the token that was read, followed by the rest
 abbrev Front : List ℕ → Option (Lexeme × List ℕ) → Type 0
 Front bytes None = Unit {0}
 Front bytes (Some x) = bytes ≡ lexeme_text x.0 ++ x.1
@@ -35,7 +35,7 @@ number_front bytes =
 
 -- ---- strings
 
--- a quote stands at the place
+-- there is a quote at the index
 abbrev Closes : List ℕ → Option ℕ → Type 0
 Closes bytes None = Unit {0}
 Closes bytes (Some n) = bytes ≡ take n bytes ++ 34 ∷ drop (n + 1) bytes
@@ -68,7 +68,7 @@ mutual
   closes_digit [] = tt
   closes_digit (c ∷ cs) = closes_if (c ∷ cs) (is_hex c) _ _ (λ _. later c cs (closing cs) (closes cs)) (λ _. tt)
 
--- a string behind its quote
+-- a string after its opening quote
 string_front : (bs : List ℕ) → Front (34 ∷ bs) (string_at string bs)
 string_front bs = from (closing bs) (closes bs)
   where
@@ -105,7 +105,7 @@ longer_front b c long short [] e f = rw e refl
 longer_front b c long short (d ∷ ds) e f =
     front_if (b ∷ d ∷ ds) (d == c) _ _ (λ h. rw (eqb-true d c h, f) refl) (λ _. rw e refl)
 
--- the mark of one byte is that byte
+-- a mark of one byte is printed as that byte
 abbrev IsOf : ℕ → Option Mark → Type 0
 IsOf b None = Unit {0}
 IsOf b (Some m) = mark_text m ≡ b ∷ []

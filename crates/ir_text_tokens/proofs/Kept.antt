@@ -1,4 +1,4 @@
--- What adding and taking away bindings keeps.
+-- Adding and removing bindings keeps the invariant.
 use Rattle.std.proofs.Common.{◌≡◌, refl, sym, ap, ◌∙◌, subst, ℕ, zero, suc, ◌<◌, ◌≤◌, Bool, true, false, cond, List, [], ◌∷◌, ◌++◌, length, take, drop, Option, Some, None, ◌⊎◌, inl, inr, ⊎_elim, arith}
 use Prim.Native.Nat.compare
 use Rattle.std.specs.Prelude.{nat_le, option_map, slice_get}
@@ -11,7 +11,7 @@ use Rattle.ir_text_tokens.specs.Scopes.{Binding, Scopes, or_else, find, bound, e
 use Rattle.ir_text_tokens.specs.Places.{key_eq, joined, binding_view, views, top, pick, Linked, Agrees}
 use Rattle.ir_text_tokens.specs.Inside.{seen_at, seen_onto, Standing}
 use Rattle.ir_text_tokens.specs.declared.names.Entry.{Entry}
-use Rattle.ir_text_tokens.specs.declared.names.Floor.{Floor}
+use Rattle.ir_text_tokens.specs.declared.names.ScopeStart.{ScopeStart}
 use Rattle.ir_types.proofs.Truths.{drop_all, zero_le}
 use Rattle.std.proofs.lemmas.Option.{slice_get_within}
 use Rattle.ir_types.proofs.Building.{place_stays, last_place, push_cases}
@@ -24,12 +24,12 @@ joined_cond : {A : Type 0} (t : Bool) (x : Option A) (o : Option (Option A)) →
 joined_cond true x o = refl
 joined_cond false x o = refl
 
--- ---- regions around
+-- ---- enclosing regions
 
-pub standing_more : (ms : List Floor) (a b : ℕ) → a ≤ b → Standing ms a → Standing ms b
+pub standing_more : (ms : List ScopeStart) (a b : ℕ) → a ≤ b → Standing ms a → Standing ms b
 standing_more ms a b le h = record { marked = λ i m at. ((h.marked i m at).0, omega (arith, (h.marked i m at).1)); rising = h.rising }
 
-pub standing_push : (ms : List Floor) (m : Floor) → Standing ms m.count → m.first ≤ m.count → Standing (ms ++ m ∷ []) m.count
+pub standing_push : (ms : List ScopeStart) (m : ScopeStart) → Standing ms m.count → m.first ≤ m.count → Standing (ms ++ m ∷ []) m.count
 standing_push ms m h le = record {
   marked = λ i k at. ⊎_elim (λ p. h.marked i k p) (λ (p : (i ≡ length ms) × (m ≡ k)). rw (← p.1) (le, omega arith)) (push_cases ms m k i at);
   rising = λ i j k l lt at to. ⊎_elim
@@ -38,22 +38,22 @@ standing_push ms m h le = record {
       (push_cases ms m l j to);
 }
   where
-    below : (ms : List Floor) (m : Floor) (i : ℕ) (k : Floor) → slice_get (ms ++ m ∷ []) i ≡ Some k → i < length ms → slice_get ms i ≡ Some k
+    below : (ms : List ScopeStart) (m : ScopeStart) (i : ℕ) (k : ScopeStart) → slice_get (ms ++ m ∷ []) i ≡ Some k → i < length ms → slice_get ms i ≡ Some k
     below ms m i k at lt = ⊎_elim (λ p. p) (λ (p : (i ≡ length ms) × (m ≡ k)). absurd (omega (arith, p.0, lt))) (push_cases ms m k i at)
 
-pub standing_pop : (ms : List Floor) (m : Floor) (count : ℕ) → Standing (ms ++ m ∷ []) count → Standing ms m.count
+pub standing_pop : (ms : List ScopeStart) (m : ScopeStart) (count : ℕ) → Standing (ms ++ m ∷ []) count → Standing ms m.count
 standing_pop ms m count h = record {
   marked = λ i k at. ((h.marked i k (place_stays ms (m ∷ []) i k at)).0, h.rising i (length ms) k m (slice_get_within ms i k at) (place_stays ms (m ∷ []) i k at) (last_place ms m));
   rising = λ i j k l lt at to. h.rising i j k l lt (place_stays ms (m ∷ []) i k at) (place_stays ms (m ∷ []) j l to);
 }
 
-pub standing_last : (ms : List Floor) (m : Floor) (count : ℕ) → Standing (ms ++ m ∷ []) count → (m.first ≤ m.count) × (m.count ≤ count)
+pub standing_last : (ms : List ScopeStart) (m : ScopeStart) (count : ℕ) → Standing (ms ++ m ∷ []) count → (m.first ≤ m.count) × (m.count ≤ count)
 standing_last ms m count h = h.marked (length ms) m (last_place ms m)
 
 pub no_marks : (count : ℕ) → Standing [] count
 no_marks count = record { marked = λ i m at. absurd (none i m at); rising = λ i j m k lt at to. absurd (none i m at) }
   where
-    none : (i : ℕ) (m : Floor) → slice_get [] i ≡ Some m → ⊥
+    none : (i : ℕ) (m : ScopeStart) → slice_get [] i ≡ Some m → ⊥
     none zero m e = cc
     none (suc i) m e = cc
 
@@ -64,7 +64,7 @@ abbrev some_place : ℕ → Option ℕ
 some_place i = Some i
 
 module _ {T : Type 0} where
-  -- ---- the last by a name
+  -- ---- the last binding of a name
 
   pub top_push : (name : List ℕ) (bs : List (Binding T)) (b : Binding T) → top name (bs ++ b ∷ []) ≡ cond (bytes_eq b.name name) (Some (length bs)) (top name bs)
   unfolding top
@@ -73,7 +73,7 @@ module _ {T : Type 0} where
       ap (λ o. or_else (option_map suc o) (cond (bytes_eq c.name name) (Some 0) None)) (top_push name bs b)
       ∙ elim (bytes_eq b.name name) as (λ t. or_else (option_map suc (cond t (Some (length bs)) (top name bs))) (cond (bytes_eq c.name name) (Some 0) None) ≡ cond t (Some (suc (length bs))) (or_else (option_map suc (top name bs)) (cond (bytes_eq c.name name) (Some 0) None))) [ true ↦ refl | false ↦ refl ]
 
-  -- either there is none, or it stands at its place
+  -- either the name has no binding, or its last binding is at the index
   abbrev Tops : List ℕ → List (Binding T) → Type 0
   Tops name bs = ((top name bs ≡ None) × (find name bs ≡ None)) ⊎ ((i : ℕ) × (b : Binding T) × (top name bs ≡ Some i) × (slice_get bs i ≡ Some b) × (find name bs ≡ Some b.value))
 
@@ -118,20 +118,20 @@ module _ {T : Type 0} where
 
   -- ---- marks
 
-  pub seen_push : (bs : List (Binding T)) (done : List (List (Binding T))) (ms : List Floor) (m : Floor) → seen_onto bs done (ms ++ m ∷ []) ≡ seen_at bs m ∷ seen_onto bs done ms
+  pub seen_push : (bs : List (Binding T)) (done : List (List (Binding T))) (ms : List ScopeStart) (m : ScopeStart) → seen_onto bs done (ms ++ m ∷ []) ≡ seen_at bs m ∷ seen_onto bs done ms
   unfolding seen_onto
   seen_push bs done [] m = refl
   seen_push bs done (k ∷ ms) m = seen_push bs (seen_at bs k ∷ done) ms m
 
-  seen_same : (bs cs : List (Binding T)) (done : List (List (Binding T))) (ms : List Floor) → ((i : ℕ) (k : Floor) → slice_get ms i ≡ Some k → take k.count cs ≡ take k.count bs) → seen_onto cs done ms ≡ seen_onto bs done ms
+  seen_same : (bs cs : List (Binding T)) (done : List (List (Binding T))) (ms : List ScopeStart) → ((i : ℕ) (k : ScopeStart) → slice_get ms i ≡ Some k → take k.count cs ≡ take k.count bs) → seen_onto cs done ms ≡ seen_onto bs done ms
   unfolding seen_onto
   seen_same bs cs done [] h = refl
   seen_same bs cs done (k ∷ ms) h = ap (λ l. seen_onto cs (drop k.first l ∷ done) ms) (h 0 k refl) ∙ seen_same bs cs (seen_at bs k ∷ done) ms (λ i j at. h (suc i) j at)
 
-  pub seen_more : (bs : List (Binding T)) (b : Binding T) (ms : List Floor) → Standing ms (length bs) → seen_onto (bs ++ b ∷ []) [] ms ≡ seen_onto bs [] ms
+  pub seen_more : (bs : List (Binding T)) (b : Binding T) (ms : List ScopeStart) → Standing ms (length bs) → seen_onto (bs ++ b ∷ []) [] ms ≡ seen_onto bs [] ms
   seen_more bs b ms h = seen_same bs (bs ++ b ∷ []) [] ms (λ i k at. take-append-le k.count bs (b ∷ []) (h.marked i k at).1)
 
-  pub seen_cut : (bs : List (Binding T)) (ms : List Floor) (m : Floor) (count : ℕ) → Standing (ms ++ m ∷ []) count → seen_onto (take m.count bs) [] ms ≡ seen_onto bs [] ms
+  pub seen_cut : (bs : List (Binding T)) (ms : List ScopeStart) (m : ScopeStart) (count : ℕ) → Standing (ms ++ m ∷ []) count → seen_onto (take m.count bs) [] ms ≡ seen_onto bs [] ms
   seen_cut bs ms m count h = seen_same bs (take m.count bs) [] ms (λ i k at. take-take k.count m.count bs (h.rising i (length ms) k m (slice_get_within ms i k at) (place_stays ms (m ∷ []) i k at) (last_place ms m)))
 
   module _ {S : Type 0} (m n : HashMap (Bor (List ℕ)) (Option ℕ) S) (es : List (Entry T)) (e : Entry T) where
@@ -174,31 +174,31 @@ module _ {T : Type 0} where
   pub drop_count : (es : List (Entry T)) (n : ℕ) → n ≡ length es → drop n (views es) ≡ []
   drop_count es n e = ap (λ k. drop k (views es)) (e ∙ sym (length-map es _)) ∙ drop_all (views es)
 
-  abbrev at_marks : List (Binding T) → List Floor → ℕ → Scopes T
+  abbrev at_marks : List (Binding T) → List ScopeStart → ℕ → Scopes T
   at_marks bs ms floor = record { here = drop floor bs; outer = seen_onto bs [] ms }
 
   abbrev with_outer : List (Binding T) → List (List (Binding T)) → Scopes T
   with_outer here outer = record { here = here; outer = outer }
 
-  -- the scopes when a region begins
-  pub enters : (es : List (Entry T)) (ms new : List Floor) (floor n : ℕ) → n ≡ length es → new ≡ ms ++ (record { count = n; first = floor }) ∷ []
+  -- the scopes at the start of a region
+  pub enters : (es : List (Entry T)) (ms new : List ScopeStart) (floor n : ℕ) → n ≡ length es → new ≡ ms ++ (record { count = n; first = floor }) ∷ []
       → (isolated : Bool) (next : ℕ) → next ≡ cond isolated n floor → at_marks (views es) new next ≡ entered isolated (at_marks (views es) ms floor)
   enters es ms new floor n e f isolated next g =
       rw (f, seen_push (views es) [] ms (record { count = n; first = floor }), take_count es n e, g)
       (elim isolated as (λ b. with_outer (drop (cond b n floor) (views es)) (drop floor (views es) ∷ seen_onto (views es) [] ms) ≡ entered b (at_marks (views es) ms floor)) [ true ↦ rw (drop_count es n e) refl | false ↦ refl ])
 
-  -- the scopes when a region ends
-  pub leaves : (es cut : List (Entry T)) (ms old : List Floor) (m : Floor) (floor count : ℕ) → old ≡ ms ++ m ∷ [] → cut ≡ take m.count es → Standing old count → at_marks (views cut) ms m.first ≡ left (at_marks (views es) old floor)
+  -- the scopes at the end of a region
+  pub leaves : (es cut : List (Entry T)) (ms old : List ScopeStart) (m : ScopeStart) (floor count : ℕ) → old ≡ ms ++ m ∷ [] → cut ≡ take m.count es → Standing old count → at_marks (views cut) ms m.first ≡ left (at_marks (views es) old floor)
   leaves es cut ms old m floor count e f h =
       let k : views cut ≡ take m.count (views es) = rw f (sym (take-map _ m.count es)) in
       rw (k, e, seen_push (views es) [] ms m, seen_cut (views es) ms m count (subst (λ o. Standing o count) e h)) refl
 
-  pub leaves_none : (es : List (Entry T)) (new old : List Floor) (floor : ℕ) → length old ≡ 0 → length new ≡ 0 → at_marks (views es) new floor ≡ left (at_marks (views es) old floor)
+  pub leaves_none : (es : List (Entry T)) (new old : List ScopeStart) (floor : ℕ) → length old ≡ 0 → length new ≡ 0 → at_marks (views es) new floor ≡ left (at_marks (views es) old floor)
   unfolding seen_onto
   leaves_none es new old floor e f = rw (nil_from_length old e, nil_from_length new f) refl
 
   -- the scopes with one more name
-  pub adds : (es new : List (Entry T)) (ms : List Floor) (b : Binding T) (floor : ℕ) → views new ≡ views es ++ b ∷ [] → floor ≤ length es → Standing ms (length es) → at_marks (views new) ms floor ≡ bound b.name b.value (at_marks (views es) ms floor)
+  pub adds : (es new : List (Entry T)) (ms : List ScopeStart) (b : Binding T) (floor : ℕ) → views new ≡ views es ++ b ∷ [] → floor ≤ length es → Standing ms (length es) → at_marks (views new) ms floor ≡ bound b.name b.value (at_marks (views es) ms floor)
   adds es new ms b floor e le h =
       let k : length (views es) ≡ length es = length-map es _ in
       rw (e, seen_more (views es) b ms (standing_more ms (length es) (length (views es)) (omega (arith, k)) h), drop-append-le floor (views es) (b ∷ []) (omega (arith, k))) refl

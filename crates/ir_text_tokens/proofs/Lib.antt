@@ -10,3 +10,9 @@ pub mod Marks
 pub mod Blanks
 pub mod Reasons
 pub mod Plain
+pub mod Steps
+pub mod KeptBodies
+pub mod Again
+pub mod Parts
+pub mod Walk
+pub mod Ahead

@@ -1,4 +1,4 @@
--- Which token is a mark, by its first byte.
+-- Whether a token is a punctuation mark, by its first byte.
 use Rattle.std.proofs.lemmas.List.{take_all}
 use Rattle.std.proofs.Common.{take, ◌-◌, ◌<◌, ◌≤◌, length, get_or, sym, ◌∙◌, arith, ◌≡◌, ℕ, Bool, true, false, cond, List, [], ◌∷◌, drop, Option, Some, None, refl, ap}
 use Rattle.std.specs.Prelude.{option_map, ◌==◌, ◌||◌}
@@ -52,7 +52,7 @@ three true l s n w g e p q r = p
 three false true s n w g e p q r = q
 three false false s n w g e p q r = r e
 
--- a token that begins so is no mark
+-- a token that begins with such a byte is no mark
 pub other_is_none : (b : ℕ) (bs : List ℕ) → begins_other b ≡ true → only_mark (token_at b bs) ≡ None
 other_is_none b bs e = three (is_ascii_digit b) (is_letter b) _ _ _ _ e (number_none (b ∷ bs)) refl (sign_none b bs)
 
@@ -65,21 +65,21 @@ past false false false true e f u v w x y z m t = absurd (cc)
 past false false false false true f u v w x y z m t = absurd (cc)
 past false false false false false true u v w x y z m t = absurd (cc)
 
-behind : (d l s : Bool) (n w g m : Option (Lexeme × List ℕ)) → (d || l || s) ≡ false → (s ≡ false → g ≡ m) → cond d n (cond l w g) ≡ m
-behind true l s n w g m e r = absurd (cc)
-behind false true s n w g m e r = absurd (cc)
-behind false false s n w g m e r = r e
+trailing : (d l s : Bool) (n w g m : Option (Lexeme × List ℕ)) → (d || l || s) ≡ false → (s ≡ false → g ≡ m) → cond d n (cond l w g) ≡ m
+trailing true l s n w g m e r = absurd (cc)
+trailing false true s n w g m e r = absurd (cc)
+trailing false false s n w g m e r = r e
 
--- any other is punctuation
+-- a token that begins with any other byte is a mark or nothing
 pub mark_is_one : (b : ℕ) (bs : List ℕ) → begins_other b ≡ false → token_at b bs ≡ mark_at b bs
-mark_is_one b bs e = behind (is_ascii_digit b) (is_letter b) _ _ _ _ _ e (λ f. past (b == 34) (b == 37) (b == 94) (b == 35) (b == 33) (b == 64) _ _ _ _ _ _ _ f)
+mark_is_one b bs e = trailing (is_ascii_digit b) (is_letter b) _ _ _ _ _ e (λ f. past (b == 34) (b == 37) (b == 94) (b == 35) (b == 33) (b == 64) _ _ _ _ _ _ _ f)
 
--- a mark that was found is the only one
+-- the mark that was found is the token's mark
 pub found_mark : (r : Option (Mark × List ℕ)) → only_mark (option_map (λ x. (mark x.0, x.1)) r) ≡ r
 found_mark None = refl
 found_mark (Some x) = refl
 
--- ---- the next mark by what follows the blanks
+-- ---- the next mark by the text after blanks
 
 pub no_byte : (bytes all : List ℕ) → all ≡ skip bytes → length all < 1 → Some (End, all) ≡ next_mark bytes
 unfolding next_mark next

@@ -1,4 +1,4 @@
--- The number that digits write, digit by digit.
+-- The value of digits, computed digit by digit.
 use Rattle.std.proofs.Common.{◌≡◌, ℕ, ◌+◌, ◌*◌, ◌-◌, ◌^◌, get_or, take, drop, ◌<◌, ◌≤◌, List, [], ◌∷◌, length, Some, None, refl, ap, arith}
 use Rattle.std.proofs.lemmas.Grind.{common_steps}
 use Rattle.std.proofs.Math.Nat.{pow-zero, pow-succ', one-le-pow, le-mul_of_pos_right, add-mul, mul_assoc}
@@ -15,7 +15,7 @@ with_place base n d ds =
     let g : n * base * p ≡ n * (base * p) = mul_assoc n base p in
     rw (f, g, e) (omega arith)
 
--- too big already
+-- a value over 128 bits stays over 128 bits
 pub stays_big : (base n k v : ℕ) → 1 ≤ base → 2 ^ 128 ≤ n → below_limit (n * base ^ k + v) ≡ None
 stays_big base n k v pos big =
     let p : 1 ≤ base ^ k = one-le-pow k base pos in
@@ -31,7 +31,7 @@ tail_is d ds =
     take_at_length [] = refl
     take_at_length (x ∷ xs) = ap (λ l. x ∷ l) (take_at_length xs)
 
--- the text that is left, by its first byte and the others
+-- the digits that are left, as the first and the others
 pub next_place : (base n : ℕ) (rest : List ℕ) → 1 ≤ length rest
     → (n * base + hex_value (get_or rest 0 0)) * base ^ length (take (length rest - 1) (drop 1 rest)) + place_value base (take (length rest - 1) (drop 1 rest)) ≡ n * base ^ length rest + place_value base rest
 next_place base n [] le = absurd (omega (arith, le))

@@ -1,4 +1,4 @@
--- Bytes of words, which stand in a string as they are.
+-- Word bytes are printed in a string without escapes.
 use Rattle.std.proofs.Common.{◌≡◌, ℕ, true, false, List, [], ◌∷◌, length, refl, ap, arith}
 use Rattle.std.specs.Prelude.{◌==◌, ◌&&◌, not, nat_le}
 use Rattle.std.specs.List.{prefix_len}

@@ -1,4 +1,4 @@
--- What is printed is one token again.
+-- A printed token is read again.
 use Rattle.std.proofs.Common.{◌≡◌, ℕ, ◌^◌, ◌<◌, ◌≤◌, Bool, true, false, List, [], ◌∷◌, ◌++◌, length, Some, refl, sym, ap, ◌∙◌, arith, inl, inr}
 use Rattle.std.specs.Prelude.{option_map, ◌==◌, ◌&&◌, not}
 use Rattle.std.specs.List.{prefix_len}
@@ -23,7 +23,7 @@ blank_passed b (c ∷ cs) blank =
     let slash : (b == 47) ≡ false = grind (arith, nat_tests) in
     rw (slash, blank) refl
 
--- the first byte decides
+-- the first byte decides which token begins
 begins : (b : ℕ) (bs : List ℕ) → (b == 47) ≡ false → is_blank b ≡ false → next (b ∷ bs) ≡ token_at b bs
 unfolding next
 begins b bs slash blank = ap first_token (skip_nothing b bs slash blank)
@@ -50,7 +50,7 @@ decimal_token n rest lt s = digits_token (decimal n) rest (decimal_number n lt).
 
 -- ---- bare identifiers
 
--- a letter begins nothing else
+-- a letter is no blank, slash or sigil
 record IsFirst (c : ℕ) : Type 0 where
   pub slash : (c == 47) ≡ false
   pub blank : is_blank c ≡ false
@@ -76,7 +76,7 @@ bare_token (c ∷ cs) rest e s =
     let f = is_first c p.0 in
     bare_begins c (cs ++ rest) p.0 f ∙ cut_at bare _ (c ∷ cs) rest (run_ends is_word (c ∷ cs) rest (is_run c cs f.word (eqb-true _ _ p.1)) s)
 
--- ---- names behind a sign
+-- ---- names after a sigil
 
 stops_digit : (rest : List ℕ) → Stops is_suffix rest → Stops is_ascii_digit rest
 stops_digit [] s = tt
@@ -214,7 +214,7 @@ mark_token Question rest h = begins 63 rest refl refl
 mark_token Star rest h = begins 42 rest refl refl
 mark_token End rest h = rw h nothing_left
 
--- a negative number begins with the minus
+-- a negative number begins with the minus mark
 pub minus_token : (n : ℕ) (rest : List ℕ) → n < 2 ^ 128 → next (signed_text true n ++ rest) ≡ Some (mark Minus, signed_text false n ++ rest)
 minus_token n rest lt = mark_token Minus (decimal n ++ rest) (digits_close (decimal n) rest (decimal_number n lt).digits (decimal_number n lt).some)
   where

@@ -1,4 +1,4 @@
--- The refusals of texts are the first fourteen.
+-- The reasons why a text is refused are the first fourteen refusals.
 use Rattle.std.proofs.Common.{◌≤◌, ℕ, arith}
 use Rattle.ir_types.specs.Refusals.{number_of}
 use Rattle.ir_text_tokens.specs.declared.refusal.TextRefusal.{TextRefusal}

@@ -1,4 +1,4 @@
--- An identifier that is read is the longest that stands there.
+-- An identifier that is read is the longest one at its place.
 use Rattle.std.proofs.Common.{◌≡◌, ℕ, suc, ◌+◌, Bool, true, false, cond, List, [], ◌∷◌, length, take, drop, Option, Some, None, refl, sym, ap, subst, ◌∙◌, arith, inl, inr}
 use Rattle.std.specs.Prelude.{option_map, ◌==◌, ◌⊎◌}
 use Rattle.std.proofs.lemmas.Bool.Decides.{nat_tests}
@@ -65,7 +65,7 @@ not_zero n = grind (arith, nat_tests)
 is_name : (c : ℕ) (ws : List ℕ) → suffix_len (c ∷ ws) ≡ length (c ∷ ws) → is_suffix_id (c ∷ ws) ≡ true
 is_name c ws e = rw (e, not_zero (length ws), eqb_self (length (c ∷ ws))) refl
 
--- a run of the class, which begins with the byte c
+-- a run of the class that begins with the byte c
 run_name : (p : ℕ → Bool) (c : ℕ) (cs : List ℕ) → p c ≡ true → ((ws : List ℕ) → suffix_len (c ∷ ws) ≡ prefix_len p (c ∷ ws)) → ((ws : List ℕ) (d : ℕ) → extends_name (c ∷ ws) d ≡ p d)
     → IsWholeName (take (prefix_len p (c ∷ cs)) (c ∷ cs)) (drop (prefix_len p (c ∷ cs)) (c ∷ cs))
 run_name p c cs t h k =

@@ -1,5 +1,4 @@
--- The bytes of which tokens are made. Letters and digits are ASCII. MLIR Language Reference,
--- "Common syntax".
+-- The classes of bytes in tokens. Letters and digits are ASCII. MLIR Language Reference, "Common syntax".
 use Rattle.std.specs.Prelude.{ℕ, Bool, ◌&&◌, ◌||◌, ◌==◌, nat_le}
 use Rattle.std.specs.Char.{is_ascii_digit, is_ascii_alphabetic, is_ascii_alphanumeric}
 use Rattle.ir_text_tokens.specs.declared.runs.Class.{Class}
@@ -21,15 +20,15 @@ is_hex c = (is_ascii_digit c || (nat_le 97 c && nat_le c 102)) || (nat_le 65 c &
 abbrev pub is_letter : ℕ → Bool
 is_letter c = is_ascii_alphabetic c || c == 95
 
--- a further byte of a bare identifier: a letter, a digit, `_`, `$` or `.`
+-- a byte of a bare identifier after the first: a letter, a digit, `_`, `$` or `.`
 abbrev pub is_word : ℕ → Bool
 is_word c = ((is_ascii_alphanumeric c || c == 95) || c == 36) || c == 46
 
--- a further byte of a suffix identifier: one of a bare identifier, or `-`
+-- a byte of a suffix identifier after the first: one of a bare identifier, or `-`
 abbrev pub is_suffix : ℕ → Bool
 is_suffix c = is_word c || c == 45
 
--- the test that the code names
+-- the test of each class in the code
 abbrev pub class_test : Class → ℕ → Bool
 class_test Digit = is_ascii_digit
 class_test Hexadecimal = is_hex

@@ -9,3 +9,5 @@ pub mod Scopes
 pub mod Places
 pub mod Inside
 pub mod Refusals
+pub mod Bodies
+pub mod Commas

@@ -1,5 +1,4 @@
--- The printed forms of tokens. MLIR Language Reference, "Common syntax" and "Identifiers and
--- keywords".
+-- The printed forms of tokens. MLIR Language Reference, "Common syntax" and "Identifiers and keywords".
 use Rattle.std.specs.Prelude.{◌≡◌, ℕ, ◌+◌, ◌-◌, ◌/◌, ◌%◌, ◌<◌, Bool, true, false, not, ◌&&◌, ◌||◌, ◌==◌, nat_lt, nat_le, if◌then◌else◌, List, [], ◌∷◌, ◌++◌, length, flat_map}
 use Rattle.std.specs.List.{AllByRecursion, prefix_len}
 use Rattle.std.specs.Fmt.{decimal}
@@ -9,19 +8,19 @@ use Rattle.ir_text_tokens.specs.declared.token.Mark.TheVariants.{OpenRound, Clos
 use Rattle.ir_text_tokens.specs.Bytes.{is_letter, is_suffix, is_word}
 use Rattle.ir_text_tokens.specs.Tokens.{Lexeme, mark, integer, float, string, bare, value, label, hash, bang, symbol, quoted, suffix_len}
 
--- a capital hexadecimal digit
+-- an uppercase hexadecimal digit
 abbrev pub hex_digit : ℕ → ℕ
 hex_digit n = if nat_lt n 10 then 48 + n else 65 + (n - 10)
 
--- what stands in a string for a byte: `\\` for a backslash; for a quote and every byte outside the
--- printable ones of ASCII a backslash and two hexadecimal digits; else the byte
+-- the printed form of a byte of a string: `\\` for a backslash; a backslash and two hexadecimal digits for a quote
+-- and for every byte that isn't printable ASCII; otherwise the byte
 abbrev pub byte_text : ℕ → List ℕ
 byte_text c =
     if c == 92 then 92 ∷ 92 ∷ []
     else if (nat_le 32 c && nat_le c 126) && not (c == 34) then c ∷ []
     else 92 ∷ hex_digit (c / 16) ∷ hex_digit (c % 16) ∷ []
 
--- what stands between the quotes
+-- the printed text between the quotes
 abbrev pub raw_text : List ℕ → List ℕ
 raw_text v = flat_map byte_text v
 
@@ -38,15 +37,15 @@ abbrev pub is_bare_id : List ℕ → Bool
 is_bare_id [] = false
 is_bare_id (c ∷ cs) = is_letter c && prefix_len is_word cs == length cs
 
--- a key or the name of a symbol: bare where it can be, else a string
+-- a key or a symbol's name: bare if it can be, otherwise a string
 abbrev pub key_text : List ℕ → List ℕ
 key_text v = if is_bare_id v then v else string_text v
 
--- a symbol with its sign
+-- a symbol with its sigil
 abbrev pub symbol_text : List ℕ → List ℕ
 symbol_text v = 64 ∷ key_text v
 
--- each a byte
+-- all are bytes
 abbrev pub AreBytes : List ℕ → Type 0
 AreBytes v = AllByRecursion (λ c. c < 256) v
 
@@ -54,7 +53,7 @@ AreBytes v = AllByRecursion (λ c. c < 256) v
 abbrev pub is_suffix_id : List ℕ → Bool
 is_suffix_id v = not (length v == 0) && suffix_len v == length v
 
--- a mark as it is printed
+-- the printed form of a punctuation mark
 abbrev pub mark_text : Mark → List ℕ
 mark_text OpenRound = 40 ∷ []
 mark_text CloseRound = 41 ∷ []
@@ -76,23 +75,23 @@ mark_text End = []
 
 -- ---- what may follow
 
--- the first byte, where there is one, fails the test
+-- the text is empty, or its first byte fails the test
 abbrev pub Stops : (ℕ → Bool) → List ℕ → Type 0
 Stops p [] = Unit {0}
 Stops p (c ∷ cs) = p c ≡ false
 
--- a byte that makes a decimal integer longer, or another token: a digit, a dot, or `x`
+-- a byte that extends a decimal integer or makes it another token: a digit, a dot or `x`
 abbrev pub extends_integer : ℕ → Bool
 extends_integer c = (is_ascii_digit c || c == 46) || c == 120
 
--- the text after a mark makes no longer mark of it, and after the last there is none
+-- the text after a mark doesn't make it a longer mark, and is empty after `End`
 abbrev pub ClosesMark : Mark → List ℕ → Type 0
 ClosesMark Colon rest = Stops (λ c. c == 58) rest
 ClosesMark Minus rest = Stops (λ c. c == 62) rest
 ClosesMark End rest = rest ≡ []
 ClosesMark _ rest = Unit {0}
 
--- a token as it stands in a text
+-- the text of a token
 abbrev pub lexeme_text : Lexeme → List ℕ
 lexeme_text (mark m) = mark_text m
 lexeme_text (integer ds) = ds
@@ -111,11 +110,11 @@ abbrev pub extends_name : List ℕ → ℕ → Bool
 extends_name [] c = is_suffix c
 extends_name (w ∷ ws) c = if is_ascii_digit w then is_ascii_digit c else is_suffix c
 
--- a suffix identifier that what follows does not extend
+-- a suffix identifier that the text after it doesn't extend
 abbrev pub IsWholeName : List ℕ → List ℕ → Type 0
 IsWholeName w rest = (is_suffix_id w ≡ true) × Stops (extends_name w) rest
 
--- an identifier is one of its kind, and what follows does not extend it
+-- an identifier is valid for its kind, and the text after it doesn't extend it
 abbrev pub IsWhole : Lexeme → List ℕ → Type 0
 IsWhole (bare w) rest = (is_bare_id w ≡ true) × Stops is_word rest
 IsWhole (value w) rest = IsWholeName w rest

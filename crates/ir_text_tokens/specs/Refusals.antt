@@ -1,10 +1,10 @@
--- Why a text is refused at one of its bytes: the first fourteen refusals.
+-- The reasons why a text is refused: the first fourteen refusals.
 use Rattle.ir_types.specs.declared.refusal.Refusal.{Refusal}
 use Rattle.ir_types.specs.declared.refusal.Refusal.TheVariants as any
 use Rattle.ir_text_tokens.specs.declared.refusal.TextRefusal.{TextRefusal}
 use Rattle.ir_text_tokens.specs.declared.refusal.TextRefusal.TheVariants as text
 
--- the refusal of the workbench that one of texts is
+-- the workbench's refusal for a reason
 abbrev pub refusal_of : TextRefusal → Refusal
 refusal_of text.BadToken = any.BadToken
 refusal_of text.Unexpected = any.Unexpected
@@ -21,7 +21,7 @@ refusal_of text.DuplicateKey = any.DuplicateKey
 refusal_of text.LeftOut = any.LeftOut
 refusal_of text.NotUtf8 = any.NotUtf8
 
--- what a refusal is in a text; one that no text has is a token that does not fit
+-- the reason for a refusal; `Unexpected` for a refusal that no text has
 abbrev pub text_refusal : Refusal → TextRefusal
 text_refusal any.BadToken = text.BadToken
 text_refusal any.UnknownValue = text.UnknownValue

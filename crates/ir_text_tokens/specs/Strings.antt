@@ -1,18 +1,17 @@
--- String literals: where they end, and the bytes that they stand for. MLIR Language Reference,
--- "Common syntax".
+-- String literals: where they end, and which bytes they denote. MLIR Language Reference, "Common syntax".
 use Rattle.std.specs.Prelude.{ℕ, suc, ◌+◌, ◌*◌, ◌-◌, Bool, ◌&&◌, ◌||◌, ◌==◌, nat_le, if◌then◌else◌, List, [], ◌∷◌, Option, Some, None, option_map}
 use Rattle.std.specs.Char.{is_ascii_digit}
 use Rattle.ir_text_tokens.specs.Bytes.{is_hex, is_line_end}
 
--- a byte that is an escape with the backslash before it: a backslash, a quote, `n` or `t`
+-- a byte that is a complete escape after a backslash: a backslash, a quote, `n` or `t`
 abbrev pub is_short : ℕ → Bool
 is_short c = ((c == 92 || c == 34) || c == 110) || c == 116
 
--- the byte that such an escape stands for
+-- the byte that such an escape denotes
 abbrev pub short_value : ℕ → ℕ
 short_value c = if c == 110 then 10 else if c == 116 then 9 else c
 
--- the number that a hexadecimal digit stands for
+-- the value of a hexadecimal digit
 abbrev pub hex_value : ℕ → ℕ
 hex_value c =
     if is_ascii_digit c then c - 48
@@ -20,9 +19,9 @@ hex_value c =
     else if nat_le 65 c && nat_le c 70 then c - 55
     else 0
 
--- how many bytes stand before the quote that ends a string
+-- the number of bytes before the quote that ends a string
 unfoldable mutual
-  -- in the string
+  -- inside the string
   pub closing : List ℕ → Option ℕ
   closing [] = None
   closing (c ∷ cs) =
@@ -31,7 +30,7 @@ unfoldable mutual
       else if is_line_end c then None
       else option_map suc (closing cs)
 
-  -- behind a backslash
+  -- after a backslash
   pub closing_escape : List ℕ → Option ℕ
   closing_escape [] = None
   closing_escape (c ∷ cs) =
@@ -39,28 +38,28 @@ unfoldable mutual
       else if is_hex c then option_map suc (closing_digit cs)
       else None
 
-  -- behind a backslash and a hexadecimal digit
+  -- after a backslash and a hexadecimal digit
   pub closing_digit : List ℕ → Option ℕ
   closing_digit [] = None
   closing_digit (c ∷ cs) = if is_hex c then option_map suc (closing cs) else None
 
--- the bytes that the text between two quotes stands for
+-- the bytes that the text between two quotes denotes
 unfoldable mutual
   pub string_bytes : List ℕ → List ℕ
   string_bytes [] = []
   string_bytes (c ∷ cs) = if c == 92 then escape_bytes cs else c ∷ string_bytes cs
 
-  -- behind a backslash
+  -- after a backslash
   pub escape_bytes : List ℕ → List ℕ
   escape_bytes [] = []
   escape_bytes (c ∷ cs) = if is_short c then short_value c ∷ string_bytes cs else digit_bytes (hex_value c) cs
 
-  -- behind a backslash and a hexadecimal digit of that value
+  -- after a backslash and a hexadecimal digit of value `high`
   pub digit_bytes : ℕ → List ℕ → List ℕ
   digit_bytes high [] = []
   digit_bytes high (c ∷ cs) = (16 * high + hex_value c) ∷ string_bytes cs
 
--- nothing, or what is made of what is there
+-- the function's list for `Some`, the empty list for `None`
 abbrev pub option_list : {A : Type 0} → (A → List ℕ) → Option A → List ℕ
 option_list f None = []
 option_list f (Some x) = f x

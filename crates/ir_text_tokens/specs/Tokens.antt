@@ -10,8 +10,7 @@ use Rattle.ir_text_tokens.specs.declared.token.Token.TheVariants as code
 use Rattle.ir_text_tokens.specs.Bytes.{is_blank, is_hex, is_letter, is_word, is_suffix}
 use Rattle.ir_text_tokens.specs.Strings.{closing}
 
--- a token; a string and a quoted symbol hold what stands between the quotes, and the names what
--- stands behind the sign
+-- a token; a string and a quoted symbol have the text between the quotes, and a name has the text after its sigil
 pub data Lexeme : Type 0 where
   mark : Mark → Lexeme
   integer : List ℕ → Lexeme
@@ -33,19 +32,19 @@ is_comment c [] = false
 is_comment c (d ∷ ds) = c == 47 && d == 47
 
 unfoldable mutual
-  -- what follows the blanks and comments at the front
+  -- the rest of the text after leading blanks and comments
   pub skip : List ℕ → List ℕ
   skip [] = []
   skip (c ∷ cs) = if is_comment c cs then skip_line cs else if is_blank c then skip cs else c ∷ cs
 
-  -- a comment goes on to the line feed
+  -- a comment ends at the line feed
   pub skip_line : List ℕ → List ℕ
   skip_line [] = []
   skip_line (c ∷ cs) = if c == 10 then skip cs else skip_line cs
 
 -- ---- runs of bytes
 
--- the first n bytes as a token, and the rest
+-- the first n bytes as a token, and the rest of the text
 abbrev pub cut : (List ℕ → Lexeme) → ℕ → List ℕ → Option (Lexeme × List ℕ)
 cut make n bytes = Some (make (take n bytes), drop n bytes)
 
@@ -54,7 +53,7 @@ cut make n bytes = Some (make (take n bytes), drop n bytes)
 abbrev pub digits_len : List ℕ → ℕ
 digits_len bytes = prefix_len is_ascii_digit bytes
 
--- `0x` and hexadecimal digits, or 0 where none stand there
+-- the length of `0x` and hexadecimal digits, or 0 if there are none
 abbrev pub hex_len : List ℕ → ℕ
 hex_len [] = 0
 hex_len (a ∷ []) = 0
@@ -64,18 +63,18 @@ abbrev pub sign_len : List ℕ → ℕ
 sign_len [] = 0
 sign_len (c ∷ cs) = if c == 43 || c == 45 then 1 else 0
 
--- `e` or `E`, a sign or none, and digits, or 0 where none stand there
+-- the length of `e` or `E`, an optional sign and digits, or 0 if there is no exponent
 unfoldable pub exponent_len : List ℕ → ℕ
 exponent_len [] = 0
 exponent_len (c ∷ cs) =
     if (c == 101 || c == 69) && not (digits_len (drop (sign_len cs) cs) == 0) then 1 + sign_len cs + digits_len (drop (sign_len cs) cs) else 0
 
--- a dot, digits or none, and an exponent or none; 0 where no dot stands there
+-- the length of a dot, optional digits and an optional exponent, or 0 if there is no dot
 unfoldable pub fraction_len : List ℕ → ℕ
 fraction_len [] = 0
 fraction_len (c ∷ cs) = if c == 46 then 1 + digits_len cs + exponent_len (drop (digits_len cs) cs) else 0
 
--- an integer, or a float where a fraction follows it
+-- an integer, or a float if a fraction follows it
 abbrev pub decimal_at : ℕ → List ℕ → Option (Lexeme × List ℕ)
 decimal_at n bytes =
     if fraction_len (drop n bytes) == 0 then cut integer n bytes else cut float (n + fraction_len (drop n bytes)) bytes
@@ -85,16 +84,16 @@ number_at bytes = if hex_len bytes == 0 then decimal_at (digits_len bytes) bytes
 
 -- ---- names and strings
 
--- digits, or a run that begins with no digit
+-- the length of a suffix identifier: digits, or a run that doesn't begin with a digit
 abbrev pub suffix_len : List ℕ → ℕ
 suffix_len [] = 0
 suffix_len (c ∷ cs) = if is_ascii_digit c then digits_len (c ∷ cs) else prefix_len is_suffix (c ∷ cs)
 
--- a suffix identifier, and the rest
+-- a suffix identifier, and the rest of the text
 abbrev pub name_parts : List ℕ → Option (List ℕ × List ℕ)
 name_parts bytes = if suffix_len bytes == 0 then None else Some (take (suffix_len bytes) bytes, drop (suffix_len bytes) bytes)
 
--- what stands behind a quote up to the next, and the rest
+-- the text after the opening quote up to the closing quote, and the rest of the text
 abbrev pub string_parts : List ℕ → Option (List ℕ × List ℕ)
 string_parts bytes = option_map (λ n. (take n bytes, drop (n + 1) bytes)) (closing bytes)
 
@@ -104,14 +103,14 @@ name_at make bytes = option_map (λ x. (make x.0, x.1)) (name_parts bytes)
 abbrev pub string_at : (List ℕ → Lexeme) → List ℕ → Option (Lexeme × List ℕ)
 string_at make bytes = option_map (λ x. (make x.0, x.1)) (string_parts bytes)
 
--- a symbol behind its sign: a suffix identifier or a string
+-- a symbol after its sigil: a suffix identifier or a string
 unfoldable pub symbol_at : List ℕ → Option (Lexeme × List ℕ)
 symbol_at [] = None
 symbol_at (c ∷ cs) = if c == 34 then string_at quoted cs else name_at symbol (c ∷ cs)
 
 -- ---- punctuation
 
--- the longer mark where the byte b follows, else the shorter
+-- the longer mark if the byte b follows, otherwise the shorter
 abbrev pub longer : ℕ → Mark → Mark → List ℕ → Option (Lexeme × List ℕ)
 longer b long short [] = Some (mark short, [])
 longer b long short (c ∷ cs) = if c == b then Some (mark long, cs) else Some (mark short, c ∷ cs)
@@ -140,7 +139,7 @@ mark_at b bs =
 
 -- ---- the next token
 
--- a name or a string by its sign, `"`, `%`, `^`, `#`, `!` or `@`, else punctuation
+-- a name or a string by its sigil or quote, `"`, `%`, `^`, `#`, `!` or `@`, otherwise a punctuation mark
 abbrev pub sign_at : ℕ → List ℕ → Option (Lexeme × List ℕ)
 sign_at b bs =
     if b == 34 then string_at string bs
@@ -158,25 +157,25 @@ token_at b bs =
     else if is_letter b then cut bare (prefix_len is_word (b ∷ bs)) (b ∷ bs)
     else sign_at b bs
 
--- at the end of the text stands the mark `End`
+-- the end of the text is the mark `End`
 abbrev pub first_token : List ℕ → Option (Lexeme × List ℕ)
 first_token [] = Some (mark End, [])
 first_token (b ∷ bs) = token_at b bs
 
--- the next token and what follows it, or nothing where no token stands
+-- the next token and the rest of the text, or `None` if no token begins there
 unfoldable pub next : List ℕ → Option (Lexeme × List ℕ)
 next bytes = first_token (skip bytes)
 
--- what follows the byte, where it is the first
-abbrev pub behind_first : ℕ → List ℕ → Option (List ℕ)
-behind_first b [] = None
-behind_first b (c ∷ cs) = if c == b then Some cs else None
+-- the rest of the text after the byte, if the text begins with it
+abbrev pub trailing_first : ℕ → List ℕ → Option (List ℕ)
+trailing_first b [] = None
+trailing_first b (c ∷ cs) = if c == b then Some cs else None
 
--- whether a token that is no punctuation begins with the byte, where one does
+-- whether a token that begins with the byte is no punctuation mark
 abbrev pub begins_other : ℕ → Bool
 begins_other b = is_ascii_digit b || is_letter b || (b == 34 || b == 37 || b == 94 || b == 35 || b == 33 || b == 64)
 
--- the mark that a token is, with what follows it
+-- the punctuation mark of a token, and the rest of the text
 abbrev pub mark_with : Lexeme → List ℕ → Option (Mark × List ℕ)
 mark_with (mark m) rest = Some (m, rest)
 mark_with (integer s) rest = None
@@ -194,11 +193,11 @@ abbrev pub only_mark : Option (Lexeme × List ℕ) → Option (Mark × List ℕ)
 only_mark None = None
 only_mark (Some t) = mark_with t.0 t.1
 
--- the mark that is the next token and what follows it, or nothing where another token stands or none
+-- the next token if it is a punctuation mark, and the rest of the text, or `None`
 unfoldable pub next_mark : List ℕ → Option (Mark × List ℕ)
 next_mark bytes = only_mark (next bytes)
 
--- ---- what a function returned
+-- ---- the results of functions
 
 abbrev pub lexeme_of : Token → Lexeme
 lexeme_of (code.Mark m) = mark m

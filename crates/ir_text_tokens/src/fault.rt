@@ -1,10 +1,10 @@
-//! Where a text is refused.
+//! The place at which a text is refused.
 ghost use Rattle.std.specs.Prelude.{◌≡◌, ◌≤◌, ◌-◌, length};
 
 use crate::refusal::TextRefusal;
 use thiserror::Error;
 
-/// A refusal, and how many bytes of the text are left where it stands.
+/// A refusal, and the number of bytes from the refused place to the end of the text.
 #[derive(Clone, Copy, Debug, PartialEq, Eq, Error)]
 #[error("{refusal}, with {left} bytes left")]
 pub struct Fault {
@@ -13,7 +13,7 @@ pub struct Fault {
 }
 
 impl Fault {
-    /// The refusal at the bytes that are left.
+    /// Returns the fault for `refusal` at the start of `rest`.
     pub fn at(refusal: TextRefusal, rest: &[u8]) -> Fault
         ensures refusal { result.refusal ≡ refusal }
         ensures left { result.left ≡ length rest.now }
@@ -24,7 +24,7 @@ impl Fault {
         }
     }
 
-    /// The number of bytes of the text before it.
+    /// Returns the byte offset of the fault in `text`.
     pub fn offset(&self, text: &[u8]) -> usize
         ensures is { result ≡ length text.now - self.now.left }
         ensures within { result ≤ length text.now }

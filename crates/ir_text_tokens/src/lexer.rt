@@ -1,8 +1,8 @@
-//! Tokens are taken from the front of a text by longest match.
+//! The lexer: takes tokens from the front of a text by longest match.
 ghost use Rattle.std.specs.Prelude.{◌≡◌, ◌+◌, ◌≤◌, ◌∷◌, ℕ, length, option_map, IfErr, IfSome, IsTrue, Some};
 ghost use Rattle.std.specs.List.{prefix_len};
 ghost use Rattle.ir_text_tokens.specs.Reading.{GivesOrNone};
-ghost use Rattle.ir_text_tokens.specs.Tokens.{bare, behind_first, begins_other, exponent_len, fraction_len, hex_len, lexeme_of, longer, mark, mark_at, mark_of, name_parts, next, next_mark, number_at, sign_at, sign_len, skip, skip_line, string_parts, suffix_len, symbol_at, token_at, value};
+ghost use Rattle.ir_text_tokens.specs.Tokens.{bare, trailing_first, begins_other, exponent_len, fraction_len, hex_len, lexeme_of, longer, mark, mark_at, mark_of, name_parts, next, next_mark, number_at, sign_at, sign_len, skip, skip_line, string_parts, suffix_len, symbol_at, token_at, value};
 ghost use Rattle.ir_text_tokens.specs.declared.refusal.TextRefusal.{TextRefusal};
 
 use crate::fault::Fault;
@@ -11,7 +11,7 @@ use crate::runs::{Class, is_blank, is_letter, run_len};
 use crate::strings::closing;
 use crate::token::{Mark, Token};
 
-/// What follows a comment's line feed.
+/// Returns the rest of the text after the line feed that ends a comment.
 #[tactic(auto, unfolding(crate::specs::Tokens::skip_line))]
 fn skip_line(bytes: &[u8]) -> &[u8]
     ensures line { skip result.now ≡ skip_line bytes.now }
@@ -27,7 +27,7 @@ fn skip_line(bytes: &[u8]) -> &[u8]
     rest
 }
 
-/// What follows spaces at the front, four at a time.
+/// Returns the rest of the text after leading spaces, which it skips four at a time.
 #[tactic(auto, using(crate::proofs::Blanks::one_space), unfolding(crate::specs::Tokens::skip))]
 fn skip_fours(bytes: &[u8]) -> &[u8]
     ensures spaces { skip result.now ≡ skip bytes.now }
@@ -40,7 +40,7 @@ fn skip_fours(bytes: &[u8]) -> &[u8]
     rest
 }
 
-/// Whether a token begins here, at a byte that is no blank and begins no comment.
+/// Returns whether the first byte is neither a blank nor the start of a comment.
 #[inline(always)]
 fn is_begun(bytes: &[u8]) -> bool
     ensures { IsTrue result → skip bytes.now ≡ bytes.now }
@@ -51,10 +51,10 @@ fn is_begun(bytes: &[u8]) -> bool
     }
 }
 
-/// What follows a space at the front.
+/// Returns the rest of the text after one leading space, or `None` if there is no leading space.
 #[inline(always)]
 #[tactic(auto, using(crate::proofs::Blanks::one_space), unfolding(crate::specs::Tokens::skip))]
-fn behind_space(bytes: &[u8]) -> Option<&[u8]>
+fn after_space(bytes: &[u8]) -> Option<&[u8]>
     ensures { IfSome result (λ r. skip r.now ≡ skip bytes.now) }
 {
     match bytes {
@@ -63,7 +63,7 @@ fn behind_space(bytes: &[u8]) -> Option<&[u8]>
     }
 }
 
-/// What follows the blanks and comments at the front, of any number.
+/// Returns the rest of the text after any number of leading blanks and comments.
 #[tactic(auto, using(crate::proofs::Blanks::line_feed), unfolding(crate::specs::Tokens::skip))]
 fn skip_all(bytes: &[u8]) -> &[u8]
     ensures { result.now ≡ skip bytes.now }
@@ -79,7 +79,7 @@ fn skip_all(bytes: &[u8]) -> &[u8]
     }
 }
 
-/// What follows the blanks and comments at the front. Mostly there is none of them, or one space.
+/// Returns the rest of the text after leading blanks and comments. The usual cases, none and one space, are fast.
 #[inline(always)]
 pub fn skip(bytes: &[u8]) -> &[u8]
     ensures { result.now ≡ skip bytes.now }
@@ -87,7 +87,7 @@ pub fn skip(bytes: &[u8]) -> &[u8]
     if is_begun(bytes) {
         return bytes;
     }
-    match behind_space(bytes) {
+    match after_space(bytes) {
         Some(tail) if is_begun(tail) => tail,
         _ => skip_all(bytes),
     }
@@ -145,7 +145,7 @@ fn fraction_len(bytes: &[u8]) -> usize
     0
 }
 
-/// An integer or a float.
+/// Returns the integer or float at the front, and the rest of the text.
 #[tactic(auto, unfolding(crate::specs::Tokens::number_at))]
 fn number(bytes: &[u8]) -> (Token<'_>, &[u8])
     ensures { number_at bytes.now ≡ Some (lexeme_of result.0, result.1.now) }
@@ -165,7 +165,7 @@ fn number(bytes: &[u8]) -> (Token<'_>, &[u8])
     (Token::Float(front), rest)
 }
 
-/// How many bytes of a suffix identifier stand at the front.
+/// Returns the length of the suffix identifier at the front, or 0.
 fn suffix_len(bytes: &[u8]) -> usize
     ensures len { result ≡ suffix_len bytes.now }
     ensures within { result ≤ length bytes.now }
@@ -182,7 +182,7 @@ fn suffix_len(bytes: &[u8]) -> usize
     }
 }
 
-/// The name behind its sign, with which all begins, and what follows it.
+/// Returns the name after its sigil, and the rest of the text. `tail` is `all` without the sigil.
 fn name<'a>(all: &'a [u8], tail: &'a [u8]) -> Result<(&'a [u8], &'a [u8]), usize>
     ensures { GivesOrNone (λ x. (x.0.now, x.1.now)) result (name_parts tail.now) }
 {
@@ -193,7 +193,7 @@ fn name<'a>(all: &'a [u8], tail: &'a [u8]) -> Result<(&'a [u8], &'a [u8]), usize
     Ok(tail.split_at(len))
 }
 
-/// What stands behind a quote, with which all begins, up to the next, and what follows that.
+/// Returns the text between the opening quote and the closing one, and the rest. `tail` is `all` without the quote.
 fn string<'a>(all: &'a [u8], tail: &'a [u8]) -> Result<(&'a [u8], &'a [u8]), usize>
     ensures { GivesOrNone (λ x. (x.0.now, x.1.now)) result (string_parts tail.now) }
 {
@@ -204,7 +204,7 @@ fn string<'a>(all: &'a [u8], tail: &'a [u8]) -> Result<(&'a [u8], &'a [u8]), usi
     }
 }
 
-/// A symbol behind its sign, with which all begins.
+/// Returns the symbol after its sigil `@`, and the rest of the text. `tail` is `all` without the sigil.
 #[tactic(auto, unfolding(crate::specs::Tokens::symbol_at))]
 fn symbol<'a>(all: &'a [u8], tail: &'a [u8]) -> Result<(Token<'a>, &'a [u8]), usize>
     ensures { GivesOrNone (λ x. (lexeme_of x.0, x.1.now)) result (symbol_at tail.now) }
@@ -217,7 +217,7 @@ fn symbol<'a>(all: &'a [u8], tail: &'a [u8]) -> Result<(Token<'a>, &'a [u8]), us
     Ok((Token::Symbol(name), rest))
 }
 
-/// The longer mark where the byte follows, else the shorter.
+/// Returns `long` if `tail` begins with `byte`, otherwise `short`, and the rest of the text.
 fn longer(byte: u8, long: Mark, short: Mark, tail: &[u8]) -> (Mark, &[u8])
     ensures { longer byte long short tail.now ≡ Some (mark result.0, result.1.now) }
 {
@@ -247,7 +247,7 @@ fn mark_of(byte: u8) -> Option<Mark>
     }
 }
 
-/// Punctuation that begins with the byte, and what follows it.
+/// Returns the punctuation mark that begins with `byte`, and the rest of the text.
 fn mark_at(byte: u8, tail: &[u8]) -> Option<(Mark, &[u8])>
     ensures { option_map (λ x. (mark x.0, x.1.now)) result ≡ mark_at byte tail.now }
 {
@@ -263,7 +263,7 @@ fn mark_at(byte: u8, tail: &[u8]) -> Option<(Mark, &[u8])>
     }
 }
 
-/// Punctuation that begins with the byte, with which all begins.
+/// Returns the punctuation mark that `all` begins with as a token. `all` is `byte` followed by `tail`.
 fn punctuation<'a>(byte: u8, all: &'a [u8], tail: &'a [u8]) -> Result<(Token<'a>, &'a [u8]), usize>
     ensures { GivesOrNone (λ x. (lexeme_of x.0, x.1.now)) result (mark_at byte tail.now) }
 {
@@ -273,7 +273,7 @@ fn punctuation<'a>(byte: u8, all: &'a [u8], tail: &'a [u8]) -> Result<(Token<'a>
     }
 }
 
-/// A name or a string by its sign, with which all begins, else punctuation.
+/// Returns the name or string that a sigil or quote begins, otherwise a punctuation mark.
 fn sign<'a>(byte: u8, all: &'a [u8], tail: &'a [u8]) -> Result<(Token<'a>, &'a [u8]), usize>
     ensures { GivesOrNone (λ x. (lexeme_of x.0, x.1.now)) result (sign_at byte tail.now) }
 {
@@ -303,7 +303,7 @@ fn sign<'a>(byte: u8, all: &'a [u8], tail: &'a [u8]) -> Result<(Token<'a>, &'a [
     }
 }
 
-/// The token with whose first byte all begins.
+/// Returns the token that `all` begins with. `all` is `byte` followed by `tail`.
 fn token_at<'a>(byte: u8, all: &'a [u8], tail: &'a [u8]) -> Result<(Token<'a>, &'a [u8]), usize>
     requires { all.now ≡ byte ∷ tail.now }
     ensures { GivesOrNone (λ x. (lexeme_of x.0, x.1.now)) result (token_at byte tail.now) }
@@ -318,9 +318,10 @@ fn token_at<'a>(byte: u8, all: &'a [u8], tail: &'a [u8]) -> Result<(Token<'a>, &
     sign(byte, all, tail)
 }
 
-/// The next token, and what follows it. Where none stands, a fault at the first byte that is no
-/// blank; in a string at the backslash of a bad escape, or at the quote of one that is open. MLIR
-/// Language Reference, "Common syntax".
+/// Returns the next token and the rest of the text. MLIR Language Reference, "Common syntax".
+///
+/// If no token begins there, the fault is at the first byte after blanks and comments. A bad escape is refused at its
+/// backslash, and an unclosed string at its opening quote.
 #[tactic(auto, unfolding(crate::specs::Tokens::next))]
 pub fn token(bytes: &[u8]) -> Result<(Token<'_>, &[u8]), Fault>
     ensures token { GivesOrNone (λ x. (lexeme_of x.0, x.1.now)) result (next bytes.now) }
@@ -339,10 +340,10 @@ pub fn token(bytes: &[u8]) -> Result<(Token<'_>, &[u8]), Fault>
     }
 }
 
-/// What follows the byte, where it is the first.
+/// Returns the rest of the text after `byte`, or `None` if the first byte is another one.
 #[inline(always)]
 fn after_first(bytes: &[u8], byte: u8) -> Option<&[u8]>
-    ensures { option_map (λ r. r.now) result ≡ behind_first byte bytes.now }
+    ensures { option_map (λ r. r.now) result ≡ trailing_first byte bytes.now }
 {
     match bytes {
         [first, rest @ ..] if *first == byte => Some(rest),
@@ -350,26 +351,26 @@ fn after_first(bytes: &[u8], byte: u8) -> Option<&[u8]>
     }
 }
 
-/// What follows the byte, where it is the first behind blanks and comments.
+/// Returns the rest of the text after `byte`, if it is the first byte after blanks and comments.
 #[inline(never)]
-fn behind_blanks(bytes: &[u8], byte: u8) -> Option<&[u8]>
-    ensures { option_map (λ r. r.now) result ≡ behind_first byte (skip bytes.now) }
+fn after_blanks(bytes: &[u8], byte: u8) -> Option<&[u8]>
+    ensures { option_map (λ r. r.now) result ≡ trailing_first byte (skip bytes.now) }
 {
     after_first(skip(bytes), byte)
 }
 
-/// What follows the byte, where it is the first behind the blanks and comments at the front.
+/// Returns the rest of the text after `byte`, if it is the first byte after leading blanks and comments.
 #[inline(always)]
 pub fn after_byte(bytes: &[u8], byte: u8) -> Option<&[u8]>
-    ensures { option_map (λ r. r.now) result ≡ behind_first byte (skip bytes.now) }
+    ensures { option_map (λ r. r.now) result ≡ trailing_first byte (skip bytes.now) }
 {
     if is_begun(bytes) {
         return after_first(bytes, byte);
     }
-    behind_blanks(bytes, byte)
+    after_blanks(bytes, byte)
 }
 
-/// The word that is the next token, and what follows it.
+/// Returns the next token if it is a bare word, and the rest of the text.
 #[inline(always)]
 #[tactic(auto, unfolding(crate::specs::Tokens::next))]
 pub fn word(bytes: &[u8]) -> Option<(&[u8], &[u8])>
@@ -382,7 +383,7 @@ pub fn word(bytes: &[u8]) -> Option<(&[u8], &[u8])>
     }
 }
 
-/// The name of a value that is the next token, behind its sign, and what follows it.
+/// Returns the name of the next token without its `%`, if the token is a value, and the rest of the text.
 #[inline(always)]
 #[tactic(auto, unfolding(crate::specs::Tokens::next))]
 pub fn value(bytes: &[u8]) -> Option<(&[u8], &[u8])>
@@ -398,7 +399,7 @@ pub fn value(bytes: &[u8]) -> Option<(&[u8], &[u8])>
     Some(tail.split_at(len))
 }
 
-/// Whether a token that is no punctuation begins with the byte, where one does.
+/// Returns whether a token that begins with `byte` is no punctuation mark.
 fn begins_other(byte: u8) -> bool
     ensures { result ≡ begins_other byte }
 {
@@ -407,8 +408,8 @@ fn begins_other(byte: u8) -> bool
         || matches!(byte, b'"' | b'%' | b'^' | b'#' | b'!' | b'@')
 }
 
-/// The mark that is the next token, and what follows it, or none where another token stands or none. No
-/// other token is read for that.
+/// Returns the next token if it is a punctuation mark, and the rest of the text. No other token is lexed to decide
+/// this.
 pub fn mark(bytes: &[u8]) -> Option<(Mark, &[u8])>
     ensures { option_map (λ x. (x.0, x.1.now)) result ≡ next_mark bytes.now }
 {

@@ -1,7 +1,13 @@
-//! The tokens of a text and their printed forms: what is printed for a string, a number or a name is
-//! one token again, and stands for the same.
+//! The lexer of the generic form, and the printer of its tokens.
+//!
+//! A string, number, key or symbol that this crate prints is read again as one token with the same value (`laws`).
+//! Modules: `lexer` (tokens), `token` and `runs` (their kinds and byte classes), `strings` and `numbers` (their
+//! values), `bodies` (bracketed bodies of opaque types and attributes), `names` (scoped names), `print`, and
+//! `refusal`, `fault` and `limits` (why and where a text is refused).
 #![tactic(auto)]
 
+pub mod bodies;
+pub mod body_laws;
 pub mod fault;
 pub mod laws;
 pub mod lexer;

@@ -6,11 +6,11 @@ ghost use Rattle.ir_text_tokens.specs.Limits.{most_bytes, text_reason};
 use crate::refusal::TextRefusal;
 use std::str::from_utf8;
 
-/// The most bytes of a text.
+/// The maximum length of a text in bytes.
 pub const MOST_BYTES: usize = 16_777_216;
 
-/// Refuses a text of too many bytes at the first that is too many, and a text that is not UTF-8 at
-/// its first bad byte.
+/// Refuses a text of more than `MOST_BYTES` bytes at the first byte past the limit, and a text that isn't UTF-8 at
+/// its first invalid byte.
 pub fn check_text(bytes: &[u8]) -> Result<(), (TextRefusal, usize)>
     ensures { result_err result ≡ text_reason bytes.now }
 {

@@ -1,15 +1,15 @@
-//! The names that a text has bound, by scopes.
+//! The names that a text has bound, by scope.
 ghost use Rattle.std.specs.Prelude.{◌≡◌, [], ◌∷◌, ◌++◌, OnOk, OnErr, option_map, take};
 ghost use Rattle.std.specs.HashMap.{get};
 ghost use Rattle.ir_text_tokens.specs.Scopes.{Scopes, bound, entered, find, left};
 ghost use Rattle.ir_text_tokens.specs.Places.{Agrees, joined, key_eq, pick, views};
 
-use ir_types_items::keyed::Keyed;
+use ir_types_interner::keyed::Keyed;
 use std::alloc::{AllocError, Global};
 use std::collections::HashMap;
 use std::marker::Model;
 
-/// A name, what it stands for, and the place of the entry with the same name that it hides.
+/// A name, its value, and the index of the entry of the same name that it shadows.
 #[derive(Drop)]
 pub(crate) struct Entry<'a, T> {
     pub name: &'a [u8],
@@ -17,23 +17,23 @@ pub(crate) struct Entry<'a, T> {
     pub hidden: Option<usize>,
 }
 
-/// How many entries there were when a region began, and the first that was seen.
+/// The number of entries at the start of a region, and the index of the first entry that was visible there.
 #[derive(Clone, Copy)]
-pub(crate) struct Floor {
+pub(crate) struct ScopeStart {
     pub count: usize,
     pub first: usize,
 }
 
-/// The names that are bound, with those that can be seen. MLIR Language Reference, "Regions".
+/// The names that are bound, and which of them are visible. MLIR Language Reference, "Regions".
 #[derive(Drop)]
-pub struct Names<'a, T> {
+pub struct ScopedNames<'a, T> {
     latest: HashMap<&'a [u8], Option<usize>, Keyed>,
     entries: Vec<Entry<'a, T>>,
-    floors: Vec<Floor>,
+    floors: Vec<ScopeStart>,
     first: usize,
 }
 
-impl<'a, T> Model for Names<'a, T> {
+impl<'a, T> Model for ScopedNames<'a, T> {
     ghost use Rattle.ir_text_tokens.specs.Scopes.{Scopes, scopes_code};
 
     ghost Value = { Scopes T };
@@ -47,7 +47,7 @@ impl<'a, T> Model for Names<'a, T> {
     ghost invariant = { Holds };
 }
 
-/// The place that the map has for a name.
+/// Returns the index that the map has for a name.
 fn place_of<'a>(latest: &HashMap<&'a [u8], Option<usize>, Keyed>, name: &'a [u8]) -> Option<usize>
     ensures { result ≡ joined (get key_eq latest.now name.entry) }
 {
@@ -57,7 +57,7 @@ fn place_of<'a>(latest: &HashMap<&'a [u8], Option<usize>, Keyed>, name: &'a [u8]
     }
 }
 
-/// What is bound at a place, where it can be seen.
+/// Returns the value bound at an index, if it is visible.
 fn pick<'s, 'a, T>(entries: &'s [Entry<'a, T>], first: usize, place: Option<usize>) -> Option<&'s T>
     ensures { option_map (λ value. value.now) result ≡ pick (views entries.now) first place }
 {
@@ -69,8 +69,7 @@ fn pick<'s, 'a, T>(entries: &'s [Entry<'a, T>], first: usize, place: Option<usiz
     Some(&entry.value)
 }
 
-/// Puts an entry last.
-fn put<'a, T: Drop>(
+fn push_entry<'a, T: Drop>(
     latest: &mut HashMap<&'a [u8], Option<usize>, Keyed>,
     entries: &mut Vec<Entry<'a, T>>,
     name: &'a [u8],
@@ -97,7 +96,6 @@ fn put<'a, T: Drop>(
     }
 }
 
-/// Takes all entries away.
 fn clear<'a, T: Drop>(
     latest: &mut HashMap<&'a [u8], Option<usize>, Keyed>,
     entries: &mut Vec<Entry<'a, T>>,
@@ -109,8 +107,8 @@ fn clear<'a, T: Drop>(
     entries.clear();
 }
 
-/// Takes entries away until there are so many. Where none is to stay and a quarter or more of the map's room is taken,
-/// no name is looked up for that.
+/// Removes entries from the end until `count` are left. If `count` is 0 and at least a quarter of the map's capacity
+/// is used, the map is cleared without looking up any name.
 fn cut<'a, T: Drop>(
     latest: &mut HashMap<&'a [u8], Option<usize>, Keyed>,
     entries: &mut Vec<Entry<'a, T>>,
@@ -133,12 +131,12 @@ fn cut<'a, T: Drop>(
     }
 }
 
-impl<'a, T: Drop> Names<'a, T> {
-    /// No names, which will be hashed with this key.
-    pub fn new(alloc: Global, keyed: Keyed) -> Names<'a, T>
+impl<'a, T: Drop> ScopedNames<'a, T> {
+    /// Returns an empty set of names whose hash key is `keyed`.
+    pub fn new(alloc: Global, keyed: Keyed) -> ScopedNames<'a, T>
         ensures { result ≡ record { here = []; outer = [] } }
     {
-        Names {
+        ScopedNames {
             latest: HashMap::with_hasher(alloc, keyed),
             entries: Vec::new(alloc),
             floors: Vec::new(alloc),
@@ -146,29 +144,29 @@ impl<'a, T: Drop> Names<'a, T> {
         }
     }
 
-    /// What the name stands for, where it can be seen. It is found by its hash.
+    /// Returns the value of a visible name, or `None`. The name is looked up by hash.
     pub fn find(&self, name: &'a [u8]) -> Option<&T>
         ensures { option_map (λ value. value.now) result ≡ find name.now self.now.here }
     {
         pick(&self.entries, self.first, place_of(&self.latest, name))
     }
 
-    /// Binds a name, which may hide another.
+    /// Binds a name. The binding shadows an earlier one of the same name.
     pub fn bind(&mut self, name: &'a [u8], value: T) -> Result<(), AllocError>
         ensures ok { OnOk result (self.new ≡ bound name.now value self.old) }
         ensures err { OnErr result (self.new ≡ self.old) }
     {
-        put(&mut self.latest, &mut self.entries, name, value)?;
+        push_entry(&mut self.latest, &mut self.entries, name, value)?;
         Ok(())
     }
 
-    /// Begins a region, in which an isolated operation hides all names.
+    /// Enters a region. In the region of an isolated operation no outer name is visible.
     pub fn enter(&mut self, isolated: bool) -> Result<(), AllocError>
         ensures ok { OnOk result (self.new ≡ entered isolated self.old) }
         ensures err { OnErr result (self.new ≡ self.old) }
     {
         let count = self.entries.len();
-        self.floors.push(Floor {
+        self.floors.push(ScopeStart {
             count,
             first: self.first,
         })?;
@@ -178,7 +176,7 @@ impl<'a, T: Drop> Names<'a, T> {
         Ok(())
     }
 
-    /// Ends a region: the names that could be seen where it began can be seen again, and no others.
+    /// Leaves a region. Exactly the names that were visible at its start are visible again.
     pub fn leave(&mut self)
         ensures { self.new ≡ left self.old }
     {

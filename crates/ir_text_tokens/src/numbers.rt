@@ -1,4 +1,4 @@
-//! The numbers that integer tokens stand for.
+//! The values of integer tokens.
 ghost use Rattle.std.specs.Prelude.{◌≡◌, ◌+◌, ◌*◌, ◌^◌, ◌<◌, ◌≤◌, length, SomeIff};
 ghost use Rattle.std.specs.Bool.{OnTrue};
 ghost use Rattle.std.specs.Char.{is_ascii_digit};
@@ -8,7 +8,7 @@ ghost use Rattle.ir_text_tokens.specs.Numbers.{begins_hex, below_limit, integer_
 
 use crate::strings::hex_value;
 
-/// A number with one more digit, or `None` where it is too big.
+/// Returns `number * base + digit`, or `None` if it doesn't fit in 128 bits.
 fn with_digit(number: u128, base: u8, digit: u8) -> Option<u128>
     ensures { SomeIff result (number * base + hex_value digit < 2 ^ 128) (number * base + hex_value digit) }
 {
@@ -17,7 +17,7 @@ fn with_digit(number: u128, base: u8, digit: u8) -> Option<u128>
         .checked_add(hex_value(digit) as u128)
 }
 
-/// The number that the digits write in a base, or `None` where it is too big.
+/// Returns the number that `digits` denote in `base`, or `None` if it doesn't fit in 128 bits.
 #[tactic(auto, unfolding(crate::specs::Numbers::place_value))]
 fn place_value(base: u8, digits: &[u8]) -> Option<u128>
     requires { 1 ≤ base }
@@ -32,7 +32,7 @@ fn place_value(base: u8, digits: &[u8]) -> Option<u128>
     Some(number)
 }
 
-/// Whether all bytes are decimal digits.
+/// Returns whether all bytes are decimal digits.
 pub fn are_digits(bytes: &[u8]) -> bool
     ensures { result ≡ list_all is_ascii_digit bytes.now }
 {
@@ -46,8 +46,8 @@ fn begins_hex(digits: &[u8]) -> bool
     matches!(digits, [b'0', b'x', ..])
 }
 
-/// The number that an integer token stands for, in decimal or behind `0x` in hexadecimal, or `None`
-/// where it passes every literal's limit, 2^128 - 1. MLIR Language Reference, "Common syntax".
+/// Returns the value of an integer token, decimal or hexadecimal with the prefix `0x`. Returns `None` for a value
+/// over 2^128 - 1. MLIR Language Reference, "Common syntax".
 pub fn integer_value(digits: &[u8]) -> Option<u128>
     ensures { result ≡ below_limit (integer_of digits.now) }
 {

@@ -1,4 +1,4 @@
-//! The printed forms of tokens.
+//! Prints tokens.
 ghost use Rattle.std.specs.Prelude.{◌≡◌, ◌++◌, ◌<◌, ℕ, List, IsTrue, OnOk};
 ghost use Rattle.ir_text_tokens.specs.Printing.{byte_text, hex_digit, is_bare_id, key_text, raw_text, signed_text, string_text, symbol_text};
 
@@ -6,7 +6,7 @@ use crate::runs::{Class, is_letter, run_len};
 use itoa::Buffer;
 use std::alloc::AllocError;
 
-/// A capital hexadecimal digit.
+/// Returns an uppercase hexadecimal digit.
 fn hex_digit(n: u8) -> u8
     requires { n < 16 }
     ensures { result ≡ hex_digit n }
@@ -14,8 +14,8 @@ fn hex_digit(n: u8) -> u8
     if n < 10 { b'0' + n } else { b'A' + (n - 10) }
 }
 
-/// A byte as it stands in a string.
-fn put_byte(out: &mut Vec<u8>, byte: u8) -> Result<(), AllocError>
+/// Appends the printed form of one byte of a string.
+fn write_byte(out: &mut Vec<u8>, byte: u8) -> Result<(), AllocError>
     ensures { OnOk result (out.new.items ≡ out.old.items ++ byte_text byte) }
 {
     if byte == b'\\' {
@@ -30,7 +30,7 @@ fn put_byte(out: &mut Vec<u8>, byte: u8) -> Result<(), AllocError>
     Ok(())
 }
 
-/// Whether all bytes are those of a word, of which none is written otherwise in a string.
+/// Returns whether all bytes are word bytes, which are printed in a string without escapes.
 #[tactic(auto, using(crate::proofs::Plain::plain_text))]
 fn are_plain(text: &[u8]) -> bool
     ensures { IsTrue result → raw_text text.now ≡ text.now }
@@ -38,8 +38,8 @@ fn are_plain(text: &[u8]) -> bool
     run_len(text, Class::Word) == text.len()
 }
 
-/// Appends a string between its quotes. MLIR Language Reference, "Common syntax".
-pub fn put_string(out: &mut Vec<u8>, text: &[u8]) -> Result<(), AllocError>
+/// Appends a string in quotes. MLIR Language Reference, "Common syntax".
+pub fn print_string(out: &mut Vec<u8>, text: &[u8]) -> Result<(), AllocError>
     ensures { OnOk result (out.new.items ≡ out.old.items ++ string_text text.now) }
 {
     out.push(b'"')?;
@@ -49,14 +49,14 @@ pub fn put_string(out: &mut Vec<u8>, text: &[u8]) -> Result<(), AllocError>
         return Ok(());
     }
     'bytes: for byte in text {
-        put_byte(out, *byte)?;
+        write_byte(out, *byte)?;
     }
     out.push(b'"')?;
     Ok(())
 }
 
 /// Appends a decimal number with its sign. MLIR Language Reference, "Common syntax".
-pub fn put_number(out: &mut Vec<u8>, is_negative: bool, magnitude: u128) -> Result<(), AllocError>
+pub fn print_number(out: &mut Vec<u8>, is_negative: bool, magnitude: u128) -> Result<(), AllocError>
     ensures { OnOk result (out.new.items ≡ out.old.items ++ signed_text is_negative magnitude) }
 {
     if is_negative {
@@ -67,7 +67,7 @@ pub fn put_number(out: &mut Vec<u8>, is_negative: bool, magnitude: u128) -> Resu
     Ok(())
 }
 
-/// Whether the text is a bare identifier. MLIR Language Reference, "Identifiers and keywords".
+/// Returns whether the text is a bare identifier. MLIR Language Reference, "Identifiers and keywords".
 pub fn is_bare_id(text: &[u8]) -> bool
     ensures { result ≡ is_bare_id text.now }
 {
@@ -77,22 +77,22 @@ pub fn is_bare_id(text: &[u8]) -> bool
     }
 }
 
-/// Appends a key, or the name of a symbol: bare where it is a bare identifier, else as a string. MLIR
-/// Language Reference, "Identifiers and keywords".
-pub fn put_key(out: &mut Vec<u8>, key: &[u8]) -> Result<(), AllocError>
+/// Appends a key or a symbol's name: bare if it is a bare identifier, otherwise as a string. MLIR Language Reference,
+/// "Identifiers and keywords".
+pub fn print_key(out: &mut Vec<u8>, key: &[u8]) -> Result<(), AllocError>
     ensures { OnOk result (out.new.items ≡ out.old.items ++ key_text key.now) }
 {
     if is_bare_id(key) {
         out.extend_from_slice(key)?;
         return Ok(());
     }
-    put_string(out, key)
+    print_string(out, key)
 }
 
-/// Appends a symbol with its sign. MLIR Language Reference, "Identifiers and keywords".
-pub fn put_symbol(out: &mut Vec<u8>, name: &[u8]) -> Result<(), AllocError>
+/// Appends a symbol with its sigil `@`. MLIR Language Reference, "Identifiers and keywords".
+pub fn print_symbol(out: &mut Vec<u8>, name: &[u8]) -> Result<(), AllocError>
     ensures { OnOk result (out.new.items ≡ out.old.items ++ symbol_text name.now) }
 {
     out.push(b'@')?;
-    put_key(out, name)
+    print_key(out, name)
 }

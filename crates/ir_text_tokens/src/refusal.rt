@@ -1,4 +1,4 @@
-//! Why a text is refused.
+//! The reasons why a text is refused.
 ghost use Rattle.std.specs.Prelude.{◌≡◌, ◌≤◌};
 ghost use Rattle.ir_types.specs.Refusals.{number_of};
 ghost use Rattle.ir_text_tokens.specs.Refusals.{refusal_of, text_refusal};
@@ -6,55 +6,55 @@ ghost use Rattle.ir_text_tokens.specs.Refusals.{refusal_of, text_refusal};
 use ir_types::refusal::Refusal;
 use thiserror::Error;
 
-/// Why a text is refused at one of its bytes: the first fourteen refusals of the workbench, and no other.
+/// The reason why a text is refused at a byte: one of the first fourteen refusals of the workbench.
 #[derive(Clone, Copy, Debug, PartialEq, Eq, Error)]
 pub enum TextRefusal {
-    /// What stands there begins no token.
+    /// No token begins here.
     #[error("no token begins here")]
     BadToken,
-    /// A token that does not fit.
+    /// The token isn't allowed here.
     #[error("a token does not fit")]
     Unexpected,
-    /// A name that is not bound, or an operand that is not visible.
+    /// A name isn't bound, or the value isn't visible.
     #[error("a value is not known")]
     UnknownValue,
-    /// A name that is bound already.
+    /// A name is bound twice.
     #[error("a name is bound already")]
     Redefined,
-    /// The number or the types of operands or results differ from what is written.
+    /// The number or the types of the operands or results differ from the written type.
     #[error("the types differ")]
     TypeMismatch,
-    /// A width outside the integer types.
+    /// No integer type has this width.
     #[error("no integer type has this width")]
     BadWidth,
-    /// A value outside the range of its type.
+    /// A value is outside the range of its type.
     #[error("a value is outside the range of its type")]
     BadValue,
-    /// A second block in a region.
+    /// A region has a second block.
     #[error("a region has a second block")]
     MultipleBlocks,
-    /// An operation with successors.
+    /// An operation has successors.
     #[error("an operation has successors")]
     Successors,
-    /// A nesting deeper than its limit.
+    /// The nesting is deeper than its limit.
     #[error("the nesting is too deep")]
     TooDeep,
-    /// A count past its limit.
+    /// A count is over its limit.
     #[error("a count passes its limit")]
     TooMany,
-    /// A key twice in one dictionary.
+    /// A dictionary has a key twice.
     #[error("a key stands twice")]
     DuplicateKey,
-    /// A part of the language that is left out.
+    /// The text uses a part of the language that isn't supported.
     #[error("this part of the language is left out")]
     LeftOut,
-    /// A text that is not UTF-8.
+    /// The text isn't UTF-8.
     #[error("the text is not UTF-8")]
     NotUtf8,
 }
 
 impl TextRefusal {
-    /// The refusal of the workbench that it is.
+    /// Returns the workbench's refusal for this reason.
     #[tactic(auto, using(crate::proofs::Reasons::of_texts))]
     pub fn refusal(self) -> Refusal
         ensures is { result ≡ refusal_of self }
@@ -78,8 +78,8 @@ impl TextRefusal {
         }
     }
 
-    /// What a refusal is in a text. One that no text has is a token that does not fit.
-    pub fn of(refusal: Refusal) -> TextRefusal
+    /// Returns the reason for `refusal`, or `Unexpected` if no text is refused by it.
+    pub fn from_refusal(refusal: Refusal) -> TextRefusal
         ensures { result ≡ text_refusal refusal }
     {
         match refusal {

@@ -1,9 +1,9 @@
-//! Runs of bytes.
+//! Runs of bytes of one class.
 ghost use Rattle.std.specs.Prelude.{◌≡◌, ◌≤◌, length};
 ghost use Rattle.std.specs.List.{prefix_len};
 ghost use Rattle.ir_text_tokens.specs.Bytes.{class_test, is_blank, is_hex, is_letter, is_line_end, is_word};
 
-/// The bytes of which a run is made.
+/// A class of bytes.
 #[derive(Clone, Copy)]
 pub(crate) enum Class {
     Digit,
@@ -12,7 +12,7 @@ pub(crate) enum Class {
     Suffix,
 }
 
-/// Each byte of a word stands at its own place, and a comma at every other place.
+/// Each word byte is at its own index. Every other index has a comma.
 static WORD_BYTES: [u8; 256] = *b"\
     ,,,,,,,,,,,,,,,,,,,,,,,,,,,,,,,,\
     ,,,,$,,,,,,,,,.,0123456789,,,,,,\
@@ -47,7 +47,7 @@ pub(crate) fn is_letter(byte: u8) -> bool
     byte.is_ascii_alphabetic() || byte == b'_'
 }
 
-/// Whether a word goes on with the byte, which one look at the table tells.
+/// Returns whether `byte` can continue a word. The answer is one table lookup.
 #[inline(always)]
 pub(crate) fn is_word(byte: u8) -> bool
     ensures { result ≡ is_word byte }
@@ -66,7 +66,7 @@ fn is_in(class: Class, byte: u8) -> bool
     }
 }
 
-/// How many bytes at the front are of the class.
+/// Returns the length of the longest prefix whose bytes are all of `class`.
 pub(crate) fn run_len(bytes: &[u8], class: Class) -> usize
     ensures len { result ≡ prefix_len (class_test class) bytes.now }
     ensures within { result ≤ length bytes.now }

@@ -7,14 +7,14 @@ ghost use Rattle.ir_text_tokens.specs.Bytes.{is_line_end};
 use crate::runs::{is_hex, is_line_end};
 use std::alloc::{AllocError, Global};
 
-/// Whether the byte is an escape with the backslash before it.
+/// Returns whether a backslash and `byte` are a complete escape.
 fn is_short(byte: u8) -> bool
     ensures { result ≡ is_short byte }
 {
     matches!(byte, b'\\' | b'"' | b'n' | b't')
 }
 
-/// The byte that such an escape stands for.
+/// Returns the byte that a backslash and `byte` denote.
 fn short_value(byte: u8) -> u8
     ensures { result ≡ short_value byte }
 {
@@ -25,7 +25,7 @@ fn short_value(byte: u8) -> u8
     }
 }
 
-/// The number that a hexadecimal digit stands for.
+/// Returns the value of a hexadecimal digit.
 pub(crate) fn hex_value(byte: u8) -> u8
     ensures value { result ≡ hex_value byte }
     ensures below { result < 16 }
@@ -38,7 +38,7 @@ pub(crate) fn hex_value(byte: u8) -> u8
     }
 }
 
-/// How many bytes an escape has behind its backslash, where one stands.
+/// Returns the length of the escape after its backslash, or `None` if it isn't an escape.
 #[tactic(auto, unfolding(crate::specs::Strings::closing))]
 fn escape_len(bytes: &[u8]) -> Option<usize>
     ensures found { IfSome result (λ n. closing_escape bytes.now ≡ option_map (λ k. n + k) (closing (drop n bytes.now))) }
@@ -52,7 +52,8 @@ fn escape_len(bytes: &[u8]) -> Option<usize>
     }
 }
 
-/// How many further bytes belong to a byte that ends no string: those of an escape behind a backslash.
+/// Returns how many more bytes belong to `byte` inside a string: the length of an escape after a backslash, otherwise
+/// 0. Returns `None` for a bad escape.
 #[tactic(auto, unfolding(crate::specs::Strings::closing))]
 fn part_len(byte: u8, bytes: &[u8]) -> Option<usize>
     requires quote { byte ≢ 34 }
@@ -68,8 +69,8 @@ fn part_len(byte: u8, bytes: &[u8]) -> Option<usize>
     }
 }
 
-/// How many bytes stand before the quote that ends a string. Else how many are left where it is
-/// refused: at the backslash of a bad escape, or `None` where the string is open.
+/// Returns the number of bytes before the quote that ends the string. The error is the number of bytes left at the
+/// backslash of a bad escape, or `None` if the string isn't closed.
 #[tactic(auto, unfolding(crate::specs::Strings::closing))]
 pub(crate) fn closing(bytes: &[u8]) -> Result<usize, Option<usize>>
     ensures found { GivesOrNone (λ n. n) result (closing bytes.now) }
@@ -93,7 +94,7 @@ pub(crate) fn closing(bytes: &[u8]) -> Result<usize, Option<usize>>
     Err(None)
 }
 
-/// The byte that an escape stands for, behind its backslash, and what follows it.
+/// Returns the byte that an escape denotes, given the text after the backslash, and the rest of the text.
 #[tactic(auto, unfolding(crate::specs::Strings::string_bytes))]
 fn escape(bytes: &[u8]) -> Option<(u8, &[u8])>
     ensures value { escape_bytes bytes.now ≡ option_list (λ x. x.0 ∷ string_bytes x.1.now) result }
@@ -113,7 +114,7 @@ fn escape(bytes: &[u8]) -> Option<(u8, &[u8])>
     }
 }
 
-/// The bytes that the text between two quotes stands for. MLIR Language Reference, "Common syntax".
+/// Returns the bytes that the text between two quotes denotes. MLIR Language Reference, "Common syntax".
 #[tactic(auto, unfolding(crate::specs::Strings::string_bytes))]
 pub fn string_value(alloc: Global, raw: &[u8]) -> Result<Vec<u8>, AllocError>
     ensures { IfOk result (λ v. v.items ≡ string_bytes raw.now) }

@@ -1,6 +1,6 @@
 //! Tokens.
 
-/// Punctuation, and the end of the text.
+/// A punctuation mark, or the end of the text.
 #[derive(Clone, Copy, PartialEq, Eq)]
 pub enum Mark {
     OpenRound,
@@ -22,9 +22,8 @@ pub enum Mark {
     End,
 }
 
-/// A token. A string and a quoted symbol hold what stands between the quotes, and the names what
-/// stands behind the sign: `%`, `^`, `#`, `!` or `@`. MLIR Language Reference, "Identifiers and
-/// keywords".
+/// A token. A string and a quoted symbol have the text between the quotes. A name has the text after its sigil: `%`,
+/// `^`, `#`, `!` or `@`. MLIR Language Reference, "Identifiers and keywords".
 #[derive(Clone, Copy)]
 pub enum Token<'a> {
     Mark(Mark),

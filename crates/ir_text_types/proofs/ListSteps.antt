@@ -1,4 +1,4 @@
--- Lists read one item after the other, as a loop does, over any state.
+-- Lists are parsed item by item, as a loop does, over any state.
 use Rattle.std.proofs.Common.{◌≡◌, ℕ, suc, ◌+◌, ◌-◌, ◌<◌, ◌≤◌, List, [], ◌∷◌, ◌++◌, Option, Some, None, refl, sym, ◌∙◌, arith}
 use Rattle.ir_text_tokens.specs.declared.token.Mark.{Mark}
 use Rattle.ir_text_tokens.specs.declared.token.Mark.TheVariants.{Comma}
@@ -7,18 +7,18 @@ use Rattle.ir_text_types.specs.declared.error.ReadError.TheVariants as errors
 use Rattle.ir_text_types.specs.Outcomes.{Outcome, Read, Wrong, Full, of_option, Parse, Fails}
 use Rattle.ir_text_types.specs.Lists.{more_at, list_at}
 
--- what fails, fails for all that depends on it
+-- a failure of one step is a failure of every step that depends on it
 pub fails_with : {A B : Type 0} (e : ReadError) (o : Outcome A) (q : Outcome B) → (o ≡ Wrong → q ≡ Wrong) → (o ≡ Full → q ≡ Full) → Fails e o → Fails e q
 fails_with errors.Memory o q f g h = tt
 fails_with (errors.Full left) o q f g h = g h
 fails_with (errors.Refused r) o q f g h = f h
 
--- and so where nothing follows
+-- the same for a parse that fails only on a wrong text
 pub fails_option : {A : Type 0} {B : Type 0} (e : ReadError) (o : Option A) (q : Outcome B) → (o ≡ None → q ≡ Wrong) → Fails e (of_option o) → Fails e q
 fails_option e None q f h = fails_with e (of_option None) q (λ w. f refl) (λ w. absurd cc) h
 fails_option e (Some x) q f h = fails_with e (of_option (Some x)) q (λ w. absurd cc) (λ w. absurd cc) h
 
--- what is read from an option is there
+-- a value that is parsed from an option is the option's value
 pub got : {A : Type 0} (o : Option A) (x : A) → of_option o ≡ Read x → o ≡ Some x
 got None x e = absurd cc
 got (Some y) x e = cc

@@ -5,11 +5,11 @@ use Rattle.std.proofs.lemmas.Bool.{eqb-true}
 use Rattle.std.proofs.lemmas.Option.{same_Some}
 use Rattle.ir_text_tokens.specs.declared.token.Mark.{Mark}
 use Rattle.ir_text_tokens.specs.declared.token.Mark.TheVariants.{OpenRound, CloseRound, OpenCurly, CloseCurly, OpenSquare, CloseSquare, Less, Greater, Comma, Equal, Colon, DoubleColon, Minus, Arrow, Question, Star, End}
-use Rattle.ir_text_tokens.specs.Tokens.{Lexeme, mark, integer, float, string, bare, value, label, hash, bang, symbol, quoted, skip, next, next_mark, only_mark, first_token, token_at, mark_at, mark_of, longer, begins_other, behind_first}
+use Rattle.ir_text_tokens.specs.Tokens.{Lexeme, mark, integer, float, string, bare, value, label, hash, bang, symbol, quoted, skip, next, next_mark, only_mark, first_token, token_at, mark_at, mark_of, longer, begins_other, trailing_first}
 use Rattle.ir_text_tokens.proofs.Marks.{other_is_none, mark_is_one}
 use Rattle.ir_text_types.specs.Marks.{mark_code, is_single, is_mark, after}
 
--- what follows a mark that was found, where it is the one
+-- the rest of the text after the mark that was found, if it is m
 abbrev picked : Mark → Option (Mark × List ℕ) → Option (List ℕ)
 picked m o = option_and_then (λ (x : Mark × List ℕ). if mark_code x.0 == mark_code m then Some x.1 else None) o
 
@@ -27,14 +27,14 @@ of_token m (Some (bang s, rest)) = refl
 of_token m (Some (symbol s, rest)) = refl
 of_token m (Some (quoted s, rest)) = refl
 
--- what follows a mark, by the mark that is the next token
+-- the rest of the text after a mark, given the mark that is the next token
 pub after_is : (m : Mark) (bytes : List ℕ) → after m bytes ≡ picked m (next_mark bytes)
 unfolding after next_mark
 after_is m bytes = of_token m (next bytes)
 
 -- ---- a mark of one byte
 
--- the codes of the other marks
+-- its code differs from the codes of the other marks
 abbrev Others : Mark → Type 0
 Others m = ((58 == mark_code m) ≡ false) × ((2 == mark_code m) ≡ false) × ((45 == mark_code m) ≡ false) × ((1 == mark_code m) ≡ false) × ((0 == mark_code m) ≡ false)
 
@@ -57,7 +57,7 @@ others Question e = (refl, refl, refl, refl, refl)
 others Star e = (refl, refl, refl, refl, refl)
 others End e = absurd (cc)
 
--- it is the token with its byte
+-- a mark of one byte is the token that its byte begins
 own : (m : Mark) (bs : List ℕ) → is_single m ≡ true → picked m (only_mark (token_at (mark_code m) bs)) ≡ Some bs
 own OpenRound bs e = refl
 own CloseRound bs e = refl
@@ -119,7 +119,7 @@ no_token m c bs e =
 not_token : (m : Mark) (c : ℕ) (bs : List ℕ) → is_single m ≡ true → (c == mark_code m) ≡ false → picked m (only_mark (token_at c bs)) ≡ None
 not_token m c bs single e = no_token m c bs (not_mark m c bs single e)
 
-first_is : (m : Mark) (bytes : List ℕ) → is_single m ≡ true → picked m (only_mark (first_token bytes)) ≡ behind_first (mark_code m) bytes
+first_is : (m : Mark) (bytes : List ℕ) → is_single m ≡ true → picked m (only_mark (first_token bytes)) ≡ trailing_first (mark_code m) bytes
 first_is m [] single = rw (others m single).4 refl
 first_is m (c ∷ cs) single =
     (elim (c == mark_code m) as (λ t. (c == mark_code m) ≡ t → picked m (only_mark (token_at c cs)) ≡ cond t (Some cs) None) [
@@ -127,23 +127,23 @@ first_is m (c ∷ cs) single =
       | false ↦ λ t. not_token m c cs single t
     ]) refl
 
--- what follows a mark of one byte: it is the first byte that is no blank
-pub single_is : (m : Mark) (bytes : List ℕ) → is_single m ≡ true → after m bytes ≡ behind_first (mark_code m) (skip bytes)
+-- a mark of one byte is next if its byte is the first one after blanks
+pub single_is : (m : Mark) (bytes : List ℕ) → is_single m ≡ true → after m bytes ≡ trailing_first (mark_code m) (skip bytes)
 unfolding next_mark next
 single_is m bytes single = after_is m bytes ∙ first_is m (skip bytes) single
 
 -- ---- a colon, and an arrow
 
--- what follows a colon, of what follows its byte
-abbrev pub colon_behind : Option (List ℕ) → Option (List ℕ)
-colon_behind None = None
-colon_behind (Some []) = Some []
-colon_behind (Some (c ∷ cs)) = if c == 58 then None else Some (c ∷ cs)
+-- the rest of the text after a colon, given the text after its byte
+abbrev pub colon_after : Option (List ℕ) → Option (List ℕ)
+colon_after None = None
+colon_after (Some []) = Some []
+colon_after (Some (c ∷ cs)) = if c == 58 then None else Some (c ∷ cs)
 
--- and an arrow
-abbrev pub arrow_behind : Option (List ℕ) → Option (List ℕ)
-arrow_behind None = None
-arrow_behind (Some bs) = behind_first 62 bs
+-- the same for an arrow
+abbrev pub arrow_after : Option (List ℕ) → Option (List ℕ)
+arrow_after None = None
+arrow_after (Some bs) = trailing_first 62 bs
 
 if_other : (m : Mark) (t : Bool) (a b : Option (Lexeme × List ℕ)) → t ≡ false → picked m (only_mark b) ≡ None → picked m (only_mark (cond t a b)) ≡ None
 if_other m true a b e f = absurd cc
@@ -152,23 +152,23 @@ if_other m false a b e f = f
 no_colon : (c : ℕ) (bs : List ℕ) → (c == 58) ≡ false → picked Colon (only_mark (mark_at c bs)) ≡ None
 no_colon c bs e = if_other Colon (c == 58) _ _ e (not_if Colon (c == 45) _ _ (not_longer Colon 62 Arrow Minus bs refl refl) (not_of Colon c bs (mark_of c) (code_is c) e))
 
-colon_token : (bs : List ℕ) → picked Colon (only_mark (token_at 58 bs)) ≡ colon_behind (Some bs)
+colon_token : (bs : List ℕ) → picked Colon (only_mark (token_at 58 bs)) ≡ colon_after (Some bs)
 colon_token [] = refl
 colon_token (c ∷ cs) = elim (c == 58) as (λ t. picked Colon (only_mark (cond t (Some (mark DoubleColon, cs)) (Some (mark Colon, c ∷ cs)))) ≡ cond t None (Some (c ∷ cs))) [ true ↦ refl | false ↦ refl ]
 
-colon_first : (bytes : List ℕ) → picked Colon (only_mark (first_token bytes)) ≡ colon_behind (behind_first 58 bytes)
+colon_first : (bytes : List ℕ) → picked Colon (only_mark (first_token bytes)) ≡ colon_after (trailing_first 58 bytes)
 colon_first [] = refl
 colon_first (c ∷ cs) =
-    (elim (c == 58) as (λ t. (c == 58) ≡ t → picked Colon (only_mark (token_at c cs)) ≡ colon_behind (cond t (Some cs) None)) [
+    (elim (c == 58) as (λ t. (c == 58) ≡ t → picked Colon (only_mark (token_at c cs)) ≡ colon_after (cond t (Some cs) None)) [
       | true ↦ λ t. ap (λ b. picked Colon (only_mark (token_at b cs))) (eqb-true c 58 t) ∙ colon_token cs
       | false ↦ λ t. no_token Colon c cs (no_colon c cs t)
     ]) refl
 
-pub colon_is : (bytes : List ℕ) → after Colon bytes ≡ colon_behind (behind_first 58 (skip bytes))
+pub colon_is : (bytes : List ℕ) → after Colon bytes ≡ colon_after (trailing_first 58 (skip bytes))
 unfolding next_mark next
 colon_is bytes = after_is Colon bytes ∙ colon_first (skip bytes)
 
--- the byte that is an arrow's code begins no mark
+-- the byte that is the code of an arrow begins no mark
 no_arrow : (c : ℕ) (bs : List ℕ) → (c == 45) ≡ false → picked Arrow (only_mark (mark_at c bs)) ≡ None
 no_arrow c bs e = not_if Arrow (c == 58) _ _ (not_longer Arrow 58 DoubleColon Colon bs refl refl) (if_other Arrow (c == 45) _ _ e (no_of c bs))
   where
@@ -179,18 +179,18 @@ no_arrow c bs e = not_if Arrow (c == 58) _ _ (not_longer Arrow 58 DoubleColon Co
           | false ↦ λ t. not_of Arrow c bs (mark_of c) (code_is c) t
         ]) refl
 
-arrow_token : (bs : List ℕ) → picked Arrow (only_mark (token_at 45 bs)) ≡ arrow_behind (Some bs)
+arrow_token : (bs : List ℕ) → picked Arrow (only_mark (token_at 45 bs)) ≡ arrow_after (Some bs)
 arrow_token [] = refl
 arrow_token (c ∷ cs) = elim (c == 62) as (λ t. picked Arrow (only_mark (cond t (Some (mark Arrow, cs)) (Some (mark Minus, c ∷ cs)))) ≡ cond t (Some cs) None) [ true ↦ refl | false ↦ refl ]
 
-arrow_first : (bytes : List ℕ) → picked Arrow (only_mark (first_token bytes)) ≡ arrow_behind (behind_first 45 bytes)
+arrow_first : (bytes : List ℕ) → picked Arrow (only_mark (first_token bytes)) ≡ arrow_after (trailing_first 45 bytes)
 arrow_first [] = refl
 arrow_first (c ∷ cs) =
-    (elim (c == 45) as (λ t. (c == 45) ≡ t → picked Arrow (only_mark (token_at c cs)) ≡ arrow_behind (cond t (Some cs) None)) [
+    (elim (c == 45) as (λ t. (c == 45) ≡ t → picked Arrow (only_mark (token_at c cs)) ≡ arrow_after (cond t (Some cs) None)) [
       | true ↦ λ t. ap (λ b. picked Arrow (only_mark (token_at b cs))) (eqb-true c 45 t) ∙ arrow_token cs
       | false ↦ λ t. no_token Arrow c cs (no_arrow c cs t)
     ]) refl
 
-pub arrow_is : (bytes : List ℕ) → after Arrow bytes ≡ arrow_behind (behind_first 45 (skip bytes))
+pub arrow_is : (bytes : List ℕ) → after Arrow bytes ≡ arrow_after (trailing_first 45 (skip bytes))
 unfolding next_mark next
 arrow_is bytes = after_is Arrow bytes ∙ arrow_first (skip bytes)

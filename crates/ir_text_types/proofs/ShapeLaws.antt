@@ -1,4 +1,4 @@
--- Dimensions that are read are spelled, and dimensions that are spelled are read.
+-- The parser and the grammar of dimensions agree.
 use Rattle.std.proofs.Common.{◌≡◌, ◌≤◌, ℕ, zero, suc, Bool, true, false, true≢false, List, [], ◌∷◌, ◌++◌, length, take, drop, Option, Some, None, refl, sym, ap, subst, ◌∙◌, arith, append_assoc}
 use Rattle.std.specs.Prelude.{option_map, option_and_then, if◌then◌else◌, ◌==◌, ◌&&◌}
 use Rattle.std.specs.List.{prefix_len, list_all}
@@ -30,11 +30,11 @@ digit_stays c (d ∷ ds) e =
     let blank : is_blank c ≡ false = grind (arith, nat_tests) in
     rw (slash, blank) refl
 
--- and no `?` and no `x`
+-- a digit is no `?` and no `x`
 digit_no_mark : (c : ℕ) → is_ascii_digit c ≡ true → (c == 63) ≡ false
 digit_no_mark c e = grind (arith, nat_tests)
 
--- in front of an `x` digits end
+-- digits end before an `x`
 stops : (mid new : List ℕ) → IsCross mid new → Stops is_ascii_digit mid
 stops [] new e = tt
 stops (c ∷ cs) new e = by_case (is_ascii_digit c) refl
@@ -47,20 +47,20 @@ stops (c ∷ cs) new e = by_case (is_ascii_digit c) refl
         let no : is_ascii_digit 120 ≡ true = subst (λ d. is_ascii_digit d ≡ true) x h in
         absurd cc
 
--- digits alone are a run
+-- a text of digits is one run
 all_run : (ds : List ℕ) → list_all is_ascii_digit ds ≡ true → prefix_len is_ascii_digit ds ≡ length ds
 all_run [] e = refl
 all_run (d ∷ ds) e =
     let b = and_parts (is_ascii_digit d) (list_all is_ascii_digit ds) e in
     rw (b.0, all_run ds b.1) (omega arith)
 
--- one digit more in front
+-- a run with one more digit before it
 run_more : (c : ℕ) (cs : List ℕ) → is_ascii_digit c ≡ true → take (digits_len (c ∷ cs)) (c ∷ cs) ≡ c ∷ take (digits_len cs) cs
 run_more c cs e =
     let n : digits_len (c ∷ cs) ≡ suc (digits_len cs) = rw e (omega arith) in
     ap (λ k. take k (c ∷ cs)) n
 
--- and a run is digits alone
+-- a run has only digits
 run_all : (bs : List ℕ) → list_all is_ascii_digit (take (digits_len bs) bs) ≡ true
 run_all [] = refl
 run_all (c ∷ cs) = by_case (run_all cs) (is_ascii_digit c) refl
@@ -72,7 +72,7 @@ run_all (c ∷ cs) = by_case (run_all cs) (is_ascii_digit c) refl
 run_decimal : (c : ℕ) (cs : List ℕ) → is_ascii_digit c ≡ true → is_decimal (take (digits_len (c ∷ cs)) (c ∷ cs)) ≡ true
 run_decimal c cs e = ap is_decimal (run_more c cs e) ∙ rw (e, run_all cs) refl
 
--- decimal digits write a decimal number
+-- decimal digits don't begin a hexadecimal number
 no_hex : (ds : List ℕ) → is_decimal ds ≡ true → begins_hex ds ≡ false
 no_hex [] e = refl
 no_hex (a ∷ []) e = refl
@@ -89,10 +89,10 @@ no_hex (a ∷ b ∷ ds) e =
 decimal_is : (ds : List ℕ) → is_decimal ds ≡ true → integer_of ds ≡ place_value 10 ds
 decimal_is ds e = rw (no_hex ds e) refl
 
--- ---- one dimension, however great
+-- ---- one dimension of any size
 
-abbrev behind : Option ℕ → List ℕ → Option ℕ × List ℕ
-behind d rest = (d, rest)
+abbrev trailing : Option ℕ → List ℕ → Option ℕ × List ℕ
+trailing d rest = (d, rest)
 
 abbrev written : ℕ → List ℕ → Option (Option ℕ × List ℕ)
 written n bytes = crossed (Some (place_value 10 (take n bytes))) (drop n bytes)
@@ -118,14 +118,14 @@ cross_only bytes new e = ap cross_from e
 crossed_found : (d x : Option ℕ) (bytes new : List ℕ) → crossed d bytes ≡ Some (x, new) → (x ≡ d) × IsCross bytes new
 crossed_found d x bytes new e = from (cross_at bytes) refl e
   where
-    from : (o : Option (List ℕ)) → cross_at bytes ≡ o → option_map (behind d) o ≡ Some (x, new) → (x ≡ d) × IsCross bytes new
+    from : (o : Option (List ℕ)) → cross_at bytes ≡ o → option_map (trailing d) o ≡ Some (x, new) → (x ≡ d) × IsCross bytes new
     from None h e = absurd cc
     from (Some r) h e =
         let k = some_pair_parts d x r new e in
         (sym k.0, cross_found bytes new (h ∙ ap Some k.1))
 
 crossed_only : (d : Option ℕ) (bytes new : List ℕ) → IsCross bytes new → crossed d bytes ≡ Some (d, new)
-crossed_only d bytes new e = ap (option_map (behind d)) (cross_only bytes new e)
+crossed_only d bytes new e = ap (option_map (trailing d)) (cross_only bytes new e)
 
 plain_digits : (c : ℕ) (cs : List ℕ) → is_ascii_digit c ≡ true → plain (c ∷ cs) ≡ written (digits_len (c ∷ cs)) (c ∷ cs)
 plain_digits c cs e = rw (digit_no_mark c e, e) refl
@@ -186,7 +186,7 @@ plain_found d old new e = from (skip old) refl e
     from [] h e = absurd cc
     from (c ∷ cs) h e = by_mark c cs (c == 63) refl h e
 
--- ---- one that isn't too great
+-- ---- a dimension that isn't too large
 
 abbrev guarded : Option ℕ × List ℕ → Option (Option ℕ × List ℕ)
 guarded x = if is_dimension x.0 then Some x else None
@@ -194,7 +194,7 @@ guarded x = if is_dimension x.0 then Some x else None
 guard_crossed : (d : Option ℕ) (bytes : List ℕ) → option_and_then guarded (crossed d bytes) ≡ (if is_dimension d then crossed d bytes else None)
 guard_crossed d bytes = from (cross_at bytes) (is_dimension d) refl
   where
-    from : (o : Option (List ℕ)) (t : Bool) → is_dimension d ≡ t → option_and_then guarded (option_map (behind d) o) ≡ (if t then option_map (behind d) o else None)
+    from : (o : Option (List ℕ)) (t : Bool) → is_dimension d ≡ t → option_and_then guarded (option_map (trailing d) o) ≡ (if t then option_map (trailing d) o else None)
     from None true h = refl
     from None false h = refl
     from (Some r) true h = rw h refl
@@ -249,7 +249,7 @@ dimensions_only (suc room) front (d ∷ ds) old new h le k =
 abbrev pair : List (Option ℕ) → List ℕ → Option (List (Option ℕ) × List ℕ)
 pair ds rest = Some (ds, rest)
 
--- what was read behind those in front
+-- the dimensions that were parsed after those of `front`
 abbrev Found : ℕ → List (Option ℕ) → List (Option ℕ) → (old new : List ℕ) → Type 0
 Found room front all old new = (ds : List (Option ℕ)) × (all ≡ front ++ ds) × (list_all is_dimension ds ≡ true) × IsShape room ds old new
 
@@ -278,7 +278,7 @@ dimensions_found (suc room) front all old new e = by_case (λ d mid. dimensions_
     by_case rest false h e = end_found (suc room) front all old new h e
     by_case rest true h e = option_and_then_some (λ (x : Option ℕ × List ℕ). dimensions_at room (front ++ x.0 ∷ []) x.1) (dimension_at old) (all, new) e (λ x at more. more_found room front all x.0 old x.1 new at (rest x.0 x.1 more))
 
--- ---- and no two ways
+-- ---- the grammar is unambiguous
 
 pub dimension_one : (d e : Option ℕ) (old m n : List ℕ) → IsDimension d old m → IsDimension e old n → (d ≡ e) × (m ≡ n)
 dimension_one d e old m n k l = some_pair_parts d e m n (sym (plain_only d old m k) ∙ plain_only e old n l)

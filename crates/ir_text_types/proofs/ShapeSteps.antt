@@ -1,4 +1,4 @@
--- Dimensions read one after the other, as a loop does.
+-- Dimensions are parsed one by one, as a loop does.
 use Rattle.std.proofs.Common.{◌≡◌, ℕ, suc, ◌+◌, ◌-◌, ◌<◌, ◌≤◌, true, false, List, [], ◌∷◌, ◌++◌, Option, Some, None, refl, sym, ◌∙◌, arith}
 use Rattle.ir_text_tokens.specs.Tokens.{skip}
 use Rattle.ir_text_types.specs.declared.error.ReadError.{ReadError}

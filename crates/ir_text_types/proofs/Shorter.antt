@@ -1,12 +1,12 @@
--- What follows a text that is kept as it is spelled is no longer than what it began in.
+-- The rest of the text after an opaque type is no longer than the text.
 use Rattle.std.specs.Prelude.{if◌then◌else◌, option_map}
 use Rattle.std.proofs.Common.{◌≡◌, ◌∙◌, ◌≤◌, ◌+◌, ℕ, Bool, true, false, List, ◌∷◌, ◌++◌, length, Option, Some, None, refl, ap, length-append, arith}
 use Rattle.ir_text_tokens.specs.Tokens.{skip}
-use Rattle.ir_text_bodies.specs.Bodies.{begins, has_dot, body_at}
-use Rattle.ir_text_bodies.proofs.Again.{stands_at_the_front}
+use Rattle.ir_text_tokens.specs.Bodies.{begins, has_dot, body_at}
+use Rattle.ir_text_tokens.proofs.Again.{stands_at_the_front}
 use Rattle.ir_text_types.specs.OpaqueTypes.{is_alone, with_body, bracketed, word_text, dialect_text}
 
--- what is found leaves no more than this many bytes
+-- a result leaves at most n bytes
 abbrev pub IsWithin : ℕ → Option (List ℕ × List ℕ) → Type 0
 IsWithin n None = Unit {0}
 IsWithin n (Some x) = length x.1 ≤ n

@@ -1,4 +1,4 @@
--- Marks as they stand in a text.
+-- Punctuation marks in a text.
 use Rattle.std.proofs.Common.{◌≡◌, ℕ, true, cond, List, Option, Some, None, refl, sym, ap, subst, ◌∙◌}
 use Rattle.std.specs.Prelude.{option_map, option_and_then, ◌==◌, if◌then◌else◌}
 use Rattle.std.proofs.lemmas.Bool.{eqb-true}
@@ -6,7 +6,7 @@ use Rattle.std.proofs.lemmas.Option.{cond_some}
 use Rattle.ir_text_tokens.specs.declared.token.Mark.{Mark}
 use Rattle.ir_text_tokens.specs.declared.token.Mark.TheVariants.{OpenRound, CloseRound, OpenCurly, CloseCurly, OpenSquare, CloseSquare, Less, Greater, Comma, Equal, Colon, DoubleColon, Minus, Arrow, Question, Star, End}
 use Rattle.ir_text_tokens.specs.Tokens.{Lexeme, mark, next}
-use Rattle.ir_types.specs.Things.{Things}
+use Rattle.ir_types.specs.Things.{ContextModel}
 use Rattle.ir_types.specs.Sound.{IsSound}
 use Rattle.ir_types.proofs.Growth.{grows_refl}
 use Rattle.ir_text_types.specs.Marks.{mark_code, is_mark, after}
@@ -67,21 +67,21 @@ is_mark_self Question = refl
 is_mark_self Star = refl
 is_mark_self End = refl
 
-abbrev behind : Mark → Lexeme × List ℕ → Option (List ℕ)
-behind m t = if is_mark m t.0 then Some t.1 else None
+abbrev trailing : Mark → Lexeme × List ℕ → Option (List ℕ)
+trailing m t = if is_mark m t.0 then Some t.1 else None
 
 abbrev pair : Lexeme → List ℕ → Option (Lexeme × List ℕ)
 pair t rest = Some (t, rest)
 
-behind_found : (m : Mark) (o : Option (Lexeme × List ℕ)) (rest : List ℕ) → option_and_then (behind m) o ≡ Some rest → o ≡ pair (mark m) rest
-behind_found m None rest e = absurd cc
-behind_found m (Some t) rest e =
+trailing_found : (m : Mark) (o : Option (Lexeme × List ℕ)) (rest : List ℕ) → option_and_then (trailing m) o ≡ Some rest → o ≡ pair (mark m) rest
+trailing_found m None rest e = absurd cc
+trailing_found m (Some t) rest e =
     let c = cond_some (is_mark m t.0) t.1 rest e in
     ap (λ l. pair l t.1) (is_mark_is m t.0 c.0) ∙ ap (pair (mark m)) c.1
 
 pub after_found : (m : Mark) (bytes rest : List ℕ) → after m bytes ≡ Some rest → IsMark m bytes rest
 unfolding after
-after_found m bytes rest e = behind_found m (next bytes) rest e
+after_found m bytes rest e = trailing_found m (next bytes) rest e
 
 pub after_only : (m : Mark) (bytes rest : List ℕ) → IsMark m bytes rest → after m bytes ≡ Some rest
 unfolding after
@@ -97,27 +97,27 @@ none_from m bytes (Some rest) e h = absurd (h rest (after_found m bytes rest e))
 pub none_after : (m : Mark) (bytes : List ℕ) → Not IsMark m bytes → after m bytes ≡ None
 none_after m bytes h = none_from m bytes (after m bytes) refl h
 
--- ---- a text with the things that are known
+-- ---- a text with the context
 
-abbrev pub things : Typed → Things
+abbrev pub things : Typed → ContextModel
 things s = s.1
 
--- the text that is left is the same in both
-abbrev pub Same : Things → Typed → List ℕ → Type 0
+-- the same text is left in both states
+abbrev pub Same : ContextModel → Typed → List ℕ → Type 0
 Same z s t = s.0 ≡ t
 
-abbrev with_things : Things → List ℕ → Typed
+abbrev with_things : ContextModel → List ℕ → Typed
 with_things c r = (r, c)
 
-map_found : (o : Option (List ℕ)) (c : Things) (s' : Typed) → option_map (with_things c) o ≡ Some s' → (r : List ℕ) × (o ≡ Some r) × (s' ≡ (r, c))
+map_found : (o : Option (List ℕ)) (c : ContextModel) (s' : Typed) → option_map (with_things c) o ≡ Some s' → (r : List ℕ) × (o ≡ Some r) × (s' ≡ (r, c))
 map_found None c s' e = absurd cc
 map_found (Some r) c s' e = (r, refl, cc)
 
-map_none : (o : Option (List ℕ)) (c : Things) → option_map (with_things c) o ≡ None → o ≡ None
+map_none : (o : Option (List ℕ)) (c : ContextModel) → option_map (with_things c) o ≡ None → o ≡ None
 map_none None c e = refl
 map_none (Some r) c e = absurd cc
 
--- the texts agree now
+-- the texts agree in the present context
 pub text_now : (s : Typed) (t : List ℕ) → IsSound s.1 → From (λ z. Same z s t) s.1 → s.0 ≡ t
 text_now s t sound h = h s.1 (grows_refl s.1) sound
 

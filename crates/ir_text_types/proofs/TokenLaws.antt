@@ -1,7 +1,7 @@
--- What the text decides, or its next token.
+-- Steps that the text alone decides, or its next token.
 use Rattle.std.proofs.Common.{◌≡◌, ℕ, List, Option, Some, refl, sym, ap, subst, ◌∙◌, inr}
 use Rattle.ir_text_tokens.specs.Tokens.{Lexeme, next}
-use Rattle.ir_types.specs.Things.{Things}
+use Rattle.ir_types.specs.Things.{ContextModel}
 use Rattle.ir_types.proofs.Growth.{grows_refl}
 use Rattle.ir_text_types.specs.Outcomes.{Outcome, Read, ◌>>=◌, of_option, Parse}
 use Rattle.ir_text_types.specs.Typed.{Typed}
@@ -9,11 +9,11 @@ use Rattle.ir_text_types.specs.Grammars.{Grammar, Token}
 use Rattle.ir_text_types.proofs.Worlds.{option_read, Exact, Comes, step_on, reads_on}
 use Rattle.ir_text_types.proofs.TextLaws.{things, Same, text_now}
 
-abbrev kept : {A : Type 0} → Things → A × List ℕ → Outcome (A × Typed)
+abbrev kept : {A : Type 0} → ContextModel → A × List ℕ → Outcome (A × Typed)
 kept c x = Read (x.0, (x.1, c))
 
--- what is read of the text alone is what is spelled
-pub text_exact : {A : Type 0} (c : Things) (p : List ℕ → Option (A × List ℕ)) (P : Grammar (List ℕ) A)
+-- a parser of the text alone agrees with its grammar
+pub text_exact : {A : Type 0} (c : ContextModel) (p : List ℕ → Option (A × List ℕ)) (P : Grammar (List ℕ) A)
     → ((t t' : List ℕ) (x : A) → p t ≡ Some (x, t') → P x t t') → ((t t' : List ℕ) (x : A) → P x t t' → p t ≡ Some (x, t'))
     → Exact things Same c (λ z x y. x ≡ y) (λ s. of_option (p s.0) >>= λ x. Read (x.0, (x.1, s.1))) P
 text_exact {A = A} c p P into from = record {
@@ -28,10 +28,10 @@ text_exact {A = A} c p P into from = record {
       rw read (inr (y, (t', s.1), refl, record { grows = grows_refl s.1; sound = sound; stands = λ z j w. refl; agree = λ z j w. refl }));
 }
 
-module _ {A B : Type 0} (c : Things) (R : Things → A → B → Type 0) where
-  -- what is read behind the token
-  pub behind_exact : (rest : List ℕ) (p : Parse Typed A) (P : Grammar (List ℕ) B) → Exact things Same c R p P → Exact things Same c R (λ s. p (rest, s.1)) (λ y old new. P y rest new)
-  behind_exact rest p P k = record {
+module _ {A B : Type 0} (c : ContextModel) (R : ContextModel → A → B → Type 0) where
+  -- the parse after the token
+  pub trailing_exact : (rest : List ℕ) (p : Parse Typed A) (P : Grammar (List ℕ) B) → Exact things Same c R p P → Exact things Same c R (λ s. p (rest, s.1)) (λ y old new. P y rest new)
+  trailing_exact rest p P k = record {
     found = λ s t x s' g sound h e.
         let f = k.found (rest, s.1) rest x s' g sound (λ z j w. refl) e in
         (f.0, f.1, f.2, step_on things Same R s (rest, s.1) x f.0 s' f.1 (grows_refl s.1) f.3);

@@ -1,4 +1,4 @@
--- Types that are read are spelled, and types that are spelled are read.
+-- The parser and the grammar of types agree.
 use Rattle.std.proofs.Common.{◌≡◌, ◌<◌, ℕ, zero, suc, Bool, true, false, List, [], ◌∷◌, length, map, Option, Some, None, slice_get, refl, sym, ap, subst, ◌∙◌, ◌⊎◌, inl, inr, ⊎_elim}
 use Rattle.std.specs.Prelude.{option_map, if◌then◌else◌, ◌&&◌, ◌==◌, not, nat_le}
 use Rattle.std.specs.List.{All, AllByRecursion, list_any, list_all}
@@ -15,7 +15,7 @@ use Rattle.ir_types.specs.declared.node.TypeNode.{TypeNode}
 use Rattle.ir_types.specs.declared.node.TypeNode.TheVariants as node
 use Rattle.ir_types.specs.declared.refusal.Refusal.{Refusal}
 use Rattle.ir_types.specs.declared.refusal.Refusal.TheVariants.{BadValue, TooMany}
-use Rattle.ir_types.specs.Things.{Things, TypeIsOf, Grows}
+use Rattle.ir_types.specs.Things.{ContextModel, TypeIsOf, IsExtendedBy}
 use Rattle.ir_types.specs.Things as of
 use Rattle.ir_types.specs.Terms.{TypeTerm, TypeTerms, Function, type_from, type_terms, type_term, type_node_term}
 use Rattle.ir_types.specs.Terms as terms
@@ -36,13 +36,13 @@ use Rattle.ir_text_types.specs.ShapeGrammar.{IsShape}
 use Rattle.ir_text_types.specs.ShapeReading.{dimensions_at}
 use Rattle.ir_text_types.specs.TypeReading.{many, type_done, scalar_from, scalar_at, scalar_done, shape_at, opaque_done, word_from, word_type_from, word_type_at, element_at, memref_at, types_at, outputs_from, outputs_at, signature_at, function_at, type_from as type_read_from, type_at, function_type_at}
 use Rattle.ir_text_types.specs.Grammars.{Grammar, Then, Done, DoneIf, After, IsMark, Token}
-use Rattle.ir_text_types.specs.TypeGrammar.{types_of, IsScalar, IsOpaque, IsWordFrom, IsBehind, IsWordType, IsElement, IsMemref, IsTypes, IsOutputs, IsSignature, IsFunction, IsType, IsFunctionType}
+use Rattle.ir_text_types.specs.TypeGrammar.{types_of, IsScalar, IsOpaque, IsWordFrom, IsAfter, IsWordType, IsElement, IsMemref, IsTypes, IsOutputs, IsSignature, IsFunction, IsType, IsFunctionType}
 use Rattle.ir_text_types.specs.Worlds.{From}
 use Rattle.ir_text_types.specs.Standing.{TypeStands}
 use Rattle.ir_text_types.specs.Laws.{TypesStand, SignatureStands}
 use Rattle.ir_text_types.proofs.Worlds.{bind_read, option_read, Exact, Step, Comes, Reads, step_on, reads_on, exact_spelled, nothing_exact, choice_exact, guard_exact, some_exact, then_exact, done_exact, after_exact, either_exact, list_exact}
 use Rattle.ir_text_types.proofs.TextLaws.{things, Same, text_now, typed_marks}
-use Rattle.ir_text_types.proofs.TokenLaws.{text_exact, behind_exact, token_exact}
+use Rattle.ir_text_types.proofs.TokenLaws.{text_exact, trailing_exact, token_exact}
 use Rattle.ir_text_types.proofs.ShapeLaws.{dimensions_only, dimensions_found}
 
 -- ---- a node that is interned
@@ -52,7 +52,7 @@ read_interned None x y e = (refl, cc)
 read_interned (Some TooMany) x y e = absurd cc
 read_interned (Some _) x y e = absurd cc
 
--- a list that is full refuses for that alone
+-- a full list is refused for that reason alone
 pub full_cases : {A : Type 0} (is : A → Bool) (xs : List A) → (full_reason is xs ≡ None) ⊎ (full_reason is xs ≡ Some TooMany)
 full_cases is xs = by_case (not (list_any is xs) && nat_le 16777216 (length xs))
   where
@@ -60,11 +60,11 @@ full_cases is xs = by_case (not (list_any is xs) && nat_le 16777216 (length xs))
     by_case true = inr refl
     by_case false = inl refl
 
--- in z the node's parts are there, and it is y
-abbrev pub IsNodeOf : TypeNode → TypeTerm → Things → Type 0
+-- the context z has the parts of the node, and the node denotes y
+abbrev pub IsNodeOf : TypeNode → TypeTerm → ContextModel → Type 0
 IsNodeOf node y z = TypeIsOf z node × (type_node_term z node ≡ y)
 
-abbrev moved : Typed → ℕ × Things → ℕ × Typed
+abbrev moved : Typed → ℕ × ContextModel → ℕ × Typed
 moved s n = (n.0, (s.0, n.1))
 
 abbrev done : ℕ × Typed → Outcome (ℕ × Typed)
@@ -81,7 +81,7 @@ done_step node y s t sound same r fine = record {
   agree = λ z g w. same;
 }
 
-pub type_done_exact : (c : Things) (node : TypeNode) (y : TypeTerm) → From (IsNodeOf node y) c → Exact things Same c TypeStands (type_done node) (DoneIf (type_fault y ≡ None) y)
+pub type_done_exact : (c : ContextModel) (node : TypeNode) (y : TypeTerm) → From (IsNodeOf node y) c → Exact things Same c TypeStands (type_done node) (DoneIf (type_fault y ≡ None) y)
 unfolding type_done type_step
 type_done_exact c node y r = record {
   found = λ s t x s' g sound h e.
@@ -104,7 +104,7 @@ type_done_exact c node y r = record {
       (full_cases (same_type node) s.1.types));
 }
 
--- ---- types that are one word
+-- ---- types of one word
 
 abbrev IsWord : TypeNode → Type 0
 IsWord (node.Int sign width) = is_width width ≡ true
@@ -150,7 +150,7 @@ pub scalar_word : (word : List ℕ) (z : TypeNode) → scalar_of word ≡ Some z
 unfolding scalar_of
 scalar_word word z e = choose (bytes_eq word index_word) (Some node.Index) (integer_type_of word) z (λ h. let same : node.Index ≡ z = cc in subst IsWord same tt) (integer_word word z) e
 
-word_stands : (z : TypeNode) (c : Things) → IsWord z → IsNodeOf z (type_from [] z) c
+word_stands : (z : TypeNode) (c : ContextModel) → IsWord z → IsNodeOf z (type_from [] z) c
 word_stands (node.Int sign width) c h = (tt, refl)
 word_stands node.Index c h = (tt, refl)
 word_stands (node.Func inputs outputs) c h = absurd h
@@ -173,7 +173,7 @@ scalar_found s t x s' (bare word) rest token sound same e =
     (n.0, n.1, (word, o.0, read, o.1, n.2.1), step_on things Same TypeStands s (rest, s.1) x n.0 s' n.1 (grows_refl s.1) n.3)
 scalar_found s t x s' _ rest token sound same e = absurd cc
 
-pub scalar_exact : (c : Things) → Exact things Same c TypeStands scalar_at IsScalar
+pub scalar_exact : (c : ContextModel) → Exact things Same c TypeStands scalar_at IsScalar
 unfolding scalar_at
 scalar_exact c = record {
   found = λ s t x s' g sound h e.
@@ -188,11 +188,11 @@ scalar_exact c = record {
 
 -- ---- memrefs
 
--- no dimension is too great
+-- no dimension is too large
 abbrev IsGoodShape : Grammar (List ℕ) (List (Option ℕ))
 IsGoodShape dims old new = (list_all is_dimension dims ≡ true) × IsShape many dims old new
 
-shape_exact : (c : Things) → Exact things Same c (λ z x y. x ≡ y) shape_at IsGoodShape
+shape_exact : (c : ContextModel) → Exact things Same c (λ z x y. x ≡ y) shape_at IsGoodShape
 shape_exact c = text_exact c (dimensions_at many []) IsGoodShape found (λ t t' x k. dimensions_only many [] x t t' k.0 k.1.0 k.1.1)
   where
     found : (t t' : List ℕ) (x : List (Option ℕ)) → dimensions_at many [] t ≡ Some (x, t') → IsGoodShape x t t'
@@ -207,11 +207,11 @@ dims_fine dims elem e = by_case (list_all is_dimension dims) refl e
     by_case true h e = h
     by_case false h e = absurd cc
 
-memref_stands : (z : Things) (dims ds : List (Option ℕ)) (n : ℕ) (y : TypeTerm) → dims ≡ ds → TypeStands z n y → IsNodeOf (node.Memref dims n) (terms.Memref ds y) z
+memref_stands : (z : ContextModel) (dims ds : List (Option ℕ)) (n : ℕ) (y : TypeTerm) → dims ≡ ds → TypeStands z n y → IsNodeOf (node.Memref dims n) (terms.Memref ds y) z
 memref_stands z dims ds n y e h = (h.0, λ i. terms.Memref (e i) (h.1 i))
 
--- what the type of a word is, where it has one
-node_exact : (word : List ℕ) (c : Things) (o : Option TypeNode) → scalar_of word ≡ o
+-- the type of a word, if it has one
+node_exact : (word : List ℕ) (c : ContextModel) (o : Option TypeNode) → scalar_of word ≡ o
     → Exact things Same c TypeStands (λ s. of_option o >>= λ n. type_done n s) (λ y old new. (n : TypeNode) × (o ≡ Some n) × (y ≡ type_from [] n) × (new ≡ old))
 node_exact word c None e =
     exact_spelled things Same c TypeStands (λ s. Wrong) (λ y old new. ⊥) (λ y old new. (n : TypeNode) × (None ≡ Some n) × (y ≡ type_from [] n) × (new ≡ old))
@@ -222,43 +222,43 @@ node_exact word c (Some v) e =
     (λ y t t' k. (v, refl, k.1, k.2)) (λ y t t' k. let same : v ≡ k.0 = cc (k.1) in (word_fine v w, k.2 ∙ ap (type_from []) (sym same), k.3))
     (type_done_exact c v (type_from [] v) (λ z g k. word_stands v z w))
 
--- ---- types that are kept as they are spelled
+-- ---- opaque types
 
-opaque_exact : (found : Option (List ℕ × List ℕ)) (c : Things) → Exact things Same c TypeStands (λ s. opaque_done found s.1) (λ y old new. IsOpaque found y new)
+opaque_exact : (found : Option (List ℕ × List ℕ)) (c : ContextModel) → Exact things Same c TypeStands (λ s. opaque_done found s.1) (λ y old new. IsOpaque found y new)
 opaque_exact found c =
     exact_spelled things Same c TypeStands (λ s. opaque_done found s.1)
     (λ y old new. (x : List ℕ × List ℕ) × (found ≡ Some x) × DoneIf (type_fault (terms.OpaqueType x.0) ≡ None) (terms.OpaqueType x.0) y x.1 new)
     (λ y old new. IsOpaque found y new)
     (λ y t t' k. (k.0, k.1, k.2.1, k.2.2)) (λ y t t' k. (k.0, k.1, (refl, k.2, k.3)))
     (some_exact things Same c TypeStands found (λ x s. type_done (node.Opaque x.0) (x.1, s.1)) (λ x y old new. DoneIf (type_fault (terms.OpaqueType x.0) ≡ None) (terms.OpaqueType x.0) y x.1 new)
-    (λ x. behind_exact c TypeStands x.1 (type_done (node.Opaque x.0)) (DoneIf (type_fault (terms.OpaqueType x.0) ≡ None) (terms.OpaqueType x.0)) (type_done_exact c (node.Opaque x.0) (terms.OpaqueType x.0) (λ z g w. (tt, refl)))))
+    (λ x. trailing_exact c TypeStands x.1 (type_done (node.Opaque x.0)) (DoneIf (type_fault (terms.OpaqueType x.0) ≡ None) (terms.OpaqueType x.0)) (type_done_exact c (node.Opaque x.0) (terms.OpaqueType x.0) (λ z g w. (tt, refl)))))
 
--- ---- types that begin with a word, or the name of a dialect
+-- ---- types that begin with a word or a dialect's name
 
-module _ (o : Bool) (m : Parse Typed ℕ) (M : Grammar (List ℕ) TypeTerm) (inner : (c : Things) → Exact things Same c TypeStands m M) where
-  word_exact : (b memref : Bool) (word rest : List ℕ) (c : Things) → Exact things Same c TypeStands (λ s. word_from m b memref word rest s.1) (λ y old new. IsWordFrom M b memref word y rest new)
+module _ (o : Bool) (m : Parse Typed ℕ) (M : Grammar (List ℕ) TypeTerm) (inner : (c : ContextModel) → Exact things Same c TypeStands m M) where
+  word_exact : (b memref : Bool) (word rest : List ℕ) (c : ContextModel) → Exact things Same c TypeStands (λ s. word_from m b memref word rest s.1) (λ y old new. IsWordFrom M b memref word y rest new)
   word_exact true memref word rest c = opaque_exact (word_text word rest) c
-  word_exact false true word rest c = behind_exact c TypeStands rest m M (inner c)
+  word_exact false true word rest c = trailing_exact c TypeStands rest m M (inner c)
   word_exact false false word rest c =
-      behind_exact c TypeStands rest (scalar_done word) (λ y old new. (n : TypeNode) × (scalar_of word ≡ Some n) × (y ≡ type_from [] n) × (new ≡ old)) (node_exact word c (scalar_of word) refl)
+      trailing_exact c TypeStands rest (scalar_done word) (λ y old new. (n : TypeNode) × (scalar_of word ≡ Some n) × (y ≡ type_from [] n) × (new ≡ old)) (node_exact word c (scalar_of word) refl)
 
-  behind_word : (c : Things) (l : Lexeme) (rest : List ℕ) → Exact things Same c TypeStands (λ s. word_type_from o m s.1 l rest) (λ y old new. IsBehind o M l y rest new)
-  behind_word c (bare word) rest = word_exact (o && is_opaque_word word rest) (bytes_eq word memref_word) word rest c
-  behind_word c (bang name) rest = guard_exact things Same c TypeStands o (λ s. opaque_done (dialect_text 33 name rest) s.1) (λ y old new. IsOpaque (dialect_text 33 name rest) y new) (opaque_exact (dialect_text 33 name rest) c)
-  behind_word c _ rest = nothing_exact things Same c TypeStands
+  after_word : (c : ContextModel) (l : Lexeme) (rest : List ℕ) → Exact things Same c TypeStands (λ s. word_type_from o m s.1 l rest) (λ y old new. IsAfter o M l y rest new)
+  after_word c (bare word) rest = word_exact (o && is_opaque_word word rest) (bytes_eq word memref_word) word rest c
+  after_word c (bang name) rest = guard_exact things Same c TypeStands o (λ s. opaque_done (dialect_text 33 name rest) s.1) (λ y old new. IsOpaque (dialect_text 33 name rest) y new) (opaque_exact (dialect_text 33 name rest) c)
+  after_word c _ rest = nothing_exact things Same c TypeStands
 
-  pub word_type_exact : (c : Things) → Exact things Same c TypeStands (word_type_at o m) (IsWordType o M)
+  pub word_type_exact : (c : ContextModel) → Exact things Same c TypeStands (word_type_at o m) (IsWordType o M)
   unfolding word_type_at
-  word_type_exact c = token_exact c TypeStands (λ s l rest. word_type_from o m s.1 l rest) (λ l rest y old new. IsBehind o M l y rest new) (behind_word c)
+  word_type_exact c = token_exact c TypeStands (λ s l rest. word_type_from o m s.1 l rest) (λ l rest y old new. IsAfter o M l y rest new) (after_word c)
 
-  pub element_exact : (c : Things) → Exact things Same c TypeStands (element_at o m) (IsElement o M)
+  pub element_exact : (c : ContextModel) → Exact things Same c TypeStands (element_at o m) (IsElement o M)
   element_exact c = choice_exact things Same c TypeStands o (word_type_at o m) scalar_at (IsWordType o M) IsScalar (word_type_exact c) (scalar_exact c)
 
--- what stands behind the dimensions
+-- the text after the dimensions
 abbrev Elements : Bool → ℕ → List (Option ℕ) → Grammar (List ℕ) TypeTerm
 Elements o depth dims = Then (IsElement o (IsMemref o depth)) (λ elem. After IsMark Greater (DoneIf (type_fault (terms.Memref dims elem) ≡ None) (terms.Memref dims elem)))
 
-pub memref_exact : (o : Bool) (depth : ℕ) (c : Things) → Exact things Same c TypeStands (memref_at o depth) (IsMemref o depth)
+pub memref_exact : (o : Bool) (depth : ℕ) (c : ContextModel) → Exact things Same c TypeStands (memref_at o depth) (IsMemref o depth)
 unfolding memref_at IsMemref
 memref_exact o zero c = record { found = λ s t x s' g sound h e. absurd cc; only = λ s t y t' g sound h k. absurd k }
 memref_exact o (suc depth) c =
@@ -273,30 +273,30 @@ memref_exact o (suc depth) c =
 
 -- ---- types in parentheses
 
-each_below : (z : Things) (xs : List ℕ) (ys : List TypeTerm) → TypesStand z xs ys → AllByRecursion (λ t. t < length z.types) xs
+each_below : (z : ContextModel) (xs : List ℕ) (ys : List TypeTerm) → TypesStand z xs ys → AllByRecursion (λ t. t < length z.types) xs
 each_below z [] [] h = tt
 each_below z [] (y ∷ ys) h = absurd h
 each_below z (x ∷ xs) [] h = absurd h
 each_below z (x ∷ xs) (y ∷ ys) h = (h.0.0, each_below z xs ys h.1)
 
-each_term : (z : Things) (xs : List ℕ) (ys : List TypeTerm) → TypesStand z xs ys → terms.types_at (type_terms z) xs ≡ types_of ys
+each_term : (z : ContextModel) (xs : List ℕ) (ys : List TypeTerm) → TypesStand z xs ys → terms.types_at (type_terms z) xs ≡ types_of ys
 each_term z [] [] h = refl
 each_term z [] (y ∷ ys) h = absurd h
 each_term z (x ∷ xs) [] h = absurd h
 each_term z (x ∷ xs) (y ∷ ys) h = λ i. terms.next_type (h.0.1 i) (each_term z xs ys h.1 i)
 
-pub func_stands : (z : Things) (x : List ℕ × List ℕ) (y : List TypeTerm × List TypeTerm) → SignatureStands z x y → IsNodeOf (node.Func x.0 x.1) (Function (types_of y.0) (types_of y.1)) z
+pub func_stands : (z : ContextModel) (x : List ℕ × List ℕ) (y : List TypeTerm × List TypeTerm) → SignatureStands z x y → IsNodeOf (node.Func x.0 x.1) (Function (types_of y.0) (types_of y.1)) z
 func_stands z x y h = (
   (All-from_recursion (λ t. t < length z.types) x.0 (each_below z x.0 y.0 h.0), All-from_recursion (λ t. t < length z.types) x.1 (each_below z x.1 y.1 h.1)),
   λ i. Function (each_term z x.0 y.0 h.0 i) (each_term z x.1 y.1 h.1 i),
 )
 
-module _ (p : Parse Typed ℕ) (P : Grammar (List ℕ) TypeTerm) (item : (c : Things) → Exact things Same c TypeStands p P) where
-  pub types_exact : (room : ℕ) (c : Things) → Exact things Same c TypesStand (types_at p room) (IsTypes P room)
+module _ (p : Parse Typed ℕ) (P : Grammar (List ℕ) TypeTerm) (item : (c : ContextModel) → Exact things Same c TypeStands p P) where
+  pub types_exact : (room : ℕ) (c : ContextModel) → Exact things Same c TypesStand (types_at p room) (IsTypes P room)
   unfolding types_at IsTypes
   types_exact room c = list_exact things Same after_typed IsMark typed_marks TypeStands CloseRound (λ before. p) (λ before. P) (λ d xs ys r. item d) room c
 
-  pub outputs_exact : (room : ℕ) (c : Things) → Exact things Same c TypesStand (outputs_at p room) (IsOutputs P room)
+  pub outputs_exact : (room : ℕ) (c : ContextModel) → Exact things Same c TypesStand (outputs_at p room) (IsOutputs P room)
   unfolding outputs_at IsOutputs
   outputs_exact room c =
       either_exact things Same after_typed IsMark typed_marks c TypesStand OpenRound (outputs_from p room) (types_at p room) (λ s. p s >>= λ x. Read (x.0 ∷ [], x.1)) (IsTypes P room) (Then P (λ y. Done (y ∷ [])))
@@ -304,14 +304,14 @@ module _ (p : Parse Typed ℕ) (P : Grammar (List ℕ) TypeTerm) (item : (c : Th
       (then_exact things Same c TypeStands TypesStand p P (λ x s. Read (x ∷ [], s)) (λ y. Done (y ∷ [])) (item c) (λ d x y g r.
       done_exact things Same d TypesStand (x ∷ []) (y ∷ []) (λ z k w. (r z k w, tt))))
 
-  pub signature_exact : (room : ℕ) (c : Things) → Exact things Same c SignatureStands (signature_at p room) (IsSignature P room)
+  pub signature_exact : (room : ℕ) (c : ContextModel) → Exact things Same c SignatureStands (signature_at p room) (IsSignature P room)
   unfolding signature_at IsSignature
   signature_exact room c =
       then_exact things Same c TypesStand SignatureStands _ _ _ _ (types_exact many c) (λ d inputs ins g r.
       after_exact things Same after_typed IsMark typed_marks d SignatureStands Arrow _ _ (then_exact things Same d TypesStand SignatureStands _ _ _ _ (outputs_exact room d) (λ e outputs outs h k.
       done_exact things Same e SignatureStands (inputs, outputs) (ins, outs) (λ z l w. (r z (grows_trans d e z h l) w, k z l w)))))
 
-  pub function_exact : (c : Things) → Exact things Same c TypeStands (function_at p) (IsFunction P)
+  pub function_exact : (c : ContextModel) → Exact things Same c TypeStands (function_at p) (IsFunction P)
   unfolding function_at IsFunction
   function_exact c =
       then_exact things Same c SignatureStands TypeStands (signature_at p many) (IsSignature P many) (λ x. type_done (node.Func x.0 x.1)) (λ y. DoneIf (type_fault (Function (types_of y.0) (types_of y.1)) ≡ None) (Function (types_of y.0) (types_of y.1)))
@@ -319,31 +319,31 @@ module _ (p : Parse Typed ℕ) (P : Grammar (List ℕ) TypeTerm) (item : (c : Th
 
 -- ---- types, and the function types of operations
 
-pub type_exact : (o : Bool) (depth : ℕ) (c : Things) → Exact things Same c TypeStands (type_at o depth) (IsType o depth)
+pub type_exact : (o : Bool) (depth : ℕ) (c : ContextModel) → Exact things Same c TypeStands (type_at o depth) (IsType o depth)
 unfolding type_at IsType
 type_exact o zero c = record { found = λ s t x s' g sound h e. absurd cc; only = λ s t y t' g sound h k. absurd k }
 type_exact o (suc depth) c =
     either_exact things Same after_typed IsMark typed_marks c TypeStands OpenRound (type_read_from (type_at o depth) (word_type_at o (memref_at o (suc depth)))) (function_at (type_at o depth)) (word_type_at o (memref_at o (suc depth))) (IsFunction (IsType o depth)) (IsWordType o (IsMemref o (suc depth)))
     (λ s mid. refl) (λ s. refl) (function_exact (type_at o depth) (IsType o depth) (type_exact o depth) c) (word_type_exact o (memref_at o (suc depth)) (IsMemref o (suc depth)) (memref_exact o (suc depth)) c)
 
-pub function_type_exact : (o : Bool) (c : Things) → Exact things Same c SignatureStands (function_type_at o) (IsFunctionType o)
+pub function_type_exact : (o : Bool) (c : ContextModel) → Exact things Same c SignatureStands (function_type_at o) (IsFunctionType o)
 unfolding function_type_at IsFunctionType
 function_type_exact o c =
     after_exact things Same after_typed IsMark typed_marks c SignatureStands OpenRound (signature_at (type_at o 32) 256) (IsSignature (IsType o 32) 256) (signature_exact (type_at o 32) (IsType o 32) (type_exact o 32) 256 c)
 
 -- ---- from a text
 
-pub type_read : (o : Bool) (depth : ℕ) (c d : Things) (bytes rest : List ℕ) (n : ℕ) → IsSound c → type_at o depth (bytes, c) ≡ Read (n, (rest, d)) → Grows c d × IsSound d × of.IsType d n × IsType o depth (type_term d n) bytes rest
+pub type_read : (o : Bool) (depth : ℕ) (c d : ContextModel) (bytes rest : List ℕ) (n : ℕ) → IsSound c → type_at o depth (bytes, c) ≡ Read (n, (rest, d)) → IsExtendedBy c d × IsSound d × of.IsType d n × IsType o depth (type_term d n) bytes rest
 type_read o depth c d bytes rest n sound e =
     let f = (type_exact o depth c).found (bytes, c) bytes n (rest, d) (grows_refl c) sound (λ z g w. refl) e in
     let r = f.3.stands d (grows_refl d) f.3.sound in
     let spelled : IsType o depth (type_term d n) bytes f.1 = subst (λ y. IsType o depth y bytes f.1) (sym r.1) f.2 in
     (f.3.grows, f.3.sound, r.0, subst (λ b. IsType o depth (type_term d n) bytes b) (sym (text_now (rest, d) f.1 f.3.sound f.3.agree)) spelled)
 
-abbrev pair : {A : Type 0} → A → Things → List ℕ → Outcome (A × Typed)
+abbrev pair : {A : Type 0} → A → ContextModel → List ℕ → Outcome (A × Typed)
 pair x d b = Read (x, (b, d))
 
-pub type_spelled : (o : Bool) (depth : ℕ) (c : Things) (bytes rest : List ℕ) (y : TypeTerm) → IsSound c → IsType o depth y bytes rest → (type_at o depth (bytes, c) ≡ Full) ⊎ ((n : ℕ) × (d : Things) × (type_at o depth (bytes, c) ≡ Read (n, (rest, d))) × Grows c d × IsSound d × TypeStands d n y)
+pub type_spelled : (o : Bool) (depth : ℕ) (c : ContextModel) (bytes rest : List ℕ) (y : TypeTerm) → IsSound c → IsType o depth y bytes rest → (type_at o depth (bytes, c) ≡ Full) ⊎ ((n : ℕ) × (d : ContextModel) × (type_at o depth (bytes, c) ≡ Read (n, (rest, d))) × IsExtendedBy c d × IsSound d × TypeStands d n y)
 type_spelled o depth c bytes rest y sound k = ⊎_elim
     (λ (e : type_at o depth (bytes, c) ≡ Full). inl e)
     (λ (f : (n : ℕ) × (s : Typed) × (type_at o depth (bytes, c) ≡ Read (n, s)) × Step things Same TypeStands (bytes, c) n y s rest).
@@ -352,17 +352,17 @@ type_spelled o depth c bytes rest y sound k = ⊎_elim
 
 -- ---- and function types
 
-stand_map : (z : Things) (xs : List ℕ) (ys : List TypeTerm) → TypesStand z xs ys → All (of.IsType z) xs × (map (type_term z) xs ≡ ys)
+stand_map : (z : ContextModel) (xs : List ℕ) (ys : List TypeTerm) → TypesStand z xs ys → All (of.IsType z) xs × (map (type_term z) xs ≡ ys)
 stand_map z xs ys h = (All-from_recursion (of.IsType z) xs (each_below z xs ys h), terms_are z xs ys h)
   where
-    terms_are : (z : Things) (xs : List ℕ) (ys : List TypeTerm) → TypesStand z xs ys → map (type_term z) xs ≡ ys
+    terms_are : (z : ContextModel) (xs : List ℕ) (ys : List TypeTerm) → TypesStand z xs ys → map (type_term z) xs ≡ ys
     terms_are z [] [] h = refl
     terms_are z [] (y ∷ ys) h = absurd h
     terms_are z (x ∷ xs) [] h = absurd h
     terms_are z (x ∷ xs) (y ∷ ys) h = λ i. h.0.1 i ∷ terms_are z xs ys h.1 i
 
-pub function_type_read : (o : Bool) (c d : Things) (bytes rest : List ℕ) (x : List ℕ × List ℕ) → IsSound c → function_type_at o (bytes, c) ≡ Read (x, (rest, d))
-    → Grows c d × IsSound d × All (of.IsType d) x.0 × All (of.IsType d) x.1 × IsFunctionType o (map (type_term d) x.0, map (type_term d) x.1) bytes rest
+pub function_type_read : (o : Bool) (c d : ContextModel) (bytes rest : List ℕ) (x : List ℕ × List ℕ) → IsSound c → function_type_at o (bytes, c) ≡ Read (x, (rest, d))
+    → IsExtendedBy c d × IsSound d × All (of.IsType d) x.0 × All (of.IsType d) x.1 × IsFunctionType o (map (type_term d) x.0, map (type_term d) x.1) bytes rest
 function_type_read o c d bytes rest x sound e =
     let f = (function_type_exact o c).found (bytes, c) bytes x (rest, d) (grows_refl c) sound (λ z g w. refl) e in
     let r = f.3.stands d (grows_refl d) f.3.sound in
@@ -373,8 +373,8 @@ function_type_read o c d bytes rest x sound e =
     let spelled : IsFunctionType o y bytes f.1 = subst (λ y'. IsFunctionType o y' bytes f.1) same f.2 in
     (f.3.grows, f.3.sound, ins.0, outs.0, subst (λ b. IsFunctionType o y bytes b) (sym (text_now (rest, d) f.1 f.3.sound f.3.agree)) spelled)
 
-pub function_type_spelled : (o : Bool) (c : Things) (bytes rest : List ℕ) (y : List TypeTerm × List TypeTerm) → IsSound c → IsFunctionType o y bytes rest
-    → (function_type_at o (bytes, c) ≡ Full) ⊎ ((x : List ℕ × List ℕ) × (d : Things) × (function_type_at o (bytes, c) ≡ Read (x, (rest, d))) × Grows c d × IsSound d × SignatureStands d x y)
+pub function_type_spelled : (o : Bool) (c : ContextModel) (bytes rest : List ℕ) (y : List TypeTerm × List TypeTerm) → IsSound c → IsFunctionType o y bytes rest
+    → (function_type_at o (bytes, c) ≡ Full) ⊎ ((x : List ℕ × List ℕ) × (d : ContextModel) × (function_type_at o (bytes, c) ≡ Read (x, (rest, d))) × IsExtendedBy c d × IsSound d × SignatureStands d x y)
 function_type_spelled o c bytes rest y sound k = ⊎_elim
     (λ (e : function_type_at o (bytes, c) ≡ Full). inl e)
     (λ (f : (x : List ℕ × List ℕ) × (s : Typed) × (function_type_at o (bytes, c) ≡ Read (x, s)) × Step things Same SignatureStands (bytes, c) x y s rest).

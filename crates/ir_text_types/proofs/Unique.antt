@@ -1,4 +1,4 @@
--- Grammars by which a text has one reading.
+-- Unambiguous grammars: a text has one parse.
 use Rattle.std.proofs.Common.{◌≡◌, ℕ, zero, suc, Bool, true, false, true≢false, ◌&&◌, List, [], ◌∷◌, ◌++◌, Option, Some, None, sym, ap, subst, ◌∙◌, ◌⊎◌, inl, inr}
 use Rattle.std.specs.Str.{bytes_eq}
 use Rattle.std.proofs.lemmas.Option.{some_pair_parts}
@@ -12,11 +12,11 @@ use Rattle.ir_text_types.specs.OpaqueTypes.{is_opaque_word, word_text, dialect_t
 use Rattle.ir_text_types.specs.ShapeGrammar.{IsShape}
 use Rattle.ir_text_types.specs.TypeReading.{many}
 use Rattle.ir_text_types.specs.Grammars.{Grammar, Then, Done, DoneIf, After, Not, Either, IsMore, IsList, Token, IsMark}
-use Rattle.ir_text_types.specs.TypeGrammar.{types_of, IsScalar, IsOpaque, IsWordFrom, IsBehind, IsWordType, IsElement, IsMemref, IsTypes, IsOutputs, IsSignature, IsFunction, IsType, IsFunctionType}
+use Rattle.ir_text_types.specs.TypeGrammar.{types_of, IsScalar, IsOpaque, IsWordFrom, IsAfter, IsWordType, IsElement, IsMemref, IsTypes, IsOutputs, IsSignature, IsFunction, IsType, IsFunctionType}
 use Rattle.ir_text_types.proofs.ShapeLaws.{dimensions_one}
 
 module _ {T : Type 0} where
-  -- what is spelled from a state is one, and so is what is left
+  -- the value and the end state of a derivation are unique
   abbrev pub IsOne : {B : Type 0} → Grammar T B → Type 0
   IsOne {B = B} P = (t : T) (y y' : B) (n n' : T) → P y t n → P y' t n' → (y ≡ y') × (n ≡ n')
 
@@ -44,7 +44,7 @@ module _ {T : Type 0} where
     either_one m P Q first second t y y' n n' (inr k) (inr l) = second t y y' n n' k.1 l.1
 
     module _ {B : Type 0} (close : Mark) (P : List B → Grammar T B) (item : (front : List B) → IsOne (P front)) where
-      -- the end, or a comma and more
+      -- the end, or a comma and more items
       abbrev Ends : (ℕ → List B → Grammar T (List B)) → ℕ → List B → Grammar T (List B)
       Ends more room ys all mid new = (Tok close mid new × (all ≡ ys)) ⊎ (Not Tok close mid × (next : T) × Tok Comma mid next × more room ys all next new)
 
@@ -109,15 +109,15 @@ module _ (o : Bool) (M : Grammar (List ℕ) TypeTerm) (inner : IsOne M) where
       let node : k.0 ≡ l.0 = cc (some) in
       (k.2 ∙ ap (type_from []) node ∙ sym l.2, k.3 ∙ sym l.3)
 
-  behind_one : (token : Lexeme) → IsOne (IsBehind o M token)
-  behind_one (bare word) t y y' n n' k l = word_one (o && is_opaque_word word t) (bytes_eq word memref_word) word t y y' n n' k l
-  behind_one (bang name) t y y' n n' k l = opaque_one (dialect_text 33 name t) y y' n n' k.1 l.1
-  behind_one _ t y y' n n' k l = absurd k
+  trailing_one : (token : Lexeme) → IsOne (IsAfter o M token)
+  trailing_one (bare word) t y y' n n' k l = word_one (o && is_opaque_word word t) (bytes_eq word memref_word) word t y y' n n' k l
+  trailing_one (bang name) t y y' n n' k l = opaque_one (dialect_text 33 name t) y y' n n' k.1 l.1
+  trailing_one _ t y y' n n' k l = absurd k
 
   pub word_type_one : IsOne (IsWordType o M)
   word_type_one t y y' n n' k l =
       let e = token_one k.0 l.0 t k.1 l.1 k.2 l.2 in
-      behind_one k.0 k.1 y y' n n' k.3 (subst (λ rest. IsBehind o M k.0 y' rest n') (sym e.1) (subst (λ token. IsBehind o M token y' l.1 n') (sym e.0) l.3))
+      trailing_one k.0 k.1 y y' n n' k.3 (subst (λ rest. IsAfter o M k.0 y' rest n') (sym e.1) (subst (λ token. IsAfter o M token y' l.1 n') (sym e.0) l.3))
 
   element_one : IsOne (IsElement o M)
   element_one t y y' n n' (inl k) (inl l) = word_type_one t y y' n n' k.1 l.1

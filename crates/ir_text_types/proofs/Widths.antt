@@ -10,11 +10,11 @@ use Rattle.ir_types.specs.Reasons.{is_width}
 use Rattle.ir_text_types.specs.Scalars.{begins_zero, width_of, within}
 use Rattle.std.proofs.lemmas.Bool.{and_parts}
 
--- a number within the limit is the number
+-- a number within the limit is returned
 pub limit_is : (n w : ℕ) → below_limit n ≡ Some w → n ≡ w
 limit_is n w e = grind (arith, nat_tests)
 
--- a number past it is no width
+-- a number over the limit is no width
 pub limit_passed : (n : ℕ) → below_limit n ≡ None → within n ≡ None
 limit_passed n e = grind (arith, nat_tests)
 
@@ -29,7 +29,7 @@ two_digits a b d e z =
     let n : integer_of (a ∷ b ∷ []) ≡ (a - 48) * 10 + (b - 48) = rw (z, d, e) (omega arith) in
     rw n (is_below ((a - 48) * 10 + (b - 48)) (omega (arith, digit_most a d, digit_most b e)))
 
--- the number that two digits write without a zero in front
+-- the value of two digits without a leading zero
 pub two_value : (ds : List ℕ) → 2 ≤ length ds → length ds < 3 → list_all is_ascii_digit ds ≡ true → begins_zero ds ≡ false → below_limit (integer_of ds) ≡ Some ((get_or ds 0 0 - 48) * 10 + (get_or ds 1 0 - 48))
 two_value [] l m all plain = absurd (omega (arith, l))
 two_value (a ∷ []) l m all plain = absurd (omega (arith, l))
@@ -38,7 +38,7 @@ two_value (a ∷ b ∷ []) l m all plain =
     two_digits a b p.0 (and_parts (is_ascii_digit b) true p.1).0 plain
 two_value (a ∷ b ∷ c ∷ ds) l m all plain = absurd (omega (arith, m))
 
--- two such digits write a width
+-- two such digits denote a number
 two_number : (a b : ℕ) → is_ascii_digit a ≡ true → is_ascii_digit b ≡ true → (a == 48) ≡ false → integer_of (a ∷ b ∷ []) ≡ (a - 48) * 10 + (b - 48)
 unfolding place_value
 two_number a b d e z = rw (z, d, e) (omega arith)

@@ -1,9 +1,10 @@
--- A reader into numbers, against a grammar of what the numbers stand for. All is said in each sound context that grows from the present one.
+-- Agreement of a parser into ids with a grammar of the denoted values, in each sound context that extends the present
+-- one.
 use Rattle.std.specs.Prelude.{if◌then◌else◌}
 use Rattle.std.proofs.Common.{◌≡◌, ℕ, zero, suc, Bool, true, false, true≢false, List, [], ◌∷◌, ◌++◌, Option, Some, None, refl, sym, ap, subst, ◌∙◌, ◌⊎◌, inl, inr, ⊎_elim}
 use Rattle.ir_text_tokens.specs.declared.token.Mark.{Mark}
 use Rattle.ir_text_tokens.specs.declared.token.Mark.TheVariants.{Comma}
-use Rattle.ir_types.specs.Things.{Things, Grows}
+use Rattle.ir_types.specs.Things.{ContextModel, IsExtendedBy}
 use Rattle.ir_types.specs.Sound.{IsSound}
 use Rattle.ir_types.proofs.Growth.{grows_refl, grows_trans}
 use Rattle.ir_text_types.specs.Outcomes.{Outcome, Read, Wrong, Full, ◌>>=◌, of_option, Parse}
@@ -12,7 +13,7 @@ use Rattle.ir_text_types.specs.Grammars.{Grammar, Then, Done, After, Not, Either
 use Rattle.ir_text_types.specs.Worlds.{From}
 use Rattle.ir_text_types.specs.Laws.{Each}
 
--- what is read on was read
+-- both steps of a parse that succeeds succeed
 pub bind_read : {A B : Type 0} (o : Outcome A) (f : A → Outcome B) (y : B) → (o >>= f) ≡ Read y → (x : A) × (o ≡ Read x) × (f x ≡ Read y)
 bind_read (Read x) f y e = (x, refl, e)
 bind_read Wrong f y e = absurd cc
@@ -22,70 +23,70 @@ pub option_read : {A B : Type 0} (o : Option A) (f : A → Outcome B) (y : B) �
 option_read None f y e = absurd cc
 option_read (Some x) f y e = (x, refl, e)
 
--- reading in three steps, whichever two come first
+-- binding is associative
 pub bind_assoc : {A B C : Type 0} (o : Outcome A) (f : A → Outcome B) (g : B → Outcome C) → ((o >>= f) >>= g) ≡ (o >>= λ x. f x >>= g)
 bind_assoc (Read x) f g = refl
 bind_assoc Wrong f g = refl
 bind_assoc Full f g = refl
 
 -- what holds from a context on holds from a later one on
-pub later : (F : Things → Type 0) (c d : Things) → Grows c d → From F c → From F d
+pub later : (F : ContextModel → Type 0) (c d : ContextModel) → IsExtendedBy c d → From F c → From F d
 later F c d g h z k s = h z (grows_trans c d z g k) s
 
-module _ {S T : Type 0} (things : S → Things) (Same : Things → S → T → Type 0) where
+module _ {S T : Type 0} (things : S → ContextModel) (Same : ContextModel → S → T → Type 0) where
   -- the states agree from the present context on
   abbrev pub Agree : S → T → Type 0
   Agree s t = From (λ z. Same z s t) (things s)
 
-  -- what a step from s to s' gives: x stands for y
-  pub record Step {A B : Type 0} (R : Things → A → B → Type 0) (s : S) (x : A) (y : B) (s' : S) (t' : T) : Type 0 where
-    pub grows : Grows (things s) (things s')
+  -- a step from s to s': x denotes y
+  pub record Step {A B : Type 0} (R : ContextModel → A → B → Type 0) (s : S) (x : A) (y : B) (s' : S) (t' : T) : Type 0 where
+    pub grows : IsExtendedBy (things s) (things s')
     pub sound : IsSound (things s')
     pub stands : From (λ z. R z x y) (things s')
     pub agree : Agree s' t'
 
-  -- what was read is spelled
-  abbrev pub Comes : {A B : Type 0} → (Things → A → B → Type 0) → Grammar T B → S → T → A → S → Type 0
+  -- soundness: a value that is parsed has a derivation
+  abbrev pub Comes : {A B : Type 0} → (ContextModel → A → B → Type 0) → Grammar T B → S → T → A → S → Type 0
   Comes {B = B} R P s t x s' = (y : B) × (t' : T) × P y t t' × Step R s x y s' t'
 
-  -- what is spelled is read, unless the context is full
-  abbrev pub Reads : {A B : Type 0} → (Things → A → B → Type 0) → S → Outcome (A × S) → B → T → Type 0
+  -- completeness: a value with a derivation is parsed, unless the context is full
+  abbrev pub Reads : {A B : Type 0} → (ContextModel → A → B → Type 0) → S → Outcome (A × S) → B → T → Type 0
   Reads {A = A} R s o y t' = (o ≡ Full) ⊎ ((x : A) × (s' : S) × (o ≡ Read (x, s')) × Step R s x y s' t')
 
-  pub record Exact {A B : Type 0} (c : Things) (R : Things → A → B → Type 0) (p : Parse S A) (P : Grammar T B) : Type 0 where
-    pub found : (s : S) (t : T) (x : A) (s' : S) → Grows c (things s) → IsSound (things s) → Agree s t → p s ≡ Read (x, s') → Comes R P s t x s'
-    pub only : (s : S) (t : T) (y : B) (t' : T) → Grows c (things s) → IsSound (things s) → Agree s t → P y t t' → Reads R s (p s) y t'
+  pub record Exact {A B : Type 0} (c : ContextModel) (R : ContextModel → A → B → Type 0) (p : Parse S A) (P : Grammar T B) : Type 0 where
+    pub found : (s : S) (t : T) (x : A) (s' : S) → IsExtendedBy c (things s) → IsSound (things s) → Agree s t → p s ≡ Read (x, s') → Comes R P s t x s'
+    pub only : (s : S) (t : T) (y : B) (t' : T) → IsExtendedBy c (things s) → IsSound (things s) → Agree s t → P y t t' → Reads R s (p s) y t'
 
-  -- ---- steps in a row
+  -- ---- sequences of steps
 
-  pub step_on : {A B : Type 0} (R : Things → A → B → Type 0) (s mid : S) (x : A) (y : B) (s' : S) (t' : T) → Grows (things s) (things mid) → Step R mid x y s' t' → Step R s x y s' t'
+  pub step_on : {A B : Type 0} (R : ContextModel → A → B → Type 0) (s mid : S) (x : A) (y : B) (s' : S) (t' : T) → IsExtendedBy (things s) (things mid) → Step R mid x y s' t' → Step R s x y s' t'
   step_on R s mid x y s' t' g k = record { grows = grows_trans (things s) (things mid) (things s') g k.grows; sound = k.sound; stands = k.stands; agree = k.agree }
 
-  pub reads_on : {A B : Type 0} (R : Things → A → B → Type 0) (s mid : S) (o : Outcome (A × S)) (y : B) (t' : T) → Grows (things s) (things mid) → Reads R mid o y t' → Reads R s o y t'
+  pub reads_on : {A B : Type 0} (R : ContextModel → A → B → Type 0) (s mid : S) (o : Outcome (A × S)) (y : B) (t' : T) → IsExtendedBy (things s) (things mid) → Reads R mid o y t' → Reads R s o y t'
   reads_on R s mid o y t' g (inl e) = inl e
   reads_on R s mid o y t' g (inr k) = inr (k.0, k.1, k.2, step_on R s mid k.0 y k.1 t' g k.3)
 
-  pub reads_then : {A B A' B' : Type 0} (R : Things → A → B → Type 0) (R' : Things → A' → B' → Type 0) (s : S) (o : Outcome (A × S)) (q : A × S → Outcome (A' × S)) (y : B) (mid : T) (y' : B') (t' : T)
+  pub reads_then : {A B A' B' : Type 0} (R : ContextModel → A → B → Type 0) (R' : ContextModel → A' → B' → Type 0) (s : S) (o : Outcome (A × S)) (q : A × S → Outcome (A' × S)) (y : B) (mid : T) (y' : B') (t' : T)
       → Reads R s o y mid → ((x : A) (s' : S) → Step R s x y s' mid → Reads R' s' (q (x, s')) y' t') → Reads R' s (o >>= q) y' t'
   reads_then R R' s o q y mid y' t' (inl e) next = inl (ap (λ o. o >>= q) e)
   reads_then R R' s o q y mid y' t' (inr k) next = rw k.2 (reads_on R' s k.1 (q (k.0, k.1)) y' t' k.3.grows (next k.0 k.1 k.3))
 
-  -- a reader that is another from the present context on
-  pub exact_where : {A B : Type 0} (c : Things) (R : Things → A → B → Type 0) (p q : Parse S A) (P : Grammar T B) → ((s : S) → Grows c (things s) → IsSound (things s) → p s ≡ q s) → Exact c R q P → Exact c R p P
+  -- a parser that equals another one from the present context on
+  pub exact_where : {A B : Type 0} (c : ContextModel) (R : ContextModel → A → B → Type 0) (p q : Parse S A) (P : Grammar T B) → ((s : S) → IsExtendedBy c (things s) → IsSound (things s) → p s ≡ q s) → Exact c R q P → Exact c R p P
   exact_where c R p q P same k = record {
     found = λ s t x s' g sound h e. k.found s t x s' g sound h (sym (same s g sound) ∙ e);
     only = λ s t y t' g sound h j. subst (λ o. Reads R s o y t') (sym (same s g sound)) (k.only s t y t' g sound h j);
   }
 
-  -- a grammar that says the same
-  pub exact_spelled : {A B : Type 0} (c : Things) (R : Things → A → B → Type 0) (p : Parse S A) (P Q : Grammar T B) → ((y : B) (t t' : T) → P y t t' → Q y t t') → ((y : B) (t t' : T) → Q y t t' → P y t t') → Exact c R p P → Exact c R p Q
+  -- an equivalent grammar
+  pub exact_spelled : {A B : Type 0} (c : ContextModel) (R : ContextModel → A → B → Type 0) (p : Parse S A) (P Q : Grammar T B) → ((y : B) (t t' : T) → P y t t' → Q y t t') → ((y : B) (t t' : T) → Q y t t' → P y t t') → Exact c R p P → Exact c R p Q
   exact_spelled c R p P Q into from k = record {
     found = λ s t x s' g sound h e. let f = k.found s t x s' g sound h e in (f.0, f.1, into f.0 t f.1 f.2, f.3);
     only = λ s t y t' g sound h j. k.only s t y t' g sound h (from y t t' j);
   }
 
-  -- a relation that follows
-  pub exact_for : {A B : Type 0} (c : Things) (R R' : Things → A → B → Type 0) (p : Parse S A) (P : Grammar T B) → ((z : Things) (x : A) (y : B) → R z x y → R' z x y) → Exact c R p P → Exact c R' p P
+  -- a relation that follows from another
+  pub exact_for : {A B : Type 0} (c : ContextModel) (R R' : ContextModel → A → B → Type 0) (p : Parse S A) (P : Grammar T B) → ((z : ContextModel) (x : A) (y : B) → R z x y → R' z x y) → Exact c R p P → Exact c R' p P
   exact_for {A = A} {B = B} c R R' p P follows k = record {
     found = λ s t x s' g sound h e. let f = k.found s t x s' g sound h e in (f.0, f.1, f.2, step_for s x f.0 s' f.1 f.3);
     only = λ s t y t' g sound h j. reads_for s (p s) y t' (k.only s t y t' g sound h j);
@@ -98,12 +99,12 @@ module _ {S T : Type 0} (things : S → Things) (Same : Things → S → T → T
       reads_for s o y t' (inl e) = inl e
       reads_for s o y t' (inr j) = inr (j.0, j.1, j.2, step_for s j.0 y j.1 t' j.3)
 
-  -- nothing is read and nothing is spelled
-  pub nothing_exact : {A B : Type 0} (c : Things) (R : Things → A → B → Type 0) → Exact {A = A} {B = B} c R (λ s. Wrong) (λ y old new. ⊥)
+  -- no parse and no derivation
+  pub nothing_exact : {A B : Type 0} (c : ContextModel) (R : ContextModel → A → B → Type 0) → Exact {A = A} {B = B} c R (λ s. Wrong) (λ y old new. ⊥)
   nothing_exact c R = record { found = λ s t x s' g sound h e. absurd cc; only = λ s t y t' g sound h k. absurd k }
 
-  -- one of two, by a test
-  pub choice_exact : {A B : Type 0} (c : Things) (R : Things → A → B → Type 0) (b : Bool) (p q : Parse S A) (P Q : Grammar T B) → Exact c R p P → Exact c R q Q
+  -- one of two parsers, chosen by a test
+  pub choice_exact : {A B : Type 0} (c : ContextModel) (R : ContextModel → A → B → Type 0) (b : Bool) (p q : Parse S A) (P Q : Grammar T B) → Exact c R p P → Exact c R q Q
       → Exact c R (λ s. if b then p s else q s) (λ y old new. ((b ≡ true) × P y old new) ⊎ ((b ≡ false) × Q y old new))
   choice_exact {B = B} c R true p q P Q first second = exact_spelled c R p P (λ y old new. ((true ≡ true) × P y old new) ⊎ ((true ≡ false) × Q y old new)) (λ y t t' k. inl (refl, k)) back first
     where
@@ -116,8 +117,8 @@ module _ {S T : Type 0} (things : S → Things) (Same : Things → S → T → T
       back y t t' (inl k) = absurd (true≢false (sym k.0))
       back y t t' (inr k) = k.1
 
-  -- only where a test holds
-  pub guard_exact : {A B : Type 0} (c : Things) (R : Things → A → B → Type 0) (b : Bool) (p : Parse S A) (P : Grammar T B) → Exact c R p P → Exact c R (λ s. if b then p s else Wrong) (λ y old new. (b ≡ true) × P y old new)
+  -- a parser under a test
+  pub guard_exact : {A B : Type 0} (c : ContextModel) (R : ContextModel → A → B → Type 0) (b : Bool) (p : Parse S A) (P : Grammar T B) → Exact c R p P → Exact c R (λ s. if b then p s else Wrong) (λ y old new. (b ≡ true) × P y old new)
   guard_exact {A = A} {B = B} c R b p P first =
       exact_spelled c R (λ s. if b then p s else Wrong) (λ y old new. ((b ≡ true) × P y old new) ⊎ ((b ≡ false) × ⊥)) (λ y old new. (b ≡ true) × P y old new) into (λ y t t' k. inl k)
       (choice_exact c R b p (λ s. Wrong) P (λ y old new. ⊥) first (nothing_exact c R))
@@ -126,8 +127,8 @@ module _ {S T : Type 0} (things : S → Things) (Same : Things → S → T → T
       into y t t' (inl k) = k
       into y t t' (inr k) = absurd k.1
 
-  -- only where there is a value
-  pub some_exact : {A B N : Type 0} (c : Things) (R : Things → A → B → Type 0) (o : Option N) (p : N → Parse S A) (P : N → Grammar T B) → ((n : N) → Exact c R (p n) (P n))
+  -- a parser of an optional value
+  pub some_exact : {A B N : Type 0} (c : ContextModel) (R : ContextModel → A → B → Type 0) (o : Option N) (p : N → Parse S A) (P : N → Grammar T B) → ((n : N) → Exact c R (p n) (P n))
       → Exact c R (λ s. of_option o >>= λ n. p n s) (λ y old new. (n : N) × (o ≡ Some n) × P n y old new)
   some_exact {B = B} {N = N} c R None p P each = exact_spelled c R (λ s. Wrong) (λ y old new. ⊥) (λ y old new. (n : N) × (None ≡ Some n) × P n y old new) (λ y t t' k. absurd k) back (nothing_exact c R)
     where
@@ -138,8 +139,8 @@ module _ {S T : Type 0} (things : S → Things) (Same : Things → S → T → T
       back : (y : B) (t t' : T) → (n : N) × (Some v ≡ Some n) × P n y t t' → P v y t t'
       back y t t' k = let same : k.0 ≡ v = cc (k.1) in subst (λ n. P n y t t') same k.2
 
-  pub then_exact : {A A' B B' : Type 0} (c : Things) (R : Things → A → B → Type 0) (R' : Things → A' → B' → Type 0) (p : Parse S A) (P : Grammar T B) (q : A → Parse S A') (Q : B → Grammar T B')
-      → Exact c R p P → ((d : Things) (x : A) (y : B) → Grows c d → From (λ z. R z x y) d → Exact d R' (q x) (Q y)) → Exact c R' (λ s. p s >>= λ x. q x.0 x.1) (Then P Q)
+  pub then_exact : {A A' B B' : Type 0} (c : ContextModel) (R : ContextModel → A → B → Type 0) (R' : ContextModel → A' → B' → Type 0) (p : Parse S A) (P : Grammar T B) (q : A → Parse S A') (Q : B → Grammar T B')
+      → Exact c R p P → ((d : ContextModel) (x : A) (y : B) → IsExtendedBy c d → From (λ z. R z x y) d → Exact d R' (q x) (Q y)) → Exact c R' (λ s. p s >>= λ x. q x.0 x.1) (Then P Q)
   then_exact {A = A} c R R' p P q Q first second = record {
     found = λ s t x s' g sound h e.
         let a = bind_read (p s) (λ x. q x.0 x.1) (x, s') e in
@@ -159,11 +160,11 @@ module _ {S T : Type 0} (things : S → Things) (Same : Things → S → T → T
       let p : (x, s) ≡ (y, t) = cc in
       (ap (λ (q : A × S). q.0) p, ap (λ (q : A × S). q.1) p)
 
-  -- nothing is read: the step stays where it is
-  pub stay : {A B : Type 0} (R : Things → A → B → Type 0) (c : Things) (s : S) (t : T) (x : A) (y : B) → Grows c (things s) → IsSound (things s) → Agree s t → From (λ z. R z x y) c → Step R s x y s t
+  -- an empty step: nothing is read
+  pub stay : {A B : Type 0} (R : ContextModel → A → B → Type 0) (c : ContextModel) (s : S) (t : T) (x : A) (y : B) → IsExtendedBy c (things s) → IsSound (things s) → Agree s t → From (λ z. R z x y) c → Step R s x y s t
   stay R c s t x y g sound h r = record { grows = grows_refl (things s); sound = sound; stands = later (λ z. R z x y) c (things s) g r; agree = h }
 
-  pub done_exact : {A B : Type 0} (c : Things) (R : Things → A → B → Type 0) (x : A) (y : B) → From (λ z. R z x y) c → Exact c R (λ s. Read (x, s)) (Done y)
+  pub done_exact : {A B : Type 0} (c : ContextModel) (R : ContextModel → A → B → Type 0) (x : A) (y : B) → From (λ z. R z x y) c → Exact c R (λ s. Read (x, s)) (Done y)
   done_exact c R x y r = record {
     found = λ s t x' s' g sound h e.
         let q = parts x x' s s' e in
@@ -171,16 +172,16 @@ module _ {S T : Type 0} (things : S → Things) (Same : Things → S → T → T
     only = λ s t y' t' g sound h k. rw (k.0, k.1) (inr (x, s, refl, stay R c s t x y g sound h r));
   }
 
-  -- ---- marks
+  -- ---- punctuation marks
 
   pub record Marks (after : Mark → S → Option S) (Tok : Mark → T → T → Type 0) : Type 0 where
-    pub found : (m : Mark) (s : S) (t : T) (s' : S) → IsSound (things s) → Agree s t → after m s ≡ Some s' → (t' : T) × Tok m t t' × Grows (things s) (things s') × IsSound (things s') × Agree s' t'
-    pub only : (m : Mark) (s : S) (t t' : T) → IsSound (things s) → Agree s t → Tok m t t' → (s' : S) × (after m s ≡ Some s') × Grows (things s) (things s') × IsSound (things s') × Agree s' t'
+    pub found : (m : Mark) (s : S) (t : T) (s' : S) → IsSound (things s) → Agree s t → after m s ≡ Some s' → (t' : T) × Tok m t t' × IsExtendedBy (things s) (things s') × IsSound (things s') × Agree s' t'
+    pub only : (m : Mark) (s : S) (t t' : T) → IsSound (things s) → Agree s t → Tok m t t' → (s' : S) × (after m s ≡ Some s') × IsExtendedBy (things s) (things s') × IsSound (things s') × Agree s' t'
     pub none : (m : Mark) (s : S) (t : T) → IsSound (things s) → Agree s t → after m s ≡ None → Not Tok m t
     pub lacks : (m : Mark) (s : S) (t : T) → IsSound (things s) → Agree s t → Not Tok m t → after m s ≡ None
 
   module _ (after : Mark → S → Option S) (Tok : Mark → T → T → Type 0) (marks : Marks after Tok) where
-    pub after_exact : {A B : Type 0} (c : Things) (R : Things → A → B → Type 0) (m : Mark) (q : Parse S A) (Q : Grammar T B) → Exact c R q Q → Exact c R (λ s. of_option (after m s) >>= q) (After Tok m Q)
+    pub after_exact : {A B : Type 0} (c : ContextModel) (R : ContextModel → A → B → Type 0) (m : Mark) (q : Parse S A) (Q : Grammar T B) → Exact c R q Q → Exact c R (λ s. of_option (after m s) >>= q) (After Tok m Q)
     after_exact c R m q Q second = record {
       found = λ s t x s' g sound h e.
           let a = option_read (after m s) q (x, s') e in
@@ -192,10 +193,10 @@ module _ {S T : Type 0} (things : S → Things) (Same : Things → S → T → T
           rw f.1 (reads_on R s f.0 (q f.0) y t' f.2 (second.only f.0 k.0 y t' (grows_trans c (things s) (things f.0) g f.2) f.3 f.4 k.2));
     }
 
-    -- p behind the mark where it is next, and q where it is not
-    module _ {A B : Type 0} (c : Things) (R : Things → A → B → Type 0) (m : Mark) (f : S → Option S → Outcome (A × S)) (p q : Parse S A) (P Q : Grammar T B)
+    -- p after the mark if the mark is next, otherwise q
+    module _ {A B : Type 0} (c : ContextModel) (R : ContextModel → A → B → Type 0) (m : Mark) (f : S → Option S → Outcome (A × S)) (p q : Parse S A) (P Q : Grammar T B)
         (at_some : (s mid : S) → f s (Some mid) ≡ p mid) (at_none : (s : S) → f s None ≡ q s) (first : Exact c R p P) (second : Exact c R q Q) where
-      either_found : (s : S) (t : T) (x : A) (s' : S) (o : Option S) → after m s ≡ o → Grows c (things s) → IsSound (things s) → Agree s t → f s o ≡ Read (x, s') → Comes R (Either Tok m P Q) s t x s'
+      either_found : (s : S) (t : T) (x : A) (s' : S) (o : Option S) → after m s ≡ o → IsExtendedBy c (things s) → IsSound (things s) → Agree s t → f s o ≡ Read (x, s') → Comes R (Either Tok m P Q) s t x s'
       either_found s t x s' (Some mid) o g sound h e =
           let a = marks.found m s t mid sound h o in
           let n = first.found mid a.0 x s' (grows_trans c (things s) (things mid) g a.2) a.3 a.4 (sym (at_some s mid) ∙ e) in
@@ -204,7 +205,7 @@ module _ {S T : Type 0} (things : S → Things) (Same : Things → S → T → T
           let n = second.found s t x s' g sound h (sym (at_none s) ∙ e) in
           (n.0, n.1, inr (marks.none m s t sound h o, n.2), n.3)
 
-      either_only : (s : S) (t : T) (y : B) (t' : T) → Grows c (things s) → IsSound (things s) → Agree s t → Either Tok m P Q y t t' → Reads R s (f s (after m s)) y t'
+      either_only : (s : S) (t : T) (y : B) (t' : T) → IsExtendedBy c (things s) → IsSound (things s) → Agree s t → Either Tok m P Q y t t' → Reads R s (f s (after m s)) y t'
       either_only s t y t' g sound h (inl k) =
           let a = marks.only m s t k.0 sound h k.1 in
           rw (a.1, at_some s a.0) (reads_on R s a.0 (p a.0) y t' a.2 (first.only a.0 k.0 y t' (grows_trans c (things s) (things a.0) g a.2) a.3 a.4 k.2))
@@ -215,17 +216,17 @@ module _ {S T : Type 0} (things : S → Things) (Same : Things → S → T → T
 
     -- ---- lists
 
-    module _ {A B : Type 0} (R : Things → A → B → Type 0) where
-      pub each_push : (z : Things) (xs : List A) (ys : List B) (x : A) (y : B) → Each R z xs ys → R z x y → Each R z (xs ++ x ∷ []) (ys ++ y ∷ [])
+    module _ {A B : Type 0} (R : ContextModel → A → B → Type 0) where
+      pub each_push : (z : ContextModel) (xs : List A) (ys : List B) (x : A) (y : B) → Each R z xs ys → R z x y → Each R z (xs ++ x ∷ []) (ys ++ y ∷ [])
       each_push z [] [] x y h r = (r, tt)
       each_push z [] (v ∷ ys) x y h r = absurd h
       each_push z (u ∷ xs) [] x y h r = absurd h
       each_push z (u ∷ xs) (v ∷ ys) x y h r = (h.0, each_push z xs ys x y h.1 r)
 
       module _ (close : Mark) (p : List A → Parse S A) (P : List B → Grammar T B)
-          (item : (c : Things) (xs : List A) (ys : List B) → From (λ z. Each R z xs ys) c → Exact c R (p xs) (P ys)) where
-        -- an item was read: the end, or a comma and more
-        module _ (room : ℕ) (more : (c : Things) (xs : List A) (ys : List B) → From (λ z. Each R z xs ys) c → Exact c (Each R) (more_at after close p room xs) (IsMore Tok close P room ys)) where
+          (item : (c : ContextModel) (xs : List A) (ys : List B) → From (λ z. Each R z xs ys) c → Exact c R (p xs) (P ys)) where
+        -- after an item: the end, or a comma and more items
+        module _ (room : ℕ) (more : (c : ContextModel) (xs : List A) (ys : List B) → From (λ z. Each R z xs ys) c → Exact c (Each R) (more_at after close p room xs) (IsMore Tok close P room ys)) where
           abbrev Ends : List B → Grammar T (List B)
           Ends ys all mid new = (Tok close mid new × (all ≡ ys)) ⊎ (Not Tok close mid × (next : T) × Tok Comma mid next × IsMore Tok close P room ys all next new)
 
@@ -252,7 +253,7 @@ module _ {S T : Type 0} (things : S → Things) (Same : Things → S → T → T
               let n = (more (things m.0) xs ys (later (λ z. Each R z xs ys) (things mid) (things m.0) m.2 front)).only m.0 k.1 all' t' (grows_refl (things m.0)) m.3 m.4 k.3 in
               rw (marks.lacks close mid mid' sound h k.0, m.1) (reads_on (Each R) mid m.0 (more_at after close p room xs m.0) all' t' m.2 n)
 
-        pub more_exact : (room : ℕ) (c : Things) (xs : List A) (ys : List B) → From (λ z. Each R z xs ys) c → Exact c (Each R) (more_at after close p room xs) (IsMore Tok close P room ys)
+        pub more_exact : (room : ℕ) (c : ContextModel) (xs : List A) (ys : List B) → From (λ z. Each R z xs ys) c → Exact c (Each R) (more_at after close p room xs) (IsMore Tok close P room ys)
         unfolding more_at IsMore
         more_exact zero c xs ys r = record { found = λ s t x s' g sound h e. absurd cc; only = λ s t y t' g sound h k. absurd k }
         more_exact (suc room) c xs ys r = record {
@@ -268,7 +269,7 @@ module _ {S T : Type 0} (things : S → Things) (Same : Things → S → T → T
               ends_only room (more_exact room) (xs ++ x ∷ []) (ys ++ k.0 ∷ []) s' k.1 front f.sound f.agree all t' k.3);
         }
 
-        pub list_exact : (room : ℕ) (c : Things) → Exact c (Each R) (list_at after close p room) (IsList Tok close P room)
+        pub list_exact : (room : ℕ) (c : ContextModel) → Exact c (Each R) (list_at after close p room) (IsList Tok close P room)
         unfolding list_at IsList
         list_exact room c = record {
           found = λ s t all s' g sound h e. from s t all s' (after close s) refl sound h e;

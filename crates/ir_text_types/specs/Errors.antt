@@ -1,4 +1,4 @@
--- Refusals of a text as a whole, and of a context while it is read.
+-- Errors of a whole text, and of a context during a parse.
 use Rattle.std.specs.Prelude.{ℕ, ◌-◌, List, length, Option, option_map}
 use Rattle.ir_text_tokens.specs.Limits.{text_reason}
 use Rattle.ir_text_tokens.specs.Refusals.{text_refusal}
@@ -12,6 +12,6 @@ error_of left Memory = errors.Memory
 error_of left TooMany = errors.Full left
 error_of left refusal = errors.Refused (record { refusal = text_refusal refusal; left = left })
 
--- why nothing of a text is read, with how many bytes are left where it passes a limit of texts
+-- the error of a text that exceeds a limit, with the number of bytes left at the limit
 abbrev pub text_error : List ℕ → Option ReadError
 text_error bytes = option_map (λ r. errors.Refused (record { refusal = r.0; left = length bytes - r.1 })) (text_reason bytes)

@@ -1,4 +1,4 @@
--- Lists of items that are parted by commas, over any state. An item may look at the items before it.
+-- Comma-separated lists of items, over any state. The parser of an item may use the items before it.
 use Rattle.std.specs.Prelude.{ℕ, zero, suc, List, [], ◌∷◌, ◌++◌, Option, Some, None}
 use Rattle.ir_text_tokens.specs.declared.token.Mark.{Mark}
 use Rattle.ir_text_tokens.specs.declared.token.Mark.TheVariants.{Comma}
@@ -9,8 +9,7 @@ module _ {S A : Type 0} (after : Mark → S → Option S) (close : Mark) (p : Li
   more_from go items s (Some end) = Read (items, end)
   more_from go items s None = of_option (after Comma s) >>= go items
 
-  -- the items so far and those that are left, of which there are at most `room`, at least one, up to
-  -- the closing mark
+  -- the items so far and the items that are left up to the closing mark: at least one and at most `room` are left
   unfoldable pub more_at : ℕ → List A → Parse S (List A)
   more_at zero items s = Wrong
   more_at (suc room) items s = p items s >>= λ x. more_from (more_at room) (items ++ x.0 ∷ []) x.1 (after close x.1)

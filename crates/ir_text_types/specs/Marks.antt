@@ -1,10 +1,10 @@
--- Punctuation that must stand next, or may.
+-- Punctuation marks that are expected next or are optional.
 use Rattle.std.specs.Prelude.{ℕ, Bool, true, false, ◌==◌, if◌then◌else◌, List, Option, Some, None, option_and_then}
 use Rattle.ir_text_tokens.specs.declared.token.Mark.{Mark}
 use Rattle.ir_text_tokens.specs.declared.token.Mark.TheVariants.{OpenRound, CloseRound, OpenCurly, CloseCurly, OpenSquare, CloseSquare, Less, Greater, Comma, Equal, Colon, DoubleColon, Minus, Arrow, Question, Star, End}
 use Rattle.ir_text_tokens.specs.Tokens.{Lexeme, mark, integer, float, string, bare, value, label, hash, bang, symbol, quoted, next}
 
--- marks are told apart by a number, their byte where they have one byte
+-- a number for each mark: its byte, if it has one byte
 abbrev pub mark_code : Mark → ℕ
 mark_code OpenRound = 40
 mark_code CloseRound = 41
@@ -24,7 +24,7 @@ mark_code Question = 63
 mark_code Star = 42
 mark_code End = 0
 
--- whether a mark has one byte, with which no longer mark begins
+-- whether the mark is one byte that begins no longer mark
 abbrev pub is_single : Mark → Bool
 is_single OpenRound = true
 is_single CloseRound = true
@@ -57,6 +57,6 @@ is_mark m (bang s) = false
 is_mark m (symbol s) = false
 is_mark m (quoted s) = false
 
--- what follows the mark, where it is the next token
+-- the rest of the text after the mark, if the mark is the next token
 unfoldable pub after : Mark → List ℕ → Option (List ℕ)
 after m bytes = option_and_then (λ t. if is_mark m t.0 then Some t.1 else None) (next bytes)

@@ -1,4 +1,4 @@
--- What reading gives: a value, or nothing since the text is wrong, or nothing since the context is full.
+-- The results of parsing: a value, or `Wrong` if the text is wrong, or `Full` if the context is full.
 use Rattle.std.specs.Prelude.{◌≡◌, Option, Some, None, Result, Ok, Err}
 use Rattle.ir_types.specs.declared.refusal.Refusal.{Refusal}
 use Rattle.ir_types.specs.declared.refusal.Refusal.TheVariants.{TooMany}
@@ -16,27 +16,27 @@ Read x >>= f = f x
 Wrong >>= f = Wrong
 Full >>= f = Full
 
--- nothing is wrong
+-- a parse that fails only on a wrong text
 abbrev pub of_option : {A : Type 0} → Option A → Outcome A
 of_option (Some x) = Read x
 of_option None = Wrong
 
--- what is interned, unless the context refuses it: it refuses for `TooMany` where it is full
+-- the interned entry, unless the context refuses it; `TooMany` is the refusal of a full context
 abbrev pub interned : {A : Type 0} → Option Refusal → A → Outcome A
 interned None x = Read x
 interned (Some TooMany) x = Full
 interned (Some refusal) x = Wrong
 
--- a reader of values of A goes from a state to a value and a state
+-- a parser of values of A maps a state to a value and a state
 abbrev pub Parse : Type 0 → Type 0 → Type 0
 Parse S A = S → Outcome (A × S)
 
--- what a function returned, seen by view, is what reading gives, unless memory ran out
+-- a function's error agrees with the definition, unless memory ran out
 abbrev pub Fails : {Y : Type 0} → ReadError → Outcome Y → Type 0
 Fails errors.Memory outcome = Unit {0}
 Fails (errors.Full left) outcome = outcome ≡ Full
 Fails (errors.Refused fault) outcome = outcome ≡ Wrong
 
-abbrev pub Gives : {X Y : Type 0} → (X → Y) → Result X ReadError → Outcome Y → Type 0
-Gives view (Ok x) outcome = outcome ≡ Read (view x)
-Gives view (Err e) outcome = Fails e outcome
+abbrev pub Returns : {X Y : Type 0} → (X → Y) → Result X ReadError → Outcome Y → Type 0
+Returns view (Ok x) outcome = outcome ≡ Read (view x)
+Returns view (Err e) outcome = Fails e outcome

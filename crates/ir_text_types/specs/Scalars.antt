@@ -1,4 +1,4 @@
--- The types that are one word, and the word of memrefs. Builtin Dialect, "Types".
+-- The types of one word, and the word `memref`. Builtin Dialect, "Types".
 use Rattle.std.specs.Prelude.{ℕ, Bool, true, not, ◌&&◌, ◌==◌, if◌then◌else◌, List, [], ◌∷◌, codes, Option, Some, None, option_map}
 use Rattle.std.specs.List.{list_all}
 use Rattle.std.specs.Str.{bytes_eq}
@@ -17,11 +17,11 @@ begins_zero (d ∷ ds) = d == 48
 abbrev pub within : ℕ → Option ℕ
 within n = if is_width n then Some n else None
 
--- a width is written in decimal, without a zero in front
+-- a width is a decimal number without a leading zero
 abbrev pub width_of : List ℕ → Option ℕ
 width_of ds = if not (begins_zero ds) && list_all is_ascii_digit ds then within (integer_of ds) else None
 
--- behind an `s` or a `u`
+-- the type after an `s` or a `u`
 abbrev pub signed_of_word : ℕ → List ℕ → Option TypeNode
 signed_of_word c [] = None
 signed_of_word c (d ∷ ds) =
@@ -36,10 +36,10 @@ integer_type_of (c ∷ ds) = if c == 105 then option_map (Int Signless) (width_o
 abbrev pub index_word : List ℕ
 index_word = codes "index"
 
--- the type that a word is
+-- the type that a word names
 unfoldable pub scalar_of : List ℕ → Option TypeNode
 scalar_of word = if bytes_eq word index_word then Some Index else integer_type_of word
 
--- the word in front of a memref's dimensions and element
+-- the word before a memref's dimensions and element type
 abbrev pub memref_word : List ℕ
 memref_word = codes "memref"

@@ -6,7 +6,7 @@ use Rattle.ir_text_tokens.specs.Tokens.{skip}
 use Rattle.ir_text_tokens.specs.Numbers.{place_value}
 use Rattle.ir_text_types.specs.Grammars.{Grammar}
 
--- one decimal digit or more
+-- one or more decimal digits
 abbrev pub is_decimal : List ℕ → Bool
 is_decimal [] = false
 is_decimal (d ∷ ds) = list_all is_ascii_digit (d ∷ ds)
@@ -16,20 +16,20 @@ abbrev pub begins_dimension : List ℕ → Bool
 begins_dimension [] = false
 begins_dimension (c ∷ cs) = c == 63 || is_ascii_digit c
 
--- the byte `x`, behind blanks and comments
+-- the byte `x` after blanks and comments
 abbrev pub IsCross : (old new : List ℕ) → Type 0
 IsCross old new = skip old ≡ 120 ∷ new
 
--- `?` or decimal digits, behind blanks and comments, and then an `x`
+-- `?` or decimal digits after blanks and comments, and then an `x`
 abbrev pub IsDimension : Grammar (List ℕ) (Option ℕ)
 IsDimension None old new = (mid : List ℕ) × (skip old ≡ 63 ∷ mid) × IsCross mid new
 IsDimension (Some size) old new = (digits : List ℕ) × (mid : List ℕ) × (skip old ≡ digits ++ mid) × (is_decimal digits ≡ true) × (size ≡ place_value 10 digits) × IsCross mid new
 
--- dimensions, as many as stand there
+-- dimensions, until the next byte begins none
 abbrev pub AreDimensions : Grammar (List ℕ) (List (Option ℕ))
 AreDimensions [] old new = (begins_dimension (skip old) ≡ false) × (new ≡ old)
 AreDimensions (d ∷ ds) old new = (mid : List ℕ) × IsDimension d old mid × AreDimensions ds mid new
 
--- and at most so many
+-- at most `room` dimensions
 abbrev pub IsShape : ℕ → Grammar (List ℕ) (List (Option ℕ))
 IsShape room dims old new = (length dims ≤ room) × AreDimensions dims old new

@@ -1,4 +1,4 @@
--- Reading types into numbers of a context.
+-- Parses types into ids of a context.
 use Rattle.std.specs.Prelude.{ℕ, zero, suc, Bool, true, false, ◌&&◌, if◌then◌else◌, List, [], ◌∷◌, Option, Some, None}
 use Rattle.std.specs.Str.{bytes_eq}
 use Rattle.ir_text_tokens.specs.declared.token.Mark.TheVariants.{OpenRound, CloseRound, Less, Greater, Arrow}
@@ -8,7 +8,7 @@ use Rattle.ir_tree.specs.Limits.{most_items}
 use Rattle.ir_types.specs.declared.node.TypeNode.{TypeNode}
 use Rattle.ir_types.specs.declared.node.TypeNode.TheVariants.{Func, Memref, Opaque}
 use Rattle.ir_types.specs.Limits.{most_depth}
-use Rattle.ir_types.specs.Things.{Things}
+use Rattle.ir_types.specs.Things.{ContextModel}
 use Rattle.ir_text_types.specs.Outcomes.{Outcome, Read, Wrong, ◌>>=◌, of_option, Parse}
 use Rattle.ir_text_types.specs.Lists.{list_at}
 use Rattle.ir_text_types.specs.Typed.{Typed, after_typed, type_step}
@@ -16,21 +16,21 @@ use Rattle.ir_text_types.specs.Scalars.{scalar_of, memref_word}
 use Rattle.ir_text_types.specs.OpaqueTypes.{is_opaque_word, word_text, dialect_text}
 use Rattle.ir_text_types.specs.ShapeReading.{dimensions_at}
 
--- the most items of a list that has no limit of its own: no text has more
+-- the item limit of a list that has no smaller limit; no text has more items
 abbrev pub many : ℕ
 many = most_bytes
 
--- a node is interned, and the text stays where it is
+-- interns a node without reading any text
 unfoldable pub type_done : TypeNode → Parse Typed ℕ
 type_done node s = do
   n ← type_step node s.1
   Read (n.0, (s.0, n.1))
 
--- the integer type or index that a word is, behind the word
+-- the integer type or `index` that a word names, after the word
 abbrev pub scalar_done : List ℕ → Parse Typed ℕ
 scalar_done word s = of_option (scalar_of word) >>= λ node. type_done node s
 
-abbrev pub scalar_from : Things → Lexeme → List ℕ → Outcome (ℕ × Typed)
+abbrev pub scalar_from : ContextModel → Lexeme → List ℕ → Outcome (ℕ × Typed)
 scalar_from c (bare word) rest = scalar_done word (rest, c)
 scalar_from c _ rest = Wrong
 
@@ -41,22 +41,21 @@ scalar_at s = of_option (next s.0) >>= λ t. scalar_from s.1 t.0 t.1
 abbrev pub shape_at : Parse Typed (List (Option ℕ))
 shape_at s = of_option (dimensions_at many [] s.0) >>= λ x. Read (x.0, (x.1, s.1))
 
--- a type that is its text, where there is one
-abbrev pub opaque_done : Option (List ℕ × List ℕ) → Things → Outcome (ℕ × Typed)
+-- an opaque type with its text, if there is one
+abbrev pub opaque_done : Option (List ℕ × List ℕ) → ContextModel → Outcome (ℕ × Typed)
 opaque_done found c = of_option found >>= λ x. type_done (Opaque x.0) (x.1, c)
 
--- behind a word: the text of a type that is kept as it is spelled, a memref, which m reads, or an integer type or index
-abbrev pub word_from : Parse Typed ℕ → Bool → Bool → List ℕ → List ℕ → Things → Outcome (ℕ × Typed)
+-- the type after a word: an opaque type, a memref, which m parses, or an integer type or `index`
+abbrev pub word_from : Parse Typed ℕ → Bool → Bool → List ℕ → List ℕ → ContextModel → Outcome (ℕ × Typed)
 word_from m true memref word rest c = opaque_done (word_text word rest) c
 word_from m false true word rest c = m (rest, c)
 word_from m false false word rest c = scalar_done word (rest, c)
 
--- types that begin with a word or with the name of a dialect; `opaque` tells whether those that aren't known are read
--- as their texts
+-- types that begin with a word or a dialect's name; `opaque` says whether opaque types are allowed
 module _ (opaque : Bool) where
-  -- m reads a memref behind its word
+  -- m parses a memref after its word
   module _ (m : Parse Typed ℕ) where
-    abbrev pub word_type_from : Things → Lexeme → List ℕ → Outcome (ℕ × Typed)
+    abbrev pub word_type_from : ContextModel → Lexeme → List ℕ → Outcome (ℕ × Typed)
     word_type_from c (bare word) rest = word_from m (opaque && is_opaque_word word rest) (bytes_eq word memref_word) word rest c
     word_type_from c (bang name) rest = if opaque then opaque_done (dialect_text 33 name rest) c else Wrong
     word_type_from c _ rest = Wrong
@@ -65,11 +64,11 @@ module _ (opaque : Bool) where
     unfoldable pub word_type_at : Parse Typed ℕ
     word_type_at s = of_option (next s.0) >>= λ t. word_type_from s.1 t.0 t.1
 
-    -- the element of a memref: an integer type or index, unless types are read as their texts
+    -- the element type of a memref: an integer type or `index`, unless opaque types are allowed
     abbrev pub element_at : Parse Typed ℕ
     element_at s = if opaque then word_type_at s else scalar_at s
 
-  -- a memref behind its word, with at most so many memrefs within each other
+  -- a memref after its word, with at most `depth` nested memrefs
   unfoldable pub memref_at : ℕ → Parse Typed ℕ
   memref_at zero s = Wrong
   memref_at (suc depth) s = do
@@ -80,7 +79,7 @@ module _ (opaque : Bool) where
     type_done (Memref dims.0 elem.0) c
 
 module _ (p : Parse Typed ℕ) where
-  -- types up to a closing parenthesis, at most so many
+  -- types up to a closing parenthesis, at most `room`
   unfoldable pub types_at : ℕ → Parse Typed (List ℕ)
   types_at room = list_at after_typed CloseRound (λ before. p) room
 
@@ -92,7 +91,7 @@ module _ (p : Parse Typed ℕ) where
   unfoldable pub outputs_at : ℕ → Parse Typed (List ℕ)
   outputs_at room s = outputs_from room s (after_typed OpenRound s)
 
-  -- the types of a function type, behind its opening parenthesis
+  -- the types of a function type after its opening parenthesis
   unfoldable pub signature_at : ℕ → Parse Typed (List ℕ × List ℕ)
   signature_at room s = do
     inputs ← types_at many s
@@ -105,18 +104,18 @@ module _ (p : Parse Typed ℕ) where
     x ← signature_at many s
     type_done (Func x.0.0 x.0.1) x.1
 
--- p reads the parts of a function type, and q another type
+-- p parses the parts of a function type, and q any other type
 abbrev pub type_from : Parse Typed ℕ → Parse Typed ℕ → Typed → Option Typed → Outcome (ℕ × Typed)
 type_from p q s (Some c) = function_at p c
 type_from p q s None = q s
 
 module _ (opaque : Bool) where
-  -- a type of at most that depth
+  -- a type of at most this depth
   unfoldable pub type_at : ℕ → Parse Typed ℕ
   type_at zero s = Wrong
   type_at (suc depth) s = type_from (type_at depth) (word_type_at opaque (memref_at opaque (suc depth))) s (after_typed OpenRound s)
 
-  -- the function type of an operation, with at most as many outputs as it may have results
+  -- the function type of an operation, with at most as many outputs as an operation may have results
   unfoldable pub function_type_at : Parse Typed (List ℕ × List ℕ)
   function_type_at s = do
     c ← of_option (after_typed OpenRound s)

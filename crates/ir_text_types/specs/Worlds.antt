@@ -1,7 +1,7 @@
--- What holds in a context and goes on to hold as it grows.
-use Rattle.ir_types.specs.Things.{Things, Grows}
+-- Properties of a context that persist as the context grows.
+use Rattle.ir_types.specs.Things.{ContextModel, IsExtendedBy}
 use Rattle.ir_types.specs.Sound.{IsSound}
 
--- in this context and in each sound one that grows from it
-abbrev pub From : (Things → Type 0) → Things → Type 0
-From F c = (z : Things) → Grows c z → IsSound z → F z
+-- in this context and in each sound context that extends it
+abbrev pub From : (ContextModel → Type 0) → ContextModel → Type 0
+From F c = (z : ContextModel) → IsExtendedBy c z → IsSound z → F z

@@ -1,4 +1,4 @@
-//! Why a text is not read.
+//! The errors of parsing a text.
 ghost use Rattle.std.specs.Prelude.{◌≡◌, ℕ, length, None, Err, IfOk};
 ghost use Rattle.std.specs.Result.{result_err};
 ghost use Rattle.ir_text_tokens.specs.Limits.{text_reason};
@@ -14,16 +14,16 @@ use ir_types::refusal::Refusal;
 use std::alloc::{AllocError, AllocFailed};
 use thiserror::Error;
 
-/// Why a text is not read, with how many bytes of it are left there.
+/// Why a text isn't parsed.
 #[derive(Clone, Copy, Debug, PartialEq, Eq, Error)]
 pub enum ReadError {
-    /// There is no memory.
+    /// Memory ran out.
     #[error("memory was refused")]
     Memory,
-    /// The context is full; so many bytes of the text are left.
+    /// The context is full. The number is how many bytes of the text are left.
     #[error("the context is full, with {0} bytes left")]
     Full(usize),
-    /// The text is wrong.
+    /// The text is refused.
     #[error(transparent)]
     Refused(Fault),
 }
@@ -44,8 +44,8 @@ impl<T: Drop> From<AllocFailed<T>> for ReadError {
     }
 }
 
-/// A refusal at the first byte that is no blank, where a token begins that doesn't fit; where none
-/// begins there, the refusal of what stands there.
+/// Returns the fault `refusal` at the first byte after blanks and comments, if a token begins there. If no token
+/// begins there, returns the lexer's fault instead.
 pub fn wrong(refusal: TextRefusal, bytes: &[u8]) -> Fault {
     match token(bytes) {
         Ok(_) => Fault::at(refusal, skip(bytes)),
@@ -53,18 +53,18 @@ pub fn wrong(refusal: TextRefusal, bytes: &[u8]) -> Fault {
     }
 }
 
-/// A context's refusal, where these bytes are left.
+/// Returns the error for a context that refused an entry, at the start of `rest`.
 pub fn refused_by_context(refusal: Refusal, rest: &[u8]) -> ReadError
     ensures { result ≡ error_of (length rest.now) refusal }
 {
     match refusal {
         Refusal::Memory => ReadError::Memory,
         Refusal::TooMany => ReadError::Full(rest.len()),
-        _ => ReadError::Refused(Fault::at(TextRefusal::of(refusal), rest)),
+        _ => ReadError::Refused(Fault::at(TextRefusal::from_refusal(refusal), rest)),
     }
 }
 
-/// Refuses a text of too many bytes or one that is not UTF-8, before anything of it is read.
+/// Refuses a text that is too long or isn't UTF-8, before any token is read.
 pub fn within_limits(bytes: &[u8]) -> Result<(), ReadError>
     ensures error { result_err result ≡ text_error bytes.now }
     ensures ok { IfOk result (λ _. text_reason bytes.now ≡ None) }

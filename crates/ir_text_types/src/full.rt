@@ -7,10 +7,10 @@ use ir_types::context::Context;
 use ir_types::ids::{AttrId, NameId, TypeId};
 use ir_types::limits::MOST_THINGS;
 
-/// The last number that a name, a type or an attribute can have.
+/// The largest id of a name, a type or an attribute.
 const LAST: u32 = MOST_THINGS - 1;
 
-/// Whether there are as many names, types or attributes as there may be.
+/// Returns whether the context has the maximum number of names, types or attributes.
 pub fn is_full(ctx: &Context) -> bool
     ensures { IsTrue result → IsFull ctx.now }
 {
@@ -19,8 +19,8 @@ pub fn is_full(ctx: &Context) -> bool
         || ctx.has_attr(AttrId::new(LAST))
 }
 
-/// An error of a reading that came as far as this context. That it is full is said only where it is.
-pub fn told(ctx: &Context, error: ReadError) -> ReadError
+/// Returns `error`, or `Memory` if `error` is `Full` and the context isn't full. `ctx` is the context at the error.
+pub fn check_full(ctx: &Context, error: ReadError) -> ReadError
     ensures kept { (result ≡ error) ⊎ (result ≡ ReadError.Memory) }
     ensures full { (left : ℕ) → result ≡ ReadError.Full left → IsFull ctx.now }
 {

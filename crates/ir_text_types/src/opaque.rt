@@ -1,17 +1,17 @@
-//! Types that are kept as they are spelled: which words begin them, and their texts.
+//! Opaque types, which are stored as their texts: the words that begin them, and their texts.
 ghost use Rattle.std.specs.Prelude.{◌≡◌, ◌∷◌, IfOk};
 ghost use Rattle.ir_text_types.specs.OpaqueTypes.{dialect_text, is_alone, is_angled, is_one_of, is_opaque_word, narrow_words, wide_words, with_body, word_text};
-ghost use Rattle.ir_text_types.specs.Outcomes.{Gives, of_option};
+ghost use Rattle.ir_text_types.specs.Outcomes.{Returns, of_option};
 
 use crate::error::{ReadError, wrong};
 use crate::scalars::is_memref;
-use ir_text_bodies::bodies::{body, has_dot, is_plain_memref};
+use ir_text_tokens::bodies::{body, has_dot, is_plain_memref};
 use ir_text_tokens::lexer::skip;
 use ir_text_tokens::refusal::TextRefusal;
-use ir_types_items::lists::Items;
+use ir_types_interner::lists::Items;
 use std::alloc::{AllocError, Global};
 
-/// Whether a word is a float type of 16 bits or more, or `none`.
+/// Returns whether the word is a float type of 16 bits or more, or `none`.
 fn is_wide(word: &[u8]) -> bool
     ensures { result ≡ is_one_of wide_words word.now }
 {
@@ -39,7 +39,7 @@ fn is_wide(word: &[u8]) -> bool
     word == b"none".as_slice()
 }
 
-/// Whether a word is a float type of 8, 6 or 4 bits.
+/// Returns whether the word is a float type of 8, 6 or 4 bits.
 fn is_narrow(word: &[u8]) -> bool
     ensures { result ≡ is_one_of narrow_words word.now }
 {
@@ -76,7 +76,7 @@ fn is_narrow(word: &[u8]) -> bool
     word == b"f4E2M1FN".as_slice()
 }
 
-/// Whether a word is a type alone.
+/// Returns whether the word alone is an opaque type.
 #[tactic(auto, unfolding(crate::specs::OpaqueTypes::is_alone))]
 pub fn is_alone(word: &[u8]) -> bool
     ensures { result ≡ is_alone word.now }
@@ -84,7 +84,7 @@ pub fn is_alone(word: &[u8]) -> bool
     is_wide(word) || is_narrow(word)
 }
 
-/// Whether angle brackets follow a word.
+/// Returns whether an opaque type is this word and a body in angle brackets.
 #[tactic(auto, unfolding(crate::specs::OpaqueTypes::is_angled))]
 fn is_angled(word: &[u8]) -> bool
     ensures { result ≡ is_angled word.now }
@@ -101,16 +101,16 @@ fn is_angled(word: &[u8]) -> bool
     word == b"tuple".as_slice()
 }
 
-/// Whether a word begins a type that is kept as it is spelled, by what follows it.
+/// Returns whether the word begins an opaque type, given the text after the word.
 pub fn is_opaque_word(word: &[u8], rest: &[u8]) -> bool
     ensures { result ≡ is_opaque_word word.now rest.now }
 {
     is_alone(word) || is_angled(word) || is_memref(word) && !is_plain_memref(rest)
 }
 
-/// What stands in front, with the body behind it, and what follows.
+/// Returns `front` with the body at the start of `bytes` appended, and the rest of the text.
 fn with_body<'a>(front: Vec<u8>, bytes: &'a [u8]) -> Result<(Items<u8>, &'a [u8]), ReadError>
-    ensures { Gives (λ x. (x.0, x.1.now)) result (of_option (with_body front.items bytes.now)) }
+    ensures { Returns (λ x. (x.0, x.1.now)) result (of_option (with_body front.items bytes.now)) }
 {
     let mut text = front;
     let (inside, rest) = match body(bytes) {
@@ -121,15 +121,16 @@ fn with_body<'a>(front: Vec<u8>, bytes: &'a [u8]) -> Result<(Items<u8>, &'a [u8]
     Ok((Items::new(text), rest))
 }
 
-/// The text of a type that begins with a word, and what follows. Blanks behind the word are no part of it.
+/// Returns the text of the opaque type that begins with `word`, and the rest of the text. The result omits blanks
+/// after the word.
 ///
-/// Refusals: `Unexpected` where no `<` follows, and those of bodies.
+/// Refusals: `Unexpected` if no `<` follows, and those of bodies.
 pub fn word_text<'a>(
     alloc: Global,
     word: &[u8],
     rest: &'a [u8],
 ) -> Result<(Items<u8>, &'a [u8]), ReadError>
-    ensures { Gives (λ x. (x.0, x.1.now)) result (of_option (word_text word.now rest.now)) }
+    ensures { Returns (λ x. (x.0, x.1.now)) result (of_option (word_text word.now rest.now)) }
 {
     let front = Vec::from_slice(alloc, word)?;
     if is_alone(word) {
@@ -142,7 +143,7 @@ pub fn word_text<'a>(
     }
 }
 
-/// A dialect's name behind its sign.
+/// Returns a sigil followed by a dialect's name.
 fn signed(alloc: Global, sign: u8, name: &[u8]) -> Result<Vec<u8>, AllocError>
     ensures { IfOk result (λ v. v.items ≡ sign ∷ name.now) }
 {
@@ -152,10 +153,10 @@ fn signed(alloc: Global, sign: u8, name: &[u8]) -> Result<Vec<u8>, AllocError>
     Ok(text)
 }
 
-/// What the name of a dialect spells, behind its sign, which stands at `start`: the body that follows it at once, or
-/// the name alone, where it has a dot.
+/// Returns the text of a type or attribute that begins with a dialect's name, and the rest of the text. The result is
+/// the name and the body directly after it, or the name alone if it has a dot. The sigil is at `start`.
 ///
-/// Refusals: `LeftOut` at a name that has neither, which is an alias; and those of bodies.
+/// Refusals: `LeftOut` if the name has neither, since it is an alias, and those of bodies.
 pub fn dialect_text<'a>(
     alloc: Global,
     sign: u8,
@@ -163,7 +164,7 @@ pub fn dialect_text<'a>(
     start: &[u8],
     rest: &'a [u8],
 ) -> Result<(Items<u8>, &'a [u8]), ReadError>
-    ensures { Gives (λ x. (x.0, x.1.now)) result (of_option (dialect_text sign name.now rest.now)) }
+    ensures { Returns (λ x. (x.0, x.1.now)) result (of_option (dialect_text sign name.now rest.now)) }
 {
     let front = signed(alloc, sign, name)?;
     if matches!(rest, [b'<', ..]) {

@@ -1,9 +1,9 @@
-//! The types that are one word, and the word of memrefs.
+//! Scalar types, which are one word, and the word `memref`.
 ghost use Rattle.std.specs.Prelude.{◌≡◌, ◌∷◌, ℕ, List, ◌+◌, ◌-◌, ◌*◌, true, false, IfSome, option_and_then, option_map};
 ghost use Rattle.std.specs.List.{list_all};
 ghost use Rattle.std.specs.Char.{is_ascii_digit};
 ghost use Rattle.std.specs.Str.{bytes_eq};
-ghost use Rattle.ir_types.specs.Things.{Things, TypeIsOf};
+ghost use Rattle.ir_types.specs.Things.{ContextModel, TypeIsOf};
 ghost use Rattle.ir_text_tokens.specs.Numbers.{below_limit, integer_of};
 ghost use Rattle.ir_text_types.specs.Scalars.{width_of, signed_of_word, integer_type_of, scalar_of, within, begins_zero, memref_word};
 
@@ -21,7 +21,7 @@ fn begins_zero(digits: &[u8]) -> bool
     }
 }
 
-/// The number as a width, from 1 to 128.
+/// Returns the number as a width, or `None` if it isn't from 1 to 128.
 fn within(number: u128) -> Option<u32>
     ensures { result ≡ within number }
 {
@@ -32,7 +32,7 @@ fn within(number: u128) -> Option<u32>
     }
 }
 
-/// The number that two decimal digits write.
+/// Returns the number that two decimal digits denote.
 fn two_digits(tens: u8, ones: u8) -> u128
     requires tens { is_ascii_digit tens ≡ true }
     requires ones { is_ascii_digit ones ≡ true }
@@ -42,7 +42,7 @@ fn two_digits(tens: u8, ones: u8) -> u128
     number as u128
 }
 
-/// The number that decimal digits write without a zero in front; most widths have two.
+/// Returns the number that decimal digits denote without a leading zero. Most widths have two digits.
 fn decimal_value(digits: &[u8]) -> Option<u128>
     requires decimal { list_all is_ascii_digit digits.now ≡ true }
     requires plain { begins_zero digits.now ≡ false }
@@ -54,7 +54,7 @@ fn decimal_value(digits: &[u8]) -> Option<u128>
     }
 }
 
-/// The width that digits write, from 1 to 128, in decimal and without a zero in front.
+/// Returns the width that decimal digits denote, from 1 to 128 without a leading zero.
 #[tactic(auto, using(crate::proofs::Widths::limit_is, crate::proofs::Widths::limit_passed))]
 pub(crate) fn width_of(digits: &[u8]) -> Option<u32>
     ensures { result ≡ width_of digits.now }
@@ -65,7 +65,7 @@ pub(crate) fn width_of(digits: &[u8]) -> Option<u32>
     within(decimal_value(digits)?)
 }
 
-/// The signedness that a byte in front of an `i` names.
+/// Returns the signedness that a byte before the `i` names: `s` or `u`.
 fn named_sign(byte: u8) -> Option<Sign>
     ensures { (ds : List ℕ) → signed_of_word byte (105 ∷ ds) ≡ option_and_then (λ s. option_map (TypeNode.Int s) (width_of ds)) result }
 {
@@ -76,7 +76,7 @@ fn named_sign(byte: u8) -> Option<Sign>
     }
 }
 
-/// The signedness behind the first byte, and the digits.
+/// Returns the signedness after the first byte, and the digits.
 fn signed_parts(first: u8, tail: &[u8]) -> Option<(Sign, &[u8])>
     ensures { signed_of_word first tail.now ≡ option_and_then (λ x. option_map (TypeNode.Int x.0) (width_of x.1.now)) result }
 {
@@ -90,7 +90,7 @@ fn signed_parts(first: u8, tail: &[u8]) -> Option<(Sign, &[u8])>
     Some((sign, digits))
 }
 
-/// The signedness that a word begins with, and the digits behind it.
+/// Returns the signedness at the start of the word, and the digits after it.
 fn integer_parts(word: &[u8]) -> Option<(Sign, &[u8])>
     ensures { integer_type_of word.now ≡ option_and_then (λ x. option_map (TypeNode.Int x.0) (width_of x.1.now)) result }
 {
@@ -103,21 +103,21 @@ fn integer_parts(word: &[u8]) -> Option<(Sign, &[u8])>
     signed_parts(*first, tail)
 }
 
-/// The integer type that a word is.
+/// Returns the integer type that the word names.
 fn integer_type_of(word: &[u8]) -> Option<TypeNode>
     ensures integer { result ≡ integer_type_of word.now }
-    ensures parts { IfSome result (λ node. (c : Things) → TypeIsOf c node) }
+    ensures parts { IfSome result (λ node. (c : ContextModel) → TypeIsOf c node) }
 {
     let (sign, digits) = integer_parts(word)?;
     let width = width_of(digits)?;
     Some(TypeNode::Int { sign, width })
 }
 
-/// The type that a word is: `iN`, `siN`, `uiN` or `index` (Builtin Dialect, "Types").
+/// Returns the scalar type that the word names: `iN`, `siN`, `uiN` or `index`. Builtin Dialect, "Types".
 #[tactic(auto, unfolding(crate::specs::Scalars::scalar_of))]
 pub fn scalar_of(word: &[u8]) -> Option<TypeNode>
     ensures scalar { result ≡ scalar_of word.now }
-    ensures parts { IfSome result (λ node. (c : Things) → TypeIsOf c node) }
+    ensures parts { IfSome result (λ node. (c : ContextModel) → TypeIsOf c node) }
 {
     if word == b"index".as_slice() {
         return Some(TypeNode::Index);
@@ -125,13 +125,12 @@ pub fn scalar_of(word: &[u8]) -> Option<TypeNode>
     integer_type_of(word)
 }
 
-/// Whether digits write a number that is no width.
+/// Returns whether the digits are a decimal number that is no width.
 fn writes_bad_width(digits: &[u8]) -> bool {
     !digits.is_empty() && are_digits(digits) && width_of(digits).is_none()
 }
 
-/// Why a word is no type that may stand where it does: an integer type with a bad width, or a type that is
-/// left out.
+/// Returns why a word isn't accepted as a type: `BadWidth` for an integer type of a bad width, otherwise `LeftOut`.
 pub fn word_refusal(word: &[u8]) -> TextRefusal {
     match integer_parts(word) {
         Some((_, digits)) => {
@@ -145,7 +144,7 @@ pub fn word_refusal(word: &[u8]) -> TextRefusal {
     }
 }
 
-/// Whether a word is `memref`.
+/// Returns whether the word is `memref`.
 pub fn is_memref(word: &[u8]) -> bool
     ensures { result ≡ bytes_eq word.now memref_word }
 {

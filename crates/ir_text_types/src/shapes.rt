@@ -1,7 +1,7 @@
-//! The dimensions of memrefs, byte by byte. Builtin Dialect, "MemRefType".
+//! The dimensions of memrefs, read byte by byte. Builtin Dialect, "MemRefType".
 ghost use Rattle.std.specs.Prelude.{◌≡◌, ◌≤◌, [], length};
 ghost use Rattle.ir_text_tokens.specs.Tokens.{digits_len, skip};
-ghost use Rattle.ir_text_types.specs.Outcomes.{Gives, of_option};
+ghost use Rattle.ir_text_types.specs.Outcomes.{Returns, of_option};
 ghost use Rattle.ir_text_types.specs.ShapeGrammar.{begins_dimension};
 ghost use Rattle.ir_text_types.specs.ShapeReading.{cross_at, size_of, sized, dimension_at, dimensions_at};
 ghost use Rattle.ir_text_types.specs.TypeReading.{many};
@@ -14,7 +14,7 @@ use ir_text_tokens::refusal::TextRefusal;
 use ir_types::limits::MOST_DIMENSION;
 use std::alloc::Global;
 
-/// How many decimal digits stand at the front.
+/// Returns the number of decimal digits at the start of the text.
 fn digits_len(bytes: &[u8]) -> usize
     ensures len { result ≡ digits_len bytes.now }
     ensures within { result ≤ length bytes.now }
@@ -22,7 +22,7 @@ fn digits_len(bytes: &[u8]) -> usize
     bytes.iter().take_while(|b| b.is_ascii_digit()).count()
 }
 
-/// Whether a dimension begins here: the next byte is `?` or a digit.
+/// Returns whether the next byte after blanks is `?` or a digit, which begin a dimension.
 fn begins_dimension(bytes: &[u8]) -> bool
     ensures { result ≡ begins_dimension (skip bytes.now) }
 {
@@ -32,12 +32,12 @@ fn begins_dimension(bytes: &[u8]) -> bool
     }
 }
 
-/// What follows the `x` behind a dimension.
+/// Returns the rest of the text after the `x` that follows a dimension.
 ///
-/// Refusals: where the next byte is no `x`, `BadToken` if no token begins there, else `Unexpected`.
+/// Refusals: if the next byte isn't `x`, `BadToken` if no token begins there, otherwise `Unexpected`.
 #[tactic(auto, unfolding(crate::specs::ShapeReading::cross_at))]
 fn cross(bytes: &[u8]) -> Result<&[u8], ReadError>
-    ensures { Gives (λ r. r.now) result (of_option (cross_at bytes.now)) }
+    ensures { Returns (λ r. r.now) result (of_option (cross_at bytes.now)) }
 {
     match skip(bytes) {
         [b'x', rest @ ..] => Ok(rest),
@@ -45,7 +45,7 @@ fn cross(bytes: &[u8]) -> Result<&[u8], ReadError>
     }
 }
 
-/// The number that digits write, where a dimension may be so great.
+/// Returns the number that the digits denote, or `None` if no dimension may be that large.
 fn size_of(digits: &[u8]) -> Option<u64>
     ensures { result ≡ size_of digits.now }
 {
@@ -57,9 +57,9 @@ fn size_of(digits: &[u8]) -> Option<u64>
     }
 }
 
-/// A dimension that begins with digits, and its `x`.
+/// Returns a dimension that begins with digits, and the rest of the text after its `x`.
 fn sized(bytes: &[u8]) -> Result<(Option<u64>, &[u8]), ReadError>
-    ensures { Gives (λ x. (x.0, x.1.now)) result (of_option (sized (digits_len bytes.now) bytes.now)) }
+    ensures { Returns (λ x. (x.0, x.1.now)) result (of_option (sized (digits_len bytes.now) bytes.now)) }
 {
     let (digits, tail) = bytes.split_at(digits_len(bytes));
     match size_of(digits) {
@@ -71,12 +71,12 @@ fn sized(bytes: &[u8]) -> Result<(Option<u64>, &[u8]), ReadError>
     }
 }
 
-/// One dimension with its `x`; `None` is `?`.
+/// Returns one dimension, where `None` is `?`, and the rest of the text after its `x`.
 ///
-/// Refusals: `BadValue` at the digits of a dimension that is too great; those of its `x`.
+/// Refusals: `BadValue` at the digits of a dimension that is too large, and those of its `x`.
 #[tactic(auto, unfolding(crate::specs::ShapeReading::dimension_at))]
 fn dimension(bytes: &[u8]) -> Result<(Option<u64>, &[u8]), ReadError>
-    ensures { Gives (λ x. (x.0, x.1.now)) result (of_option (dimension_at bytes.now)) }
+    ensures { Returns (λ x. (x.0, x.1.now)) result (of_option (dimension_at bytes.now)) }
 {
     let all = skip(bytes);
     match all {
@@ -89,12 +89,12 @@ fn dimension(bytes: &[u8]) -> Result<(Option<u64>, &[u8]), ReadError>
     }
 }
 
-/// The dimensions that stand here, each with its `x`: at most as many as a text has bytes.
+/// Returns the dimensions at the start of the text, each with its `x`, and the rest of the text.
 pub(crate) fn dimensions(
     alloc: Global,
     bytes: &[u8],
 ) -> Result<(Vec<Option<u64>>, &[u8]), ReadError>
-    ensures { Gives (λ x. (x.0.items, x.1.now)) result (of_option (dimensions_at many [] bytes.now)) }
+    ensures { Returns (λ x. (x.0.items, x.1.now)) result (of_option (dimensions_at many [] bytes.now)) }
 {
     let mut items = Vec::new(alloc);
     let mut rest = bytes;

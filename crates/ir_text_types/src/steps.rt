@@ -1,9 +1,9 @@
-//! Tokens that must stand next, or may, and what is interned on the way.
+//! Tokens that are expected next, optional tokens, and interning during a parse.
 ghost use Rattle.std.specs.Prelude.{◌≡◌, option_map, length};
-ghost use Rattle.ir_types.specs.Things.{TypeIsOf, AttrIsOf, Grows};
+ghost use Rattle.ir_types.specs.Things.{TypeIsOf, AttrIsOf, IsExtendedBy};
 ghost use Rattle.ir_text_tokens.specs.declared.token.Mark.TheVariants.{Arrow, Colon};
-ghost use Rattle.ir_text_tokens.specs.Tokens.{behind_first, lexeme_of, next};
-ghost use Rattle.ir_text_types.specs.Outcomes.{Gives, of_option};
+ghost use Rattle.ir_text_tokens.specs.Tokens.{trailing_first, lexeme_of, next};
+ghost use Rattle.ir_text_types.specs.Outcomes.{Returns, of_option};
 ghost use Rattle.ir_text_types.specs.Marks.{mark_code, is_single, after};
 ghost use Rattle.ir_text_types.specs.Typed.{name_step, type_step, attr_step};
 
@@ -39,7 +39,7 @@ fn code(mark: Mark) -> u8
     }
 }
 
-/// Whether a mark has one byte, with which no longer mark begins.
+/// Returns whether the mark is one byte that begins no longer mark.
 fn is_single(mark: Mark) -> bool
     ensures { result ≡ is_single mark }
 {
@@ -53,7 +53,7 @@ fn is_single(mark: Mark) -> bool
     }
 }
 
-/// What follows a mark, where it is the next token.
+/// Returns the rest of the text after the mark, if the mark is the next token.
 #[tactic(auto, using(crate::proofs::Marked::after_is), unfolding(crate::specs::Marks::after))]
 fn after_any(bytes: &[u8], mark: Mark) -> Option<&[u8]>
     ensures { option_map (λ r. r.now) result ≡ after mark bytes.now }
@@ -66,7 +66,7 @@ fn after_any(bytes: &[u8], mark: Mark) -> Option<&[u8]>
     }
 }
 
-/// What follows a colon that is the next token: a second one behind it makes another mark of it.
+/// Returns the rest of the text after a colon, if a colon is the next token. A second colon makes it `::`.
 #[tactic(auto, using(crate::proofs::Marked::colon_is))]
 fn after_colon(bytes: &[u8]) -> Option<&[u8]>
     ensures { option_map (λ r. r.now) result ≡ after Colon bytes.now }
@@ -77,9 +77,9 @@ fn after_colon(bytes: &[u8]) -> Option<&[u8]>
     }
 }
 
-/// What follows the byte, where it is the first.
+/// Returns the rest of the text after `byte`, if it is the first byte.
 fn after_first(bytes: &[u8], byte: u8) -> Option<&[u8]>
-    ensures { option_map (λ r. r.now) result ≡ behind_first byte bytes.now }
+    ensures { option_map (λ r. r.now) result ≡ trailing_first byte bytes.now }
 {
     match bytes {
         [first, rest @ ..] if *first == byte => Some(rest),
@@ -87,7 +87,7 @@ fn after_first(bytes: &[u8], byte: u8) -> Option<&[u8]>
     }
 }
 
-/// What follows an arrow that is the next token.
+/// Returns the rest of the text after an arrow, if an arrow is the next token.
 #[tactic(auto, using(crate::proofs::Marked::arrow_is))]
 fn after_arrow(bytes: &[u8]) -> Option<&[u8]>
     ensures { option_map (λ r. r.now) result ≡ after Arrow bytes.now }
@@ -98,7 +98,7 @@ fn after_arrow(bytes: &[u8]) -> Option<&[u8]>
     }
 }
 
-/// What follows a mark with which a longer one begins, or that is longer, where it is the next token.
+/// Returns the rest of the text after a mark that isn't single, if the mark is the next token.
 fn after_other(bytes: &[u8], mark: Mark) -> Option<&[u8]>
     ensures { option_map (λ r. r.now) result ≡ after mark bytes.now }
 {
@@ -109,7 +109,7 @@ fn after_other(bytes: &[u8], mark: Mark) -> Option<&[u8]>
     }
 }
 
-/// What follows the mark, where it is the next token.
+/// Returns the rest of the text after the mark, if the mark is the next token.
 #[inline(always)]
 #[tactic(auto, using(crate::proofs::Marked::single_is))]
 pub fn after(bytes: &[u8], mark: Mark) -> Option<&[u8]>
@@ -121,10 +121,10 @@ pub fn after(bytes: &[u8], mark: Mark) -> Option<&[u8]>
     after_other(bytes, mark)
 }
 
-/// What follows the mark, which must be the next token.
+/// Returns the rest of the text after the mark. Errors if the mark isn't the next token.
 #[inline(always)]
 pub fn expect(bytes: &[u8], mark: Mark) -> Result<&[u8], ReadError>
-    ensures { Gives (λ r. r.now) result (of_option (after mark bytes.now)) }
+    ensures { Returns (λ r. r.now) result (of_option (after mark bytes.now)) }
 {
     match after(bytes, mark) {
         Some(rest) => Ok(rest),
@@ -132,10 +132,10 @@ pub fn expect(bytes: &[u8], mark: Mark) -> Result<&[u8], ReadError>
     }
 }
 
-/// The next token, and what follows it.
+/// Returns the next token and the rest of the text.
 #[inline(always)]
 pub fn token(bytes: &[u8]) -> Result<(Token<'_>, &[u8]), ReadError>
-    ensures { Gives (λ x. (lexeme_of x.0, x.1.now)) result (of_option (next bytes.now)) }
+    ensures { Returns (λ x. (lexeme_of x.0, x.1.now)) result (of_option (next bytes.now)) }
 {
     match lexer::token(bytes) {
         Ok(found) => Ok(found),
@@ -143,11 +143,11 @@ pub fn token(bytes: &[u8]) -> Result<(Token<'_>, &[u8]), ReadError>
     }
 }
 
-/// The number of a name that stands in a text where these bytes are left.
+/// Interns a name and returns its id. `rest` is the text that is left, which an error reports.
 #[tactic(auto, using(ir_types::proofs::Growth::grows_refl, ir_types::proofs::Growth::grows_trans, crate::proofs::Stepping::step_fails, crate::proofs::Stepping::step_reads), unfolding(crate::specs::Typed::name_step))]
 pub fn name(ctx: &mut Context, bytes: &[u8], rest: &[u8]) -> Result<NameId, ReadError>
-    ensures reads { Gives (λ n. (n, ctx.new)) result (name_step bytes.now ctx.old) }
-    ensures grows { Grows ctx.old ctx.new }
+    ensures reads { Returns (λ n. (n, ctx.new)) result (name_step bytes.now ctx.old) }
+    ensures grows { IsExtendedBy ctx.old ctx.new }
 {
     match ctx.name(bytes) {
         Ok(id) => Ok(id),
@@ -155,13 +155,13 @@ pub fn name(ctx: &mut Context, bytes: &[u8], rest: &[u8]) -> Result<NameId, Read
     }
 }
 
-/// The number of a type that stands in a text where these bytes are left.
+/// Interns a type and returns its id. `rest` is the text that is left, which an error reports.
 #[inline(always)]
 #[tactic(auto, using(ir_types::proofs::Growth::grows_refl, ir_types::proofs::Growth::grows_trans, crate::proofs::Stepping::step_fails, crate::proofs::Stepping::step_reads), unfolding(crate::specs::Typed::type_step))]
 pub fn ty(ctx: &mut Context, node: TypeNode, rest: &[u8]) -> Result<TypeId, ReadError>
     requires { TypeIsOf ctx.old node }
-    ensures reads { Gives (λ n. (n, ctx.new)) result (type_step node ctx.old) }
-    ensures grows { Grows ctx.old ctx.new }
+    ensures reads { Returns (λ n. (n, ctx.new)) result (type_step node ctx.old) }
+    ensures grows { IsExtendedBy ctx.old ctx.new }
 {
     match ctx.ty(node) {
         Ok(id) => Ok(id),
@@ -169,12 +169,12 @@ pub fn ty(ctx: &mut Context, node: TypeNode, rest: &[u8]) -> Result<TypeId, Read
     }
 }
 
-/// The number of an attribute that stands in a text where these bytes are left.
+/// Interns an attribute and returns its id. `rest` is the text that is left, which an error reports.
 #[tactic(auto, using(ir_types::proofs::Growth::grows_refl, ir_types::proofs::Growth::grows_trans, crate::proofs::Stepping::step_fails, crate::proofs::Stepping::step_reads), unfolding(crate::specs::Typed::attr_step))]
 pub fn attr(ctx: &mut Context, node: AttrNode, rest: &[u8]) -> Result<AttrId, ReadError>
     requires { AttrIsOf ctx.old node }
-    ensures reads { Gives (λ n. (n, ctx.new)) result (attr_step node ctx.old) }
-    ensures grows { Grows ctx.old ctx.new }
+    ensures reads { Returns (λ n. (n, ctx.new)) result (attr_step node ctx.old) }
+    ensures grows { IsExtendedBy ctx.old ctx.new }
 {
     match ctx.attr(node) {
         Ok(id) => Ok(id),

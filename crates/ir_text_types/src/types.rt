@@ -1,19 +1,19 @@
 //! Types. Language Reference, "Type System"; Builtin Dialect, "Types".
 ghost use Rattle.std.specs.Prelude.{◌≡◌, ◌∷◌, ◌&&◌, [], IfOk, option_map};
 ghost use Rattle.std.specs.List.{All};
-ghost use Rattle.ir_types.specs.Things.{Things, IsType, TypeIsOf, Grows};
+ghost use Rattle.ir_types.specs.Things.{ContextModel, IsType, TypeIsOf, IsExtendedBy};
 ghost use Rattle.ir_text_tokens.specs.declared.token.Mark.TheVariants.{Greater};
 ghost use Rattle.ir_text_tokens.specs.Tokens.{lexeme_of};
 ghost use Rattle.std.specs.Str.{bytes_eq};
 ghost use Rattle.ir_text_types.specs.OpaqueTypes.{dialect_text, is_opaque_word, word_text};
 ghost use Rattle.ir_text_types.specs.Scalars.{memref_word};
-ghost use Rattle.ir_text_types.specs.Outcomes.{Gives, of_option};
+ghost use Rattle.ir_text_types.specs.Outcomes.{Returns, of_option};
 ghost use Rattle.ir_text_types.specs.Marks.{after};
 ghost use Rattle.ir_text_types.specs.TypeReading.{type_done, scalar_done, scalar_at, opaque_done, word_from, word_type_at, element_at, memref_at, types_at, outputs_at, signature_at, function_at, type_at, function_type_at, many};
 
 use crate::error::{ReadError, wrong};
 use crate::opaque::{dialect_text, is_opaque_word, word_text};
-use crate::plain::known;
+use crate::scalar_types::known;
 use crate::scalars::{is_memref, scalar_of, word_refusal};
 use crate::shapes::dimensions;
 use crate::steps::{self, after, expect, token};
@@ -26,29 +26,29 @@ use ir_types::context::Context;
 use ir_types::ids::TypeId;
 use ir_types::limits::MOST_DEPTH;
 use ir_types::node::TypeNode;
-use ir_types_items::lists::Items;
+use ir_types_interner::lists::Items;
 use std::alloc::{AllocError, Global};
 
-/// The most items of a list that has no limit of its own: a text has no more bytes.
+/// The item limit of a list that has no smaller limit. A text has no more bytes.
 pub const MANY: usize = MOST_BYTES;
 
-/// The number of a type that stands in front of these bytes.
+/// Interns a type node. Returns its id and `rest`, the text after the type.
 #[inline(always)]
 #[tactic(auto, using(ir_types::proofs::Growth::grows_refl, ir_types::proofs::Growth::grows_trans), unfolding(crate::specs::TypeReading::type_done))]
-pub fn kept<'a>(
+pub fn intern_node<'a>(
     ctx: &mut Context,
     node: TypeNode,
     rest: &'a [u8],
 ) -> Result<(TypeId, &'a [u8]), ReadError>
     requires { TypeIsOf ctx.old node }
-    ensures reads { Gives (λ x. (x.0, (x.1.now, ctx.new))) result (type_done node (rest.now, ctx.old)) }
-    ensures grows { Grows ctx.old ctx.new }
+    ensures reads { Returns (λ x. (x.0, (x.1.now, ctx.new))) result (type_done node (rest.now, ctx.old)) }
+    ensures grows { IsExtendedBy ctx.old ctx.new }
 {
     let id = steps::ty(ctx, node, rest)?;
     Ok((id, rest))
 }
 
-/// The integer type or index that a word is, which stands at `start`.
+/// Returns the scalar type that the word names. The word is at `start`.
 #[inline(always)]
 #[tactic(auto, using(ir_types::proofs::Growth::grows_refl, ir_types::proofs::Growth::grows_trans))]
 fn scalar<'a>(
@@ -57,22 +57,22 @@ fn scalar<'a>(
     start: &[u8],
     rest: &'a [u8],
 ) -> Result<(TypeId, &'a [u8]), ReadError>
-    ensures reads { Gives (λ x. (x.0, (x.1.now, ctx.new))) result (scalar_done word.now (rest.now, ctx.old)) }
-    ensures grows { Grows ctx.old ctx.new }
+    ensures reads { Returns (λ x. (x.0, (x.1.now, ctx.new))) result (scalar_done word.now (rest.now, ctx.old)) }
+    ensures grows { IsExtendedBy ctx.old ctx.new }
 {
     match scalar_of(word) {
-        Some(node) => kept(ctx, node, rest),
+        Some(node) => intern_node(ctx, node, rest),
         None => Err(ReadError::Refused(wrong(word_refusal(word), start))),
     }
 }
 
-/// The element of a memref where all types are known: one that is one word.
+/// Parses the element type of a memref if opaque types aren't allowed: a scalar type.
 ///
-/// Refusals: `BadWidth`; `LeftOut` where another type begins, or a `*`; else `Unexpected`.
+/// Refusals: `BadWidth`; `LeftOut` if another type or a `*` begins there; otherwise `Unexpected`.
 #[tactic(auto, using(ir_types::proofs::Growth::grows_refl, ir_types::proofs::Growth::grows_trans), unfolding(crate::specs::TypeReading::scalar_at))]
 fn known_element<'a>(ctx: &mut Context, bytes: &'a [u8]) -> Result<(TypeId, &'a [u8]), ReadError>
-    ensures reads { Gives (λ x. (x.0, (x.1.now, ctx.new))) result (scalar_at (bytes.now, ctx.old)) }
-    ensures grows { Grows ctx.old ctx.new }
+    ensures reads { Returns (λ x. (x.0, (x.1.now, ctx.new))) result (scalar_at (bytes.now, ctx.old)) }
+    ensures grows { IsExtendedBy ctx.old ctx.new }
 {
     let (found, rest) = token(bytes)?;
     match found {
@@ -81,9 +81,9 @@ fn known_element<'a>(ctx: &mut Context, bytes: &'a [u8]) -> Result<(TypeId, &'a 
     }
 }
 
-/// What follows the closing mark of a memref, or `LeftOut` where a layout or memory space stands.
+/// Returns the rest of the text after the `>` of a memref. Refuses a layout or memory space with `LeftOut`.
 fn closed(bytes: &[u8]) -> Result<&[u8], ReadError>
-    ensures { Gives (λ r. r.now) result (of_option (after Greater bytes.now)) }
+    ensures { Returns (λ r. r.now) result (of_option (after Greater bytes.now)) }
 {
     match after(bytes, Mark::Greater) {
         Some(rest) => Ok(rest),
@@ -91,7 +91,7 @@ fn closed(bytes: &[u8]) -> Result<&[u8], ReadError>
     }
 }
 
-/// A type that begins with a word and is kept as it is spelled.
+/// Parses an opaque type that begins with a word.
 #[tactic(auto, using(ir_types::proofs::Growth::grows_refl, ir_types::proofs::Growth::grows_trans))]
 fn opaque_word<'a>(
     alloc: Global,
@@ -99,16 +99,16 @@ fn opaque_word<'a>(
     word: &[u8],
     rest: &'a [u8],
 ) -> Result<(TypeId, &'a [u8]), ReadError>
-    ensures reads { Gives (λ x. (x.0, (x.1.now, ctx.new))) result (opaque_done (word_text word.now rest.now) ctx.old) }
-    ensures grows { Grows ctx.old ctx.new }
+    ensures reads { Returns (λ x. (x.0, (x.1.now, ctx.new))) result (opaque_done (word_text word.now rest.now) ctx.old) }
+    ensures grows { IsExtendedBy ctx.old ctx.new }
 {
     match word_text(alloc, word, rest) {
-        Ok((text, rest)) => kept(ctx, TypeNode::Opaque(text), rest),
+        Ok((text, rest)) => intern_node(ctx, TypeNode::Opaque(text), rest),
         Err(e) => Err(e),
     }
 }
 
-/// A type that begins with the name of a dialect, which stands at `start` with its sign.
+/// Parses an opaque type that begins with a dialect's name. Its sigil is at `start`.
 #[tactic(auto, using(ir_types::proofs::Growth::grows_refl, ir_types::proofs::Growth::grows_trans))]
 fn dialect_type<'a>(
     alloc: Global,
@@ -117,20 +117,20 @@ fn dialect_type<'a>(
     start: &[u8],
     rest: &'a [u8],
 ) -> Result<(TypeId, &'a [u8]), ReadError>
-    ensures reads { Gives (λ x. (x.0, (x.1.now, ctx.new))) result (opaque_done (dialect_text 33 name.now rest.now) ctx.old) }
-    ensures grows { Grows ctx.old ctx.new }
+    ensures reads { Returns (λ x. (x.0, (x.1.now, ctx.new))) result (opaque_done (dialect_text 33 name.now rest.now) ctx.old) }
+    ensures grows { IsExtendedBy ctx.old ctx.new }
 {
     match dialect_text(alloc, b'!', name, start, rest) {
-        Ok((text, rest)) => kept(ctx, TypeNode::Opaque(text), rest),
+        Ok((text, rest)) => intern_node(ctx, TypeNode::Opaque(text), rest),
         Err(e) => Err(e),
     }
 }
 
-/// A memref behind its word: dimensions and an element in angle brackets (Builtin Dialect,
-/// "MemRefType"), with at most so many memrefs within each other. Its word stands at `start`.
+/// Parses a memref after its word: dimensions and an element type in angle brackets (Builtin Dialect, "MemRefType").
+/// At most `depth` memrefs may be nested. The word is at `start`.
 ///
-/// Refusals: `Unexpected`; `BadValue` at a dimension that is too great; those of the element;
-/// `LeftOut` at a comma behind it; `TooDeep`.
+/// Refusals: `Unexpected`; `BadValue` at a dimension that is too large; those of the element type; `LeftOut` at a
+/// comma after the element type; `TooDeep`.
 #[cycle(words)]
 #[tactic(auto, using(ir_types::proofs::Growth::grows_refl, ir_types::proofs::Growth::grows_trans), unfolding(crate::specs::TypeReading::memref_at))]
 fn memref<'a>(
@@ -141,8 +141,8 @@ fn memref<'a>(
     opaque: bool,
     depth: u32,
 ) -> Result<(TypeId, &'a [u8]), ReadError>
-    ensures reads { Gives (λ x. (x.0, (x.1.now, ctx.new))) result (memref_at opaque depth (bytes.now, ctx.old)) }
-    ensures grows { Grows ctx.old ctx.new }
+    ensures reads { Returns (λ x. (x.0, (x.1.now, ctx.new))) result (memref_at opaque depth (bytes.now, ctx.old)) }
+    ensures grows { IsExtendedBy ctx.old ctx.new }
 {
     ctx.sound();
     if depth == 0 {
@@ -162,10 +162,10 @@ fn memref<'a>(
         dims: Items::new(dims),
         elem,
     };
-    kept(ctx, node, rest)
+    intern_node(ctx, node, rest)
 }
 
-/// The element of a memref.
+/// Parses the element type of a memref.
 #[cycle(words)]
 #[tactic(auto, using(ir_types::proofs::Growth::grows_refl, ir_types::proofs::Growth::grows_trans))]
 fn element<'a>(
@@ -175,8 +175,8 @@ fn element<'a>(
     opaque: bool,
     depth: u32,
 ) -> Result<(TypeId, &'a [u8]), ReadError>
-    ensures reads { Gives (λ x. (x.0, (x.1.now, ctx.new))) result (element_at opaque (memref_at opaque depth) (bytes.now, ctx.old)) }
-    ensures grows { Grows ctx.old ctx.new }
+    ensures reads { Returns (λ x. (x.0, (x.1.now, ctx.new))) result (element_at opaque (memref_at opaque depth) (bytes.now, ctx.old)) }
+    ensures grows { IsExtendedBy ctx.old ctx.new }
 {
     if !opaque {
         return known_element(ctx, bytes);
@@ -188,11 +188,10 @@ fn element<'a>(
     }
 }
 
-/// What stands behind a word, which stands at `start`: a type that is kept as it is spelled, a memref, an integer type
-/// or index.
+/// Parses a type after its first word, which is at `start`: an opaque type, a memref, an integer type or `index`.
 #[cycle(words)]
 #[tactic(auto, using(ir_types::proofs::Growth::grows_refl, ir_types::proofs::Growth::grows_trans))]
-fn behind_word<'a>(
+fn after_word<'a>(
     alloc: Global,
     ctx: &mut Context,
     word: &[u8],
@@ -201,8 +200,8 @@ fn behind_word<'a>(
     opaque: bool,
     depth: u32,
 ) -> Result<(TypeId, &'a [u8]), ReadError>
-    ensures reads { Gives (λ x. (x.0, (x.1.now, ctx.new))) result (word_from (memref_at opaque depth) (opaque && is_opaque_word word.now rest.now) (bytes_eq word.now memref_word) word.now rest.now ctx.old) }
-    ensures grows { Grows ctx.old ctx.new }
+    ensures reads { Returns (λ x. (x.0, (x.1.now, ctx.new))) result (word_from (memref_at opaque depth) (opaque && is_opaque_word word.now rest.now) (bytes_eq word.now memref_word) word.now rest.now ctx.old) }
+    ensures grows { IsExtendedBy ctx.old ctx.new }
 {
     if opaque && is_opaque_word(word, rest) {
         return opaque_word(alloc, ctx, word, rest);
@@ -214,7 +213,7 @@ fn behind_word<'a>(
     }
 }
 
-/// A type that is no function type: a memref, an integer type, index, or one that is kept as it is spelled.
+/// Parses a type that is no function type: a memref, an integer type, `index`, or an opaque type.
 #[cycle(words)]
 #[tactic(auto, using(ir_types::proofs::Growth::grows_refl, ir_types::proofs::Growth::grows_trans), unfolding(crate::specs::TypeReading::word_type_at))]
 fn word_type<'a>(
@@ -224,12 +223,12 @@ fn word_type<'a>(
     opaque: bool,
     depth: u32,
 ) -> Result<(TypeId, &'a [u8]), ReadError>
-    ensures reads { Gives (λ x. (x.0, (x.1.now, ctx.new))) result (word_type_at opaque (memref_at opaque depth) (bytes.now, ctx.old)) }
-    ensures grows { Grows ctx.old ctx.new }
+    ensures reads { Returns (λ x. (x.0, (x.1.now, ctx.new))) result (word_type_at opaque (memref_at opaque depth) (bytes.now, ctx.old)) }
+    ensures grows { IsExtendedBy ctx.old ctx.new }
 {
     let (found, rest) = token(bytes)?;
     match found {
-        Token::Bare(word) => behind_word(alloc, ctx, word, bytes, rest, opaque, depth),
+        Token::Bare(word) => after_word(alloc, ctx, word, bytes, rest, opaque, depth),
         Token::Bang(name) => {
             if opaque {
                 dialect_type(alloc, ctx, name, bytes, rest)
@@ -241,7 +240,7 @@ fn word_type<'a>(
     }
 }
 
-/// Why a token begins no type: a type or attribute that is left out, or nothing that fits.
+/// Returns why a token can't begin a type: `LeftOut` for an unsupported type or attribute, otherwise `Unexpected`.
 pub fn token_refusal(found: &Token<'_>) -> TextRefusal {
     match found {
         Token::Bare(_) => TextRefusal::LeftOut,
@@ -252,7 +251,7 @@ pub fn token_refusal(found: &Token<'_>) -> TextRefusal {
     }
 }
 
-/// Why a token is no memref's element.
+/// Returns why a token can't begin the element type of a memref.
 fn element_refusal(found: &Token<'_>) -> TextRefusal {
     match found {
         Token::Mark(Mark::OpenRound) => TextRefusal::LeftOut,
@@ -261,7 +260,7 @@ fn element_refusal(found: &Token<'_>) -> TextRefusal {
     }
 }
 
-/// The fault of an element: a function type is left out, and so are sizes that aren't known.
+/// Returns the fault of an element type. Function types and unranked memrefs are unsupported.
 fn element_fault(fault: Fault, bytes: &[u8]) -> Fault {
     if after(bytes, Mark::OpenRound).is_some() || after(bytes, Mark::Star).is_some() {
         wrong(TextRefusal::LeftOut, bytes)
@@ -270,7 +269,7 @@ fn element_fault(fault: Fault, bytes: &[u8]) -> Fault {
     }
 }
 
-/// Why a memref isn't closed behind its element.
+/// Returns why no `>` follows the element type of a memref.
 fn closing_refusal(bytes: &[u8]) -> TextRefusal {
     match after(bytes, Mark::Comma) {
         Some(_) => TextRefusal::LeftOut,
@@ -278,7 +277,7 @@ fn closing_refusal(bytes: &[u8]) -> TextRefusal {
     }
 }
 
-/// Types up to a closing parenthesis, at most so many.
+/// Parses types up to a closing parenthesis, at most `room`.
 #[cycle(types)]
 #[tactic(auto, using(ir_types::proofs::Growth::grows_refl, ir_types::proofs::Growth::grows_trans), unfolding(crate::specs::Lists::list_at, crate::specs::TypeReading::types_at))]
 fn types<'a>(
@@ -289,8 +288,8 @@ fn types<'a>(
     depth: u32,
     room: usize,
 ) -> Result<(Vec<TypeId>, &'a [u8]), ReadError>
-    ensures reads { Gives (λ x. (x.0.items, (x.1.now, ctx.new))) result (types_at (type_at opaque depth) room (bytes.now, ctx.old)) }
-    ensures grows { Grows ctx.old ctx.new }
+    ensures reads { Returns (λ x. (x.0.items, (x.1.now, ctx.new))) result (types_at (type_at opaque depth) room (bytes.now, ctx.old)) }
+    ensures grows { IsExtendedBy ctx.old ctx.new }
 {
     let mut items = Vec::new(alloc);
     if let Some(rest) = after(bytes, Mark::CloseRound) {
@@ -319,7 +318,7 @@ fn one(alloc: Global, item: TypeId) -> Result<Vec<TypeId>, AllocError>
     Ok(items)
 }
 
-/// One type, or types in parentheses, at most so many.
+/// Parses one type, or at most `room` types in parentheses.
 #[cycle(types)]
 #[tactic(auto, using(ir_types::proofs::Growth::grows_refl, ir_types::proofs::Growth::grows_trans), unfolding(crate::specs::TypeReading::outputs_at))]
 fn outputs<'a>(
@@ -330,8 +329,8 @@ fn outputs<'a>(
     depth: u32,
     room: usize,
 ) -> Result<(Vec<TypeId>, &'a [u8]), ReadError>
-    ensures reads { Gives (λ x. (x.0.items, (x.1.now, ctx.new))) result (outputs_at (type_at opaque depth) room (bytes.now, ctx.old)) }
-    ensures grows { Grows ctx.old ctx.new }
+    ensures reads { Returns (λ x. (x.0.items, (x.1.now, ctx.new))) result (outputs_at (type_at opaque depth) room (bytes.now, ctx.old)) }
+    ensures grows { IsExtendedBy ctx.old ctx.new }
 {
     if let Some(rest) = after(bytes, Mark::OpenRound) {
         return types(alloc, ctx, rest, opaque, depth, room);
@@ -344,7 +343,7 @@ fn outputs<'a>(
     Ok((items, rest))
 }
 
-/// The inputs and outputs of a function type, behind its opening parenthesis.
+/// Parses the inputs and outputs of a function type after its opening parenthesis.
 #[cycle(types)]
 #[tactic(auto, using(ir_types::proofs::Growth::grows_refl, ir_types::proofs::Growth::grows_trans), unfolding(crate::specs::TypeReading::signature_at))]
 fn signature<'a>(
@@ -355,8 +354,8 @@ fn signature<'a>(
     depth: u32,
     room: usize,
 ) -> Result<((Vec<TypeId>, Vec<TypeId>), &'a [u8]), ReadError>
-    ensures reads { Gives (λ x. ((x.0.0.items, x.0.1.items), (x.1.now, ctx.new))) result (signature_at (type_at opaque depth) room (bytes.now, ctx.old)) }
-    ensures grows { Grows ctx.old ctx.new }
+    ensures reads { Returns (λ x. ((x.0.0.items, x.0.1.items), (x.1.now, ctx.new))) result (signature_at (type_at opaque depth) room (bytes.now, ctx.old)) }
+    ensures grows { IsExtendedBy ctx.old ctx.new }
 {
     let (inputs, rest) = match types(alloc, ctx, bytes, opaque, depth, MANY) {
         Ok(found) => found,
@@ -370,7 +369,7 @@ fn signature<'a>(
     Ok(((inputs, outputs), rest))
 }
 
-/// A function type, behind its opening parenthesis.
+/// Parses a function type after its opening parenthesis.
 #[cycle(types)]
 #[tactic(auto, using(ir_types::proofs::Growth::grows_refl, ir_types::proofs::Growth::grows_trans), unfolding(crate::specs::TypeReading::function_at))]
 fn function<'a>(
@@ -380,8 +379,8 @@ fn function<'a>(
     opaque: bool,
     depth: u32,
 ) -> Result<(TypeId, &'a [u8]), ReadError>
-    ensures reads { Gives (λ x. (x.0, (x.1.now, ctx.new))) result (function_at (type_at opaque depth) (bytes.now, ctx.old)) }
-    ensures grows { Grows ctx.old ctx.new }
+    ensures reads { Returns (λ x. (x.0, (x.1.now, ctx.new))) result (function_at (type_at opaque depth) (bytes.now, ctx.old)) }
+    ensures grows { IsExtendedBy ctx.old ctx.new }
 {
     ctx.sound();
     let ((inputs, outputs), rest) = match signature(alloc, ctx, bytes, opaque, depth, MANY) {
@@ -392,14 +391,15 @@ fn function<'a>(
         inputs: Items::new(inputs),
         outputs: Items::new(outputs),
     };
-    kept(ctx, node, rest)
+    intern_node(ctx, node, rest)
 }
 
-/// A type of at most that depth that isn't known as it stands here. It is interned, and so are its parts.
+/// Parses a type of at most this depth, and interns the type and its parts. `ty` calls this function if the type
+/// isn't among the first of the context.
 ///
-/// Refusals, each at the first byte of its token: what the lexer refuses; `Unexpected`; `LeftOut` for
-/// a type that is left out; `BadWidth`; `BadValue` at a dimension above 9,223,372,036,854,775,807;
-/// `TooDeep` at the part that is too deep.
+/// Refusals, each at the first byte of its token: those of the lexer; `Unexpected`; `LeftOut` for an unsupported
+/// type; `BadWidth`; `BadValue` at a dimension over 9,223,372,036,854,775,807; `TooDeep` at the part that is too
+/// deep.
 #[cycle(types)]
 #[tactic(auto, using(ir_types::proofs::Growth::grows_refl, ir_types::proofs::Growth::grows_trans), unfolding(crate::specs::TypeReading::type_at))]
 fn new_ty<'a>(
@@ -409,8 +409,8 @@ fn new_ty<'a>(
     opaque: bool,
     depth: u32,
 ) -> Result<(TypeId, &'a [u8]), ReadError>
-    ensures reads { Gives (λ x. (x.0, (x.1.now, ctx.new))) result (type_at opaque depth (bytes.now, ctx.old)) }
-    ensures grows { Grows ctx.old ctx.new }
+    ensures reads { Returns (λ x. (x.0, (x.1.now, ctx.new))) result (type_at opaque depth (bytes.now, ctx.old)) }
+    ensures grows { IsExtendedBy ctx.old ctx.new }
 {
     if depth == 0 {
         return Err(ReadError::Refused(wrong(
@@ -424,11 +424,11 @@ fn new_ty<'a>(
     }
 }
 
-/// A type of at most that depth. It is interned, and so are its parts.
+/// Parses a type of at most this depth, and interns the type and its parts.
 ///
-/// Refusals, each at the first byte of its token: what the lexer refuses; `Unexpected`; `LeftOut` for
-/// a type that is left out; `BadWidth`; `BadValue` at a dimension above 9,223,372,036,854,775,807;
-/// `TooDeep` at the part that is too deep.
+/// Refusals, each at the first byte of its token: those of the lexer; `Unexpected`; `LeftOut` for an unsupported
+/// type; `BadWidth`; `BadValue` at a dimension over 9,223,372,036,854,775,807; `TooDeep` at the part that is too
+/// deep.
 #[cycle(types)]
 #[inline(always)]
 #[tactic(auto, using(ir_types::proofs::Growth::grows_refl, ir_types::proofs::Growth::grows_trans), unfolding(crate::specs::TypeReading::type_at))]
@@ -439,8 +439,8 @@ pub fn ty<'a>(
     opaque: bool,
     depth: u32,
 ) -> Result<(TypeId, &'a [u8]), ReadError>
-    ensures reads { Gives (λ x. (x.0, (x.1.now, ctx.new))) result (type_at opaque depth (bytes.now, ctx.old)) }
-    ensures grows { Grows ctx.old ctx.new }
+    ensures reads { Returns (λ x. (x.0, (x.1.now, ctx.new))) result (type_at opaque depth (bytes.now, ctx.old)) }
+    ensures grows { IsExtendedBy ctx.old ctx.new }
 {
     if depth != 0 {
         if let Some(found) = known(ctx, bytes) {
@@ -450,7 +450,7 @@ pub fn ty<'a>(
     new_ty(alloc, ctx, bytes, opaque, depth)
 }
 
-/// Why no type may begin here: it is past a limit, where one begins.
+/// Returns the refusal `limit` if a type begins here, and otherwise why none does.
 fn past_refusal(bytes: &[u8], opaque: bool, limit: TextRefusal) -> TextRefusal {
     match token(bytes) {
         Ok((Token::Bare(_), _)) => limit,
@@ -461,7 +461,7 @@ fn past_refusal(bytes: &[u8], opaque: bool, limit: TextRefusal) -> TextRefusal {
     }
 }
 
-/// The function type of an operation: its inputs, and at most as many outputs as it may have results.
+/// Parses the function type of an operation. It has at most as many outputs as an operation may have results.
 #[tactic(auto, using(ir_types::proofs::Growth::grows_refl, ir_types::proofs::Growth::grows_trans), unfolding(crate::specs::TypeReading::function_type_at))]
 pub fn function_type<'a>(
     alloc: Global,
@@ -469,8 +469,8 @@ pub fn function_type<'a>(
     bytes: &'a [u8],
     opaque: bool,
 ) -> Result<((Vec<TypeId>, Vec<TypeId>), &'a [u8]), ReadError>
-    ensures reads { Gives (λ x. ((x.0.0.items, x.0.1.items), (x.1.now, ctx.new))) result (function_type_at opaque (bytes.now, ctx.old)) }
-    ensures grows { Grows ctx.old ctx.new }
+    ensures reads { Returns (λ x. ((x.0.0.items, x.0.1.items), (x.1.now, ctx.new))) result (function_type_at opaque (bytes.now, ctx.old)) }
+    ensures grows { IsExtendedBy ctx.old ctx.new }
 {
     let rest = expect(bytes, Mark::OpenRound)?;
     signature(alloc, ctx, rest, opaque, MOST_DEPTH, MOST_ITEMS)

@@ -1,4 +1,5 @@
--- Trees of the same shape under functions that agree on what occurs, and under functions that tell apart what occurs.
+-- Trees of the same shape under functions that agree on the items of a tree, and under functions that are injective on
+-- them.
 use Rattle.std.proofs.Common.{◌≡◌, refl, ap, sym, Bool, true, false, ◌&&◌, List, [], ◌∷◌, map, true≢false}
 use Rattle.std.specs.List.{list_all}
 use Rattle.ir_tree.specs.Tree.{HeadOf, OpOf, op, RegionsOf, no_regions, region, RegionOf, empty, block, OpsOf, no_ops, next, head, regions}
@@ -7,12 +8,12 @@ use Rattle.ir_tree.specs.Maps.{map_entry, map_head, map_tree, map_regions, map_r
 use Rattle.ir_tree.specs.Passing.{entry_passes, head_passes, op_passes, all_pass}
 use Rattle.std.proofs.lemmas.Bool.{and_parts}
 
--- a list under two functions that agree on what passes
+-- two functions that agree on the items that pass a test map a list of such items to the same list
 pub map_agree : {X Y : Type 0} (p : X → Bool) (f g : X → Y) → ((x : X) → p x ≡ true → f x ≡ g x) → (xs : List X) → list_all p xs ≡ true → map f xs ≡ map g xs
 map_agree p f g same [] h = refl
 map_agree p f g same (x ∷ xs) h = let b = and_parts (p x) (list_all p xs) h in λ i. same x b.0 i ∷ map_agree p f g same xs b.1 i
 
--- and under one that tells apart what passes
+-- a function that is injective on the items that pass a test is injective on lists of such items
 pub map_apart : {X Y : Type 0} (p : X → Bool) (f : X → Y) → ((x y : X) → p x ≡ true → p y ≡ true → f x ≡ f y → x ≡ y) → (xs ys : List X) → list_all p xs ≡ true → list_all p ys ≡ true → map f xs ≡ map f ys → xs ≡ ys
 map_apart p f apart [] [] h k e = refl
 map_apart p f apart [] (y ∷ ys) h k e = cc
@@ -25,7 +26,7 @@ map_apart p f apart (x ∷ xs) (y ∷ ys) h k e =
     λ i. apart x y b.0 c.0 first i ∷ map_apart p f apart xs ys b.1 c.1 rest i
 
 module _ {N T A : Type 0} (n : N → Bool) (q : T → Bool) (a : A → Bool) where
-  -- what an operation with these parts passes
+  -- the tests that the parts of an operation pass
   own : (x : HeadOf N T A) (rs : RegionsOf N T A) → every (op_passes n q a) (op x rs) ≡ true → (head_passes n q a x ≡ true) × (all_arguments_pass (list_all q) rs ≡ true) × (regions_every (op_passes n q a) rs ≡ true)
   own x rs h =
       let b = and_parts (op_passes n q a (op x rs)) (regions_every (op_passes n q a) rs) h in
@@ -68,7 +69,7 @@ module _ {N T A M U B : Type 0} (n : N → Bool) (q : T → Bool) (a : A → Boo
       ops_agree no_ops l = refl
       ops_agree (next o os) l = let c = and_parts (every (op_passes n q a) o) (ops_every (op_passes n q a) os) l in λ i. next (tree_agrees o c.0 i) (ops_agree os c.1 i)
 
-    -- functions that agree on what occurs in a tree give the same tree
+    -- functions that agree on the items of a tree give the same tree
     pub maps_agree : (t : OpOf N T A) → all_pass n q a t ≡ true → map_tree f g h t ≡ map_tree f' g' h' t
     maps_agree t k = tree_agrees t k
 
@@ -133,7 +134,7 @@ module _ {N T A M U B : Type 0} (n : N → Bool) (q : T → Bool) (a : A → Boo
           let rest : map_ops f g h os ≡ map_ops f g h ps = cc in
           λ i. next (tree_apart o r c.0 c'.0 first i) (ops_apart os ps c.1 c'.1 rest i)
 
-    -- and functions that tell apart what occurs in two trees tell these apart
+    -- functions that are injective on the items of two trees give different trees for different trees
     pub maps_apart : (t u : OpOf N T A) → all_pass n q a t ≡ true → all_pass n q a u ≡ true → map_tree f g h t ≡ map_tree f g h u → t ≡ u
     maps_apart t u k l p = tree_apart t u k l p
 

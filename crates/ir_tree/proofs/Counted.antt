@@ -1,4 +1,4 @@
--- Counting on through a tree meets its ids exactly where they are consecutive.
+-- Counting through a tree agrees with its ids exactly if they are consecutive.
 use Rattle.std.proofs.Common.{◌≡◌, refl, ap, sym, ◌∙◌, ℕ, ◌+◌, true, false, cond, eqb, List, [], ◌∷◌, ◌++◌, length, Option, Some, None, IsTrue, ◌↔◌}
 use Rattle.std.proofs.Common.{true≢false, eq-eqb, inl, inr}
 use Rattle.std.proofs.lemmas.Bool.Decides.{eqb_tells}
@@ -8,7 +8,7 @@ use Rattle.ir_tree.specs.Tree.{OpOf, op, RegionsOf, no_regions, region, RegionOf
 use Rattle.ir_tree.specs.Ids.{ids, regions_ids, region_ids, ops_ids, IsNumberedFrom}
 use Rattle.ir_tree.specs.Numbered.{number_after, regions_after, region_after, ops_after}
 
--- counting on through a list of ids
+-- counting through a list of ids
 abbrev count_on : ℕ → List ℕ → Option ℕ
 count_on n [] = Some n
 count_on n (x ∷ xs) = if eqb x n then count_on (n + 1) xs else None
@@ -34,7 +34,7 @@ module _ {N T A : Type 0} where
     ops_counted n no_ops = refl
     ops_counted n (next o os) = (λ i. option_and_then (λ m. ops_counted m os i) (op_counted n o i)) ∙ sym (count_on-append n (ids o) (ops_ids os))
 
--- a list that counts on is a range
+-- a list that agrees with counting is a range
 range_from_count : (n : ℕ) (xs : List ℕ) → is_some (count_on n xs) ≡ true → xs ≡ range_with_len n (length xs)
 range_from_count n [] h = refl
 range_from_count n (x ∷ xs) h =

@@ -1,4 +1,4 @@
--- Ids are distinct exactly where they are as many as the set of them.
+-- Ids are distinct exactly if there are as many ids as members of their set.
 use Rattle.std.proofs.Common.{◌≡◌, ℕ, List, eqb, length, IsTrue, ◌↔◌, ◌≢◌, sym, ◌∙◌}
 use Rattle.std.specs.Bool.{Decides}
 use Rattle.std.specs.Cmp.{unsigned_Decides}

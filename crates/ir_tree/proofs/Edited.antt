@@ -1,4 +1,4 @@
--- Edits of heads alone, of lists alone, and of nothing.
+-- Edits of heads only, of lists only, and the empty edit.
 use Rattle.std.proofs.Common.{◌≡◌, refl, ap, ℕ, ◌+◌}
 use Rattle.ir_tree.specs.Tree.{HeadOf, OpOf, op, RegionsOf, no_regions, region, RegionOf, empty, block, OpsOf, no_ops, next}
 use Rattle.ir_tree.specs.Edits.{each_head, regions_each_head, region_each_head, ops_each_head}

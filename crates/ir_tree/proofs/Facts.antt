@@ -1,4 +1,4 @@
--- What is asked of trees in many places.
+-- Preconditions on trees that are used in many places.
 use Rattle.ir_tree.specs.Edits.{at, change_part, each_head}
 use Rattle.ir_tree.specs.Ids.{first_of, ids, regions_ids}
 use Rattle.ir_tree.specs.Tree.{HeadOf, OpOf, head, op, regions}

@@ -1,4 +1,4 @@
--- The ids where an operation is put in.
+-- The ids after an operation is inserted.
 use Rattle.std.proofs.Common.{◌≡◌, refl, ap, sym, ◌∙◌, subst, ℕ, ◌+◌, ◌⊎◌, inl, inr, Bool, true, false, cond, ◌||◌, eqb, eq-eqb, List, [], ◌++◌, Option, Some, None, true≢false, arith}
 use Rattle.std.specs.List.{list_any, IsDistinct}
 use Rattle.std.proofs.lemmas.Bool.{eqb-true, cases_Bool, and_parts, or_parts, ne_eqb}
@@ -11,7 +11,7 @@ use Rattle.ir_tree.proofs.Moves.{Absent, absent_parts, unput, ops_unput}
 use Rattle.ir_tree.proofs.Returns.{Present, absent_first, absent_join, cons_distinct, nil_distinct, Halves, halves, differ, other_parent, other_region, unput_region, unput_later}
 use Rattle.ir_tree.proofs.Left.{joined}
 
--- what is in one list is not in another
+-- two lists are disjoint
 abbrev pub Apart : List ℕ → List ℕ → Type 0
 Apart xs ys = (y : ℕ) → Present y xs → Absent y ys
 
@@ -24,7 +24,7 @@ apart_left os xs ys f y p = (absent_parts y xs ys (f y p)).0
 apart_right : (os xs ys : List ℕ) → Apart os (xs ++ ys) → Apart os ys
 apart_right os xs ys f y p = (absent_parts y xs ys (f y p)).1
 
--- a list that gained what is in os at most is apart from what and_parts are
+-- xs and os are disjoint from ys; a list with at most the items of both is disjoint from ys too
 gains : (os xs xs' ys : List ℕ) → Apart xs ys → Apart os ys → ((y : ℕ) → Absent y os → Absent y xs → Absent y xs') → Apart xs' ys
 gains os xs xs' ys f g h y p =
     elim (cases_Bool (list_any (λ z. eqb z y) xs)) [
@@ -33,7 +33,7 @@ gains os xs xs' ys f g h y p =
     ]
 
 module _ {N T A : Type 0} (place : Place) (o : OpOf N T A) where
-  -- no other id comes in
+  -- no other id is added
   gained_last : (y : ℕ) (os : OpsOf N T A) → Absent y (ids o) → Absent y (ops_ids os) → Absent y (ops_ids (put_last o os))
   gained_last y no_ops a b = absent_join y (ids o) [] a refl
   gained_last y (next q os) a b = let c = absent_parts y (ids q) (ops_ids os) b in absent_join y (ids q) (ops_ids (put_last o os)) c.0 (gained_last y os a c.1)
@@ -71,7 +71,7 @@ module _ {N T A : Type 0} (place : Place) (o : OpOf N T A) where
   pub gained_ids : (y : ℕ) (t : OpOf N T A) → has_id y o ≡ false → has_id y t ≡ false → has_id y (put place o t) ≡ false
   gained_ids y t a b = gained_op y t a b
 
-  -- distinct ids stay so
+  -- distinct ids stay distinct
   module _ (own : IsDistinct eqb (ids o)) where
     distinct_last : (os : OpsOf N T A) → IsDistinct eqb (ops_ids os) → Apart (ids o) (ops_ids os) → IsDistinct eqb (ops_ids (put_last o os))
     distinct_last no_ops d f = joined (ids o) [] own nil_distinct (λ y p. refl)
@@ -94,7 +94,7 @@ module _ {N T A : Type 0} (place : Place) (o : OpOf N T A) where
     distinct_in None os d f = distinct_last os d f
     distinct_in (Some b) os d f = distinct_before b os d f
 
-    -- where this region's block is the place, or holds it, the regions behind stay
+    -- if the block of this region is the place's, or contains it, the later regions are unchanged
     later_stay : (p r : ℕ) (g : RegionOf N T A) (rs : RegionsOf N T A) → Absent p (region_ids g) → Absent p (regions_ids rs) → Halves (region_ids g) (regions_ids rs)
         → (is_in_block place p r ≡ true) ⊎ Present place.parent (region_ids g) → regions_each_list (put_here place o) p (r + 1) rs ≡ rs
     later_stay p r g rs a b hv loc =
@@ -105,7 +105,7 @@ module _ {N T A : Type 0} (place : Place) (o : OpOf N T A) where
           | inr k ↦ unput_later place o p (r + 1) rs (λ j m. other_parent place o p j (differ p place.parent (region_ids g) a k)) (hv.disjoint place.parent k)
         ]
 
-    -- a region that is or holds the place, or does or_parts
+    -- a region contains the place, or it doesn't
     where_is : (p r : ℕ) (g : RegionOf N T A) → ((is_in_block place p r ≡ true) ⊎ Present place.parent (region_ids g)) ⊎ ((is_in_block place p r ≡ false) × Absent place.parent (region_ids g))
     where_is p r g =
         elim (cases_Bool (is_in_block place p r)) [

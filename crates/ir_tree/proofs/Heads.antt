@@ -1,4 +1,4 @@
--- What an edit of heads leaves as it is.
+-- What an edit of heads leaves unchanged.
 use Rattle.std.proofs.Common.{◌≡◌, refl, ap, sym, ◌∙◌, ℕ, ◌+◌, max, Bool, true, false, cond, not, ◌&&◌, ◌||◌, eqb, List, [], ◌∷◌, ◌++◌, length, Option, Some, None, option_map}
 use Rattle.std.specs.List.{list_all}
 use Rattle.ir_tree.specs.declared.value.Value.{Value}
@@ -10,7 +10,7 @@ use Rattle.ir_tree.specs.Limits.{depth, regions_depth, region_depth, ops_depth}
 use Rattle.ir_tree.specs.Uses.{operand_uses, uses_of, regions_uses, region_uses, ops_uses}
 use Rattle.ir_tree.specs.Sites.{Frame, results, arguments, shows, in_scope, results_of, visible, operands_visible}
 use Rattle.ir_tree.specs.Seen.{seen_at, regions_seen, region_seen, ops_seen}
-use Rattle.ir_tree.specs.Scope.{operands_seen, regions_operands_seen, region_operands_seen, ops_operands_seen}
+use Rattle.ir_tree.specs.Scope.{operands_dominate, regions_operands_seen, region_operands_seen, ops_operands_seen}
 use Rattle.ir_tree.specs.Edits.{each_head, regions_each_head, region_each_head, ops_each_head, at, put_operand, put_values, change_entry, change_part}
 use Rattle.ir_tree.specs.Places.{first_id, place_of, regions_place, region_place, ops_place}
 use Rattle.ir_tree.proofs.SeenSites.{seen_visible}
@@ -128,7 +128,7 @@ module _ {N T A : Type 0} (f : HeadOf N T A → HeadOf N T A) (alike : (h : Head
     pub head_visible : (t : OpOf N T A) (x : ℕ) (v : Value) → visible isolated (each_head f t) x v ≡ visible isolated t x v
     head_visible t x v = sym (seen_visible isolated (each_head f t) x v) ∙ head_seen x v false t ∙ seen_visible isolated t x v
 
-  -- and the same operands
+  -- heads that also have the same operands
   module _ (same : (h : HeadOf N T A) → (f h).operands ≡ h.operands) where
     mutual
       pub head_uses : (v : Value) (t : OpOf N T A) → uses_of v (each_head f t) ≡ uses_of v t
@@ -148,7 +148,7 @@ module _ {N T A : Type 0} (f : HeadOf N T A → HeadOf N T A) (alike : (h : Head
 
     module _ (isolated : N → Bool) where
       mutual
-        head_operands : (s : List Frame) (t : OpOf N T A) → operands_seen isolated s (each_head f t) ≡ operands_seen isolated s t
+        head_operands : (s : List Frame) (t : OpOf N T A) → operands_dominate isolated s (each_head f t) ≡ operands_dominate isolated s t
         head_operands s (op h rs) =
             (λ i. list_all (in_scope s) (same h i) && regions_operands_seen isolated (cond (isolated ((alike h).name i)) [] s) ((alike h).id i) 0 (regions_each_head f rs))
             ∙ ap (λ c. list_all (in_scope s) h.operands && c) (regions_head_operands (cond (isolated h.name) [] s) h.id 0 rs)
@@ -165,7 +165,7 @@ module _ {N T A : Type 0} (f : HeadOf N T A → HeadOf N T A) (alike : (h : Head
         ops_head_operands s no_ops = refl
         ops_head_operands s (next o os) =
             (λ i. head_operands s o i && ops_operands_seen isolated (s ++ same_results o i ∷ []) (ops_each_head f os))
-            ∙ ap (λ c. operands_seen isolated s o && c) (ops_head_operands (s ++ results_of o ∷ []) os)
+            ∙ ap (λ c. operands_dominate isolated s o && c) (ops_head_operands (s ++ results_of o ∷ []) os)
 
       pub head_operands_visible : (t : OpOf N T A) → operands_visible isolated (each_head f t) ≡ operands_visible isolated t
       head_operands_visible t = sym (seen_operands_visible isolated (each_head f t)) ∙ head_operands [] t ∙ seen_operands_visible isolated t

@@ -1,4 +1,4 @@
--- The ids that are left where an operation is taken out.
+-- The ids that remain after an operation is taken out.
 use Rattle.std.proofs.Common.{◌≡◌, refl, ap, sym, ◌∙◌, ℕ, ◌+◌, inl, inr, true, false, cond, ◌||◌, eqb, eq-eqb, List, [], ◌∷◌, ◌++◌, true≢false}
 use Rattle.std.specs.List.{list_any, IsDistinct}
 use Rattle.std.proofs.lemmas.Map.Keys.{IsDistinct-tail}
@@ -21,12 +21,12 @@ joined (x ∷ xs) ys d e f =
     later : (y : ℕ) → Present y xs → Present y (x ∷ xs)
     later y p = elim (cases_Bool (eqb x y)) [ inl e ↦ ap (λ b. b || list_any (λ z. eqb z y) xs) e | inr e ↦ ap (λ b. b || list_any (λ z. eqb z y) xs) e ∙ p ]
 
--- where less is there, what is apart stays apart
+-- two disjoint lists stay disjoint if both lose items
 fewer : (xs ys xs' ys' : List ℕ) → ((y : ℕ) → Present y xs → Absent y ys) → ((y : ℕ) → Absent y xs → Absent y xs') → ((y : ℕ) → Absent y ys → Absent y ys') → (y : ℕ) → Present y xs' → Absent y ys'
 fewer xs ys xs' ys' f g h y p = elim (cases_Bool (list_any (λ z. eqb z y) xs)) [ inl q ↦ h y (f y q) | inr q ↦ absurd (true≢false (sym p ∙ g y q)) ]
 
 module _ {N T A : Type 0} (x : ℕ) where
-  -- no id comes in
+  -- no id is added
   mutual
     left_op : (y : ℕ) (t : OpOf N T A) → Absent y (ids t) → Absent y (ids (each_list (λ p r os. drop_op x os) t))
     left_op y (op h rs) a = let b = or_parts _ _ a in λ i. b.0 i || left_regions y h.id 0 rs b.1 i
@@ -47,7 +47,7 @@ module _ {N T A : Type 0} (x : ℕ) where
         elim (eqb h.id x) as (λ c. Absent y (ops_ids (cond c (drop_op x (ops_each_list d os)) (next (each_list d (op h rs)) (drop_op x (ops_each_list d os))))))
         [ true ↦ left_ops y os b.1 | false ↦ absent_join y (ids (each_list d (op h rs))) (ops_ids (drop_op x (ops_each_list d os))) (left_op y (op h rs) b.0) (left_ops y os b.1) ]
 
-  -- distinct ids stay so
+  -- distinct ids stay distinct
   mutual
     distinct_op : (t : OpOf N T A) → IsDistinct eqb (ids t) → IsDistinct eqb (ids (each_list (λ p r os. drop_op x os) t))
     distinct_op (op h rs) d =
@@ -75,7 +75,7 @@ module _ {N T A : Type 0} (x : ℕ) where
               (fewer (ids (op h rs)) (ops_ids os) (ids (each_list e (op h rs))) (ops_ids (drop_op x (ops_each_list e os))) hv.disjoint (λ y. left_op y (op h rs)) (λ y. left_ops y os))
         ]
 
-  -- the operation is gone
+  -- the operation is removed
   mutual
     gone_regions : (p r : ℕ) (rs : RegionsOf N T A) → Absent x (regions_ids (regions_each_list (λ p r os. drop_op x os) p r rs))
     gone_regions p r no_regions = refl

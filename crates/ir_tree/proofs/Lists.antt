@@ -1,4 +1,4 @@
--- What is done to each tree of a list, in the tree that the list makes.
+-- An edit of each tree of a list, as an edit of the tree built from the list.
 use Rattle.std.proofs.Common.{◌≡◌, ap, refl, ◌∙◌, ◌++◌, ℕ, ◌+◌, suc, List, [], ◌∷◌, length, map, arith}
 use Rattle.std.proofs.Common.{eqb, not, true, false, cond, filter, get_or, insert, zero, ◌<◌, Some, None}
 use Rattle.std.proofs.Common.{Bool}
@@ -13,7 +13,7 @@ pub region_count_of_list : {N T A X : Type 0} (f : X → RegionOf N T A) (xs : L
 region_count_of_list f [] = refl
 region_count_of_list f (x ∷ xs) = let e = region_count_of_list f xs in omega arith
 
--- a list of regions and the regions that it makes
+-- a list of regions, and the regions built from it
 pub regions_back : {N T A : Type 0} (rs : RegionsOf N T A) → regions_of (region_list rs) ≡ rs
 regions_back no_regions = refl
 regions_back (region r rs) = ap (region r) (regions_back rs)
@@ -22,14 +22,14 @@ pub ops_back : {N T A : Type 0} (os : OpsOf N T A) → ops_of (op_list os) ≡ o
 ops_back no_ops = refl
 ops_back (next o os) = ap (next o) (ops_back os)
 
--- the regions and operations that a list makes, where it is the list of these
+-- building regions and operations from their own lists gives them back
 pub regions_from : {N T A : Type 0} (xs : List (RegionOf N T A)) (rs : RegionsOf N T A) → xs ≡ region_list rs → regions_of xs ≡ rs
 regions_from xs rs e = ap regions_of e ∙ regions_back rs
 
 pub ops_from : {N T A : Type 0} (xs : List (OpOf N T A)) (os : OpsOf N T A) → xs ≡ op_list os → ops_of xs ≡ os
 ops_from xs os e = ap ops_of e ∙ ops_back os
 
--- edits of a list, in what the list makes
+-- edits of a list, in the operations built from it
 pub put_last_of : {N T A : Type 0} (o : OpOf N T A) (xs : List (OpOf N T A)) → put_last o (ops_of xs) ≡ ops_of (xs ++ o ∷ [])
 put_last_of o [] = refl
 put_last_of o (x ∷ xs) = ap (next x) (put_last_of o xs)

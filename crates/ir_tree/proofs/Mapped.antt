@@ -1,4 +1,4 @@
--- What a tree of the same shape has in common with a tree.
+-- Properties that a mapped tree shares with the original tree.
 use Rattle.std.proofs.Common.{◌≡◌, refl, ap, sym, ◌∙◌, ℕ, ◌+◌, max, Bool, true, false, cond, not, ◌&&◌, ◌||◌, eqb, List, [], ◌∷◌, ◌++◌, length, map, Option, Some, None, option_map}
 use Rattle.std.specs.Prelude.{nat_le}
 use Rattle.std.specs.List.{list_all}
@@ -10,7 +10,7 @@ use Rattle.ir_tree.specs.Limits.{depth, regions_depth, region_depth, ops_depth, 
 use Rattle.ir_tree.specs.Uses.{operand_uses, uses_of, regions_uses, region_uses, ops_uses}
 use Rattle.ir_tree.specs.Sites.{Frame, results, arguments, shows, in_scope, results_of, visible, operands_visible}
 use Rattle.ir_tree.specs.Seen.{seen_at, regions_seen, region_seen, ops_seen}
-use Rattle.ir_tree.specs.Scope.{operands_seen, regions_operands_seen, region_operands_seen, ops_operands_seen}
+use Rattle.ir_tree.specs.Scope.{operands_dominate, regions_operands_seen, region_operands_seen, ops_operands_seen}
 use Rattle.ir_tree.specs.Places.{first_id, place_of, regions_place, region_place, ops_place}
 use Rattle.ir_tree.specs.Maps.{map_entry, map_tree, map_regions, map_region, map_ops}
 use Rattle.ir_tree.proofs.SeenSites.{seen_visible}
@@ -68,7 +68,7 @@ module _ {N T A M U B : Type 0} (f : N → M) (g : T → U) (h : A → B) where
     map_ops_depth no_ops = refl
     map_ops_depth (next o os) = λ i. max (map_depth o i + 1) (map_ops_depth os i)
 
-  -- tests that pass alike
+  -- tests with the same answers
   module _ (p : OpOf N T A → Bool) (q : OpOf M U B → Bool) (same : (t : OpOf N T A) → q (map_tree f g h t) ≡ p t) where
     mutual
       pub map_every : (t : OpOf N T A) → every q (map_tree f g h t) ≡ every p t
@@ -159,7 +159,7 @@ module _ {N T A M U B : Type 0} (f : N → M) (g : T → U) (h : A → B) where
     map_ops_place y p r (next o os) = λ i.
         cond (eqb (map_head_id o i) y) (Some (record { parent = p; region = r; before = map_first_id os i })) (first_of (map_place y o i) (map_ops_place y p r os i))
 
-  -- sight
+  -- scopes
   map_results : (o : OpOf N T A) → results_of (map_tree f g h o) ≡ results_of o
   map_results (op x rs) = ap (results x.id) (length-map x.results g)
 
@@ -187,7 +187,7 @@ module _ {N T A M U B : Type 0} (f : N → M) (g : T → U) (h : A → B) where
           ∙ ap (λ c. seen_at (λ n. isolated (f n)) y v b o || c) (map_ops_seen y v (b || shows v (results_of o)) os)
 
     mutual
-      map_operands : (s : List Frame) (t : OpOf N T A) → operands_seen isolated s (map_tree f g h t) ≡ operands_seen (λ n. isolated (f n)) s t
+      map_operands : (s : List Frame) (t : OpOf N T A) → operands_dominate isolated s (map_tree f g h t) ≡ operands_dominate (λ n. isolated (f n)) s t
       map_operands s (op x rs) = ap (λ c. list_all (in_scope s) x.operands && c) (map_regions_operands (cond (isolated (f x.name)) [] s) x.id 0 rs)
 
       map_regions_operands : (s : List Frame) (o r : ℕ) (rs : RegionsOf N T A) → regions_operands_seen isolated s o r (map_regions f g h rs) ≡ regions_operands_seen (λ n. isolated (f n)) s o r rs
@@ -203,7 +203,7 @@ module _ {N T A M U B : Type 0} (f : N → M) (g : T → U) (h : A → B) where
       map_ops_operands s no_ops = refl
       map_ops_operands s (next o os) =
           (λ i. map_operands s o i && ops_operands_seen isolated (s ++ map_results o i ∷ []) (map_ops f g h os))
-          ∙ ap (λ c. operands_seen (λ n. isolated (f n)) s o && c) (map_ops_operands (s ++ results_of o ∷ []) os)
+          ∙ ap (λ c. operands_dominate (λ n. isolated (f n)) s o && c) (map_ops_operands (s ++ results_of o ∷ []) os)
 
     pub map_visible : (t : OpOf N T A) (y : ℕ) (v : Value) → visible isolated (map_tree f g h t) y v ≡ visible (λ n. isolated (f n)) t y v
     map_visible t y v = sym (seen_visible isolated (map_tree f g h t) y v) ∙ map_seen y v false t ∙ seen_visible (λ n. isolated (f n)) t y v

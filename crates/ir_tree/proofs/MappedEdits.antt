@@ -1,4 +1,4 @@
--- Each edit of a tree of the same shape is that edit of the tree.
+-- Each edit commutes with mapping the names, types and attributes of a tree.
 use Rattle.std.proofs.Common.{◌≡◌, refl, ap, ◌∙◌, ℕ, ◌+◌, Bool, true, false, cond, eqb, List, [], ◌∷◌, map, Option, Some, None, option_map}
 use Rattle.ir_tree.specs.declared.value.Value.{Value}
 use Rattle.ir_tree.specs.declared.place.Place.{Place}
@@ -40,7 +40,7 @@ module _ {N T A M U B : Type 0} (f : N → M) (g : T → U) (h : A → B) where
   pub map_with_value_replaced : (v w : Value) (t : OpOf N T A) → with_value_replaced v w (map_tree f g h t) ≡ map_tree f g h (with_value_replaced v w t)
   map_with_value_replaced v w = map_each_head (put_values v w) (put_values v w) (λ x. refl)
 
-  -- dictionaries, in the order of what the keys become
+  -- dictionaries, in the order of the mapped keys
   module _ (before : M → M → Bool) where
     map_put_entry : (k : N) (a : A) (es : List (N × A)) → put_entry before (f k) (h a) (map (map_entry f h) es) ≡ map (map_entry f h) (put_entry (λ x y. before (f x) (f y)) k a es)
     map_put_entry k a [] = refl

@@ -1,8 +1,8 @@
--- What trees of numbers stand for, in a context that grows, and in one context.
+-- The meaning of trees in an extended context, and in one context.
 use Rattle.std.proofs.Common.{◌≡◌, refl, ap, sym, ◌∙◌, ℕ, ◌<◌, Bool, true, ◌&&◌, List, [], ◌∷◌, length, length-append, arith}
 use Rattle.std.specs.List.{list_all}
 use Rattle.std.proofs.lemmas.Bool.{ltb-true, lt-ltb, and_parts, and_from}
-use Rattle.ir_types.specs.Things.{Things, Grows, IsFront}
+use Rattle.ir_types.specs.Things.{ContextModel, IsExtendedBy, IsFront}
 use Rattle.ir_types.specs.Terms.{name_term, type_term, attr_term}
 use Rattle.ir_types.specs.Sound.{Holds, IsSound}
 use Rattle.ir_types.proofs.Terms.{name_stays, type_stays, attr_stays, name_term_one, type_term_one, attr_term_one}
@@ -12,7 +12,7 @@ use Rattle.ir_tree.specs.Passing.{entry_passes, head_passes, op_passes}
 use Rattle.ir_tree.specs.Meaning.{meaning, is_name, is_type, is_attr, key_before, key_before_in, rises, rises_after, dictionaries_rise, IsSoundIn}
 use Rattle.ir_tree.proofs.Agreeing.{maps_agree, maps_apart}
 
-pub stable : (c d : Things) (t : Op) → Holds c → Grows c d → IsSoundIn c t → meaning d t ≡ meaning c t
+pub stable : (c d : ContextModel) (t : Op) → Holds c → IsExtendedBy c d → IsSoundIn c t → meaning d t ≡ meaning c t
 stable c d t holds g s =
     maps_agree (is_name c) (is_type c) (is_attr c) (name_term d) (name_term c) (type_term d) (type_term c) (attr_term d) (attr_term c)
     (λ n h. name_stays c d n g (ltb-true n (length c.names) h))
@@ -20,7 +20,7 @@ stable c d t holds g s =
     (λ n h. attr_stays c d n holds g (ltb-true n (length c.attrs) h))
     t s.known
 
-pub apart : (c : Things) (t u : Op) → IsSound c → IsSoundIn c t → IsSoundIn c u → meaning c t ≡ meaning c u → t ≡ u
+pub apart : (c : ContextModel) (t u : Op) → IsSound c → IsSoundIn c t → IsSoundIn c u → meaning c t ≡ meaning c u → t ≡ u
 apart c t u sound s r e =
     maps_apart (is_name c) (is_type c) (is_attr c) (name_term c) (type_term c) (attr_term c)
     (λ m n h k. name_term_one c m n sound (ltb-true m (length c.names) h) (ltb-true n (length c.names) k))
@@ -58,7 +58,7 @@ module _ {N T A : Type 0} (p q r : OpOf N T A → Bool) (follows : (t : OpOf N T
         let c = and_parts (every q o) (ops_every q os) l in
         and_from (every r o) (ops_every r os) (every_follows o b.0 c.0) (ops_follow os b.1 c.1)
 
--- numbers of a context are numbers of a grown one
+-- ids of a context are ids of an extended one
 pub longer : {X : Type 0} (xs ys : List X) (n : ℕ) → IsFront xs ys → n < length xs → n < length ys
 longer xs ys n f h = omega (arith, ap length f.1, length-append xs f.0)
 
@@ -83,7 +83,7 @@ module _ {N T A : Type 0} (n n' : N → Bool) (q q' : T → Bool) (a a' : A → 
       (and_from _ _ (names x.name c.0) (and_from _ _ (all_implied q q' types x.results d.0) (and_from _ _ (entries_more x.properties e.0) (entries_more x.attributes e.1))))
       (arguments_more rs b.1)
 
--- dictionaries in order stay so
+-- sorted dictionaries stay sorted
 module _ {N A : Type 0} (n : N → Bool) (a : A → Bool) (before before' : N → N → Bool) (same : (k l : N) → n k ≡ true → n l ≡ true → before k l ≡ before' k l) where
   rises_after_same : (k : N) (es : List (N × A)) → n k ≡ true → list_all (entry_passes n a) es ≡ true → rises_after before k es ≡ rises_after before' k es
   rises_after_same k [] h l = refl
@@ -99,7 +99,7 @@ module _ {N A : Type 0} (n : N → Bool) (a : A → Bool) (before before' : N �
       let c = and_parts (n e.0) (a e.1) b.0 in
       rises_after_same e.0 es c.0 b.1
 
-order_stays : (c d : Things) → Grows c d → (t : Op) → op_passes (is_name c) (is_type c) (is_attr c) t ≡ true → dictionaries_rise (key_before_in c) t ≡ true → dictionaries_rise (key_before_in d) t ≡ true
+order_stays : (c d : ContextModel) → IsExtendedBy c d → (t : Op) → op_passes (is_name c) (is_type c) (is_attr c) t ≡ true → dictionaries_rise (key_before_in c) t ≡ true → dictionaries_rise (key_before_in d) t ≡ true
 order_stays c d g (op x rs) h k =
     let n = is_name c in
     let b = and_parts (head_passes n (is_type c) (is_attr c) x) _ h in
@@ -110,7 +110,7 @@ order_stays c d g (op x rs) h k =
     (λ m l i j. let u = name_stays c d m g (ltb-true m (length c.names) i) in let v = name_stays c d l g (ltb-true l (length c.names) j) in sym (λ w. key_before (u w) (v w))) in
     (λ w. sym (rises_same n (is_attr c) (key_before_in c) (key_before_in d) same x.properties e.0) w && sym (rises_same n (is_attr c) (key_before_in c) (key_before_in d) same x.attributes e.1) w) ∙ k
 
-pub stays_sound : (c d : Things) (t : Op) → Grows c d → IsSoundIn c t → IsSoundIn d t
+pub stays_sound : (c d : ContextModel) (t : Op) → IsExtendedBy c d → IsSoundIn c t → IsSoundIn d t
 stays_sound c d t g s = record {
   known =
       every_follows (op_passes (is_name c) (is_type c) (is_attr c)) (op_passes (is_name c) (is_type c) (is_attr c)) (op_passes (is_name d) (is_type d) (is_attr d))

@@ -1,4 +1,4 @@
--- What is put in, and taken out, of a tree.
+-- Inserting an operation into a tree, and taking it out.
 use Rattle.std.proofs.Common.{◌≡◌, refl, ap, sym, ◌∙◌, ℕ, ◌+◌, Bool, true, false, cond, ◌&&◌, ◌||◌, eqb, List, ◌++◌, Option, Some, None, true≢false, eq-eqb}
 use Rattle.std.specs.List.{list_any}
 use Rattle.std.proofs.lemmas.List.Folds.{list_any-append}
@@ -16,11 +16,11 @@ pub absent_parts : (x : ℕ) (xs ys : List ℕ) → Absent x (xs ++ ys) → Abse
 absent_parts x xs ys h = or_parts _ _ (sym (list_any-append (λ y. eqb y x) xs ys) ∙ h)
 
 module _ {N T A : Type 0} where
-  -- an edit of lists leaves an operation its id
+  -- an edit of lists keeps the id of an operation
   pub list_id : (f : ℕ → ℕ → OpsOf N T A → OpsOf N T A) (t : OpOf N T A) → (head (each_list f t)).id ≡ (head t).id
   list_id f (op h rs) = refl
 
-  -- and what it makes of a list with an operation put in
+  -- an edit of lists, applied to a list with an operation inserted
   list_put_last : (f : ℕ → ℕ → OpsOf N T A → OpsOf N T A) (o : OpOf N T A) (os : OpsOf N T A) → ops_each_list f (put_last o os) ≡ put_last (each_list f o) (ops_each_list f os)
   list_put_last f o no_ops = refl
   list_put_last f o (next p os) = ap (next (each_list f p)) (list_put_last f o os)
@@ -37,7 +37,7 @@ module _ {N T A : Type 0} where
   list_put_in f None o os = list_put_last f o os
   list_put_in f (Some b) o os = list_put_before f b o os
 
-  -- an operation that was put in is dropped again
+  -- an inserted operation is removed again
   module _ (x : ℕ) (o : OpOf N T A) (is : (head o).id ≡ x) where
     dropped_itself : (os : OpsOf N T A) → drop_op x (next o os) ≡ drop_op x os
     dropped_itself os = ap (λ b. cond b (drop_op x os) (next o (drop_op x os))) (eq-eqb (head o).id x is)
@@ -56,7 +56,7 @@ module _ {N T A : Type 0} where
     drop_put_in None os = drop_put_last os
     drop_put_in (Some b) os = drop_put_before b os
 
-  -- a tree with an operation put in, and taken out again
+  -- a tree with an operation inserted and taken out again
   module _ (x : ℕ) (place : Place) (o : OpOf N T A) (is : (head o).id ≡ x) where
     lost_here : (p r : ℕ) (os : OpsOf N T A) → drop_op x (ops_each_list (λ p r os. drop_op x os) (put_here place o p r os)) ≡ drop_op x (ops_each_list (λ p r os. drop_op x os) os)
     lost_here p r os =
@@ -83,7 +83,7 @@ module _ {N T A : Type 0} where
     pub without_put : (t : OpOf N T A) → without x (put place o t) ≡ without x t
     without_put t = put_lost t
 
-  -- without an operation that isn't there
+  -- removing an operation that isn't in the tree
   module _ (x : ℕ) where
     mutual
       pub untouched : (t : OpOf N T A) → Absent x (ids t) → each_list (λ p r os. drop_op x os) t ≡ t
@@ -107,11 +107,11 @@ module _ {N T A : Type 0} where
     pub without_absent : (t : OpOf N T A) → has_id x t ≡ false → without x t ≡ t
     without_absent t a = untouched t a
 
-  -- what is taken out again was put in
+  -- an operation that is taken out was inserted
   pub take_put : (place : Place) (o t : OpOf N T A) → has_id (head o).id t ≡ false → without (head o).id (put place o t) ≡ t
   take_put place o t a = without_put (head o).id place o refl t ∙ without_absent (head o).id t a
 
-  -- a place whose operation isn't there
+  -- a place whose parent isn't in the tree
   module _ (place : Place) (o : OpOf N T A) where
     mutual
       pub unput : (t : OpOf N T A) → Absent place.parent (ids t) → each_list (put_here place o) t ≡ t

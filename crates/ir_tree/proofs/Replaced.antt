@@ -1,4 +1,4 @@
--- The uses of values after one took another's place.
+-- The uses of values after all uses of one were replaced by another.
 use Rattle.std.proofs.Common.{◌≡◌, refl, ap, sym, ◌∙◌, ℕ, ◌+◌, Bool, true, false, cond, ◌&&◌, eqb, List, [], ◌∷◌, ◌++◌, length, map, true≢false, arith, length-append, eq-eqb}
 use Rattle.std.proofs.lemmas.Bool.{eqb-true, and_parts}
 use Rattle.ir_tree.specs.declared.value.Value.{Value}
@@ -22,7 +22,7 @@ same_value_true (Arg x r k) (Arg y s l) h =
     λ i. Arg (eqb-true x y b.0 i) (eqb-true r s c.0 i) (eqb-true k l c.1 i)
 
 module _ (old new : Value) where
-  -- the old value has no use left
+  -- the old value has no uses left
   module _ (differ : same_value old new ≡ false) where
     none_step : (x k : ℕ) (w : Value) (rest : List (ℕ × ℕ)) → rest ≡ [] → (b : Bool) → same_value old w ≡ b → cond (same_value old (cond (same_value old w) new w)) ((x, k) ∷ rest) rest ≡ []
     none_step x k w rest none true e = ap (λ b. cond (same_value old (cond b new w)) ((x, k) ∷ rest) rest) e ∙ ap (λ b. cond b ((x, k) ∷ rest) rest) differ ∙ none
@@ -49,7 +49,7 @@ module _ (old new : Value) where
         ops_old_unused no_ops = refl
         ops_old_unused (next o os) = λ i. old_unused o i ++ ops_old_unused os i
 
-  -- a third value has its uses still
+  -- a third value keeps its uses
   module _ (v : Value) (not_old : same_value v old ≡ false) (not_new : same_value v new ≡ false) where
     same_here : (x k : ℕ) (ws : List Value) → operand_uses v x k (map (put_value old new) ws) ≡ operand_uses v x k ws
     same_here x k [] = refl
@@ -76,7 +76,7 @@ module _ (old new : Value) where
         ops_others_stay no_ops = refl
         ops_others_stay (next o os) = λ i. others_stay o i ++ ops_others_stay os i
 
-  -- the new value has its uses and the old one's
+  -- the new value has its uses and those of the old value
   module _ (differ : same_value old new ≡ false) where
     turned : (v w : Value) → same_value v w ≡ same_value w v
     turned v w = tell (same_value v w) (same_value w v) refl refl

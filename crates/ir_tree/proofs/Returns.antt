@@ -1,4 +1,4 @@
--- An operation that is taken out, and put back where it stood.
+-- An operation is taken out, and inserted again at its old place.
 use Rattle.std.proofs.Common.{◌≡◌, refl, ap, sym, ◌∙◌, subst, ℕ, ◌+◌, ◌≤◌, ◌⊎◌, inl, inr, Bool, true, false, cond, ◌&&◌, ◌||◌, eqb, List, [], ◌∷◌, ◌++◌, Option, Some, None, true≢false, eq-eqb, arith}
 use Rattle.std.specs.List.{list_any, IsDistinct, AllByRecursion}
 use Rattle.std.proofs.lemmas.Bool.{eqb-true, cases_Bool, or_cases, or_parts, ne_eqb, or_right}
@@ -33,11 +33,11 @@ present_right x xs ys h = list_any-append (λ y. eqb y x) xs ys ∙ or_right _ _
 pub absent_join : (x : ℕ) (xs ys : List ℕ) → Absent x xs → Absent x ys → Absent x (xs ++ ys)
 absent_join x xs ys h k = list_any-append (λ y. eqb y x) xs ys ∙ λ i. h i || k i
 
--- an id that is there differs from one that is not
+-- an id of the list differs from one that isn't in it
 pub differ : (p y : ℕ) (xs : List ℕ) → Absent p xs → Present y xs → eqb p y ≡ false
 differ p y xs a h = elim (cases_Bool (eqb p y)) [ inl e ↦ absurd (true≢false (sym h ∙ subst (λ (z : ℕ). Absent z xs) (eqb-true p y e) a)) | inr e ↦ e ]
 
--- two lists of distinct ids that have none in common
+-- two disjoint lists of distinct ids
 pub record Halves (xs ys : List ℕ) : Type 0 where
   pub left : IsDistinct eqb xs
   pub right : IsDistinct eqb ys
@@ -68,7 +68,7 @@ halves (x ∷ xs) ys d =
 flipped : (xs ys : List ℕ) → Halves xs ys → (y : ℕ) → Present y ys → Absent y xs
 flipped xs ys h y p = elim (cases_Bool (list_any (λ z. eqb z y) xs)) [ inl q ↦ absurd (true≢false (sym p ∙ h.disjoint y q)) | inr q ↦ q ]
 
--- the first of two answers
+-- the first of two optional results
 first_case : {X : Type 0} (a b : Option X) (c : X) → first_of a b ≡ Some c → (a ≡ Some c) ⊎ ((a ≡ None) × (b ≡ Some c))
 first_case None b c e = inr (refl, e)
 first_case (Some a) b c e = inl e
@@ -95,7 +95,7 @@ module _ {N T A : Type 0} (x : ℕ) where
   absent_op : (h : HeadOf N T A) (rs : RegionsOf N T A) → eqb h.id x ≡ false → Absent x (regions_ids rs) → Absent x (ids (op h rs))
   absent_op h rs k a = λ i. k i || a i
 
-  -- where no place is found, the operation isn't there
+  -- an operation without a place isn't below the root
   mutual
     none_regions : (p r : ℕ) (rs : RegionsOf N T A) → regions_place x p r rs ≡ None → Absent x (regions_ids rs)
     none_regions p r no_regions e = refl
@@ -114,7 +114,7 @@ module _ {N T A : Type 0} (x : ℕ) where
               absent_join x (ids (op h rs)) (ops_ids os) (absent_op h rs k (none_regions h.id 0 rs b.0)) (none_ops p r os b.1))
         ]
 
-  -- where a place is found, it is
+  -- an operation with a place is in the tree
   mutual
     some_regions : (p r : ℕ) (rs : RegionsOf N T A) (place : Place) → regions_place x p r rs ≡ Some place → Present x (regions_ids rs)
     some_regions p r no_regions place e = cc
@@ -136,7 +136,7 @@ module _ {N T A : Type 0} (x : ℕ) where
           ]
         ]
 
-  -- what isn't there is not found
+  -- an operation that isn't in the tree isn't found
   mutual
     lost_op : (t : OpOf N T A) → Absent x (ids t) → find x t ≡ None
     lost_op (op h rs) a = let b = or_parts _ _ a in ap (λ c. cond c (Some (op h rs)) (regions_find x rs)) b.0 ∙ lost_regions rs b.1
@@ -166,7 +166,7 @@ before_more : {N T A : Type 0} (b : Option ℕ) (o : OpOf N T A) (os : OpsOf N T
 before_more None o os h = tt
 before_more (Some b) o os h = present_right b (ids o) (ops_ids os) h
 
--- a place that is in this list, or deeper
+-- a place in this list, or deeper
 record InList {N T A : Type 0} (place : Place) (p r : ℕ) (os : OpsOf N T A) : Type 0 where
   parent : p ≡ place.parent
   region : r ≡ place.region
@@ -240,18 +240,18 @@ module _ {N T A : Type 0} (place : Place) (o : OpOf N T A) where
       let b = absent_parts place.parent (region_ids g) (regions_ids rs) a in
       λ i. region (unput_region p r g (e r (omega arith)) b.0 i) (unput_later p (r + 1) rs (λ k l. e k (omega arith)) b.1 i)
 
-  -- o before the operation that came next
+  -- inserting o before the operation that was next
   first_put : (os : OpsOf N T A) → put_in (first_id os) o os ≡ next o os
   first_put no_ops = refl
   first_put (next q os) = ap (λ b. cond b (next o (next q os)) (next q (put_before (head q).id o os))) (eq-eqb (head q).id (head q).id refl)
 
-  -- behind an operation that doesn't come next
-  put_behind : (b : Option ℕ) (q : OpOf N T A) (os os' : OpsOf N T A) → BeforeIn b os → ((y : ℕ) → Present y (ops_ids os) → eqb (head q).id y ≡ false) → put_in b o (next q os') ≡ next q (put_in b o os')
-  put_behind None q os os' h f = refl
-  put_behind (Some b) q os os' h f = ap (λ c. cond c (next o (next q os')) (next q (put_before b o os'))) (f b h)
+  -- inserting after an operation that isn't the next one
+  put_after : (b : Option ℕ) (q : OpOf N T A) (os os' : OpsOf N T A) → BeforeIn b os → ((y : ℕ) → Present y (ops_ids os) → eqb (head q).id y ≡ false) → put_in b o (next q os') ≡ next q (put_in b o os')
+  put_after None q os os' h f = refl
+  put_after (Some b) q os os' h f = ap (λ c. cond c (next o (next q os')) (next q (put_before b o os'))) (f b h)
 
 module _ {N T A : Type 0} (x : ℕ) (place : Place) (o : OpOf N T A) where
-  -- the list from which the operation came
+  -- the list from which the operation was taken
   here_again : (p r : ℕ) (h : HeadOf N T A) (rs : RegionsOf N T A) (os : OpsOf N T A) → eqb h.id x ≡ true → Absent x (ops_ids os) → Absent p (ops_ids os) → op h rs ≡ o
       → p ≡ place.parent → r ≡ place.region → first_id os ≡ place.before
       → put_here place o p r (ops_each_list (put_here place o) (drop_op x (ops_each_list (λ p r os. drop_op x os) (next (op h rs) os)))) ≡ next (op h rs) os
@@ -268,19 +268,19 @@ module _ {N T A : Type 0} (x : ℕ) (place : Place) (o : OpOf N T A) where
       ∙ first_put place o os
       ∙ ap (λ q. next q os) (sym is)
 
-  -- a list that has it further on, or deeper
-  further_on : (p r : ℕ) (q : OpOf N T A) (os os' : OpsOf N T A) → Absent p (ids q ++ ops_ids os) → ((y : ℕ) → Present y (ops_ids os) → eqb (head q).id y ≡ false)
+  -- a list that has the place further on, or deeper
+  extra_on : (p r : ℕ) (q : OpOf N T A) (os os' : OpsOf N T A) → Absent p (ids q ++ ops_ids os) → ((y : ℕ) → Present y (ops_ids os) → eqb (head q).id y ≡ false)
       → InList place p r os ⊎ Present place.parent (ops_ids os) → put_here place o p r os' ≡ os → put_here place o p r (next q os') ≡ next q os
-  further_on p r q os os' ap' f loc e = elim loc [
+  extra_on p r q os os' ap' f loc e = elim loc [
     | inl l ↦ (let block : is_in_block place p r ≡ true = (λ i. eq-eqb p place.parent l.parent i && eq-eqb r place.region l.region i) in
         let inner : put_in place.before o os' ≡ os = sym (ap (λ b. cond b (put_in place.before o os') os') block) ∙ e in
-        ap (λ b. cond b (put_in place.before o (next q os')) (next q os')) block ∙ put_behind place o place.before q os os' l.before f ∙ ap (next q) inner)
+        ap (λ b. cond b (put_in place.before o (next q os')) (next q os')) block ∙ put_after place o place.before q os os' l.before f ∙ ap (next q) inner)
     | inr l ↦ (let out : is_in_block place p r ≡ false = other_parent place o p r (differ p place.parent (ops_ids os) ((absent_parts p (ids q) (ops_ids os) ap').1) l) in
         let inner : os' ≡ os = sym (elsewhere place o p r os' out) ∙ e in
         elsewhere place o p r (next q os') out ∙ ap (next q) inner)
   ]
 
-  -- the list from which it comes begins with it
+  -- the operation is the first of its list
   here_first : (p r : ℕ) (q : OpOf N T A) (os : OpsOf N T A) → eqb (head q).id x ≡ true → Absent p (ops_ids os) → Halves (ids q) (ops_ids os) → ops_place x p r (next q os) ≡ Some place → ops_find x (next q os) ≡ Some o
       → put_here place o p r (ops_each_list (put_here place o) (drop_op x (ops_each_list (λ p r os. drop_op x os) (next q os)))) ≡ next q os
   here_first p r (op h rs) os k a hv e f =
@@ -300,7 +300,7 @@ module _ {N T A : Type 0} (x : ℕ) (place : Place) (o : OpOf N T A) where
   head_absent : (q : OpOf N T A) (os : OpsOf N T A) → Halves (ids q) (ops_ids os) → Absent (head q).id (ops_ids os)
   head_absent (op h rs) os hv = hv.disjoint h.id (ap (λ b. b || list_any (λ y. eqb y h.id) (regions_ids rs)) (eq-eqb h.id h.id refl))
 
-  -- lists that begin with another operation
+  -- lists that start with another operation
   drop_not : (q : OpOf N T A) (os : OpsOf N T A) → eqb (head q).id x ≡ false → Absent x (ops_ids os)
       → drop_op x (ops_each_list (λ p r os. drop_op x os) (next q os)) ≡ next (each_list (λ p r os. drop_op x os) q) os
   drop_not (op h rs) os k ax =
@@ -316,7 +316,7 @@ module _ {N T A : Type 0} (x : ℕ) (place : Place) (o : OpOf N T A) where
   outside : (p r : ℕ) (q : OpOf N T A) (os : OpsOf N T A) → Absent p (ids q) → Halves (ids q) (ops_ids os) → InList place p r os ⊎ Present place.parent (ops_ids os) → Absent place.parent (ids q)
   outside p r q os a hv loc = elim loc [ inl l ↦ subst (λ (z : ℕ). Absent z (ids q)) l.parent a | inr l ↦ flipped (ids q) (ops_ids os) hv place.parent l ]
 
-  -- regions behind, and before, the one that has it
+  -- the regions after the one that has the operation, and before it
   later : (p r : ℕ) (g : RegionOf N T A) (rs : RegionsOf N T A) → Absent p (region_ids g) → Absent p (regions_ids rs) → Halves (region_ids g) (regions_ids rs) → ((p ≡ place.parent) × (r ≡ place.region)) ⊎ Present place.parent (region_ids g) → Absent x (regions_ids rs)
       → regions_each_list (put_here place o) p (r + 1) (regions_each_list (λ p r os. drop_op x os) p (r + 1) rs) ≡ rs
   later p r g rs a a' hv loc ax =
@@ -388,7 +388,7 @@ module _ {N T A : Type 0} (x : ℕ) (place : Place) (o : OpOf N T A) where
                 let same : each_list (put_here place o) q ≡ q = unput place o q (outside p r q os b.0 hv loc) in
                 ap (λ l. put_here place o p r (ops_each_list (put_here place o) l)) dropped
                 ∙ ap (λ w. put_here place o p r (next w (ops_each_list (put_here place o) (drop_op x (ops_each_list (λ p r os. drop_op x os) os))))) same
-                ∙ further_on p r q os _ a (λ y py. differ (head q).id y (ops_ids os) (head_absent q os hv) py) loc (back_ops p r os b.1 hv.right j.1 found))
+                ∙ extra_on p r q os _ a (λ y py. differ (head q).id y (ops_ids os) (head_absent q os hv) py) loc (back_ops p r os b.1 hv.right j.1 found))
           ]
         ]
 

@@ -1,11 +1,11 @@
--- Edits of a sound tree give a sound tree.
+-- Edits keep a tree sound.
 use Rattle.std.proofs.Common.{◌≡◌, refl, ap, sym, ◌∙◌, ℕ, ◌+◌, ◌⊎◌, inl, inr, Bool, true, false, cond, ◌&&◌, eqb, List, [], ◌∷◌, Option, Some, None}
 use Rattle.std.specs.List.{list_all}
 use Rattle.std.proofs.Common.{Ordering, Less, Equal, Greater}
 use Rattle.std.specs.Ordering.{is_lt, nat_cmp, ordering_reverse}
 use Rattle.std.specs.Cmp.Lexicographic.{slice_cmp}
 use Rattle.std.proofs.lemmas.Cmp.{nat_list_cmp_total}
-use Rattle.ir_types.specs.Things.{Things}
+use Rattle.ir_types.specs.Things.{ContextModel}
 use Rattle.ir_types.specs.Terms.{name_term}
 use Rattle.ir_tree.specs.declared.value.Value.{Value}
 use Rattle.ir_tree.specs.declared.place.Place.{Place}
@@ -20,7 +20,7 @@ use Rattle.ir_tree.specs.Meaning.{is_name, is_type, is_attr, key_before, key_bef
 use Rattle.std.proofs.lemmas.Bool.{cases_Bool, and_parts, and_from}
 use Rattle.ir_types.proofs.AcceptedCalls.{less_from}
 
--- what every operation passes
+-- tests that every operation passes
 module _ {N T A : Type 0} (p : OpOf N T A → Bool) (f : HeadOf N T A → HeadOf N T A) (step : (h : HeadOf N T A) (rs : RegionsOf N T A) → p (op h rs) ≡ true → p (op (f h) (regions_each_head f rs)) ≡ true) where
   mutual
     every_head : (t : OpOf N T A) → every p t ≡ true → every p (each_head f t) ≡ true
@@ -84,7 +84,7 @@ module _ {N T A : Type 0} (p : OpOf N T A → Bool) where
       elim (eqb (head o).id x) as (λ c. ops_every p (cond c (drop_op x os) (next o (drop_op x os))) ≡ true)
       [ true ↦ every_drop x os b.1 | false ↦ and_from (every p o) (ops_every p (drop_op x os)) b.0 (every_drop x os b.1) ]
 
--- arguments are not edited
+-- arguments are unchanged
 module _ {N T A : Type 0} (q : List T → Bool) where
   head_arguments : (f : HeadOf N T A → HeadOf N T A) (rs : RegionsOf N T A) → all_arguments_pass q rs ≡ true → all_arguments_pass q (regions_each_head f rs) ≡ true
   head_arguments f no_regions k = refl
@@ -128,7 +128,7 @@ module _ {N A : Type 0} (before : N → N → Bool) (orders : Orders before) whe
   rises_tail k [] h = refl
   rises_tail k (d ∷ es) h = (and_parts (before k d.0) (rises_after before d.0 es) h).1
 
-  -- behind a lesser key
+  -- after a smaller key
   after_less : (k l : N) (es : List (N × A)) → before k l ≡ true → rises_after before l es ≡ true → rises_after before k es ≡ true
   after_less k l [] h r = refl
   after_less k l (d ∷ es) h r = let b = and_parts (before l d.0) (rises_after before d.0 es) r in and_from (before k d.0) (rises_after before d.0 es) (orders.trans k l d.0 h b.0) b.1
@@ -199,14 +199,14 @@ bytes_order =
           (ap is_lt (o.congr k l m same), λ i. is_lt ((o.antisymm m k ∙ ap ordering_reverse (o.congr k l m same) ∙ sym (o.antisymm m l)) i));
     }
 
-order_in : (c : Things) → Orders (key_before_in c)
+order_in : (c : ContextModel) → Orders (key_before_in c)
 order_in c = record {
   trans = λ k l m. bytes_order.trans (name_term c k) (name_term c l) (name_term c m);
   tied = λ k l m. bytes_order.tied (name_term c k) (name_term c l) (name_term c m);
 }
 
 -- edits of heads
-module _ (c : Things) where
+module _ (c : ContextModel) where
   record Keeps (f : HeadOf ℕ ℕ ℕ → HeadOf ℕ ℕ ℕ) : Type 0 where
     known : (h : HeadOf ℕ ℕ ℕ) → head_passes (is_name c) (is_type c) (is_attr c) h ≡ true → head_passes (is_name c) (is_type c) (is_attr c) (f h) ≡ true
     sorted : (h : HeadOf ℕ ℕ ℕ) → (rises (key_before_in c) h.properties && rises (key_before_in c) h.attributes) ≡ true → (rises (key_before_in c) (f h).properties && rises (key_before_in c) (f h).attributes) ≡ true

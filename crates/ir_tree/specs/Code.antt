@@ -1,4 +1,4 @@
--- A tree as nested pairs of numbers, by which a proof tells trees apart.
+-- A tree encoded as nested pairs of numbers, to compare trees in proofs.
 use Rattle.std.specs.Prelude.{◌≡◌, ◌⊎◌, ℕ, List, refl}
 use Rattle.std.proofs.Common.{ap, inl, inr}
 use Rattle.std.specs.Coded.{Coded, code_by, coded_ℕ, coded×, coded_list, coded⊎}

@@ -1,8 +1,8 @@
--- Trees with an edit made: f of each head, and g of the list of each block, by its operation and the number of its region.
+-- Edited trees: f of each head, and g of the list of each block, by its operation and the index of its region.
 use Rattle.std.specs.Prelude.{ℕ, ◌+◌}
 use Rattle.ir_tree.specs.Tree.{HeadOf, OpOf, op, RegionsOf, no_regions, region, RegionOf, empty, block, OpsOf, no_ops, next}
 
--- the tree with both made, in the blocks inside first
+-- the tree with both edits made, innermost blocks first
 abbrev mutual
   pub edited : {N T A : Type 0} → (HeadOf N T A → HeadOf N T A) → (ℕ → ℕ → OpsOf N T A → OpsOf N T A) → OpOf N T A → OpOf N T A
   edited f g (op h rs) = op (f h) (regions_edited f g h.id 0 rs)

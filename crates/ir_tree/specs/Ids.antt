@@ -1,9 +1,9 @@
--- The ids of a tree, and looking an operation up.
+-- The ids of a tree, and finding an operation.
 use Rattle.std.specs.Prelude.{◌≡◌, ℕ, List, [], ◌∷◌, ◌++◌, length, eqb, if◌then◌else◌, Bool, Option, Some, None}
 use Rattle.std.specs.List.{IsDistinct, list_any, range_with_len}
 use Rattle.ir_tree.specs.Tree.{OpOf, op, RegionsOf, no_regions, region, RegionOf, empty, block, OpsOf, no_ops, next}
 
--- the ids in pre-order: each operation before those inside it, and these in their order
+-- the ids in pre-order
 abbrev mutual
   pub ids : {N T A : Type 0} → OpOf N T A → List ℕ
   ids (op h rs) = h.id ∷ regions_ids rs
@@ -28,7 +28,7 @@ op_count t = length (ids t)
 abbrev pub has_id : {N T A : Type 0} → ℕ → OpOf N T A → Bool
 has_id x t = list_any (λ y. eqb y x) (ids t)
 
--- no two operations have one id
+-- all ids are distinct
 abbrev pub HasDistinctIds : {N T A : Type 0} → OpOf N T A → Type 0
 HasDistinctIds t = IsDistinct eqb (ids t)
 
@@ -36,7 +36,7 @@ HasDistinctIds t = IsDistinct eqb (ids t)
 abbrev pub IsNumberedFrom : {N T A : Type 0} → ℕ → OpOf N T A → Type 0
 IsNumberedFrom n t = ids t ≡ range_with_len n (op_count t)
 
--- the first of two answers that there is
+-- the first of two optional results that isn't none
 abbrev pub first_of : {X : Type 0} → Option X → Option X → Option X
 first_of None b = b
 first_of (Some a) b = Some a

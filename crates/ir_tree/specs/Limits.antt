@@ -1,9 +1,9 @@
--- How deep, how many: the limits of a module.
+-- The depth, the counts and the limits of a module.
 use Rattle.std.specs.Prelude.{ℕ, ◌+◌, max, List, length, nat_le, Bool, true, ◌&&◌}
 use Rattle.ir_tree.specs.Tree.{HeadOf, OpOf, op, RegionsOf, no_regions, region, RegionOf, empty, block, OpsOf, no_ops, next, region_count}
 use Rattle.ir_tree.specs.Ids.{op_count}
 
--- the most operations that stand around one operation of the tree
+-- the greatest nesting depth in the tree
 abbrev mutual
   pub depth : {N T A : Type 0} → OpOf N T A → ℕ
   depth (op h rs) = regions_depth rs
@@ -37,23 +37,23 @@ abbrev mutual
   ops_every p no_ops = true
   ops_every p (next o os) = every p o && ops_every p os
 
--- the most operations of a module, the root included
+-- the limit of operations of a module, the root included
 abbrev pub most_ops : ℕ
 most_ops = 1048576
 
--- the most operations around an operation
+-- the depth limit: the number of ancestors of an operation
 abbrev pub most_around : ℕ
 most_around = 128
 
--- the most operands, results, arguments of a block and entries of a dictionary, each
+-- the limit of operands, of results, of arguments of a block and of entries of a dictionary
 abbrev pub most_items : ℕ
 most_items = 256
 
--- the most regions of an operation
+-- the limit of regions of an operation
 abbrev pub most_regions : ℕ
 most_regions = 16
 
--- the greatest next id of a module
+-- the limit of the next free id of a module
 abbrev pub most_next : ℕ
 most_next = 4294967295
 
@@ -61,7 +61,7 @@ most_next = 4294967295
 abbrev pub items_fit : {X : Type 0} → List X → Bool
 items_fit xs = nat_le (length xs) most_items
 
--- whether what an operation has beside its regions is within the limits
+-- whether the counts of a head are within the limits
 abbrev pub head_fits : {N T A : Type 0} → HeadOf N T A → Bool
 head_fits h = items_fit h.operands && (items_fit h.results && (items_fit h.properties && items_fit h.attributes))
 
@@ -70,12 +70,12 @@ abbrev pub arguments_pass : {N T A : Type 0} → (List T → Bool) → RegionOf 
 arguments_pass p empty = true
 arguments_pass p (block args os) = p args
 
--- and those of each of an operation's regions
+-- whether the arguments of the block of each region pass a test
 abbrev pub all_arguments_pass : {N T A : Type 0} → (List T → Bool) → RegionsOf N T A → Bool
 all_arguments_pass p no_regions = true
 all_arguments_pass p (region r rs) = arguments_pass p r && all_arguments_pass p rs
 
--- whether what an operation has of its own is within the limits
+-- whether the counts of an operation are within the limits
 abbrev pub op_fits : {N T A : Type 0} → OpOf N T A → Bool
 op_fits (op h rs) = head_fits h && (nat_le (region_count rs) most_regions && all_arguments_pass items_fit rs)
 

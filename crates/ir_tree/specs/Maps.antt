@@ -2,16 +2,16 @@
 use Rattle.std.specs.Prelude.{map}
 use Rattle.ir_tree.specs.Tree.{HeadOf, OpOf, op, RegionsOf, no_regions, region, RegionOf, empty, block, OpsOf, no_ops, next}
 
--- an entry of a dictionary, with f of its key and h of its attribute
+-- an entry of a dictionary, with f applied to its key and h to its attribute
 abbrev pub map_entry : {N A M B : Type 0} → (N → M) → (A → B) → N × A → M × B
 map_entry f h e = (f e.0, h e.1)
 
--- a head, with f of its name and its keys, g of its types and h of its attributes
+-- a head, with f applied to its name and keys, g to its types and h to its attributes
 abbrev pub map_head : {N T A M U B : Type 0} → (N → M) → (T → U) → (A → B) → HeadOf N T A → HeadOf M U B
 map_head f g h x =
     record { id = x.id; name = f x.name; operands = x.operands; results = map g x.results; properties = map (map_entry f h) x.properties; attributes = map (map_entry f h) x.attributes }
 
--- a tree, with f of each name and key, g of each type and h of each attribute
+-- a tree, with f applied to each name and key, g to each type and h to each attribute
 abbrev mutual
   pub map_tree : {N T A M U B : Type 0} → (N → M) → (T → U) → (A → B) → OpOf N T A → OpOf M U B
   map_tree f g h (op x rs) = op (map_head f g h x) (map_regions f g h rs)

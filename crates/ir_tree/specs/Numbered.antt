@@ -1,8 +1,8 @@
--- `IsNumberedFrom` by one walk that counts on.
+-- `IsNumberedFrom` by one walk that counts.
 use Rattle.std.specs.Prelude.{ℕ, ◌+◌, eqb, if◌then◌else◌, Option, Some, None, option_and_then}
 use Rattle.ir_tree.specs.Tree.{OpOf, op, RegionsOf, no_regions, region, RegionOf, empty, block, OpsOf, no_ops, next}
 
--- the number after those of the tree, where its ids are n, n + 1, .. in pre-order
+-- the number after the ids of the tree, if these are n, n + 1, .. in pre-order
 abbrev mutual
   pub number_after : {N T A : Type 0} → ℕ → OpOf N T A → Option ℕ
   number_after n (op h rs) = if eqb h.id n then regions_after (n + 1) rs else None

@@ -1,4 +1,4 @@
--- Where operations stand, and trees with operations put in, taken out and moved.
+-- Places of operations, and trees with operations inserted, taken out and moved.
 use Rattle.std.specs.Prelude.{ℕ, ◌+◌, eqb, Bool, ◌&&◌, if◌then◌else◌, Option, Some, None}
 use Rattle.ir_tree.specs.declared.place.Place.{Place}
 use Rattle.ir_tree.specs.Tree.{OpOf, op, RegionsOf, no_regions, region, RegionOf, empty, block, OpsOf, no_ops, next, head}
@@ -9,7 +9,7 @@ abbrev pub first_id : {N T A : Type 0} → OpsOf N T A → Option ℕ
 first_id no_ops = None
 first_id (next o os) = Some (head o).id
 
--- where operation x stands: the first place in pre-order, which the root doesn't have
+-- the place of operation x, the first in pre-order; the root has none
 abbrev mutual
   pub place_of : {N T A : Type 0} → ℕ → OpOf N T A → Option Place
   place_of x (op h rs) = regions_place x h.id 0 rs
@@ -26,7 +26,7 @@ abbrev mutual
   ops_place x p r no_ops = None
   ops_place x p r (next o os) = if eqb (head o).id x then Some (record { parent = p; region = r; before = first_id os }) else first_of (place_of x o) (ops_place x p r os)
 
--- a tree with f of the list of each block, by its operation and the number of its region; the blocks inside come first
+-- a tree with f applied to the list of each block, by its operation and the index of its region; innermost blocks first
 abbrev mutual
   pub each_list : {N T A : Type 0} → (ℕ → ℕ → OpsOf N T A → OpsOf N T A) → OpOf N T A → OpOf N T A
   each_list f (op h rs) = op h (regions_each_list f h.id 0 rs)
@@ -43,12 +43,12 @@ abbrev mutual
   ops_each_list f no_ops = no_ops
   ops_each_list f (next o os) = next (each_list f o) (ops_each_list f os)
 
--- o at the end of a list
+-- a list with o appended
 abbrev pub put_last : {N T A : Type 0} → OpOf N T A → OpsOf N T A → OpsOf N T A
 put_last o no_ops = next o no_ops
 put_last o (next p os) = next p (put_last o os)
 
--- o before the operation b of a list, if there is one
+-- a list with o inserted before operation b, if b is in the list
 abbrev pub put_before : {N T A : Type 0} → ℕ → OpOf N T A → OpsOf N T A → OpsOf N T A
 put_before b o no_ops = no_ops
 put_before b o (next p os) = if eqb (head p).id b then next o (next p os) else next p (put_before b o os)
@@ -64,7 +64,7 @@ is_in_block place p r = eqb p place.parent && eqb r place.region
 abbrev pub put_here : {N T A : Type 0} → Place → OpOf N T A → ℕ → ℕ → OpsOf N T A → OpsOf N T A
 put_here place o p r os = if is_in_block place p r then put_in place.before o os else os
 
--- the tree with o, and what is inside it, at a place
+-- the tree with o, and everything inside it, inserted at a place
 abbrev pub put : {N T A : Type 0} → Place → OpOf N T A → OpOf N T A → OpOf N T A
 put place o = each_list (put_here place o)
 
@@ -73,11 +73,11 @@ abbrev pub drop_op : {N T A : Type 0} → ℕ → OpsOf N T A → OpsOf N T A
 drop_op x no_ops = no_ops
 drop_op x (next o os) = if eqb (head o).id x then drop_op x os else next o (drop_op x os)
 
--- the tree without operation x and what is inside it
+-- the tree without operation x and everything inside it
 abbrev pub without : {N T A : Type 0} → ℕ → OpOf N T A → OpOf N T A
 without x = each_list (λ p r os. drop_op x os)
 
--- the tree with operation x, and what is inside it, at a place in place of where it stood
+-- the tree with operation x, and everything inside it, moved to a place
 abbrev pub put_found : {N T A : Type 0} → Place → Option (OpOf N T A) → OpOf N T A → OpOf N T A
 put_found place None t = t
 put_found place (Some o) t = put place o t

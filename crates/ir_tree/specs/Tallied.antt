@@ -6,18 +6,18 @@ use Rattle.ir_tree.specs.Ids.{op_count}
 use Rattle.ir_tree.specs.Limits.{depth, every, op_fits, most_around}
 
 -- the tally before a walk
-abbrev pub nothing_met : Tally
-nothing_met = record { ops = 0; shallow = true; fits = true }
+abbrev pub nothing_visited : Tally
+nothing_visited = record { ops = 0; shallow = true; fits = true }
 
--- an operation is met
+-- an operation is visited
 abbrev pub with_op : Op → Tally → Tally
 with_op o t = record { ops = min (t.ops + 1) (2 ^ 64 - 1); shallow = t.shallow; fits = t.fits && op_fits o }
 
--- the walk goes into an operation, where so many more may stand around it
+-- the walk enters a nested operation, with this many levels left of the depth limit
 abbrev pub inwards : ℕ → Tally → Tally
 inwards spare t = record { ops = t.ops; shallow = t.shallow && nat_lt 0 spare; fits = t.fits }
 
--- the tally behind an operation, which so many more may stand around
+-- the tally after an operation, inside which this many levels are left of the depth limit
 abbrev mutual
   pub tallied : ℕ → Op → Tally → Tally
   tallied spare (op h rs) t = regions_tallied spare rs (with_op (op h rs) t)
@@ -34,6 +34,6 @@ abbrev mutual
   ops_tallied spare no_ops t = t
   ops_tallied spare (next o os) t = ops_tallied spare os (tallied (spare - 1) o (inwards spare t))
 
--- what a walk of the whole tree finds
+-- the tally after a walk of the whole tree
 abbrev pub tally_of : Op → Tally
 tally_of t = record { ops = min (op_count t) (2 ^ 64 - 1); shallow = nat_le (depth t) most_around; fits = every op_fits t }

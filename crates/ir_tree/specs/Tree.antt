@@ -1,8 +1,8 @@
--- Operations as data: what a tree of operations is.
+-- Trees of operations as data.
 use Rattle.std.specs.Prelude.{ℕ, ◌+◌, List, [], ◌∷◌}
 use Rattle.ir_tree.specs.declared.value.Value.{Value}
 
--- what an operation has beside its regions, where its name is of N, types are of T and attributes of A
+-- the head of an operation: everything except its regions, with names of N, types of T and attributes of A
 pub record HeadOf (N T A : Type 0) : Type 0 where
   pub id : ℕ
   pub name : N
@@ -21,7 +21,7 @@ mutual
     no_regions : RegionsOf N T A
     region : RegionOf N T A → RegionsOf N T A → RegionsOf N T A
 
-  -- a region has no block, or one of arguments, by their types, and operations
+  -- a region has no block, or a block of arguments, given by their types, and operations
   pub data RegionOf (N T A : Type 0) : Type 0 where
     empty : RegionOf N T A
     block : List T → OpsOf N T A → RegionOf N T A
@@ -31,7 +31,7 @@ mutual
     no_ops : OpsOf N T A
     next : OpOf N T A → OpsOf N T A → OpsOf N T A
 
--- the trees whose names, types and attributes are numbers of a context
+-- the trees whose names, types and attributes are ids of a context
 abbrev pub Head : Type 0
 Head = HeadOf ℕ ℕ ℕ
 
@@ -47,15 +47,15 @@ Region = RegionOf ℕ ℕ ℕ
 abbrev pub Ops : Type 0
 Ops = OpsOf ℕ ℕ ℕ
 
--- what an operation has beside its regions
+-- the head of an operation
 abbrev pub head : {N T A : Type 0} → OpOf N T A → HeadOf N T A
 head (op h rs) = h
 
--- its regions
+-- the regions of an operation
 abbrev pub regions : {N T A : Type 0} → OpOf N T A → RegionsOf N T A
 regions (op h rs) = rs
 
--- how many regions there are
+-- the number of regions
 abbrev pub region_count : {N T A : Type 0} → RegionsOf N T A → ℕ
 region_count no_regions = 0
 region_count (region r rs) = region_count rs + 1
@@ -69,7 +69,7 @@ abbrev pub ops_of : {N T A : Type 0} → List (OpOf N T A) → OpsOf N T A
 ops_of [] = no_ops
 ops_of (o ∷ os) = next o (ops_of os)
 
--- and back
+-- lists of regions and operations
 abbrev pub region_list : {N T A : Type 0} → RegionsOf N T A → List (RegionOf N T A)
 region_list no_regions = []
 region_list (region r rs) = r ∷ region_list rs
@@ -78,7 +78,7 @@ abbrev pub op_list : {N T A : Type 0} → OpsOf N T A → List (OpOf N T A)
 op_list no_ops = []
 op_list (next o os) = o ∷ op_list os
 
--- how many operations and regions there are, by which a walk ends
+-- the number of operations and regions, the measure of a walk
 abbrev mutual
   pub op_size : Op → ℕ
   op_size (op h rs) = regions_size rs + 1

@@ -4,19 +4,19 @@ use Rattle.ir_tree.specs.declared.value.Value.{Value}
 use Rattle.ir_tree.specs.declared.value.Value.TheVariants.{Result, Arg}
 use Rattle.ir_tree.specs.Tree.{OpOf, op, RegionsOf, no_regions, region, RegionOf, empty, block, OpsOf, no_ops, next}
 
--- whether two values are one
+-- whether two values are equal
 abbrev pub same_value : Value → Value → Bool
 same_value (Result x k) (Result y l) = eqb x y && eqb k l
 same_value (Result x k) (Arg y s l) = false
 same_value (Arg x r k) (Result y l) = false
 same_value (Arg x r k) (Arg y s l) = eqb x y && (eqb r s && eqb k l)
 
--- the uses of v among operands of operation x, the first of which has the number k: user and number
+-- the uses of v among operands of operation x, whose first operand has index k: user and index
 abbrev pub operand_uses : Value → ℕ → ℕ → List Value → List (ℕ × ℕ)
 operand_uses v x k [] = []
 operand_uses v x k (w ∷ ws) = if same_value v w then (x, k) ∷ operand_uses v x (k + 1) ws else operand_uses v x (k + 1) ws
 
--- the uses of v: its users in pre-order, with the numbers of the operands
+-- the uses of v: its users in pre-order, with the indices of the operands
 abbrev mutual
   pub uses_of : {N T A : Type 0} → Value → OpOf N T A → List (ℕ × ℕ)
   uses_of v (op h rs) = operand_uses v h.id 0 h.operands ++ regions_uses v rs

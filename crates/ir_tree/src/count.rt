@@ -1,4 +1,4 @@
-//! How many operations a tree has, and how deep it is.
+//! The number of operations of a tree, and its depth.
 ghost use Rattle.std.specs.Prelude.{◌≡◌, ◌-◌, ◌^◌, min};
 ghost use Rattle.std.specs.Prelude.{◌+◌};
 ghost use Rattle.std.specs.Prelude.{length};
@@ -8,7 +8,7 @@ ghost use Rattle.ir_tree.specs.View.{region_view};
 
 use crate::tree::{TreeOp, TreeRegion};
 
-/// The number of operations, the root included, or the greatest u64 where there are more.
+/// Returns the number of operations, the root included. Saturates at `u64::MAX`.
 #[cycle(count)]
 pub fn op_count(root: &TreeOp) -> u64
     ensures { result ≡ min (count_of root.now) (2 ^ 64 - 1) }
@@ -20,7 +20,7 @@ pub fn op_count(root: &TreeOp) -> u64
     count
 }
 
-/// The number of operations in a region, at any depth, or the greatest u64 where there are more.
+/// Returns the number of operations in a region, at every depth. Saturates at `u64::MAX`.
 #[cycle(count)]
 fn region_op_count(region: &TreeRegion) -> u64
     ensures { result ≡ min (length (region_ids (region_view region.now))) (2 ^ 64 - 1) }
@@ -34,8 +34,7 @@ fn region_op_count(region: &TreeRegion) -> u64
     count
 }
 
-/// The most operations that stand around one operation of the tree, or the greatest u64 where there are
-/// more. A tree without inner operations has 0.
+/// Returns the greatest nesting depth in the tree: 0 if the root has no operations inside it. Saturates at `u64::MAX`.
 #[cycle(depth)]
 pub fn depth(root: &TreeOp) -> u64
     ensures { result ≡ min (depth_of root.now) (2 ^ 64 - 1) }
@@ -47,8 +46,7 @@ pub fn depth(root: &TreeOp) -> u64
     most
 }
 
-/// The most operations around one operation of a region, that with the region included, or the greatest u64 where
-/// there are more.
+/// Returns the greatest nesting depth in a region; its operations have depth 1. Saturates at `u64::MAX`.
 #[cycle(depth)]
 fn depth_of_region(region: &TreeRegion) -> u64
     ensures { result ≡ min (region_depth (region_view region.now)) (2 ^ 64 - 1) }

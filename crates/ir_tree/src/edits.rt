@@ -1,4 +1,4 @@
-//! Trees with an edit made: a plain program that builds the whole tree anew.
+//! Edits of a tree that rebuild the whole tree.
 ghost use Rattle.std.specs.Prelude.{◌≡◌, ℕ, IfOk, OnOk, map};
 ghost use Rattle.ir_tree.specs.Tree.{Head, Ops, op, block, head, regions_of, ops_of};
 ghost use Rattle.ir_tree.specs.Edits.{with_head};
@@ -9,43 +9,43 @@ use crate::tree::{TreeOp, TreeRegion};
 use ir_types::ids::{OpId, TypeId};
 use std::alloc::{AllocError, Global};
 
-/// An edit of what an operation has beside its regions.
+/// An edit of an operation's head: everything except its regions.
 pub trait HeadEdit {
-    /// What it makes of a head.
+    /// The head after the edit.
     ghost gives: { Self → Head → Head };
 
-    /// Makes the edit at one operation.
+    /// Edits one operation.
     fn apply(&self, op: &mut TreeOp) -> Result<(), AllocError>
         ensures { OnOk result (op.new ≡ with_head (gives self.now) op.old) };
 }
 
 /// An edit of the list of operations of a block.
 pub trait ListEdit {
-    /// What it makes of the list, by the operation that has the block and the number of its region.
+    /// The list after the edit, for the operation that has the block and the index of its region.
     ghost gives: { Self → ℕ → ℕ → Ops → Ops };
 
-    /// Makes the edit at one list.
+    /// Edits one list.
     fn apply(&self, owner: OpId, region: usize, ops: &mut Vec<TreeOp>) -> Result<(), AllocError>
         ensures { OnOk result (ops_of ops.new.items ≡ gives self.now owner region (ops_of ops.old.items)) };
 }
 
-/// The edit that leaves all as it is.
+/// The edit that changes nothing.
 #[derive(Drop)]
-pub struct Nothing;
+pub struct NoEdit;
 
-impl HeadEdit for Nothing {
+impl HeadEdit for NoEdit {
     ghost gives = { λ _ h. h };
 
-    /// Leaves the operation as it is.
+    /// Leaves the operation unchanged.
     fn apply(&self, _op: &mut TreeOp) -> Result<(), AllocError> {
         Ok(())
     }
 }
 
-impl ListEdit for Nothing {
+impl ListEdit for NoEdit {
     ghost gives = { λ _ p r os. os };
 
-    /// Leaves the list as it is.
+    /// Leaves the list unchanged.
     fn apply(
         &self,
         _owner: OpId,
@@ -56,7 +56,7 @@ impl ListEdit for Nothing {
     }
 }
 
-/// A tree with the edits made at each operation and at each list, those inside first.
+/// Returns a copy of the tree with the edits made at each operation and at each list, innermost first.
 #[cycle(edit)]
 pub fn edited<H: HeadEdit, L: ListEdit>(
     alloc: Global,
@@ -70,7 +70,7 @@ pub fn edited<H: HeadEdit, L: ListEdit>(
     op_of(alloc, root, regions, heads)
 }
 
-/// Copies of the regions of `owner` with the edits made inside them.
+/// Returns copies of the regions of `owner`, with the edits made inside them.
 #[cycle(edit)]
 fn edited_regions<H: HeadEdit, L: ListEdit>(
     alloc: Global,
@@ -88,7 +88,7 @@ fn edited_regions<H: HeadEdit, L: ListEdit>(
     Ok(copies)
 }
 
-/// A copy of region `number` of `owner` with the edits made inside it.
+/// Returns a copy of region `number` of `owner`, with the edits made inside it.
 #[cycle(edit)]
 fn edited_region<H: HeadEdit, L: ListEdit>(
     alloc: Global,
@@ -112,7 +112,7 @@ fn edited_region<H: HeadEdit, L: ListEdit>(
     }
 }
 
-/// An operation with an edited copy of the head of another, and with these regions.
+/// Returns an operation with an edited copy of another operation's head, and with these regions.
 fn op_of<H: HeadEdit>(
     alloc: Global,
     root: &TreeOp,
@@ -126,7 +126,7 @@ fn op_of<H: HeadEdit>(
     Ok(copy)
 }
 
-/// An operation with a copy of the head of another, and with these regions.
+/// Returns an operation with a copy of another operation's head, and with these regions.
 fn with_regions(
     alloc: Global,
     root: &TreeOp,
@@ -145,7 +145,7 @@ fn with_regions(
     })
 }
 
-/// A region whose block has these operations, edited as a list, and a copy of the arguments.
+/// Returns a region whose block has a copy of the arguments, and these operations, edited as a list.
 fn block_of<L: ListEdit>(
     alloc: Global,
     owner: OpId,

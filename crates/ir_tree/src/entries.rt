@@ -1,9 +1,9 @@
-//! Entries of dictionaries, set and removed.
+//! Sets and removes entries of dictionaries.
 ghost use Rattle.std.specs.Prelude.{◌≡◌, ◌++◌, ◌∷◌, IfOk, OnOk};
 ghost use Rattle.ir_tree.specs.Edits.{put_entry, drop_entry, change_entry, change_part, at, with_entry};
 ghost use Rattle.ir_tree.specs.Meaning.{key_before_in};
 
-use crate::edits::{HeadEdit, Nothing, edited};
+use crate::edits::{HeadEdit, NoEdit, edited};
 use crate::place::Part;
 use crate::sound::comes_before;
 use crate::tree::TreeOp;
@@ -14,7 +14,7 @@ use std::alloc::{AllocError, Global};
 /// The entries of a dictionary: keys and attributes.
 type Entries = Vec<(NameId, AttrId)>;
 
-/// An entry that is set, or removed.
+/// An entry to set or to remove.
 #[derive(Drop)]
 struct NewEntry<'a> {
     alloc: Global,
@@ -28,7 +28,7 @@ struct NewEntry<'a> {
 impl<'a> HeadEdit for NewEntry<'a> {
     ghost gives = { λ e. at e.op (change_part e.part (change_entry (key_before_in e.ctx.now) e.key e.value)) };
 
-    /// Sets or removes the entry in the dictionary meant, where the operation is the one meant.
+    /// Sets or removes the entry, if this is the operation.
     fn apply(&self, op: &mut TreeOp) -> Result<(), AllocError> {
         if op.id != self.op {
             return Ok(());
@@ -41,7 +41,7 @@ impl<'a> HeadEdit for NewEntry<'a> {
 }
 
 impl<'a> NewEntry<'a> {
-    /// Sets the entry in a dictionary, or removes it.
+    /// Sets or removes the entry in a dictionary.
     fn change(&self, entries: &mut Entries) -> Result<(), AllocError>
         ensures { OnOk result (entries.new.items ≡ change_entry (key_before_in self.now.ctx.now) self.now.key self.now.value entries.old.items) }
     {
@@ -50,7 +50,7 @@ impl<'a> NewEntry<'a> {
     }
 }
 
-/// The tree with an attribute at a key of one dictionary of an operation, or with no entry there.
+/// Returns the tree with a key of one dictionary of an operation set to an attribute, or removed.
 #[tactic(auto, using(crate::proofs::Edited::heads_edited))]
 pub fn with_entry_set(
     alloc: Global,
@@ -71,10 +71,10 @@ pub fn with_entry_set(
         key,
         value,
     };
-    edited(alloc, root, &edit, &Nothing)
+    edited(alloc, root, &edit, &NoEdit)
 }
 
-/// A copy of entries with an attribute at a key, or without that key.
+/// Returns a copy of entries with a key set to an attribute, or removed.
 fn changed(
     alloc: Global,
     ctx: &Context,
@@ -90,7 +90,7 @@ fn changed(
     }
 }
 
-/// A copy of entries, in the order of their keys, with an attribute at a key.
+/// Returns a copy of sorted entries with a key set to an attribute.
 fn placed(
     alloc: Global,
     ctx: &Context,
@@ -115,7 +115,7 @@ fn placed(
     ended(placed, &(key, attr), rest)
 }
 
-/// Entries with one more behind them, and then others.
+/// Returns entries with one more, and then others, appended.
 fn ended(
     entries: Entries,
     entry: &(NameId, AttrId),
@@ -129,7 +129,7 @@ fn ended(
     Ok(entries)
 }
 
-/// A copy of entries without the one of a key, if there is one.
+/// Returns a copy of entries without a key.
 fn dropped(
     alloc: Global,
     ctx: &Context,

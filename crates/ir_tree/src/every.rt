@@ -1,4 +1,4 @@
-//! Tests of every operation of a tree, and the limits.
+//! Tests of every operation of a tree.
 ghost use Rattle.std.specs.Prelude.{◌≡◌, Bool};
 ghost use Rattle.ir_tree.specs.Tree.{Op};
 ghost use Rattle.ir_tree.specs.Limits.{every, region_every};
@@ -8,15 +8,15 @@ use crate::tree::{TreeOp, TreeRegion};
 
 /// A test of one operation.
 pub trait OpTest {
-    /// Which operations pass.
+    /// The operations that pass.
     ghost passes: { Self → Op → Bool };
 
-    /// Whether the operation passes.
+    /// Returns whether the operation passes.
     fn test(&self, op: &TreeOp) -> bool
         ensures { result ≡ passes self.now op.now };
 }
 
-/// Whether every operation of a tree passes a test.
+/// Returns whether every operation of a tree passes a test.
 #[cycle(every)]
 pub fn every_op<T: OpTest>(root: &TreeOp, test: &T) -> bool
     ensures { result ≡ every (T.passes test.now) root.now }
@@ -33,7 +33,7 @@ pub fn every_op<T: OpTest>(root: &TreeOp, test: &T) -> bool
     true
 }
 
-/// Whether every operation in a region, at any depth, passes a test.
+/// Returns whether every operation in a region, at every depth, passes a test.
 #[cycle(every)]
 fn every_op_of_region<T: OpTest>(region: &TreeRegion, test: &T) -> bool
     ensures { result ≡ region_every (T.passes test.now) (region_view region.now) }

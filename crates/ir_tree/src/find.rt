@@ -1,4 +1,4 @@
-//! Looking an operation up, and listing a tree's ids.
+//! Finds an operation, and lists a tree's ids.
 ghost use Rattle.std.specs.Prelude.{◌≡◌, ◌++◌, OnOk, IfOk, option_map};
 ghost use Rattle.ir_tree.specs.Ids.{find as the_first, region_find, ids as ids_of, region_ids};
 ghost use Rattle.ir_tree.specs.View.{region_view};
@@ -7,7 +7,7 @@ use crate::tree::{TreeOp, TreeRegion};
 use ir_types::ids::OpId;
 use std::alloc::{AllocError, Global};
 
-/// The first operation with an id, each operation before those inside it.
+/// Returns the first operation with an id, in pre-order, or `None` if there is none.
 #[cycle(find)]
 pub fn find(root: &TreeOp, id: OpId) -> Option<&TreeOp>
     ensures { option_map (λ o. o.now) result ≡ the_first id root.now }
@@ -24,7 +24,7 @@ pub fn find(root: &TreeOp, id: OpId) -> Option<&TreeOp>
     None
 }
 
-/// The first operation with an id in a region, each operation before those inside it.
+/// Returns the first operation with an id in a region, in pre-order, or `None` if there is none.
 #[cycle(find)]
 fn find_in_region(region: &TreeRegion, id: OpId) -> Option<&TreeOp>
     ensures { option_map (λ o. o.now) result ≡ region_find id (region_view region.now) }
@@ -40,7 +40,7 @@ fn find_in_region(region: &TreeRegion, id: OpId) -> Option<&TreeOp>
     None
 }
 
-/// The ids of a tree, each operation before those inside it.
+/// Returns the ids of a tree, in pre-order.
 pub fn list_ids(alloc: Global, root: &TreeOp) -> Result<Vec<OpId>, AllocError>
     ensures { IfOk result (λ v. v.items ≡ ids_of root.now) }
 {
@@ -49,7 +49,7 @@ pub fn list_ids(alloc: Global, root: &TreeOp) -> Result<Vec<OpId>, AllocError>
     Ok(out)
 }
 
-/// Adds the ids of a tree to a list, in pre-order.
+/// Appends the ids of a tree, in pre-order.
 #[cycle(ids)]
 fn push_ids(root: &TreeOp, out: &mut Vec<OpId>) -> Result<(), AllocError>
     ensures { OnOk result (out.new.items ≡ out.old.items ++ ids_of root.now) }
@@ -61,7 +61,7 @@ fn push_ids(root: &TreeOp, out: &mut Vec<OpId>) -> Result<(), AllocError>
     Ok(())
 }
 
-/// Adds the ids of the operations in a region to a list, in pre-order.
+/// Appends the ids of the operations in a region, in pre-order.
 #[cycle(ids)]
 fn push_region_ids(region: &TreeRegion, out: &mut Vec<OpId>) -> Result<(), AllocError>
     ensures { OnOk result (out.new.items ≡ out.old.items ++ region_ids (region_view region.now)) }

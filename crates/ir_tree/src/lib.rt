@@ -1,8 +1,7 @@
-//! What is visible where in a tree of operations, whether it is formed and sound, and each edit of it are what
-//! their definitions say.
+//! Trees of operations: visibility, well-formedness, soundness in a context, and plain edits. Each is proved equal to
+//! its definition.
 #![tactic(auto)]
 
-pub mod changes;
 pub mod check;
 pub mod copy;
 pub mod count;
@@ -19,6 +18,7 @@ mod scope;
 pub mod sound;
 mod tally;
 pub mod tree;
+pub mod tree_edits;
 pub mod uses;
 pub mod value;
 pub mod visible;

@@ -8,31 +8,31 @@ use crate::count::op_count;
 use crate::every::{OpTest, every_op};
 use crate::tree::{TreeOp, TreeRegion};
 
-/// The most operations of a module, the root included.
+/// The limit of operations of a module, the root included.
 pub const MOST_OPS: u64 = 1_048_576;
 
-/// The most operations around an operation.
+/// The depth limit: the number of ancestors of an operation.
 pub const MOST_AROUND: u64 = 128;
 
-/// The most operands, results, arguments of a block and entries of a dictionary, each.
+/// The limit of operands, of results, of arguments of a block and of entries of a dictionary.
 pub const MOST_ITEMS: usize = 256;
 
-/// The most regions of an operation.
+/// The limit of regions of an operation.
 pub const MOST_REGIONS: usize = 16;
 
-/// The test of what an operation has of its own.
+/// The test of one operation's counts.
 struct Counts;
 
 impl OpTest for Counts {
     ghost passes = { λ _. op_fits };
 
-    /// Whether each count of the operation is within its limit.
+    /// Returns whether each count of the operation is within its limit.
     fn test(&self, op: &TreeOp) -> bool {
         fits(op)
     }
 }
 
-/// Whether every count of a tree is within its limit: operations, and of each operation operands,
+/// Returns whether every count of a tree is within its limit: its operations, and for each operation the operands,
 /// results, entries of a dictionary, regions and arguments of a block.
 pub fn counts_are_within(root: &TreeOp) -> bool
     ensures { result ≡ counts_fit root.now }
@@ -40,7 +40,7 @@ pub fn counts_are_within(root: &TreeOp) -> bool
     op_count(root) <= MOST_OPS && every_op(root, &Counts)
 }
 
-/// Whether what an operation has of its own is within the limits.
+/// Returns whether the counts of an operation are within the limits.
 #[tactic(auto, using(crate::proofs::Lists::region_count_of_list))]
 pub(crate) fn fits(op: &TreeOp) -> bool
     ensures { result ≡ op_fits op.now }
@@ -48,7 +48,7 @@ pub(crate) fn fits(op: &TreeOp) -> bool
     head_is_within(op) && op.regions.len() <= MOST_REGIONS && all_arguments_are_within(&op.regions)
 }
 
-/// Whether an operation has no more operands, results, properties and attributes than it may, each.
+/// Returns whether the operands, results, properties and attributes of an operation are within the limits.
 fn head_is_within(op: &TreeOp) -> bool
     ensures { result ≡ head_fits (head op.now) }
 {
@@ -58,7 +58,7 @@ fn head_is_within(op: &TreeOp) -> bool
         && op.attrs.len() <= MOST_ITEMS
 }
 
-/// Whether no block of some regions has more arguments than it may.
+/// Returns whether the arguments of each block of some regions are within the limit.
 fn all_arguments_are_within(regions: &Vec<TreeRegion>) -> bool
     ensures { result ≡ all_arguments_pass items_fit (regions_of (map region_view regions.now.items)) }
 {
@@ -70,7 +70,7 @@ fn all_arguments_are_within(regions: &Vec<TreeRegion>) -> bool
     true
 }
 
-/// Whether the block of a region, if it has one, has no more arguments than it may.
+/// Returns whether the arguments of the block of a region, if it has one, are within the limit.
 fn arguments_are_within(region: &TreeRegion) -> bool
     ensures { result ≡ arguments_pass items_fit (region_view region.now) }
 {

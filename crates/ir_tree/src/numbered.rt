@@ -11,7 +11,7 @@ use ir_types::refusal::Refusal;
 use std::alloc::Global;
 use std::collections::HashSet;
 
-/// Whether the ids are `from`, `from + 1`, .. in pre-order: each operation before those inside it.
+/// Returns whether the ids are `from`, `from + 1`, .. in pre-order.
 #[tactic(auto, using(crate::proofs::Counted::numbered_from_after))]
 pub fn numbered(tree: &TreeOp, from: u32) -> bool
     ensures { IsTrue result ↔ IsNumberedFrom from tree.now }
@@ -19,7 +19,7 @@ pub fn numbered(tree: &TreeOp, from: u32) -> bool
     number_after(tree, u64::from(from)).is_some()
 }
 
-/// The number after those of the tree, where its ids are `from`, `from + 1`, ..
+/// Returns the number after the ids of the tree, or `None` if they aren't `from`, `from + 1`, ..
 #[cycle(numbered)]
 fn number_after(tree: &TreeOp, from: u64) -> Option<u64>
     requires { from ≤ 2 ^ 32 }
@@ -39,7 +39,7 @@ fn number_after(tree: &TreeOp, from: u64) -> Option<u64>
     Some(next)
 }
 
-/// The number after the ids in a region, where they are `from`, `from + 1`, .. in pre-order.
+/// Returns the number after the ids in a region, or `None` if they aren't `from`, `from + 1`, .. in pre-order.
 #[cycle(numbered)]
 fn number_after_region(region: &TreeRegion, from: u64) -> Option<u64>
     requires { from ≤ 2 ^ 32 }
@@ -58,7 +58,7 @@ fn number_after_region(region: &TreeRegion, from: u64) -> Option<u64>
     Some(next)
 }
 
-/// Whether no two operations have one id. It takes memory for the ids.
+/// Returns whether all ids are distinct. Takes memory for the ids.
 ///
 /// Refusals: `Memory`.
 pub fn distinct(alloc: Global, root: &TreeOp) -> Result<bool, Refusal>

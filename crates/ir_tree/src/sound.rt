@@ -1,4 +1,4 @@
-//! Whether a tree's numbers are a context's, and its dictionaries in order.
+//! Checks that a tree's names, types and attributes are of a context, and that its dictionaries are sorted.
 ghost use Rattle.std.specs.Prelude.{◌≡◌, ◌↔◌, map, IsTrue};
 ghost use Rattle.std.specs.List.{list_all};
 ghost use Rattle.ir_types.specs.Terms.{name_term};
@@ -13,30 +13,30 @@ use crate::tree::{TreeOp, TreeRegion};
 use ir_types::context::Context;
 use ir_types::ids::{AttrId, NameId, TypeId};
 
-/// Whether the names, types and attributes of a tree are numbers of a context, and each dictionary is
-/// sorted by its keys' bytes, each key once (Language Reference, "Attributes": keys are unique).
+/// Returns whether the names, types and attributes of a tree are ids of a context, and each dictionary is sorted by the
+/// bytes of its keys, without duplicates (Language Reference, "Attributes": keys are unique).
 pub fn sound(ctx: &Context, tree: &TreeOp) -> bool
     ensures { IsTrue result ↔ IsSoundIn ctx.now tree.now }
 {
-    every_op(tree, &Known { ctx }) && every_op(tree, &Sorted { ctx })
+    every_op(tree, &InternedTest { ctx }) && every_op(tree, &SortedTest { ctx })
 }
 
-/// The test of an operation's own numbers.
+/// The test that one operation's ids are of the context.
 #[derive(Drop)]
-struct Known<'a> {
+struct InternedTest<'a> {
     ctx: &'a Context,
 }
 
-impl<'a> OpTest for Known<'a> {
+impl<'a> OpTest for InternedTest<'a> {
     ghost passes = { λ t. op_passes (is_name t.ctx.now) (is_type t.ctx.now) (is_attr t.ctx.now) };
 
-    /// Whether each number that the operation has of its own is the context's.
+    /// Returns whether the ids of the operation are of the context.
     fn test(&self, op: &TreeOp) -> bool {
         head_is_known(self.ctx, op) && arguments_are_known(self.ctx, &op.regions)
     }
 }
 
-/// Whether the name of an operation, the types of its results and its entries are a context's.
+/// Returns whether the name of an operation, the types of its results and its entries are of a context.
 fn head_is_known(ctx: &Context, op: &TreeOp) -> bool
     ensures { result ≡ head_passes (is_name ctx.now) (is_type ctx.now) (is_attr ctx.now) (head op.now) }
 {
@@ -46,7 +46,7 @@ fn head_is_known(ctx: &Context, op: &TreeOp) -> bool
         && entries_are_known(ctx, &op.attrs)
 }
 
-/// Whether the types of the arguments of the blocks of some regions are a context's.
+/// Returns whether the types of the arguments of the blocks of some regions are of a context.
 fn arguments_are_known(ctx: &Context, regions: &Vec<TreeRegion>) -> bool
     ensures { result ≡ all_arguments_pass (list_all (is_type ctx.now)) (regions_of (map region_view regions.now.items)) }
 {
@@ -60,14 +60,14 @@ fn arguments_are_known(ctx: &Context, regions: &Vec<TreeRegion>) -> bool
     true
 }
 
-/// Whether each of some types is a context's.
+/// Returns whether all of some types are of a context.
 fn types_are_known(ctx: &Context, types: &Vec<TypeId>) -> bool
     ensures { result ≡ list_all (is_type ctx.now) types.now.items }
 {
     types.iter().all(|ty| ctx.has_type(*ty))
 }
 
-/// Whether the key and the attribute of each entry are a context's.
+/// Returns whether the key and the attribute of each entry are of a context.
 fn entries_are_known(ctx: &Context, entries: &Vec<(NameId, AttrId)>) -> bool
     ensures { result ≡ list_all (entry_passes (is_name ctx.now) (is_attr ctx.now)) entries.now.items }
 {
@@ -76,22 +76,22 @@ fn entries_are_known(ctx: &Context, entries: &Vec<(NameId, AttrId)>) -> bool
         .all(|entry| ctx.has_name(entry.0) && ctx.has_attr(entry.1))
 }
 
-/// The test of the order of an operation's dictionaries.
+/// The test that one operation's dictionaries are sorted.
 #[derive(Drop)]
-struct Sorted<'a> {
+struct SortedTest<'a> {
     ctx: &'a Context,
 }
 
-impl<'a> OpTest for Sorted<'a> {
+impl<'a> OpTest for SortedTest<'a> {
     ghost passes = { λ t. dictionaries_rise (key_before_in t.ctx.now) };
 
-    /// Whether both dictionaries of the operation are sorted by their keys, each key once.
+    /// Returns whether both dictionaries of the operation are sorted by their keys, without duplicates.
     fn test(&self, op: &TreeOp) -> bool {
         is_sorted(self.ctx, &op.props) && is_sorted(self.ctx, &op.attrs)
     }
 }
 
-/// Whether entries rise by the bytes of their keys, so that no key is there twice.
+/// Returns whether entries are strictly increasing by the bytes of their keys.
 fn is_sorted(ctx: &Context, entries: &Vec<(NameId, AttrId)>) -> bool
     ensures { result ≡ rises (key_before_in ctx.now) entries.now.items }
 {
@@ -108,7 +108,7 @@ fn is_sorted(ctx: &Context, entries: &Vec<(NameId, AttrId)>) -> bool
     true
 }
 
-/// Whether a key comes before another by its bytes.
+/// Returns whether a key is before another by its bytes.
 pub fn comes_before(ctx: &Context, one: NameId, other: NameId) -> bool
     ensures { result ≡ key_before_in ctx.now one other }
 {
@@ -117,7 +117,7 @@ pub fn comes_before(ctx: &Context, one: NameId, other: NameId) -> bool
         .is_lt()
 }
 
-/// The bytes of a name, or none where the number is no name's.
+/// Returns the bytes of a name, or no bytes if the name isn't of the context.
 fn bytes_or_none(ctx: &Context, name: NameId) -> &[u8]
     ensures { result.now ≡ name_term ctx.now name }
 {

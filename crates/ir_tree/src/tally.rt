@@ -1,26 +1,26 @@
-//! What a walk through a tree counts.
+//! The counts of a walk through a tree.
 ghost use Rattle.std.specs.Prelude.{◌≡◌};
-ghost use Rattle.ir_tree.specs.Tallied.{nothing_met, with_op, inwards};
+ghost use Rattle.ir_tree.specs.Tallied.{nothing_visited, with_op, inwards};
 
 use crate::limits::fits;
 use crate::tree::TreeOp;
 
-/// How many operations a walk has met, whether none of them stands in too many others, and whether what
-/// each has of its own is within its limits. The count stays at the greatest u64 where there are more.
+/// The number of operations that a walk has visited, whether all keep within the depth limit, and whether all keep
+/// within the limits of counts. The number saturates at `u64::MAX`.
 #[derive(Drop)]
 pub struct Tally {
-    /// How many operations were met.
+    /// The number of visited operations.
     pub ops: u64,
-    /// Whether none of them stands in too many others.
+    /// Whether all visited operations keep within the depth limit.
     pub shallow: bool,
-    /// Whether what each has of its own is within its limits.
+    /// Whether all visited operations keep within the limits of counts.
     pub fits: bool,
 }
 
 impl Tally {
-    /// The tally before a walk.
+    /// Returns the tally before a walk.
     pub fn new() -> Tally
-        ensures { result ≡ nothing_met }
+        ensures { result ≡ nothing_visited }
     {
         Tally {
             ops: 0,
@@ -37,7 +37,7 @@ impl Tally {
         self.fits = self.fits && fits(op);
     }
 
-    /// Goes into an operation, where `spare` more may stand around it.
+    /// Enters a nested operation, with `spare` levels left of the depth limit.
     pub fn go_in(&mut self, spare: u64)
         ensures { self.new ≡ inwards spare self.old }
     {

@@ -1,39 +1,39 @@
-//! Operations with all that they hold.
+//! Trees of operations.
 use crate::value::Value;
 use ir_types::ids::{AttrId, NameId, OpId, TypeId};
 use std::marker::Model;
 
-/// An operation with all that it holds (Language Reference, "Operations").
+/// An operation with everything inside it (Language Reference, "Operations").
 ///
-/// It has a result for each of `results`, of that type. Each dictionary has entries of a key and an
-/// attribute. Names, types and attributes are numbers of one context.
+/// It has a result for each type of `results`. The entries of a dictionary are pairs of a key and an attribute. Names,
+/// types and attributes are ids of one context.
 #[cycle(tree)]
 #[derive(Drop)]
 pub struct TreeOp {
-    /// Its id, by which it is found in the tree.
+    /// The id of the operation, unique in the tree.
     pub id: OpId,
-    /// Its name, with the dialect.
+    /// The name, with the dialect.
     pub name: NameId,
-    /// The values that it takes.
+    /// The operands.
     pub operands: Vec<Value>,
-    /// The types of its results.
+    /// The types of the results.
     pub results: Vec<TypeId>,
-    /// Its properties, by key.
+    /// The properties, by key.
     pub props: Vec<(NameId, AttrId)>,
-    /// Its discardable attributes, by key.
+    /// The discardable attributes, by key.
     pub attrs: Vec<(NameId, AttrId)>,
-    /// Its regions, by number.
+    /// The regions, by index.
     pub regions: Vec<TreeRegion>,
 }
 
-/// A region of an operation: one without a block, or one whose block has arguments, of these types, and
-/// operations (Language Reference, "Regions" and "Blocks").
+/// A region of an operation, with one block or none. The block has arguments of types `args`, and operations (Language
+/// Reference, "Regions" and "Blocks").
 #[cycle(tree)]
 #[derive(Drop)]
 pub enum TreeRegion {
     /// A region without a block.
     Empty,
-    /// A region whose block has arguments of types `args`, and the operations `ops` in their order.
+    /// A region whose block has arguments of types `args`, and the operations `ops` in order.
     Block { args: Vec<TypeId>, ops: Vec<TreeOp> },
 }
 

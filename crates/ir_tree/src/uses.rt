@@ -8,7 +8,7 @@ use crate::value::Value;
 use ir_types::ids::OpId;
 use std::alloc::{AllocError, Global};
 
-/// The uses of a value in a tree: users in pre-order, with the numbers of the operands.
+/// Returns the uses of a value in a tree: users in pre-order, with the indices of the operands.
 pub fn list_uses(
     alloc: Global,
     root: &TreeOp,
@@ -21,7 +21,7 @@ pub fn list_uses(
     Ok(out)
 }
 
-/// Adds the uses of a value in a tree to a list, in pre-order.
+/// Appends the uses of a value in a tree, in pre-order.
 #[cycle(uses)]
 fn push_uses(root: &TreeOp, value: &Value, out: &mut Vec<(OpId, usize)>) -> Result<(), AllocError>
     ensures { OnOk result (out.new.items ≡ out.old.items ++ uses_of value.now root.now) }
@@ -33,7 +33,7 @@ fn push_uses(root: &TreeOp, value: &Value, out: &mut Vec<(OpId, usize)>) -> Resu
     Ok(())
 }
 
-/// Adds the uses of a value by the operations in a region to a list, in pre-order.
+/// Appends the uses of a value by the operations in a region, in pre-order.
 #[cycle(uses)]
 fn push_region_uses(
     region: &TreeRegion,
@@ -50,7 +50,7 @@ fn push_region_uses(
     Ok(())
 }
 
-/// Adds the uses of a value among the operands of `user` to a list, by the operands' numbers.
+/// Appends the uses of a value among the operands of `user`, in order.
 fn push_own_uses(
     user: OpId,
     operands: &Vec<Value>,
@@ -65,7 +65,7 @@ fn push_own_uses(
     Ok(())
 }
 
-/// Adds operand `number` of `user` to a list where it is the value.
+/// Appends operand `number` of `user` if it is the value.
 fn push_use(
     user: OpId,
     number: usize,
@@ -81,7 +81,7 @@ fn push_use(
     Ok(())
 }
 
-/// Whether two values are one.
+/// Returns whether two values are equal.
 pub fn is_same(one: &Value, other: &Value) -> bool
     ensures { result ≡ same_value one.now other.now }
 {

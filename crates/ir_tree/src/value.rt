@@ -1,18 +1,18 @@
-//! Values: what operations give, and what they take.
+//! SSA values.
 use ir_types::ids::OpId;
 
-/// A value: a result of an operation by its place, or an argument of the block of one of an operation's
-/// regions by the region's number and its place (Language Reference, "Identifiers and keywords", on SSA values).
+/// A value: a result of an operation, or an argument of the block of one of an operation's regions (Language Reference,
+/// "Identifiers and keywords", on SSA values).
 #[derive(Clone, Copy, Debug, PartialEq, Eq, Hash)]
 pub enum Value {
-    /// The result of an operation at a place.
+    /// A result: the operation, and the index of the result.
     Result(OpId, u32),
-    /// The argument, at a place, of the block of a region of an operation.
+    /// A block argument: the operation, the index of its region, and the index of the argument.
     Arg(OpId, u32, u32),
 }
 
 impl Default for Value {
-    /// The value that stands in places of lists that hold none.
+    /// Returns a placeholder value, for unused entries of lists.
     fn default() -> Value {
         Value::Result(OpId::new(0), 0)
     }

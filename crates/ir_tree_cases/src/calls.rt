@@ -1,4 +1,4 @@
-//! The answer to a line.
+//! Computes the answer to a line.
 use crate::edits;
 use crate::state::{State, add_attrs, add_name, add_types, renew};
 use ir_tree::check::check;
@@ -11,15 +11,15 @@ use ir_tree::sound::sound;
 use ir_tree::tree::TreeOp;
 use ir_tree::uses::list_uses;
 use ir_tree::visible::visible;
-use ir_tree_cases_base::words::{first, number, op_id, value};
+use ir_tree_cases_base::words::{first_word, number, op_id, value};
 use ir_tree_cases_base::{build, written};
 use ir_types::context::Context;
 use ir_types::refusal::Refusal;
 use std::alloc::{AllocError, Global};
 
-/// Adds to a context, or begins with a new one.
+/// Adds to a context, or replaces it by a new one.
 fn grow(alloc: Global, context: &mut Context, text: &str) -> Result<(), Refusal> {
-    let (what, rest) = first(text);
+    let (what, rest) = first_word(text);
     match what {
         "types" => add_types(context, number(rest)),
         "attrs" => add_attrs(context),
@@ -28,7 +28,7 @@ fn grow(alloc: Global, context: &mut Context, text: &str) -> Result<(), Refusal>
     }
 }
 
-/// Takes a tree, and answers how many operations it has.
+/// Replaces the tree, and returns the number of its operations.
 fn tree(alloc: Global, state: &mut State, text: &str) -> Result<String, AllocError> {
     let tree = build::tree(alloc, text)?;
     state.take(tree);
@@ -47,7 +47,7 @@ fn ids(alloc: Global, tree: &TreeOp) -> Result<String, AllocError> {
     written::ids(alloc, &ids)
 }
 
-/// The first operation with a number, with what is in it.
+/// Returns the first operation with an id, with everything inside it, as text.
 fn found(alloc: Global, tree: &TreeOp, text: &str) -> Result<String, AllocError> {
     match find(tree, op_id(text)) {
         Some(op) => written::tree(alloc, op),
@@ -60,19 +60,19 @@ fn uses(alloc: Global, tree: &TreeOp, text: &str) -> Result<String, AllocError> 
     written::uses(alloc, &uses)
 }
 
-/// The words of a copy.
+/// Returns a copy of the tree as text.
 fn copied(alloc: Global, tree: &TreeOp) -> Result<String, AllocError> {
     let other = copy(tree)?;
     written::tree(alloc, &other)
 }
 
-fn sees(alloc: Global, state: &State, text: &str) -> Result<String, AllocError> {
-    let (op, word) = first(text);
+fn dominated_by(alloc: Global, state: &State, text: &str) -> Result<String, AllocError> {
+    let (op, word) = first_word(text);
     let answer = visible(&state.context, &state.tree, op_id(op), value(word));
     written::truth(alloc, answer)
 }
 
-/// What is asked of a tree.
+/// Answers a read of the tree.
 fn asked(alloc: Global, state: &State, call: &str, rest: &str) -> Result<String, AllocError> {
     let tree = &state.tree;
     match call {
@@ -84,16 +84,16 @@ fn asked(alloc: Global, state: &State, call: &str, rest: &str) -> Result<String,
         "find" => found(alloc, tree, rest),
         "uses" => uses(alloc, tree, rest),
         "copy" => copied(alloc, tree),
-        "visible" => sees(alloc, state, rest),
+        "visible" => dominated_by(alloc, state, rest),
         "sound" => written::truth(alloc, sound(&state.context, tree)),
         "check" => written::done(alloc, check(alloc, &state.context, tree)),
         _ => written::word(alloc, "no call"),
     }
 }
 
-/// The answer to a line.
+/// Returns the answer to a line.
 pub fn answer(alloc: Global, state: &mut State, line: &str) -> Result<String, AllocError> {
-    let (call, rest) = first(line);
+    let (call, rest) = first_word(line);
     match call {
         "context" => written::done(alloc, grow(alloc, &mut state.context, rest)),
         "tree" => tree(alloc, state, rest),

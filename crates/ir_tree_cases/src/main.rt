@@ -1,4 +1,4 @@
-//! Answers the calls of trees that standard input has, one a line, one answer a line.
+//! Answers calls of trees. Standard input has one call a line, and each is answered with one line.
 #![tactic(auto)]
 
 mod calls;

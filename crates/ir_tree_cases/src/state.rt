@@ -1,4 +1,4 @@
-//! What lines speak of: a context and a tree.
+//! The state of a run: a context and a tree.
 use ir_tree::tree::TreeOp;
 use ir_tree_cases_base::build::bare;
 use ir_types::context::Context;
@@ -14,7 +14,7 @@ pub struct State {
 }
 
 impl State {
-    /// A new context and a bare operation.
+    /// Returns a state with a new context and an empty operation.
     pub fn new(alloc: Global) -> Result<State, Refusal> {
         let context = Context::new(alloc)?;
         Ok(State {
@@ -23,19 +23,19 @@ impl State {
         })
     }
 
-    /// Takes a tree in place of the one that there was.
+    /// Replaces the tree.
     pub fn take(&mut self, tree: TreeOp) {
         self.tree = tree;
     }
 }
 
-/// Begins with a new context.
+/// Replaces a context by a new one.
 pub fn renew(alloc: Global, context: &mut Context) -> Result<(), Refusal> {
     *context = Context::new(alloc)?;
     Ok(())
 }
 
-/// Adds the types `i1`, `i2`, .. to a context, so many.
+/// Adds `count` types `i1`, `i2`, .. to a context.
 pub fn add_types(context: &mut Context, count: u32) -> Result<(), Refusal> {
     for index in 0..count {
         let width = index.saturating_add(1);
@@ -47,7 +47,7 @@ pub fn add_types(context: &mut Context, count: u32) -> Result<(), Refusal> {
     Ok(())
 }
 
-/// Adds an attribute for each two flags to a context.
+/// Adds an attribute for each combination of two flags to a context.
 pub fn add_attrs(context: &mut Context) -> Result<(), Refusal> {
     for nsw in [false, true] {
         context.attr(AttrNode::Overflow { nsw, nuw: false })?;

@@ -1,21 +1,21 @@
-//! Trees from a line of words.
+//! Parses a tree from a line of words.
 //!
-//! `op:3` begins an operation, `op` one with the next number, and `end` ends it. Between them stand
-//! `name:5`, `use:2.0` and `use:1.0.0` for operands, `res:0`, `prop:39=0`, `attr:39=0`, `hole` for a region
-//! without a block, and `block`, behind which stand the block's `arg:0` and its operations. `4*res:0` is
-//! `res:0` four times. Two words stand for two each: `nest` for `op block`, `leaf` for `op end`.
+//! `op:3` starts an operation, `op` starts one with the next id, and `end` ends it. The words in between are: `name:5`;
+//! `use:2.0` and `use:1.0.0` for operands; `res:0`; `prop:39=0`; `attr:39=0`; `hole` for a region without a block; and
+//! `block`, followed by the block's `arg:0` and its operations. `4*res:0` is `res:0` four times. `nest` is short for
+//! `op block`, and `leaf` for `op end`.
 use crate::words::{attr_id, entry, name_id, number, type_id, value};
 use ir_tree::tree::{TreeOp, TreeRegion};
 use ir_tree::value::Value;
 use ir_types::ids::{AttrId, NameId, OpId, TypeId};
 use std::alloc::{AllocError, Global};
 
-/// The number of `arith.constant`, which is not isolated.
+/// The id of `arith.constant`, which isn't isolated.
 const CONSTANT: u32 = 5;
 
 type Entries = Vec<(NameId, AttrId)>;
 
-/// What is read of a tree: the operations that have begun, the outermost first, and the next number.
+/// The state of the parser: the open operations, outermost first, and the next id.
 #[derive(Drop)]
 struct Reading {
     alloc: Global,
@@ -23,7 +23,7 @@ struct Reading {
     next: u32,
 }
 
-/// An operation of which nothing is said but its number.
+/// Returns an empty operation with this id.
 pub fn bare(alloc: Global, id: u32) -> TreeOp {
     TreeOp {
         id: OpId::new(id),
@@ -36,27 +36,27 @@ pub fn bare(alloc: Global, id: u32) -> TreeOp {
     }
 }
 
-/// Puts an operation at the end of the last block.
-fn put_last(regions: &mut Vec<TreeRegion>, op: TreeOp) -> Result<(), AllocError> {
+/// Appends an operation to the last block.
+fn push_last(regions: &mut Vec<TreeRegion>, op: TreeOp) -> Result<(), AllocError> {
     match regions.last_mut() {
         Some(TreeRegion::Block { ops, .. }) => Ok(ops.push(op)?),
         _ => Ok(()),
     }
 }
 
-/// Puts an argument behind those of the last block.
-fn put_argument(regions: &mut Vec<TreeRegion>, ty: TypeId) -> Result<(), AllocError> {
+/// Appends an argument to those of the last block.
+fn push_argument(regions: &mut Vec<TreeRegion>, ty: TypeId) -> Result<(), AllocError> {
     match regions.last_mut() {
-        Some(TreeRegion::Block { args, .. }) => put_type(args, ty),
+        Some(TreeRegion::Block { args, .. }) => push_type(args, ty),
         _ => Ok(()),
     }
 }
 
-fn put_type(types: &mut Vec<TypeId>, ty: TypeId) -> Result<(), AllocError> {
+fn push_type(types: &mut Vec<TypeId>, ty: TypeId) -> Result<(), AllocError> {
     Ok(types.push(ty)?)
 }
 
-fn put_value(values: &mut Vec<Value>, value: Value) -> Result<(), AllocError> {
+fn push_value(values: &mut Vec<Value>, value: Value) -> Result<(), AllocError> {
     Ok(values.push(value)?)
 }
 
@@ -64,11 +64,11 @@ fn put_entry(entries: &mut Entries, entry: (NameId, AttrId)) -> Result<(), Alloc
     Ok(entries.push(entry)?)
 }
 
-fn put_region(regions: &mut Vec<TreeRegion>, region: TreeRegion) -> Result<(), AllocError> {
+fn push_region(regions: &mut Vec<TreeRegion>, region: TreeRegion) -> Result<(), AllocError> {
     Ok(regions.push(region)?)
 }
 
-/// An empty block.
+/// Returns an empty block.
 fn empty_block(alloc: Global) -> TreeRegion {
     TreeRegion::Block {
         args: Vec::new(alloc),
@@ -76,46 +76,46 @@ fn empty_block(alloc: Global) -> TreeRegion {
     }
 }
 
-/// Gives an operation another name.
+/// Changes the name of an operation.
 fn rename(op: &mut TreeOp, name: NameId) -> Result<(), AllocError> {
     op.name = name;
     Ok(())
 }
 
-/// Adds what a word says to an operation.
+/// Adds the item of a word to an operation.
 fn add(alloc: Global, op: &mut TreeOp, kind: &str, rest: &str) -> Result<(), AllocError> {
     match kind {
         "name" => rename(op, name_id(rest)),
-        "use" => put_value(&mut op.operands, value(rest)),
-        "res" => put_type(&mut op.results, type_id(rest)),
+        "use" => push_value(&mut op.operands, value(rest)),
+        "res" => push_type(&mut op.results, type_id(rest)),
         "prop" => put_entry(&mut op.props, entry(rest)),
         "attr" => put_entry(&mut op.attrs, entry(rest)),
-        "arg" => put_argument(&mut op.regions, type_id(rest)),
-        "block" => put_region(&mut op.regions, empty_block(alloc)),
-        _ => put_region(&mut op.regions, TreeRegion::Empty),
+        "arg" => push_argument(&mut op.regions, type_id(rest)),
+        "block" => push_region(&mut op.regions, empty_block(alloc)),
+        _ => push_region(&mut op.regions, TreeRegion::Empty),
     }
 }
 
 impl Reading {
-    /// Begins an operation.
+    /// Starts an operation.
     fn begin(&mut self, id: u32) -> Result<(), AllocError> {
         self.next = id.saturating_add(1);
         Ok(self.open.push(bare(self.alloc, id))?)
     }
 
-    /// Begins an operation with a block.
+    /// Starts an operation with a block.
     fn nest(&mut self) -> Result<(), AllocError> {
         self.begin(self.next)?;
         self.say("block", "")
     }
 
-    /// Begins an operation, and ends it.
+    /// Adds an operation without regions.
     fn leaf(&mut self) -> Result<(), AllocError> {
         self.begin(self.next)?;
         self.close()
     }
 
-    /// Ends an operation that stands in another.
+    /// Ends an operation inside another.
     fn close(&mut self) -> Result<(), AllocError> {
         if self.open.len() < 2 {
             return Ok(());
@@ -126,15 +126,15 @@ impl Reading {
         }
     }
 
-    /// Puts an operation into the last that has begun.
+    /// Adds an operation to the innermost open one.
     fn hold(&mut self, op: TreeOp) -> Result<(), AllocError> {
         match self.open.last_mut() {
-            Some(outer) => put_last(&mut outer.regions, op),
+            Some(outer) => push_last(&mut outer.regions, op),
             None => Ok(()),
         }
     }
 
-    /// Adds what a word says to the last operation that has begun.
+    /// Adds the item of a word to the innermost open operation.
     fn say(&mut self, kind: &str, rest: &str) -> Result<(), AllocError> {
         match self.open.last_mut() {
             Some(op) => add(self.alloc, op, kind, rest),
@@ -142,7 +142,7 @@ impl Reading {
         }
     }
 
-    /// Obeys a word.
+    /// Handles a word.
     fn obey(&mut self, word: &str) -> Result<(), AllocError> {
         let (kind, rest) = word.split_once(':').unwrap_or((word, ""));
         match kind {
@@ -155,7 +155,7 @@ impl Reading {
         }
     }
 
-    /// Obeys a word, so many times where it says so.
+    /// Handles a word, repeatedly if it has a count.
     fn read(&mut self, word: &str) -> Result<(), AllocError> {
         let (count, word) = word.split_once('*').unwrap_or(("1", word));
         for _ in 0..number(count) {
@@ -164,7 +164,7 @@ impl Reading {
         Ok(())
     }
 
-    /// Obeys each word of a text.
+    /// Handles each word of a text.
     fn read_all(&mut self, text: &str) -> Result<(), AllocError> {
         for word in text.split_whitespace() {
             self.read(word)?;
@@ -172,7 +172,7 @@ impl Reading {
         Ok(())
     }
 
-    /// Ends all operations that have begun but the outermost.
+    /// Ends all open operations except the outermost.
     fn close_all(&mut self) -> Result<(), AllocError> {
         for _ in 0..self.open.len() {
             self.close()?;
@@ -180,7 +180,7 @@ impl Reading {
         Ok(())
     }
 
-    /// The outermost operation, or one of which nothing was said.
+    /// Returns the outermost operation, or an empty one if there is none.
     fn root(&mut self) -> TreeOp {
         match self.open.pop() {
             Some(op) => op,
@@ -189,7 +189,7 @@ impl Reading {
     }
 }
 
-/// The tree of a line of words.
+/// Returns the tree of a line of words.
 pub fn tree(alloc: Global, text: &str) -> Result<TreeOp, AllocError> {
     let mut reading = Reading {
         alloc,

@@ -1,4 +1,4 @@
-//! Trees and their parts as words of a line, for the programs of cases.
+//! Trees and their parts as words of a line, for the test programs.
 #![tactic(auto)]
 
 pub mod build;

@@ -1,35 +1,39 @@
-//! The words of a line.
+//! Parses the words of a line.
 use ir_tree::place::{Part, Place};
 use ir_tree::value::Value;
 use ir_types::ids::{AttrId, NameId, OpId, TypeId};
 
-/// The first word of a text, and what stands behind it.
-pub fn first(text: &str) -> (&str, &str) {
+/// Returns the first word of a text, and the rest of the text after it.
+pub fn first_word(text: &str) -> (&str, &str) {
     text.split_once(' ').unwrap_or((text, ""))
 }
 
-/// A number, or 4294967295 where the word is none.
+/// Parses a number. Returns 4294967295 if the word isn't a number.
 pub fn number(word: &str) -> u32 {
     word.parse::<u32>().unwrap_or(u32::MAX)
 }
 
+/// Parses the id of an operation.
 pub fn op_id(word: &str) -> OpId {
     OpId::new(number(word))
 }
 
+/// Parses the id of a name.
 pub fn name_id(word: &str) -> NameId {
     NameId::new(number(word))
 }
 
+/// Parses the id of a type.
 pub fn type_id(word: &str) -> TypeId {
     TypeId::new(number(word))
 }
 
+/// Parses the id of an attribute.
 pub fn attr_id(word: &str) -> AttrId {
     AttrId::new(number(word))
 }
 
-/// A result, as `2.0`, or an argument, as `1.0.0`.
+/// Parses a value: a result `2.0`, or an argument `1.0.0`.
 pub fn value(word: &str) -> Value {
     let (op, rest) = word.split_once('.').unwrap_or((word, ""));
     match rest.split_once('.') {
@@ -38,13 +42,13 @@ pub fn value(word: &str) -> Value {
     }
 }
 
-/// An entry, as `39=0`.
+/// Parses an entry: `39=0`.
 pub fn entry(word: &str) -> (NameId, AttrId) {
     let (key, attr) = word.split_once('=').unwrap_or((word, ""));
     (name_id(key), attr_id(attr))
 }
 
-/// An attribute, or none where the word is no number.
+/// Parses an attribute. Returns `None` if the word isn't a number.
 pub fn some_attr(word: &str) -> Option<AttrId> {
     match word.parse::<u32>() {
         Ok(number) => Some(AttrId::new(number)),
@@ -52,7 +56,7 @@ pub fn some_attr(word: &str) -> Option<AttrId> {
     }
 }
 
-/// An operation, or none where the word is no number.
+/// Parses an operation. Returns `None` if the word isn't a number.
 fn some_op(word: &str) -> Option<OpId> {
     match word.parse::<u32>() {
         Ok(number) => Some(OpId::new(number)),
@@ -60,7 +64,7 @@ fn some_op(word: &str) -> Option<OpId> {
     }
 }
 
-/// A dictionary: `props`, or the other one for anything else.
+/// Parses a dictionary: `props` for the properties, any other word for the attributes.
 pub fn part(word: &str) -> Part {
     if word == "props" {
         Part::Props
@@ -69,10 +73,10 @@ pub fn part(word: &str) -> Part {
     }
 }
 
-/// A place, as `2 0 4` before #4, or `2 0 end`.
+/// Parses a place: `2 0 4` before operation 4, or `2 0 end`.
 pub fn place(text: &str) -> Place {
-    let (parent, rest) = first(text);
-    let (region, before) = first(rest);
+    let (parent, rest) = first_word(text);
+    let (region, before) = first_word(rest);
     Place {
         parent: op_id(parent),
         region: number(region),

@@ -1,4 +1,4 @@
--- How many operations stand around one, and which places are where.
+-- The depth of operations, and their places.
 use Rattle.std.proofs.Common.{◌≡◌, refl, ap, sym, ◌∙◌, subst, ℕ, ◌+◌, Bool, true, false, true≢false, cond, not, ◌||◌, eqb, eq-eqb, eqb-true, List, [], ◌∷◌, ◌++◌, length, map, Option, Some, None, option_map, inl, inr, arith}
 use Rattle.std.specs.List.{list_any}
 use Rattle.ir_tree.specs.declared.place.Place.{Place}
@@ -69,7 +69,7 @@ module _ {N T A : Type 0} where
   pub absent_find : (x : ℕ) (t : OpOf N T A) → list_any (λ y. eqb y x) (ids t) ≡ false → find x t ≡ None
   absent_find x t a = sym (stands_find x [] t) ∙ ap (option_map (λ (s : StandOf N T A). s.here)) (none_in x (stands [] t) (absent_stand [] t x a))
 
-  -- the operation around another
+  -- the parent of an operation
   pub around_there : (t o : OpOf N T A) (a : StepOf N T A) (q : List (StepOf N T A)) → In (stand o (a ∷ q)) (stands [] t) → In (stand o (a ∷ q)) (stands q a.parent) × In (stand a.parent q) (stands [] t)
   around_there t o a q h = elim (has_around [] t (stand o (a ∷ q)) h) [
     | inl k ↦ (let bad : a ∷ q ≡ [] = ap (λ (z : StandOf N T A). z.path) k in absurd cc)
@@ -97,7 +97,7 @@ module _ {N T A : Type 0} where
         record { here = r.here; step_in = r.step_in; path = r.path; there = r.there; id = r.id; inner = within a.parent path (stand o (a ∷ path)) w.0 (r.step_in ∷ r.path) r.here r.inner })
   ]
 
-  -- and each of those goes
+  -- each of these operations is removed with x
   pub within_gone : (x : ℕ) (o : OpOf N T A) (path : List (StepOf N T A)) → gone_in x o path ≡ true → (s : StandOf N T A) → In s (stands path o) → is_gone x s ≡ true
   within_gone x o path e s h = elim (bool_cases (is_gone x s)) [
     | inl k ↦ k
@@ -133,7 +133,7 @@ module _ {N T A : Type 0} where
   pub member_of_place : (x : ℕ) (place : Place) (t : OpOf N T A) → place_of x t ≡ Some place → (u : StandOf N T A) × In u (stands [] t) × (stand_id u ≡ x) × (place_in u.path ≡ Some place)
   member_of_place x place t e = placed_in x place (stands [] t) (stands_place x t ∙ e)
 
-  -- what isn't gone is another operation, where x isn't the root
+  -- an operation that remains is another one, if x isn't the root
   pub left_apart : (x : ℕ) (t : OpOf N T A) (s : StandOf N T A) → In s (stands [] t) → is_gone x s ≡ false → eqb (head t).id x ≡ false → stand_id s ≡ x → ⊥
   left_apart x t s h g root e = elim (has_around [] t s h) [
     | inl k ↦ true≢false (sym (eq-eqb (head t).id x (ap (λ (z : StandOf N T A). stand_id z) (sym k) ∙ e)) ∙ root)

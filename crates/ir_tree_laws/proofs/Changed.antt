@@ -1,4 +1,4 @@
--- What edits against which no reason stands make of a module, and what undoing asks.
+-- The change of a module by each accepted edit, and the preconditions of an undo.
 use Rattle.std.proofs.Common.{◌≡◌, refl, ap, sym, ◌∙◌, subst, ℕ, ◌+◌, ◌<◌, ◌≤◌, Bool, true, false, true≢false, cond, not, ◌||◌, eqb, eq-eqb, eqb-true, List, [], ◌∷◌, ◌++◌, length, length-append, map, filter, Option, Some, None, option_map, inl, inr, arith}
 use Rattle.std.specs.List.{list_any, list_all}
 use Rattle.ir_tree.specs.declared.value.Value.{Value}
@@ -14,7 +14,7 @@ use Rattle.ir_tree.proofs.Replaced.{same_value_true, same_value_refl}
 use Rattle.ir_tree_laws.specs.Values.{region_at, has_value}
 use Rattle.ir_tree_laws.specs.Reads.{is_among}
 use Rattle.ir_tree_laws.specs.Reasons.{is_in_list, has_place, with_id, hold_none, holds_none, leaves, unused, leads_inside, put_reason, take_reason, shift_reason}
-use Rattle.ir_tree_laws.specs.Stands.{StepOf, StandOf, stand_id, stands, sees, gone_in, gather, left_step, left_stand, dropping, place_in}
+use Rattle.ir_tree_laws.specs.Stands.{StepOf, StandOf, stand_id, stands, dominated_by, gone_in, gather, left_step, left_stand, dropping, place_in}
 use Rattle.ir_tree_laws.specs.Changes.{HoldNone, NextAfter, Takes, Shifts}
 use Rattle.ir_tree_laws.specs.Restores.{MayRestore, MayRetract}
 use Rattle.ir_tree_laws.specs.Members.{In}
@@ -22,8 +22,8 @@ use Rattle.ir_tree_laws.proofs.Listed.{all_each, each_all, both, bool_cases, or_
 use Rattle.ir_tree_laws.proofs.Readings.{step, stands_uses, stands_every}
 use Rattle.ir_tree_laws.proofs.Members.{stand, within, has_around, joined_ops, ops_child, stand_found, same_stand}
 use Rattle.ir_tree_laws.proofs.Around.{stand_present, present_stand, around_there, gone_within, member_of_place}
-use Rattle.ir_tree_laws.proofs.Without.{left_member, same_head, left_sees_same}
-use Rattle.ir_tree_laws.proofs.Put.{of_spot, region_each, child}
+use Rattle.ir_tree_laws.proofs.Without.{left_member, same_head, left_dominated_by_same}
+use Rattle.ir_tree_laws.proofs.Put.{of_point, region_each, child}
 use Rattle.ir_tree_laws.proofs.Formed.{from_formed, ids_below}
 use Rattle.ir_tree_laws.proofs.PutForm.{put_place, put_found, put_back, put_cases, landed}
 use Rattle.ir_tree_laws.proofs.Shift as shift
@@ -51,7 +51,7 @@ no_uses v x e y k (w ∷ ws) h = go (same_value v w) refl (no_uses v x e y (k + 
         absurd (true≢false (sym (eq-eqb (owner_of w).0 x same) ∙ not_false (eqb (owner_of w).0 x) b.0))
 
 module _ {N T A : Type 0} where
-  -- blocks that hold none
+  -- empty blocks
   pub bare : (rs : RegionsOf N T A) → hold_none rs ≡ true → HoldNone rs
   bare no_regions e = tt
   bare (region empty rs) e = bare rs e
@@ -74,7 +74,7 @@ module _ {N T A : Type 0} where
       go None e = ap holds_none e
       go (Some o) e = ap holds_none e ∙ is_bare (regions o) (h o e)
 
-  -- an operation whose values no other uses
+  -- an operation whose values no other operation uses
   pub unused_uses : (x : ℕ) (t : OpOf N T A) → unused x t ≡ true → (v : Value) → (owner_of v).0 ≡ x → uses_of v t ≡ []
   unused_uses x t e v own =
       sym (stands_uses v [] t)
@@ -118,25 +118,25 @@ module _ {N T A : Type 0} where
       let o = s.0.here in
       let f : find x m.tree ≡ Some o = ap (λ z. find z m.tree) (sym s.2) ∙ stand_found m.tree d s.0 s.1 in
       let out = sym (ap (leads_inside place) f) ∙ r.outside in
-      let is = shift.is_put x place m.tree o d f r.inner r.spot out in
-      let i = shift.inner x place m.tree o d f r.inner r.spot out in (
+      let is = shift.is_put x place m.tree o d f r.inner r.point out in
+      let i = shift.inner x place m.tree o d f r.inner r.point out in (
         record { parent = (head i.step_in.parent).id; region = i.step_in.region; before = first_id i.step_in.rest },
         record {
-          was = shift.shift_was x place m.tree o d f r.inner r.spot out;
-          is = ap (place_of x) is ∙ shift.shift_place x place m.tree o d f r.inner r.spot out;
-          same = ap (find x) is ∙ shift.shift_found x place m.tree o d f r.inner r.spot out;
-          rest = ap (without x) is ∙ shift.shift_rest x place m.tree o d f r.inner r.spot out;
+          was = shift.shift_was x place m.tree o d f r.inner r.point out;
+          is = ap (place_of x) is ∙ shift.shift_place x place m.tree o d f r.inner r.point out;
+          same = ap (find x) is ∙ shift.shift_found x place m.tree o d f r.inner r.point out;
+          rest = ap (without x) is ∙ shift.shift_rest x place m.tree o d f r.inner r.point out;
           table = sym r.table;
           next = refl;
         },
       )
 
-  -- a put: taking the operation leads back
+  -- a put, which a take undoes
   pub put_changes : (isolated : N → Bool) (place : Place) (o : OpOf N T A) (m : ModuleOf N T A) (w : IsWellFormed isolated m) → hold_none (regions o) ≡ true → put_reason isolated place o m.next m.tree ≡ None
       → Takes m.next place true (record { tree = put place (with_id m.next o) m.tree; next = m.next + 1 }) m
   put_changes isolated place o m w leaf e =
       let r = no_put_reason isolated place o m.next m.tree e in
-      let may = may_put_leaf isolated place o m w leaf r.spot in
+      let may = may_put_leaf isolated place o m w leaf r.point in
       let u = with_id m.next o in
       let id = own_id m.next o in
       let after = put_keeps isolated place o m w leaf e in
@@ -153,11 +153,11 @@ module _ {N T A : Type 0} where
         unused = unused_uses m.next (put place u m.tree) (sym (stands_every (λ q. leaves m.next (head q)) [] (put place u m.tree)) ∙ each_all (λ (s : StandOf N T A). leaves m.next (head s.here)) (stands [] (put place u m.tree))
             (λ s h. each_all (λ v. not (eqb (owner_of v).0 m.next)) (head s.here).operands (λ v i. elim (bool_cases (eqb (owner_of v).0 m.next)) [
               | inr k ↦ ap not k
-              | inl k ↦ (let seen = all_each (sees isolated s.path) (head s.here).operands (g.sees_own s h) v i in
+              | inl k ↦ (let seen = all_each (dominated_by isolated s.path) (head s.here).operands (g.dominated_by_own s h) v i in
                   let own = eqb-true (owner_of v).0 m.next k in
                   absurd (elim (put_cases place u m.tree may s h) [
                     | inl c ↦ (let z = left_stand (head u).id s in
-                        let seen0 = all_each (sees isolated z.path) (head z.here).operands (g0.sees_own z c.0) v (subst (λ (h : HeadOf N T A). In v h.operands) (sym (same_head (head u).id (dropping (head u).id) s.here)) i) in
+                        let seen0 = all_each (dominated_by isolated z.path) (head z.here).operands (g0.dominated_by_own z c.0) v (subst (λ (h : HeadOf N T A). In v h.operands) (sym (same_head (head u).id (dropping (head u).id) s.here)) i) in
                         let b = seen_by isolated m.tree w.distinct z c.0 v seen0 in
                         let lt = ids_below m.next m.tree w.below b.owner b.there in
                         let q = b.id in
@@ -226,7 +226,7 @@ module _ {N T A : Type 0} where
         omega (arith, l))
   ]
 
-  -- the operation around x isn't within it
+  -- the parent of x isn't within x
   around_stays : (x : ℕ) (t : OpOf N T A) → HasDistinctIds t → (o : OpOf N T A) (a : StepOf N T A) (q : List (StepOf N T A)) → In (stand o (a ∷ q)) (stands [] t) → (head o).id ≡ x → gone_in x a.parent q ≡ false
   around_stays x t d o a q h id = elim (bool_cases (gone_in x a.parent q)) [
     | inr k ↦ k
@@ -261,9 +261,9 @@ module _ {N T A : Type 0} where
     at : region_at a.region (regions (each_list (dropping x) a.parent)) ≡ Some (block a.args (drop_op x (ops_each_list (dropping x) (joined_ops a.front (next o a.rest)))))
     at = each_block x a.region a.parent a.args (joined_ops a.front (next o a.rest)) (shape t o a q h)
 
-    -- the one behind is another
-    behind : (p : OpOf N T A) (os : OpsOf N T A) → a.rest ≡ next p os → eqb (head p).id x ≡ false
-    behind p os e = elim (bool_cases (eqb (head p).id x)) [
+    -- the operation after x is another one
+    trailing : (p : OpOf N T A) (os : OpsOf N T A) → a.rest ≡ next p os → eqb (head p).id x ≡ false
+    trailing p os e = elim (bool_cases (eqb (head p).id x)) [
       | inr k ↦ k
       | inl k ↦ (let c = step a.parent a.region a.args (a.front ++ o ∷ []) os in
           let list : region_at a.region (regions a.parent) ≡ Some (block a.args (joined_ops (a.front ++ o ∷ []) (next p os))) = shape t o a q h ∙ ap (λ (z : OpsOf N T A). Some (block a.args (joined_ops a.front (next o z)))) e ∙ ap (λ z. Some (block a.args z)) (sym (joined_more a.front o (next p os))) in
@@ -279,14 +279,14 @@ module _ {N T A : Type 0} where
     among : (rest : OpsOf N T A) → a.rest ≡ rest → is_in_list (first_id rest) (Some (drop_op x (ops_each_list (dropping x) (joined_ops a.front (next o a.rest))))) ≡ true
     among no_ops e = refl
     among (next p os) e =
-        still_among x (head p).id (dropping x) (joined_ops a.front (next o a.rest)) (behind p os e)
+        still_among x (head p).id (dropping x) (joined_ops a.front (next o a.rest)) (trailing p os e)
         (joined_among (head p).id a.front (next o a.rest) (or_right (eqb (head o).id (head p).id) _ (ap (is_among (head p).id) e ∙ or_left (eqb (head p).id (head p).id) _ (eq-eqb (head p).id (head p).id refl))))
 
-    pub spot_left : (place : Place) → place_in (a ∷ q) ≡ Some place → has_place place (without x t) ≡ true
-    spot_left place e =
+    pub point_left : (place : Place) → place_in (a ∷ q) ≡ Some place → has_place place (without x t) ≡ true
+    point_left place e =
         let is : record { parent = (head a.parent).id; region = a.region; before = first_id a.rest } ≡ place = cc in
         subst (λ (z : Place). has_place z (without x t) ≡ true) is
-        (of_spot (record { parent = (head a.parent).id; region = a.region; before = first_id a.rest }) u (record {
+        (of_point (record { parent = (head a.parent).id; region = a.region; before = first_id a.rest }) u (record {
           parent = each_list (dropping x) a.parent;
           found = ap (λ (g : HeadOf N T A). find g.id u) (sym (same_head x (dropping x) a.parent)) ∙ stand_found u (left_distinct x t d) (stand (each_list (dropping x) a.parent) (map (left_step x) q)) up;
           args = a.args;
@@ -295,10 +295,10 @@ module _ {N T A : Type 0} where
           among = among a.rest refl;
         }))
 
-    pub value_left : (v : Value) → sees isolated (a ∷ q) v ≡ true → has_value v (without x t) ≡ true
+    pub value_left : (v : Value) → dominated_by isolated (a ∷ q) v ≡ true → has_value v (without x t) ≡ true
     value_left v e =
         let other : eqb (owner_of v).0 x ≡ false = elim (bool_cases (eqb (owner_of v).0 x)) [ inr k ↦ k | inl k ↦ absurd (not_own isolated t d (stand o (a ∷ q)) h v e (eqb-true (owner_of v).0 x k ∙ sym id)) ] in
-        let seen : sees isolated (map (left_step x) (a ∷ q)) v ≡ true = left_sees_same x isolated v other (a ∷ q) ∙ e in
+        let seen : dominated_by isolated (map (left_step x) (a ∷ q)) v ≡ true = left_dominated_by_same x isolated v other (a ∷ q) ∙ e in
         (seen_from isolated u (left_distinct x t d) (map (left_step x) (a ∷ q)) v seen (λ b p same.
         let first : left_step x a ≡ b = cc in
         let later : map (left_step x) q ≡ p = cc in
@@ -330,9 +330,9 @@ module _ {N T A : Type 0} where
           let is : s.here ≡ o = cc in
           let g = from_formed isolated n.tree w.formed in
           record {
-            spot = ap (has_place place) c.left ∙ spot_left isolated x n.tree w.distinct s.here a q there id place (sym (ap place_in p) ∙ e);
+            point = ap (has_place place) c.left ∙ point_left isolated x n.tree w.distinct s.here a q there id place (sym (ap place_in p) ∙ e);
             values = each_all (λ v. has_value v m.tree) (head o).operands (λ v i. ap (has_value v) c.left ∙ value_left isolated x n.tree w.distinct s.here a q there id v
-                (sym (ap (λ l. sees isolated l v) p) ∙ all_each (sees isolated s.path) (head s.here).operands (g.sees_own s h) v (subst (λ (z : OpOf N T A). In v (head z).operands) (sym is) i)));
+                (sym (ap (λ l. dominated_by isolated l v) p) ∙ all_each (dominated_by isolated s.path) (head s.here).operands (g.dominated_by_own s h) v (subst (λ (z : OpOf N T A). In v (head z).operands) (sym is) i)));
             newest = λ k. newer fresh k c.next;
             room = λ k. let e = gone fresh k c.next in let n = w.next in omega (arith, e, n);
             below = λ k. let lt = ids_below n.next n.tree w.below s h in let same = same_next fresh k c.next in omega (arith, lt, same, id);

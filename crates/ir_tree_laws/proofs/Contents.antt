@@ -1,5 +1,5 @@
--- What is read at trees of the same shape, with names, types and attributes changed: why edits are refused, and what
--- undoing asks.
+-- Reads of trees of the same shape, with names, types and attributes changed: the reasons against edits, and the
+-- preconditions of an undo.
 use Rattle.std.proofs.Common.{◌≡◌, refl, ap, sym, ◌∙◌, ℕ, zero, suc, ◌+◌, Bool, true, false, cond, not, ◌&&◌, ◌||◌, eqb, List, [], ◌∷◌, length, map, Option, Some, None, option_map}
 use Rattle.std.specs.Prelude.{nat_lt, nat_le, is_some, slice_get, option_and_then}
 use Rattle.std.specs.List.{list_any, list_all}
@@ -234,7 +234,7 @@ module _ {N T A M U B : Type 0} (f : N → M) (g : T → U) (h : A → B) where
         go None = refl
         go (Some o) = ap (entry_reason before (f k) (option_map h a)) (map_part part o) ∙ map_entry_reason k a (part_of part (head o))
 
-  -- why an edit is refused
+  -- the reasons against an edit
   module _ (isolated : M → Bool) where
     abbrev alone : N → Bool
     alone = λ n. isolated (f n)
@@ -295,7 +295,7 @@ module _ {N T A M U B : Type 0} (f : N → M) (g : T → U) (h : A → B) where
   map_take_reason x t = λ i.
       unless (map_has_id x t i) NoSuchOp (unless (not (eqb (same_id t i) x)) IsRoot (unless ((ap holds_none (map_find f g h x t) ∙ map_holds_none (find x t)) i) NotEmpty (unless (map_unused x t i) HasUses None)))
 
-  -- what undoing asks
+  -- the preconditions of an undo
   pub from_retract : (x : ℕ) (fresh : Bool) (m : ModuleOf N T A) → MayRetract x fresh (record { tree = map_tree f g h m.tree; next = m.next }) → MayRetract x fresh m
   from_retract x fresh m r = record {
     there = sym (map_has_id x m.tree) ∙ r.there;
@@ -307,7 +307,7 @@ module _ {N T A M U B : Type 0} (f : N → M) (g : T → U) (h : A → B) where
 
   pub from_restore : (x : ℕ) (place : Place) (fresh : Bool) (o : OpOf N T A) (m : ModuleOf N T A) → MayRestore x place fresh (map_tree f g h o) (record { tree = map_tree f g h m.tree; next = m.next }) → MayRestore x place fresh o m
   from_restore x place fresh o m r = record {
-    spot = sym (map_has_place place m.tree) ∙ r.spot;
+    point = sym (map_has_place place m.tree) ∙ r.point;
     values = sym (ap (list_all (λ v. has_value v (map_tree f g h m.tree))) (same_operands o) ∙ all_alike (λ v. has_value v (map_tree f g h m.tree)) (λ v. has_value v m.tree) (λ v. map_has_value v m.tree) (head o).operands) ∙ r.values;
     newest = r.newest;
     room = r.room;

@@ -1,4 +1,4 @@
--- Where in pre-order an operation comes that is put at a place.
+-- The position, in pre-order, of an operation that is inserted at a place.
 use Rattle.std.proofs.Common.{◌≡◌, refl, ap, sym, ◌∙◌, subst, ℕ, zero, suc, ◌+◌, true, true≢false, cond, not, eqb, eq-eqb, List, [], ◌∷◌, ◌++◌, map, filter, append_assoc, append-nil, Option, Some, None, option_map, inl, inr, arith}
 use Rattle.std.specs.List.{list_any, IsDistinct}
 use Rattle.std.proofs.lemmas.List.{append_cancel_left}
@@ -24,7 +24,7 @@ use Rattle.ir_tree_laws.proofs.Values.{shape}
 use Rattle.ir_tree_laws.proofs.Changed.{kept_front}
 use Rattle.std.proofs.lemmas.Bool.{cases_Bool}
 
--- a list is cut at a number that stands once in it
+-- a list is split at a number that occurs once
 pub one_cut : (x : ℕ) (xs us ys vs : List ℕ) → Absent x xs → Absent x us → xs ++ (x ∷ ys) ≡ us ++ (x ∷ vs) → xs ≡ us
 one_cut x [] [] ys vs a b e = refl
 one_cut x [] (u ∷ us) ys vs a b e = (let same : x ≡ u = cc in absurd (true≢false (sym (eq-eqb u x (sym same)) ∙ (neither _ _ b).0)))
@@ -50,7 +50,7 @@ module _ {N T A : Type 0} where
   joined_ids [] os = refl
   joined_ids (o ∷ front) os = ap (λ l. ids o ++ l) (joined_ids front os) ∙ sym (append_assoc (ids o) (all_ids front) (ops_ids os))
 
-  -- those in the regions behind one
+  -- the ids in the regions after region r
   abbrev later_ids : ℕ → RegionsOf N T A → List ℕ
   later_ids r no_regions = []
   later_ids zero (region g rs) = regions_ids rs
@@ -68,7 +68,7 @@ module _ {N T A : Type 0} where
   first_more zero (region g rs) args os e = let same : g ≡ block args os = cc in append-nil (region_ids g) ∙ ap region_ids same
   first_more (suc r) (region g rs) args os e = ap (λ l. region_ids g ++ l) (first_more r rs args os e) ∙ sym (append_assoc (region_ids g) (first_ids r rs) (ops_ids os))
 
-  -- what comes before and behind an operation in pre-order, read off its path
+  -- the ids before an operation and after it in pre-order, read from its path
   abbrev beside : StepOf N T A → List ℕ
   beside a = (head a.parent).id ∷ (first_ids a.region (regions a.parent) ++ all_ids a.front)
 
@@ -76,9 +76,9 @@ module _ {N T A : Type 0} where
   before [] = []
   before (a ∷ q) = before q ++ beside a
 
-  abbrev behind : List (StepOf N T A) → List ℕ
-  behind [] = []
-  behind (a ∷ q) = ops_ids a.rest ++ (later_ids a.region (regions a.parent) ++ behind q)
+  abbrev trailing : List (StepOf N T A) → List ℕ
+  trailing [] = []
+  trailing (a ∷ q) = ops_ids a.rest ++ (later_ids a.region (regions a.parent) ++ trailing q)
 
   around_ids : (o : OpOf N T A) (a : StepOf N T A) → region_at a.region (regions a.parent) ≡ Some (block a.args (joined_ops a.front (next o a.rest)))
       → ids a.parent ≡ beside a ++ (ids o ++ (ops_ids a.rest ++ later_ids a.region (regions a.parent)))
@@ -98,7 +98,7 @@ module _ {N T A : Type 0} where
       z : List ℕ
       z = later_ids a.region (regions a.parent)
 
-  pub preorder : (t o : OpOf N T A) (path : List (StepOf N T A)) → In (stand o path) (stands [] t) → ids t ≡ before path ++ (ids o ++ behind path)
+  pub preorder : (t o : OpOf N T A) (path : List (StepOf N T A)) → In (stand o path) (stands [] t) → ids t ≡ before path ++ (ids o ++ trailing path)
   preorder t o [] h = elim (has_around [] t (stand o []) h) [
     | inl k ↦ ap (λ (z : StandOf N T A). ids z.here) (sym k) ∙ sym (append-nil (ids o))
     | inr w ↦ (let bad : [] ≡ w.0 ∷ w.1 = w.2 in absurd cc)
@@ -107,11 +107,11 @@ module _ {N T A : Type 0} where
       let rest = ops_ids a.rest in
       let z = later_ids a.region (regions a.parent) in
       preorder t a.parent q (around_there t o a q h).1
-      ∙ ap (λ l. before q ++ (l ++ behind q)) (around_ids o a (shape t o a q h))
-      ∙ ap (λ l. before q ++ l) (append_assoc (beside a) (ids o ++ (rest ++ z)) (behind q) ∙ ap (λ l. beside a ++ l) (append_assoc (ids o) (rest ++ z) (behind q) ∙ ap (λ l. ids o ++ l) (append_assoc rest z (behind q))))
-      ∙ sym (append_assoc (before q) (beside a) (ids o ++ (rest ++ (z ++ behind q))))
+      ∙ ap (λ l. before q ++ (l ++ trailing q)) (around_ids o a (shape t o a q h))
+      ∙ ap (λ l. before q ++ l) (append_assoc (beside a) (ids o ++ (rest ++ z)) (trailing q) ∙ ap (λ l. beside a ++ l) (append_assoc (ids o) (rest ++ z) (trailing q) ∙ ap (λ l. ids o ++ l) (append_assoc rest z (trailing q))))
+      ∙ sym (append_assoc (before q) (beside a) (ids o ++ (rest ++ (z ++ trailing q))))
 
-  -- what an operation that isn't there leaves
+  -- removing an operation that isn't in the tree
   first_untouched : (x r y k : ℕ) (rs : RegionsOf N T A) → Absent x (first_ids r rs) → first_ids r (regions_each_list (dropping x) y k rs) ≡ first_ids r rs
   first_untouched x zero y k rs a = refl
   first_untouched x (suc r) y k no_regions a = refl
@@ -173,18 +173,18 @@ module _ {N T A : Type 0} (place : Place) (o t : OpOf N T A) (may : MayPut place
   once : (xs ys : List ℕ) → ids after ≡ xs ++ (ids o ++ ys) → Absent x xs
   once xs ys e = absent_before x xs (regions_ids (regions o) ++ ys) (subst (IsDistinct eqb) (e ∙ ap (λ l. xs ++ l) (own o ys)) distinct)
 
-  by_path : ids after ≡ before path ++ (ids o ++ behind path)
+  by_path : ids after ≡ before path ++ (ids o ++ trailing path)
   by_path = preorder after o path here.there
 
   front_is : front ≡ before path
   front_is =
-      one_cut x front (before path) (regions_ids (regions o) ++ back) (regions_ids (regions o) ++ behind path) (once front back put_ids) (once (before path) (behind path) by_path)
-      (ap (λ l. front ++ l) (sym (own o back)) ∙ sym put_ids ∙ by_path ∙ ap (λ l. before path ++ l) (own o (behind path)))
+      one_cut x front (before path) (regions_ids (regions o) ++ back) (regions_ids (regions o) ++ trailing path) (once front back put_ids) (once (before path) (trailing path) by_path)
+      (ap (λ l. front ++ l) (sym (own o back)) ∙ sym put_ids ∙ by_path ∙ ap (λ l. before path ++ l) (own o (trailing path)))
 
-  back_is : back ≡ behind path
+  back_is : back ≡ trailing path
   back_is =
-      append_cancel_left (ids o) back (behind path)
-      (append_cancel_left front (ids o ++ back) (ids o ++ behind path) (sym put_ids ∙ by_path ∙ ap (λ l. l ++ (ids o ++ behind path)) (sym front_is)))
+      append_cancel_left (ids o) back (trailing path)
+      (append_cancel_left front (ids o ++ back) (ids o ++ trailing path) (sym put_ids ∙ by_path ∙ ap (λ l. l ++ (ids o ++ trailing path)) (sym front_is)))
 
   -- the place's parent, before
   abbrev parent : OpOf N T A
@@ -200,7 +200,7 @@ module _ {N T A : Type 0} (place : Place) (o t : OpOf N T A) (may : MayPut place
   last_in e =
       let rs = regions a.parent in
       let f = dropping x in
-      let two = absent_parts x (before here.path) (beside a) (once (before path) (behind path) by_path) in
+      let two = absent_parts x (before here.path) (beside a) (once (before path) (trailing path) by_path) in
       let three = absent_parts x (first_ids a.region rs) (all_ids a.front) (neither _ _ two.1).1 in
       let kept = filter (λ o. not (eqb (head o).id x)) (map (each_list f) a.front) in
       let list : region_at a.region (regions parent) ≡ Some (block a.args (joined_ops kept no_ops)) =
@@ -216,7 +216,7 @@ module _ {N T A : Type 0} (place : Place) (o t : OpOf N T A) (may : MayPut place
       ∙ sym (first_more a.region (regions parent) a.args (joined_ops kept no_ops) list)
       ∙ ap (λ n. first_ids n (regions parent)) (sym more))
 
-  -- the operation comes where the place is
+  -- the inserted operation is at the position of the place
   pub put_cut : IsCutAt place t (map (λ (z : StandOf N T A). stand_id z) put_part.front) (map (λ (z : StandOf N T A). stand_id z) put_part.back)
   put_cut = go place.before a.rest refl here.before
     where
@@ -227,4 +227,4 @@ module _ {N T A : Type 0} (place : Place) (o t : OpOf N T A) (may : MayPut place
       go (Some b) (next (op h rs) os) r e =
           let same : Some h.id ≡ Some b = sym (ap first_id r) ∙ e in
           let one : h.id ≡ b = cc in
-          ((regions_ids rs ++ ops_ids os) ++ (later_ids a.region (regions a.parent) ++ behind here.path), back_is ∙ ap (λ (z : OpsOf N T A). ops_ids z ++ (later_ids a.region (regions a.parent) ++ behind here.path)) r ∙ ap (λ n. n ∷ ((regions_ids rs ++ ops_ids os) ++ (later_ids a.region (regions a.parent) ++ behind here.path))) one)
+          ((regions_ids rs ++ ops_ids os) ++ (later_ids a.region (regions a.parent) ++ trailing here.path), back_is ∙ ap (λ (z : OpsOf N T A). ops_ids z ++ (later_ids a.region (regions a.parent) ++ trailing here.path)) r ∙ ap (λ n. n ∷ ((regions_ids rs ++ ops_ids os) ++ (later_ids a.region (regions a.parent) ++ trailing here.path))) one)

@@ -1,4 +1,4 @@
--- What putting and taking make of ids, counts, uses, and of what is read at the other operations.
+-- Ids, counts, uses and reads of the other operations, after inserting and taking out.
 use Rattle.std.proofs.Common.{◌≡◌, refl, ap, sym, ◌∙◌, subst, ℕ, ◌+◌, Bool, true, false, cond, eqb, List, [], ◌∷◌, ◌++◌, length, map, filter, Some, option_map, arith}
 use Rattle.std.specs.Prelude.{◌-◌}
 use Rattle.std.proofs.lemmas.List.{length-map}
@@ -20,15 +20,15 @@ use Rattle.ir_tree_laws.specs.Tables.{table_of}
 use Rattle.ir_tree_laws.proofs.Readings.{stands_table}
 use Rattle.ir_tree_laws.proofs.Members.{stand, stand_of_member, stand_found}
 use Rattle.ir_tree_laws.proofs.Around.{present_stand, stands_around}
-use Rattle.ir_tree_laws.proofs.Without.{member_left, same_head, left_sees_same}
-use Rattle.ir_tree_laws.proofs.Sees.{visible_there}
+use Rattle.ir_tree_laws.proofs.Without.{member_left, same_head, left_dominated_by_same}
+use Rattle.ir_tree_laws.proofs.DominatedBy.{visible_there}
 use Rattle.ir_tree_laws.proofs.Stretches.{Parted, part, parted_ids, left_ids, parted_count, parted_uses, left_uses_of}
 use Rattle.ir_tree_laws.proofs.PutForm.{landed, put_around, put_back}
 use Rattle.ir_tree_laws.proofs.Cuts.{put_part, put_ids, put_left_ids, put_cut}
 use Rattle.ir_tree_laws.proofs.Shift.{Inner, inner_of, inner_place}
 
 module _ {N T A : Type 0} (place : Place) (o t : OpOf N T A) (may : MayPut place o t) where
-  -- what is put is one stretch of the list
+  -- the inserted operations are one segment of the list
   pub put_inside : (path : List (StepOf N T A)) × (place_in path ≡ Some place) × (around place.parent t ≡ Some (length path - 1)) × (filter (is_gone (head o).id) (stands [] (put place o t)) ≡ stands path o)
   put_inside =
       let l = landed place o t may in
@@ -67,7 +67,7 @@ module _ {N T A : Type 0} (x : ℕ) (t o : OpOf N T A) (d : HasDistinctIds t) (f
   pub taken_part : Parted x ((inner_of x t o found not_root).step_in ∷ (inner_of x t o found not_root).path) o t
   taken_part = subst (λ y. Parted y (inner.step_in ∷ inner.path) o t) inner.id (part t d o inner.step_in inner.path inner.there)
 
-  -- what is taken was one stretch of the list
+  -- the operations that were taken out were one segment of the list
   pub taken_inside : (path : List (StepOf N T A)) × (place_in path ≡ place_of x t) × (around x t ≡ Some (length path)) × (filter (is_gone x) (stands [] t) ≡ stands path o)
   taken_inside = (
     inner.step_in ∷ inner.path,
@@ -94,7 +94,7 @@ module _ {N T A : Type 0} (x : ℕ) (t o : OpOf N T A) (d : HasDistinctIds t) (f
       )
 
 module _ {N T A : Type 0} (x : ℕ) (t : OpOf N T A) (d : HasDistinctIds t) (y : ℕ) (there : has_id y (without x t) ≡ true) where
-  -- an operation that is left, where it stood
+  -- an operation that remains, with its old path
   pub record Stayed : Type 0 where
     pub was : StandOf N T A
     pub old : In was (stands [] t)
@@ -140,9 +140,9 @@ module _ {N T A : Type 0} (x : ℕ) (t : OpOf N T A) (d : HasDistinctIds t) (y :
       ∙ ap Some (table_stays_in is_table stayed.was.path)
       ∙ sym (sym (stands_table is_table y [] t) ∙ ap (option_map (λ (s : StandOf N T A). table_in is_table s.path)) stand_was)
 
-  pub sight_stays : (isolated : N → Bool) (v : Value) → eqb (owner_of v).0 x ≡ false → visible isolated (without x t) y v ≡ visible isolated t y v
-  sight_stays isolated v e =
+  pub dominance_stays : (isolated : N → Bool) (v : Value) → eqb (owner_of v).0 x ≡ false → visible isolated (without x t) y v ≡ visible isolated t y v
+  dominance_stays isolated v e =
       ap (λ z. visible isolated (without x t) z v) (sym stayed.same)
       ∙ visible_there isolated (without x t) (left_distinct x t d) (left_stand x stayed.was) stayed.new v
-      ∙ left_sees_same x isolated v e stayed.was.path
+      ∙ left_dominated_by_same x isolated v e stayed.was.path
       ∙ sym (ap (λ z. visible isolated t z v) (sym stayed.id) ∙ visible_there isolated t d stayed.was stayed.old v)

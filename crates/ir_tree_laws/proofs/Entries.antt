@@ -1,4 +1,4 @@
--- An entry that is set or taken out, and set back.
+-- An entry that is set or removed, and the undo.
 use Rattle.std.proofs.Common.{◌≡◌, refl, ap, sym, ◌∙◌, subst, ℕ, ◌+◌, Bool, true, false, true≢false, cond, not, ◌&&◌, eqb, eq-eqb, eqb-true, List, [], ◌∷◌, ◌++◌, Option, Some, None, option_map, inl, inr}
 use Rattle.std.specs.Prelude.{is_some}
 use Rattle.ir_tree.specs.types.declared.refusal.Refusal.TheVariants.{NoSuchKey}
@@ -43,7 +43,7 @@ module _ {N A : Type 0} (before : N → N → Bool) (o : Ordered before) where
   after_rises k [] h = refl
   after_rises k (e ∷ es) h = (both (before k e.0) (rises_after before e.0 es) h).1
 
-  -- what is put is there
+  -- an entry that is set is present
   put_has : (k : N) (b : A) (es : List (N × A)) → entry_at before k (put_entry before k b es) ≡ Some b
   put_has k b [] = ap (λ c. cond c (Some b) None) (own_key before o k)
   put_has k b (e ∷ es) = go (before k e.0) refl (before e.0 k) refl (put_has k b es)
@@ -53,7 +53,7 @@ module _ {N A : Type 0} (before : N → N → Bool) (o : Ordered before) where
       go false p true i later = (λ j. cond (not (p j) && not (i j)) (Some e.1) (entry_at before k (put_entry before k b es))) ∙ later
       go false p false i later = ap (λ c. cond c (Some b) (entry_at before k es)) (own_key before o k)
 
-  -- what is taken out isn't
+  -- an entry that is removed is absent
   drop_lacks : (k : N) (es : List (N × A)) → rises before es ≡ true → entry_at before k (drop_entry before k es) ≡ None
   drop_lacks k [] r = refl
   drop_lacks k (e ∷ es) r = go (before k e.0) refl (before e.0 k) refl (drop_lacks k es (after_rises e.0 es r))
@@ -123,7 +123,7 @@ module _ {N A : Type 0} (before : N → N → Bool) (o : Ordered before) where
 
 module _ {N T A : Type 0} (f : HeadOf N T A → HeadOf N T A) where
   mutual
-    -- an edit that leaves each head
+    -- an edit that leaves each head unchanged
     pub each_same : (path : List (StepOf N T A)) (t : OpOf N T A) → ((s : StandOf N T A) → In s (stands path t) → f (head s.here) ≡ head s.here) → each_head f t ≡ t
     each_same path (op h rs) c = λ i. op (c (record { here = op h rs; path = path }) (inl refl) i) (regions_each_same (op h rs) path 0 rs (λ s k. c s (inr k)) i)
 

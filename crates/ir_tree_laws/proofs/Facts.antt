@@ -1,4 +1,4 @@
--- What is asked of trees in many places.
+-- Preconditions on trees that are used in many places.
 use Rattle.ir_tree.proofs.Mapped.{map_ids}
 use Rattle.ir_tree.specs.Ids.{op_count}
 use Rattle.ir_tree.specs.Meaning.{meaning}
@@ -7,7 +7,7 @@ use Rattle.ir_tree_laws.specs.Members.{In}
 use Rattle.ir_tree_laws.specs.Reasons.{with_id}
 use Rattle.ir_tree_laws.specs.Values.{region_at}
 use Rattle.ir_tree.specs.types.Terms.{attr_term, name_term, type_term}
-use Rattle.ir_tree.specs.types.Things.{Things}
+use Rattle.ir_tree.specs.types.Things.{ContextModel}
 use Rattle.std.proofs.Common.{[], List, Some, arith, inl, inr, refl, suc, zero, ℕ, ◌&&◌, ◌++◌, ◌+◌, ◌<◌, ◌∙◌, ◌∷◌, ◌≡◌, ◌≢◌, ◌≤◌, ◌⊎◌}
 use Rattle.std.proofs.lemmas.Bool.{cases_eq}
 
@@ -18,7 +18,7 @@ in_or_not y (x ∷ xs) = elim (cases_eq y x) [
   | inr ne ↦ elim (in_or_not y xs) [ inl h ↦ inl (inr h) | inr non ↦ inr (λ h. elim h [ inl e ↦ ne e | inr h2 ↦ non h2 ]) ]
 ]
 
-pub count_meaning : (c : Things) (t : Op) → op_count (meaning c t) ≡ op_count t
+pub count_meaning : (c : ContextModel) (t : Op) → op_count (meaning c t) ≡ op_count t
 count_meaning c t = rw (map_ids (name_term c) (type_term c) (attr_term c) t) refl
 
 module _ {N T A : Type 0} where

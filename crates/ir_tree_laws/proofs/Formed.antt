@@ -1,4 +1,4 @@
--- A tree is formed where each operation, as it stands, is.
+-- A tree is well-formed if each of its operations, with its path, is.
 use Rattle.std.proofs.Common.{◌≡◌, refl, ap, sym, ◌∙◌, subst, ℕ, ◌+◌, ◌<◌, ◌≤◌, Bool, true, false, cond, not, ◌&&◌, ◌||◌, eqb, List, [], ◌∷◌, length, map, filter, inl, inr, arith}
 use Rattle.std.specs.Prelude.{All, nat_le}
 use Rattle.std.specs.List.{list_any, list_all, IsDistinct, AllByRecursion}
@@ -12,14 +12,14 @@ use Rattle.ir_tree.specs.Ids.{ids, op_count}
 use Rattle.ir_tree.specs.Limits.{depth, every, op_fits, head_fits, items_fit, all_arguments_pass, most_ops, most_around, most_regions}
 use Rattle.ir_tree.specs.Places.{each_list, regions_each_list, without}
 use Rattle.ir_tree.specs.Frames.{owner_of}
-use Rattle.ir_tree.specs.WellFormed.{ModuleOf, IsFormed, IsWellFormed}
+use Rattle.ir_tree.specs.WellFormed.{ModuleOf, IsValidTree, IsWellFormed}
 use Rattle.ir_tree.proofs.Left.{left_distinct}
-use Rattle.ir_tree_laws.specs.Stands.{StepOf, StandOf, stand_id, stands, greatest, sees, is_gone, left_stand, left_step, dropping}
+use Rattle.ir_tree_laws.specs.Stands.{StepOf, StandOf, stand_id, stands, greatest, dominated_by, is_gone, left_stand, left_step, dropping}
 use Rattle.ir_tree_laws.specs.Members.{In}
 use Rattle.ir_tree_laws.proofs.Listed.{all_each, each_all, both, both_hold, not_false}
 use Rattle.ir_tree_laws.proofs.Readings.{stands_ids, stands_every, stands_depth}
-use Rattle.ir_tree_laws.proofs.Sees.{stands_operands, all_same}
-use Rattle.ir_tree_laws.proofs.Without.{without_stands, member_left, left_sees_same, same_head, keep}
+use Rattle.ir_tree_laws.proofs.DominatedBy.{stands_operands, all_same}
+use Rattle.ir_tree_laws.proofs.Without.{without_stands, member_left, left_dominated_by_same, same_head, keep}
 
 pub greatest_within : {X : Type 0} (f : X → ℕ) (n : ℕ) (xs : List X) → ((x : X) → In x xs → f x ≤ n) → greatest f xs ≤ n
 greatest_within f n [] h = omega arith
@@ -36,7 +36,7 @@ filter_shorter p (x ∷ xs) =
     let k = filter_shorter p xs in
     elim (p x) as (λ b. length (cond b (x ∷ filter p xs) (filter p xs)) ≤ length (x ∷ xs)) [ true ↦ omega (arith, k) | false ↦ omega (arith, k) ]
 
--- distinct ids that are all in another list are no more
+-- a list of distinct ids that are all in another list is at most as long
 pub no_more : (xs ys : List ℕ) → IsDistinct eqb xs → ((y : ℕ) → list_any (λ z. eqb z y) xs ≡ true → list_any (λ z. eqb z y) ys ≡ true) → length xs ≤ length ys
 no_more xs ys d f = length-le_from_is_member nat_eq_equiv xs ys d (λ q h. sym (flips q ys) ∙ f q (flips q xs ∙ h))
   where
@@ -54,7 +54,7 @@ all_of_each f P (u ∷ ss) a s (inl e) = subst (λ z. P (f z)) (sym e) a.0
 all_of_each f P (u ∷ ss) a s (inr h) = all_of_each f P ss a.1 s h
 
 module _ {N T A : Type 0} where
-  -- an edit of lists leaves an operation its own counts
+  -- an edit of lists keeps the counts of an operation's head
   regions_kept : (f : ℕ → ℕ → OpsOf N T A → OpsOf N T A) (p r : ℕ) (rs : RegionsOf N T A) → region_count (regions_each_list f p r rs) ≡ region_count rs
   regions_kept f p r no_regions = refl
   regions_kept f p r (region g rs) = ap (λ n. n + 1) (regions_kept f p (r + 1) rs)
@@ -76,7 +76,7 @@ module _ {N T A : Type 0} where
 
   module _ (isolated : N → Bool) where
     pub record FormedEach (t : OpOf N T A) : Type 0 where
-      pub sees_own : (s : StandOf N T A) → In s (stands [] t) → list_all (sees isolated s.path) (head s.here).operands ≡ true
+      pub dominated_by_own : (s : StandOf N T A) → In s (stands [] t) → list_all (dominated_by isolated s.path) (head s.here).operands ≡ true
       pub shallow : (s : StandOf N T A) → In s (stands [] t) → length s.path ≤ most_around
       pub count : op_count t ≤ most_ops
       pub fits : (s : StandOf N T A) → In s (stands [] t) → op_fits s.here ≡ true
@@ -93,35 +93,35 @@ module _ {N T A : Type 0} where
         let e = stands_depth path t in
         omega (arith, g, e)
 
-    pub from_formed : (t : OpOf N T A) → IsFormed isolated t → FormedEach t
+    pub from_formed : (t : OpOf N T A) → IsValidTree isolated t → FormedEach t
     from_formed t f =
         let c = both (nat_le (op_count t) most_ops) (every op_fits t) f.counts in
         record {
-          sees_own = all_each (λ (s : StandOf N T A). list_all (sees isolated s.path) (head s.here).operands) (stands [] t) (sym (stands_operands isolated t) ∙ f.visible);
+          dominated_by_own = all_each (λ (s : StandOf N T A). list_all (dominated_by isolated s.path) (head s.here).operands) (stands [] t) (sym (stands_operands isolated t) ∙ f.visible);
           shallow = λ s h. let w = within_depth [] t s h in let k = f.shallow in omega (arith, w, k);
           count = leb-true (op_count t) most_ops c.0;
           fits = all_each (λ (s : StandOf N T A). op_fits s.here) (stands [] t) (stands_every op_fits [] t ∙ c.1);
         }
 
-    pub to_formed : (t : OpOf N T A) → FormedEach t → IsFormed isolated t
+    pub to_formed : (t : OpOf N T A) → FormedEach t → IsValidTree isolated t
     to_formed t f = record {
-      visible = stands_operands isolated t ∙ each_all (λ (s : StandOf N T A). list_all (sees isolated s.path) (head s.here).operands) (stands [] t) f.sees_own;
+      visible = stands_operands isolated t ∙ each_all (λ (s : StandOf N T A). list_all (dominated_by isolated s.path) (head s.here).operands) (stands [] t) f.dominated_by_own;
       shallow = depth_within t most_around f.shallow;
       counts = both_hold (nat_le (op_count t) most_ops) (every op_fits t) (le-leb (op_count t) most_ops f.count) (sym (stands_every op_fits [] t) ∙ each_all (λ (s : StandOf N T A). op_fits s.here) (stands [] t) f.fits);
     }
 
-    -- a tree without an operation whose results no other uses
+    -- a tree without an operation whose results no other operation uses
     module _ (x : ℕ) where
       abbrev pub Spared : OpOf N T A → Type 0
       Spared t = (s : StandOf N T A) → In s (stands [] t) → is_gone x s ≡ false → list_all (λ v. not (eqb (owner_of v).0 x)) (head s.here).operands ≡ true
 
       left_each : (t : OpOf N T A) → FormedEach t → Spared t → FormedEach (without x t)
       left_each t f spared = record {
-        sees_own = λ u h. let m = member_left x t u h in
-            subst (λ (z : StandOf N T A). list_all (sees isolated z.path) (head z.here).operands ≡ true) (sym m.3)
-            (ap (λ (h : HeadOf N T A). list_all (sees isolated (map (left_step x) m.0.path)) h.operands) (same_head x (dropping x) m.0.here)
-            ∙ all_same _ _ (head m.0.here).operands (λ v k. left_sees_same x isolated v (not_false (eqb (owner_of v).0 x) (all_each (λ v. not (eqb (owner_of v).0 x)) (head m.0.here).operands (spared m.0 m.1 m.2) v k)) m.0.path)
-            ∙ f.sees_own m.0 m.1);
+        dominated_by_own = λ u h. let m = member_left x t u h in
+            subst (λ (z : StandOf N T A). list_all (dominated_by isolated z.path) (head z.here).operands ≡ true) (sym m.3)
+            (ap (λ (h : HeadOf N T A). list_all (dominated_by isolated (map (left_step x) m.0.path)) h.operands) (same_head x (dropping x) m.0.here)
+            ∙ all_same _ _ (head m.0.here).operands (λ v k. left_dominated_by_same x isolated v (not_false (eqb (owner_of v).0 x) (all_each (λ v. not (eqb (owner_of v).0 x)) (head m.0.here).operands (spared m.0 m.1 m.2) v k)) m.0.path)
+            ∙ f.dominated_by_own m.0 m.1);
         shallow = λ u h. let m = member_left x t u h in
             let a = f.shallow m.0 m.1 in
             let b = ap (λ (z : StandOf N T A). length z.path) m.3 in
@@ -140,7 +140,7 @@ module _ {N T A : Type 0} where
         fits = λ u h. let m = member_left x t u h in ap (λ (z : StandOf N T A). op_fits z.here) m.3 ∙ list_fits (dropping x) m.0.here ∙ f.fits m.0 m.1;
       }
 
-      pub left_formed : (t : OpOf N T A) → IsFormed isolated t → Spared t → IsFormed isolated (without x t)
+      pub left_formed : (t : OpOf N T A) → IsValidTree isolated t → Spared t → IsValidTree isolated (without x t)
       left_formed t f spared = to_formed (without x t) (left_each t (from_formed t f) spared)
 
       pub left_well_formed : (m : ModuleOf N T A) → IsWellFormed isolated m → Spared m.tree → IsWellFormed isolated (record m { tree = without x m.tree })

@@ -1,4 +1,4 @@
--- Edits of heads against which no reason stands keep a module well-formed.
+-- Accepted edits of heads keep a module well-formed.
 use Rattle.std.proofs.Common.{◌≡◌, refl, ap, sym, ◌∙◌, subst, ℕ, zero, suc, ◌+◌, ◌<◌, ◌≤◌, Bool, true, false, true≢false, cond, not, ◌&&◌, eqb, eqb-true, List, [], ◌∷◌, length, map, Option, Some, None, inl, inr, arith}
 use Rattle.std.specs.Prelude.{All, nat_lt, nat_le, is_some, slice_set}
 use Rattle.std.specs.List.{list_all, IsDistinct}
@@ -15,15 +15,15 @@ use Rattle.ir_tree.specs.Sites.{visible}
 use Rattle.ir_tree.specs.Uses.{same_value, operand_uses, uses_of}
 use Rattle.ir_tree.specs.Edits.{each_head, regions_each_head, at, put_operand, with_operand, put_value, put_values, with_value_replaced, same_key, put_entry, drop_entry, change_entry, entry_at, part_of, change_part, with_entry}
 use Rattle.ir_tree.specs.Meaning.{rises, rises_after, dictionaries_rise}
-use Rattle.ir_tree.specs.WellFormed.{ModuleOf, IsFormed, IsWellFormed}
+use Rattle.ir_tree.specs.WellFormed.{ModuleOf, IsValidTree, IsWellFormed}
 use Rattle.ir_tree_laws.specs.Reasons.{set_operand_reason, set_entry_reason, entry_reason, has_room}
-use Rattle.ir_tree_laws.specs.Stands.{StandOf, stand_id, stands, sees, edit_stand, edit_step, gather}
+use Rattle.ir_tree_laws.specs.Stands.{StandOf, stand_id, stands, dominated_by, edit_stand, edit_step, gather}
 use Rattle.ir_tree_laws.specs.Members.{In}
 use Rattle.ir_tree_laws.proofs.Listed.{in_mapped, in_left, in_right, all_each, each_all, both, both_hold, bool_cases, either}
 use Rattle.ir_tree_laws.proofs.Readings.{stands_ids, stands_every, stands_uses}
 use Rattle.ir_tree_laws.proofs.Members.{stand_found}
-use Rattle.ir_tree_laws.proofs.Sees.{visible_there, all_same}
-use Rattle.ir_tree_laws.proofs.Heads.{each_stands, Alike, each_sees}
+use Rattle.ir_tree_laws.proofs.DominatedBy.{visible_there, all_same}
+use Rattle.ir_tree_laws.proofs.Heads.{each_stands, Alike, each_dominated_by}
 use Rattle.ir_tree_laws.proofs.Formed.{from_formed, to_formed}
 use Rattle.ir_tree_laws.proofs.Reasoned.{no_operand_reason, no_entry_reason, no_unless}
 use Rattle.ir_tree.proofs.Heads.{part_operands}
@@ -78,15 +78,15 @@ module _ {N T A : Type 0} (f : HeadOf N T A → HeadOf N T A) (alike : (h : Head
   member_edited : (t : OpOf N T A) (u : StandOf N T A) → In u (stands [] (each_head f t)) → (s : StandOf N T A) × In s (stands [] t) × (u ≡ edit_stand f s)
   member_edited t u h = in_mapped (edit_stand f) u (stands [] t) (subst (λ (l : List (StandOf N T A)). In u l) (each_stands f [] t) h)
 
-  pub edit_formed : (isolated : N → Bool) (t : OpOf N T A) → IsFormed isolated t → ((s : StandOf N T A) → In s (stands [] t) → list_all (sees isolated s.path) (f (head s.here)).operands ≡ true)
-      → ((s : StandOf N T A) → In s (stands [] t) → head_fits (f (head s.here)) ≡ true) → IsFormed isolated (each_head f t)
+  pub edit_formed : (isolated : N → Bool) (t : OpOf N T A) → IsValidTree isolated t → ((s : StandOf N T A) → In s (stands [] t) → list_all (dominated_by isolated s.path) (f (head s.here)).operands ≡ true)
+      → ((s : StandOf N T A) → In s (stands [] t) → head_fits (f (head s.here)) ≡ true) → IsValidTree isolated (each_head f t)
   edit_formed isolated t formed own fits =
       let g = from_formed isolated t formed in
       to_formed isolated (each_head f t) (record {
-        sees_own = λ u h. let m = member_edited t u h in
-            ap (λ (z : StandOf N T A). list_all (sees isolated z.path) (head z.here).operands) m.2
-            ∙ ap (λ (h : HeadOf N T A). list_all (sees isolated (map (edit_step f) m.0.path)) h.operands) (head_each m.0.here)
-            ∙ all_same _ _ (f (head m.0.here)).operands (λ v k. each_sees f alike isolated m.0.path v)
+        dominated_by_own = λ u h. let m = member_edited t u h in
+            ap (λ (z : StandOf N T A). list_all (dominated_by isolated z.path) (head z.here).operands) m.2
+            ∙ ap (λ (h : HeadOf N T A). list_all (dominated_by isolated (map (edit_step f) m.0.path)) h.operands) (head_each m.0.here)
+            ∙ all_same _ _ (f (head m.0.here)).operands (λ v k. each_dominated_by f alike isolated m.0.path v)
             ∙ own m.0 m.1;
         shallow = λ u h. let m = member_edited t u h in
             let a = g.shallow m.0 m.1 in
@@ -97,7 +97,7 @@ module _ {N T A : Type 0} (f : HeadOf N T A → HeadOf N T A) (alike : (h : Head
         fits = λ u h. let m = member_edited t u h in ap (λ (z : StandOf N T A). op_fits z.here) m.2 ∙ edit_fits m.0.here (fits m.0 m.1) (g.fits m.0 m.1);
       })
 
-  pub edit_well_formed : (isolated : N → Bool) (m : ModuleOf N T A) → IsWellFormed isolated m → ((s : StandOf N T A) → In s (stands [] m.tree) → list_all (sees isolated s.path) (f (head s.here)).operands ≡ true)
+  pub edit_well_formed : (isolated : N → Bool) (m : ModuleOf N T A) → IsWellFormed isolated m → ((s : StandOf N T A) → In s (stands [] m.tree) → list_all (dominated_by isolated s.path) (f (head s.here)).operands ≡ true)
       → ((s : StandOf N T A) → In s (stands [] m.tree) → head_fits (f (head s.here)) ≡ true) → IsWellFormed isolated (record m { tree = each_head f m.tree })
   edit_well_formed isolated m w own fits = record {
     distinct = subst (IsDistinct eqb) (sym (edit_ids m.tree)) w.distinct;
@@ -127,9 +127,9 @@ module _ {N T A : Type 0} (isolated : N → Bool) where
       let g = from_formed isolated m.tree w.formed in
       edit_well_formed (at x (put_operand k v)) (alike_at x (put_operand k v) (λ h. record { id = refl; name = refl; results = refl })) isolated m w
       (λ s h. elim (bool_cases (eqb (stand_id s) x)) [
-        | inl e ↦ ap (λ b. list_all (sees isolated s.path) (cond b (put_operand k v (head s.here)) (head s.here)).operands) e
-            ∙ set_passes (sees isolated s.path) (head s.here).operands k v (g.sees_own s h) (sym (visible_there isolated m.tree w.distinct s h v) ∙ ap (λ z. visible isolated m.tree z v) (eqb-true (stand_id s) x e) ∙ seen)
-        | inr e ↦ ap (λ b. list_all (sees isolated s.path) (cond b (put_operand k v (head s.here)) (head s.here)).operands) e ∙ g.sees_own s h
+        | inl e ↦ ap (λ b. list_all (dominated_by isolated s.path) (cond b (put_operand k v (head s.here)) (head s.here)).operands) e
+            ∙ set_passes (dominated_by isolated s.path) (head s.here).operands k v (g.dominated_by_own s h) (sym (visible_there isolated m.tree w.distinct s h v) ∙ ap (λ z. visible isolated m.tree z v) (eqb-true (stand_id s) x e) ∙ seen)
+        | inr e ↦ ap (λ b. list_all (dominated_by isolated s.path) (cond b (put_operand k v (head s.here)) (head s.here)).operands) e ∙ g.dominated_by_own s h
       ])
       (λ s h. fits_there (head s.here) (own_fits s.here (g.fits s h)))
     where
@@ -141,21 +141,21 @@ module _ {N T A : Type 0} (isolated : N → Bool) where
           ]
 
   pub set_operand_keeps : (x k : ℕ) (v : Value) (m : ModuleOf N T A) → IsWellFormed isolated m → set_operand_reason isolated x k v m.tree ≡ None → IsWellFormed isolated (record m { tree = with_operand x k v m.tree })
-  set_operand_keeps x k v m w e = operand_keeps x k v m w (no_operand_reason isolated x k v m.tree e).sees
+  set_operand_keeps x k v m w e = operand_keeps x k v m w (no_operand_reason isolated x k v m.tree e).dominated_by
 
-  -- one value in place of another, which each of its users sees
+  -- all uses of a value replaced by another, which is visible at each user
   pub replaced_keeps : (old new : Value) (m : ModuleOf N T A) → IsWellFormed isolated m → list_all (λ u. visible isolated m.tree u.0 new) (uses_of old m.tree) ≡ true → IsWellFormed isolated (record m { tree = with_value_replaced old new m.tree })
   replaced_keeps old new m w seen =
       let g = from_formed isolated m.tree w.formed in
       edit_well_formed (put_values old new) (λ h. record { id = refl; name = refl; results = refl }) isolated m w
-      (λ s h. each_all (sees isolated s.path) (map (put_value old new) (head s.here).operands) (λ v i.
+      (λ s h. each_all (dominated_by isolated s.path) (map (put_value old new) (head s.here).operands) (λ v i.
       let r = in_mapped (put_value old new) v (head s.here).operands i in
-      ap (sees isolated s.path) r.2
+      ap (dominated_by isolated s.path) r.2
       ∙ elim (bool_cases (same_value old r.0)) [
-        | inr e ↦ ap (λ b. sees isolated s.path (cond b new r.0)) e ∙ all_each (sees isolated s.path) (head s.here).operands (g.sees_own s h) r.0 r.1
+        | inr e ↦ ap (λ b. dominated_by isolated s.path (cond b new r.0)) e ∙ all_each (dominated_by isolated s.path) (head s.here).operands (g.dominated_by_own s h) r.0 r.1
         | inl e ↦ (let n = used_here old (stand_id s) 0 (head s.here).operands r.0 r.1 e in
             let j : In (stand_id s, n.0) (uses_of old m.tree) = subst (λ l. In (stand_id s, n.0) l) (stands_uses old [] m.tree) (in_gather (λ (u : StandOf N T A). operand_uses old (stand_id u) 0 (head u.here).operands) (stand_id s, n.0) s (stands [] m.tree) h n.1) in
-            ap (λ b. sees isolated s.path (cond b new r.0)) e
+            ap (λ b. dominated_by isolated s.path (cond b new r.0)) e
             ∙ sym (visible_there isolated m.tree w.distinct s h new)
             ∙ all_each (λ u. visible isolated m.tree u.0 new) (uses_of old m.tree) seen (stand_id s, n.0) j)
       ]))
@@ -229,8 +229,8 @@ module _ {N T A : Type 0} (isolated : N → Bool) (before : N → N → Bool) (t
       let n = no_entry_reason before x part k a m.tree e in
       let c = change_part part (change_entry before k a) in
       edit_well_formed (at x (change_part part (change_entry before k a))) (alike_at x (change_part part (change_entry before k a)) (alike_part part (change_entry before k a))) isolated m w
-      (λ s h. elim (eqb (stand_id s) x) as (λ b. list_all (sees isolated s.path) (cond b (c (head s.here)) (head s.here)).operands ≡ true)
-      [ true ↦ ap (list_all (sees isolated s.path)) (part_operands part (change_entry before k a) (head s.here)) ∙ g.sees_own s h | false ↦ g.sees_own s h ])
+      (λ s h. elim (eqb (stand_id s) x) as (λ b. list_all (dominated_by isolated s.path) (cond b (c (head s.here)) (head s.here)).operands ≡ true)
+      [ true ↦ ap (list_all (dominated_by isolated s.path)) (part_operands part (change_entry before k a) (head s.here)) ∙ g.dominated_by_own s h | false ↦ g.dominated_by_own s h ])
       (λ s h. elim (bool_cases (eqb (stand_id s) x)) [
         | inr i ↦ ap (λ b. head_fits (cond b (c (head s.here)) (head s.here))) i ∙ own_fits s.here (g.fits s h)
         | inl i ↦ (let same : Some s.here ≡ Some n.here = sym (stand_found m.tree w.distinct s h) ∙ ap (λ z. find z m.tree) (eqb-true (stand_id s) x i) ∙ n.found in

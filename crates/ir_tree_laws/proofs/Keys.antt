@@ -4,7 +4,7 @@ use Rattle.std.specs.Ordering.{is_eq, is_lt, nat_cmp, ordering_reverse}
 use Rattle.std.specs.Cmp.Lexicographic.{slice_cmp}
 use Rattle.std.proofs.lemmas.Cmp.{nat_list_cmp_total}
 use Rattle.std.proofs.lemmas.Map.Text.{is_eq-slice_cmp}
-use Rattle.ir_tree.specs.types.Things.{Things}
+use Rattle.ir_tree.specs.types.Things.{ContextModel}
 use Rattle.ir_tree.specs.types.Terms.{name_term}
 use Rattle.ir_tree.proofs.of_types.Growth.{name_refl, name_is}
 use Rattle.ir_tree.specs.Meaning.{key_before, key_before_in}
@@ -30,5 +30,5 @@ keys_ordered = record {
   exact = λ k l h g. name_is k l (sym (is_eq-slice_cmp k l) ∙ tied_is (slice_cmp nat_cmp k l) (slice_cmp nat_cmp l k) (nat_list_cmp_total.antisymm k l) h g);
 }
 
-pub key_before_trans : (c : Things) (k l m : ℕ) → key_before_in c k l ≡ true → key_before_in c l m ≡ true → key_before_in c k m ≡ true
+pub key_before_trans : (c : ContextModel) (k l m : ℕ) → key_before_in c k l ≡ true → key_before_in c l m ≡ true → key_before_in c k m ≡ true
 key_before_trans c k l m h g = keys_ordered.trans (name_term c k) (name_term c l) (name_term c m) h g

@@ -2,7 +2,7 @@ pub mod Facts
 pub mod Listed
 pub mod Readings
 pub mod Members
-pub mod Sees
+pub mod DominatedBy
 pub mod Heads
 pub mod Without
 pub mod Around
@@ -25,10 +25,10 @@ pub mod Undone
 pub mod Reverted
 pub mod Neighbours
 pub mod Nested
-pub mod ShiftSight
+pub mod ShiftDominance
 pub mod RenumberedPlaces
 pub mod RenumberedSame
-pub mod RenumberedSight
+pub mod RenumberedDominance
 pub mod RenumberedForm
 pub mod RenumberedFixed
 pub use Rattle.ir_tree.proofs as of_trees

@@ -1,4 +1,4 @@
--- Lists: members, and what functions of a list make of two lists joined.
+-- Lists: members, and functions of the concatenation of two lists.
 use Rattle.std.proofs.Common.{◌≡◌, refl, ap, sym, ◌∙◌, subst, ℕ, max, Bool, true, false, true≢false, cond, not, ◌&&◌, ◌||◌, eqb, List, [], ◌∷◌, ◌++◌, map, filter, append_assoc, Option, Some, None, inl, inr, ◌⊎◌, arith}
 use Rattle.std.specs.List.{list_any, list_all}
 use Rattle.ir_tree.specs.Ids.{first_of}
@@ -28,13 +28,13 @@ in_map f x [] h = absurd h
 in_map f x (y ∷ xs) (inl e) = inl (ap f e)
 in_map f x (y ∷ xs) (inr h) = inr (in_map f x xs h)
 
--- one of a mapped list is of one of the list
+-- a member of a mapped list is the image of a member
 pub in_mapped : {X Y : Type 0} (f : X → Y) (y : Y) (xs : List X) → In y (map f xs) → (x : X) × In x xs × (y ≡ f x)
 in_mapped f y [] h = absurd h
 in_mapped f y (x ∷ xs) (inl e) = (x, inl refl, e)
 in_mapped f y (x ∷ xs) (inr h) = let r = in_mapped f y xs h in (r.0, inr r.1, r.2)
 
--- one of those of a list that pass a test
+-- a member of a filtered list
 pub in_filter : {X : Type 0} (p : X → Bool) (x : X) (xs : List X) → p x ≡ true → In x xs → In x (filter p xs)
 in_filter p x [] e h = absurd h
 in_filter p x (y ∷ xs) e (inl k) = subst (λ b. In x (cond b (y ∷ filter p xs) (filter p xs))) (sym (sym (ap p k) ∙ e)) (inl k)
@@ -51,7 +51,7 @@ pub in_filtered : {X : Type 0} (p : X → Bool) (x : X) (xs : List X) → In x (
 in_filtered p x [] h = absurd h
 in_filtered p x (y ∷ xs) h = filtered_step p x y xs (in_filtered p x xs) (p y) refl h
 
--- what holds of all of a list, and of each
+-- a property of all members, and of each
 pub both : (a b : Bool) → (a && b) ≡ true → (a ≡ true) × (b ≡ true)
 both true b h = (refl, h)
 both false b h = absurd (true≢false (sym h))
@@ -87,7 +87,7 @@ pub each_all : {X : Type 0} (p : X → Bool) (xs : List X) → ((x : X) → In x
 each_all p [] f = refl
 each_all p (y ∷ xs) f = ap (λ b. b && list_all p xs) (f y (inl refl)) ∙ each_all p xs (λ x h. f x (inr h))
 
--- what holds of some of a list
+-- a property of some member
 pub any_one : {X : Type 0} (p : X → Bool) (xs : List X) (x : X) → In x xs → p x ≡ true → list_any p xs ≡ true
 any_one p [] x h e = absurd h
 any_one p (y ∷ xs) x (inl k) e = ap (λ b. b || list_any p xs) (sym (ap p k) ∙ e)
@@ -97,7 +97,7 @@ pub one_any : {X : Type 0} (p : X → Bool) (xs : List X) → list_any p xs ≡ 
 one_any p [] e = absurd (true≢false (sym e))
 one_any p (y ∷ xs) e = elim (either (p y) (list_any p xs) e) [ inl k ↦ (y, inl refl, k) | inr k ↦ let r = one_any p xs k in (r.0, inr r.1, r.2) ]
 
--- two lists joined
+-- the concatenation of two lists
 pub gather-append : {X Y : Type 0} (f : X → List Y) (xs ys : List X) → gather f (xs ++ ys) ≡ gather f xs ++ gather f ys
 gather-append f [] ys = refl
 gather-append f (x ∷ xs) ys = ap (λ l. f x ++ l) (gather-append f xs ys) ∙ sym (append_assoc (f x) (gather f xs) (gather f ys))

@@ -1,4 +1,4 @@
--- Operations with where they stand, as members of a list.
+-- Operations with their paths, as members of the list of a tree.
 use Rattle.std.proofs.Common.{◌≡◌, refl, ap, sym, ◌∙◌, subst, ℕ, ◌+◌, Bool, true, false, true≢false, cond, ◌&&◌, eqb, eq-eqb, eqb-true, List, [], ◌∷◌, ◌++◌, map, append_assoc, append-nil, Option, Some, None, option_map, inl, inr, ◌⊎◌}
 use Rattle.std.specs.List.{IsDistinct, AllByRecursion, list_any}
 use Rattle.std.proofs.lemmas.Map.Keys.{IsDistinct-head, IsDistinct-tail}
@@ -16,7 +16,7 @@ module _ {N T A : Type 0} where
   pub itself : (path : List (StepOf N T A)) (t : OpOf N T A) → In (stand t path) (stands path t)
   itself path (op h rs) = inl refl
 
-  -- what stands inside an operation that stands in a tree stands in that tree
+  -- an operation inside an operation of the list is in the list
   module _ (o : OpOf N T A) (q : List (StepOf N T A)) (s : StandOf N T A) (inner : In s (stands q o)) where
     mutual
       pub within : (b : List (StepOf N T A)) (t : OpOf N T A) → In (stand o q) (stands b t) → In s (stands b t)
@@ -41,7 +41,7 @@ module _ {N T A : Type 0} where
         | inr l ↦ in_right s (stands (step p r args front os ∷ b) u) (ops_stands p b r args (front ++ u ∷ []) os) (ops_within p b r args (front ++ u ∷ []) os l)
       ]
 
-  -- around each that isn't the first stands another, in which it stands
+  -- each operation but the first has a parent in the list
   abbrev pub HasAround : StandOf N T A → List (StandOf N T A) → Type 0
   HasAround s ss = (a : StepOf N T A) × (q : List (StepOf N T A)) × (s.path ≡ a ∷ q) × In s (stands q a.parent) × In (stand a.parent q) ss
 
@@ -88,7 +88,7 @@ module _ {N T A : Type 0} where
           | inr l ↦ wider_right s (stand p b) xs ys (ops_around p b r args (front ++ o ∷ []) os s l (λ u m. f u (in_right u xs ys m)))
         ]
 
-  -- an operation of a list with what comes before it
+  -- an operation of a list with the operations before it
   abbrev pub joined_ops : List (OpOf N T A) → OpsOf N T A → OpsOf N T A
   joined_ops [] os = os
   joined_ops (o ∷ fs) os = next o (joined_ops fs os)
@@ -102,7 +102,7 @@ module _ {N T A : Type 0} where
       in_right _ (stands (step p r args front (joined_ops fs (next o os)) ∷ b) u) (ops_stands p b r args (front ++ u ∷ []) (joined_ops fs (next o os)))
       (subst (λ (l : List (OpOf N T A)). In (stand o (step p r args l os ∷ b)) (ops_stands p b r args (front ++ u ∷ []) (joined_ops fs (next o os)))) (append_assoc front (u ∷ []) fs) (ops_child p b r args (front ++ u ∷ []) fs o os))
 
-  -- where ids are distinct, each member is the one with its id
+  -- if ids are distinct, each member is the one with its id
   all_in : (x : ℕ) (ss : List (StandOf N T A)) → AllByRecursion (λ y. eqb x y ≡ false) (map (λ (s : StandOf N T A). stand_id s) ss) → (s : StandOf N T A) → In s ss → eqb x (stand_id s) ≡ false
   all_in x [] a s h = absurd h
   all_in x (y ∷ ss) a s (inl e) = ap (λ (z : StandOf N T A). eqb x (stand_id z)) e ∙ a.0
@@ -118,7 +118,7 @@ module _ {N T A : Type 0} where
       ap (λ b. cond b (Some y) (stand_in (stand_id s) ss)) (all_in (stand_id y) ss (IsDistinct-head eqb (stand_id y) (map (λ (s : StandOf N T A). stand_id s) ss) d) s h)
       ∙ the_one ss (IsDistinct-tail eqb (stand_id y) (map (λ (s : StandOf N T A). stand_id s) ss) d) s h
 
-  -- the one that is found is a member with that id
+  -- the found operation is a member with that id
   member_step : (x : ℕ) (y : StandOf N T A) (ss : List (StandOf N T A)) (s : StandOf N T A) → (stand_in x ss ≡ Some s → In s ss × (stand_id s ≡ x)) → (b : Bool) → eqb (stand_id y) x ≡ b → cond b (Some y) (stand_in x ss) ≡ Some s → In s (y ∷ ss) × (stand_id s ≡ x)
   member_step x y ss s later true k e = let one : s ≡ y = cc in (inl one, ap (λ (z : StandOf N T A). stand_id z) one ∙ eqb-true (stand_id y) x k)
   member_step x y ss s later false k e = let l = later e in (inr l.0, l.1)
@@ -130,13 +130,13 @@ module _ {N T A : Type 0} where
   pub stand_of_member : (t : OpOf N T A) → HasDistinctIds t → (s : StandOf N T A) → In s (stands [] t) → stand_of (stand_id s) t ≡ Some s
   stand_of_member t d s h = the_one (stands [] t) (subst (IsDistinct eqb) (sym (stands_ids [] t)) d) s h
 
-  -- two with one id are one
+  -- two members with one id are equal
   pub same_stand : (t : OpOf N T A) → HasDistinctIds t → (s u : StandOf N T A) → In s (stands [] t) → In u (stands [] t) → stand_id s ≡ stand_id u → s ≡ u
   same_stand t d s u h k e =
       let p : Some s ≡ Some u = sym (stand_of_member t d s h) ∙ ap (λ x. stand_of x t) e ∙ stand_of_member t d u k in
       cc
 
-  -- an operation that is found stands somewhere
+  -- a found operation is in the list
   pub found_stands : (x : ℕ) (t o : OpOf N T A) → find x t ≡ Some o → (s : StandOf N T A) × In s (stands [] t) × (stand_id s ≡ x) × (s.here ≡ o)
   found_stands x t o e = go (stand_in x (stands [] t)) refl (stands_find x [] t ∙ e)
     where
@@ -148,7 +148,7 @@ module _ {N T A : Type 0} where
   pub stand_found : (t : OpOf N T A) → HasDistinctIds t → (s : StandOf N T A) → In s (stands [] t) → find (stand_id s) t ≡ Some s.here
   stand_found t d s h = sym (stands_find (stand_id s) [] t) ∙ ap (option_map (λ (u : StandOf N T A). u.here)) (stand_of_member t d s h)
 
-  -- a test of the one with an id
+  -- a test of the operation with an id
   pub tested : (f : StandOf N T A → Bool) (t : OpOf N T A) → HasDistinctIds t → (s : StandOf N T A) → In s (stands [] t) → list_any (λ (u : StandOf N T A). eqb (stand_id u) (stand_id s) && f u) (stands [] t) ≡ f s
   tested f t d s h = go (f s) refl (list_any (λ (u : StandOf N T A). eqb (stand_id u) (stand_id s) && f u) (stands [] t)) refl
     where
@@ -164,6 +164,6 @@ module _ {N T A : Type 0} where
           let same = same_stand t d w.0 s w.1 h (eqb-true (stand_id w.0) (stand_id s) b.0) in
           absurd (true≢false (sym b.1 ∙ ap f same ∙ k))
 
-  -- and a member of what stands in an operation anywhere
+  -- the same for a list that starts below the root
   pub found_in : (path : List (StepOf N T A)) (t : OpOf N T A) → HasDistinctIds t → (s : StandOf N T A) → In s (stands path t) → find (stand_id s) t ≡ Some s.here
   found_in path t d s h = sym (stands_find (stand_id s) path t) ∙ ap (option_map (λ (u : StandOf N T A). u.here)) (the_one (stands path t) (subst (IsDistinct eqb) (sym (stands_ids path t)) d) s h)

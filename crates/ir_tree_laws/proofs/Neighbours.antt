@@ -1,4 +1,4 @@
--- The operations beside an operation, read off its path, and what it sees by them.
+-- The neighbours of an operation, read from its path, and the values that are visible because of them.
 use Rattle.std.proofs.Common.{◌≡◌, refl, ap, sym, ◌∙◌, subst, ℕ, Bool, true, false, true≢false, cond, not, ◌&&◌, ◌||◌, eqb, eq-eqb, eqb-true, List, [], ◌∷◌, ◌++◌, length, Option, Some, None, option_map, inl, inr, arith}
 use Rattle.std.specs.Prelude.{nat_lt, is_some, slice_get, option_and_then}
 use Rattle.std.specs.List.{list_any}
@@ -18,7 +18,7 @@ use Rattle.ir_tree_laws.proofs.Listed.{bool_cases, any_one, both, in_right, one_
 use Rattle.ir_tree_laws.proofs.Readings.{step}
 use Rattle.ir_tree_laws.proofs.Members.{stand, within, joined_ops, ops_child, found_stands, member, same_stand, stand_found}
 use Rattle.ir_tree_laws.proofs.Around.{around_there, member_of_place, place_of_member}
-use Rattle.ir_tree_laws.proofs.Sees.{visible_by_cases}
+use Rattle.ir_tree_laws.proofs.DominatedBy.{visible_by_cases}
 use Rattle.ir_tree_laws.proofs.Put.{child}
 use Rattle.ir_tree_laws.proofs.Values.{front_stands, got, shape, split_front}
 use Rattle.ir_tree_laws.proofs.Changed.{joined_among}
@@ -36,7 +36,7 @@ some_got {X = X} xs k = elim (bool_cases (nat_lt k (length xs))) [
     none (Some x) f e = absurd (true≢false (sym (lt-ltb k (length xs) (slice_get_within xs k x f)) ∙ e))
 
 module _ {N T A : Type 0} where
-  -- the id of the last of those before, where another is before them
+  -- the id of the last earlier operation, if there is one before the first
   abbrev last_of : Option ℕ → List (OpOf N T A) → Option ℕ
   last_of last [] = last
   last_of last (o ∷ os) = last_of (Some (head o).id) os
@@ -57,16 +57,16 @@ module _ {N T A : Type 0} where
       whole (next o os) = ap (next o) (whole os)
   joined_list (o ∷ front) os = ap (next o) (joined_list front os)
 
-  behind_first : (y x : ℕ) (front : List (OpOf N T A)) (o : OpOf N T A) (rest : OpsOf N T A) → (head o).id ≡ x → list_any (λ f. eqb (head f).id y) front ≡ true → goes_before y x (joined_ops front (next o rest)) ≡ true
-  behind_first y x [] o rest e h = absurd (true≢false (sym h))
-  behind_first y x (f ∷ front) o rest e h = go (eqb (head f).id y) h (behind_first y x front o rest e)
+  trailing_first : (y x : ℕ) (front : List (OpOf N T A)) (o : OpOf N T A) (rest : OpsOf N T A) → (head o).id ≡ x → list_any (λ f. eqb (head f).id y) front ≡ true → goes_before y x (joined_ops front (next o rest)) ≡ true
+  trailing_first y x [] o rest e h = absurd (true≢false (sym h))
+  trailing_first y x (f ∷ front) o rest e h = go (eqb (head f).id y) h (trailing_first y x front o rest e)
     where
       go : (b : Bool) → (b || list_any (λ f. eqb (head f).id y) front) ≡ true → (list_any (λ f. eqb (head f).id y) front ≡ true → goes_before y x (joined_ops front (next o rest)) ≡ true)
           → cond b (is_among x (joined_ops front (next o rest))) (goes_before y x (joined_ops front (next o rest))) ≡ true
       go true k later = joined_among x front (next o rest) (or_left (eqb (head o).id x) (is_among x rest) (eq-eqb (head o).id x e))
       go false k later = later k
 
-  -- two operations of a list, one behind the other
+  -- two operations of a list, one after the other
   two_split : (y x : ℕ) (os : OpsOf N T A) → goes_before y x os ≡ true
       → (pre : List (OpOf N T A)) × (g : OpOf N T A) × (mid : List (OpOf N T A)) × (z : OpOf N T A) × (rest : OpsOf N T A) × ((head g).id ≡ y) × ((head z).id ≡ x) × (os ≡ joined_ops (pre ++ g ∷ mid) (next z rest))
   two_split y x no_ops h = absurd (true≢false (sym h))
@@ -91,7 +91,7 @@ module _ {N T A : Type 0} where
       go None f e = absurd cc
       go (Some p) f e = let b = block_at r p os (region_at r (regions p)) refl e in (p, b.0, f, b.1)
 
-  -- where ids are distinct
+  -- if ids are distinct
   module _ (t : OpOf N T A) (d : HasDistinctIds t) (o : OpOf N T A) (a : StepOf N T A) (q : List (StepOf N T A)) (h : In (stand o (a ∷ q)) (stands [] t)) where
     abbrev x : ℕ
     x = (head o).id
@@ -123,7 +123,7 @@ module _ {N T A : Type 0} where
     pub list_there : list_of (head o).id t ≡ Some (ops_of (a.front ++ o ∷ op_list a.rest))
     list_there = list_is ∙ ap Some (joined_list a.front (next o a.rest))
 
-    -- those before are others
+    -- earlier operations are other operations
     others_before : (f : OpOf N T A) → In f a.front → eqb (head f).id (head o).id ≡ false
     others_before f k = elim (bool_cases (eqb (head f).id x)) [
       | inr e ↦ e
@@ -147,7 +147,7 @@ module _ {N T A : Type 0} where
         go None = refl
         go (Some y) = refl
 
-    -- one before it in its list is one of the front of its path
+    -- an earlier operation of its list is in the front of its path
     front_list : (y : ℕ) → list_any (λ f. eqb (head f).id y) a.front ≡ true → list_of y t ≡ Some (joined_ops a.front (next o a.rest))
     front_list y e =
         let w = one_any (λ f. eqb (head f).id y) a.front e in
@@ -192,11 +192,12 @@ module _ {N T A : Type 0} where
 
     pub before_there : (y : ℕ) → is_before y (head o).id t ≡ list_any (λ f. eqb (head f).id y) a.front
     before_there y = elim (bool_cases (list_any (λ f. eqb (head f).id y) a.front)) [
-      | inl k ↦ ap (in_list (goes_before y x)) (front_list y k) ∙ behind_first y x a.front o a.rest refl k ∙ sym k
+      | inl k ↦ ap (in_list (goes_before y x)) (front_list y k) ∙ trailing_first y x a.front o a.rest refl k ∙ sym k
       | inr k ↦ elim (bool_cases (is_before y x t)) [ inr e ↦ e ∙ sym k | inl e ↦ absurd (true≢false (sym (front_has y e) ∙ k)) ]
     ]
 
-    -- what it sees by its place: its owner before it in the list, or an argument of the block, or seen from around
+    -- visibility by the place: the owner is earlier in the list, the value is an argument of the block, or it is
+    -- visible at the parent
     result_beside : (y k : ℕ) → list_any (λ f. shows (Result y k) (results_of f)) a.front ≡ (has_value (Result y k) t && is_before y (head o).id t)
     result_beside y k = elim (bool_cases (list_any (λ f. eqb (head f).id y) a.front)) [
       | inr e ↦ none e ∙ sym (ap (λ b. has_value (Result y k) t && b) (before_there y ∙ e) ∙ never (has_value (Result y k) t))
@@ -266,9 +267,9 @@ module _ {N T A : Type 0} where
             ∙ some_got a.args k in
             (λ i. e i && (g i && nat_lt k (length a.args))) ∙ sym is ∙ sym ((λ i. has_value (Arg y r k) t && (e i && g i)) ∙ alone (has_value (Arg y r k) t))
 
-    pub sees_by_place : (isolated : N → Bool) (place : Place) (p : OpOf N T A) (v : Value) → place_of (head o).id t ≡ Some place → find place.parent t ≡ Some p
+    pub dominated_by_by_place : (isolated : N → Bool) (place : Place) (p : OpOf N T A) (v : Value) → place_of (head o).id t ≡ Some place → find place.parent t ≡ Some p
         → visible isolated t (head o).id v ≡ (has_value v t && is_beside (head o).id place v t || not (isolated (head p).name) && visible isolated t place.parent v)
-    sees_by_place isolated place p v e f =
+    dominated_by_by_place isolated place p v e f =
         visible_by_cases isolated t d (stand o (a ∷ q)) h a q refl v
         ∙ beside v
         ∙ λ i. has_value v t && is_beside (head o).id (is i) v t || not (isolated (head (one i)).name) && visible isolated t (is i).parent v
@@ -288,10 +289,10 @@ module _ {N T A : Type 0} where
         beside (Result y k) = ap (λ b. b || not (isolated (head a.parent).name) && visible isolated t (head a.parent).id (Result y k)) (result_beside y k)
         beside (Arg y r k) = λ i. none y r k a.front i || (argument_beside y r k i || not (isolated (head a.parent).name) && visible isolated t (head a.parent).id (Arg y r k))
 
-  -- and by its id
-  pub sees_beside : (isolated : N → Bool) (t : OpOf N T A) → HasDistinctIds t → (x : ℕ) (place : Place) (p : OpOf N T A) (v : Value) → place_of x t ≡ Some place → find place.parent t ≡ Some p
+  -- visibility by the id
+  pub dominated_by_beside : (isolated : N → Bool) (t : OpOf N T A) → HasDistinctIds t → (x : ℕ) (place : Place) (p : OpOf N T A) (v : Value) → place_of x t ≡ Some place → find place.parent t ≡ Some p
       → visible isolated t x v ≡ (has_value v t && is_beside x place v t || not (isolated (head p).name) && visible isolated t place.parent v)
-  sees_beside isolated t d x place p v e f =
+  dominated_by_beside isolated t d x place p v e f =
       let s = member_of_place x place t e in
       go s.0 s.1 s.2 s.0.path refl s.3
     where
@@ -301,7 +302,7 @@ module _ {N T A : Type 0} where
       go s h id (a ∷ q) r k =
           let there : In (stand s.here (a ∷ q)) (stands [] t) = subst (λ l. In (stand s.here l) (stands [] t)) r h in
           subst (λ y. visible isolated t y v ≡ (has_value v t && is_beside y place v t || not (isolated (head p).name) && visible isolated t place.parent v)) id
-          (sees_by_place t d s.here a q there isolated place p v (ap (λ y. place_of y t) id ∙ e) f)
+          (dominated_by_by_place t d s.here a q there isolated place p v (ap (λ y. place_of y t) id ∙ e) f)
 
   module _ (t : OpOf N T A) (d : HasDistinctIds t) (x : ℕ) (s : StandOf N T A) (a : StepOf N T A) (q : List (StepOf N T A)) (e : stand_of x t ≡ Some s) (p : s.path ≡ a ∷ q) where
     there_it : In (stand s.here (a ∷ q)) (stands [] t)

@@ -1,4 +1,4 @@
--- What is put into an operation that was put somewhere, or taken out of it.
+-- Inserting into an operation that was inserted before, and taking out of it.
 use Rattle.std.proofs.Common.{◌≡◌, refl, ap, sym, ◌∙◌, ℕ, zero, suc, ◌+◌, ◌<◌, Bool, true, false, true≢false, cond, ◌&&◌, eqb, eq-eqb, eqb-true, List, [], ◌∷◌, Option, Some, None, option_map, inl, inr, arith}
 use Rattle.std.specs.Prelude.{option_and_then}
 use Rattle.std.specs.List.{list_any}
@@ -45,7 +45,7 @@ module _ {N T A : Type 0} where
         elim (is_in_block place p r) as (λ b. ops_each_list f (cond b (put_in place.before o os) os) ≡ cond b (put_in place.before (each_list f o) (ops_each_list f os)) (ops_each_list f os))
         [ true ↦ list_put_in place.before o os | false ↦ refl ]
 
-  -- what is put into an operation that was put
+  -- inserting into an inserted operation
   module _ (place into : Place) (o c : OpOf N T A) where
     abbrev first : ℕ → ℕ → OpsOf N T A → OpsOf N T A
     first = put_here place o
@@ -81,7 +81,7 @@ module _ {N T A : Type 0} where
     pub put_along : (t : OpOf N T A) → has_id into.parent t ≡ false → put into c (put place o t) ≡ put place (put into c o) t
     put_along t a = op_along t a
 
-  -- what is taken out of an operation that was put
+  -- taking out of an inserted operation
   module _ (y : ℕ) (place : Place) (o : OpOf N T A) (other : eqb (head o).id y ≡ false) where
     abbrev dropped : ℕ → ℕ → OpsOf N T A → OpsOf N T A
     dropped = λ p r os. drop_op y os
@@ -141,7 +141,7 @@ module _ {N T A : Type 0} where
     pub without_along : (t : OpOf N T A) → has_id y t ≡ false → without y (put place o t) ≡ put place (without y o) t
     without_along t a = op_left t a
 
-  -- what is inside an operation that was put is found as it was
+  -- an operation inside an inserted operation is found unchanged
   pub found_along : (place : Place) (o t : OpOf N T A) (may : MayPut place o t) (y : ℕ) (z : OpOf N T A) → find y o ≡ Some z → find y (put place o t) ≡ Some z
   found_along place o t may y z e = go (stand_in y (stands path o)) refl (stands_find y path o ∙ e)
     where
@@ -154,7 +154,7 @@ module _ {N T A : Type 0} where
           let m = member y (stands path o) s k in
           ap (λ q. find q (put place o t)) (sym m.1) ∙ stand_found (put place o t) (put_distinct place o t may) s (within o path s m.0 [] (put place o t) (landed place o t may).there) ∙ h
 
-  -- a place in it is a place of the tree
+  -- a place in an inserted operation is a place of the tree
   pub place_along : (place into : Place) (o t : OpOf N T A) → MayPut place o t → has_place into o ≡ true → has_place into (put place o t) ≡ true
   place_along place into o t may e = go (find into.parent o) refl e
     where
@@ -167,7 +167,7 @@ module _ {N T A : Type 0} where
     distinct = put_distinct place o t may;
     own = inner.own;
     apart = λ y h. gained_ids place o y t (inner.apart y h) (out y h);
-    spot = place_along place into o t may inner.spot;
+    point = place_along place into o t may inner.point;
   }
 
   -- at the end of a block of an operation

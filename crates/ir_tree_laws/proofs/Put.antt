@@ -1,4 +1,4 @@
--- Where an operation stands that is put at a place.
+-- The path of an operation that is inserted at a place.
 use Rattle.std.proofs.Common.{◌≡◌, refl, ap, sym, ◌∙◌, subst, ℕ, zero, suc, ◌+◌, Bool, true, false, true≢false, cond, ◌&&◌, ◌||◌, eqb, eq-eqb, eqb-true, List, [], ◌∷◌, Option, Some, None, option_map, inr, arith}
 use Rattle.std.specs.Prelude.{option_and_then}
 use Rattle.ir_tree.specs.declared.place.Place.{Place}
@@ -16,7 +16,7 @@ use Rattle.ir_tree_laws.proofs.Members.{stand, joined_ops, ops_child, found_stan
 use Rattle.ir_tree_laws.proofs.Around.{absent_find}
 
 module _ {N T A : Type 0} where
-  -- an edit of lists by which none goes
+  -- an edit of lists that removes no operation
   module _ (f : ℕ → ℕ → OpsOf N T A → OpsOf N T A) (y : ℕ) (keeps : (p r : ℕ) (os : OpsOf N T A) → ops_find y (f p r os) ≡ ops_find y os) where
     mutual
       pub find_each : (t : OpOf N T A) → find y (each_list f t) ≡ option_map (each_list f) (find y t)
@@ -36,7 +36,7 @@ module _ {N T A : Type 0} where
       ops_find_each no_ops = refl
       ops_find_each (next o os) = (λ i. first_of (find_each o i) (ops_find_each os i)) ∙ sym (option_first (each_list f) (find y o) (ops_find y os))
 
-  -- a list with an operation put in has what it had
+  -- a list keeps its operations after an insertion
   module _ (place : Place) (o : OpOf N T A) (y : ℕ) (none : find y o ≡ None) where
     keeps_last : (os : OpsOf N T A) → ops_find y (put_last o os) ≡ ops_find y os
     keeps_last no_ops = ap (λ a. first_of a None) none
@@ -58,7 +58,7 @@ module _ {N T A : Type 0} where
     pub put_find : (t : OpOf N T A) → find y (put place o t) ≡ option_map (put place o) (find y t)
     put_find t = find_each (put_here place o) y keeps_here t
 
-  -- a list with an operation put in it at a place
+  -- a list with an operation inserted at a place
   pub record Split (before : Option ℕ) (o : OpOf N T A) (os : OpsOf N T A) : Type 0 where
     pub front : List (OpOf N T A)
     pub rest : OpsOf N T A
@@ -82,7 +82,7 @@ module _ {N T A : Type 0} where
   split_in (Some b) o os h = split_before b o os h
 
   -- a place of a tree
-  pub record Spot (place : Place) (t : OpOf N T A) : Type 0 where
+  pub record Point (place : Place) (t : OpOf N T A) : Type 0 where
     pub parent : OpOf N T A
     pub found : find place.parent t ≡ Some parent
     pub args : List T
@@ -90,20 +90,20 @@ module _ {N T A : Type 0} where
     pub is : region_at place.region (regions parent) ≡ Some (block args list)
     pub among : is_in_list place.before (Some list) ≡ true
 
-  pub spot_of : (place : Place) (t : OpOf N T A) → has_place place t ≡ true → Spot place t
-  spot_of place t h = at_op (find place.parent t) refl h
+  pub point_of : (place : Place) (t : OpOf N T A) → has_place place t ≡ true → Point place t
+  point_of place t h = at_op (find place.parent t) refl h
     where
-      at_region : (q : OpOf N T A) → find place.parent t ≡ Some q → (g : Option (RegionOf N T A)) → region_at place.region (regions q) ≡ g → is_in_list place.before (option_and_then ops_in g) ≡ true → Spot place t
+      at_region : (q : OpOf N T A) → find place.parent t ≡ Some q → (g : Option (RegionOf N T A)) → region_at place.region (regions q) ≡ g → is_in_list place.before (option_and_then ops_in g) ≡ true → Point place t
       at_region q e None k h = absurd (true≢false (sym h))
       at_region q e (Some empty) k h = absurd (true≢false (sym h))
       at_region q e (Some (block args os)) k h = record { parent = q; found = e; args = args; list = os; is = k; among = h }
 
-      at_op : (q : Option (OpOf N T A)) → find place.parent t ≡ q → is_in_list place.before (option_and_then (λ o. option_and_then ops_in (region_at place.region (regions o))) q) ≡ true → Spot place t
+      at_op : (q : Option (OpOf N T A)) → find place.parent t ≡ q → is_in_list place.before (option_and_then (λ o. option_and_then ops_in (region_at place.region (regions o))) q) ≡ true → Point place t
       at_op None e h = absurd (true≢false (sym h))
       at_op (Some q) e h = at_region q e (region_at place.region (regions q)) refl h
 
-  pub of_spot : (place : Place) (t : OpOf N T A) → Spot place t → has_place place t ≡ true
-  of_spot place t s =
+  pub of_point : (place : Place) (t : OpOf N T A) → Point place t → has_place place t ≡ true
+  of_point place t s =
       ap (λ q. is_in_list place.before (option_and_then (λ o. option_and_then ops_in (region_at place.region (regions o))) q)) s.found
       ∙ ap (λ g. is_in_list place.before (option_and_then ops_in g)) s.is
       ∙ s.among
@@ -120,7 +120,7 @@ module _ {N T A : Type 0} where
   same_among f (Some b) no_ops = refl
   same_among f (Some b) (next (op h rs) os) = ap (λ c. eqb h.id b || c) (same_among f (Some b) os)
 
-  -- what stands in a region's block stands in the operation
+  -- an operation in a region's block is in the operation
   regions_child : (p : OpOf N T A) (path : List (StepOf N T A)) (r k : ℕ) (rs : RegionsOf N T A) (args : List T) (os : OpsOf N T A) (s : StandOf N T A)
       → region_at k rs ≡ Some (block args os) → In s (ops_stands p path (r + k) args [] os) → In s (regions_stands p path r rs)
   regions_child p path r zero no_regions args os s e h = absurd cc
@@ -136,7 +136,7 @@ module _ {N T A : Type 0} where
   pub child : (p : OpOf N T A) (path : List (StepOf N T A)) (k : ℕ) (args : List T) (os : OpsOf N T A) (s : StandOf N T A) → region_at k (regions p) ≡ Some (block args os) → In s (ops_stands p path k args [] os) → In s (stands path p)
   child (op h rs) path k args os s e m = let n : k ≡ 0 + k = omega arith in inr (regions_child (op h rs) path 0 k rs args os s e (subst (λ j. In s (ops_stands (op h rs) path j args [] os)) n m))
 
-  -- where it stands
+  -- the path of the inserted operation
   pub record Landed (place : Place) (o t : OpOf N T A) : Type 0 where
     pub step_in : StepOf N T A
     pub path : List (StepOf N T A)
@@ -157,7 +157,7 @@ module _ {N T A : Type 0} where
 
   pub lands : (place : Place) (o t : OpOf N T A) → has_place place t ≡ true → has_id place.parent o ≡ false → Landed place o (put place o t)
   lands place o t h a =
-      let s = spot_of place t h in
+      let s = point_of place t h in
       let t' = put place o t in
       let p : find place.parent t' ≡ Some (put place o s.parent) = put_find place o place.parent (absent_find place.parent o a) t ∙ ap (option_map (put place o)) s.found in
       let u = found_stands place.parent t' (put place o s.parent) p in

@@ -1,4 +1,4 @@
--- A tree with an operation, and what is inside it, put at a place.
+-- A tree with an operation, and everything inside it, inserted at a place.
 use Rattle.std.proofs.Common.{◌≡◌, ap, sym, ◌∙◌, subst, ℕ, ◌+◌, ◌<◌, ◌≤◌, Bool, true, false, true≢false, not, eqb, List, [], ◌∷◌, ◌++◌, length, map, length-append, Some, option_map, inl, inr, ◌⊎◌, arith}
 use Rattle.std.specs.List.{filter}
 use Rattle.std.specs.List.{list_any, list_all}
@@ -11,21 +11,21 @@ use Rattle.ir_tree.specs.Ids.{ids, HasDistinctIds, has_id, find, op_count}
 use Rattle.ir_tree.specs.Limits.{depth, every, op_fits, most_ops, most_around}
 use Rattle.ir_tree.specs.Sites.{visible}
 use Rattle.ir_tree.specs.Places.{put, without, place_of}
-use Rattle.ir_tree.specs.WellFormed.{IsFormed}
+use Rattle.ir_tree.specs.WellFormed.{IsValidTree}
 use Rattle.ir_tree.proofs.Gained.{gained_ids, gained_distinct}
 use Rattle.ir_tree.proofs.Moves.{take_put}
 use Rattle.ir_tree_laws.specs.Reads.{around}
 use Rattle.ir_tree_laws.specs.Reasons.{fits_around}
 use Rattle.ir_tree_laws.specs.Restores.{MayPut}
-use Rattle.ir_tree_laws.specs.Stands.{StandOf, stand_id, stands, stand_in, sees, is_gone, left_stand, left_step, dropping}
+use Rattle.ir_tree_laws.specs.Stands.{StandOf, stand_id, stands, stand_in, dominated_by, is_gone, left_stand, left_step, dropping}
 use Rattle.ir_tree_laws.specs.Members.{In}
 use Rattle.ir_tree_laws.proofs.Listed.{all_each, each_all, bool_cases, or_left, or_right}
 use Rattle.ir_tree_laws.proofs.Readings.{stands_every}
 use Rattle.ir_tree_laws.proofs.Members.{stand, itself, found_stands, stand_of_member, same_stand, stand_found}
 use Rattle.ir_tree_laws.proofs.Around.{stands_around, stand_present, gone_within, place_of_member}
-use Rattle.ir_tree_laws.proofs.Without.{left_member, same_head, left_sees, without_stands}
-use Rattle.ir_tree_laws.proofs.Sees.{visible_there, all_same}
-use Rattle.ir_tree_laws.proofs.Put.{spot_of, Landed, lands}
+use Rattle.ir_tree_laws.proofs.Without.{left_member, same_head, left_dominated_by, without_stands}
+use Rattle.ir_tree_laws.proofs.DominatedBy.{visible_there, all_same}
+use Rattle.ir_tree_laws.proofs.Put.{point_of, Landed, lands}
 use Rattle.ir_tree_laws.proofs.Formed.{FormedEach, from_formed, to_formed, within_depth, list_fits, no_more}
 
 module _ {N T A : Type 0} (place : Place) (o t : OpOf N T A) (may : MayPut place o t) where
@@ -40,7 +40,7 @@ module _ {N T A : Type 0} (place : Place) (o t : OpOf N T A) (may : MayPut place
 
   pub parent_there : has_id place.parent t ≡ true
   parent_there =
-      let s = spot_of place t may.spot in
+      let s = point_of place t may.point in
       let w = found_stands place.parent t s.parent s.found in
       subst (λ z. has_id z t ≡ true) w.2 (stand_present [] t w.0 w.1)
 
@@ -54,16 +54,16 @@ module _ {N T A : Type 0} (place : Place) (o t : OpOf N T A) (may : MayPut place
   put_back = take_put place o t (may.apart x (own_id o))
 
   pub landed : Landed place o (put place o t)
-  landed = lands place o t may.spot parent_absent
+  landed = lands place o t may.point parent_absent
 
-  -- the operation stands at the place
+  -- the operation is at the place
   pub put_place : place_of (head o).id (put place o t) ≡ Some place
   put_place = place_of_member after put_distinct o landed.step_in landed.path landed.there ∙ ap Some (λ i. record { parent = landed.parent i; region = landed.region i; before = landed.before i })
 
   pub put_found : find (head o).id (put place o t) ≡ Some o
   put_found = stand_found after put_distinct (stand o (landed.step_in ∷ landed.path)) landed.there
 
-  -- each operation is one of before, or is the operation that was put or within it
+  -- each operation was in the tree, or is the inserted operation or within it
   pub put_cases : (s : StandOf N T A) → In s (stands [] after) → (In (left_stand x s) (stands [] t) × (is_gone x s ≡ false)) ⊎ In s (stands (landed.step_in ∷ landed.path) o)
   put_cases s h = elim (bool_cases (is_gone x s)) [
     | inr k ↦ inl (subst (λ (u : OpOf N T A). In (left_stand x s) (stands [] u)) put_back (left_member x after s h k), k)
@@ -72,7 +72,7 @@ module _ {N T A : Type 0} (place : Place) (o t : OpOf N T A) (may : MayPut place
         inr (subst (λ (z : StandOf N T A). In s (stands z.path z.here)) same w.inner))
   ]
 
-  -- how many stand around the place
+  -- the depth of the place
   pub put_around : around place.parent t ≡ Some (length landed.path)
   put_around = elim (put_cases (stand landed.step_in.parent landed.path) landed.around) [
     | inr k ↦ absurd (true≢false (sym (subst (λ z. has_id z o ≡ true) landed.parent (stand_present (landed.step_in ∷ landed.path) o (stand landed.step_in.parent landed.path) k)) ∙ parent_absent))
@@ -84,9 +84,9 @@ module _ {N T A : Type 0} (place : Place) (o t : OpOf N T A) (may : MayPut place
         ∙ ap Some (length-map landed.path (left_step x)))
   ]
 
-  -- what was put is within the limits, and sees its operands there
+  -- the inserted operations are within the limits, and their operands are visible
   pub record Fitting (isolated : N → Bool) : Type 0 where
-    pub sees_own : every (λ q. list_all (visible isolated (put place o t) (head q).id) (head q).operands) o ≡ true
+    pub dominated_by_own : every (λ q. list_all (visible isolated (put place o t) (head q).id) (head q).operands) o ≡ true
     pub levels : fits_around (depth o) (around place.parent t) ≡ true
     pub count : op_count t + op_count o ≤ most_ops
     pub fits : every op_fits o ≡ true
@@ -110,12 +110,12 @@ module _ {N T A : Type 0} (place : Place) (o t : OpOf N T A) (may : MayPut place
   module _ (isolated : N → Bool) where
     pub put_each : FormedEach isolated t → Fitting isolated → FormedEach isolated after
     put_each f fit = record {
-      sees_own = λ s h. elim (put_cases s h) [
-        | inl k ↦ each_all (sees isolated s.path) (head s.here).operands (λ v m. left_sees x isolated s.path v
-            (all_each (sees isolated (map (left_step x) s.path)) (head s.here).operands (sym (ap (λ (h : HeadOf N T A). list_all (sees isolated (map (left_step x) s.path)) h.operands) (same_head x (dropping x) s.here)) ∙ f.sees_own (left_stand x s) k.0) v m))
+      dominated_by_own = λ s h. elim (put_cases s h) [
+        | inl k ↦ each_all (dominated_by isolated s.path) (head s.here).operands (λ v m. left_dominated_by x isolated s.path v
+            (all_each (dominated_by isolated (map (left_step x) s.path)) (head s.here).operands (sym (ap (λ (h : HeadOf N T A). list_all (dominated_by isolated (map (left_step x) s.path)) h.operands) (same_head x (dropping x) s.here)) ∙ f.dominated_by_own (left_stand x s) k.0) v m))
         | inr k ↦ sym (all_same _ _ (head s.here).operands (λ v m. visible_there isolated after put_distinct s h v))
             ∙ all_each (λ (u : StandOf N T A). list_all (visible isolated after (head u.here).id) (head u.here).operands) (stands (landed.step_in ∷ landed.path) o)
-            (stands_every (λ q. list_all (visible isolated after (head q).id) (head q).operands) (landed.step_in ∷ landed.path) o ∙ fit.sees_own) s k
+            (stands_every (λ q. list_all (visible isolated after (head q).id) (head q).operands) (landed.step_in ∷ landed.path) o ∙ fit.dominated_by_own) s k
       ];
       shallow = λ s h. elim (put_cases s h) [
         | inl k ↦ (let a = f.shallow (left_stand x s) k.0 in let b = length-map s.path (left_step x) in omega (arith, a, b))
@@ -130,7 +130,7 @@ module _ {N T A : Type 0} (place : Place) (o t : OpOf N T A) (may : MayPut place
       ];
     }
 
-    pub put_formed : IsFormed isolated t → Fitting isolated → IsFormed isolated (put place o t)
+    pub put_formed : IsValidTree isolated t → Fitting isolated → IsValidTree isolated (put place o t)
     put_formed f fit = to_formed isolated after (put_each (from_formed isolated t f) fit)
 
   -- ids below a number
@@ -140,6 +140,6 @@ module _ {N T A : Type 0} (place : Place) (o t : OpOf N T A) (may : MayPut place
     | inr k ↦ g (stand_id s) (stand_present (landed.step_in ∷ landed.path) o s k)
   ]
 
-  -- the list of before, and what stands inside
+  -- the list of the old tree is the list of the new tree without the inserted operations
   pub put_list : stands [] t ≡ map (left_stand (head o).id) (filter (λ s. not (is_gone (head o).id s)) (stands [] (put place o t)))
   put_list = ap (stands []) (sym put_back) ∙ without_stands x after

@@ -1,4 +1,4 @@
--- A formed tree that is numbered from 0 stays as it is when it is renumbered.
+-- A well-formed tree with the ids 0, 1, .. in pre-order is unchanged by renumbering.
 use Rattle.std.proofs.Common.{◌≡◌, refl, ap, sym, ◌∙◌, subst, ℕ, zero, suc, ◌+◌, Bool, true, false, cond, ◌&&◌, ◌||◌, eqb, eq-eqb, true≢false, inl, inr, List, [], ◌∷◌, ◌++◌, length, map, arith}
 use Rattle.std.specs.Prelude.{nat_lt}
 use Rattle.std.specs.List.{list_all, list_any, range_with_len}
@@ -10,15 +10,15 @@ use Rattle.ir_tree.specs.declared.value.Value.TheVariants.{Result, Arg}
 use Rattle.ir_tree.specs.Tree.{HeadOf, OpOf, op, RegionsOf, no_regions, region, RegionOf, empty, block, OpsOf, no_ops, next, head}
 use Rattle.ir_tree.specs.Ids.{ids, regions_ids, region_ids, ops_ids, IsNumberedFrom}
 use Rattle.ir_tree.specs.Sites.{Frame, results, arguments, inside, shows, in_scope, results_of}
-use Rattle.ir_tree.specs.Scope.{operands_seen, regions_operands_seen, region_operands_seen, ops_operands_seen}
-use Rattle.ir_tree.specs.WellFormed.{IsFormed}
+use Rattle.ir_tree.specs.Scope.{operands_dominate, regions_operands_seen, region_operands_seen, ops_operands_seen}
+use Rattle.ir_tree.specs.WellFormed.{IsValidTree}
 use Rattle.ir_tree.proofs.Checked.{seen_operands_visible}
 use Rattle.ir_tree_laws.specs.Renumbered.{value_with_id, with_ids, regions_with_ids, region_with_ids, ops_with_ids, place_in, renumbered}
 use Rattle.ir_tree_laws.proofs.RenumberedPlaces.{first, later}
 use Rattle.ir_tree.proofs.of_types.Sorting.{flips_eq}
 use Rattle.ir_tree.proofs.SeenSites.{shown_last}
 
--- the numbers of a range have the places that they are
+-- the numbers of a range are their own positions
 range_place : (n m y : ℕ) → list_any (λ z. eqb z y) (range_with_len n m) ≡ true → n + place_in (range_with_len n m) y ≡ y
 range_place n zero y h = absurd (true≢false (sym h))
 range_place n (suc m) y h = elim (eqb_tells y n) [
@@ -29,11 +29,11 @@ range_place n (suc m) y h = elim (eqb_tells y n) [
 ]
 
 module _ (f : ℕ → ℕ) where
-  -- f leaves each number of a list
+  -- f maps each number of a list to itself
   abbrev Leaves : List ℕ → Type 0
   Leaves xs = (y : ℕ) → list_any (λ z. eqb z y) xs ≡ true → f y ≡ y
 
-  -- f leaves each value that is in scope
+  -- f maps each value in scope to itself
   abbrev LeavesSeen : List Frame → Type 0
   LeavesSeen scope = (v : Value) → in_scope scope v ≡ true → value_with_id f v ≡ v
 
@@ -49,7 +49,7 @@ module _ (f : ℕ → ℕ) where
   leaves_right : (xs ys : List ℕ) → Leaves (xs ++ ys) → Leaves ys
   leaves_right xs ys t y h = t y (list_any-append (λ z. eqb z y) xs ys ∙ or_right (list_any (λ z. eqb z y) xs) (list_any (λ z. eqb z y) ys) h)
 
-  -- and the values of a frame whose operation's id it leaves
+  -- and so the values of a frame, if f maps the id of its operation to itself
   owner_stays : (x y : ℕ) (b : Bool) → f x ≡ x → (eqb y x && b) ≡ true → f y ≡ y
   owner_stays x y b e h = elim (eqb_tells y x) [
     | inl d ↦ subst (λ z. f z ≡ z) (sym d.1) e
@@ -86,7 +86,7 @@ module _ (f : ℕ → ℕ) where
       inside_stays h s a v = elim (isolated h.name) as (λ b. in_scope (cond b [] s) v ≡ true → value_with_id f v ≡ v) [ true ↦ λ e. absurd (true≢false (sym e)) | false ↦ a v ]
 
       mutual
-        stays : (s : List Frame) (t : OpOf N T A) → LeavesSeen s → Leaves (ids t) → operands_seen isolated s t ≡ true → with_ids f t ≡ t
+        stays : (s : List Frame) (t : OpOf N T A) → LeavesSeen s → Leaves (ids t) → operands_dominate isolated s t ≡ true → with_ids f t ≡ t
         stays s (op h rs) a k e =
             let p = and_parts (list_all (in_scope s) h.operands) (regions_operands_seen isolated (inside isolated h s) h.id 0 rs) e in
             let here = leaves_first h.id (regions_ids rs) k in
@@ -109,12 +109,12 @@ module _ (f : ℕ → ℕ) where
         ops_stay : (s : List Frame) (os : OpsOf N T A) → LeavesSeen s → Leaves (ops_ids os) → ops_operands_seen isolated s os ≡ true → ops_with_ids f os ≡ os
         ops_stay s no_ops a k e = refl
         ops_stay s (next o os) a k e =
-            let p = and_parts (operands_seen isolated s o) (ops_operands_seen isolated (s ++ results_of o ∷ []) os) e in
+            let p = and_parts (operands_dominate isolated s o) (ops_operands_seen isolated (s ++ results_of o ∷ []) os) e in
             let front = leaves_left (ids o) (ops_ids os) k in
-            let behind = ops_stay (s ++ results_of o ∷ []) os (last_stays s (results_of o) a (op_stays o front)) (leaves_right (ids o) (ops_ids os) k) p.1 in
-            λ i. next (stays s o a front p.0 i) (behind i)
+            let trailing = ops_stay (s ++ results_of o ∷ []) os (last_stays s (results_of o) a (op_stays o front)) (leaves_right (ids o) (ops_ids os) k) p.1 in
+            λ i. next (stays s o a front p.0 i) (trailing i)
 
-pub renumbered_stays : {N T A : Type 0} (isolated : N → Bool) (t : OpOf N T A) → IsFormed isolated t → IsNumberedFrom 0 t → renumbered t ≡ t
+pub renumbered_stays : {N T A : Type 0} (isolated : N → Bool) (t : OpOf N T A) → IsValidTree isolated t → IsNumberedFrom 0 t → renumbered t ≡ t
 renumbered_stays isolated t w e = stays (place_in (ids t)) isolated [] t (λ v h. absurd (true≢false (sym h))) left (seen_operands_visible isolated t ∙ w.visible)
   where
     from_zero : (n : ℕ) → n ≡ 0 + n

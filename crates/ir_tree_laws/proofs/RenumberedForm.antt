@@ -1,25 +1,25 @@
--- A tree with other ids is formed where the tree is.
+-- A tree with other ids is well-formed if the original tree is.
 use Rattle.std.proofs.Common.{◌≡◌, sym, ◌∙◌, subst, ℕ, ◌≤◌, Bool}
 use Rattle.ir_tree.specs.declared.value.Value.{Value}
 use Rattle.ir_tree.specs.Tree.{OpOf}
 use Rattle.ir_tree.specs.Ids.{ids}
 use Rattle.ir_tree.specs.Limits.{most_around}
 use Rattle.ir_tree.specs.Sites.{visible}
-use Rattle.ir_tree.specs.WellFormed.{IsFormed}
+use Rattle.ir_tree.specs.WellFormed.{IsValidTree}
 use Rattle.ir_tree_laws.specs.Renumbered.{value_with_id, with_ids, place_in, renumbered, TellsApart}
 use Rattle.ir_tree_laws.proofs.RenumberedPlaces.{places_tell}
 use Rattle.ir_tree_laws.proofs.RenumberedSame.{depth_with, counts_with}
-use Rattle.ir_tree_laws.proofs.RenumberedSight.{visible_with, operands_visible_with}
+use Rattle.ir_tree_laws.proofs.RenumberedDominance.{visible_with, operands_visible_with}
 
 module _ {N T A : Type 0} (isolated : N → Bool) where
-  pub formed_with : (f : ℕ → ℕ) (t : OpOf N T A) → TellsApart f (ids t) → IsFormed isolated t → IsFormed isolated (with_ids f t)
+  pub formed_with : (f : ℕ → ℕ) (t : OpOf N T A) → TellsApart f (ids t) → IsValidTree isolated t → IsValidTree isolated (with_ids f t)
   formed_with f t k w = record {
     visible = operands_visible_with f isolated t k ∙ w.visible;
     shallow = subst (λ n. n ≤ most_around) (sym (depth_with f t)) w.shallow;
     counts = counts_with f t ∙ w.counts;
   }
 
-  pub formed_renumbered : (t : OpOf N T A) → IsFormed isolated t → IsFormed isolated (renumbered t)
+  pub formed_renumbered : (t : OpOf N T A) → IsValidTree isolated t → IsValidTree isolated (renumbered t)
   formed_renumbered t w = formed_with (place_in (ids t)) t (places_tell (ids t)) w
 
   pub visible_renumbered : (t : OpOf N T A) (x : ℕ) (v : Value) → visible isolated (renumbered t) (place_in (ids t) x) (value_with_id (place_in (ids t)) v) ≡ visible isolated t x v

@@ -1,4 +1,4 @@
--- The places of numbers in a list.
+-- The positions of numbers in a list.
 use Rattle.std.proofs.Common.{◌≡◌, refl, ap, sym, ◌∙◌, ℕ, ◌+◌, true, false, cond, not, ◌||◌, eqb, List, [], ◌∷◌, ◌++◌, length, map, true≢false, eq-eqb, inl, inr, arith}
 use Rattle.std.proofs.lemmas.Bool.{or_left, or_right}
 use Rattle.std.proofs.lemmas.Bool.Decides.{eqb_tells}
@@ -6,14 +6,14 @@ use Rattle.std.specs.List.{AllByRecursion, IsDistinct, list_any, range_with_len}
 use Rattle.ir_tree_laws.specs.Renumbered.{place_in, TellsApart}
 use Rattle.ir_tree.proofs.of_types.Sorting.{flips_eq}
 
--- the places of what is not the first
+-- the position of a number that isn't the first
 pub later : (x : ℕ) (xs : List ℕ) (y : ℕ) → eqb y x ≡ false → place_in (x ∷ xs) y ≡ 1 + place_in xs y
 later x xs y e = ap (λ b. cond (not b) (1 + place_in xs y) 0) e
 
 pub first : (x : ℕ) (xs : List ℕ) (y : ℕ) → eqb y x ≡ true → place_in (x ∷ xs) y ≡ 0
 first x xs y e = ap (λ b. cond (not b) (1 + place_in xs y) 0) e
 
--- the places of a list's numbers, behind n others
+-- the positions of a list's numbers, after n others
 places_from : (n : ℕ) (xs : List ℕ) (f : ℕ → ℕ) → IsDistinct eqb xs → AllByRecursion (λ y. f y ≡ n + place_in xs y) xs → map f xs ≡ range_with_len n (length xs)
 unfolding IsDistinct
 places_from n [] f d h = refl
@@ -29,7 +29,7 @@ all_same : (f : ℕ → ℕ) (xs ys : List ℕ) → ((y : ℕ) → f y ≡ 0 + p
 all_same f xs [] h = tt
 all_same f xs (y ∷ ys) h = (h y, all_same f xs ys h)
 
--- the places of distinct numbers are 0, 1, ..
+-- the positions of distinct numbers are 0, 1, ..
 pub places : (xs : List ℕ) → IsDistinct eqb xs → map (place_in xs) xs ≡ range_with_len 0 (length xs)
 places xs d = places_from 0 xs (place_in xs) d (all_same (place_in xs) xs xs (λ y. omega arith))
 
@@ -51,7 +51,7 @@ first_or_later n = elim (eqb_tells 0 (1 + n)) [ inl d ↦ absurd (none n d.1) | 
     none : (n : ℕ) → 0 ≡ 1 + n → ⊥
     none n e = omega arith
 
--- the places of a list tell its numbers from all others
+-- the positions of a list's numbers differ from those of all other numbers
 pub places_tell : (xs : List ℕ) → TellsApart (place_in xs) xs
 places_tell [] x y h = absurd (true≢false (sym h))
 places_tell (z ∷ zs) x y h =
@@ -67,17 +67,17 @@ places_tell (z ∷ zs) x y h =
       ]
     ]
 
--- where distinct numbers stand
+-- the position of a number in a list without duplicates
 pub place_at : (xs ys : List ℕ) (x : ℕ) → IsDistinct eqb (xs ++ x ∷ ys) → place_in (xs ++ x ∷ ys) x ≡ length xs
 unfolding IsDistinct
 place_at [] ys x d = first x ys x (eq-eqb x x refl)
-place_at (z ∷ zs) ys x d = later z (zs ++ x ∷ ys) x (flips_eq x z ∙ behind zs d.0) ∙ ap (λ n. 1 + n) (place_at zs ys x d.1) ∙ omega arith
+place_at (z ∷ zs) ys x d = later z (zs ++ x ∷ ys) x (flips_eq x z ∙ trailing zs d.0) ∙ ap (λ n. 1 + n) (place_at zs ys x d.1) ∙ omega arith
   where
-    behind : (ws : List ℕ) → AllByRecursion (λ y. eqb z y ≡ false) (ws ++ x ∷ ys) → eqb z x ≡ false
-    behind [] h = h.0
-    behind (w ∷ ws) h = behind ws h.1
+    trailing : (ws : List ℕ) → AllByRecursion (λ y. eqb z y ≡ false) (ws ++ x ∷ ys) → eqb z x ≡ false
+    trailing [] h = h.0
+    trailing (w ∷ ws) h = trailing ws h.1
 
--- numbers that are told apart stay distinct
+-- distinct numbers are mapped to distinct numbers
 pub distinct_with : (f : ℕ → ℕ) (xs : List ℕ) → TellsApart f xs → IsDistinct eqb xs → IsDistinct eqb (map f xs)
 unfolding IsDistinct
 distinct_with f [] t d = tt

@@ -1,4 +1,4 @@
--- What a tree with other ids has in common with the tree.
+-- Properties that a tree with other ids shares with the original tree.
 use Rattle.std.proofs.Common.{◌≡◌, refl, ap, sym, ◌∙◌, subst, ℕ, ◌+◌, max, eqb, Bool, ◌&&◌, List, ◌∷◌, ◌++◌, length, map}
 use Rattle.std.specs.Prelude.{nat_le}
 use Rattle.std.specs.List.{IsDistinct, list_all, range_with_len}
@@ -46,7 +46,7 @@ module _ {N T A : Type 0} (f : ℕ → ℕ) where
     ops_depth_with no_ops = refl
     ops_depth_with (next o os) = λ i. max (depth_with o i + 1) (ops_depth_with os i)
 
-  -- tests that pass alike
+  -- tests with the same answers
   module _ (p q : OpOf N T A → Bool) (same : (o : OpOf N T A) → q (with_ids f o) ≡ p o) where
     mutual
       pub every_with : (t : OpOf N T A) → every q (with_ids f t) ≡ every p t
@@ -64,7 +64,7 @@ module _ {N T A : Type 0} (f : ℕ → ℕ) where
       ops_every_with no_ops = refl
       ops_every_with (next o os) = λ i. every_with o i && ops_every_with os i
 
-  -- what an operation has of its own
+  -- the head of an operation
   pub head_with : (t : OpOf N T A) → head (with_ids f t) ≡ head_with_ids f (head t)
   head_with (op h rs) = refl
 
@@ -102,7 +102,7 @@ module _ {N T A : Type 0} (f : ℕ → ℕ) where
   pub all_pass_with : (n : N → Bool) (q : T → Bool) (a : A → Bool) (t : OpOf N T A) → all_pass n q a (with_ids f t) ≡ all_pass n q a t
   all_pass_with n q a t = every_with (op_passes n q a) (op_passes n q a) (passes_with n q a) t
 
--- the ids of a tree that is renumbered
+-- the ids of a renumbered tree
 pub numbered : {N T A : Type 0} (t : OpOf N T A) → HasDistinctIds t → IsNumberedFrom 0 (renumbered t)
 numbered t d = ids_with (place_in (ids t)) t ∙ places (ids t) d ∙ ap (range_with_len 0) (sym (op_count_with (place_in (ids t)) t))
 

@@ -1,4 +1,4 @@
--- A tree with an operation, and what is inside it, shifted to a place.
+-- A tree with an operation, and everything inside it, shifted to a place.
 use Rattle.std.proofs.Common.{◌≡◌, refl, ap, sym, ◌∙◌, subst, ℕ, ◌+◌, ◌<◌, Bool, true, false, true≢false, cond, eqb, eq-eqb, eqb-true, List, [], ◌∷◌, length, Option, Some, None, option_map, inl, inr, ◌⊎◌, arith}
 use Rattle.std.specs.List.{list_any, list_all, IsDistinct}
 use Rattle.std.proofs.lemmas.Bool.{leb-true}
@@ -10,20 +10,20 @@ use Rattle.ir_tree.specs.Ids.{ids, regions_ids, region_ids, ops_ids, HasDistinct
 use Rattle.ir_tree.specs.Limits.{depth, op_fits, most_around}
 use Rattle.ir_tree.specs.Sites.{operands_visible}
 use Rattle.ir_tree.specs.Places.{each_list, region_each_list, ops_each_list, drop_op, put, put_found, without, shifted, place_of}
-use Rattle.ir_tree.specs.WellFormed.{IsFormed}
+use Rattle.ir_tree.specs.WellFormed.{IsValidTree}
 use Rattle.ir_tree.proofs.Left.{left_distinct}
 use Rattle.ir_tree.proofs.Returns.{halves}
 use Rattle.ir_tree_laws.specs.Values.{region_at}
 use Rattle.ir_tree_laws.specs.Reads.{around, is_among}
 use Rattle.ir_tree_laws.specs.Reasons.{is_in_list, has_place, fits_around, leads_inside, before_within}
-use Rattle.ir_tree_laws.specs.Stands.{StepOf, StandOf, stand_id, stands, stand_in, sees, is_gone, gone_in, left_stand, left_step, dropping, place_in}
+use Rattle.ir_tree_laws.specs.Stands.{StepOf, StandOf, stand_id, stands, stand_in, dominated_by, is_gone, gone_in, left_stand, left_step, dropping, place_in}
 use Rattle.ir_tree_laws.specs.Members.{In}
 use Rattle.ir_tree_laws.proofs.Listed.{all_each, bool_cases, either, neither, or_left, or_right}
 use Rattle.ir_tree_laws.proofs.Members.{stand, itself, within, has_around, found_stands, stand_of_member, same_stand, stand_found, found_in}
 use Rattle.ir_tree_laws.proofs.Around.{stands_around, stand_present, present_stand, gone_within, within_gone, place_of_member}
 use Rattle.ir_tree_laws.proofs.Without.{left_member, member_left, same_head}
-use Rattle.ir_tree_laws.proofs.Sees.{stands_operands}
-use Rattle.ir_tree_laws.proofs.Put.{Spot, spot_of, of_spot, region_each}
+use Rattle.ir_tree_laws.proofs.DominatedBy.{stands_operands}
+use Rattle.ir_tree_laws.proofs.Put.{Point, point_of, of_point, region_each}
 use Rattle.ir_tree_laws.proofs.Formed.{from_formed, to_formed, within_depth, list_fits, no_more}
 use Rattle.ir_tree_laws.proofs.PutForm as put_form
 use Rattle.ir_tree_laws.specs.Restores.{MayPut}
@@ -58,7 +58,7 @@ module _ {N T A : Type 0} where
         let hv = halves (ids q) (ops_ids os) d in
         elim (first_cases (find x q) (ops_find x os) o e) [ inl k ↦ own_distinct x q o hv.left k | inr k ↦ ops_own_distinct x os o hv.right k ]
 
-  -- where an operation stands that isn't the root
+  -- the path of an operation that isn't the root
   pub record Inner (x : ℕ) (t o : OpOf N T A) : Type 0 where
     pub step_in : StepOf N T A
     pub path : List (StepOf N T A)
@@ -92,7 +92,7 @@ module _ {N T A : Type 0} where
       go false k (inl l) later = or_left (eqb h.id b) _ l
       go false k (inr l) later = or_right (eqb h.id b) _ (later l)
 
-module _ {N T A : Type 0} (x : ℕ) (place : Place) (t o : OpOf N T A) (d : HasDistinctIds t) (found : find x t ≡ Some o) (not_root : eqb (head t).id x ≡ false) (spot : has_place place t ≡ true) (outside : leads_inside place (Some o) ≡ false) where
+module _ {N T A : Type 0} (x : ℕ) (place : Place) (t o : OpOf N T A) (d : HasDistinctIds t) (found : find x t ≡ Some o) (not_root : eqb (head t).id x ≡ false) (point : has_place place t ≡ true) (outside : leads_inside place (Some o) ≡ false) where
   abbrev u : OpOf N T A
   u = without x t
 
@@ -105,7 +105,7 @@ module _ {N T A : Type 0} (x : ℕ) (place : Place) (t o : OpOf N T A) (d : HasD
   own_id : (o : OpOf N T A) → has_id (head o).id o ≡ true
   own_id o = stand_present [] o (stand o []) (itself [] o)
 
-  -- what is inside it isn't left
+  -- the operations inside it don't remain
   in_it : (y : ℕ) → has_id y o ≡ true → (s : StandOf N T A) × In s (stands [] t) × (stand_id s ≡ y) × (is_gone x s ≡ true)
   in_it y h =
       let s = present_stand (inner.step_in ∷ inner.path) o y h in
@@ -122,7 +122,7 @@ module _ {N T A : Type 0} (x : ℕ) (place : Place) (t o : OpOf N T A) (d : HasD
         absurd (true≢false (sym z.3 ∙ ap (is_gone x) (sym same) ∙ m.2)))
   ]
 
-  -- what is outside it is left
+  -- the operations outside it remain
   stays : (s : StandOf N T A) → In s (stands [] t) → has_id (stand_id s) o ≡ false → is_gone x s ≡ false
   stays s h k = elim (bool_cases (is_gone x s)) [
     | inr l ↦ l
@@ -132,8 +132,8 @@ module _ {N T A : Type 0} (x : ℕ) (place : Place) (t o : OpOf N T A) (d : HasD
         absurd (true≢false (sym (stand_present (inner.step_in ∷ inner.path) o s inside) ∙ k)))
   ]
 
-  abbrev sp : Spot place t
-  sp = spot_of place t spot
+  abbrev sp : Point place t
+  sp = point_of place t point
 
   parent_stand : (s : StandOf N T A) × In s (stands [] t) × (stand_id s ≡ place.parent) × (s.here ≡ sp.parent)
   parent_stand = found_stands place.parent t sp.parent sp.found
@@ -150,8 +150,8 @@ module _ {N T A : Type 0} (x : ℕ) (place : Place) (t o : OpOf N T A) (d : HasD
   left_id : stand_id (left_stand x parent_stand.0) ≡ place.parent
   left_id = ap (λ (h : HeadOf N T A). h.id) (same_head x (dropping x) parent_stand.0.here) ∙ parent_stand.2
 
-  left_spot : has_place place u ≡ true
-  left_spot = of_spot place u (record {
+  left_point : has_place place u ≡ true
+  left_point = of_point place u (record {
     parent = each_list (dropping x) sp.parent;
     found = ap (λ z. find z u) (sym left_id) ∙ stand_found u (left_distinct x t d) (left_stand x parent_stand.0) left_parent ∙ ap (λ (z : OpOf N T A). Some (each_list (dropping x) z)) parent_stand.3;
     args = sp.args;
@@ -170,7 +170,7 @@ module _ {N T A : Type 0} (x : ℕ) (place : Place) (t o : OpOf N T A) (d : HasD
           h
 
   pub may_shift : MayPut place o (without x t)
-  may_shift = record { distinct = left_distinct x t d; own = own_distinct x t o d found; apart = apart; spot = left_spot }
+  may_shift = record { distinct = left_distinct x t d; own = own_distinct x t o d found; apart = apart; point = left_point }
 
   pub is_put : shifted x place t ≡ put place o (without x t)
   is_put = ap (λ f. put_found place f (without x t)) found
@@ -190,7 +190,7 @@ module _ {N T A : Type 0} (x : ℕ) (place : Place) (t o : OpOf N T A) (d : HasD
   pub shift_was : place_of x t ≡ place_in (inner.step_in ∷ inner.path)
   shift_was = inner_place x t o d inner
 
-  -- how many stand around the place
+  -- the depth of the place's parent
   shift_around : around place.parent (without x t) ≡ around place.parent t
   shift_around =
       sym (stands_around place.parent [] u)
@@ -199,7 +199,7 @@ module _ {N T A : Type 0} (x : ℕ) (place : Place) (t o : OpOf N T A) (d : HasD
       ∙ sym (sym (stands_around place.parent [] t)
       ∙ ap (option_map (λ (s : StandOf N T A). length s.path)) (ap (λ z. stand_in z (stands [] t)) (sym parent_stand.2) ∙ stand_of_member t d parent_stand.0 parent_stand.1))
 
-  -- each operation was there, with as many of its own and at most so many around it
+  -- each operation was in the tree before, with the same id and counts; its depth is the same, or it was shifted
   pub shift_cases : (s : StandOf N T A) → In s (stands [] after) → (z : StandOf N T A) × In z (stands [] t) × (stand_id s ≡ stand_id z) × (op_fits s.here ≡ op_fits z.here) × ((length s.path ≡ length z.path) ⊎ In s (stands ((put_form.landed place o u may_shift).step_in ∷ (put_form.landed place o u may_shift).path) o))
   shift_cases s h = elim (put_form.put_cases place o u may_shift s h) [
     | inl k ↦ (let m = member_left x t (left_stand (head o).id s) k.0 in
@@ -216,7 +216,7 @@ module _ {N T A : Type 0} (x : ℕ) (place : Place) (t o : OpOf N T A) (d : HasD
         (w.0, within o (inner.step_in ∷ inner.path) w.0 w.1 [] t inner.there, sym w.2, ap op_fits e, inr k))
   ]
     where
-      -- two of one id in one operation are one operation
+      -- two operations of one id inside an operation are equal
       same_here : (s : StandOf N T A) → In s (stands ((put_form.landed place o u may_shift).step_in ∷ (put_form.landed place o u may_shift).path) o) → (z : StandOf N T A) → In z (stands (inner.step_in ∷ inner.path) o) → stand_id z ≡ stand_id s → s.here ≡ z.here
       same_here s k z l e =
           let own = own_distinct x t o d found in
@@ -226,12 +226,12 @@ module _ {N T A : Type 0} (x : ℕ) (place : Place) (t o : OpOf N T A) (d : HasD
           cc
 
   module _ (isolated : N → Bool) where
-    pub shift_formed : IsFormed isolated t → operands_visible isolated (put place o (without x t)) ≡ true → fits_around (depth o) (around place.parent t) ≡ true → IsFormed isolated (put place o (without x t))
+    pub shift_formed : IsValidTree isolated t → operands_visible isolated (put place o (without x t)) ≡ true → fits_around (depth o) (around place.parent t) ≡ true → IsValidTree isolated (put place o (without x t))
     shift_formed formed seen levels =
         let f = from_formed isolated t formed in
         let l = put_form.landed place o u may_shift in
         to_formed isolated after (record {
-          sees_own = all_each (λ (s : StandOf N T A). list_all (sees isolated s.path) (head s.here).operands) (stands [] after) (sym (stands_operands isolated after) ∙ seen);
+          dominated_by_own = all_each (λ (s : StandOf N T A). list_all (dominated_by isolated s.path) (head s.here).operands) (stands [] after) (sym (stands_operands isolated after) ∙ seen);
           shallow = λ s h. let c = shift_cases s h in elim c.4 [
             | inl k ↦ (let a = f.shallow c.0 c.1 in omega (arith, a, k))
             | inr k ↦ (let a = within_depth isolated (l.step_in ∷ l.path) o s k in

@@ -1,4 +1,5 @@
--- What stands in an operation is one stretch of the list of the tree, and what goes with it is that stretch.
+-- An operation and everything inside it are one segment of the tree's list, and exactly that segment is removed with
+-- it.
 use Rattle.std.proofs.Common.{◌≡◌, refl, ap, sym, ◌∙◌, subst, ℕ, ◌+◌, Bool, true, false, true≢false, cond, not, eqb, eq-eqb, List, [], ◌∷◌, ◌++◌, length, map, filter, append_assoc, append-nil, length-append, inl, inr, arith}
 use Rattle.std.specs.List.{list_any, IsDistinct}
 use Rattle.std.proofs.lemmas.List.{map-append}
@@ -26,7 +27,7 @@ filter_none p [] f = refl
 filter_none p (x ∷ xs) f = (λ i. cond (f x (inl refl) i) (x ∷ filter p xs) (filter p xs)) ∙ filter_none p xs (λ y h. f y (inr h))
 
 module _ {N T A : Type 0} where
-  -- the list of an operation's own, with what comes before and behind it in a longer list
+  -- the list of an operation, with the parts before and after it in a longer list
   pub record Stretch (s : StandOf N T A) (ss : List (StandOf N T A)) : Type 0 where
     pub front : List (StandOf N T A)
     pub back : List (StandOf N T A)
@@ -69,7 +70,7 @@ module _ {N T A : Type 0} where
       | inr l ↦ longer_right s (stands (step p r args front os ∷ b) o) (ops_stands p b r args (front ++ o ∷ []) os) (ops_stretch p b r args (front ++ o ∷ []) os s l)
     ]
 
-  -- two of one id aren't in different parts of a list
+  -- two members of one id are in the same part of a list
   parted : (ss us : List (StandOf N T A)) → IsDistinct eqb (map (λ (z : StandOf N T A). stand_id z) (ss ++ us)) → (s u : StandOf N T A) → In s ss → In u us → stand_id s ≡ stand_id u → ⊥
   parted ss us d s u h k e =
       let two = halves (map (λ (z : StandOf N T A). stand_id z) ss) (map (λ (z : StandOf N T A). stand_id z) us) (subst (IsDistinct eqb) (map-append (λ (z : StandOf N T A). stand_id z) ss us) d) in
@@ -80,7 +81,7 @@ module _ {N T A : Type 0} where
       there : (ss : List (StandOf N T A)) (s : StandOf N T A) → In s ss → list_any (λ z. eqb z (stand_id s)) (map (λ (z : StandOf N T A). stand_id z) ss) ≡ true
       there ss s h = any_ids (λ (z : StandOf N T A). stand_id z) (stand_id s) ss ∙ any_one (λ (z : StandOf N T A). eqb (stand_id z) (stand_id s)) ss s h (eq-eqb (stand_id s) (stand_id s) refl)
 
-  -- the list of a tree by what goes with operation x
+  -- the list of a tree, split by operation x
   pub record Parted (x : ℕ) (path : List (StepOf N T A)) (o t : OpOf N T A) : Type 0 where
     pub front : List (StandOf N T A)
     pub back : List (StandOf N T A)
@@ -119,7 +120,7 @@ module _ {N T A : Type 0} where
       d'' : IsDistinct eqb (map (λ (z : StandOf N T A). stand_id z) (mid ++ w.back))
       d'' = (halves (map (λ (z : StandOf N T A). stand_id z) w.front) (map (λ (z : StandOf N T A). stand_id z) (mid ++ w.back)) (subst (IsDistinct eqb) (map-append (λ (z : StandOf N T A). stand_id z) w.front (mid ++ w.back)) d')).right
 
-      -- what goes is in the middle
+      -- the removed operations are in the middle
       inside : (s : StandOf N T A) → In s (stands [] t) → is_gone (head o).id s ≡ true → In s (stands (a ∷ q) o)
       inside s k e =
           let v = gone_within (head o).id t s.path s.here k e in
@@ -150,7 +151,7 @@ module _ {N T A : Type 0} where
           ∙ filter-append (keep x) w.front (mid ++ w.back)
           ∙ (λ i. filter_all (keep x) w.front (λ s k. ap not (front_stays s k)) i ++ (filter-append (keep x) mid w.back ∙ λ j. op_goes x (a ∷ q) o own j ++ filter_all (keep x) w.back (λ s k. ap not (back_stays s k)) j) i)
 
-  -- what lists give for an operation's own head stays
+  -- lists computed from an operation's head are unchanged
   pub gather_left : {Y : Type 0} (f : StandOf N T A → List Y) (x : ℕ) → ((s : StandOf N T A) → f (left_stand x s) ≡ f s) → (ss : List (StandOf N T A)) → gather f (map (left_stand x) ss) ≡ gather f ss
   gather_left f x same [] = refl
   gather_left f x same (s ∷ ss) = λ i. same s i ++ gather_left f x same ss i

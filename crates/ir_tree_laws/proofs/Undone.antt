@@ -1,4 +1,4 @@
--- Changes of places, turned round.
+-- Changes of places, inverted.
 use Rattle.std.proofs.Common.{◌≡◌, ap, sym, ◌∙◌, ℕ, Bool, Some}
 use Rattle.ir_tree.specs.declared.place.Place.{Place}
 use Rattle.ir_tree.specs.Tree.{OpOf}
@@ -11,11 +11,11 @@ use Rattle.ir_tree_laws.proofs.Members.{stand_found}
 use Rattle.ir_tree_laws.proofs.Around.{member_of_place}
 
 module _ {N T A : Type 0} where
-  -- what was taken is put back
+  -- an operation that was taken out is inserted again
   pub taken_back : (x : ℕ) (place : Place) (fresh : Bool) (m n : ModuleOf N T A) → HasDistinctIds m.tree → Takes x place fresh m n → (o : OpOf N T A) → find x m.tree ≡ Some o → put place o n.tree ≡ m.tree
   taken_back x place fresh m n d c o f = ap (put place o) c.left ∙ put_take x place o m.tree d c.there f
 
-  -- what was shifted is shifted back
+  -- an operation that was shifted is shifted back
   pub shifted_back : (is_table : N → Bool) (x : ℕ) (old new : Place) (m n : ModuleOf N T A) → HasDistinctIds m.tree → Shifts is_table x old new m n → shifted x old n.tree ≡ m.tree
   shifted_back is_table x old new m n d c =
       let s = member_of_place x old m.tree c.was in

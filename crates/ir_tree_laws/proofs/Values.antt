@@ -1,4 +1,4 @@
--- A value that is seen is a value of the tree, of an operation that stands before or around.
+-- A visible value is a value of the tree. Its owner is an earlier operation, or an ancestor.
 use Rattle.std.proofs.Common.{◌≡◌, refl, ap, sym, ◌∙◌, subst, ℕ, zero, suc, ◌+◌, ◌<◌, Bool, true, true≢false, not, ◌&&◌, eqb, eqb-true, List, [], ◌∷◌, ◌++◌, length, Some, inl, inr, ◌⊎◌, arith}
 use Rattle.std.specs.Prelude.{nat_lt, is_some, slice_get, option_and_then}
 use Rattle.std.specs.List.{list_any}
@@ -10,7 +10,7 @@ use Rattle.ir_tree.specs.Ids.{HasDistinctIds, find}
 use Rattle.ir_tree.specs.Frames.{owner_of}
 use Rattle.ir_tree.specs.Sites.{arguments, shows, results_of}
 use Rattle.ir_tree_laws.specs.Values.{region_at, arguments_of, arguments_at, has_value}
-use Rattle.ir_tree_laws.specs.Stands.{StepOf, StandOf, stand_id, stands, regions_stands, region_stands, ops_stands, sees}
+use Rattle.ir_tree_laws.specs.Stands.{StepOf, StandOf, stand_id, stands, regions_stands, region_stands, ops_stands, dominated_by}
 use Rattle.ir_tree_laws.specs.Members.{In}
 use Rattle.ir_tree_laws.proofs.Listed.{in_parts, one_any, both, either}
 use Rattle.ir_tree_laws.proofs.Readings.{step}
@@ -24,7 +24,7 @@ got (x ∷ xs) zero h = refl
 got (x ∷ xs) (suc k) h = got xs k (omega (arith, h))
 
 module _ {N T A : Type 0} where
-  -- each place is the place that it says: its list is that of its block
+  -- each path is consistent: its lists are those of its blocks
   abbrev pub ShapeOf : StandOf N T A → Type 0
   ShapeOf s = (a : StepOf N T A) × (q : List (StepOf N T A)) × (s.path ≡ a ∷ q) × (region_at a.region (regions a.parent) ≡ Some (block a.args (joined_ops a.front (next s.here a.rest))))
 
@@ -66,7 +66,7 @@ module _ {N T A : Type 0} where
         subst (λ (z : StepOf N T A). region_at z.region (regions z.parent) ≡ Some (block z.args (joined_ops z.front (next o z.rest)))) first w.3)
   ]
 
-  -- one of those before stands before
+  -- one of the earlier operations, with those before and after it
   pub split_front : (f : OpOf N T A) (front : List (OpOf N T A)) (os : OpsOf N T A) → In f front → (pre : List (OpOf N T A)) × (rest : OpsOf N T A) × (joined_ops front os ≡ joined_ops pre (next f rest)) × (length pre < length front)
   split_front f [] os h = absurd h
   split_front f (o ∷ fs) os (inl e) = ([], joined_ops fs os, ap (λ z. next z (joined_ops fs os)) (sym e), omega arith)
@@ -83,7 +83,7 @@ module _ {N T A : Type 0} where
         s.3,
       )
 
-  -- a value that an operation's frame shows
+  -- a value in an operation's frame
   result_value : (t : OpOf N T A) → HasDistinctIds t → (s : StandOf N T A) → In s (stands [] t) → (v : Value) → shows v (results_of s.here) ≡ true → ((owner_of v).0 ≡ stand_id s) × (has_value v t ≡ true)
   result_value t d s h (Result y k) e =
       let b = both (eqb y (stand_id s)) (nat_lt k (length (head s.here).results)) e in
@@ -105,7 +105,7 @@ module _ {N T A : Type 0} where
             ∙ got args k (ltb-true k (length args) c.1),
       )
 
-  -- an operation that stands before another in its list, or before one around it, or around it
+  -- an operation earlier in the list of another, or of one of its ancestors, or an ancestor
   abbrev pub Nearer : StandOf N T A → List (StepOf N T A) → Type 0
   Nearer u path = (length u.path < length path) ⊎ ((a : StepOf N T A) × (b : StepOf N T A) × (q : List (StepOf N T A)) × (u.path ≡ a ∷ q) × (path ≡ b ∷ q) × (length a.front < length b.front))
 
@@ -116,8 +116,8 @@ module _ {N T A : Type 0} where
     pub is : has_value v t ≡ true
     pub nearer : Nearer owner path
 
-  -- what is seen from a place, whatever stands there
-  pub seen_from : (isolated : N → Bool) (t : OpOf N T A) → HasDistinctIds t → (path : List (StepOf N T A)) (v : Value) → sees isolated path v ≡ true
+  -- the values visible at the end of a path
+  pub seen_from : (isolated : N → Bool) (t : OpOf N T A) → HasDistinctIds t → (path : List (StepOf N T A)) (v : Value) → dominated_by isolated path v ≡ true
       → ((a : StepOf N T A) (q : List (StepOf N T A)) → path ≡ a ∷ q → In (stand a.parent q) (stands [] t) × ((os : OpsOf N T A) × (region_at a.region (regions a.parent) ≡ Some (block a.args (joined_ops a.front os)))))
       → SeenOf isolated t path v
   seen_from isolated t d [] v e f = absurd (true≢false (sym e))
@@ -131,7 +131,7 @@ module _ {N T A : Type 0} where
         | inr k ↦ elim (either (shows v (arguments (head a.parent).id a.region (length a.args))) _ k) [
           | inl l ↦ (let r = argument_value t d (stand a.parent q) g.0 a.region a.args (joined_ops a.front g.1.0) g.1.1 v l in
               record { owner = stand a.parent q; there = g.0; id = r.0; is = r.1; nearer = inl (omega arith) })
-          | inr l ↦ up_one g.0 (seen_from isolated t d q v (both (not (isolated (head a.parent).name)) (sees isolated q v) l).1 (λ b p same. around_it a.parent q g.0 b p same))
+          | inr l ↦ up_one g.0 (seen_from isolated t d q v (both (not (isolated (head a.parent).name)) (dominated_by isolated q v) l).1 (λ b p same. around_it a.parent q g.0 b p same))
         ]
       ]
     where
@@ -140,21 +140,21 @@ module _ {N T A : Type 0} where
           let m : In (stand o (b ∷ p)) (stands [] t) = subst (λ l. In (stand o l) (stands [] t)) same h in
           ((around_there t o b p m).1, (next o b.rest, shape t o b p m))
 
-      further : (u : StandOf N T A) (a : StepOf N T A) (q : List (StepOf N T A)) → Nearer u q → Nearer u (a ∷ q)
-      further u a q (inl h) = inl (omega (arith, h))
-      further u a q (inr w) = let x = ap length w.3 in let y = ap length w.4 in inl (omega (arith, x, y))
+      extra : (u : StandOf N T A) (a : StepOf N T A) (q : List (StepOf N T A)) → Nearer u q → Nearer u (a ∷ q)
+      extra u a q (inl h) = inl (omega (arith, h))
+      extra u a q (inr w) = let x = ap length w.3 in let y = ap length w.4 in inl (omega (arith, x, y))
 
       up_one : In (stand a.parent q) (stands [] t) → SeenOf isolated t q v → SeenOf isolated t (a ∷ q) v
-      up_one h s = record { owner = s.owner; there = s.there; id = s.id; is = s.is; nearer = further s.owner a q s.nearer }
+      up_one h s = record { owner = s.owner; there = s.there; id = s.id; is = s.is; nearer = extra s.owner a q s.nearer }
 
-  -- what an operation sees
-  pub seen_by : (isolated : N → Bool) (t : OpOf N T A) → HasDistinctIds t → (s : StandOf N T A) → In s (stands [] t) → (v : Value) → sees isolated s.path v ≡ true → SeenOf isolated t s.path v
+  -- the values visible at an operation
+  pub seen_by : (isolated : N → Bool) (t : OpOf N T A) → HasDistinctIds t → (s : StandOf N T A) → In s (stands [] t) → (v : Value) → dominated_by isolated s.path v ≡ true → SeenOf isolated t s.path v
   seen_by isolated t d s h v e = seen_from isolated t d s.path v e (λ a q same.
       let m : In (stand s.here (a ∷ q)) (stands [] t) = subst (λ l. In (stand s.here l) (stands [] t)) same h in
       ((around_there t s.here a q m).1, (next s.here a.rest, shape t s.here a q m)))
 
-  -- isn't its own
-  pub not_own : (isolated : N → Bool) (t : OpOf N T A) → HasDistinctIds t → (s : StandOf N T A) → In s (stands [] t) → (v : Value) → sees isolated s.path v ≡ true → (owner_of v).0 ≡ stand_id s → ⊥
+  -- none of them is its own result
+  pub not_own : (isolated : N → Bool) (t : OpOf N T A) → HasDistinctIds t → (s : StandOf N T A) → In s (stands [] t) → (v : Value) → dominated_by isolated s.path v ≡ true → (owner_of v).0 ≡ stand_id s → ⊥
   not_own isolated t d s h v e own =
       let w = seen_by isolated t d s h v e in
       apart w.owner s.path w.nearer (ap (λ (z : StandOf N T A). z.path) (same_stand t d w.owner s w.there h (sym w.id ∙ own)))

@@ -10,7 +10,7 @@ use Rattle.ir_tree.specs.Tree.{HeadOf, OpOf, op, RegionsOf, no_regions, region, 
 use Rattle.ir_tree.specs.Sites.{arguments, shows, results_of}
 use Rattle.ir_tree.specs.Frames.{owner_of}
 use Rattle.ir_tree.specs.Places.{each_list, regions_each_list, region_each_list, ops_each_list, drop_op, without}
-use Rattle.ir_tree_laws.specs.Stands.{StepOf, StandOf, stands, regions_stands, region_stands, ops_stands, sees, gone_in, is_gone, dropping, left_step, left_stand}
+use Rattle.ir_tree_laws.specs.Stands.{StepOf, StandOf, stands, regions_stands, region_stands, ops_stands, dominated_by, gone_in, is_gone, dropping, left_step, left_stand}
 use Rattle.ir_tree_laws.specs.Members.{In}
 use Rattle.ir_tree_laws.proofs.Listed.{bool_cases, in_map, in_mapped, in_filter, in_filtered, both, either, or_left, or_right}
 use Rattle.ir_tree_laws.proofs.Readings.{step}
@@ -25,14 +25,14 @@ module _ {N T A : Type 0} (x : ℕ) where
   abbrev stays : OpOf N T A → Bool
   stays o = not (eqb (head o).id x)
 
-  -- heads stay
+  -- heads are unchanged
   pub same_head : (f : ℕ → ℕ → OpsOf N T A → OpsOf N T A) (o : OpOf N T A) → head (each_list f o) ≡ head o
   same_head f (op h rs) = refl
 
   pub same_results : (f : ℕ → ℕ → OpsOf N T A → OpsOf N T A) (o : OpOf N T A) → results_of (each_list f o) ≡ results_of o
   same_results f (op h rs) = refl
 
-  -- what is within x goes
+  -- the operations within x are removed
   mutual
     pub op_goes : (path : List (StepOf N T A)) (t : OpOf N T A) → gone_in x t path ≡ true → filter keep (stands path t) ≡ []
     op_goes path (op h rs) e = ap (λ b. cond (not b) (record { here = op h rs; path = path } ∷ filter keep (regions_stands (op h rs) path 0 rs)) (filter keep (regions_stands (op h rs) path 0 rs))) e ∙ regions_go (op h rs) path 0 rs e
@@ -100,7 +100,7 @@ module _ {N T A : Type 0} (x : ℕ) where
               ∙ sym (split_left (stands (a ∷ path) o) (ops_stands p path r args (front ++ o ∷ []) os))
         ]
 
-  -- of a whole tree
+  -- the list of a whole tree
   pub without_stands : (t : OpOf N T A) → stands [] (without x t) ≡ map (left_stand x) (filter (λ s. not (is_gone x s)) (stands [] t))
   without_stands t = left_stands [] t refl
 
@@ -117,7 +117,7 @@ module _ {N T A : Type 0} (x : ℕ) where
       unnot true e = absurd (true≢false (sym e))
       unnot false e = refl
 
-  -- what shows v
+  -- whether v is a result of operation o
   abbrev showing : Value → OpOf N T A → Bool
   showing v o = shows v (results_of o)
 
@@ -129,7 +129,7 @@ module _ {N T A : Type 0} (x : ℕ) where
       go true k later = or_right (showing v (op h rs)) (list_any (showing v) os) (later k)
       go false k later = elim (either (showing v (op h rs)) (list_any (showing v) (kept os)) k) [ inl l ↦ or_left (showing v (op h rs)) (list_any (showing v) os) l | inr l ↦ or_right (showing v (op h rs)) (list_any (showing v) os) (later l) ]
 
-  -- the results of x show no value of others
+  -- a value of another operation isn't a result of x
   not_shown : (v : Value) (o : OpOf N T A) → eqb (owner_of v).0 x ≡ false → eqb (head o).id x ≡ true → showing v o ≡ false
   not_shown (Result y k) o e i = ap (λ b. b && nat_lt k (length (head o).results)) (ap (eqb y) (eqb-true (head o).id x i) ∙ e)
   not_shown (Arg y r k) o e i = refl
@@ -143,10 +143,10 @@ module _ {N T A : Type 0} (x : ℕ) where
       ]
 
   module _ (isolated : N → Bool) where
-    -- no more is seen where x is gone
-    pub left_sees : (path : List (StepOf N T A)) (v : Value) → sees isolated (map (left_step x) path) v ≡ true → sees isolated path v ≡ true
-    left_sees [] v e = e
-    left_sees (a ∷ path) v e = go (same_head d a.parent) (left_sees path v)
+    -- no more values are visible after x is removed
+    pub left_dominated_by : (path : List (StepOf N T A)) (v : Value) → dominated_by isolated (map (left_step x) path) v ≡ true → dominated_by isolated path v ≡ true
+    left_dominated_by [] v e = e
+    left_dominated_by (a ∷ path) v e = go (same_head d a.parent) (left_dominated_by path v)
       where
         h' : HeadOf N T A
         h' = head (each_list d a.parent)
@@ -154,11 +154,11 @@ module _ {N T A : Type 0} (x : ℕ) where
         own : HeadOf N T A → Bool
         own h = shows v (arguments h.id a.region (length a.args))
 
-        go : head (each_list d a.parent) ≡ head a.parent → (sees isolated (map (left_step x) path) v ≡ true → sees isolated path v ≡ true) → sees isolated (a ∷ path) v ≡ true
+        go : head (each_list d a.parent) ≡ head a.parent → (dominated_by isolated (map (left_step x) path) v ≡ true → dominated_by isolated path v ≡ true) → dominated_by isolated (a ∷ path) v ≡ true
         go same later =
             let f = list_any (showing v) a.front in
-            let up = sees isolated path v in
-            let up' = sees isolated (map (left_step x) path) v in
+            let up = dominated_by isolated path v in
+            let up' = dominated_by isolated (map (left_step x) path) v in
             let e2 : (list_any (showing v) (kept a.front) || (own (head a.parent) || not (isolated (head a.parent).name) && up')) ≡ true = sym (λ i. list_any (showing v) (kept a.front) || (own (same i) || not (isolated (same i).name) && up')) ∙ e in
             elim (either (list_any (showing v) (kept a.front)) _ e2) [
               | inl k ↦ or_left f _ (fewer_show v a.front k)
@@ -168,8 +168,8 @@ module _ {N T A : Type 0} (x : ℕ) where
               ])
             ]
 
-    -- and all but its own values still are
-    pub left_sees_same : (v : Value) → eqb (owner_of v).0 x ≡ false → (path : List (StepOf N T A)) → sees isolated (map (left_step x) path) v ≡ sees isolated path v
-    left_sees_same v e [] = refl
-    left_sees_same v e (a ∷ path) = λ i.
-        same_show v e a.front i || (shows v (arguments (same_head d a.parent i).id a.region (length a.args)) || not (isolated (same_head d a.parent i).name) && left_sees_same v e path i)
+    -- and all but the values of x still are
+    pub left_dominated_by_same : (v : Value) → eqb (owner_of v).0 x ≡ false → (path : List (StepOf N T A)) → dominated_by isolated (map (left_step x) path) v ≡ dominated_by isolated path v
+    left_dominated_by_same v e [] = refl
+    left_dominated_by_same v e (a ∷ path) = λ i.
+        same_show v e a.front i || (shows v (arguments (same_head d a.parent i).id a.region (length a.args)) || not (isolated (same_head d a.parent i).name) && left_dominated_by_same v e path i)

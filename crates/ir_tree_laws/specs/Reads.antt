@@ -1,4 +1,4 @@
--- What is read off a tree: the operations beside an operation, and their order.
+-- Reads of a tree: the neighbours of an operation, and the order of operations.
 use Rattle.std.specs.Prelude.{ℕ, ◌+◌, List, [], ◌∷◌, eqb, Bool, false, ◌&&◌, ◌||◌, if◌then◌else◌, Option, Some, None, option_map, option_and_then}
 use Rattle.std.specs.List.{list_any}
 use Rattle.ir_tree.specs.declared.place.Place.{Place}
@@ -9,11 +9,11 @@ use Rattle.ir_tree.specs.Ids.{ids, find, first_of}
 use Rattle.ir_tree.specs.Places.{place_of, first_id}
 use Rattle.ir_tree_laws.specs.Values.{region_at}
 
--- the operation around operation x
+-- the parent of operation x
 abbrev pub parent_of : {N T A : Type 0} → ℕ → OpOf N T A → Option ℕ
 parent_of x t = option_map (λ p. p.parent) (place_of x t)
 
--- the operation after it in its block
+-- the operation after x in its block
 abbrev pub next_of : {N T A : Type 0} → ℕ → OpOf N T A → Option ℕ
 next_of x t = option_and_then (λ p. p.before) (place_of x t)
 
@@ -22,7 +22,7 @@ abbrev pub ops_in : {N T A : Type 0} → RegionOf N T A → Option (OpsOf N T A)
 ops_in empty = None
 ops_in (block args os) = Some os
 
--- those of the block of region r of operation p
+-- the operations of the block of region r of operation p
 abbrev pub ops_at : {N T A : Type 0} → ℕ → ℕ → OpOf N T A → Option (OpsOf N T A)
 ops_at p r t = option_and_then (λ o. option_and_then ops_in (region_at r (regions o))) (find p t)
 
@@ -35,26 +35,26 @@ last_id (next o os) = first_of (last_id os) (Some (head o).id)
 abbrev pub first_at : {N T A : Type 0} → ℕ → ℕ → OpOf N T A → Option ℕ
 first_at p r t = option_and_then first_id (ops_at p r t)
 
--- and the last
+-- the last operation of the block of region r of operation p
 abbrev pub last_at : {N T A : Type 0} → ℕ → ℕ → OpOf N T A → Option ℕ
 last_at p r t = option_and_then last_id (ops_at p r t)
 
--- whether operation b is one of a list
+-- whether operation b is in the list
 abbrev pub is_among : {N T A : Type 0} → ℕ → OpsOf N T A → Bool
 is_among b no_ops = false
 is_among b (next o os) = eqb (head o).id b || is_among b os
 
--- whether operation b stands behind the first operation a of a list
+-- whether operation b is after the first operation a of the list
 abbrev pub goes_before : {N T A : Type 0} → ℕ → ℕ → OpsOf N T A → Bool
 goes_before a b no_ops = false
 goes_before a b (next o os) = if eqb (head o).id a then is_among b os else goes_before a b os
 
--- the operation before x in a list, where `last` is the one before the list
+-- the operation before x in a list; `last` is the operation before the list
 abbrev pub id_before : {N T A : Type 0} → ℕ → Option ℕ → OpsOf N T A → Option ℕ
 id_before x last no_ops = None
 id_before x last (next o os) = if eqb (head o).id x then last else id_before x (Some (head o).id) os
 
--- the list in which operation x stands
+-- the list that has operation x
 abbrev pub list_of : {N T A : Type 0} → ℕ → OpOf N T A → Option (OpsOf N T A)
 list_of x t = option_and_then (λ p. ops_at p.parent p.region t) (place_of x t)
 
@@ -62,21 +62,21 @@ list_of x t = option_and_then (λ p. ops_at p.parent p.region t) (place_of x t)
 abbrev pub prev_of : {N T A : Type 0} → ℕ → OpOf N T A → Option ℕ
 prev_of x t = option_and_then (id_before x None) (list_of x t)
 
--- whether there is a list, and it passes a test
+-- whether there is a list, and it passes the test
 abbrev pub in_list : {N T A : Type 0} → (OpsOf N T A → Bool) → Option (OpsOf N T A) → Bool
 in_list p None = false
 in_list p (Some os) = p os
 
--- whether operation a stands before operation b in one block
+-- whether operations a and b are in one block and a is earlier
 abbrev pub is_before : {N T A : Type 0} → ℕ → ℕ → OpOf N T A → Bool
 is_before a b t = in_list (goes_before a b) (list_of a t)
 
--- whether a value's owner is before operation x in its list, or the value is an argument of the block of x's place
+-- whether a value's owner is before operation x in its list, or the value is an argument of the block of the place
 abbrev pub is_beside : {N T A : Type 0} → ℕ → Place → Value → OpOf N T A → Bool
 is_beside x place (Result y k) t = is_before y x t
 is_beside x place (Arg y r k) t = eqb y place.parent && eqb r place.region
 
--- whether b stands behind the first a in a list of ids
+-- whether b is after the first a in a list of ids
 abbrev pub comes_after : ℕ → ℕ → List ℕ → Bool
 comes_after a b [] = false
 comes_after a b (x ∷ xs) = if eqb x a then list_any (λ y. eqb y b) xs else comes_after a b xs
@@ -85,12 +85,12 @@ comes_after a b (x ∷ xs) = if eqb x a then list_any (λ y. eqb y b) xs else co
 abbrev pub precedes : {N T A : Type 0} → ℕ → ℕ → OpOf N T A → Bool
 precedes a b t = comes_after a b (ids t)
 
--- whether operation y is x or within it, if x is there
+-- whether operation y is x or within it; false if x is missing
 abbrev pub is_within : {N T A : Type 0} → ℕ → Option (OpOf N T A) → Bool
 is_within y None = false
 is_within y (Some o) = list_any (λ z. eqb z y) (ids o)
 
--- how many operations stand around operation x, if it is there, where n stand around what is searched
+-- the depth of operation x, if it is in the searched part, whose root has depth n
 abbrev mutual
   pub around_in : {N T A : Type 0} → ℕ → ℕ → OpOf N T A → Option ℕ
   around_in x n (op h rs) = if eqb h.id x then Some n else regions_around x (n + 1) rs
@@ -107,6 +107,6 @@ abbrev mutual
   ops_around x n no_ops = None
   ops_around x n (next o os) = first_of (around_in x n o) (ops_around x n os)
 
--- and in a whole tree
+-- the depth of operation x in a whole tree
 abbrev pub around : {N T A : Type 0} → ℕ → OpOf N T A → Option ℕ
 around x t = around_in x 0 t

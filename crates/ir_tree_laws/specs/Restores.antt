@@ -1,4 +1,5 @@
--- What undoing asks of a module: that what is put back has its place and values, and that what is taken is bare.
+-- The preconditions of an undo: an operation to insert again has its place and its operands; an operation to take out
+-- is empty and unused.
 use Rattle.std.specs.Prelude.{◌≡◌, ℕ, ◌+◌, ◌<◌, eqb, Bool, true, false}
 use Rattle.std.specs.List.{list_all}
 use Rattle.ir_tree.specs.declared.place.Place.{Place}
@@ -9,15 +10,16 @@ use Rattle.ir_tree.specs.WellFormed.{ModuleOf}
 use Rattle.ir_tree_laws.specs.Values.{has_value}
 use Rattle.ir_tree_laws.specs.Reasons.{has_place, holds_none, unused}
 
--- the place is there, and so are the values that o uses; x is the next free id, and may be given out, or is below it
+-- the place and the operands of o are in the module; x is the next free id and isn't the last possible one, or is below
+-- the next free id
 pub record MayRestore {N T A : Type 0} (x : ℕ) (place : Place) (fresh : Bool) (o : OpOf N T A) (m : ModuleOf N T A) : Type 0 where
-  pub spot : has_place place m.tree ≡ true
+  pub point : has_place place m.tree ≡ true
   pub values : list_all (λ v. has_value v m.tree) (head o).operands ≡ true
   pub newest : fresh ≡ true → m.next ≡ x
   pub room : fresh ≡ true → x < most_next
   pub below : fresh ≡ false → x < m.next
 
--- operation x is there and not the root, no operation is in it, and no value of it is used
+-- operation x is in the module and isn't the root, holds no operation, and has no uses
 pub record MayRetract {N T A : Type 0} (x : ℕ) (fresh : Bool) (m : ModuleOf N T A) : Type 0 where
   pub there : has_id x m.tree ≡ true
   pub inner : eqb (head m.tree).id x ≡ false
@@ -25,9 +27,9 @@ pub record MayRetract {N T A : Type 0} (x : ℕ) (fresh : Bool) (m : ModuleOf N 
   pub unused : unused x m.tree ≡ true
   pub newest : fresh ≡ true → m.next ≡ x + 1
 
--- an operation that may be put at a place: the place is there, and no two ids are equal
+-- an operation that may be inserted at a place: the place is in the tree, and all ids are distinct
 pub record MayPut {N T A : Type 0} (place : Place) (o t : OpOf N T A) : Type 0 where
   pub distinct : HasDistinctIds t
   pub own : HasDistinctIds o
   pub apart : (y : ℕ) → has_id y o ≡ true → has_id y t ≡ false
-  pub spot : has_place place t ≡ true
+  pub point : has_place place t ≡ true

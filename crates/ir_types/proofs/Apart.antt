@@ -1,4 +1,4 @@
--- Things of which no two are one stand at one place each.
+-- Each item of a list of distinct items has one index.
 use Rattle.std.proofs.Common.{◌≡◌, ◌≢◌, ◌∙◌, sym, subst, ℕ, Bool, true, false, List, [], ◌∷◌, map, ⊎_elim, arith}
 use Rattle.std.specs.Bool.{Decides}
 use Rattle.std.specs.List.{AllPairs, AllByRecursion, IsDistinct}
@@ -7,7 +7,7 @@ use Rattle.std.proofs.lemmas.Bool.{cases_lt}
 use Rattle.std.proofs.lemmas.Map.Made.{AllPairs-from_IsDistinct}
 use Rattle.std.proofs.lemmas.Option.{get_or_from_slice_get, slice_get_within}
 use Rattle.std.proofs.lemmas.Slice.Eq.{bytes_eq-Decides}
-use Rattle.ir_types_items.specs.Interned.{AreApart}
+use Rattle.ir_types_interner.specs.Interned.{AreApart}
 
 pub apart : {A : Type 0} (xs : List A) → AllPairs (λ x y. x ≢ y) xs → AreApart xs
 apart xs h i j x e f =
@@ -34,7 +34,7 @@ module _ {A B : Type 0} (f : A → B) (E : B → B → Bool) where
 pub bytes_apart : {A : Type 0} (f : A → List ℕ) (xs : List A) → IsDistinct (λ x y. bytes_eq (f x) (f y)) xs → AreApart (map f xs)
 bytes_apart f xs h = apart_from_distinct bytes_eq-Decides (map f xs) (distinct_map f bytes_eq xs h)
 
--- keys that a derived `==` holds apart, where it is a test that holds of one value alone
+-- keys that a derived `==` distinguishes, if `==` is true only for equal values
 pub apart_by : {A : Type 0} {D E : A → A → Bool} → ((x y : A) → D x y ≡ E x y) → ((x y : A) → E x y ≡ true → x ≡ y) → ((x : A) → E x x ≡ true) → (xs : List A) → IsDistinct D xs → AreApart xs
 apart_by {A} {D} {E} one same self xs h =
     apart_from_distinct (λ x y. ((λ t. same x y (sym (one x y) ∙ t)), (λ e. one x y ∙ subst (λ z. E x z ≡ true) e (self x)))) xs h

@@ -1,8 +1,8 @@
--- A context begins with the words.
+-- A new context has the words.
 use Rattle.std.proofs.Common.{◌≡◌, ◌∙◌, refl, sym, ap, subst, ℕ, Bool, zero, suc, ◌+◌, cond, List, [], ◌∷◌, ◌++◌, length, map, take, slice_get, Some, arith}
 use Rattle.std.specs.List.{list_any}
 use Rattle.std.specs.Str.{bytes_eq}
-use Rattle.ir_types_items.specs.Interned.{with_last}
+use Rattle.ir_types_interner.specs.Interned.{with_last}
 use Rattle.ir_types.specs.declared.node.TypeNode.{TypeNode}
 use Rattle.ir_types.specs.declared.node.AttrNode.{AttrNode}
 use Rattle.ir_types.specs.Words.{words}

@@ -1,4 +1,4 @@
--- Lists in which each item is made from what was made of the items before it.
+-- Lists in which each item is built from the results for the items before it.
 use Rattle.std.specs.Prelude.{ℕ, List}
 use Rattle.std.proofs.Common.{◌≡◌, zero, suc, ◌+◌, ◌<◌, ◌≤◌, [], ◌∷◌, ◌++◌, Some, length, get_or, slice_get, sym, ap, subst, refl, ◌∙◌, ◌⊎◌, inl, inr, ⊎_elim, length-append, append_assoc, arith}
 use Rattle.std.proofs.Math.ListN.{get_or-append}
@@ -6,33 +6,33 @@ use Rattle.std.proofs.Math.Seq.{get_or-append_seam}
 use Rattle.std.proofs.lemmas.List.{append-nil}
 use Rattle.std.proofs.lemmas.Bool.{cases_lt}
 use Rattle.std.proofs.lemmas.Option.{slice_get_within, slice_get-get_or}
-use Rattle.ir_types_items.specs.Built.{built, built_onto}
-use Rattle.ir_types_items.specs.Interned.{AreApart}
+use Rattle.ir_types_interner.specs.Built.{built, built_onto}
+use Rattle.ir_types_interner.specs.Interned.{AreApart}
 
--- a place after a push is an earlier one, or the last
+-- an index after a push is an earlier one, or the last
 pub push_cases : {A : Type 0} (xs : List A) (x y : A) (i : ℕ) → slice_get (xs ++ x ∷ []) i ≡ Some y → (slice_get xs i ≡ Some y) ⊎ ((i ≡ length xs) × (x ≡ y))
 push_cases [] x y zero e = inr (refl, cc)
 push_cases [] x y (suc i) e = absurd (cc)
 push_cases (z ∷ zs) x y zero e = inl e
 push_cases (z ∷ zs) x y (suc i) e = ⊎_elim inl (λ p. inr (ap suc p.0, p.1)) (push_cases zs x y i e)
 
--- no item stands in an empty list
+-- an empty list has no items
 pub nothing_at : {A : Type 0} (i : ℕ) (x : A) → slice_get [] i ≡ Some x → ⊥
 nothing_at zero x e = cc
 nothing_at (suc i) x e = cc
 
--- an item keeps its place when more come
+-- an item keeps its index when more are added
 pub place_stays : {A : Type 0} (xs ys : List A) (i : ℕ) (x : A) → slice_get xs i ≡ Some x → slice_get (xs ++ ys) i ≡ Some x
 place_stays [] ys i x e = absurd (nothing_at i x e)
 place_stays (z ∷ zs) ys zero x e = e
 place_stays (z ∷ zs) ys (suc i) x e = place_stays zs ys i x e
 
--- what is put last stands at the length
+-- the item added last is at the index of the old length
 pub last_place : {A : Type 0} (xs : List A) (x : A) → slice_get (xs ++ x ∷ []) (length xs) ≡ Some x
 last_place [] x = refl
 last_place (y ∷ ys) x = last_place ys x
 
--- an induction on the end of a list
+-- induction on the end of a list
 pub by_end : {A : Type 0} (P : List A → Type 0) → P [] → ((xs : List A) (x : A) → P xs → P (xs ++ x ∷ [])) → (xs : List A) → P xs
 by_end {A} P start step xs = go [] xs start
   where
@@ -40,11 +40,11 @@ by_end {A} P start step xs = go [] xs start
     go front [] p = subst P (sym (append-nil front)) p
     go front (x ∷ rest) p = subst P (append_assoc front (x ∷ []) rest) (go (front ++ x ∷ []) rest (step front x p))
 
--- two lists have the same items below a place
+-- two lists have the same items below an index
 abbrev pub Agree : {B : Type 0} → B → ℕ → List B → List B → Type 0
 Agree d n ys zs = (i : ℕ) → i < n → get_or ys i d ≡ get_or zs i d
 
--- as a list and a longer one have
+-- a list and a longer one have the same items below its length
 pub agree_longer : {B : Type 0} (d : B) (n : ℕ) (ys zs : List B) → n ≤ length ys → Agree d n (ys ++ zs) ys
 agree_longer d n ys zs h i k = get_or-append ys zs d i (omega arith)
 
@@ -63,7 +63,7 @@ module _ {A B : Type 0} (make : List B → A → B) where
   pub length-built : (xs : List A) → length (built make xs) ≡ length xs
   length-built xs = omega (arith, length-built_onto [] xs)
 
-  -- what was made stays when the list grows
+  -- earlier results are kept when the list grows
   pub built_onto_front : (done : List B) (xs : List A) → (more : List B) × (built_onto make done xs ≡ done ++ more)
   built_onto_front done [] = ([], sym (append-nil done))
   built_onto_front done (x ∷ xs) =
@@ -80,7 +80,7 @@ module _ {A B : Type 0} (make : List B → A → B) where
       let rest = built_front xs ys in
       ap (λ l. get_or l i d) rest.1 ∙ get_or-append (built make xs) rest.0 d i (omega (arith, length-built xs))
 
--- two ways to make that agree at each item of a list make the same of it
+-- two functions that agree on each item of a list build the same list
 pub built_onto_same : {A B : Type 0} (make other : List B → A → B) (done : List B) (xs : List A) → ((i : ℕ) (x : A) → slice_get xs i ≡ Some x → (known : List B) → make known x ≡ other known x) → built_onto make done xs ≡ built_onto other done xs
 built_onto_same make other done [] same = refl
 built_onto_same make other done (x ∷ xs) same =
@@ -90,20 +90,20 @@ built_onto_same make other done (x ∷ xs) same =
 pub built_same : {A B : Type 0} (make other : List B → A → B) (xs : List A) → ((i : ℕ) (x : A) → slice_get xs i ≡ Some x → (known : List B) → make known x ≡ other known x) → built make xs ≡ built other xs
 built_same make other xs same = built_onto_same make other [] xs same
 
--- no two items of a list are one
+-- all items of a list are distinct
 abbrev pub AreTold : {B : Type 0} → B → List B → Type 0
 AreTold d done = (i j : ℕ) → i < length done → j < length done → get_or done i d ≡ get_or done j d → i ≡ j
 
--- what is made of an item depends on what it names alone, which stands before it
+-- the result for an item depends only on the earlier items that it refers to
 module _ {A B : Type 0} (make : List B → A → B) (d : B) (Below : ℕ → A → Type 0) (closely : (n : ℕ) (ys zs : List B) → Agree d n ys zs → (x : A) → Below n x → make ys x ≡ make zs x) where
-  -- each item names what stands before it
+  -- each item refers only to earlier items
   abbrev pub IsClosed : List A → Type 0
   IsClosed xs = (i : ℕ) (x : A) → slice_get xs i ≡ Some x → Below i x
 
   pub closed_front : (xs : List A) (x : A) → IsClosed (xs ++ x ∷ []) → IsClosed xs
   closed_front xs x h i y at = h i y (place_stays xs (x ∷ []) i y at)
 
-  -- what was made of the item at a place is what is made of it when the list is done
+  -- the result for an item, when it is added, is its result in the whole list
   pub built_is : (xs : List A) → IsClosed xs → (i : ℕ) (x : A) → slice_get xs i ≡ Some x → get_or (built make xs) i d ≡ make (built make xs) x
   built_is = by_end (λ xs. IsClosed xs → (i : ℕ) (x : A) → slice_get xs i ≡ Some x → get_or (built make xs) i d ≡ make (built make xs) x)
       (λ closed i x at. absurd (nothing_at i x at))
@@ -121,12 +121,12 @@ module _ {A B : Type 0} (make : List B → A → B) (d : B) (Below : ℕ → A �
       ap (λ k. get_or (done ++ t ∷ []) k d) at_end ∙ get_or-append_seam done t [] d ∙ ap (make done) p.1 ∙ sym (closely i (done ++ t ∷ []) done (agree_longer d i done (t ∷ []) (omega arith)) y (closed i y at)))
       (push_cases xs x y i at)))
 
-  -- and where one thing is made of one item alone, apart items have apart things
+  -- if the function is injective, distinct items have distinct results
   module _ (more : (m n : ℕ) (x : A) → m ≤ n → Below m x → Below n x) (one : (done : List B) → AreTold d done → (a b : A) → Below (length done) a → Below (length done) b → make done a ≡ make done b → a ≡ b) where
     apart_front : (xs : List A) (x : A) → AreApart (xs ++ x ∷ []) → AreApart xs
     apart_front xs x h i j y a b = h i j y (place_stays xs (x ∷ []) i y a) (place_stays xs (x ∷ []) j y b)
 
-    -- an earlier thing is not the next one
+    -- an earlier item isn't the next one
     not_next : (xs : List A) (x : A) → IsClosed (xs ++ x ∷ []) → AreApart (xs ++ x ∷ []) → AreTold d (built make xs) → (i : ℕ) → i < length xs → get_or (built make xs) i d ≡ make (built make xs) x → ⊥
     not_next xs x closed apart told i h e =
         let done = built make xs in

@@ -1,16 +1,16 @@
--- What the number is that a call answers: it stands for the thing, and is its only one.
+-- The id that a call returns has the meaning of the item, and is its only id.
 use Rattle.std.specs.Prelude.{ℕ, List, ◌↔◌}
 use Rattle.std.specs.List.{position_or_len}
 use Rattle.std.specs.Str.{bytes_eq}
 use Rattle.std.proofs.Common.{◌≡◌, [], ◌∷◌, ◌++◌, length, get_or, slice_get, Some, sym, ap, subst, ◌∙◌, ⊎_elim, arith}
 use Rattle.std.proofs.Math.Seq.{get_or-append_seam}
 use Rattle.std.proofs.lemmas.Option.{get_or_from_slice_get, slice_get_within, same_Some}
-use Rattle.ir_types_items.specs.Built.{built}
-use Rattle.ir_types_items.specs.Interned.{with_last}
-use Rattle.ir_types_items.proofs.Placed.{Found, Lacks, where_is, with_last-found, with_last-absent}
+use Rattle.ir_types_interner.specs.Built.{built}
+use Rattle.ir_types_interner.specs.Interned.{with_last}
+use Rattle.ir_types_interner.proofs.Placed.{Found, Lacks, where_is, with_last-found, with_last-absent}
 use Rattle.ir_types.specs.declared.node.TypeNode.{TypeNode}
 use Rattle.ir_types.specs.declared.node.AttrNode.{AttrNode}
-use Rattle.ir_types.specs.Things.{Things, TypeIsOf, AttrIsOf, IsFront, Grows}
+use Rattle.ir_types.specs.Things.{ContextModel, TypeIsOf, AttrIsOf, IsFront, IsExtendedBy}
 use Rattle.ir_types.specs.Terms.{Index, Flag, name_term, type_from, type_terms, type_term, type_node_term, attr_from, attr_terms, attr_term, attr_node_term}
 use Rattle.ir_types.specs.Same.{same_type, same_attr}
 use Rattle.ir_types.specs.Dictionaries.{kept}
@@ -23,24 +23,24 @@ use Rattle.ir_types.proofs.Growth.{name_is, name_refl, grows_trans, grows_type, 
 use Rattle.ir_types.proofs.Terms.{type_terms_push, attr_terms_push, length-type_terms, length-attr_terms, type_node_stays, attr_node_stays, type_term_is, attr_term_is, type_term_one, attr_term_one}
 use Rattle.ir_types.proofs.KeptOrder.{kept_of, kept_known}
 
--- a thing stands at the number that its call answers
-pub name_stands : (bytes : List ℕ) (c : Things) → slice_get ((with_name bytes c).1).names (with_name bytes c).0 ≡ Some bytes
+-- the item is at the index that its call returns
+pub name_stands : (bytes : List ℕ) (c : ContextModel) → slice_get ((with_name bytes c).1).names (with_name bytes c).0 ≡ Some bytes
 unfolding with_name
 name_stands bytes c = stands bytes_eq name_is bytes c.names
 
-pub type_stands : (node : TypeNode) (c : Things) → slice_get ((with_type node c).1).types (with_type node c).0 ≡ Some node
+pub type_stands : (node : TypeNode) (c : ContextModel) → slice_get ((with_type node c).1).types (with_type node c).0 ≡ Some node
 unfolding with_type
 type_stands node c = stands same_type same_type_is node c.types
 
-pub attr_stands : (node : AttrNode) (c : Things) → slice_get ((with_attr node c).1).attrs (with_attr node c).0 ≡ Some (kept c.names node)
+pub attr_stands : (node : AttrNode) (c : ContextModel) → slice_get ((with_attr node c).1).attrs (with_attr node c).0 ≡ Some (kept c.names node)
 unfolding with_attr
 attr_stands node c = stands same_attr same_attr_is (kept c.names node) c.attrs
 
--- so the number stands for the thing
-pub new_name : (bytes : List ℕ) (c : Things) → name_term (with_name bytes c).1 (with_name bytes c).0 ≡ bytes
+-- so the id means the item
+pub new_name : (bytes : List ℕ) (c : ContextModel) → name_term (with_name bytes c).1 (with_name bytes c).0 ≡ bytes
 new_name bytes c = get_or_from_slice_get ((with_name bytes c).1).names (with_name bytes c).0 bytes [] (name_stands bytes c)
 
-pub new_type : (node : TypeNode) (c : Things) → Holds c → type_term (with_type node c).1 (with_type node c).0 ≡ type_node_term c node
+pub new_type : (node : TypeNode) (c : ContextModel) → Holds c → type_term (with_type node c).1 (with_type node c).0 ≡ type_node_term c node
 unfolding with_type
 new_type node c h =
     let n = position_or_len (same_type node) c.types in
@@ -58,7 +58,7 @@ new_type node c h =
     ∙ get_or-append_seam (type_terms c) (type_node_term c node) [] Index)
     (where_is (same_type node) c.types)
 
-pub new_attr : (node : AttrNode) (c : Things) → Holds c → attr_term (with_attr node c).1 (with_attr node c).0 ≡ attr_node_term c (kept c.names node)
+pub new_attr : (node : AttrNode) (c : ContextModel) → Holds c → attr_term (with_attr node c).1 (with_attr node c).0 ≡ attr_node_term c (kept c.names node)
 unfolding with_attr
 new_attr node c h =
     let k = kept c.names node in
@@ -78,30 +78,30 @@ new_attr node c h =
     ∙ get_or-append_seam (attr_terms c) (attr_node_term c k) [] Flag)
     (where_is (same_attr k) c.attrs)
 
--- a known thing keeps its number, and nothing changes
-pub known_name : (c : Things) (n : ℕ) (bytes : List ℕ) → IsSound c → slice_get c.names n ≡ Some bytes → with_name bytes c ≡ (n, c)
+-- a known item keeps its id, and nothing changes
+pub known_name : (c : ContextModel) (n : ℕ) (bytes : List ℕ) → IsSound c → slice_get c.names n ≡ Some bytes → with_name bytes c ≡ (n, c)
 unfolding with_name
 known_name c n bytes s at =
     λ i. (known_place bytes_eq name_is name_refl bytes c.names n s.names_apart at i, record c { names = known_stays bytes_eq name_is name_refl bytes c.names n at i })
 
-pub known_type : (c : Things) (n : ℕ) (node : TypeNode) → IsSound c → slice_get c.types n ≡ Some node → with_type node c ≡ (n, c)
+pub known_type : (c : ContextModel) (n : ℕ) (node : TypeNode) → IsSound c → slice_get c.types n ≡ Some node → with_type node c ≡ (n, c)
 unfolding with_type
 known_type c n node s at =
     λ i. (known_place same_type same_type_is same_type_refl node c.types n s.types_apart at i, record c { types = known_stays same_type same_type_is same_type_refl node c.types n at i })
 
-pub known_attr : (c : Things) (n : ℕ) (node : AttrNode) → IsSound c → slice_get c.attrs n ≡ Some node → with_attr node c ≡ (n, c)
+pub known_attr : (c : ContextModel) (n : ℕ) (node : AttrNode) → IsSound c → slice_get c.attrs n ≡ Some node → with_attr node c ≡ (n, c)
 unfolding with_attr
 known_attr c n node s at =
     let in_order = kept_known c n node s.holds at in
     ap (λ k. (position_or_len (same_attr k) c.attrs, record c { attrs = with_last (same_attr k) k c.attrs })) in_order
     ∙ (λ i. (known_place same_attr same_attr_is same_attr_refl node c.attrs n s.attrs_apart at i, record c { attrs = known_stays same_attr same_attr_is same_attr_refl node c.attrs n at i }))
 
--- a thing stands at its place in every longer list
+-- an item keeps its index in every longer list
 pub place_in : {A : Type 0} (xs ys : List A) (i : ℕ) (x : A) → IsFront xs ys → slice_get xs i ≡ Some x → slice_get ys i ≡ Some x
 place_in xs ys i x f at = ap (λ l. slice_get l i) f.1 ∙ place_stays xs f.0 i x at
 
--- two calls, whichever comes first, answer one number exactly where the things are one
-pub same_names : (c d e : Things) (a b : List ℕ) → IsSound e → Grows (with_name a c).1 e → Grows (with_name b d).1 e → ((with_name a c).0 ≡ (with_name b d).0) ↔ (a ≡ b)
+-- two calls, in either order, return the same id exactly if the items are equal
+pub same_names : (c d e : ContextModel) (a b : List ℕ) → IsSound e → IsExtendedBy (with_name a c).1 e → IsExtendedBy (with_name b d).1 e → ((with_name a c).0 ≡ (with_name b d).0) ↔ (a ≡ b)
 same_names c d e a b s g h =
     let m = (with_name a c).0 in
     let n = (with_name b d).0 in
@@ -109,7 +109,7 @@ same_names c d e a b s g h =
     let second : slice_get e.names n ≡ Some b = place_in ((with_name b d).1).names e.names n b h.names (name_stands b d) in
     (λ p. same_Some a b (sym first ∙ ap (slice_get e.names) p ∙ second), λ p. s.names_apart m n b (first ∙ ap Some p) second)
 
-pub same_types : (c d e : Things) (a b : TypeNode) → IsSound e → Grows (with_type a c).1 e → Grows (with_type b d).1 e → ((with_type a c).0 ≡ (with_type b d).0) ↔ (a ≡ b)
+pub same_types : (c d e : ContextModel) (a b : TypeNode) → IsSound e → IsExtendedBy (with_type a c).1 e → IsExtendedBy (with_type b d).1 e → ((with_type a c).0 ≡ (with_type b d).0) ↔ (a ≡ b)
 same_types c d e a b s g h =
     let m = (with_type a c).0 in
     let n = (with_type b d).0 in
@@ -117,7 +117,7 @@ same_types c d e a b s g h =
     let second : slice_get e.types n ≡ Some b = place_in ((with_type b d).1).types e.types n b h.types (type_stands b d) in
     (λ p. same_Some a b (sym first ∙ ap (slice_get e.types) p ∙ second), λ p. s.types_apart m n b (first ∙ ap Some p) second)
 
-pub same_attrs : (c d e : Things) (a b : AttrNode) → IsSound e → Grows (with_attr a c).1 e → Grows (with_attr b d).1 e → ((with_attr a c).0 ≡ (with_attr b d).0) ↔ (kept c.names a ≡ kept d.names b)
+pub same_attrs : (c d e : ContextModel) (a b : AttrNode) → IsSound e → IsExtendedBy (with_attr a c).1 e → IsExtendedBy (with_attr b d).1 e → ((with_attr a c).0 ≡ (with_attr b d).0) ↔ (kept c.names a ≡ kept d.names b)
 same_attrs c d e a b s g h =
     let m = (with_attr a c).0 in
     let n = (with_attr b d).0 in
@@ -127,8 +127,8 @@ same_attrs c d e a b s g h =
     let second : slice_get e.attrs n ≡ Some l = place_in ((with_attr b d).1).attrs e.attrs n l h.attrs (attr_stands b d) in
     (λ p. same_Some k l (sym first ∙ ap (slice_get e.attrs) p ∙ second), λ p. s.attrs_apart m n l (first ∙ ap Some p) second)
 
--- and exactly where they mean one thing, part by part
-pub same_type_terms : (c d e : Things) (a b : TypeNode) → IsSound e → TypeIsOf c a → TypeIsOf d b → Grows (with_type a c).1 e → Grows (with_type b d).1 e → ((with_type a c).0 ≡ (with_type b d).0) ↔ (type_node_term c a ≡ type_node_term d b)
+-- and exactly if their meanings are equal
+pub same_type_terms : (c d e : ContextModel) (a b : TypeNode) → IsSound e → TypeIsOf c a → TypeIsOf d b → IsExtendedBy (with_type a c).1 e → IsExtendedBy (with_type b d).1 e → ((with_type a c).0 ≡ (with_type b d).0) ↔ (type_node_term c a ≡ type_node_term d b)
 same_type_terms c d e a b s of_c of_d g h =
     let m = (with_type a c).0 in
     let n = (with_type b d).0 in
@@ -138,7 +138,7 @@ same_type_terms c d e a b s of_c of_d g h =
     let second : type_term e n ≡ type_node_term d b = type_term_is e n b s.holds at_n ∙ type_node_stays d e b (grows_trans d (with_type b d).1 e (grows_type b d) h) of_d in
     (λ p. sym first ∙ ap (type_term e) p ∙ second, λ p. type_term_one e m n s (slice_get_within e.types m a at_m) (slice_get_within e.types n b at_n) (first ∙ p ∙ sym second))
 
-pub same_attr_terms : (c d e : Things) (a b : AttrNode) → Holds c → Holds d → IsSound e → AttrIsOf c a → AttrIsOf d b → Grows (with_attr a c).1 e → Grows (with_attr b d).1 e → ((with_attr a c).0 ≡ (with_attr b d).0) ↔ (attr_node_term c (kept c.names a) ≡ attr_node_term d (kept d.names b))
+pub same_attr_terms : (c d e : ContextModel) (a b : AttrNode) → Holds c → Holds d → IsSound e → AttrIsOf c a → AttrIsOf d b → IsExtendedBy (with_attr a c).1 e → IsExtendedBy (with_attr b d).1 e → ((with_attr a c).0 ≡ (with_attr b d).0) ↔ (attr_node_term c (kept c.names a) ≡ attr_node_term d (kept d.names b))
 same_attr_terms c d e a b holds_c holds_d s of_c of_d g h =
     let m = (with_attr a c).0 in
     let n = (with_attr b d).0 in

@@ -1,4 +1,4 @@
--- What the calls of a context answer.
+-- The results of a context's calls.
 use Rattle.std.proofs.Common.{◌≡◌, ◌∙◌, refl, sym, ap, subst, ℕ, zero, suc, ◌+◌, ◌<◌, ◌≤◌, Bool, true, false, cond, List, [], ◌∷◌, ◌++◌, length, map, Some, None, Option, Ok, Err, slice_get, IsTrue, le-leb, leb-true, arith}
 use Rattle.std.specs.Prelude.{slice_index_or, not, nat_le, ◌&&◌, ◌||◌, Result, IfErr, IsErrOf}
 use Rattle.std.specs.List.{list_any, position_or_len}
@@ -7,16 +7,16 @@ use Rattle.std.proofs.lemmas.Option.{slice_get_within}
 use Rattle.std.specs.Map.{keys_of}
 use Rattle.std.specs.List.{position}
 use Rattle.std.proofs.lemmas.List.{length-map, map-append}
-use Rattle.ir_types_items.specs.Interned.{with_last}
-use Rattle.ir_types_items.proofs.Placed.{with_last-found, with_last-absent, found_at, absent_from}
+use Rattle.ir_types_interner.specs.Interned.{with_last}
+use Rattle.ir_types_interner.proofs.Placed.{with_last-found, with_last-absent, found_at, absent_from}
 use Rattle.ir_types.specs.declared.node.TypeNode.{TypeNode}
 use Rattle.ir_types.specs.declared.node.TypeNode.TheVariants as type
-use Rattle.ir_types_items.specs.declared.intern.InternFault.{InternFault}
-use Rattle.ir_types_items.specs.declared.intern.InternFault.TheVariants as intern
+use Rattle.ir_types_interner.specs.declared.intern.InternFault.{InternFault}
+use Rattle.ir_types_interner.specs.declared.intern.InternFault.TheVariants as intern
 use Rattle.ir_types.specs.Refusals.{not_interned}
 use Rattle.ir_types.specs.declared.refusal.Refusal.{Refusal}
 use Rattle.ir_types.specs.declared.refusal.Refusal.TheVariants.{TooMany, TooDeep, BadWidth, Memory}
-use Rattle.ir_types.specs.Things.{Things, Grows, IsType, IsAttr}
+use Rattle.ir_types.specs.Things.{ContextModel, IsExtendedBy, IsType, IsAttr}
 use Rattle.ir_types.specs.Terms.{TypeTerm, Index, Flag, attr_terms, type_term, type_from, type_terms, attr_term}
 use Rattle.ir_types.specs.Depths.{type_depth, attr_depth}
 use Rattle.ir_types.specs.Reasons.{full_reason, first_reason, type_fault, depth_reason, is_width, IsRefusedFor, checked}
@@ -43,7 +43,7 @@ module _ {A : Type 0} (is : A → Bool) (xs : List A) where
       go false e true = refl
       go false e false = rw e refl
 
--- a call that is accepted, or finds no memory, where no reason stands against it
+-- a call without a reason against it is accepted, or memory runs out
 pub accepted : {A : Type 0} (reason : Option Refusal) (x : A) → reason ≡ None → IsRefusedFor reason (Ok x)
 accepted reason x e = subst (λ r. IsRefusedFor r (Ok x)) (sym e) tt
 
@@ -53,19 +53,19 @@ no_memory reason result e h = subst (λ r. IsRefusedFor r result) (sym e) h
 pub refused : (A : Type 0) (reason : Option Refusal) (refusal : Refusal) → reason ≡ Some refusal → IsRefusedFor {A = A} reason (Err refusal)
 refused A reason refusal e = subst (λ r. IsRefusedFor {A = A} r (Err refusal)) (sym e) refl
 
--- a name that is there, and one that is not
-pub name_there : (c : Things) (bytes : List ℕ) (i : ℕ) → list_any (bytes_eq bytes) c.names ≡ true → i ≡ position_or_len (bytes_eq bytes) c.names → (i, c) ≡ with_name bytes c
+-- a known name, and a new one
+pub name_there : (c : ContextModel) (bytes : List ℕ) (i : ℕ) → list_any (bytes_eq bytes) c.names ≡ true → i ≡ position_or_len (bytes_eq bytes) c.names → (i, c) ≡ with_name bytes c
 unfolding with_name
 name_there c bytes i h e = λ k. (e k, record c { names = sym (with_last-found (bytes_eq bytes) bytes c.names h) k })
 
-pub name_new : (c d : Things) (bytes : List ℕ) (i : ℕ) → list_any (bytes_eq bytes) c.names ≡ false → i ≡ position_or_len (bytes_eq bytes) c.names → d ≡ record c { names = c.names ++ bytes ∷ [] } → (i, d) ≡ with_name bytes c
+pub name_new : (c d : ContextModel) (bytes : List ℕ) (i : ℕ) → list_any (bytes_eq bytes) c.names ≡ false → i ≡ position_or_len (bytes_eq bytes) c.names → d ≡ record c { names = c.names ++ bytes ∷ [] } → (i, d) ≡ with_name bytes c
 unfolding with_name
 name_new c d bytes i h e made = (λ k. (e k, made k)) ∙ (λ k. (position_or_len (bytes_eq bytes) c.names, record c { names = sym (with_last-absent (bytes_eq bytes) bytes c.names h) k }))
 
-pub grown : (c d : Things) (e : Things) → Grows c e → d ≡ e → Grows c d
-grown c d e g same = subst (Grows c) (sym same) g
+pub grown : (c d : ContextModel) (e : ContextModel) → IsExtendedBy c e → d ≡ e → IsExtendedBy c d
+grown c d e g same = subst (IsExtendedBy c) (sym same) g
 
--- a type's width is fine where nothing is at fault
+-- the width of a type without a fault is in range
 pub fine_width : (known : List TypeTerm) (node : TypeNode) → type_fault (type_from known node) ≡ None → HasWidth node
 fine_width known (type.Int sign width) e = go (is_width width) refl
   where
@@ -77,7 +77,7 @@ fine_width known (type.Func is os) e = tt
 fine_width known (type.Memref ds el) e = tt
 fine_width known (type.Opaque text) e = tt
 
-pub width_of_type : (c : Things) (n : ℕ) (node : TypeNode) → Holds c → slice_get c.types n ≡ Some node → HasWidth node
+pub width_of_type : (c : ContextModel) (n : ℕ) (node : TypeNode) → Holds c → slice_get c.types n ≡ Some node → HasWidth node
 width_of_type c n node h at = fine_width (type_terms c) node (ap type_fault (sym (type_term_is c n node h at)) ∙ h.types_fine n (slice_get_within c.types n node at))
 
 depth_within : (n : ℕ) → depth_reason n ≡ None → n ≤ most_depth
@@ -87,14 +87,14 @@ depth_within n e = go (nat_le n most_depth) refl
     go true h = leb-true n most_depth h
     go false h = absurd (let k : Some TooDeep ≡ None = rw h at e in cc)
 
--- how deep types and attributes are at most
-pub shallow_type : (c : Things) (n : ℕ) → Holds c → IsType c n → type_depth (type_term c n) ≤ most_depth
+-- the limit of the depths of types and attributes
+pub shallow_type : (c : ContextModel) (n : ℕ) → Holds c → IsType c n → type_depth (type_term c n) ≤ most_depth
 shallow_type c n h at = depth_within (type_depth (type_term c n)) (neither _ _ (h.types_fine n at)).1
 
-pub shallow_attr : (c : Things) (n : ℕ) → Holds c → IsAttr c n → attr_depth (attr_term c n) ≤ most_depth
+pub shallow_attr : (c : ContextModel) (n : ℕ) → Holds c → IsAttr c n → attr_depth (attr_term c n) ≤ most_depth
 shallow_attr c n h at = depth_within (attr_depth (attr_term c n)) (neither _ _ (h.attrs_fine n at)).1
 
--- a depth that is kept is that of its number
+-- a stored depth is the depth of its id
 pub mapped_at : {A : Type 0} (f : A → ℕ) (xs : List A) (other : A) (vs : List ℕ) (n d : ℕ) → vs ≡ map f xs → slice_get vs n ≡ Some d → d ≡ f (slice_index_or xs n other)
 mapped_at {A = A} f xs other vs n d e at = go xs n (sym (ap (λ l. slice_get l n) e) ∙ at)
   where
@@ -104,19 +104,19 @@ mapped_at {A = A} f xs other vs n d e at = go xs n (sym (ap (λ l. slice_get l n
     go (x ∷ xs) zero h = cc
     go (x ∷ xs) (suc n) h = go xs n h
 
-pub kept_type_depth : (c d : Things) (vs : List ℕ) (n m : ℕ) → d ≡ c → Holds d → vs ≡ map type_depth (type_terms d) → slice_get vs n ≡ Some m → IsType c n → m ≤ most_depth
+pub kept_type_depth : (c d : ContextModel) (vs : List ℕ) (n m : ℕ) → d ≡ c → Holds d → vs ≡ map type_depth (type_terms d) → slice_get vs n ≡ Some m → IsType c n → m ≤ most_depth
 kept_type_depth c d vs n m e h kept at is =
     let k : m ≡ type_depth (type_term d n) = mapped_at type_depth (type_terms d) Index vs n m kept at in
-    let l : type_depth (type_term d n) ≤ most_depth = shallow_type d n h (subst (λ (z : Things). IsType z n) (sym e) is) in
+    let l : type_depth (type_term d n) ≤ most_depth = shallow_type d n h (subst (λ (z : ContextModel). IsType z n) (sym e) is) in
     omega arith
 
-pub kept_attr_depth : (c d : Things) (vs : List ℕ) (n m : ℕ) → d ≡ c → Holds d → vs ≡ map attr_depth (attr_terms d) → slice_get vs n ≡ Some m → IsAttr c n → m ≤ most_depth
+pub kept_attr_depth : (c d : ContextModel) (vs : List ℕ) (n m : ℕ) → d ≡ c → Holds d → vs ≡ map attr_depth (attr_terms d) → slice_get vs n ≡ Some m → IsAttr c n → m ≤ most_depth
 kept_attr_depth c d vs n m e h kept at is =
     let k : m ≡ attr_depth (attr_term d n) = mapped_at attr_depth (attr_terms d) Flag vs n m kept at in
-    let l : attr_depth (attr_term d n) ≤ most_depth = shallow_attr d n h (subst (λ (z : Things). IsAttr z n) (sym e) is) in
+    let l : attr_depth (attr_term d n) ≤ most_depth = shallow_attr d n h (subst (λ (z : ContextModel). IsAttr z n) (sym e) is) in
     omega arith
 
--- what an interning that refuses says
+-- the result of an interning call that refuses
 pub not_interned_reason : {A : Type 0} (is : A → Bool) (xs : List A) (fault : InternFault) (n : ℕ) → n ≡ length xs → (IsErrOf {T = ℕ} (Err fault) intern.TooMany → (most_things ≤ n) × (list_any is xs ≡ false)) × ((most_things ≤ n) × (list_any is xs ≡ false) → IsErrOf {T = ℕ} (Err fault) intern.TooMany) → IsRefusedFor {A = ℕ} (full_reason is xs) (Err (not_interned fault))
 not_interned_reason is xs intern.TooMany n e full =
     let h = full.0 refl in
@@ -128,7 +128,7 @@ not_interned_reason is xs intern.Memory n e full = no_memory (full_reason is xs)
     go false h true k = absurd (let z = full.1 (omega (arith, leb-true most_things (length xs) k), h) in cc)
     go false h false k = rw (h, k) refl
 
--- and one that is accepted
+-- the result of an interning call that accepts
 pub interned_reason : {A : Type 0} (is : A → Bool) (xs : List A) (place n : ℕ) → n ≡ length xs → ((most_things ≤ n) × (list_any is xs ≡ false) → IsErrOf {T = ℕ} {E = InternFault} (Ok place) intern.TooMany) → full_reason is xs ≡ None
 interned_reason is xs place n e full = go (list_any is xs) refl (nat_le most_things (length xs)) refl
   where
@@ -137,11 +137,11 @@ interned_reason is xs place n e full = go (list_any is xs) refl (nat_le most_thi
     go false h true k = absurd (let z = full (omega (arith, leb-true most_things (length xs) k), h) in cc)
     go false h false k = rw (h, k) refl
 
--- a derived `==` is the test of sameness, at one thing
+-- a derived `==` is the equality test
 pub as_test : {A : Type 0} (D E : A → A → Bool) → ((x y : A) → D x y ≡ E x y) → (x : A) → D x ≡ E x
 as_test D E same x = λ i y. same x y i
 
--- names, which are kept as vectors of bytes
+-- names, which are stored as vectors of bytes
 module _ {V : Type 0} (f : V → List ℕ) (bytes : List ℕ) where
   place_map : (ks : List V) → position_or_len (bytes_eq bytes) (map f ks) ≡ position_or_len (λ v. bytes_eq bytes (f v)) ks
   place_map [] = refl
@@ -160,7 +160,7 @@ module _ {V : Type 0} (f : V → List ℕ) (bytes : List ℕ) where
   pub names_with : (ks : List V) (i : ℕ) → position (λ v. bytes_eq bytes (f v)) ks ≡ Some i → map f ks ≡ with_last (bytes_eq bytes) bytes (map f ks)
   names_with ks i e = sym (with_last-found (bytes_eq bytes) bytes (map f ks) (names_found ks i e).0)
 
-  -- what an insertion leaves
+  -- the list after an insertion
   pub names_inserted_at : (ks new : List V) (key : V) → f key ≡ bytes → new ≡ cond (list_any (λ v. bytes_eq (f key) (f v)) ks) ks (ks ++ key ∷ []) → map f new ≡ with_last (bytes_eq bytes) bytes (map f ks)
   names_inserted_at ks new key same e = go (list_any (λ v. bytes_eq (f key) (f v)) ks) refl
     where
@@ -177,7 +177,7 @@ module _ {V : Type 0} (f : V → List ℕ) (bytes : List ℕ) where
       let any : list_any (λ v. bytes_eq (f key) (f v)) ks ≡ false = ap (λ b. list_any (λ v. bytes_eq b (f v)) ks) same ∙ sym (any_map ks) ∙ h.0 in
       rw (with_last-absent (bytes_eq bytes) bytes (map f ks) h.0) (ap (map f) (e ∙ rw any refl) ∙ map-append f ks (key ∷ []) ∙ ap (λ b. map f ks ++ b ∷ []) same)
 
--- what a value says that was checked
+-- the result for a checked value
 pub checked_ok : {A : Type 0} (reason : Option Refusal) (x y : A) → Ok y ≡ checked reason x → (reason ≡ None) × (y ≡ x)
 checked_ok None x y e = (refl, cc)
 checked_ok (Some refusal) x y e = absurd cc

@@ -1,27 +1,27 @@
--- Things that grow: each call leaves what was there, with at most one thing more.
+-- Extension: each call keeps the items of a context, and adds at most one.
 use Rattle.std.specs.Prelude.{ℕ, List}
 use Rattle.std.specs.Str.{bytes_eq}
 use Rattle.std.specs.Cmp.Lexicographic.{bytes_decides}
 use Rattle.std.proofs.Common.{◌≡◌, ◌≤◌, true, [], ◌++◌, length, get_or, sym, ap, refl, ◌∙◌, length-append, append_assoc, arith}
 use Rattle.std.proofs.lemmas.List.{append-nil}
-use Rattle.ir_types_items.specs.Interned.{with_last}
+use Rattle.ir_types_interner.specs.Interned.{with_last}
 use Rattle.ir_types.specs.declared.node.TypeNode.{TypeNode}
 use Rattle.ir_types.specs.declared.node.AttrNode.{AttrNode}
-use Rattle.ir_types.specs.Things.{Things, IsFront, Grows}
+use Rattle.ir_types.specs.Things.{ContextModel, IsFront, IsExtendedBy}
 use Rattle.ir_types.specs.Same.{same_type, same_attr}
 use Rattle.ir_types.specs.Dictionaries.{kept}
 use Rattle.ir_types.specs.Interning.{with_name, with_type, with_attr}
 use Rattle.ir_types.proofs.Building.{Agree, agree_longer}
 use Rattle.ir_types.proofs.Placing.{with_last_front}
 
--- names are the same where their bytes are
+-- names are equal if their bytes are
 pub name_is : (x y : List ℕ) → bytes_eq x y ≡ true → x ≡ y
 name_is x y h = (bytes_decides x y).0 h
 
 pub name_refl : (x : List ℕ) → bytes_eq x x ≡ true
 name_refl x = (bytes_decides x x).1 refl
 
--- a list is the front of itself, and a front of a front is one
+-- a list is a prefix of itself, and being a prefix is transitive
 pub front_refl : {A : Type 0} (xs : List A) → IsFront xs xs
 front_refl xs = ([], sym (append-nil xs))
 
@@ -34,11 +34,11 @@ front_length xs ys f = let e = ap length f.1 ∙ length-append xs f.0 in omega a
 pub front_agree : {A : Type 0} (d : A) (xs ys : List A) → IsFront xs ys → Agree d (length xs) ys xs
 front_agree d xs ys f i h = ap (λ l. get_or l i d) f.1 ∙ agree_longer d (length xs) xs f.0 (omega arith) i h
 
--- growth
-pub grows_refl : (c : Things) → Grows c c
+-- extension
+pub grows_refl : (c : ContextModel) → IsExtendedBy c c
 grows_refl c = record { names = front_refl c.names; types = front_refl c.types; attrs = front_refl c.attrs; opaque = refl }
 
-pub grows_trans : (b c d : Things) → Grows b c → Grows c d → Grows b d
+pub grows_trans : (b c d : ContextModel) → IsExtendedBy b c → IsExtendedBy c d → IsExtendedBy b d
 grows_trans b c d g h =
     record {
       names = front_trans b.names c.names d.names g.names h.names;
@@ -47,52 +47,52 @@ grows_trans b c d g h =
       opaque = h.opaque ∙ g.opaque;
     }
 
--- what each call makes of each list
-pub name_names : (bytes : List ℕ) (c : Things) → ((with_name bytes c).1).names ≡ with_last (bytes_eq bytes) bytes c.names
+-- each list after each call
+pub name_names : (bytes : List ℕ) (c : ContextModel) → ((with_name bytes c).1).names ≡ with_last (bytes_eq bytes) bytes c.names
 unfolding with_name
 name_names bytes c = refl
 
-pub name_types : (bytes : List ℕ) (c : Things) → ((with_name bytes c).1).types ≡ c.types
+pub name_types : (bytes : List ℕ) (c : ContextModel) → ((with_name bytes c).1).types ≡ c.types
 unfolding with_name
 name_types bytes c = refl
 
-pub name_attrs : (bytes : List ℕ) (c : Things) → ((with_name bytes c).1).attrs ≡ c.attrs
+pub name_attrs : (bytes : List ℕ) (c : ContextModel) → ((with_name bytes c).1).attrs ≡ c.attrs
 unfolding with_name
 name_attrs bytes c = refl
 
-pub type_names : (node : TypeNode) (c : Things) → ((with_type node c).1).names ≡ c.names
+pub type_names : (node : TypeNode) (c : ContextModel) → ((with_type node c).1).names ≡ c.names
 unfolding with_type
 type_names node c = refl
 
-pub type_types : (node : TypeNode) (c : Things) → ((with_type node c).1).types ≡ with_last (same_type node) node c.types
+pub type_types : (node : TypeNode) (c : ContextModel) → ((with_type node c).1).types ≡ with_last (same_type node) node c.types
 unfolding with_type
 type_types node c = refl
 
-pub type_attrs : (node : TypeNode) (c : Things) → ((with_type node c).1).attrs ≡ c.attrs
+pub type_attrs : (node : TypeNode) (c : ContextModel) → ((with_type node c).1).attrs ≡ c.attrs
 unfolding with_type
 type_attrs node c = refl
 
-pub attr_names : (node : AttrNode) (c : Things) → ((with_attr node c).1).names ≡ c.names
+pub attr_names : (node : AttrNode) (c : ContextModel) → ((with_attr node c).1).names ≡ c.names
 unfolding with_attr
 attr_names node c = refl
 
-pub attr_types : (node : AttrNode) (c : Things) → ((with_attr node c).1).types ≡ c.types
+pub attr_types : (node : AttrNode) (c : ContextModel) → ((with_attr node c).1).types ≡ c.types
 unfolding with_attr
 attr_types node c = refl
 
-pub attr_attrs : (node : AttrNode) (c : Things) → ((with_attr node c).1).attrs ≡ with_last (same_attr (kept c.names node)) (kept c.names node) c.attrs
+pub attr_attrs : (node : AttrNode) (c : ContextModel) → ((with_attr node c).1).attrs ≡ with_last (same_attr (kept c.names node)) (kept c.names node) c.attrs
 unfolding with_attr
 attr_attrs node c = refl
 
--- each call grows
-pub grows_name : (bytes : List ℕ) (c : Things) → Grows c (with_name bytes c).1
+-- each call extends the context
+pub grows_name : (bytes : List ℕ) (c : ContextModel) → IsExtendedBy c (with_name bytes c).1
 unfolding with_name
 grows_name bytes c = record { names = with_last_front (bytes_eq bytes) bytes c.names; types = front_refl c.types; attrs = front_refl c.attrs; opaque = refl }
 
-pub grows_type : (node : TypeNode) (c : Things) → Grows c (with_type node c).1
+pub grows_type : (node : TypeNode) (c : ContextModel) → IsExtendedBy c (with_type node c).1
 unfolding with_type
 grows_type node c = record { names = front_refl c.names; types = with_last_front (same_type node) node c.types; attrs = front_refl c.attrs; opaque = refl }
 
-pub grows_attr : (node : AttrNode) (c : Things) → Grows c (with_attr node c).1
+pub grows_attr : (node : AttrNode) (c : ContextModel) → IsExtendedBy c (with_attr node c).1
 unfolding with_attr
 grows_attr node c = record { names = front_refl c.names; types = front_refl c.types; attrs = with_last_front (same_attr (kept c.names node)) (kept c.names node) c.attrs; opaque = refl }

@@ -1,14 +1,14 @@
--- A context that takes one thing more still keeps each type and attribute with its depth.
+-- A context with one more item still stores each type and attribute with its depth.
 use Rattle.std.proofs.Common.{◌≡◌, ◌∙◌, sym, ap, subst, ℕ, Bool, ◌≤◌, List, [], ◌∷◌, ◌++◌, length, map, None, ◌⊎◌, ⊎_elim}
 use Rattle.std.specs.Map.{keys_of, values_of}
 use Rattle.std.specs.List.{position_or_len}
 use Rattle.std.specs.Str.{bytes_eq}
 use Rattle.std.proofs.lemmas.List.{map-append}
-use Rattle.ir_types_items.specs.Interned.{with_last}
-use Rattle.ir_types_items.proofs.Placed.{keys-push}
+use Rattle.ir_types_interner.specs.Interned.{with_last}
+use Rattle.ir_types_interner.proofs.Placed.{keys-push}
 use Rattle.ir_types.specs.declared.node.TypeNode.{TypeNode}
 use Rattle.ir_types.specs.declared.node.AttrNode.{AttrNode}
-use Rattle.ir_types.specs.Things.{Things, TypeIsOf, AttrIsOf}
+use Rattle.ir_types.specs.Things.{ContextModel, TypeIsOf, AttrIsOf}
 use Rattle.ir_types.specs.Terms.{type_terms, attr_terms, type_node_term, attr_node_term}
 use Rattle.ir_types.specs.Depths.{type_depth, attr_depth}
 use Rattle.ir_types.specs.Same.{same_type, same_attr}
@@ -30,7 +30,7 @@ Attrs = List (AttrNode × ℕ)
 values-push : {K : Type 0} (es : List (K × ℕ)) (k : K) (v : ℕ) → values_of (es ++ (k, v) ∷ []) ≡ values_of es ++ v ∷ []
 values-push es k v = map-append (λ e. e.1) es ((k, v) ∷ [])
 
--- the things with one more name, type or attribute
+-- the context with one more name, type or attribute
 pub named_things : (o : Bool) (names more : List (List ℕ)) (types : Types) (attrs : Attrs) (bytes : List ℕ) → more ≡ with_last (bytes_eq bytes) bytes names → things_of o more types attrs ≡ (with_name bytes (things_of o names types attrs)).1
 unfolding with_name
 named_things o names more types attrs bytes e = λ i. record { names = e i; types = keys_of types; attrs = keys_of attrs; opaque = o }
@@ -48,7 +48,7 @@ kept_with_name o names more types attrs bytes h e few =
     let c = things_of o names types attrs in
     let same : things_of o more types attrs ≡ (with_name bytes c).1 = named_things o names more types attrs bytes e in
     record {
-      holds = subst Holds (sym same) (holds_name bytes c h.holds (subst (λ (d : Things). length d.names ≤ most_things) same few));
+      holds = subst Holds (sym same) (holds_name bytes c h.holds (subst (λ (d : ContextModel). length d.names ≤ most_things) same few));
       type_depths = h.type_depths;
       attr_depths = h.attr_depths ∙ sym (attr_depths_names bytes c h.holds) ∙ ap (λ d. map attr_depth (attr_terms d)) (sym same);
     }
@@ -58,7 +58,7 @@ kept_with_type o names types more attrs node depth h e made few of fine deep =
     let c = things_of o names types attrs in
     let same : things_of o names more attrs ≡ (with_type node c).1 = typed_things o names types more attrs node e in
     record {
-      holds = subst Holds (sym same) (holds_type node c h.holds of fine (subst (λ (d : Things). length d.types ≤ most_things) same (subst (λ n. n ≤ most_things) (sym (length-keys_of more)) few)));
+      holds = subst Holds (sym same) (holds_type node c h.holds of fine (subst (λ (d : ContextModel). length d.types ≤ most_things) same (subst (λ n. n ≤ most_things) (sym (length-keys_of more)) few)));
       type_depths = ⊎_elim
           (λ (p : more ≡ types). subst (λ es. values_of es ≡ map type_depth (type_terms (things_of o names es attrs))) (sym p) h.type_depths)
           (λ (p : more ≡ types ++ (node, depth) ∷ []).
@@ -74,7 +74,7 @@ kept_with_attr o names types attrs more node depth h e made few of fine sorted d
     let c = things_of o names types attrs in
     let same : things_of o names types more ≡ (with_attr node c).1 = attributed_things o names types attrs more node e in
     record {
-      holds = subst Holds (sym same) (holds_attr node c h.holds of fine sorted (subst (λ (d : Things). length d.attrs ≤ most_things) same (subst (λ n. n ≤ most_things) (sym (length-keys_of more)) few)));
+      holds = subst Holds (sym same) (holds_attr node c h.holds of fine sorted (subst (λ (d : ContextModel). length d.attrs ≤ most_things) same (subst (λ n. n ≤ most_things) (sym (length-keys_of more)) few)));
       type_depths = h.type_depths;
       attr_depths = ⊎_elim
           (λ (p : more ≡ attrs). subst (λ es. values_of es ≡ map attr_depth (attr_terms (things_of o names types es))) (sym p) h.attr_depths)
@@ -86,7 +86,7 @@ kept_with_attr o names types attrs more node depth h e made few of fine sorted d
           made;
     }
 
--- what a call answers, with the things after it
+-- the result of a call, and the context after it
 pub name_call : (o : Bool) (names more : List (List ℕ)) (types : Types) (attrs : Attrs) (bytes : List ℕ) (place : ℕ) → place ≡ position_or_len (bytes_eq bytes) names → more ≡ with_last (bytes_eq bytes) bytes names → (place, things_of o more types attrs) ≡ with_name bytes (things_of o names types attrs)
 unfolding with_name
 name_call o names more types attrs bytes place at e = λ i. (at i, record { names = e i; types = keys_of types; attrs = keys_of attrs; opaque = o })

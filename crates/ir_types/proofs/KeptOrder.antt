@@ -1,4 +1,4 @@
--- Dictionaries as they are kept: sorting leaves what they name and how deep they are, and sorted ones as they are.
+-- Stored dictionaries: sorting keeps the components and the depth of the entries, and leaves sorted entries unchanged.
 use Rattle.std.specs.Prelude.{ℕ, List}
 use Rattle.std.specs.List.{AllByRecursion}
 use Rattle.std.specs.Ordering.{is_lt, nat_cmp}
@@ -7,7 +7,7 @@ use Rattle.std.proofs.Common.{◌≡◌, suc, ◌+◌, ◌<◌, max, true, false
 use Rattle.std.proofs.lemmas.List.Elements.{recursion_from_All, All-from_recursion}
 use Rattle.ir_types.specs.declared.node.AttrNode.{AttrNode}
 use Rattle.ir_types.specs.declared.node.AttrNode.TheVariants as attr
-use Rattle.ir_types.specs.Things.{Things, PartsBelow, AttrIsOf}
+use Rattle.ir_types.specs.Things.{ContextModel, PartsBelow, AttrIsOf}
 use Rattle.ir_types.specs.Terms.{TypeTerm, AttrTerm, attr_at, entries_at, attr_from, attr_node_term, type_terms, attr_terms}
 use Rattle.ir_types.specs.Depths.{attr_depth, entries_depth}
 use Rattle.ir_types.specs.Reasons.{attr_fault, depth_reason}
@@ -16,7 +16,7 @@ use Rattle.ir_types.specs.Sound.{Holds, IsRising, IsKept}
 use Rattle.ir_types.proofs.Building.{Agree}
 use Rattle.std.proofs.lemmas.Bool.{cases_Bool}
 
--- what is true of each entry stays so
+-- a property of each entry is kept
 module _ (names : List (List ℕ)) (P : ℕ × ℕ → Type 0) where
   placed_all : (e : ℕ × ℕ) (fs : List (ℕ × ℕ)) → P e → AllByRecursion P fs → AllByRecursion P (placed_among names e fs)
   placed_all e [] p all = (p, tt)
@@ -29,7 +29,7 @@ module _ (names : List (List ℕ)) (P : ℕ × ℕ → Type 0) where
   sorted_all [] all = tt
   sorted_all (e ∷ es) all = placed_all e (sorted names es) all.0 (sorted_all es all.1)
 
--- and so does how many there are
+-- the number of entries is kept
 length-placed : (names : List (List ℕ)) (e : ℕ × ℕ) (fs : List (ℕ × ℕ)) → length (placed_among names e fs) ≡ length fs + 1
 length-placed names e [] = refl
 length-placed names e (f ∷ fs) = ⊎_elim
@@ -41,7 +41,7 @@ pub length-sorted : (names : List (List ℕ)) (es : List (ℕ × ℕ)) → lengt
 length-sorted names [] = refl
 length-sorted names (e ∷ es) = omega (arith, length-placed names e (sorted names es), length-sorted names es)
 
--- and how deep the deepest is
+-- the greatest depth is kept
 deepest_placed : (keys names : List (List ℕ)) (known : List AttrTerm) (e : ℕ × ℕ) (fs : List (ℕ × ℕ)) → entries_depth (entries_at names known (placed_among keys e fs)) ≡ max (attr_depth (attr_at known e.1)) (entries_depth (entries_at names known fs))
 deepest_placed keys names known e [] = refl
 deepest_placed keys names known e (f ∷ fs) = ⊎_elim
@@ -56,7 +56,7 @@ pub deepest_sorted : (keys names : List (List ℕ)) (known : List AttrTerm) (es 
 deepest_sorted keys names known [] = refl
 deepest_sorted keys names known (e ∷ es) = deepest_placed keys names known e (sorted keys es) ∙ ap (max (attr_depth (attr_at known e.1))) (deepest_sorted keys names known es)
 
--- an attribute as it is kept names the same things
+-- a stored attribute has the same components
 pub kept_parts : (names : List (List ℕ)) (l m n : ℕ) (node : AttrNode) → PartsBelow l m n node → PartsBelow l m n (kept names node)
 unfolding kept
 kept_parts names l m n (attr.Int ty value) below = below
@@ -73,25 +73,25 @@ kept_parts names l m n (attr.Dense elem values) below = below
 kept_parts names l m n (attr.Overflow nsw nuw) below = below
 kept_parts names l m n (attr.Opaque text ty) below = below
 
-pub kept_of : (c : Things) (node : AttrNode) → AttrIsOf c node → AttrIsOf c (kept c.names node)
+pub kept_of : (c : ContextModel) (node : AttrNode) → AttrIsOf c node → AttrIsOf c (kept c.names node)
 kept_of c node of_c = kept_parts c.names (length c.names) (length c.types) (length c.attrs) node of_c
 
--- is as deep
+-- a stored attribute has the same depth
 pub kept_depth_from : (keys names : List (List ℕ)) (types : List TypeTerm) (known : List AttrTerm) (node : AttrNode) → attr_depth (attr_from names types known (kept keys node)) ≡ attr_depth (attr_from names types known node)
 unfolding kept
 kept_depth_from keys names types known (attr.Dict es) = ap (λ n. 1 + n) (deepest_sorted keys names known es)
 kept_depth_from keys names types known _ = refl
 
--- and has the same faults
+-- a stored attribute has the same faults
 kept_fault_from : (keys names : List (List ℕ)) (types : List TypeTerm) (known : List AttrTerm) (node : AttrNode) → attr_fault (attr_from names types known (kept keys node)) ≡ attr_fault (attr_from names types known node)
 unfolding kept
 kept_fault_from keys names types known (attr.Dict es) = ap (λ n. depth_reason (1 + n)) (deepest_sorted keys names known es)
 kept_fault_from keys names types known _ = refl
 
-pub kept_fault : (c : Things) (node : AttrNode) → attr_fault (attr_node_term c (kept c.names node)) ≡ attr_fault (attr_node_term c node)
+pub kept_fault : (c : ContextModel) (node : AttrNode) → attr_fault (attr_node_term c (kept c.names node)) ≡ attr_fault (attr_node_term c node)
 kept_fault c node = kept_fault_from c.names c.names (type_terms c) (attr_terms c) node
 
--- entries whose keys rise are in order
+-- entries with increasing keys are sorted
 rising_tail : (names : List (List ℕ)) (e : ℕ × ℕ) (es : List (ℕ × ℕ)) → IsRising names (e ∷ es) → IsRising names es
 rising_tail names e es h i j d k l = h (suc i) (suc j) d (omega arith) (omega arith)
 
@@ -108,10 +108,10 @@ unfolding kept
 kept_same names (attr.Dict es) h = ap attr.Dict (sorted_rising names es h.1)
 kept_same names _ h = refl
 
-pub kept_known : (c : Things) (n : ℕ) (node : AttrNode) → Holds c → slice_get c.attrs n ≡ Some node → kept c.names node ≡ node
+pub kept_known : (c : ContextModel) (n : ℕ) (node : AttrNode) → Holds c → slice_get c.attrs n ≡ Some node → kept c.names node ≡ node
 kept_known c n node holds at = kept_same c.names node (holds.attrs_kept n node at)
 
--- more names leave the order
+-- more names keep the order
 pub kept_stays : (l m n : ℕ) (vs ws : List (List ℕ)) → Agree [] l ws vs → (node : AttrNode) → PartsBelow l m n node → IsKept vs node → IsKept ws node
 kept_stays l m n vs ws same (attr.Dict es) below h = (
   h.0,

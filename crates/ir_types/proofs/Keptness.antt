@@ -1,12 +1,12 @@
--- What a node is kept as, and why it is refused.
+-- The stored form of a node, and the reason that a node is refused.
 use Rattle.std.proofs.Common.{◌≡◌, ◌∙◌, refl, sym, ap, subst, ℕ, ◌<◌, ◌≤◌, Bool, true, false, true≢false, List, length, map, Some, None, Ok, Err, le-leb, leb-true, arith}
 use Rattle.std.specs.Prelude.{IfOk, OnOk, OnErr, IsErr, nat_le, Option, Result, IsErrAnd, if◌then◌else◌}
 use Rattle.std.specs.List.{list_any, position_or_len}
 use Rattle.ir_types.specs.declared.node.AttrNode.{AttrNode}
 use Rattle.ir_types.specs.declared.node.AttrNode.TheVariants as attr
 use Rattle.ir_types.specs.declared.refusal.Refusal.TheVariants.{TooMany, DuplicateKey}
-use Rattle.ir_types.specs.Dictionaries.{kept, sorted, has_twin}
-use Rattle.ir_types.specs.Things.{Things}
+use Rattle.ir_types.specs.Dictionaries.{kept, sorted, has_duplicate}
+use Rattle.ir_types.specs.Things.{ContextModel}
 use Rattle.ir_types.specs.Terms.{attr_node_term}
 use Rattle.ir_types.specs.Same.{same_attr}
 use Rattle.ir_types.specs.declared.refusal.Refusal.{Refusal}
@@ -14,10 +14,10 @@ use Rattle.ir_types.specs.Reasons.{checked, dictionary_reason, first_reason, ins
 use Rattle.ir_types.specs.Sound.{Holds, IsKept}
 use Rattle.ir_types.proofs.SameNodes.{same_attr_is}
 use Rattle.ir_types.proofs.Placing.{found_there}
-use Rattle.ir_types.proofs.Sorting.{moved_twin, sorted_moves, rising_twinless}
+use Rattle.ir_types.proofs.Sorting.{moved_duplicate, sorted_moves, rising_twinless}
 use Rattle.ir_types.specs.Limits.{most_things, most_entries}
 
--- a node that is no dictionary is kept as it is
+-- a node that isn't a dictionary is stored unchanged
 pub plain_kept : (names : List (List ℕ)) (n : ℕ) (node : AttrNode) → ((es : List (ℕ × ℕ)) → node ≡ attr.Dict es → ⊥) → (Ok node ≡ checked (dictionary_reason n node) (kept names node)) × IsKept names node
 unfolding kept
 plain_kept names n (attr.Dict es) other = absurd (other es refl)
@@ -32,30 +32,30 @@ plain_kept names n (attr.Overflow nsw nuw) other = (refl, tt)
 plain_kept names n (attr.Opaque text ty) other = (refl, tt)
 
 module _ (names : List (List ℕ)) (n : ℕ) (node : AttrNode) (es : List (ℕ × ℕ)) (is : node ≡ attr.Dict es) (few : length es ≤ most_entries) where
-  -- a dictionary in which each key stands once is sorted
-  pub dictionary_kept : (ns : List (ℕ × ℕ)) → has_twin (map (λ (e : ℕ × ℕ). e.0) es) ≡ false → ns ≡ sorted names es → Ok (attr.Dict ns) ≡ checked (dictionary_reason n node) (kept names node)
+  -- a dictionary without duplicate keys is stored sorted
+  pub dictionary_kept : (ns : List (ℕ × ℕ)) → has_duplicate (map (λ (e : ℕ × ℕ). e.0) es) ≡ false → ns ≡ sorted names es → Ok (attr.Dict ns) ≡ checked (dictionary_reason n node) (kept names node)
   unfolding kept
   dictionary_kept ns none e = rw (is, le-leb (length es) most_entries few, none) (ap (λ l. Ok (attr.Dict l)) e)
 
-  -- and one with a twin is refused
-  pub dictionary_twin : has_twin (map (λ (e : ℕ × ℕ). e.0) es) ≡ true → n < most_things → Err DuplicateKey ≡ checked (dictionary_reason n node) (kept names node)
-  dictionary_twin twin room =
+  -- a dictionary with a duplicate key is refused
+  pub dictionary_duplicate : has_duplicate (map (λ (e : ℕ × ℕ). e.0) es) ≡ true → n < most_things → Err DuplicateKey ≡ checked (dictionary_reason n node) (kept names node)
+  dictionary_duplicate duplicate room =
       let small : nat_le most_things n ≡ false = go (nat_le most_things n) refl in
-      rw (is, le-leb (length es) most_entries few, twin, small) refl
+      rw (is, le-leb (length es) most_entries few, duplicate, small) refl
     where
       go : (b : Bool) → nat_le most_things n ≡ b → nat_le most_things n ≡ false
       go true h = absurd (omega (arith, leb-true most_things n h))
       go false h = h
 
--- a dictionary with a twin is never there
-pub never_there : (c : Things) → Holds c → (es : List (ℕ × ℕ)) → has_twin (map (λ (e : ℕ × ℕ). e.0) es) ≡ true → list_any (same_attr (attr.Dict (sorted c.names es))) c.attrs ≡ false
-never_there c h es twin = go (list_any (same_attr (attr.Dict (sorted c.names es))) c.attrs) refl
+-- a dictionary with a duplicate key is never in the context
+pub never_there : (c : ContextModel) → Holds c → (es : List (ℕ × ℕ)) → has_duplicate (map (λ (e : ℕ × ℕ). e.0) es) ≡ true → list_any (same_attr (attr.Dict (sorted c.names es))) c.attrs ≡ false
+never_there c h es duplicate = go (list_any (same_attr (attr.Dict (sorted c.names es))) c.attrs) refl
   where
     go : (b : Bool) → list_any (same_attr (attr.Dict (sorted c.names es))) c.attrs ≡ b → list_any (same_attr (attr.Dict (sorted c.names es))) c.attrs ≡ false
     go false p = p
     go true p =
         let held : IsKept c.names (attr.Dict (sorted c.names es)) = h.attrs_kept (position_or_len (same_attr (attr.Dict (sorted c.names es))) c.attrs) (attr.Dict (sorted c.names es)) (found_there same_attr same_attr_is (attr.Dict (sorted c.names es)) c.attrs p) in
-        absurd (true≢false (sym twin ∙ moved_twin es (sorted c.names es) (sorted_moves c.names es) ∙ rising_twinless c.names (sorted c.names es) held.1))
+        absurd (true≢false (sym duplicate ∙ moved_duplicate es (sorted c.names es) (sorted_moves c.names es) ∙ rising_twinless c.names (sorted c.names es) held.1))
 
 -- the reasons of the call and those of its parts
 tail_of : (count full key : Option Refusal) (n : ℕ) → ((refusal : Refusal) → key ≡ Some refusal → full ≡ (if nat_le most_things n then Some TooMany else None)) → (refusal : Refusal) → first_reason count (instead n key) ≡ Some refusal → first_reason count (first_reason full key) ≡ Some refusal
@@ -77,16 +77,16 @@ nothing_tail None full (Some k) n e = go (nat_le most_things n) refl
     go true h = absurd (let m : Some TooMany ≡ None = rw h at e in cc)
     go false h = absurd (let m : Some k ≡ None = rw h at e in cc)
 
-full_where : (c : Things) → Holds c → (node : AttrNode) (refusal : Refusal) → key_reason node ≡ Some refusal → full_reason (same_attr (kept c.names node)) c.attrs ≡ (if nat_le most_things (length c.attrs) then Some TooMany else None)
+full_where : (c : ContextModel) → Holds c → (node : AttrNode) (refusal : Refusal) → key_reason node ≡ Some refusal → full_reason (same_attr (kept c.names node)) c.attrs ≡ (if nat_le most_things (length c.attrs) then Some TooMany else None)
 unfolding kept
-full_where c h (attr.Dict es) refusal e = go (has_twin (map (λ (x : ℕ × ℕ). x.0) es)) refl
+full_where c h (attr.Dict es) refusal e = go (has_duplicate (map (λ (x : ℕ × ℕ). x.0) es)) refl
   where
-    go : (b : Bool) → has_twin (map (λ (x : ℕ × ℕ). x.0) es) ≡ b → full_reason (same_attr (attr.Dict (sorted c.names es))) c.attrs ≡ (if nat_le most_things (length c.attrs) then Some TooMany else None)
+    go : (b : Bool) → has_duplicate (map (λ (x : ℕ × ℕ). x.0) es) ≡ b → full_reason (same_attr (attr.Dict (sorted c.names es))) c.attrs ≡ (if nat_le most_things (length c.attrs) then Some TooMany else None)
     go true p = rw (never_there c h es p) refl
     go false p = absurd (let m : None ≡ Some refusal = rw p at e in cc)
 full_where c h _ refusal e = absurd cc
 
-module _ (c : Things) (h : Holds c) (node : AttrNode) where
+module _ (c : ContextModel) (h : Holds c) (node : AttrNode) where
   pub fault_refuses : (refusal : Refusal) → attr_fault (attr_node_term c node) ≡ Some refusal → attr_reason node c ≡ Some refusal
   fault_refuses refusal e = rw e refl
 
@@ -101,7 +101,7 @@ pub refused_as : (A B : Type 0) (reason : Option Refusal) (refusal : Refusal) �
 refused_as A B None refusal h = h
 refused_as A B (Some r) refusal h = let e : refusal ≡ r = cc in ap Err e
 
--- what `?` hands on is the refusal itself
+-- `?` returns the refusal unchanged
 pub handed_on : (A : Type 0) (result : Result A Refusal) (refusal : Refusal) → IsErrAnd result (λ r. r ≡ refusal) → result ≡ Err refusal
 handed_on A (Ok x) refusal h = absurd h
 handed_on A (Err r) refusal h = ap Err h
@@ -109,11 +109,11 @@ handed_on A (Err r) refusal h = ap Err h
 pub refused_by : (A : Type 0) (result : Result A Refusal) (reason : Option Refusal) (refusal : Refusal) → IsErrAnd result (λ r. r ≡ refusal) → IsRefusedFor {A = A} reason (Err refusal) → IsRefusedFor {A = A} reason result
 refused_by A result reason refusal h k = subst (IsRefusedFor {A = A} reason) (sym (handed_on A result refusal h)) k
 
--- a call that has a reason against it is never without one
+-- a call with a reason against it is refused
 pub never : {A : Type 0} (reason : Option Refusal) (refusal : Refusal) → reason ≡ Some refusal → reason ≡ None → A
 never reason refusal e f = absurd (let k : Some refusal ≡ None = sym e ∙ f in cc)
 
--- a call that hands a refusal on is not accepted, and leaves what it says of a refusal
+-- a call that returns a refusal isn't accepted, and satisfies the contract of a refusal
 pub not_ok : (A : Type 0) (P : A → Type 0) (result : Result A Refusal) (refusal : Refusal) → IsErrAnd result (λ r. r ≡ refusal) → IfOk result P
 not_ok A P (Ok x) refusal h = absurd h
 not_ok A P (Err r) refusal h = tt

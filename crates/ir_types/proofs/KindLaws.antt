@@ -1,4 +1,4 @@
--- The readings of known values.
+-- The numbers that constants represent.
 use Rattle.std.proofs.Common.{◌≡◌, ℕ, ◌^◌, ◌<◌, ◌≤◌, ℤ, true}
 use Rattle.ir_types.specs.declared.bits.BitsKind.{BitsKind}
 use Rattle.ir_types.specs.declared.bits.BitsKind.TheVariants as kind

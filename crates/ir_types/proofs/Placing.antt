@@ -1,15 +1,15 @@
--- A thing in the list that has it for certain.
+-- The index of an item in the list that has it.
 use Rattle.std.specs.List.{list_any, position_or_len}
 use Rattle.std.proofs.Common.{◌≡◌, ℕ, zero, suc, ◌+◌, ◌≤◌, Bool, true, false, true≢false, List, [], ◌∷◌, ◌++◌, Some, length, slice_get, sym, ap, subst, refl, ◌∙◌, ◌⊎◌, inl, inr, ⊎_elim, length-append, arith}
 use Rattle.std.proofs.lemmas.List.{append-nil}
-use Rattle.ir_types_items.specs.Interned.{with_last, AreApart}
-use Rattle.ir_types_items.proofs.Placed.{Found, Lacks, where_is, with_last-found, with_last-absent}
+use Rattle.ir_types_interner.specs.Interned.{with_last, AreApart}
+use Rattle.ir_types_interner.proofs.Placed.{Found, Lacks, where_is, with_last-found, with_last-absent}
 use Rattle.ir_types.specs.Things.{IsFront}
 use Rattle.ir_types.proofs.Building.{push_cases, nothing_at, last_place}
 use Rattle.std.proofs.lemmas.Bool.{cases_Bool}
 
 module _ {A : Type 0} (p : A → Bool) (x : A) where
-  -- the list stays, or has the thing last
+  -- the list is unchanged, or has the item appended
   pub with_last-cases : (xs : List A) → ((list_any p xs ≡ true) × (with_last p x xs ≡ xs)) ⊎ ((list_any p xs ≡ false) × (with_last p x xs ≡ xs ++ x ∷ []))
   with_last-cases xs = ⊎_elim (λ h. inl (h, with_last-found p x xs h)) (λ h. inr (h, with_last-absent p x xs h)) (cases_Bool (list_any p xs))
 
@@ -19,7 +19,7 @@ module _ {A : Type 0} (p : A → Bool) (x : A) where
       (λ (h : (list_any p xs ≡ false) × (with_last p x xs ≡ xs ++ x ∷ [])). (x ∷ [], h.1))
       (with_last-cases xs)
 
-  -- and is longer by one at most
+  -- the list is longer by at most one item
   pub length-with_last : (xs : List A) → (length xs ≤ length (with_last p x xs)) × (length (with_last p x xs) ≤ length xs + 1)
   length-with_last xs = ⊎_elim
       (λ (h : (list_any p xs ≡ true) × (with_last p x xs ≡ xs)). let e = ap length h.1 in (omega arith, omega arith))
@@ -27,7 +27,7 @@ module _ {A : Type 0} (p : A → Bool) (x : A) where
       (with_last-cases xs)
 
 module _ {A : Type 0} (same : A → A → Bool) (is : (x y : A) → same x y ≡ true → x ≡ y) where
-  -- where a thing was found, it stands
+  -- an item that is found is in the list, at that index
   pub found_there : (x : A) (xs : List A) → list_any (same x) xs ≡ true → slice_get xs (position_or_len (same x) xs) ≡ Some x
   found_there x [] h = absurd (true≢false (sym h))
   found_there x (y ∷ ys) h = ⊎_elim
@@ -45,7 +45,7 @@ module _ {A : Type 0} (same : A → A → Bool) (is : (x y : A) → same x y ≡
       (where_is (same x) xs)
 
   module _ (itself : (x : A) → same x x ≡ true) where
-    -- a thing that stands somewhere is found
+    -- an item of the list is found
     pub known_found : (x : A) (xs : List A) (n : ℕ) → slice_get xs n ≡ Some x → list_any (same x) xs ≡ true
     known_found x [] n at = absurd (nothing_at n x at)
     known_found x (y ∷ ys) zero at =
@@ -57,19 +57,19 @@ module _ {A : Type 0} (same : A → A → Bool) (is : (x y : A) → same x y ≡
         (λ (e : same x y ≡ false). rw e (known_found x ys n at))
         (cases_Bool (same x y))
 
-    -- so the list stays
+    -- so the list is unchanged
     pub known_stays : (x : A) (xs : List A) (n : ℕ) → slice_get xs n ≡ Some x → with_last (same x) x xs ≡ xs
     known_stays x xs n at = with_last-found (same x) x xs (known_found x xs n at)
 
-    -- at its one place
+    -- the item has one index
     pub known_place : (x : A) (xs : List A) (n : ℕ) → AreApart xs → slice_get xs n ≡ Some x → position_or_len (same x) xs ≡ n
     known_place x xs n apart at = apart _ n x (found_there x xs (known_found x xs n at)) at
 
-    -- a thing that isn't found stands nowhere
+    -- an item that isn't found isn't in the list
     pub absent_nowhere : (x : A) (xs : List A) (n : ℕ) → list_any (same x) xs ≡ false → slice_get xs n ≡ Some x → ⊥
     absent_nowhere x xs n h at = true≢false (sym (known_found x xs n at) ∙ h)
 
-    -- so no thing comes to stand at two places
+    -- so the list stays free of duplicates
     pub apart_with : (x : A) (xs : List A) → AreApart xs → AreApart (with_last (same x) x xs)
     apart_with x xs apart = ⊎_elim
         (λ (h : (list_any (same x) xs ≡ true) × (with_last (same x) x xs ≡ xs)). subst AreApart (sym h.1) apart)

@@ -1,4 +1,4 @@
--- Bits and the numbers that they are read as, at every width.
+-- The bits of integers and the numbers that they represent, at every width.
 use Rattle.std.proofs.Common.{◌≡◌, ℕ, suc, ◌+◌, ◌-◌, ◌*◌, ◌/◌, ◌%◌, ◌^◌, ◌<◌, ◌≤◌, ℤ, pos, negsuc, ◌+ℤ◌, ◌-ℤ◌, ◌*ℤ◌, sym, ap, refl, ◌∙◌, subst, arith, Bool, true, false, Some, None, ⊎_elim, ltb-true, lt-ltb, leb-true}
 use Rattle.std.specs.Prelude.{unsigned_abs, int_lt, nat_lt, if◌then◌else◌, ◌↔◌}
 use Rattle.std.specs.Int.{int_rem_euclid}
@@ -34,14 +34,14 @@ pos_signed w n h = grind (arith, nat_tests)
 pub neg_signed : (w n : ℕ) → is_signed_number w (negsuc n) ≡ true → suc n ≤ 2 ^ (w - 1)
 neg_signed w n h = grind (arith, nat_tests)
 
--- the signed reading is a signed number of w bits
+-- the signed number of w bits is in the signed range
 pub signed_fits : (w v : ℕ) → 1 ≤ w → v < 2 ^ w → is_signed_number w (signed_of w v) ≡ true
 signed_fits w v some h = ⊎_elim
     (λ (l : v < 2 ^ (w - 1)). rw (signed_low w v l) (signed_pos w v l))
     (λ (l : 2 ^ (w - 1) ≤ v). let two = halves w some in rw (high_is w v l h) (signed_neg w (2 ^ w - 1 - v) (omega arith)))
     (cases_lt v (2 ^ (w - 1)))
 
--- and a signed number of w bits is the reading of its bits
+-- a number in the signed range is the signed number of its bits
 pub signed_back : (w : ℕ) (number : ℤ) → 1 ≤ w → is_signed_number w number ≡ true → signed_of w (wrapped w number) ≡ number
 unfolding wrapped
 signed_back w (pos n) some h =
@@ -55,7 +55,7 @@ signed_back w (negsuc n) some h =
     let same : n % 2 ^ w ≡ n = mod-eq_of_lt (omega arith) in
     rw same (signed_high w (2 ^ w - 1 - n) (omega arith) ∙ omega (arith, ints))
 
--- whose bits come back
+-- its bits are the original bits
 pub bits_back : (w v : ℕ) → 1 ≤ w → v < 2 ^ w → wrapped w (signed_of w v) ≡ v
 unfolding wrapped
 bits_back w v some h = ⊎_elim
@@ -69,7 +69,7 @@ pub unsigned_back : (w v : ℕ) → v < 2 ^ w → wrapped w (pos v) ≡ v
 unfolding wrapped
 unsigned_back w v h = mod-eq_of_lt h
 
--- the same of a type
+-- the same for a type
 pub type_bits_back : (ty : TypeTerm) (bits : ℕ) → 1 ≤ type_width ty → is_bits_of ty bits ≡ true → wrapped (type_width ty) (reading_of ty bits) ≡ bits
 type_bits_back (Integer Signless w) bits some h = bits_back w bits some (ltb-true bits (2 ^ w) h)
 type_bits_back (Integer Signed w) bits some h = bits_back w bits some (ltb-true bits (2 ^ w) h)
@@ -104,7 +104,7 @@ type_number_fits (Function inputs outputs) bits some h = absurd (cc h)
 type_number_fits (Memref dims elem) bits some h = absurd (cc h)
 type_number_fits (OpaqueType text) bits some h = absurd (cc h)
 
--- what is printed is a literal
+-- a number in printed form is a literal
 signless_literal : (w : ℕ) (negative : Bool) (m : ℕ) → 1 ≤ w → is_signed w negative m ≡ true → is_literal (Integer Signless w) negative m ≡ true
 signless_literal w true m some h = h
 signless_literal w false m some h = let two = halves w some in let l = ltb-true m (2 ^ (w - 1)) h in lt-ltb m (2 ^ w) (omega arith)
@@ -142,7 +142,7 @@ literal_small sign w negative m some h = by sign negative h
     by Unsigned true h = let e : m ≡ 0 = (Decides-eqb m 0).0 h in rw e (pow_pos w)
     by Unsigned false h = ltb-true m (2 ^ w) h
 
--- a literal's bits are those of its type
+-- the bits of a literal are bits of its type
 is_below : (w : ℕ) (number : ℤ) (bits : ℕ) → Some (wrapped w number) ≡ Some bits → nat_lt bits (2 ^ w) ≡ true
 is_below w number bits e = let f : wrapped w number ≡ bits = cc in lt-ltb bits (2 ^ w) (subst (λ b. b < 2 ^ w) f (bits_below w number))
 
@@ -157,7 +157,7 @@ literal_is_bits (Function inputs outputs) negative m bits e = absurd (cc e)
 literal_is_bits (Memref dims elem) negative m bits e = absurd (cc e)
 literal_is_bits (OpaqueType text) negative m bits e = absurd (cc e)
 
--- a number is its bits and a multiple of 2^w
+-- a number is the sum of its bits and a multiple of 2^w
 split : (w : ℕ) (number : ℤ) → (k : ℤ) × (number ≡ pos (wrapped w number) +ℤ k *ℤ pos (2 ^ w))
 unfolding wrapped
 split w (pos n) = (pos (n / 2 ^ w), omega (arith, ints, div-add-mod' n (2 ^ w)))

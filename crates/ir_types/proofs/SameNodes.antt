@@ -1,4 +1,4 @@
--- The tests of sameness hold of one node alone, and are the derived `==`.
+-- The equality tests of nodes are true only for equal nodes, and agree with the derived `==`.
 use denote.Enum.Bare.{sameb}
 use Rattle.std.specs.Prelude.{◌==◌}
 use Rattle.std.specs.Bool.{beq}
@@ -19,7 +19,7 @@ use Rattle.ir_types.specs.contracts.node.AttrNodePartialEq.TheImpl as attr_node_
 use Rattle.ir_types.specs.Same.{same_sign, same_entry, same_type, same_attr}
 use Rattle.std.proofs.lemmas.Bool.{and_from}
 
--- a test that holds of one value alone, and of a value and itself
+-- a test that is true only for one value, and is true for the value itself
 abbrev pub IsExact : {A : Type 0} → (A → A → Bool) → Type 0
 IsExact {A} same = (x y : A) → same x y ≡ true → x ≡ y
 
@@ -133,7 +133,7 @@ same_attr_refl (attr.Dense s xs) = and_from (s == s) (pointwise int_eq xs xs) (n
 same_attr_refl (attr.Overflow a b) = and_from (beq a a) (beq b b) (boolean_refl a) (boolean_refl b)
 same_attr_refl (attr.Opaque s t) = and_from (pointwise ◌==◌ s s) (option_eq ◌==◌ t t) (list_refl ◌==◌ number_refl s) (option_refl ◌==◌ number_refl t)
 
--- the derived `==` is the test
+-- the derived `==` is the equality test
 derived_sign : (s t : Sign) → sameb the_type s t ≡ same_sign s t
 derived_sign Signless Signless = refl
 derived_sign Signed Signed = refl

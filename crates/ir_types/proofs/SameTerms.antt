@@ -1,4 +1,4 @@
--- The test whether two types are one holds exactly where they are, which is where their numbers are one.
+-- The equality test of types is correct, and agrees with the equality of their ids.
 use Rattle.std.proofs.Common.{◌≡◌, refl, sym, ap, ◌∙◌, ℕ, Bool, true, false, true≢false, ◌&&◌, List, [], ◌∷◌, Some, None, inl, inr}
 use Rattle.std.specs.Prelude.{◌==◌, Option}
 use Rattle.std.specs.Cmp.{first_so, second_so, unsigned_Decides}
@@ -7,7 +7,7 @@ use Rattle.std.specs.Option.{option_eq}
 use Rattle.ir_types.specs.declared.node.Sign.{Sign}
 use Rattle.ir_types.specs.declared.node.Sign.TheVariants.{Signless, Signed, Unsigned}
 use Rattle.ir_types.specs.Same.{same_sign}
-use Rattle.ir_types.specs.Things.{Things, IsType}
+use Rattle.ir_types.specs.Things.{ContextModel, IsType}
 use Rattle.ir_types.specs.Terms.{TypeTerm, Integer, Index, Function, Memref, OpaqueType, TypeTerms, no_types, next_type, type_term}
 use Rattle.ir_types.specs.Sound.{IsSound}
 use Rattle.ir_types.proofs.Terms.{type_term_one}
@@ -108,8 +108,8 @@ mutual
   terms_refl no_types = refl
   terms_refl (next_type t ts) = and_from (same_type t t) (same_terms ts ts) (type_refl t) (terms_refl ts)
 
--- by their numbers in a context
-pub same_numbers : (c : Things) (m n : ℕ) → IsSound c → IsType c m → IsType c n → (m == n) ≡ same_type (type_term c m) (type_term c n)
+-- by ids of a context
+pub same_numbers : (c : ContextModel) (m n : ℕ) → IsSound c → IsType c m → IsType c n → (m == n) ≡ same_type (type_term c m) (type_term c n)
 same_numbers c m n sound h k = go (same_type (type_term c m) (type_term c n)) refl
   where
     go : (b : Bool) → same_type (type_term c m) (type_term c n) ≡ b → (m == n) ≡ same_type (type_term c m) (type_term c n)

@@ -1,4 +1,4 @@
--- Sorted entries: what is kept of a dictionary is one list, whatever the order in which its entries were given.
+-- Sorted entries: the stored dictionary doesn't depend on the order in which the entries were given.
 use Rattle.std.proofs.Common.{◌≡◌, ◌≢◌, refl, sym, ap, ◌∙◌, subst, ℕ, zero, suc, ◌+◌, ◌<◌, Bool, true, false, true≢false, cond, List, [], ◌∷◌, length, map, Some, get_or, ◌⊎◌, inl, inr, ⊎_elim, arith}
 use Rattle.std.specs.Prelude.{◌||◌, ◌==◌, nat_eq, slice_index_or, Contains, IsPermutation}
 use Rattle.std.specs.List.{All, AllByRecursion, list_any, IsDistinct}
@@ -18,9 +18,9 @@ use Rattle.std.proofs.lemmas.List.Sorted.{Contains-permutation, IsPermutation-re
 use Rattle.std.proofs.lemmas.Map.Keys.{IsDistinct-IsPermutation, IsDistinct-from_apart}
 use Rattle.std.proofs.lemmas.List.{length-map, get_or-map}
 use Rattle.std.proofs.lemmas.List.Kept.{AllPairs-cons}
-use Rattle.ir_types_items.specs.Interned.{AreApart}
+use Rattle.ir_types_interner.specs.Interned.{AreApart}
 use Rattle.ir_types.specs.Sound.{IsRising}
-use Rattle.ir_types.specs.Dictionaries.{key_bytes, comes_before, placed_among, sorted, has_twin, twin_after, has_adjacent_twin}
+use Rattle.ir_types.specs.Dictionaries.{key_bytes, comes_before, placed_among, sorted, has_duplicate, duplicate_after, has_adjacent_duplicate}
 use Rattle.std.proofs.lemmas.Bool.{or_parts, or_right}
 
 abbrev Entry : Type 0
@@ -29,7 +29,7 @@ Entry = ℕ × ℕ
 abbrev order : List ℕ → List ℕ → Ordering
 order = slice_cmp nat_cmp
 
--- the keys' bytes rise strictly
+-- the bytes of the keys are strictly increasing
 abbrev pub Rise : List (List ℕ) → List Entry → Type 0
 Rise names [] = Unit {0}
 Rise names (e ∷ es) = AllByRecursion (λ (f : Entry). order (key_bytes names e) (key_bytes names f) ≡ Less) es × Rise names es
@@ -62,7 +62,7 @@ module _ (names : List (List ℕ)) where
   flips : (a b : List ℕ) → order a b ≡ Greater → order b a ≡ Less
   flips a b h = total.antisymm b a ∙ ap ordering_reverse h
 
-  -- an entry of another key among entries that rise
+  -- an entry with another key among entries with increasing keys
   placed_all : (P : Entry → Type 0) (e : Entry) (fs : List Entry) → P e → AllByRecursion P fs → AllByRecursion P (placed_among names e fs)
   placed_all P e [] p all = (p, tt)
   placed_all P e (f ∷ fs) p all =
@@ -102,12 +102,12 @@ module _ (names : List (List ℕ)) where
   in_sorted x [] h = h
   in_sorted x (e ∷ es) h = ⊎_elim (λ (p : e ≡ x). inl p) (λ (m : In x (sorted names es)). inr (in_sorted x es m)) (in_placed e x (sorted names es) h)
 
-  -- what holds of all entries holds of all sorted ones
+  -- a property of all entries is a property of all sorted entries
   sorted_all : (P : Entry → Type 0) (es : List Entry) → AllByRecursion P es → AllByRecursion P (sorted names es)
   sorted_all P [] all = tt
   sorted_all P (e ∷ es) all = placed_all P e (sorted names es) all.0 (sorted_all P es all.1)
 
-  -- entries of which no two have keys of the same bytes
+  -- entries whose keys have pairwise different bytes
   abbrev Apart : List Entry → Type 0
   Apart [] = Unit {0}
   Apart (e ∷ es) = AllByRecursion (λ f. order (at e) (at f) ≢ Equal) es × Apart es
@@ -119,7 +119,7 @@ module _ (names : List (List ℕ)) where
   never_self : (a : List ℕ) → order a a ≡ Less → ⊥
   never_self a h = not_both a a h h
 
-  -- entries that rise are one list, where they have the same elements
+  -- two lists of entries with increasing keys and the same members are equal
   pub one_list : (xs ys : List Entry) → Rise names xs → Rise names ys → ((x : Entry) → In x xs → In x ys) → ((y : Entry) → In y ys → In y xs) → xs ≡ ys
   one_list [] [] h k f g = refl
   one_list [] (y ∷ ys) h k f g = absurd (g y (inl refl))
@@ -135,7 +135,7 @@ module _ (names : List (List ℕ)) where
       (λ z n. ⊎_elim (λ (p : x ≡ z). absurd (never_self (at y) (subst (λ w. order (at y) (at w) ≡ Less) (sym p ∙ head) (all_in (λ z. order (at y) (at z) ≡ Less) ys z k.0 n)))) (λ (m : In z xs). m) (g z (inr n))) in
       λ i. head i ∷ tail i
 
--- the elements of a list, by place
+-- the members of a list, by index
 in_at : (xs : List Entry) (i : ℕ) (x : Entry) → i < length xs → slice_index_or xs i x ≡ x → In x xs
 in_at [] i x h e = absurd (omega arith)
 in_at (y ∷ ys) zero x h e = inl e
@@ -162,15 +162,15 @@ none_any : (p : ℕ → Bool) (ks : List ℕ) → AllByRecursion (λ k. p k ≡ 
 none_any p [] h = refl
 none_any p (k ∷ ks) h = rw h.0 (none_any p ks h.1)
 
-pub distinct_keys : (ks : List ℕ) → has_twin ks ≡ false → IsDistinct nat_eq ks
+pub distinct_keys : (ks : List ℕ) → has_duplicate ks ≡ false → IsDistinct nat_eq ks
 unfolding IsDistinct
 distinct_keys [] h = tt
-distinct_keys (k ∷ ks) h = let r = or_parts (list_any (λ l. k == l) ks) (has_twin ks) h in (any_none (λ l. k == l) ks r.0, distinct_keys ks r.1)
+distinct_keys (k ∷ ks) h = let r = or_parts (list_any (λ l. k == l) ks) (has_duplicate ks) h in (any_none (λ l. k == l) ks r.0, distinct_keys ks r.1)
 
-pub no_twins : (ks : List ℕ) → IsDistinct nat_eq ks → has_twin ks ≡ false
+pub no_duplicates : (ks : List ℕ) → IsDistinct nat_eq ks → has_duplicate ks ≡ false
 unfolding IsDistinct
-no_twins [] h = refl
-no_twins (k ∷ ks) h = rw (none_any (λ l. k == l) ks h.0) (no_twins ks h.1)
+no_duplicates [] h = refl
+no_duplicates (k ∷ ks) h = rw (none_any (λ l. k == l) ks h.0) (no_duplicates ks h.1)
 
 abbrev keys_of_entries : List Entry → List ℕ
 keys_of_entries es = map (λ (e : Entry). e.0) es
@@ -190,16 +190,16 @@ module _ (names : List (List ℕ)) (apart : AreApart names) where
   abbrev Known : List Entry → Type 0
   Known es = AllByRecursion (λ (e : Entry). e.0 < length names) es
 
-  -- keys of the same bytes are one
+  -- keys with the same bytes are equal
   one_key : (e f : Entry) → e.0 < length names → f.0 < length names → key_bytes names e ≡ key_bytes names f → e.0 ≡ f.0
   one_key e f h k same = apart e.0 f.0 (key_bytes names f) (slice_get-get_or names e.0 [] h ∙ ap Some same) (slice_get-get_or names f.0 [] k)
 
-  -- sorted entries rise, where no two neighbours have one key
-  pub rises : (es : List Entry) → Known es → IsSortedBy (comes_before names) es → has_adjacent_twin es ≡ false → Rise names es
+  -- sorted entries have increasing keys if no two adjacent ones have the same key
+  pub rises : (es : List Entry) → Known es → IsSortedBy (comes_before names) es → has_adjacent_duplicate es ≡ false → Rise names es
   rises [] known up none = tt
   rises (e ∷ []) known up none = (tt, tt)
   rises (e ∷ f ∷ fs) known up none =
-      let split = or_parts (f.0 == e.0) (twin_after f.0 fs) none in
+      let split = or_parts (f.0 == e.0) (duplicate_after f.0 fs) none in
       let rest : Rise names (f ∷ fs) = rises (f ∷ fs) known.1 (λ k d low high. ap (λ j. comes_before names (slice_index_or (e ∷ f ∷ fs) j d) (slice_index_or (e ∷ f ∷ fs) (suc k) d)) (let i : suc (k + 1) ≡ suc k + 1 = omega arith in i) ∙ up (suc k) d (omega arith) (omega arith)) split.1 in
       let not_less : comes_before names f e ≡ false = up 0 e (omega arith) (omega arith) in
       let less : order (key_bytes names e) (key_bytes names f) ≡ Less = below e f known.0 known.1.0 not_less split.0 in
@@ -213,7 +213,7 @@ module _ (names : List (List ℕ)) (apart : AreApart names) where
           go Equal p = let one : f.0 ≡ e.0 = one_key f e k h (equal_bytes _ _ p) in absurd (true≢false (sym (eq-eqb f.0 e.0 one) ∙ differ))
           go Greater p = flips names (key_bytes names f) (key_bytes names e) p
 
-  -- entries that rise have each key once
+  -- entries with increasing keys have no duplicate key
   pub rise_distinct : (es : List Entry) → Rise names es → IsDistinct nat_eq (keys_of_entries es)
   unfolding IsDistinct
   rise_distinct [] rise = tt
@@ -227,7 +227,7 @@ module _ (names : List (List ℕ)) (apart : AreApart names) where
           differ true p = let one : e.0 ≡ f.0 = eqb-true e.0 f.0 p in absurd (never_self names (key_bytes names f) (subst (λ k. order (slice_index_or names k []) (key_bytes names f) ≡ Less) one all.0))
           differ false p = p
 
-  -- and where each key stands once, no two have the same bytes
+  -- without duplicate keys, no two keys have the same bytes
   pub apart_from : (es : List Entry) → Known es → IsDistinct nat_eq (keys_of_entries es) → Apart names es
   unfolding IsDistinct
   apart_from [] known distinct = tt
@@ -237,27 +237,27 @@ module _ (names : List (List ℕ)) (apart : AreApart names) where
       go [] k all = tt
       go (f ∷ fs) k all = ((λ p. true≢false (sym (eq-eqb e.0 f.0 (one_key e f known.0 k.0 (equal_bytes _ _ p))) ∙ all.0)), go fs k.1 all.1)
 
-twin_there : (es : List Entry) (k : ℕ) → twin_after k es ≡ true → has_twin (k ∷ keys_of_entries es) ≡ true
-twin_there [] k h = absurd (true≢false (sym h))
-twin_there (e ∷ es) k h = go (e.0 == k) refl (λ m. twin_there es e.0 m)
+duplicate_there : (es : List Entry) (k : ℕ) → duplicate_after k es ≡ true → has_duplicate (k ∷ keys_of_entries es) ≡ true
+duplicate_there [] k h = absurd (true≢false (sym h))
+duplicate_there (e ∷ es) k h = go (e.0 == k) refl (λ m. duplicate_there es e.0 m)
   where
-    go : (b : Bool) → (e.0 == k) ≡ b → (twin_after e.0 es ≡ true → has_twin (e.0 ∷ keys_of_entries es) ≡ true) → has_twin (k ∷ keys_of_entries (e ∷ es)) ≡ true
+    go : (b : Bool) → (e.0 == k) ≡ b → (duplicate_after e.0 es ≡ true → has_duplicate (e.0 ∷ keys_of_entries es) ≡ true) → has_duplicate (k ∷ keys_of_entries (e ∷ es)) ≡ true
     go true p later = rw (let q : (k == e.0) ≡ true = eq-eqb k e.0 (sym (eqb-true e.0 k p)) in q) refl
     go false p later = or_right ((k == e.0) || list_any (λ l. k == l) (keys_of_entries es)) _ (later (rw p at h))
 
 pub flips_eq : (x y : ℕ) → nat_eq x y ≡ nat_eq y x
 flips_eq x y = both_ways (nat_eq x y) (nat_eq y x) (λ h. eq-eqb y x (sym (eqb-true x y h))) (λ h. eq-eqb x y (sym (eqb-true y x h)))
 
--- a permutation has a key twice where the list has
-pub moved_twin : (xs ys : List Entry) → IsPermutation xs ys → has_twin (keys_of_entries xs) ≡ has_twin (keys_of_entries ys)
-moved_twin xs ys moved = both_ways _ _ (back ys xs (IsPermutation-sym xs ys moved)) (back xs ys moved)
+-- a permutation has a duplicate key exactly if the list has
+pub moved_duplicate : (xs ys : List Entry) → IsPermutation xs ys → has_duplicate (keys_of_entries xs) ≡ has_duplicate (keys_of_entries ys)
+moved_duplicate xs ys moved = both_ways _ _ (back ys xs (IsPermutation-sym xs ys moved)) (back xs ys moved)
   where
-    back : (xs ys : List Entry) → IsPermutation xs ys → has_twin (keys_of_entries ys) ≡ true → has_twin (keys_of_entries xs) ≡ true
-    back xs ys moved h = go (has_twin (keys_of_entries xs)) refl
+    back : (xs ys : List Entry) → IsPermutation xs ys → has_duplicate (keys_of_entries ys) ≡ true → has_duplicate (keys_of_entries xs) ≡ true
+    back xs ys moved h = go (has_duplicate (keys_of_entries xs)) refl
       where
-        go : (b : Bool) → has_twin (keys_of_entries xs) ≡ b → has_twin (keys_of_entries xs) ≡ true
+        go : (b : Bool) → has_duplicate (keys_of_entries xs) ≡ b → has_duplicate (keys_of_entries xs) ≡ true
         go true p = p
-        go false p = absurd (true≢false (sym h ∙ no_twins (keys_of_entries ys) (IsDistinct-IsPermutation nat_eq flips_eq (keys_of_entries xs) (keys_of_entries ys) (IsPermutation-map (λ (e : Entry). e.0) xs ys moved) (distinct_keys (keys_of_entries xs) p))))
+        go false p = absurd (true≢false (sym h ∙ no_duplicates (keys_of_entries ys) (IsDistinct-IsPermutation nat_eq flips_eq (keys_of_entries xs) (keys_of_entries ys) (IsPermutation-map (λ (e : Entry). e.0) xs ys moved) (distinct_keys (keys_of_entries xs) p))))
 
 module _ (names : List (List ℕ)) (apart : AreApart names) (xs ys : List Entry) (known : All (λ (e : Entry). e.0 < length names) xs) (moved : IsPermutation xs ys) (up : IsSortedBy (comes_before names) ys) where
   known_xs : Known names apart xs
@@ -266,22 +266,22 @@ module _ (names : List (List ℕ)) (apart : AreApart names) (xs ys : List Entry)
   known_ys : Known names apart ys
   known_ys = recursion_from_All (λ (e : Entry). e.0 < length names) ys (All-permutation (λ (e : Entry). e.0 < length names) xs ys moved known)
 
-  -- neighbours in sorted entries have one key exactly where a key stands twice
-  pub sorted_twin : has_adjacent_twin ys ≡ has_twin (keys_of_entries xs)
-  sorted_twin = go (has_adjacent_twin ys) refl ∙ sym (moved_twin xs ys moved)
+  -- two adjacent sorted entries have the same key exactly if a key occurs twice
+  pub sorted_duplicate : has_adjacent_duplicate ys ≡ has_duplicate (keys_of_entries xs)
+  sorted_duplicate = go (has_adjacent_duplicate ys) refl ∙ sym (moved_duplicate xs ys moved)
     where
-      there : (es : List Entry) → has_adjacent_twin es ≡ true → has_twin (keys_of_entries es) ≡ true
+      there : (es : List Entry) → has_adjacent_duplicate es ≡ true → has_duplicate (keys_of_entries es) ≡ true
       there [] h = h
-      there (e ∷ es) h = twin_there es e.0 h
+      there (e ∷ es) h = duplicate_there es e.0 h
 
-      go : (b : Bool) → has_adjacent_twin ys ≡ b → has_adjacent_twin ys ≡ has_twin (keys_of_entries ys)
+      go : (b : Bool) → has_adjacent_duplicate ys ≡ b → has_adjacent_duplicate ys ≡ has_duplicate (keys_of_entries ys)
       go true p = p ∙ sym (there ys p)
-      go false p = p ∙ sym (no_twins (keys_of_entries ys) (rise_distinct names apart ys (rises names apart ys known_ys up p)))
+      go false p = p ∙ sym (no_duplicates (keys_of_entries ys) (rise_distinct names apart ys (rises names apart ys known_ys up p)))
 
-  -- where no key stands twice, they are the kept ones, and rise
-  pub sorted_kept : has_twin (keys_of_entries xs) ≡ false → (ys ≡ sorted names xs) × Rise names ys
+  -- without duplicate keys, the sorted entries are the stored ones, and their keys increase
+  pub sorted_kept : has_duplicate (keys_of_entries xs) ≡ false → (ys ≡ sorted names xs) × Rise names ys
   sorted_kept none =
-      let rise : Rise names ys = rises names apart ys known_ys up (sorted_twin ∙ none) in
+      let rise : Rise names ys = rises names apart ys known_ys up (sorted_duplicate ∙ none) in
       let kept = sorted_rises names xs (apart_from names apart xs known_xs (distinct_keys (keys_of_entries xs) none)) in (
         one_list names ys (sorted names xs) rise kept
             (λ x h. sorted_in names x xs (moved_in ys xs (IsPermutation-sym xs ys moved) x h))
@@ -289,17 +289,17 @@ module _ (names : List (List ℕ)) (apart : AreApart names) (xs ys : List Entry)
         rise,
       )
 
--- the order in which entries are given does not matter
-pub sorted_moved : (names : List (List ℕ)) → AreApart names → (xs ys : List Entry) → All (λ (e : Entry). e.0 < length names) xs → IsPermutation xs ys → has_twin (keys_of_entries xs) ≡ false → sorted names xs ≡ sorted names ys
+-- the order in which entries are given doesn't matter
+pub sorted_moved : (names : List (List ℕ)) → AreApart names → (xs ys : List Entry) → All (λ (e : Entry). e.0 < length names) xs → IsPermutation xs ys → has_duplicate (keys_of_entries xs) ≡ false → sorted names xs ≡ sorted names ys
 sorted_moved names apart xs ys known moved none =
     let known_ys = All-permutation (λ (e : Entry). e.0 < length names) xs ys moved known in
     let rise_xs = sorted_rises names xs (apart_from names apart xs (recursion_from_All (λ (e : Entry). e.0 < length names) xs known) (distinct_keys (keys_of_entries xs) none)) in
-    let rise_ys = sorted_rises names ys (apart_from names apart ys (recursion_from_All (λ (e : Entry). e.0 < length names) ys known_ys) (distinct_keys (keys_of_entries ys) (sym (moved_twin xs ys moved) ∙ none))) in
+    let rise_ys = sorted_rises names ys (apart_from names apart ys (recursion_from_All (λ (e : Entry). e.0 < length names) ys known_ys) (distinct_keys (keys_of_entries ys) (sym (moved_duplicate xs ys moved) ∙ none))) in
     one_list names (sorted names xs) (sorted names ys) rise_xs rise_ys
     (λ x h. sorted_in names x ys (moved_in xs ys moved x (in_sorted names x xs h)))
     (λ x h. sorted_in names x xs (moved_in ys xs (IsPermutation-sym xs ys moved) x (in_sorted names x ys h)))
 
--- in the words of a contract
+-- the same, as the contract says it
 pub rising_pairs : (names : List (List ℕ)) (es : List Entry) → Rise names es → IsRising names es
 rising_pairs names [] rise = λ i j d h k. absurd (omega arith)
 rising_pairs names (e ∷ es) rise =
@@ -307,7 +307,7 @@ rising_pairs names (e ∷ es) rise =
     (All-from_recursion (λ f. comes_before names e f ≡ true) es (all_map (λ f. order (key_bytes names e) (key_bytes names f) ≡ Less) (λ f. comes_before names e f ≡ true) (λ f h. ap is_lt h) es rise.0))
     (rising_pairs names es rise.1)
 
--- sorted entries are the given ones in another order
+-- sorted entries are a permutation of the given ones
 placed_moves : (names : List (List ℕ)) (e : Entry) (fs : List Entry) → IsPermutation (e ∷ fs) (placed_among names e fs)
 placed_moves names e [] = IsPermutation-refl (e ∷ [])
 placed_moves names e (f ∷ fs) = go (comes_before names e f) refl (placed_moves names e fs)
@@ -320,9 +320,9 @@ pub sorted_moves : (names : List (List ℕ)) (es : List Entry) → IsPermutation
 sorted_moves names [] = IsPermutation-refl []
 sorted_moves names (e ∷ es) = IsPermutation-trans (e ∷ es) (e ∷ sorted names es) (sorted names (e ∷ es)) (IsPermutation-cons e es (sorted names es) (sorted_moves names es)) (placed_moves names e (sorted names es))
 
--- entries whose keys' bytes rise have no twin
-pub rising_twinless : (names : List (List ℕ)) (es : List Entry) → IsRising names es → has_twin (keys_of_entries es) ≡ false
-rising_twinless names es rise = no_twins (keys_of_entries es) (IsDistinct-from_apart nat_eq (keys_of_entries es) differ)
+-- entries with increasing keys have no duplicate key
+pub rising_twinless : (names : List (List ℕ)) (es : List Entry) → IsRising names es → has_duplicate (keys_of_entries es) ≡ false
+rising_twinless names es rise = no_duplicates (keys_of_entries es) (IsDistinct-from_apart nat_eq (keys_of_entries es) differ)
   where
     differ : (i j d : ℕ) → i < j → j < length (keys_of_entries es) → nat_eq (get_or (keys_of_entries es) i d) (get_or (keys_of_entries es) j d) ≡ false
     differ i j d h k = go (nat_eq (get_or (keys_of_entries es) i d) (get_or (keys_of_entries es) j d)) refl

@@ -1,23 +1,24 @@
--- What a number stands for stays when the things grow, is what its node is, and is no other number's.
+-- The meaning of an id is unchanged in an extended context, is the meaning of its node, and differs from that of every
+-- other id.
 use Rattle.std.specs.Prelude.{ℕ, List, Option, None}
 use Rattle.std.specs.List.{AllByRecursion}
 use Rattle.std.proofs.Common.{◌≡◌, ◌<◌, ◌≤◌, [], ◌∷◌, ◌++◌, map, Some, length, get_or, slice_get, sym, ap, subst, refl, ◌∙◌, arith}
 use Rattle.std.proofs.lemmas.List.Elements.{recursion_from_All, All-weaker}
 use Rattle.std.proofs.lemmas.Option.{slice_get-get_or}
-use Rattle.ir_types_items.specs.Built.{built}
-use Rattle.ir_types_items.specs.Interned.{AreApart}
+use Rattle.ir_types_interner.specs.Built.{built}
+use Rattle.ir_types_interner.specs.Interned.{AreApart}
 use Rattle.ir_types.specs.declared.node.TypeNode.{TypeNode}
 use Rattle.ir_types.specs.declared.node.TypeNode.TheVariants as type
 use Rattle.ir_types.specs.declared.node.AttrNode.{AttrNode}
 use Rattle.ir_types.specs.declared.node.AttrNode.TheVariants as attr
-use Rattle.ir_types.specs.Things.{Things, IsName, IsType, IsAttr, TypesBelow, IsBelow, PartsBelow, TypeIsOf, AttrIsOf, Grows}
+use Rattle.ir_types.specs.Things.{ContextModel, IsName, IsType, IsAttr, TypesBelow, IsBelow, PartsBelow, TypeIsOf, AttrIsOf, IsExtendedBy}
 use Rattle.ir_types.specs.Terms.{TypeTerm, Index, Function, Memref, next_type, AttrTerm, IntegerOf, String, TypeOf, Flag, Array, Dictionary, Symbol, DenseArray, OpaqueOf, next_attr, next_entry, name_term, type_at, types_at, some_type_at, type_from, type_terms, type_term, type_node_term, attr_at, attrs_at, entries_at, attr_from, attr_terms, attr_term, attr_node_term}
 use Rattle.ir_types.specs.Interning.{with_name, with_type}
 use Rattle.ir_types.specs.Sound.{Holds, IsSound}
 use Rattle.ir_types.proofs.Building.{Agree, AreTold, built-push, built_agree, built_same, built_is, built_told, length-built}
 use Rattle.ir_types.proofs.Growth.{front_agree, grows_name, grows_type, name_attrs, type_attrs}
 
--- a node means the same where the lists agree on what it names
+-- a node has the same meaning in lists that agree on its components
 types_agree : (n : ℕ) (ys zs : List TypeTerm) → Agree Index n ys zs → (ids : List ℕ) → AllByRecursion (λ t. t < n) ids → types_at ys ids ≡ types_at zs ids
 types_agree n ys zs same [] all = refl
 types_agree n ys zs same (t ∷ ts) all = λ i. next_type (same t all.0 i) (types_agree n ys zs same ts all.1 i)
@@ -59,7 +60,7 @@ attr_from_agree l m n vs ws ts us ys zs names types same (attr.Dense elem values
 attr_from_agree l m n vs ws ts us ys zs names types same (attr.Overflow nsw nuw) below = refl
 attr_from_agree l m n vs ws ts us ys zs names types same (attr.Opaque text ty) below = ap (OpaqueOf text) (some_agrees m ts us types ty below)
 
--- numbers below a bound are below a higher one
+-- ids below a bound are below a greater one
 pub types_below_more : (m n : ℕ) (node : TypeNode) → m ≤ n → TypesBelow m node → TypesBelow n node
 types_below_more m n (type.Int sign width) h below = tt
 types_below_more m n type.Index h below = tt
@@ -86,80 +87,80 @@ parts_below_more l m n k o p (attr.Dense elem values) f g h below = omega arith
 parts_below_more l m n k o p (attr.Overflow nsw nuw) f g h below = tt
 parts_below_more l m n k o p (attr.Opaque text ty) f g h below = below_more m o ty g below
 
--- one thing more has what its node is
-pub type_terms_push : (c : Things) (node : TypeNode) → type_terms (record c { types = c.types ++ node ∷ [] }) ≡ type_terms c ++ type_node_term c node ∷ []
+-- one more item has the meaning of its node
+pub type_terms_push : (c : ContextModel) (node : TypeNode) → type_terms (record c { types = c.types ++ node ∷ [] }) ≡ type_terms c ++ type_node_term c node ∷ []
 type_terms_push c node = built-push type_from c.types node
 
-pub attr_terms_push : (c : Things) (node : AttrNode) → attr_terms (record c { attrs = c.attrs ++ node ∷ [] }) ≡ attr_terms c ++ attr_node_term c node ∷ []
+pub attr_terms_push : (c : ContextModel) (node : AttrNode) → attr_terms (record c { attrs = c.attrs ++ node ∷ [] }) ≡ attr_terms c ++ attr_node_term c node ∷ []
 attr_terms_push c node = built-push (attr_from c.names (type_terms c)) c.attrs node
 
-pub length-type_terms : (c : Things) → length (type_terms c) ≡ length c.types
+pub length-type_terms : (c : ContextModel) → length (type_terms c) ≡ length c.types
 length-type_terms c = length-built type_from c.types
 
-pub length-attr_terms : (c : Things) → length (attr_terms c) ≡ length c.attrs
+pub length-attr_terms : (c : ContextModel) → length (attr_terms c) ≡ length c.attrs
 length-attr_terms c = length-built (attr_from c.names (type_terms c)) c.attrs
 
--- a number gives its thing back when the things grow
-pub name_stays : (c d : Things) (n : ℕ) → Grows c d → IsName c n → name_term d n ≡ name_term c n
+-- an id has the same meaning in an extended context
+pub name_stays : (c d : ContextModel) (n : ℕ) → IsExtendedBy c d → IsName c n → name_term d n ≡ name_term c n
 name_stays c d n g h = front_agree [] c.names d.names g.names n h
 
-pub type_terms_agree : (c d : Things) → Grows c d → Agree Index (length c.types) (type_terms d) (type_terms c)
+pub type_terms_agree : (c d : ContextModel) → IsExtendedBy c d → Agree Index (length c.types) (type_terms d) (type_terms c)
 type_terms_agree c d g i h = ap (λ l. get_or (built type_from l) i Index) g.types.1 ∙ built_agree type_from Index (length c.types) c.types g.types.0 (omega arith) i h
 
-pub type_stays : (c d : Things) (n : ℕ) → Grows c d → IsType c n → type_term d n ≡ type_term c n
+pub type_stays : (c d : ContextModel) (n : ℕ) → IsExtendedBy c d → IsType c n → type_term d n ≡ type_term c n
 type_stays c d n g h = type_terms_agree c d g n h
 
-pub type_node_stays : (c d : Things) (node : TypeNode) → Grows c d → TypeIsOf c node → type_node_term d node ≡ type_node_term c node
+pub type_node_stays : (c d : ContextModel) (node : TypeNode) → IsExtendedBy c d → TypeIsOf c node → type_node_term d node ≡ type_node_term c node
 type_node_stays c d node g of_c = type_from_agree (length c.types) (type_terms d) (type_terms c) (type_terms_agree c d g) node of_c
 
--- attributes that were there are made alike
-alike : (c d : Things) → Holds c → Grows c d → (i : ℕ) (node : AttrNode) → slice_get c.attrs i ≡ Some node → (known : List AttrTerm) → attr_from d.names (type_terms d) known node ≡ attr_from c.names (type_terms c) known node
+-- attributes of the context have the same meaning in an extended one
+alike : (c d : ContextModel) → Holds c → IsExtendedBy c d → (i : ℕ) (node : AttrNode) → slice_get c.attrs i ≡ Some node → (known : List AttrTerm) → attr_from d.names (type_terms d) known node ≡ attr_from c.names (type_terms c) known node
 alike c d holds g i node at known =
     attr_from_agree (length c.names) (length c.types) i d.names c.names (type_terms d) (type_terms c) known known
     (front_agree [] c.names d.names g.names) (type_terms_agree c d g) (λ k h. refl) node (holds.attrs_refer i node at)
 
-pub attr_terms_alike : (c d : Things) → Holds c → Grows c d → built (attr_from d.names (type_terms d)) c.attrs ≡ attr_terms c
+pub attr_terms_alike : (c d : ContextModel) → Holds c → IsExtendedBy c d → built (attr_from d.names (type_terms d)) c.attrs ≡ attr_terms c
 attr_terms_alike c d holds g = built_same (attr_from d.names (type_terms d)) (attr_from c.names (type_terms c)) c.attrs (alike c d holds g)
 
-pub attr_terms_agree : (c d : Things) → Holds c → Grows c d → Agree Flag (length c.attrs) (attr_terms d) (attr_terms c)
+pub attr_terms_agree : (c d : ContextModel) → Holds c → IsExtendedBy c d → Agree Flag (length c.attrs) (attr_terms d) (attr_terms c)
 attr_terms_agree c d holds g i h =
     let make = attr_from d.names (type_terms d) in
     ap (λ l. get_or (built make l) i Flag) g.attrs.1 ∙ built_agree make Flag (length c.attrs) c.attrs g.attrs.0 (omega arith) i h ∙ ap (λ l. get_or l i Flag) (attr_terms_alike c d holds g)
 
-pub attr_stays : (c d : Things) (n : ℕ) → Holds c → Grows c d → IsAttr c n → attr_term d n ≡ attr_term c n
+pub attr_stays : (c d : ContextModel) (n : ℕ) → Holds c → IsExtendedBy c d → IsAttr c n → attr_term d n ≡ attr_term c n
 attr_stays c d n holds g h = attr_terms_agree c d holds g n h
 
-pub attr_node_stays : (c d : Things) (node : AttrNode) → Holds c → Grows c d → AttrIsOf c node → attr_node_term d node ≡ attr_node_term c node
+pub attr_node_stays : (c d : ContextModel) (node : AttrNode) → Holds c → IsExtendedBy c d → AttrIsOf c node → attr_node_term d node ≡ attr_node_term c node
 attr_node_stays c d node holds g of_c =
     attr_from_agree (length c.names) (length c.types) (length c.attrs) d.names c.names (type_terms d) (type_terms c) (attr_terms d) (attr_terms c)
     (front_agree [] c.names d.names g.names) (type_terms_agree c d g) (attr_terms_agree c d holds g) node of_c
 
--- where no attribute comes, they all stay
-pub attr_terms_stay : (c d : Things) → Holds c → Grows c d → d.attrs ≡ c.attrs → attr_terms d ≡ attr_terms c
+-- if no attribute is added, all keep their meanings
+pub attr_terms_stay : (c d : ContextModel) → Holds c → IsExtendedBy c d → d.attrs ≡ c.attrs → attr_terms d ≡ attr_terms c
 attr_terms_stay c d holds g e = ap (built (attr_from d.names (type_terms d))) e ∙ attr_terms_alike c d holds g
 
-pub attr_terms_names : (bytes : List ℕ) (c : Things) → Holds c → attr_terms (with_name bytes c).1 ≡ attr_terms c
+pub attr_terms_names : (bytes : List ℕ) (c : ContextModel) → Holds c → attr_terms (with_name bytes c).1 ≡ attr_terms c
 attr_terms_names bytes c holds = attr_terms_stay c (with_name bytes c).1 holds (grows_name bytes c) (name_attrs bytes c)
 
-pub attr_terms_types : (node : TypeNode) (c : Things) → Holds c → attr_terms (with_type node c).1 ≡ attr_terms c
+pub attr_terms_types : (node : TypeNode) (c : ContextModel) → Holds c → attr_terms (with_type node c).1 ≡ attr_terms c
 attr_terms_types node c holds = attr_terms_stay c (with_type node c).1 holds (grows_type node c) (type_attrs node c)
 
--- what a number stands for is what its node is
-pub type_term_is : (c : Things) (n : ℕ) (node : TypeNode) → Holds c → slice_get c.types n ≡ Some node → type_term c n ≡ type_node_term c node
+-- the meaning of an id is the meaning of its node
+pub type_term_is : (c : ContextModel) (n : ℕ) (node : TypeNode) → Holds c → slice_get c.types n ≡ Some node → type_term c n ≡ type_node_term c node
 type_term_is c n node holds at = built_is type_from Index TypesBelow type_from_agree c.types holds.types_refer n node at
 
-attr_closely : (c : Things) (n : ℕ) (ys zs : List AttrTerm) → Agree Flag n ys zs → (node : AttrNode) → PartsBelow (length c.names) (length c.types) n node → attr_from c.names (type_terms c) ys node ≡ attr_from c.names (type_terms c) zs node
+attr_closely : (c : ContextModel) (n : ℕ) (ys zs : List AttrTerm) → Agree Flag n ys zs → (node : AttrNode) → PartsBelow (length c.names) (length c.types) n node → attr_from c.names (type_terms c) ys node ≡ attr_from c.names (type_terms c) zs node
 attr_closely c n ys zs same node below =
     attr_from_agree (length c.names) (length c.types) n c.names c.names (type_terms c) (type_terms c) ys zs (λ k h. refl) (λ k h. refl) same node below
 
-pub attr_term_is : (c : Things) (n : ℕ) (node : AttrNode) → Holds c → slice_get c.attrs n ≡ Some node → attr_term c n ≡ attr_node_term c node
+pub attr_term_is : (c : ContextModel) (n : ℕ) (node : AttrNode) → Holds c → slice_get c.attrs n ≡ Some node → attr_term c n ≡ attr_node_term c node
 attr_term_is c n node holds at = built_is (attr_from c.names (type_terms c)) Flag (PartsBelow (length c.names) (length c.types)) (attr_closely c) c.attrs holds.attrs_refer n node at
 
--- things that stand apart are no two of them one
+-- the items of a list without duplicates are distinct
 told_apart : {A : Type 0} (d : A) (xs : List A) → AreApart xs → AreTold d xs
 told_apart d xs apart i j h k e = apart i j (get_or xs i d) (slice_get-get_or xs i d h) (slice_get-get_or xs j d k ∙ ap Some (sym e))
 
--- nodes that mean one thing are one, where no two numbers mean one thing
+-- nodes with the same meaning are equal, if ids with the same meaning are
 types_one : (done : List TypeTerm) → AreTold Index done → (xs ys : List ℕ) → AllByRecursion (λ t. t < length done) xs → AllByRecursion (λ t. t < length done) ys → types_at done xs ≡ types_at done ys → xs ≡ ys
 types_one done told [] [] h k e = refl
 types_one done told [] (y ∷ ys) h k e = cc
@@ -257,11 +258,11 @@ attr_from_one names types apart of_types done told (attr.Opaque s t) (attr.Opaqu
     λ i. attr.Opaque (p i) (some_one types of_types t u h k q i)
 attr_from_one names types apart of_types done told _ _ h k e = cc
 
--- so different numbers mean different things
-pub types_told : (c : Things) → IsSound c → AreTold Index (type_terms c)
+-- so different ids have different meanings
+pub types_told : (c : ContextModel) → IsSound c → AreTold Index (type_terms c)
 types_told c sound = built_told type_from Index TypesBelow type_from_agree types_below_more type_from_one c.types sound.holds.types_refer sound.types_apart
 
-pub attrs_told : (c : Things) → IsSound c → AreTold Flag (attr_terms c)
+pub attrs_told : (c : ContextModel) → IsSound c → AreTold Flag (attr_terms c)
 attrs_told c sound =
     let len = length-type_terms c in
     built_told (attr_from c.names (type_terms c)) Flag (PartsBelow (length c.names) (length c.types)) (attr_closely c)
@@ -269,11 +270,11 @@ attrs_told c sound =
     (λ done told a b h k e. attr_from_one c.names (type_terms c) (told_apart [] c.names sound.names_apart) (types_told c sound) done told a b (subst (λ m. PartsBelow (length c.names) m (length done) a) (sym len) h) (subst (λ m. PartsBelow (length c.names) m (length done) b) (sym len) k) e)
     c.attrs sound.holds.attrs_refer sound.attrs_apart
 
-pub name_term_one : (c : Things) (m n : ℕ) → IsSound c → IsName c m → IsName c n → name_term c m ≡ name_term c n → m ≡ n
+pub name_term_one : (c : ContextModel) (m n : ℕ) → IsSound c → IsName c m → IsName c n → name_term c m ≡ name_term c n → m ≡ n
 name_term_one c m n sound h k e = told_apart [] c.names sound.names_apart m n h k e
 
-pub type_term_one : (c : Things) (m n : ℕ) → IsSound c → IsType c m → IsType c n → type_term c m ≡ type_term c n → m ≡ n
+pub type_term_one : (c : ContextModel) (m n : ℕ) → IsSound c → IsType c m → IsType c n → type_term c m ≡ type_term c n → m ≡ n
 type_term_one c m n sound h k e = let len = length-type_terms c in types_told c sound m n (omega arith) (omega arith) e
 
-pub attr_term_one : (c : Things) (m n : ℕ) → IsSound c → IsAttr c m → IsAttr c n → attr_term c m ≡ attr_term c n → m ≡ n
+pub attr_term_one : (c : ContextModel) (m n : ℕ) → IsSound c → IsAttr c m → IsAttr c n → attr_term c m ≡ attr_term c n → m ≡ n
 attr_term_one c m n sound h k e = let len = length-attr_terms c in attrs_told c sound m n (omega arith) (omega arith) e

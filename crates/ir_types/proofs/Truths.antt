@@ -1,4 +1,4 @@
--- What is asked for in many places and in no library.
+-- Lemmas that are used in many places and are in no library.
 use Rattle.std.proofs.Common.{[], Bool, List, None, Option, Some, ap, arith, cond, drop, eq-eqb, eqb, false, get_or, if◌then◌else◌, inl, inr, length, max, refl, slice_get, subst, suc, sym, take, true, true≢false, zero, ℕ, ◌&&◌, ◌++◌, ◌+◌, ◌-◌, ◌<◌, ◌^◌, ◌||◌, ◌∙◌, ◌∷◌, ◌≡◌, ◌≢◌, ◌≤◌, ◌⊎◌}
 use Rattle.std.proofs.lemmas.Bool.{and_parts as both, cases_Bool as bool_cases, false≢true, ne_eqb}
 use Rattle.std.proofs.lemmas.Bool.Decides.{nat_tests, same_from_decides}

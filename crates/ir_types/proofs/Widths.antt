@@ -1,4 +1,4 @@
--- Bits and numbers of 1 to 128 bits, as the machine's integers hold them.
+-- Bits and numbers of 1 to 128 bits, as machine integers.
 use Rattle.std.proofs.Common.{◌≡◌, ℕ, zero, suc, to_z, of_z, lit<, ◌+◌, ◌-◌, ◌*◌, ◌/◌, ◌%◌, ◌^◌, ◌<◌, ◌≤◌, ℤ, pos, negsuc, ◌-ℤ◌, ◌≤ℤ◌, ◌<ℤ◌, sym, ap, refl, ◌∙◌, arith, true}
 use Rattle.std.specs.Prelude.{bit_and, unsigned_abs}
 use Rattle.std.proofs.lemmas.Nat.{and_mask, pow_pos}
@@ -26,7 +26,7 @@ ones_at w h =
 half_mask : (w : ℕ) → 1 ≤ w → (2 ^ w - 1) / 2 ≡ 2 ^ (w - 1) - 1
 half_mask w h = ones_shr w 1 h
 
--- half a width's values are numbers of an i128
+-- half the number of values of a width fits an i128
 half_le : (w : ℕ) → w ≤ most_width → 2 ^ (w - 1) ≤ 2 ^ 127
 half_le w h = pow-le-pow_right {n = 2} (lit< tt) {i = w - 1} {j = 127} (omega arith)
 
@@ -41,7 +41,7 @@ signed_high w v h = grind (arith, nat_tests)
 pub high_is : (w v : ℕ) → 2 ^ (w - 1) ≤ v → v < 2 ^ w → signed_of w v ≡ negsuc (2 ^ w - 1 - v)
 high_is w v h k = signed_high w v h ∙ omega (arith, ints)
 
--- the reading as an i128
+-- the represented number, as an i128
 pub reads_low : (w v : ℕ) → 1 ≤ w → w ≤ most_width → v ≤ (2 ^ w - 1) / 2 → to_z w128 v ≡ signed_of w v
 reads_low w v some few k =
     let half = half_mask w some in
@@ -91,6 +91,6 @@ pub literal_zero : (w : ℕ) → 0 ≡ wrapped w (literal_number true 0)
 unfolding wrapped
 literal_zero w = sym (mod-eq_of_lt (pow_pos w))
 
--- the reading past the width
+-- the represented number, for bits beyond the width
 pub past_is : (w v : ℕ) → 1 ≤ w → 2 ^ w ≤ v → signed_of w v ≡ pos (v - 2 ^ w)
 past_is w v some h = let two = halves w some in signed_high w v (omega arith) ∙ omega (arith, ints)

@@ -1,4 +1,4 @@
--- The words stand at their numbers in every context, so a test of a name's bytes is one of its number.
+-- Each word has its id in every context, so a test of a name's bytes is a test of its id.
 use Rattle.std.proofs.Common.{◌≡◌, ℕ, zero, suc, ◌+◌, ◌<◌, ◌≤◌, Bool, true, false, length, List, [], ◌∷◌, ◌++◌, get_or, slice_get, take, Some, map, sym, ap, refl, ◌∙◌, ⊎_elim, arith, ◌≢◌, ltb-true}
 use Rattle.std.specs.Prelude.{◌==◌, ◌&&◌, ◌||◌, ◌-◌, nat_lt, nat_le, codes, ◌↔◌, slice_index_or}
 use Rattle.std.specs.Cmp.{first_so, second_so}
@@ -12,16 +12,16 @@ use Rattle.std.proofs.lemmas.Option.{get_or_from_slice_get, slice_get_within, sl
 use Rattle.std.proofs.lemmas.Bool.{cases_lt, false_from_ne_true}
 use Rattle.std.proofs.Math.Bool.{and-false}
 use Rattle.std.proofs.lemmas.Bool.Decides.{nat_tests, same_from_decides, Decides-eqb}
-use Rattle.ir_types_items.specs.Interned.{AreApart, with_last}
-use Rattle.ir_types_items.proofs.Placed.{with_last-found, with_last-absent}
+use Rattle.ir_types_interner.specs.Interned.{AreApart, with_last}
+use Rattle.ir_types_interner.proofs.Placed.{with_last-found, with_last-absent}
 use Rattle.ir_types.specs.Words.{operations, keys, visibilities, words, row_keys, is_listed, is_table, is_isolated, is_inherent, is_listed_number, is_table_number, is_isolated_number, is_inherent_number}
-use Rattle.ir_types.specs.Things.{Things}
+use Rattle.ir_types.specs.Things.{ContextModel}
 use Rattle.ir_types.specs.Terms.{name_term}
 use Rattle.ir_types.specs.Sound.{Holds, IsSound}
 use Rattle.ir_types.proofs.Holding.{enough_names}
 use Rattle.ir_types.proofs.Building.{place_stays}
 
--- things of which no two are one stand at one place each
+-- each item of a list of distinct items has one index
 apart : {A : Type 0} (xs : List A) → AllPairs (λ x y. x ≢ y) xs → (i j : ℕ) (x : A) → slice_get xs i ≡ Some x → slice_get xs j ≡ Some x → i ≡ j
 apart xs h i j x e f =
     let a = get_or_from_slice_get xs i x x e in
@@ -60,12 +60,12 @@ front (y ∷ ys) zero k x e = absurd (cc)
 front (y ∷ ys) (suc i) zero x e = (omega arith, e)
 front (y ∷ ys) (suc i) (suc k) x e = let r = front ys i k x e in (omega (arith, r.0), r.1)
 
--- a context has each word at its number
-pub word_at_number : (c : Things) (w : ℕ) (bytes : List ℕ) → Holds c → slice_get words w ≡ Some bytes → slice_get c.names w ≡ Some bytes
+-- a context has each word at its id
+pub word_at_number : (c : ContextModel) (w : ℕ) (bytes : List ℕ) → Holds c → slice_get words w ≡ Some bytes → slice_get c.names w ≡ Some bytes
 word_at_number c w bytes holds is = (front c.names 54 w bytes (ap (λ l. slice_get l w) holds.words_first ∙ is)).1
 
--- and at no other
-pub word_law : (c : Things) (n w : ℕ) (bytes : List ℕ) → IsSound c → slice_get words w ≡ Some bytes → ((n < length c.names) × (name_term c n ≡ bytes)) ↔ (n ≡ w)
+-- and at no other id
+pub word_law : (c : ContextModel) (n w : ℕ) (bytes : List ℕ) → IsSound c → slice_get words w ≡ Some bytes → ((n < length c.names) × (name_term c n ≡ bytes)) ↔ (n ≡ w)
 word_law c n w bytes sound is =
     let at : slice_get c.names w ≡ Some bytes = word_at_number c w bytes sound.holds is in (
       λ h. sound.names_apart n w bytes (slice_get-get_or c.names n [] h.0 ∙ ap Some h.1) at,
@@ -73,8 +73,8 @@ word_law c n w bytes sound is =
           (slice_get_within c.names n bytes there, get_or_from_slice_get c.names n bytes [] there),
     )
 
--- so the test of a name's bytes for a word is the test of its number
-pub word_test : (c : Things) (n w : ℕ) (bytes : List ℕ) → IsSound c → slice_get words w ≡ Some bytes → bytes_eq (name_term c n) bytes ≡ (n == w)
+-- so the test that a name's bytes are a word is the test of its id
+pub word_test : (c : ContextModel) (n w : ℕ) (bytes : List ℕ) → IsSound c → slice_get words w ≡ Some bytes → bytes_eq (name_term c n) bytes ≡ (n == w)
 word_test c n w bytes sound is =
     same_from_decides {P = n ≡ w} (bytes_eq (name_term c n) bytes) (n == w) (
       λ h. ⊎_elim
@@ -89,7 +89,7 @@ word_test c n w bytes sound is =
     no_bytes e h = let f : false ≡ true = ap has_bytes e ∙ h in absurd (cc f)
 
 module _ (b : List ℕ) (n : ℕ) where
-  -- the tests for the words from one number on are tests of the number
+  -- the tests for the words from one id on are tests of the id
   abbrev AreTests : ℕ → List (List ℕ) → Type 0
   AreTests start names = (i : ℕ) (w : List ℕ) → slice_get names i ≡ Some w → bytes_eq b w ≡ (n == start + i)
 
@@ -129,14 +129,14 @@ operation_at : (i : ℕ) (w : List ℕ) → slice_get (map (λ (row : List ℕ �
 unfolding words operations keys visibilities
 operation_at i w e = place_stays (map (λ (row : List ℕ × List (List ℕ)). row.0) operations) (keys ++ visibilities) i w e
 
-operation_tests : (c : Things) (n : ℕ) → IsSound c → (i : ℕ) (w : List ℕ) → slice_get (map (λ (row : List ℕ × List (List ℕ)). row.0) operations) i ≡ Some w → bytes_eq (name_term c n) w ≡ (n == 0 + i)
+operation_tests : (c : ContextModel) (n : ℕ) → IsSound c → (i : ℕ) (w : List ℕ) → slice_get (map (λ (row : List ℕ × List (List ℕ)). row.0) operations) i ≡ Some w → bytes_eq (name_term c n) w ≡ (n == 0 + i)
 operation_tests c n sound i w e = let k : i ≡ 0 + i = omega arith in word_test c n i w sound (operation_at i w e) ∙ ap (λ m. n == m) k
 
 operation_count : length operations ≡ 39
 unfolding operations
 operation_count = refl
 
-pub listed_is : (c : Things) (n : ℕ) → IsSound c → is_listed (name_term c n) ≡ is_listed_number n
+pub listed_is : (c : ContextModel) (n : ℕ) → IsSound c → is_listed (name_term c n) ≡ is_listed_number n
 unfolding is_listed
 listed_is c n sound =
     listed_from (name_term c n) n operations 0 (operation_tests c n sound) ∙ rw operation_count (grind (arith, nat_tests))
@@ -149,11 +149,11 @@ word_2 : slice_get words 2 ≡ Some (codes "func.func")
 unfolding words operations keys visibilities
 word_2 = refl
 
-pub table_is : (c : Things) (n : ℕ) → IsSound c → is_table (name_term c n) ≡ is_table_number n
+pub table_is : (c : ContextModel) (n : ℕ) → IsSound c → is_table (name_term c n) ≡ is_table_number n
 unfolding is_table
 table_is c n sound = word_test c n 0 (codes "builtin.module") sound word_0
 
-pub isolated_is : (c : Things) (n : ℕ) → IsSound c → is_isolated (name_term c n) ≡ is_isolated_number n
+pub isolated_is : (c : ContextModel) (n : ℕ) → IsSound c → is_isolated (name_term c n) ≡ is_isolated_number n
 unfolding is_isolated
 isolated_is c n sound = rw (word_test c n 0 (codes "builtin.module") sound word_0, word_test c n 2 (codes "func.func") sound word_2) refl
 
@@ -181,12 +181,12 @@ map_second : (p : List (List ℕ) → Bool) (rows : List (List ℕ × List (List
 map_second p [] = refl
 map_second p (r ∷ rs) = ap (λ l. p r.1 ∷ l) (map_second p rs)
 
-key_tests : (c : Things) (k : ℕ) → IsSound c → (j : ℕ) → nat_lt j 54 ≡ true → bytes_eq (name_term c k) (word_of j) ≡ (j == k)
+key_tests : (c : ContextModel) (k : ℕ) → IsSound c → (j : ℕ) → nat_lt j 54 ≡ true → bytes_eq (name_term c k) (word_of j) ≡ (j == k)
 key_tests c k sound j h =
     let l : j < length words = rw word_count (omega (arith, ltb-true j 54 h)) in
     word_test c k j (word_of j) sound (slice_get-get_or words j [] l) ∙ grind (arith, nat_tests)
 
-pub inherent_is : (c : Things) (op key : ℕ) → IsSound c → is_inherent (name_term c op) (name_term c key) ≡ is_inherent_number op key
+pub inherent_is : (c : ContextModel) (op key : ℕ) → IsSound c → is_inherent (name_term c op) (name_term c key) ≡ is_inherent_number op key
 unfolding is_inherent is_inherent_number
 inherent_is c op key sound =
     inherent_from (name_term c op) op (name_term c key) key operations row_keys 0 (operation_tests c op sound)
@@ -196,7 +196,7 @@ inherent_is c op key sound =
     whole : (d : ℕ) → d ≡ op → (nat_le 0 op && list_any (λ j. j == key) (get_or row_keys d [])) ≡ list_any (λ j. j == key) (slice_index_or row_keys op [])
     whole d e = rw e (grind (arith, nat_tests))
 
--- the words go in one after the other
+-- the words are added one after the other
 absent_from : (b : List ℕ) (xs : List (List ℕ)) → ((k : ℕ) (x : List ℕ) → slice_get xs k ≡ Some x → bytes_eq b x ≡ false) → list_any (bytes_eq b) xs ≡ false
 absent_from b [] each = refl
 absent_from b (x ∷ xs) each = rw (each 0 x refl, absent_from b xs (λ k y e. each (suc k) y e)) refl
@@ -216,7 +216,7 @@ pub all_words : take 54 words ≡ words
 unfolding words operations keys visibilities
 all_words = refl
 
--- after 54 of them all are there
+-- after 54 words all are in the context
 pub first_words : (names : List (List ℕ)) (i : ℕ) → i ≡ 54 → names ≡ take i words → (names ≡ words) × (take 54 names ≡ words)
 first_words names i e before =
     let all : names ≡ words = before ∙ ap (λ k. take k words) e ∙ all_words in
@@ -237,7 +237,7 @@ row_count : length row_keys ≡ 39
 unfolding row_keys
 row_count = refl
 
--- an operation that isn't listed has no row
+-- an operation that isn't registered has no row
 pub no_row : (op key : ℕ) → 39 ≤ op → is_inherent_number op key ≡ false
 unfolding is_inherent_number
 no_row op key h = let l : length row_keys ≤ op = rw row_count h in rw (get_or_past row_keys op [] l) refl

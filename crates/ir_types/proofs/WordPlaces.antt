@@ -1,8 +1,8 @@
--- Each word stands at its number.
+-- Each word is at its index.
 use Rattle.std.proofs.Common.{◌≡◌, ℕ, refl, slice_get, Some}
 use Rattle.std.specs.Prelude.{◌==◌}
 use Rattle.std.specs.Str.{bytes_eq}
-use Rattle.ir_types.specs.Things.{Things}
+use Rattle.ir_types.specs.Things.{ContextModel}
 use Rattle.ir_types.specs.Terms.{name_term}
 use Rattle.ir_types.specs.Sound.{IsSound}
 use Rattle.ir_types.specs.Words.{operations, keys, visibilities, words}
@@ -68,6 +68,6 @@ word_stands Public = refl
 word_stands Private = refl
 word_stands Nested = refl
 
--- so the test of a name's number is that of its bytes
-pub word_is : (c : Things) (n : ℕ) (word : Word) → IsSound c → bytes_eq (name_term c n) (word_bytes word) ≡ (n == word_number word)
+-- so the test of a name's id is the test of its bytes
+pub word_is : (c : ContextModel) (n : ℕ) (word : Word) → IsSound c → bytes_eq (name_term c n) (word_bytes word) ≡ (n == word_number word)
 word_is c n word sound = word_test c n (word_number word) (word_bytes word) sound (word_stands word)

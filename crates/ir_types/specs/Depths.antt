@@ -1,4 +1,4 @@
--- How deep types and attributes are.
+-- The depths of types and attributes.
 use Rattle.std.specs.Prelude.{ℕ, ◌+◌, max, Bool, true, false, if◌then◌else◌, None, Some}
 use Rattle.ir_types.specs.Terms.{TypeTerm, Integer, Index, Function, Memref, OpaqueType, TypeTerms, no_types, next_type, AttrTerm, IntegerOf, String, TypeOf, Flag, Array, Dictionary, Symbol, DenseArray, Overflow, OpaqueOf, AttrTerms, no_attrs, next_attr, EntryTerms, no_entries, next_entry}
 
@@ -9,7 +9,7 @@ is_scalar Index = true
 is_scalar (OpaqueType text) = true
 is_scalar _ = false
 
--- a leaf has depth 1, a memref of scalars among them; anything else is one deeper than its deepest part
+-- a leaf has depth 1, as has a memref of scalars; any other type is one deeper than its deepest component
 abbrev mutual
   pub type_depth : TypeTerm → ℕ
   type_depth (Integer sign width) = 1
@@ -18,12 +18,13 @@ abbrev mutual
   type_depth (Memref dims elem) = if is_scalar elem then 1 else 1 + type_depth elem
   type_depth (OpaqueType text) = 1
 
-  -- the greatest depth, or 0 where there are none
+  -- the greatest depth, or 0 if there are none
   pub types_depth : TypeTerms → ℕ
   types_depth no_types = 0
   types_depth (next_type t ts) = max (type_depth t) (types_depth ts)
 
--- an attribute that is a type, or opaque with a type, is as deep as it; arrays and dictionaries are one deeper than their deepest item
+-- a type attribute, or an opaque attribute with a type, is as deep as the type; arrays and dictionaries are one deeper
+-- than their deepest item
 abbrev mutual
   pub attr_depth : AttrTerm → ℕ
   attr_depth (IntegerOf ty bits) = 1

@@ -1,15 +1,15 @@
 -- The limits of a context.
 use Rattle.std.specs.Prelude.{ℕ}
 
--- the most names, types and attributes, of each
+-- the limit of names, of types and of attributes
 abbrev pub most_things : ℕ
 most_things = 16777216
 
--- the most entries of a dictionary
+-- the limit of entries of a dictionary
 abbrev pub most_entries : ℕ
 most_entries = 256
 
--- the greatest depth of a type or an attribute
+-- the depth limit of types and attributes
 abbrev pub most_depth : ℕ
 most_depth = 32
 
@@ -17,7 +17,7 @@ most_depth = 32
 abbrev pub most_width : ℕ
 most_width = 128
 
--- how many bits an index has
+-- the width of index, in bits
 abbrev pub index_width : ℕ
 index_width = 64
 

@@ -1,8 +1,8 @@
 -- The numbers and words of refusals.
 use Rattle.std.specs.Prelude.{ℕ, List, ◌++◌, codes}
 use Rattle.std.specs.Fmt.{decimal}
-use Rattle.ir_types_items.specs.declared.intern.InternFault.{InternFault}
-use Rattle.ir_types_items.specs.declared.intern.InternFault.TheVariants as fault
+use Rattle.ir_types_interner.specs.declared.intern.InternFault.{InternFault}
+use Rattle.ir_types_interner.specs.declared.intern.InternFault.TheVariants as fault
 use Rattle.ir_types.specs.declared.refusal.Refusal.{Refusal}
 use Rattle.ir_types.specs.declared.refusal.Refusal.TheVariants.{BadToken, Unexpected, UnknownValue, Redefined, TypeMismatch, BadWidth, BadValue, MultipleBlocks, Successors, TooDeep, TooMany, DuplicateKey, LeftOut, NotUtf8, NoSuchOp, NoSuchValue, HasUses, NotVisible, TypeDiffers, NoSuchIndex, NoSuchKey, IntoItself, OtherTable, IsRoot, NotEmpty, Full, IdsExhausted, TooDeepHere, TooManyMarks, NoMark, Memory, Stale, NoSuchKind, KindTaken, BadLimit, NotLegalised, ChainTooDeep, Unreconciled, BadTarget, BadCommand}
 
@@ -49,7 +49,7 @@ number_of Unreconciled = 53
 number_of BadTarget = 54
 number_of BadCommand = 60
 
--- and its word
+-- the word of a refusal
 abbrev pub word_of : Refusal → List ℕ
 word_of BadToken = codes "BadToken"
 word_of Unexpected = codes "Unexpected"
@@ -92,11 +92,11 @@ word_of Unreconciled = codes "Unreconciled"
 word_of BadTarget = codes "BadTarget"
 word_of BadCommand = codes "BadCommand"
 
--- what is printed: the number and the word
+-- the printed form: the number and the word
 abbrev pub text_of : Refusal → List ℕ
 text_of refusal = decimal (number_of refusal) ++ codes " " ++ word_of refusal
 
--- why a thing is refused that was not interned
+-- the refusal of an item that couldn't be interned
 abbrev pub not_interned : InternFault → Refusal
 not_interned fault.TooMany = TooMany
 not_interned fault.Memory = Memory

@@ -1,4 +1,4 @@
--- When two nodes are the same, as a test.
+-- Equality of nodes, as a test.
 use Rattle.std.specs.Prelude.{ℕ, Bool, true, false, ◌==◌, ◌&&◌}
 use Rattle.std.specs.Bool.{beq}
 use Rattle.std.specs.Option.{option_eq}
@@ -20,7 +20,7 @@ same_sign _ _ = false
 abbrev pub same_entry : ℕ × ℕ → ℕ × ℕ → Bool
 same_entry a b = (a.0 == b.0) && (a.1 == b.1)
 
--- types are the same where their kind and all their parts are
+-- types are equal if their kinds and all their components are
 unfoldable pub same_type : TypeNode → TypeNode → Bool
 same_type (type.Int s v) (type.Int t w) = same_sign s t && (v == w)
 same_type type.Index type.Index = true
@@ -29,7 +29,7 @@ same_type (type.Memref ds e) (type.Memref es f) = pointwise (option_eq ◌==◌)
 same_type (type.Opaque s) (type.Opaque t) = pointwise ◌==◌ s t
 same_type _ _ = false
 
--- and attributes
+-- attributes are equal if their kinds and all their components are
 unfoldable pub same_attr : AttrNode → AttrNode → Bool
 same_attr (attr.Int s v) (attr.Int t w) = (s == t) && (v == w)
 same_attr (attr.Str m) (attr.Str n) = m == n

@@ -1,4 +1,4 @@
--- Whether two types are one, and the lists of a function type (Builtin Dialect, "Types").
+-- Whether two types are equal, and the lists of a function type (Builtin Dialect, "Types").
 use Rattle.std.specs.Prelude.{List, [], ◌∷◌, Bool, true, false, ◌==◌, ◌&&◌, Option, Some, None}
 use Rattle.std.specs.Option.{option_eq}
 use Rattle.std.specs.Cmp.Lexicographic.{pointwise}
@@ -6,7 +6,7 @@ use Rattle.ir_types.specs.Terms.{TypeTerm, Integer, Index, Function, Memref, Opa
 use Rattle.ir_types.specs.Same.{same_sign}
 
 abbrev mutual
-  -- whether two types are one
+  -- whether two types are equal
   pub same_type : TypeTerm → TypeTerm → Bool
   same_type (Integer s v) (Integer t w) = same_sign s t && (v == w)
   same_type Index Index = true

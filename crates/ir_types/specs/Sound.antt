@@ -1,18 +1,18 @@
--- What is true of every context.
+-- The invariants of every context.
 use Rattle.std.specs.Prelude.{◌≡◌, ℕ, ◌<◌, ◌≤◌, true, List, length, take, slice_get, Some, None}
 use Rattle.std.specs.List.{AllPairs}
-use Rattle.ir_types_items.specs.Interned.{AreApart}
+use Rattle.ir_types_interner.specs.Interned.{AreApart}
 use Rattle.ir_types.specs.declared.node.TypeNode.{TypeNode}
 use Rattle.ir_types.specs.declared.node.AttrNode.{AttrNode}
 use Rattle.ir_types.specs.declared.node.AttrNode.TheVariants.{Dict}
-use Rattle.ir_types.specs.Things.{Things, TypesBelow, PartsBelow}
+use Rattle.ir_types.specs.Things.{ContextModel, TypesBelow, PartsBelow}
 use Rattle.ir_types.specs.Terms.{type_term, attr_term}
 use Rattle.ir_types.specs.Reasons.{type_fault, attr_fault}
 use Rattle.ir_types.specs.Dictionaries.{comes_before}
 use Rattle.ir_types.specs.Words.{words}
 use Rattle.ir_types.specs.Limits.{most_things, most_entries}
 
--- the keys' bytes rise strictly, so each key stands once
+-- the bytes of the keys are strictly increasing, so each key occurs once
 abbrev pub IsRising : List (List ℕ) → List (ℕ × ℕ) → Type 0
 IsRising names entries = AllPairs (λ a b. comes_before names a b ≡ true) entries
 
@@ -21,8 +21,8 @@ abbrev pub IsKept : List (List ℕ) → AttrNode → Type 0
 IsKept names (Dict entries) = (length entries ≤ most_entries) × IsRising names entries
 IsKept names _ = Unit {0}
 
--- the words come first; a node refers to what stands before it; nothing that is held has a fault
-pub record Holds (c : Things) : Type 0 where
+-- the words come first; a node refers only to earlier ones; no item has a fault
+pub record Holds (c : ContextModel) : Type 0 where
   pub few_names : length c.names ≤ most_things
   pub few_types : length c.types ≤ most_things
   pub few_attrs : length c.attrs ≤ most_things
@@ -33,8 +33,8 @@ pub record Holds (c : Things) : Type 0 where
   pub attrs_fine : (i : ℕ) → i < length c.attrs → attr_fault (attr_term c i) ≡ None
   pub attrs_kept : (i : ℕ) (node : AttrNode) → slice_get c.attrs i ≡ Some node → IsKept c.names node
 
--- and no thing stands at two places
-pub record IsSound (c : Things) : Type 0 where
+-- the same, and all items are distinct
+pub record IsSound (c : ContextModel) : Type 0 where
   pub holds : Holds c
   pub names_apart : AreApart c.names
   pub types_apart : AreApart c.types

@@ -1,4 +1,4 @@
--- What a context holds: names, types and attributes, each at the place that is its number.
+-- The state of a context: lists of names, types and attributes; the index of an item is its id.
 use Rattle.std.specs.Prelude.{ℕ, ◌<◌, ◌≡◌, Bool, List, ◌++◌, length, Option, None, Some}
 use Rattle.std.specs.List.{All}
 use Rattle.ir_types.specs.declared.node.TypeNode.{TypeNode}
@@ -6,25 +6,25 @@ use Rattle.ir_types.specs.declared.node.TypeNode.TheVariants as type
 use Rattle.ir_types.specs.declared.node.AttrNode.{AttrNode}
 use Rattle.ir_types.specs.declared.node.AttrNode.TheVariants as attr
 
--- the names by their bytes, and the nodes of the types and attributes; and whether types and attributes that aren't
--- known are read as opaque ones, which nothing changes
-pub record Things : Type 0 where
+-- the bytes of the names, the nodes of the types and attributes; and whether unknown types and attributes are read as
+-- opaque ones, which never changes
+pub record ContextModel : Type 0 where
   pub names : List (List ℕ)
   pub types : List TypeNode
   pub attrs : List AttrNode
   pub opaque : Bool
 
--- numbers that are of these things
-abbrev pub IsName : Things → ℕ → Type 0
+-- ids that are valid in the context
+abbrev pub IsName : ContextModel → ℕ → Type 0
 IsName c n = n < length c.names
 
-abbrev pub IsType : Things → ℕ → Type 0
+abbrev pub IsType : ContextModel → ℕ → Type 0
 IsType c n = n < length c.types
 
-abbrev pub IsAttr : Things → ℕ → Type 0
+abbrev pub IsAttr : ContextModel → ℕ → Type 0
 IsAttr c n = n < length c.attrs
 
--- the types that a type's node names are among the first n
+-- the types in a type's node are among the first n
 abbrev pub TypesBelow : ℕ → TypeNode → Type 0
 TypesBelow n (type.Int sign width) = Unit {0}
 TypesBelow n type.Index = Unit {0}
@@ -32,12 +32,12 @@ TypesBelow n (type.Func inputs outputs) = All (λ t. t < n) inputs × All (λ t.
 TypesBelow n (type.Memref dims elem) = elem < n
 TypesBelow n (type.Opaque text) = Unit {0}
 
--- and the one that may follow an attribute
+-- an optional type is among the first n
 abbrev pub IsBelow : ℕ → Option ℕ → Type 0
 IsBelow n None = Unit {0}
 IsBelow n (Some t) = t < n
 
--- the names, types and attributes that an attribute's node names are among the first ones
+-- the names, types and attributes in an attribute's node are among the first ones
 abbrev pub PartsBelow : ℕ → ℕ → ℕ → AttrNode → Type 0
 PartsBelow names types attrs (attr.Int ty value) = ty < types
 PartsBelow names types attrs (attr.Str name) = name < names
@@ -50,19 +50,19 @@ PartsBelow names types attrs (attr.Dense elem values) = elem < types
 PartsBelow names types attrs (attr.Overflow nsw nuw) = Unit {0}
 PartsBelow names types attrs (attr.Opaque text ty) = IsBelow types ty
 
--- every number in a node is of these things
-abbrev pub TypeIsOf : Things → TypeNode → Type 0
+-- every id in a node is valid
+abbrev pub TypeIsOf : ContextModel → TypeNode → Type 0
 TypeIsOf c node = TypesBelow (length c.types) node
 
-abbrev pub AttrIsOf : Things → AttrNode → Type 0
+abbrev pub AttrIsOf : ContextModel → AttrNode → Type 0
 AttrIsOf c node = PartsBelow (length c.names) (length c.types) (length c.attrs) node
 
--- one list is the front of another
+-- one list is a prefix of another
 abbrev pub IsFront : {A : Type 0} → List A → List A → Type 0
 IsFront {A} xs ys = (more : List A) × (ys ≡ xs ++ more)
 
--- things with more at the ends: no number changes its thing
-pub record Grows (old new : Things) : Type 0 where
+-- a context with more items appended: no id changes its meaning
+pub record IsExtendedBy (old new : ContextModel) : Type 0 where
   pub names : IsFront old.names new.names
   pub types : IsFront old.types new.types
   pub attrs : IsFront old.attrs new.attrs

@@ -1,4 +1,4 @@
--- The words that every context holds from the start, each by its name.
+-- The predefined words of every context, as an enum.
 use Rattle.std.specs.Prelude.{ℕ, List, codes}
 use Rattle.ir_types.specs.declared.word.Word.{Word}
 use Rattle.ir_types.specs.declared.word.Word.TheVariants.{BuiltinModule, BuiltinUnrealizedConversionCast, FuncFunc, FuncCall, FuncReturn, ArithConstant, ArithAddi, ArithSubi, ArithMuli, ArithShli, ArithDivsi, ArithDivui, ArithRemsi, ArithRemui, ArithAndi, ArithOri, ArithXori, ArithShrsi, ArithShrui, ArithMaxsi, ArithMaxui, ArithMinsi, ArithMinui, ArithCmpi, ArithSelect, ArithExtsi, ArithExtui, ArithTrunci, ArithIndexCast, ArithIndexCastui, ScfFor, ScfIf, ScfWhile, ScfYield, ScfCondition, MemrefAlloc, MemrefDealloc, MemrefLoad, MemrefStore, SymName, SymVisibility, FunctionType, ArgAttrs, ResAttrs, Callee, Value, OverflowFlags, Predicate, OperandSegmentSizes, Alignment, Nontemporal, Public, Private, Nested}
@@ -60,7 +60,7 @@ word_bytes Public = codes "public"
 word_bytes Private = codes "private"
 word_bytes Nested = codes "nested"
 
--- and the number that its name has in every context
+-- the id of a word in every context
 abbrev pub word_number : Word → ℕ
 word_number BuiltinModule = 0
 word_number BuiltinUnrealizedConversionCast = 1

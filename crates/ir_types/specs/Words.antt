@@ -1,9 +1,9 @@
--- The words that every context holds from the start, at fixed numbers, and the table of listed operations.
+-- The predefined words of every context, at fixed ids, and the table of registered operations.
 use Rattle.std.specs.Prelude.{ℕ, List, [], ◌∷◌, ◌++◌, codes, map, Bool, ◌||◌, ◌&&◌, ◌==◌, nat_lt, slice_index_or}
 use Rattle.std.specs.List.{list_any}
 use Rattle.std.specs.Str.{bytes_eq}
 
--- the listed operations, each with the keys of its properties
+-- the registered operations, each with the keys of its properties
 unfoldable pub operations : List (List ℕ × List (List ℕ))
 operations =
     (codes "builtin.module", codes "sym_name" ∷ codes "sym_visibility" ∷ [])
@@ -64,7 +64,7 @@ keys =
     ∷ codes "nontemporal"
     ∷ []
 
--- what a symbol's visibility may say
+-- the visibilities of symbols
 unfoldable pub visibilities : List (List ℕ)
 visibilities = codes "public" ∷ codes "private" ∷ codes "nested" ∷ []
 
@@ -72,23 +72,23 @@ visibilities = codes "public" ∷ codes "private" ∷ codes "nested" ∷ []
 unfoldable pub words : List (List ℕ)
 words = map (λ (row : List ℕ × List (List ℕ)). row.0) operations ++ keys ++ visibilities
 
--- whether the bytes are the name of a listed operation
+-- whether the bytes are the name of a registered operation
 unfoldable pub is_listed : List ℕ → Bool
 is_listed op = list_any (λ (row : List ℕ × List (List ℕ)). bytes_eq op row.0) operations
 
--- of one that is a symbol table
+-- whether they are the name of a symbol table
 unfoldable pub is_table : List ℕ → Bool
 is_table op = bytes_eq op (codes "builtin.module")
 
--- of one that is isolated from above
+-- whether they are the name of an operation that is isolated from above
 unfoldable pub is_isolated : List ℕ → Bool
 is_isolated op = bytes_eq op (codes "builtin.module") || bytes_eq op (codes "func.func")
 
--- whether a key is one of a listed operation's properties
+-- whether a key is one of a registered operation's properties
 unfoldable pub is_inherent : List ℕ → List ℕ → Bool
 is_inherent op key = list_any (λ (row : List ℕ × List (List ℕ)). bytes_eq op row.0 && list_any (bytes_eq key) row.1) operations
 
--- the keys of each listed operation's properties, by their numbers among the words
+-- the keys of each registered operation's properties, by their ids
 unfoldable pub row_keys : List (List ℕ)
 row_keys =
     (39 ∷ 40 ∷ [])
@@ -132,7 +132,7 @@ row_keys =
     ∷ (50 ∷ 49 ∷ [])
     ∷ []
 
--- the same three by the number of an operation's name, and of a key
+-- the same three tests by the id of an operation's name, and of a key
 abbrev pub is_listed_number : ℕ → Bool
 is_listed_number op = nat_lt op 39
 

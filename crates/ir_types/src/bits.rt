@@ -1,4 +1,4 @@
-//! Known values of signless integer types and of index.
+//! Constants of signless integer types and of index.
 ghost use Rattle.std.specs.Prelude.{◌≡◌, ◌<◌, ◌≤◌, ◌^◌, IsTrue, true};
 ghost use Rattle.std.specs.Option.{option_map};
 ghost use Rattle.ir_types.specs.Limits.{most_width};
@@ -19,7 +19,7 @@ pub enum BitsKind {
     Index,
 }
 
-/// A known value by its bits: a number below 2^w, where its kind has w bits.
+/// A constant, given by its bits: a number below 2^w if its kind has w bits.
 #[derive(Clone, Copy, Debug, PartialEq, Eq)]
 pub struct Bits {
     pub kind: BitsKind,
@@ -29,7 +29,7 @@ pub struct Bits {
     pub ghost in_range: { value < 2 ^ width_of kind },
 }
 
-/// How many bits a kind has.
+/// Returns the width of a kind, in bits.
 pub fn width(kind: BitsKind) -> u32
     ensures { result ≡ width_of kind }
 {
@@ -40,7 +40,7 @@ pub fn width(kind: BitsKind) -> u32
 }
 
 impl Bits {
-    /// The value with these bits, if the kind has it.
+    /// Returns the constant with these bits, or `None` if they are out of range.
     pub fn new(kind: BitsKind, value: u128) -> Option<Bits>
         ensures { option_map (λ bits. (bits.kind, bits.value)) result ≡ bits_of kind value }
     {
@@ -54,7 +54,8 @@ impl Bits {
         Some(Bits { kind, value })
     }
 
-    /// The bits of a whole number modulo 2^w. `number` gives back a number that is printed of the kind.
+    /// Returns the constant whose bits are `number` modulo 2^w. If `number` is in the printed range of the kind,
+    /// `Bits::number` returns it again.
     #[tactic(auto, using(crate::proofs::KindLaws::value_is_number))]
     pub fn from_number(kind: BitsKind, number: i128) -> Bits
         requires { IsTrue (is_width (width_of kind)) }
@@ -66,7 +67,7 @@ impl Bits {
         Bits { kind, value }
     }
 
-    /// The value as it is printed: signed.
+    /// Returns the constant as it is printed, as a signed number.
     #[tactic(auto, using(crate::proofs::KindLaws::number_is_value, crate::proofs::ReadingLaws::bits_back))]
     pub fn number(self) -> i128
         ensures number { result ≡ signed_of (width_of self.kind) self.value }

@@ -1,4 +1,4 @@
-//! Which types and attributes a context takes, and how deep they are.
+//! Checks of the types and attributes that a context accepts, and their depths.
 ghost use Rattle.std.specs.Prelude.{◌≡◌, ◌<◌, ◌≤◌, ℕ, List, length, None};
 ghost use Rattle.std.specs.List.{All, list_all};
 ghost use Rattle.ir_types.specs.Things.{IsType, IsAttr, TypeIsOf, AttrIsOf};
@@ -17,7 +17,7 @@ use crate::range::{is_bits, is_value};
 use crate::refusal::Refusal;
 
 impl Context {
-    /// The depth of a type's node, or why it is none.
+    /// Returns the depth of a type's node, or the reason that it is refused.
     pub(crate) fn checked_type(&self, node: &TypeNode) -> Result<u32, Refusal>
         requires { TypeIsOf self.now node.now }
         ensures { result ≡ checked (type_fault (type_node_term self.now node.now)) (type_depth (type_node_term self.now node.now)) }
@@ -32,7 +32,7 @@ impl Context {
         Ok(depth)
     }
 
-    /// The depth of a type's node.
+    /// Returns the depth of a type's node.
     fn type_node_depth(&self, node: &TypeNode) -> u32
         requires { TypeIsOf self.now node.now }
         ensures { result ≡ type_depth (type_node_term self.now node.now) }
@@ -54,7 +54,7 @@ impl Context {
         }
     }
 
-    /// Whether a type is an integer type, index or opaque.
+    /// Returns whether a type is an integer type, index or opaque.
     fn is_scalar(&self, id: TypeId) -> bool
         requires { IsType self.now id }
         ensures { result ≡ is_scalar (type_term self.now id) }
@@ -63,7 +63,7 @@ impl Context {
         is_scalar_node(self.type_node(id))
     }
 
-    /// The greatest depth of some types, or 0 where there are none.
+    /// Returns the greatest depth of some types, or 0 if there are none.
     fn types_depth(&self, ids: &[TypeId]) -> u32
         requires { All (λ t. t < length self.now.types) ids.now }
         ensures depth { result ≡ types_depth (types_at (type_terms self.now) ids.now) }
@@ -76,7 +76,7 @@ impl Context {
         greatest
     }
 
-    /// The depth of an attribute's node, or why it is none.
+    /// Returns the depth of an attribute's node, or the reason that it is refused.
     pub(crate) fn checked_attr(&self, node: &AttrNode) -> Result<u32, Refusal>
         requires { AttrIsOf self.now node.now }
         ensures { result ≡ checked (attr_fault (attr_node_term self.now node.now)) (attr_depth (attr_node_term self.now node.now)) }
@@ -91,7 +91,7 @@ impl Context {
         Ok(depth)
     }
 
-    /// The depth of an attribute's node.
+    /// Returns the depth of an attribute's node.
     fn attr_node_depth(&self, node: &AttrNode) -> u32
         requires { AttrIsOf self.now node.now }
         ensures { result ≡ attr_depth (attr_node_term self.now node.now) }
@@ -113,7 +113,7 @@ impl Context {
         }
     }
 
-    /// The greatest depth of some attributes, or 0 where there are none.
+    /// Returns the greatest depth of some attributes, or 0 if there are none.
     fn attrs_depth(&self, ids: &[AttrId]) -> u32
         requires { All (λ a. a < length self.now.attrs) ids.now }
         ensures depth { result ≡ attrs_depth (attrs_at (attr_terms self.now) ids.now) }
@@ -126,7 +126,7 @@ impl Context {
         greatest
     }
 
-    /// The greatest depth of some entries' attributes, or 0 where there are none.
+    /// Returns the greatest depth of the attributes of some entries, or 0 if there are none.
     fn entries_depth(&self, entries: &[(NameId, AttrId)]) -> u32
         requires { All (λ (e : ℕ × ℕ). e.1 < length self.now.attrs) entries.now }
         ensures depth { result ≡ entries_depth (entries_at self.now.names (attr_terms self.now) entries.now) }
@@ -139,7 +139,7 @@ impl Context {
         greatest
     }
 
-    /// Why an attribute's numbers are no values of their type.
+    /// Returns the reason that an attribute's integers aren't values of their type, or `None`.
     fn value_fault(&self, node: &AttrNode) -> Option<Refusal>
         requires { AttrIsOf self.now node.now }
         ensures { result ≡ value_reason (attr_node_term self.now node.now) }
@@ -152,7 +152,7 @@ impl Context {
         if fine { None } else { Some(Refusal::BadValue) }
     }
 
-    /// Whether a number is the bits of an integer of a type.
+    /// Returns whether a number is the bits of an integer of a type.
     fn is_bits(&self, ty: TypeId, bits: u128) -> bool
         requires { IsType self.now ty }
         ensures { result ≡ is_bits_of (type_term self.now ty) bits }
@@ -161,7 +161,7 @@ impl Context {
         is_bits(self.type_node(ty), bits)
     }
 
-    /// Whether a whole number is a value of a type, as it is printed.
+    /// Returns whether an integer is a value of a type in printed form.
     fn is_value(&self, ty: TypeId, value: i128) -> bool
         requires { IsType self.now ty }
         ensures { result ≡ is_value_number (type_term self.now ty) value }
@@ -170,7 +170,7 @@ impl Context {
         is_value(self.type_node(ty), value)
     }
 
-    /// Whether some numbers are values of a type, as they are printed.
+    /// Returns whether some integers are values of a type in printed form.
     fn are_values(&self, ty: TypeId, values: &[i64]) -> bool
         requires { IsType self.now ty }
         ensures { result ≡ list_all (is_value_number (type_term self.now ty)) values.now }
@@ -181,7 +181,7 @@ impl Context {
     }
 }
 
-/// Whether a node is that of an integer type, of index or of an opaque type.
+/// Returns whether a node is an integer type, index or an opaque type.
 fn is_scalar_node(node: &TypeNode) -> bool
     ensures { (known : List TypeTerm) → result ≡ is_scalar (type_from known node.now) }
 {
@@ -194,7 +194,7 @@ fn is_scalar_node(node: &TypeNode) -> bool
     }
 }
 
-/// Why a node's sizes are no type's.
+/// Returns the reason that a node's width or dimensions are out of range, or `None`.
 fn size_fault(node: &TypeNode) -> Option<Refusal>
     ensures { (known : List TypeTerm) → result ≡ size_reason (type_from known node.now) }
 {
@@ -217,7 +217,7 @@ fn size_fault(node: &TypeNode) -> Option<Refusal>
     }
 }
 
-/// Whether each dimension is within its limit.
+/// Returns whether each dimension is within its limit.
 fn are_dimensions(dims: &[Option<u64>]) -> bool
     ensures { result ≡ list_all is_dimension dims.now }
 {

@@ -1,6 +1,6 @@
-//! The context: names, types and attributes, each known by a number. It only grows.
+//! The context, which interns names, types and attributes. It only grows.
 ghost use Rattle.std.specs.Prelude.{◌≡◌, ◌<◌, ◌≤◌, ◌↔◌, Some, None, Ok, Err, [], true, false, IfOk, IsOk, OnOk, OnErr, IfErr, IsTrue, length, slice_get};
-ghost use Rattle.ir_types.specs.Things.{IsName, IsType, IsAttr, Grows, TypeIsOf, AttrIsOf};
+ghost use Rattle.ir_types.specs.Things.{IsName, IsType, IsAttr, IsExtendedBy, TypeIsOf, AttrIsOf};
 ghost use Rattle.ir_types.specs.Limits.{most_depth};
 ghost use Rattle.ir_types.specs.Interning.{with_name, with_type, with_attr, knows_name, knows_type, knows_attr};
 ghost use Rattle.ir_types.specs.Reasons.{IsRefusedFor, checked, name_reason, type_reason, attr_reason, dictionary_reason};
@@ -18,12 +18,12 @@ use crate::places::{attrs_apart, intern_attr, intern_name, intern_type, names_ap
 use crate::refusal::Refusal;
 use crate::words::{WORDS, word};
 use indexmap::{IndexMap, IndexSet};
-use ir_types_items::keyed::Keyed;
-use ir_types_items::lists::Items;
+use ir_types_interner::keyed::Keyed;
+use ir_types_interner::lists::Items;
 use std::alloc::Global;
 use std::marker::Model;
 
-/// Names, types and attributes, each known by its number.
+/// Names, types and attributes, each with an id.
 #[derive(Drop)]
 pub struct Context {
     alloc: Global,
@@ -36,9 +36,9 @@ pub struct Context {
 
 impl Model for Context {
     ghost use Rattle.std.specs.Prelude.{map};
-    ghost use Rattle.ir_types.specs.Things.{Things};
+    ghost use Rattle.ir_types.specs.Things.{ContextModel};
 
-    ghost Value = { Things };
+    ghost Value = { ContextModel };
 
     ghost use Rattle.ir_types.specs.Held.{things_of, IsKeptWithDepths};
 
@@ -48,10 +48,9 @@ impl Model for Context {
 }
 
 impl Context {
-    /// A context that holds the words of the operation table, each at its fixed number, and no type
-    /// and no attribute.
+    /// Returns a context with the words of the operation table, each at its fixed id, and without types and attributes.
     ///
-    /// Refusals: `Memory` alone.
+    /// Refusals: `Memory`.
     pub fn new(alloc: Global) -> Result<Context, Refusal>
         ensures ok { IfOk result (λ c. c ≡ record { names = words; types = []; attrs = []; opaque = false }) }
         ensures refused { IfErr result (λ refusal. refusal ≡ Refusal.Memory) }
@@ -59,10 +58,10 @@ impl Context {
         Context::keyed(alloc, 0)
     }
 
-    /// A context that holds the words of the operation table alone, and has a key of its own, so that nobody who
-    /// doesn't know it can write a text whose names collide.
+    /// Returns a context with only the words of the operation table, whose hashes use `key`. A text whose names collide
+    /// can only be written with knowledge of the key.
     ///
-    /// Refusals: `Memory` alone.
+    /// Refusals: `Memory`.
     pub fn keyed(alloc: Global, key: u64) -> Result<Context, Refusal>
         ensures ok { IfOk result (λ c. c ≡ record { names = words; types = []; attrs = []; opaque = false }) }
         ensures refused { IfErr result (λ refusal. refusal ≡ Refusal.Memory) }
@@ -70,10 +69,10 @@ impl Context {
         Context::in_mode(alloc, key, false)
     }
 
-    /// A context that holds the words of the operation table alone, and has a key of its own. `opaque` says whether
-    /// types and attributes that aren't known are to be read as opaque ones.
+    /// Returns a context with only the words of the operation table, whose hashes use `key`. `opaque` says whether
+    /// unknown types and attributes are read as opaque ones.
     ///
-    /// Refusals: `Memory` alone.
+    /// Refusals: `Memory`.
     pub fn in_mode(alloc: Global, key: u64, opaque: bool) -> Result<Context, Refusal>
         ensures ok { IfOk result (λ c. c ≡ record { names = words; types = []; attrs = []; opaque = opaque }) }
         ensures refused { IfErr result (λ refusal. refusal ≡ Refusal.Memory) }
@@ -93,40 +92,40 @@ impl Context {
         })
     }
 
-    /// Whether types and attributes that aren't known are read as opaque ones.
+    /// Returns whether unknown types and attributes are read as opaque ones.
     pub fn is_opaque(&self) -> bool
         ensures { result ≡ self.now.opaque }
     {
         self.opaque
     }
 
-    /// What its things are hashed with.
+    /// Returns the hasher of the context.
     pub fn hasher(&self) -> Keyed {
         self.keyed
     }
 
-    /// Whether a number is a name's.
+    /// Returns whether the context has a name with this id.
     pub fn has_name(&self, id: NameId) -> bool
         ensures { IsTrue result ↔ IsName self.now id }
     {
         (id.number() as usize) < self.names.len()
     }
 
-    /// Whether a number is a type's.
+    /// Returns whether the context has a type with this id.
     pub fn has_type(&self, id: TypeId) -> bool
         ensures { IsTrue result ↔ IsType self.now id }
     {
         (id.number() as usize) < self.types.len()
     }
 
-    /// Whether a number is an attribute's.
+    /// Returns whether the context has an attribute with this id.
     pub fn has_attr(&self, id: AttrId) -> bool
         ensures { IsTrue result ↔ IsAttr self.now id }
     {
         (id.number() as usize) < self.attrs.len()
     }
 
-    /// The bytes of a name.
+    /// Returns the bytes of a name.
     pub fn name_bytes(&self, id: NameId) -> &[u8]
         requires { IsName self.now id }
         ensures { slice_get self.now.names id ≡ Some result.now }
@@ -137,7 +136,7 @@ impl Context {
             .as_slice()
     }
 
-    /// The type of a number.
+    /// Returns the node of a type.
     pub fn type_node(&self, id: TypeId) -> &TypeNode
         requires { IsType self.now id }
         ensures { slice_get self.now.types id ≡ Some result.now }
@@ -146,7 +145,7 @@ impl Context {
         node
     }
 
-    /// The attribute of a number. A dictionary has its entries sorted by the keys' bytes.
+    /// Returns the node of an attribute. The entries of a dictionary are sorted by the bytes of their keys.
     pub fn attr_node(&self, id: AttrId) -> &AttrNode
         requires { IsAttr self.now id }
         ensures node { slice_get self.now.attrs id ≡ Some result.now }
@@ -156,12 +155,12 @@ impl Context {
         node
     }
 
-    /// The number of a name. One that is there takes no memory.
+    /// Interns a name and returns its id. A known name needs no memory.
     ///
-    /// Refusals: `TooMany` where the context is full and has no such name; `Memory`.
+    /// Refusals: `TooMany` if the context is full and has no such name; `Memory`.
     pub fn name(&mut self, bytes: &[u8]) -> Result<NameId, Refusal>
         ensures ok { IfOk result (λ id. (id, self.new) ≡ with_name bytes.now self.old) }
-        ensures grows { Grows self.old self.new }
+        ensures grows { IsExtendedBy self.old self.new }
         ensures refused { IsRefusedFor (name_reason bytes.now self.old) result }
         ensures known { knows_name bytes.now self.old ≡ true → IsOk result }
         ensures err { OnErr result (self.new ≡ self.old) }
@@ -170,15 +169,14 @@ impl Context {
         Ok(NameId::new(place))
     }
 
-    /// The number of a type whose parts are types of this context. One that is there takes no memory.
+    /// Interns a type, whose components are types of this context, and returns its id. A known type needs no memory.
     ///
-    /// Refusals: `BadWidth` for a width outside 1 to 128; `BadValue` for a dimension above
-    /// 9,223,372,036,854,775,807; `TooDeep` past a depth of 32; `TooMany` where the context is full
-    /// and has no such type; `Memory`.
+    /// Refusals: `BadWidth` for a width outside 1 to 128; `BadValue` for a dimension above 9,223,372,036,854,775,807;
+    /// `TooDeep` beyond a depth of 32; `TooMany` if the context is full and has no such type; `Memory`.
     pub fn ty(&mut self, node: TypeNode) -> Result<TypeId, Refusal>
         requires { TypeIsOf self.old node }
         ensures ok { IfOk result (λ id. (id, self.new) ≡ with_type node self.old) }
-        ensures grows { Grows self.old self.new }
+        ensures grows { IsExtendedBy self.old self.new }
         ensures refused { IsRefusedFor (type_reason node self.old) result }
         ensures known { knows_type node self.old ≡ true → type_reason node self.old ≡ None → IsOk result }
         ensures err { OnErr result (self.new ≡ self.old) }
@@ -188,17 +186,16 @@ impl Context {
         Ok(TypeId::new(place))
     }
 
-    /// The number of an attribute whose parts are names, types and attributes of this context. One
-    /// that is there takes no memory.
+    /// Interns an attribute, whose components are names, types and attributes of this context, and returns its id. A
+    /// known attribute needs no memory.
     ///
-    /// Refusals: `BadValue` where an integer's bits are not below 2^w, or its type has no integers, or
-    /// an item of a dense array is no value of the element type; `TooDeep` past a depth of 32;
-    /// `TooMany` past 256 entries, or where the context is full and has no such attribute;
-    /// `DuplicateKey` where a key stands twice; `Memory`.
+    /// Refusals: `BadValue` if an integer's bits aren't below 2^w, or its type has no integers, or an item of a dense
+    /// array is no value of the element type; `TooDeep` beyond a depth of 32; `TooMany` beyond 256 entries, or if the
+    /// context is full and has no such attribute; `DuplicateKey` if a key occurs twice; `Memory`.
     pub fn attr(&mut self, node: AttrNode) -> Result<AttrId, Refusal>
         requires { AttrIsOf self.old node }
         ensures ok { IfOk result (λ id. (id, self.new) ≡ with_attr node self.old) }
-        ensures grows { Grows self.old self.new }
+        ensures grows { IsExtendedBy self.old self.new }
         ensures refused { IsRefusedFor (attr_reason node self.old) result }
         ensures known { knows_attr node self.old ≡ true → attr_reason node self.old ≡ None → IsOk result }
         ensures err { OnErr result (self.new ≡ self.old) }
@@ -209,7 +206,7 @@ impl Context {
         Ok(AttrId::new(place))
     }
 
-    /// A node as it is kept: a dictionary is sorted. No memory.
+    /// Returns a node as it is stored: the entries of a dictionary are sorted. Needs no memory.
     fn kept(&self, node: AttrNode) -> Result<AttrNode, Refusal>
         requires { AttrIsOf self.now node }
         ensures reason { result ≡ checked (dictionary_reason (length self.now.attrs) node) (kept self.now.names node) }
@@ -231,7 +228,7 @@ impl Context {
         }
     }
 
-    /// The depth of a type of this context.
+    /// Returns the depth of a type of this context.
     pub(crate) fn type_depth(&self, id: TypeId) -> u32
         requires { IsType self.now id }
         ensures depth { result ≡ type_depth (type_term self.now id) }
@@ -240,7 +237,7 @@ impl Context {
         self.types[id.number() as usize]
     }
 
-    /// The depth of an attribute of this context.
+    /// Returns the depth of an attribute of this context.
     pub(crate) fn attr_depth(&self, id: AttrId) -> u32
         requires { IsAttr self.now id }
         ensures depth { result ≡ attr_depth (attr_term self.now id) }
@@ -249,8 +246,8 @@ impl Context {
         self.attrs[id.number() as usize]
     }
 
-    /// What is true of every context: no thing stands at two places, the words come first, a node
-    /// refers to what stands before it, and nothing in it has a fault.
+    /// Lemma: the invariants of every context. Its names, types and attributes are distinct, the words come first, a
+    /// node refers only to earlier ones, and none has a fault.
     pub fn sound(&self)
         ensures { IsSound self.now }
     {

@@ -1,16 +1,16 @@
-//! Dictionaries are kept sorted by their keys' bytes.
+//! Sorts dictionaries by the bytes of their keys.
 ghost use Rattle.std.specs.Prelude.{◌≡◌, ◌<◌, ℕ, true, false, map, length, slice_index_or, IsPermutation, []};
 ghost use Rattle.std.specs.List.{All};
 ghost use Rattle.std.specs.List.Sorted.{IsSortedBy};
-ghost use Rattle.ir_types.specs.Dictionaries.{comes_before, has_adjacent_twin, has_twin, sorted, twin_after};
+ghost use Rattle.ir_types.specs.Dictionaries.{comes_before, has_adjacent_duplicate, has_duplicate, sorted, duplicate_after};
 ghost use Rattle.ir_types.specs.Sound.{IsRising};
 
 use crate::ids::{AttrId, NameId};
 use crate::places::names_apart;
 use indexmap::IndexSet;
-use ir_types_items::keyed::Keyed;
+use ir_types_interner::keyed::Keyed;
 
-/// The bytes of a name, or none where the number is no name's.
+/// Returns the bytes of a name, or no bytes if the id isn't a name's.
 pub fn bytes_or_none(names: &IndexSet<Vec<u8>, Keyed>, name: NameId) -> &[u8]
     ensures { result.now ≡ slice_index_or (map (λ v. v.items) names.now.keys) name [] }
 {
@@ -20,20 +20,20 @@ pub fn bytes_or_none(names: &IndexSet<Vec<u8>, Keyed>, name: NameId) -> &[u8]
     }
 }
 
-/// Sorts entries by their keys' bytes, and says whether a key stands twice. No memory.
+/// Sorts entries by the bytes of their keys, and returns whether a key occurs twice. Needs no memory.
 pub fn sort_entries(names: &IndexSet<Vec<u8>, Keyed>, entries: &mut Vec<(NameId, AttrId)>) -> bool
     requires { All (λ (e : ℕ × ℕ). e.0 < length names.now.keys) entries.old.items }
-    ensures twin { result ≡ has_twin (map (λ (e : ℕ × ℕ). e.0) entries.old.items) }
+    ensures duplicate { result ≡ has_duplicate (map (λ (e : ℕ × ℕ). e.0) entries.old.items) }
     ensures moved { IsPermutation entries.old.items entries.new.items }
     ensures sorted { result ≡ false → entries.new.items ≡ sorted (map (λ v. v.items) names.now.keys) entries.old.items }
     ensures rising { result ≡ false → IsRising (map (λ v. v.items) names.now.keys) entries.new.items }
 {
     names_apart(names);
     order_entries(names, entries);
-    has_twin_next_door(entries.as_slice())
+    has_duplicate_next_door(entries.as_slice())
 }
 
-/// Puts entries into the order of their keys' bytes.
+/// Sorts entries by the bytes of their keys.
 fn order_entries(names: &IndexSet<Vec<u8>, Keyed>, entries: &mut Vec<(NameId, AttrId)>)
     ensures moved { IsPermutation entries.old.items entries.new.items }
     ensures sorted { IsSortedBy (comes_before (map (λ v. v.items) names.now.keys)) entries.new.items }
@@ -41,9 +41,9 @@ fn order_entries(names: &IndexSet<Vec<u8>, Keyed>, entries: &mut Vec<(NameId, At
     entries.sort_unstable_by(|a, b| bytes_or_none(names, a.0).cmp(bytes_or_none(names, b.0)));
 }
 
-/// Whether an entry has the key of the entry before it.
-fn has_twin_next_door(entries: &[(NameId, AttrId)]) -> bool
-    ensures { result ≡ has_adjacent_twin entries.now }
+/// Returns whether two adjacent entries have the same key.
+fn has_duplicate_next_door(entries: &[(NameId, AttrId)]) -> bool
+    ensures { result ≡ has_adjacent_duplicate entries.now }
 {
     let Some((first, rest)) = entries.split_first() else {
         return false;

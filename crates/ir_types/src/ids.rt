@@ -1,9 +1,9 @@
-//! The numbers by which operations, names, types and attributes are known.
+//! The ids of operations, names, types and attributes.
 ghost use Rattle.std.specs.Prelude.{ℕ, ◌≡◌};
 
 use std::marker::Model;
 
-/// The number of an operation, unique in its module and never used again.
+/// The id of an operation, unique in its module and never used again.
 #[derive(Clone, Copy, Debug, PartialEq, Eq, PartialOrd, Ord, Hash)]
 pub struct OpId(u32);
 
@@ -16,14 +16,14 @@ impl Model for OpId {
 }
 
 impl OpId {
-    /// The id with a number.
+    /// Returns the id with this number.
     pub fn new(number: u32) -> OpId
         ensures { result ≡ number }
     {
         OpId(number)
     }
 
-    /// The number of the id.
+    /// Returns the number of the id.
     pub fn number(self) -> u32
         ensures { result ≡ self }
     {
@@ -31,7 +31,7 @@ impl OpId {
     }
 }
 
-/// The number of a name: an operation's name, a key, a part of a symbol, or a string.
+/// The id of a name: an operation's name, a key, a component of a symbol, or a string.
 #[derive(Clone, Copy, Debug, PartialEq, Eq, PartialOrd, Ord, Hash)]
 pub struct NameId(u32);
 
@@ -44,14 +44,14 @@ impl Model for NameId {
 }
 
 impl NameId {
-    /// The id with a number.
+    /// Returns the id with this number.
     pub fn new(number: u32) -> NameId
         ensures { result ≡ number }
     {
         NameId(number)
     }
 
-    /// The number of the id.
+    /// Returns the number of the id.
     pub fn number(self) -> u32
         ensures { result ≡ self }
     {
@@ -59,7 +59,7 @@ impl NameId {
     }
 }
 
-/// The number of a type. The default one stands in places of lists that hold none.
+/// The id of a type. The default id is a placeholder for unused entries of lists.
 #[derive(Clone, Copy, Debug, Default, PartialEq, Eq, PartialOrd, Ord, Hash)]
 pub struct TypeId(u32);
 
@@ -72,14 +72,14 @@ impl Model for TypeId {
 }
 
 impl TypeId {
-    /// The id with a number.
+    /// Returns the id with this number.
     pub fn new(number: u32) -> TypeId
         ensures { result ≡ number }
     {
         TypeId(number)
     }
 
-    /// The number of the id.
+    /// Returns the number of the id.
     pub fn number(self) -> u32
         ensures { result ≡ self }
     {
@@ -87,7 +87,7 @@ impl TypeId {
     }
 }
 
-/// The number of an attribute.
+/// The id of an attribute.
 #[derive(Clone, Copy, Debug, PartialEq, Eq, PartialOrd, Ord, Hash)]
 pub struct AttrId(u32);
 
@@ -100,14 +100,14 @@ impl Model for AttrId {
 }
 
 impl AttrId {
-    /// The id with a number.
+    /// Returns the id with this number.
     pub fn new(number: u32) -> AttrId
         ensures { result ≡ number }
     {
         AttrId(number)
     }
 
-    /// The number of the id.
+    /// Returns the number of the id.
     pub fn number(self) -> u32
         ensures { result ≡ self }
     {

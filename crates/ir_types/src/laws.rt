@@ -1,4 +1,4 @@
-//! Laws of names, types and attributes and their numbers. A context is given by what it holds.
+//! Theorems about names, types and attributes and their ids.
 ghost use Rattle.std.specs.Prelude.{◌≡◌, ℕ, List, slice_get, Some, None};
 ghost use Rattle.ir_types.specs.Dictionaries.{kept};
 ghost use Rattle.ir_types.specs.Interning.{with_attr, with_name, with_type};
@@ -6,129 +6,126 @@ ghost use Rattle.ir_types.specs.Laws.{AttrNodeStays, AttrStays, AttrsDiffer, Nam
 ghost use Rattle.ir_types.specs.Reasons.{attr_reason, name_reason, type_reason};
 ghost use Rattle.ir_types.specs.Sound.{Holds, IsSound};
 ghost use Rattle.ir_types.specs.Terms.{attr_node_term, attr_term, name_term, type_node_term, type_term};
-ghost use Rattle.ir_types.specs.Things.{AttrIsOf, Grows, Things, TypeIsOf};
+ghost use Rattle.ir_types.specs.Things.{AttrIsOf, IsExtendedBy, ContextModel, TypeIsOf};
 ghost use Rattle.ir_types.specs.declared.node.AttrNode.{AttrNode};
 ghost use Rattle.ir_types.specs.declared.node.TypeNode.{TypeNode};
 
-/// A name's number gives its bytes back, whatever is added.
+/// A name's id keeps its bytes in every extended context.
 pub fn names_stay()
-    ensures number { (c d : Things) → Grows c d → NameStays c d }
-    ensures place { (c d : Things) → Grows c d → StandsAt c.names d.names }
+    ensures number { (c d : ContextModel) → IsExtendedBy c d → NameStays c d }
+    ensures place { (c d : ContextModel) → IsExtendedBy c d → StandsAt c.names d.names }
 {}
 
-/// A type's number gives the type back, whatever is added: its node stays, and what its node is.
+/// A type's id keeps its node, and the meaning of the node, in every extended context.
 pub fn types_stay()
-    ensures number { (c d : Things) → Grows c d → TypeStays c d }
-    ensures place { (c d : Things) → Grows c d → StandsAt c.types d.types }
-    ensures node { (c d : Things) → Grows c d → TypeNodeStays c d }
+    ensures number { (c d : ContextModel) → IsExtendedBy c d → TypeStays c d }
+    ensures place { (c d : ContextModel) → IsExtendedBy c d → StandsAt c.types d.types }
+    ensures node { (c d : ContextModel) → IsExtendedBy c d → TypeNodeStays c d }
 {}
 
-/// An attribute's number gives the attribute back, whatever is added: its node stays, and what its
-/// node is.
+/// An attribute's id keeps its node, and the meaning of the node, in every extended context.
 pub fn attrs_stay()
-    ensures number { (c d : Things) → Holds c → Grows c d → AttrStays c d }
-    ensures place { (c d : Things) → Grows c d → StandsAt c.attrs d.attrs }
-    ensures node { (c d : Things) → Holds c → Grows c d → AttrNodeStays c d }
+    ensures number { (c d : ContextModel) → Holds c → IsExtendedBy c d → AttrStays c d }
+    ensures place { (c d : ContextModel) → IsExtendedBy c d → StandsAt c.attrs d.attrs }
+    ensures node { (c d : ContextModel) → Holds c → IsExtendedBy c d → AttrNodeStays c d }
 {}
 
-/// Names with different numbers have different bytes.
+/// Names with different ids have different bytes.
 pub fn names_differ()
-    ensures { (c : Things) → IsSound c → NamesDiffer c }
+    ensures { (c : ContextModel) → IsSound c → NamesDiffer c }
 {}
 
-/// Types with different numbers are different types, down to their parts.
+/// Types with different ids are different types, component by component.
 pub fn types_differ()
-    ensures { (c : Things) → IsSound c → TypesDiffer c }
+    ensures { (c : ContextModel) → IsSound c → TypesDiffer c }
 {}
 
-/// Attributes with different numbers are different attributes, down to their parts.
+/// Attributes with different ids are different attributes, component by component.
 pub fn attrs_differ()
-    ensures { (c : Things) → IsSound c → AttrsDiffer c }
+    ensures { (c : ContextModel) → IsSound c → AttrsDiffer c }
 {}
 
-/// The type that a number stands for is the one that its node is.
+/// The meaning of a type's id is the meaning of its node.
 pub fn type_of_node()
-    ensures { (c : Things) (n : ℕ) (node : TypeNode) → Holds c → slice_get c.types n ≡ Some node → type_term c n ≡ type_node_term c node }
+    ensures { (c : ContextModel) (n : ℕ) (node : TypeNode) → Holds c → slice_get c.types n ≡ Some node → type_term c n ≡ type_node_term c node }
 {}
 
-/// The attribute that a number stands for is the one that its node is.
+/// The meaning of an attribute's id is the meaning of its node.
 pub fn attr_of_node()
-    ensures { (c : Things) (n : ℕ) (node : AttrNode) → Holds c → slice_get c.attrs n ≡ Some node → attr_term c n ≡ attr_node_term c node }
+    ensures { (c : ContextModel) (n : ℕ) (node : AttrNode) → Holds c → slice_get c.attrs n ≡ Some node → attr_term c n ≡ attr_node_term c node }
 {}
 
-/// To intern a thing leaves every number what it stands for.
+/// Interning only extends a context.
 pub fn calls_grow()
-    ensures name { (bytes : List ℕ) (c : Things) → Grows c (with_name bytes c).1 }
-    ensures ty { (node : TypeNode) (c : Things) → Grows c (with_type node c).1 }
-    ensures attr { (node : AttrNode) (c : Things) → Grows c (with_attr node c).1 }
+    ensures name { (bytes : List ℕ) (c : ContextModel) → IsExtendedBy c (with_name bytes c).1 }
+    ensures ty { (node : TypeNode) (c : ContextModel) → IsExtendedBy c (with_type node c).1 }
+    ensures attr { (node : AttrNode) (c : ContextModel) → IsExtendedBy c (with_attr node c).1 }
 {}
 
-/// To add nothing is to grow, and to grow twice is to grow.
+/// Extension is reflexive and transitive.
 pub fn growth_is_an_order()
-    ensures reflexive { (c : Things) → Grows c c }
-    ensures transitive { (b c d : Things) → Grows b c → Grows c d → Grows b d }
+    ensures reflexive { (c : ContextModel) → IsExtendedBy c c }
+    ensures transitive { (b c d : ContextModel) → IsExtendedBy b c → IsExtendedBy c d → IsExtendedBy b d }
 {}
 
-/// The number that is answered for a thing stands for it: a name's for its bytes, a type's for what
-/// the node is, an attribute's for what the node is with a dictionary's entries sorted.
+/// The returned id means the interned item: the bytes of a name, the meaning of a type's node, the meaning of an
+/// attribute's node with the entries of a dictionary sorted.
 pub fn new_numbers()
-    ensures name { (bytes : List ℕ) (c : Things) → name_term (with_name bytes c).1 (with_name bytes c).0 ≡ bytes }
-    ensures ty { (node : TypeNode) (c : Things) → Holds c → type_term (with_type node c).1 (with_type node c).0 ≡ type_node_term c node }
-    ensures attr { (node : AttrNode) (c : Things) → Holds c → attr_term (with_attr node c).1 (with_attr node c).0 ≡ attr_node_term c (kept c.names node) }
+    ensures name { (bytes : List ℕ) (c : ContextModel) → name_term (with_name bytes c).1 (with_name bytes c).0 ≡ bytes }
+    ensures ty { (node : TypeNode) (c : ContextModel) → Holds c → type_term (with_type node c).1 (with_type node c).0 ≡ type_node_term c node }
+    ensures attr { (node : AttrNode) (c : ContextModel) → Holds c → attr_term (with_attr node c).1 (with_attr node c).0 ≡ attr_node_term c (kept c.names node) }
 {}
 
-/// A name that is there keeps its number, and nothing changes; it is refused for no reason.
+/// A known name keeps its id, the context is unchanged, and the call isn't refused for a reason.
 pub fn known_name()
-    ensures answer { (c : Things) (n : ℕ) (bytes : List ℕ) → IsSound c → slice_get c.names n ≡ Some bytes → with_name bytes c ≡ (n, c) }
-    ensures fine { (c : Things) (n : ℕ) (bytes : List ℕ) → IsSound c → slice_get c.names n ≡ Some bytes → name_reason bytes c ≡ None }
+    ensures answer { (c : ContextModel) (n : ℕ) (bytes : List ℕ) → IsSound c → slice_get c.names n ≡ Some bytes → with_name bytes c ≡ (n, c) }
+    ensures fine { (c : ContextModel) (n : ℕ) (bytes : List ℕ) → IsSound c → slice_get c.names n ≡ Some bytes → name_reason bytes c ≡ None }
 {}
 
-/// A type that is there keeps its number, and nothing changes; it is refused for no reason.
+/// A known type keeps its id, the context is unchanged, and the call isn't refused for a reason.
 pub fn known_type()
-    ensures answer { (c : Things) (n : ℕ) (node : TypeNode) → IsSound c → slice_get c.types n ≡ Some node → with_type node c ≡ (n, c) }
-    ensures fine { (c : Things) (n : ℕ) (node : TypeNode) → IsSound c → slice_get c.types n ≡ Some node → type_reason node c ≡ None }
+    ensures answer { (c : ContextModel) (n : ℕ) (node : TypeNode) → IsSound c → slice_get c.types n ≡ Some node → with_type node c ≡ (n, c) }
+    ensures fine { (c : ContextModel) (n : ℕ) (node : TypeNode) → IsSound c → slice_get c.types n ≡ Some node → type_reason node c ≡ None }
 {}
 
-/// An attribute that is there keeps its number, and nothing changes; it is refused for no reason.
+/// A known attribute keeps its id, the context is unchanged, and the call isn't refused for a reason.
 pub fn known_attr()
-    ensures answer { (c : Things) (n : ℕ) (node : AttrNode) → IsSound c → slice_get c.attrs n ≡ Some node → with_attr node c ≡ (n, c) }
-    ensures fine { (c : Things) (n : ℕ) (node : AttrNode) → IsSound c → slice_get c.attrs n ≡ Some node → attr_reason node c ≡ None }
+    ensures answer { (c : ContextModel) (n : ℕ) (node : AttrNode) → IsSound c → slice_get c.attrs n ≡ Some node → with_attr node c ≡ (n, c) }
+    ensures fine { (c : ContextModel) (n : ℕ) (node : AttrNode) → IsSound c → slice_get c.attrs n ≡ Some node → attr_reason node c ≡ None }
 {}
 
-/// An attribute that is there has its entries in order.
+/// The entries of a known attribute are sorted.
 pub fn known_order()
-    ensures { (c : Things) (n : ℕ) (node : AttrNode) → Holds c → slice_get c.attrs n ≡ Some node → kept c.names node ≡ node }
+    ensures { (c : ContextModel) (n : ℕ) (node : AttrNode) → Holds c → slice_get c.attrs n ≡ Some node → kept c.names node ≡ node }
 {}
 
-/// Two calls, in whichever order, answer one number for two names exactly where their bytes are the
-/// same.
+/// Two calls, in either order, return the same id for two names exactly if their bytes are equal.
 pub fn one_name_one_number()
-    ensures { (a b : List ℕ) (c d e : Things) → OneNameOneNumber a c b d e }
+    ensures { (a b : List ℕ) (c d e : ContextModel) → OneNameOneNumber a c b d e }
 {}
 
-/// Two calls, in whichever order, answer one number for two types exactly where their nodes are the
-/// same, and exactly where the types are, down to their parts.
+/// Two calls, in either order, return the same id for two types exactly if their nodes are equal, and exactly if their
+/// meanings are equal.
 pub fn one_type_one_number()
-    ensures node { (a b : TypeNode) (c d e : Things) → OneTypeOneNumber a c b d e }
-    ensures meaning { (a b : TypeNode) (c d e : Things) → OneTypeOneMeaning a c b d e }
+    ensures node { (a b : TypeNode) (c d e : ContextModel) → OneTypeOneNumber a c b d e }
+    ensures meaning { (a b : TypeNode) (c d e : ContextModel) → OneTypeOneMeaning a c b d e }
 {}
 
-/// Two calls, in whichever order, answer one number for two attributes exactly where their nodes are
-/// the same, with the entries of dictionaries sorted, and exactly where the attributes are, down to
-/// their parts.
+/// Two calls, in either order, return the same id for two attributes exactly if their nodes are equal with the entries
+/// of dictionaries sorted, and exactly if their meanings are equal.
 pub fn one_attr_one_number()
-    ensures node { (a b : AttrNode) (c d e : Things) → OneAttrOneNumber a c b d e }
-    ensures meaning { (a b : AttrNode) (c d e : Things) → OneAttrOneMeaning a c b d e }
+    ensures node { (a b : AttrNode) (c d e : ContextModel) → OneAttrOneNumber a c b d e }
+    ensures meaning { (a b : AttrNode) (c d e : ContextModel) → OneAttrOneMeaning a c b d e }
 {}
 
-/// The order in which a dictionary's entries are given does not matter, where no key stands twice.
+/// The order in which a dictionary's entries are given doesn't matter, if no key occurs twice.
 pub fn order_is_free()
-    ensures { (c : Things) (xs ys : List (ℕ × ℕ)) → OrderIsFree c xs ys }
+    ensures { (c : ContextModel) (xs ys : List (ℕ × ℕ)) → OrderIsFree c xs ys }
 {}
 
-/// A thing against which no reason stands leaves a context sound.
+/// An accepted call keeps a context sound.
 pub fn calls_keep_sound()
-    ensures name { (bytes : List ℕ) (c : Things) → IsSound c → name_reason bytes c ≡ None → IsSound (with_name bytes c).1 }
-    ensures ty { (node : TypeNode) (c : Things) → IsSound c → TypeIsOf c node → type_reason node c ≡ None → IsSound (with_type node c).1 }
-    ensures attr { (node : AttrNode) (c : Things) → IsSound c → AttrIsOf c node → attr_reason node c ≡ None → IsSound (with_attr node c).1 }
+    ensures name { (bytes : List ℕ) (c : ContextModel) → IsSound c → name_reason bytes c ≡ None → IsSound (with_name bytes c).1 }
+    ensures ty { (node : TypeNode) (c : ContextModel) → IsSound c → TypeIsOf c node → type_reason node c ≡ None → IsSound (with_type node c).1 }
+    ensures attr { (node : AttrNode) (c : ContextModel) → IsSound c → AttrIsOf c node → attr_reason node c ≡ None → IsSound (with_attr node c).1 }
 {}

@@ -1,4 +1,5 @@
-//! Equal names, types and attributes have equal numbers, and a number gives its thing back for good.
+//! Names, types and attributes, interned in a context. Equal names, types and attributes have equal ids, and an id
+//! never changes its meaning.
 #![tactic(auto)]
 
 pub mod bits;
@@ -20,4 +21,4 @@ pub mod word;
 pub mod word_laws;
 pub mod words;
 
-pub use ir_types_items::lists::Items;
+pub use ir_types_interner::lists::Items;

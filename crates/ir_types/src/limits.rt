@@ -1,18 +1,18 @@
 //! The limits of a context.
 
-/// The most names, types and attributes of a context, of each.
+/// The limit of names, of types and of attributes of a context.
 pub const MOST_THINGS: u32 = 16_777_216;
 
-/// The most entries of a dictionary.
+/// The limit of entries of a dictionary.
 pub const MOST_ENTRIES: usize = 256;
 
-/// The greatest depth of a type or an attribute.
+/// The depth limit of types and attributes.
 pub const MOST_DEPTH: u32 = 32;
 
-/// The greatest width of an integer type.
+/// The greatest width of an integer type, in bits.
 pub const MOST_WIDTH: u32 = 128;
 
-/// How many bits an index has.
+/// The width of index, in bits.
 pub const INDEX_WIDTH: u32 = 64;
 
 /// The greatest dimension of a memref.

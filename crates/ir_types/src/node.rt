@@ -1,6 +1,6 @@
-//! The nodes of types and attributes: what is interned, its parts by their numbers.
+//! The nodes of types and attributes, with their components as ids.
 use crate::ids::{AttrId, NameId, TypeId};
-use ir_types_items::lists::Items;
+use ir_types_interner::lists::Items;
 
 /// The signedness of an integer type.
 #[derive(Clone, Copy, PartialEq, Eq, Hash)]
@@ -13,7 +13,7 @@ pub enum Sign {
     Unsigned,
 }
 
-/// A type whose parts are types of the context (Builtin Dialect, "Types").
+/// A type, whose components are types of the context (Builtin Dialect, "Types").
 #[derive(Drop, PartialEq, Eq, Hash)]
 pub enum TypeNode {
     /// An integer type of 1 to 128 bits: `i32`, `si8`, `ui128`.
@@ -23,27 +23,26 @@ pub enum TypeNode {
     },
     /// `index`, a signed integer of 64 bits.
     Index,
-    /// A function type, as `(i32, i32) -> i1`.
+    /// A function type: `(i32, i32) -> i1`.
     Func {
         inputs: Items<TypeId>,
         outputs: Items<TypeId>,
     },
-    /// A ranked memref without layout and memory space, as `memref<4x?xi32>`; `None` is `?`.
+    /// A ranked memref without layout and memory space: `memref<4x?xi32>`. `None` is `?`.
     Memref {
         dims: Items<Option<u64>>,
         elem: TypeId,
     },
-    /// A type of which the text alone is known: `tensor<4xf32>`, `!llvm.ptr`. It is neither an integer nor index, nor
-    /// a function, nor a memref (Builtin Dialect, "OpaqueType").
+    /// A type that is known only by its text: `tensor<4xf32>`, `!llvm.ptr`. It is no integer type, index, function or
+    /// memref (Builtin Dialect, "OpaqueType").
     Opaque(Items<u8>),
 }
 
-/// An attribute whose parts are names, types and attributes of the context (Builtin Dialect,
-/// "Attributes").
+/// An attribute, whose components are names, types and attributes of the context (Builtin Dialect, "Attributes").
 #[derive(Drop, PartialEq, Eq, Hash)]
 pub enum AttrNode {
-    /// An integer of an integer type or index by its bits, a number below 2^w: `-1 : i8` and
-    /// `255 : i8` are 255 of `i8`, and `true` is 1 of `i1`.
+    /// An integer of an integer type or of index, given by its bits, a number below 2^w: `-1 : i8` and `255 : i8` are
+    /// 255 of `i8`, and `true` is 1 of `i1`.
     Int { ty: TypeId, value: u128 },
     /// A string.
     Str(NameId),
@@ -55,13 +54,13 @@ pub enum AttrNode {
     Array(Items<AttrId>),
     /// A dictionary: `{a = 1 : i8, b}`.
     Dict(Items<(NameId, AttrId)>),
-    /// A symbol reference by its parts: `@a::@b`.
+    /// A symbol reference, with its components: `@a::@b`.
     Sym(Items<NameId>),
     /// A dense array of integers: `array<i32: 0, 1>`.
     Dense { elem: TypeId, values: Items<i64> },
     /// The flags of an integer operation: `#arith.overflow<nsw, nuw>`.
     Overflow { nsw: bool, nuw: bool },
-    /// An attribute of which the text alone is known, and its type, where one follows: `#d.a<x>`, `1.0 : f32`
-    /// (Builtin Dialect, "OpaqueAttr").
+    /// An attribute that is known only by its text, with its type if the text has one: `#d.a<x>`, `1.0 : f32` (Builtin
+    /// Dialect, "OpaqueAttr").
     Opaque { text: Items<u8>, ty: Option<TypeId> },
 }

@@ -1,9 +1,9 @@
-//! Names, types and attributes by their places: what is there is found, and what is not is put last.
+//! Interning in ordered sets: a known item is found, and a new one is appended.
 ghost use Rattle.std.specs.Prelude.{◌≡◌, ◌≤◌, ◌⊎◌, [], ◌∷◌, ◌++◌, true, IfOk, IsOk, OnOk, OnErr, map, length};
 ghost use Rattle.std.specs.List.{list_any, position_or_len};
 ghost use Rattle.std.specs.Map.{keys_of};
 ghost use Rattle.std.specs.Str.{bytes_eq};
-ghost use Rattle.ir_types_items.specs.Interned.{AreApart, with_last};
+ghost use Rattle.ir_types_interner.specs.Interned.{AreApart, with_last};
 ghost use Rattle.ir_types.specs.Limits.{most_things};
 ghost use Rattle.ir_types.specs.Same.{same_type, same_attr};
 ghost use Rattle.ir_types.specs.Reasons.{IsRefusedFor, full_reason};
@@ -12,11 +12,11 @@ use crate::limits::MOST_THINGS;
 use crate::node::{AttrNode, TypeNode};
 use crate::refusal::Refusal;
 use indexmap::{IndexMap, IndexSet};
-use ir_types_items::intern::intern;
-use ir_types_items::keyed::Keyed;
+use ir_types_interner::intern::intern;
+use ir_types_interner::keyed::Keyed;
 use std::alloc::Global;
 
-/// The place of a name. One that is there takes no memory.
+/// Returns the index of a name, and adds the name if it is new. A known name needs no memory.
 pub fn intern_name(
     names: &mut IndexSet<Vec<u8>, Keyed>,
     alloc: Global,
@@ -41,7 +41,7 @@ pub fn intern_name(
     Ok(place as u32)
 }
 
-/// The place of a type, which is kept with its depth.
+/// Returns the index of a type, and adds the type with its depth if it is new.
 pub fn intern_type(
     types: &mut IndexMap<TypeNode, u32, Keyed>,
     node: TypeNode,
@@ -62,7 +62,7 @@ pub fn intern_type(
     }
 }
 
-/// The place of an attribute, which is kept with its depth.
+/// Returns the index of an attribute, and adds the attribute with its depth if it is new.
 pub fn intern_attr(
     attrs: &mut IndexMap<AttrNode, u32, Keyed>,
     node: AttrNode,
@@ -83,21 +83,21 @@ pub fn intern_attr(
     }
 }
 
-/// No two names have the same bytes.
+/// Lemma: all names are distinct.
 pub fn names_apart(names: &IndexSet<Vec<u8>, Keyed>)
     ensures { AreApart (map (λ v. v.items) names.now.keys) }
 {
     let _count = names.len();
 }
 
-/// No type stands at two places.
+/// Lemma: all types are distinct.
 pub fn types_apart(types: &IndexMap<TypeNode, u32, Keyed>)
     ensures { AreApart (keys_of types.now.entries) }
 {
     let _count = types.len();
 }
 
-/// No attribute stands at two places.
+/// Lemma: all attributes are distinct.
 pub fn attrs_apart(attrs: &IndexMap<AttrNode, u32, Keyed>)
     ensures { AreApart (keys_of attrs.now.entries) }
 {

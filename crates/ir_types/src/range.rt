@@ -1,4 +1,4 @@
-//! Which whole numbers a type has.
+//! The integers in the range of a type.
 ghost use Rattle.std.specs.Prelude.{◌≡◌, ◌^◌, ◌-◌, ◌≤◌, List};
 ghost use Rattle.ir_types.specs.Limits.{most_width};
 ghost use Rattle.ir_types.specs.Terms.{TypeTerm, Integer, type_from};
@@ -10,8 +10,8 @@ ghost use Rattle.ir_types.specs.Bits.{HasWidth};
 use crate::limits::INDEX_WIDTH;
 use crate::node::{Sign, TypeNode};
 
-/// Whether a sign and a magnitude are a literal of a type: an integer of a signless type may be
-/// written as signed or as unsigned (Builtin Dialect, "IntegerAttr"). -0 is one.
+/// Returns whether a sign and a magnitude are a literal of a type. An integer of a signless type may be written as
+/// signed or as unsigned (Builtin Dialect, "IntegerAttr"). -0 is a literal.
 pub fn is_literal(node: &TypeNode, negative: bool, magnitude: u128) -> bool
     requires { HasWidth node.now }
     ensures { (known : List TypeTerm) → result ≡ ranges.is_literal (type_from known node.now) negative magnitude }
@@ -25,7 +25,7 @@ pub fn is_literal(node: &TypeNode, negative: bool, magnitude: u128) -> bool
     }
 }
 
-/// Whether a whole number is a value of a type as it is printed: a signless integer is signed.
+/// Returns whether an integer is a value of a type in printed form. Integers of signless types are printed as signed.
 pub fn is_value(node: &TypeNode, value: i128) -> bool
     requires { HasWidth node.now }
     ensures { (known : List TypeTerm) → result ≡ is_value_number (type_from known node.now) value }
@@ -41,7 +41,7 @@ pub fn is_value(node: &TypeNode, value: i128) -> bool
     }
 }
 
-/// Whether a number is the bits of an integer of a type: it is below 2^w, where they are w.
+/// Returns whether a number is the bits of an integer of a type: it is below 2^w for a type of w bits.
 pub fn is_bits(node: &TypeNode, bits: u128) -> bool
     requires { HasWidth node.now }
     ensures { (known : List TypeTerm) → result ≡ is_bits_of (type_from known node.now) bits }
@@ -55,7 +55,7 @@ pub fn is_bits(node: &TypeNode, bits: u128) -> bool
     }
 }
 
-/// Whether a sign and a magnitude are a literal of an integer type.
+/// Returns whether a sign and a magnitude are a literal of an integer type.
 pub(crate) fn is_literal_of_width(sign: Sign, width: u32, negative: bool, magnitude: u128) -> bool
     requires low { 1 ≤ width }
     requires high { width ≤ most_width }
@@ -86,7 +86,7 @@ fn is_value_of_width(sign: Sign, width: u32, negative: bool, magnitude: u128) ->
     }
 }
 
-/// Whether a sign and a magnitude are those of a signed integer of some bits.
+/// Returns whether a sign and a magnitude are a signed integer of `width` bits.
 fn is_signed(width: u32, negative: bool, magnitude: u128) -> bool
     requires low { 1 ≤ width }
     requires high { width ≤ most_width }
@@ -99,7 +99,7 @@ fn is_signed(width: u32, negative: bool, magnitude: u128) -> bool
     }
 }
 
-/// Whether a sign and a magnitude are those of an unsigned integer of some bits.
+/// Returns whether a sign and a magnitude are an unsigned integer of `width` bits.
 fn is_unsigned(width: u32, negative: bool, magnitude: u128) -> bool
     requires low { 1 ≤ width }
     requires high { width ≤ most_width }
@@ -112,7 +112,7 @@ fn is_unsigned(width: u32, negative: bool, magnitude: u128) -> bool
     }
 }
 
-/// Half the number of a width's values.
+/// Returns half the number of values of a width.
 pub fn half(width: u32) -> u128
     requires low { 1 ≤ width }
     requires high { width ≤ most_width }

@@ -1,4 +1,4 @@
-//! From literals to the bits of integers, and back to the numbers that they are read as.
+//! Converts literals to the bits of integers, and bits to the numbers that they represent.
 ghost use Rattle.std.specs.Prelude.{◌≡◌, ◌^◌, ◌-◌, ◌<◌, ◌≤◌, List, pos, int_lt, unsigned_abs};
 ghost use Rattle.ir_types.specs.Limits.{most_width};
 ghost use Rattle.ir_types.specs.Terms.{TypeTerm, Integer, type_from};
@@ -10,14 +10,15 @@ use crate::limits::INDEX_WIDTH;
 use crate::node::{Sign, TypeNode};
 use crate::range::{half, is_literal_of_width};
 
-/// A whole number by its sign and magnitude. 0 has no minus.
+/// An integer, by its sign and magnitude. 0 has no minus.
 #[derive(Clone, Copy)]
 pub struct Reading {
     pub negative: bool,
     pub magnitude: u128,
 }
 
-/// The bits of a literal, where it is one of the type: the number modulo 2^w.
+/// Returns the bits of a literal, which are the number modulo 2^w, or `None` if the literal isn't in the range of the
+/// type.
 pub fn literal_bits(node: &TypeNode, negative: bool, magnitude: u128) -> Option<u128>
     requires { HasWidth node.now }
     ensures { (known : List TypeTerm) → result ≡ readings.literal_bits (type_from known node.now) negative magnitude }
@@ -31,8 +32,8 @@ pub fn literal_bits(node: &TypeNode, negative: bool, magnitude: u128) -> Option<
     }
 }
 
-/// What bits are read as: as they are of an unsigned type, by two's complement of a signless or a
-/// signed one and of index.
+/// Returns the number that bits represent: an unsigned number for an unsigned type, two's complement for a signless or
+/// signed type and for index.
 pub fn read_bits(node: &TypeNode, bits: u128) -> Reading
     requires { HasWidth node.now }
     ensures negative { (known : List TypeTerm) → result.negative ≡ int_lt (reading_of (type_from known node.now) bits) (pos 0) }
@@ -51,7 +52,7 @@ pub fn read_bits(node: &TypeNode, bits: u128) -> Reading
     }
 }
 
-/// The greatest number of a width's bits.
+/// Returns the greatest number of `width` bits.
 pub fn mask(width: u32) -> u128
     requires low { 1 ≤ width }
     requires high { width ≤ most_width }
@@ -60,7 +61,7 @@ pub fn mask(width: u32) -> u128
     u128::MAX >> (128 - width)
 }
 
-/// A whole number modulo 2^w.
+/// Returns an integer modulo 2^w.
 pub fn wrapped(width: u32, number: i128) -> u128
     requires low { 1 ≤ width }
     requires high { width ≤ most_width }
@@ -76,7 +77,7 @@ pub fn wrapped(width: u32, number: i128) -> u128
     }
 }
 
-/// The number that w bits are by two's complement.
+/// Returns the two's complement number of w bits.
 pub fn signed_number(width: u32, bits: u128) -> i128
     requires low { 1 ≤ width }
     requires high { width ≤ most_width }
@@ -91,7 +92,7 @@ pub fn signed_number(width: u32, bits: u128) -> i128
     }
 }
 
-/// The bits of a literal of an integer type.
+/// Returns the bits of a literal of an integer type, or `None` if it is out of range.
 fn bits_of_width(sign: Sign, width: u32, negative: bool, magnitude: u128) -> Option<u128>
     requires low { 1 ≤ width }
     requires high { width ≤ most_width }
@@ -104,7 +105,7 @@ fn bits_of_width(sign: Sign, width: u32, negative: bool, magnitude: u128) -> Opt
     }
 }
 
-/// The bits of a number by its sign and magnitude.
+/// Returns the bits of a number given by its sign and magnitude.
 fn complement(width: u32, negative: bool, magnitude: u128) -> u128
     requires low { 1 ≤ width }
     requires high { width ≤ most_width }
@@ -128,7 +129,7 @@ fn unsigned_reading(bits: u128) -> Reading
     }
 }
 
-/// The number that bits are by two's complement.
+/// Returns the two's complement number of bits, by its sign and magnitude.
 fn signed_reading(width: u32, bits: u128) -> Reading
     requires low { 1 ≤ width }
     requires high { width ≤ most_width }

@@ -1,18 +1,18 @@
-//! Why a call is refused.
+//! The reasons for which calls are refused.
 ghost use Rattle.std.specs.Prelude.{◌≡◌};
 ghost use Rattle.ir_types.specs.Refusals.{number_of, word_of};
 
-use ir_types_items::intern::InternFault;
+use ir_types_interner::intern::InternFault;
 use std::alloc::{AllocError, AllocFailed};
 use std::fmt;
 use thiserror::Error;
 
-/// Why a call is refused. Every refusal of the workbench has a number and a word.
+/// The reason for which a call is refused. Every refusal has a number and a word.
 #[derive(Clone, Copy, PartialEq, Eq, Error)]
 pub enum Refusal {
-    /// What stands there begins no token.
+    /// No token starts at this offset.
     BadToken = 1,
-    /// A token that does not fit.
+    /// A token that isn't allowed here.
     Unexpected = 2,
     /// A name that is not bound, or an operand that is not visible.
     UnknownValue = 3,
@@ -34,7 +34,7 @@ pub enum Refusal {
     TooMany = 11,
     /// A key twice in one dictionary.
     DuplicateKey = 12,
-    /// A part of the language that is left out.
+    /// A construct of MLIR that isn't supported.
     LeftOut = 13,
     /// A text that is not UTF-8.
     NotUtf8 = 14,
@@ -52,7 +52,7 @@ pub enum Refusal {
     NoSuchIndex = 25,
     /// No entry with the key.
     NoSuchKey = 26,
-    /// An operation would stand within itself.
+    /// An operation would be inside itself.
     IntoItself = 27,
     /// An operation would leave its symbol table.
     OtherTable = 28,
@@ -60,11 +60,11 @@ pub enum Refusal {
     IsRoot = 29,
     /// A block still holds operations.
     NotEmpty = 30,
-    /// A count of the module would pass its limit.
+    /// A count of the module would exceed its limit.
     Full = 31,
     /// No operation id is left.
     IdsExhausted = 32,
-    /// An operation would stand in too many others.
+    /// An operation would exceed the depth limit.
     TooDeepHere = 33,
     /// Too many marks are open.
     TooManyMarks = 34,
@@ -72,7 +72,7 @@ pub enum Refusal {
     NoMark = 35,
     /// Memory was refused.
     Memory = 36,
-    /// The analysis no longer follows the module.
+    /// The analysis is stale.
     Stale = 40,
     /// No analysis of the kind is attached.
     NoSuchKind = 41,
@@ -82,25 +82,25 @@ pub enum Refusal {
     BadLimit = 50,
     /// An operation that no rule makes legal.
     NotLegalised = 51,
-    /// A chain of rules past its depth.
+    /// A chain of rules beyond the depth limit.
     ChainTooDeep = 52,
-    /// A cast that is left and cannot be lowered.
+    /// A remaining cast that can't be lowered.
     Unreconciled = 53,
     /// A conversion target that contradicts itself.
     BadTarget = 54,
-    /// A line that is no command.
+    /// A line that isn't a command.
     BadCommand = 60,
 }
 
 impl Refusal {
-    /// The number of the refusal.
+    /// Returns the number of the refusal.
     pub fn number(self) -> u32
         ensures { result ≡ number_of self }
     {
         self as u32
     }
 
-    /// The word of the refusal.
+    /// Returns the word of the refusal.
     pub fn word(self) -> &'static str
         ensures { result.now ≡ word_of self }
     {

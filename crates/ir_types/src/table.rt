@@ -1,4 +1,4 @@
-//! What the operation table says of a context's names, and which literals its types have.
+//! Queries of the operation table by ids of a context, and the literals of its types.
 ghost use Rattle.std.specs.Prelude.{◌≡◌, pos, int_lt, unsigned_abs};
 ghost use Rattle.std.specs.Str.{bytes_eq};
 ghost use Rattle.ir_types.specs.Things.{IsType};
@@ -17,7 +17,7 @@ use crate::word::{Word, is_word_number};
 use crate::words::{inherent_number, isolated_number, listed_number, table_number};
 
 impl Context {
-    /// Whether a name is that of a listed operation.
+    /// Returns whether a name is that of a registered operation.
     pub fn listed(&self, name: NameId) -> bool
         ensures { result ≡ is_listed (name_term self.now name) }
     {
@@ -25,8 +25,7 @@ impl Context {
         listed_number(name)
     }
 
-    /// Whether a name is that of an operation through which no value is seen (Traits,
-    /// "IsolatedFromAbove").
+    /// Returns whether a name is that of an operation that is isolated from above (Traits, "IsolatedFromAbove").
     pub fn isolated(&self, name: NameId) -> bool
         ensures { result ≡ is_isolated (name_term self.now name) }
     {
@@ -34,8 +33,7 @@ impl Context {
         isolated_number(name)
     }
 
-    /// Whether a name is that of an operation with a symbol table (Symbols and Symbol Tables,
-    /// "Symbol Table").
+    /// Returns whether a name is that of an operation with a symbol table (Symbols and Symbol Tables, "Symbol Table").
     pub fn table(&self, name: NameId) -> bool
         ensures { result ≡ is_table (name_term self.now name) }
     {
@@ -43,7 +41,7 @@ impl Context {
         table_number(name)
     }
 
-    /// Whether a key is of a listed operation's row, so that its entry is a property (Language
+    /// Returns whether a key is inherent to a registered operation, so that its entry is a property (Language
     /// Reference, "Properties").
     pub fn inherent(&self, op: NameId, key: NameId) -> bool
         ensures { result ≡ is_inherent (name_term self.now op) (name_term self.now key) }
@@ -52,7 +50,7 @@ impl Context {
         inherent_number(op, key)
     }
 
-    /// Whether a name is a word that every context holds. The names' numbers are compared.
+    /// Returns whether a name is this predefined word. Compares ids.
     pub fn is_word(&self, name: NameId, word: Word) -> bool
         ensures { result ≡ bytes_eq (name_term self.now name) (word_bytes word) }
     {
@@ -60,9 +58,9 @@ impl Context {
         is_word_number(name, word)
     }
 
-    /// Whether a literal, by its sign and magnitude, is one of a type: from -2^(w-1) to 2^w - 1 for a
-    /// signless type of w bits, to 2^(w-1) - 1 for a signed one and for index, which has 64 bits, and
-    /// from 0 to 2^w - 1 for an unsigned one. -0 is 0. Other types have no literal.
+    /// Returns whether a literal, given by its sign and magnitude, is in the range of a type: from -2^(w-1) to 2^w - 1
+    /// for a signless type of w bits, to 2^(w-1) - 1 for a signed one and for index, which has 64 bits, and from 0 to
+    /// 2^w - 1 for an unsigned one. -0 is 0. Other types have no literals.
     pub fn fits(&self, ty: TypeId, negative: bool, magnitude: u128) -> bool
         requires { IsType self.now ty }
         ensures { result ≡ is_literal (type_term self.now ty) negative magnitude }
@@ -71,7 +69,8 @@ impl Context {
         is_literal(self.type_node(ty), negative, magnitude)
     }
 
-    /// The bits of a literal, where it is one of the type: the number modulo 2^w.
+    /// Returns the bits of a literal, which are the number modulo 2^w, or `None` if the literal isn't in the range of
+    /// the type.
     pub fn literal_bits(&self, ty: TypeId, negative: bool, magnitude: u128) -> Option<u128>
         requires { IsType self.now ty }
         ensures { result ≡ readings.literal_bits (type_term self.now ty) negative magnitude }
@@ -80,8 +79,8 @@ impl Context {
         literal_bits(self.type_node(ty), negative, magnitude)
     }
 
-    /// The number that bits are read as: as they are of an unsigned type, by two's complement of a
-    /// signless or a signed one and of index.
+    /// Returns the number that bits represent: an unsigned number for an unsigned type, two's complement for a signless
+    /// or signed type and for index.
     pub fn reading(&self, ty: TypeId, bits: u128) -> Reading
         requires { IsType self.now ty }
         ensures negative { result.negative ≡ int_lt (reading_of (type_term self.now ty) bits) (pos 0) }

@@ -1,4 +1,4 @@
-//! What the numbers of a context stand for.
+//! The meanings of a context's ids.
 ghost use Rattle.std.specs.Prelude.{◌≡◌};
 ghost use Rattle.ir_types.specs.Things.{IsName, IsType, IsAttr, TypeIsOf, AttrIsOf};
 ghost use Rattle.ir_types.specs.Terms.{name_term, type_term, type_node_term, attr_term, attr_node_term};
@@ -7,7 +7,7 @@ use crate::context::Context;
 use crate::ids::{AttrId, NameId, TypeId};
 use crate::node::{AttrNode, TypeNode};
 
-/// The bytes of a name.
+/// Returns the bytes of a name.
 pub fn name_of(ctx: &Context, id: NameId) -> &[u8]
     requires { IsName ctx.now id }
     ensures { result.now ≡ name_term ctx.now id }
@@ -15,7 +15,7 @@ pub fn name_of(ctx: &Context, id: NameId) -> &[u8]
     ctx.name_bytes(id)
 }
 
-/// The node of a type.
+/// Returns the node of a type.
 pub fn type_of(ctx: &Context, id: TypeId) -> &TypeNode
     requires { IsType ctx.now id }
     ensures term { type_term ctx.now id ≡ type_node_term ctx.now result.now }
@@ -25,7 +25,7 @@ pub fn type_of(ctx: &Context, id: TypeId) -> &TypeNode
     ctx.type_node(id)
 }
 
-/// The node of an attribute.
+/// Returns the node of an attribute.
 pub fn attr_of(ctx: &Context, id: AttrId) -> &AttrNode
     requires { IsAttr ctx.now id }
     ensures term { attr_term ctx.now id ≡ attr_node_term ctx.now result.now }

@@ -1,15 +1,14 @@
-//! The words that every context holds from the start, each by its name.
+//! The predefined words of every context, as an enum.
 ghost use Rattle.std.specs.Prelude.{◌==◌, ◌≡◌};
 ghost use Rattle.std.specs.Str.{bytes_eq};
-ghost use Rattle.ir_types.specs.Things.{Things};
+ghost use Rattle.ir_types.specs.Things.{ContextModel};
 ghost use Rattle.ir_types.specs.Terms.{name_term};
 ghost use Rattle.ir_types.specs.Sound.{IsSound};
 ghost use Rattle.ir_types.specs.WordNames.{word_bytes, word_number};
 
 use crate::ids::NameId;
 
-/// A word that every context holds: the operations of MLIR's dialects that the workbench knows, the
-/// keys of their properties, and what a visibility may say.
+/// A predefined word: a registered operation of MLIR's dialects, the key of a property, or a visibility.
 #[derive(Clone, Copy)]
 pub enum Word {
     /// `builtin.module`.
@@ -123,7 +122,7 @@ pub enum Word {
 }
 
 impl Word {
-    /// The number that its name has in every context.
+    /// Returns the id that the word has in every context.
     pub fn id(self) -> NameId
         ensures { result ≡ word_number self }
     {
@@ -131,11 +130,11 @@ impl Word {
     }
 }
 
-/// Whether a number is that of a word's name.
+/// Returns whether a name is a word, by its id.
 #[tactic(auto, using(crate::proofs::WordPlaces::word_is))]
 pub fn is_word_number(name: NameId, word: Word) -> bool
     ensures number { result ≡ (name == word_number word) }
-    ensures name { (c : Things) → IsSound c → result ≡ bytes_eq (name_term c name) (word_bytes word) }
+    ensures name { (c : ContextModel) → IsSound c → result ≡ bytes_eq (name_term c name) (word_bytes word) }
 {
     name == word.id()
 }

@@ -1,27 +1,26 @@
-//! The words that every context holds from the start, at fixed numbers.
+//! The predefined words of every context, at fixed ids.
 ghost use Rattle.std.specs.Prelude.{◌==◌, ◌≡◌, ◌<◌, length, map, slice_get, Some};
 ghost use Rattle.std.specs.List.{list_any};
-ghost use Rattle.ir_types.specs.Things.{Things};
+ghost use Rattle.ir_types.specs.Things.{ContextModel};
 ghost use Rattle.ir_types.specs.Terms.{name_term};
 ghost use Rattle.ir_types.specs.Sound.{IsSound};
 ghost use Rattle.ir_types.specs.Words.{words, row_keys, is_listed, is_table, is_isolated, is_inherent, is_listed_number, is_table_number, is_isolated_number, is_inherent_number};
 
 use crate::ids::NameId;
 
-/// How many names are those of listed operations. They come first.
+/// The number of names of registered operations. They are the first words.
 pub const OPERATIONS: u32 = 39;
 
-/// How many words there are.
+/// The number of words.
 pub const WORDS: u32 = 54;
 
-/// The number of `builtin.module`.
+/// The id of `builtin.module`.
 pub const BUILTIN_MODULE: u32 = 0;
 
-/// The number of `func.func`.
+/// The id of `func.func`.
 pub const FUNC_FUNC: u32 = 2;
 
-/// A word, by its number: the operations of MLIR's dialects that the workbench knows, the keys of
-/// their properties, and what a visibility may say.
+/// Returns a word by its id: a registered operation of MLIR's dialects, the key of a property, or a visibility.
 pub fn word(index: u32) -> &'static [u8]
     requires { index < 54 }
     ensures { slice_get words index ≡ Some result.now }
@@ -85,7 +84,7 @@ pub fn word(index: u32) -> &'static [u8]
     entry(&TABLE, index as usize)
 }
 
-/// An entry of a table.
+/// Returns an entry of a table.
 fn entry<'a, T>(table: &[&'a [T]], index: usize) -> &'a [T]
     requires { index < length table.now }
     ensures { slice_get (map (λ b. b.now) table.now) index ≡ Some result.now }
@@ -93,39 +92,39 @@ fn entry<'a, T>(table: &[&'a [T]], index: usize) -> &'a [T]
     table[index]
 }
 
-/// Whether a number is that of a listed operation's name.
+/// Returns whether an id is that of a registered operation's name.
 #[tactic(auto, using(crate::proofs::WordNumbers::listed_is))]
 pub fn listed_number(name: NameId) -> bool
     ensures number { result ≡ is_listed_number name }
-    ensures name { (c : Things) → IsSound c → result ≡ is_listed (name_term c name) }
+    ensures name { (c : ContextModel) → IsSound c → result ≡ is_listed (name_term c name) }
 {
     name.number() < OPERATIONS
 }
 
-/// Whether a number is that of the name of an operation with a symbol table ("Symbols and Symbol
-/// Tables", "Symbol Table").
+/// Returns whether an id is that of the name of an operation with a symbol table ("Symbols and Symbol Tables", "Symbol
+/// Table").
 #[tactic(auto, using(crate::proofs::WordNumbers::table_is))]
 pub fn table_number(name: NameId) -> bool
     ensures number { result ≡ is_table_number name }
-    ensures name { (c : Things) → IsSound c → result ≡ is_table (name_term c name) }
+    ensures name { (c : ContextModel) → IsSound c → result ≡ is_table (name_term c name) }
 {
     name.number() == BUILTIN_MODULE
 }
 
-/// Whether a number is that of the name of an isolated operation ("Traits", "IsolatedFromAbove").
+/// Returns whether an id is that of the name of an isolated operation ("Traits", "IsolatedFromAbove").
 #[tactic(auto, using(crate::proofs::WordNumbers::isolated_is))]
 pub fn isolated_number(name: NameId) -> bool
     ensures number { result ≡ is_isolated_number name }
-    ensures name { (c : Things) → IsSound c → result ≡ is_isolated (name_term c name) }
+    ensures name { (c : ContextModel) → IsSound c → result ≡ is_isolated (name_term c name) }
 {
     name.number() == BUILTIN_MODULE || name.number() == FUNC_FUNC
 }
 
-/// Whether a key's number is of the row of an operation's name.
+/// Returns whether a key is inherent to an operation, by their ids.
 #[tactic(auto, using(crate::proofs::WordNumbers::inherent_is, crate::proofs::WordNumbers::no_row), unfolding(crate::specs::Words::is_inherent_number))]
 pub fn inherent_number(op: NameId, key: NameId) -> bool
     ensures number { result ≡ is_inherent_number op key }
-    ensures name { (c : Things) → IsSound c → result ≡ is_inherent (name_term c op) (name_term c key) }
+    ensures name { (c : ContextModel) → IsSound c → result ≡ is_inherent (name_term c op) (name_term c key) }
 {
     op.number() < OPERATIONS && contains(row(op.number()), key.number())
 }
@@ -136,7 +135,7 @@ fn contains(keys: &[u32], key: u32) -> bool
     keys.contains(&key)
 }
 
-/// The keys of a listed operation's row.
+/// Returns the keys of the properties of a registered operation.
 fn row(op: u32) -> &'static [u32]
     requires { op < 39 }
     ensures { slice_get row_keys op ≡ Some result.now }

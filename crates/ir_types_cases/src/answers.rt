@@ -1,13 +1,13 @@
-//! The answer to a line.
+//! Computes the answer to a line.
 use crate::nodes::{attr_node, type_node};
-use crate::words::{attr_id, bits, bytes, first, literal, name_id, type_id};
+use crate::words::{attr_id, bits, bytes, first_word, literal, name_id, type_id};
 use crate::{ranges, tables, written};
 use ir_types::context::Context;
 use ir_types::node::{AttrNode, TypeNode};
 use ir_types::refusal::Refusal;
 use std::alloc::{AllocError, Global};
 
-/// A number, or a refusal.
+/// Returns a number or a refusal as text.
 fn told(alloc: Global, answer: Result<u32, Refusal>) -> Result<String, AllocError> {
     match answer {
         Ok(number) => written::number(alloc, u128::from(number)),
@@ -21,16 +21,16 @@ fn add_name(context: &mut Context, bytes: &[u8]) -> Result<u32, Refusal> {
 }
 
 fn add_type(context: &mut Context, node: TypeNode) -> Result<u32, Refusal> {
-    let id = ir_types_cases_base::ty(context, node)?;
+    let id = crate::context_calls::ty(context, node)?;
     Ok(id.number())
 }
 
 fn add_attr(context: &mut Context, node: AttrNode) -> Result<u32, Refusal> {
-    let id = ir_types_cases_base::attr(context, node)?;
+    let id = crate::context_calls::attr(context, node)?;
     Ok(id.number())
 }
 
-/// Begins with a new context.
+/// Replaces a context by a new one.
 fn renew(alloc: Global, context: &mut Context) -> Result<u32, Refusal> {
     *context = Context::new(alloc)?;
     Ok(0)
@@ -51,50 +51,55 @@ fn attr(alloc: Global, context: &mut Context, text: &str) -> Result<String, Allo
     told(alloc, add_attr(context, node))
 }
 
-/// Whether a literal is one of a type of the context, and its bits.
+/// Answers whether a literal is in the range of a type of the context, with its bits.
 fn fits(alloc: Global, context: &Context, text: &str) -> Result<String, AllocError> {
-    let (ty, word) = first(text);
+    let (ty, word) = first_word(text);
     let (negative, magnitude) = literal(word);
-    match ir_types_cases_base::fits(context, type_id(ty), negative, magnitude) {
+    match crate::context_calls::fits(context, type_id(ty), negative, magnitude) {
         Some(answer) => {
-            let bits = ir_types_cases_base::literal_bits(context, type_id(ty), negative, magnitude);
+            let bits = crate::context_calls::literal_bits(
+                context,
+                type_id(ty),
+                negative,
+                magnitude,
+            );
             written::literal(alloc, answer, bits)
         }
         None => written::none(alloc),
     }
 }
 
-/// The number that bits are read as.
+/// Answers the number that bits represent.
 fn reading(alloc: Global, context: &Context, text: &str) -> Result<String, AllocError> {
-    let (ty, word) = first(text);
-    match ir_types_cases_base::reading(context, type_id(ty), bits(word)) {
+    let (ty, word) = first_word(text);
+    match crate::context_calls::reading(context, type_id(ty), bits(word)) {
         Some(answer) => written::reading(alloc, &answer),
         None => written::none(alloc),
     }
 }
 
 fn known_name(alloc: Global, context: &Context, text: &str) -> Result<String, AllocError> {
-    match ir_types_cases_base::name_bytes(context, name_id(text)) {
+    match crate::context_calls::name_bytes(context, name_id(text)) {
         Some(bytes) => written::name(alloc, bytes),
         None => written::none(alloc),
     }
 }
 
 fn known_type(alloc: Global, context: &Context, text: &str) -> Result<String, AllocError> {
-    match ir_types_cases_base::type_node(context, type_id(text)) {
+    match crate::context_calls::type_node(context, type_id(text)) {
         Some(node) => written::ty(alloc, node),
         None => written::none(alloc),
     }
 }
 
 fn known_attr(alloc: Global, context: &Context, text: &str) -> Result<String, AllocError> {
-    match ir_types_cases_base::attr_node(context, attr_id(text)) {
+    match crate::context_calls::attr_node(context, attr_id(text)) {
         Some(node) => written::attr(alloc, node),
         None => written::none(alloc),
     }
 }
 
-/// Whether the context has a name, a type and an attribute with the number.
+/// Answers whether the context has a name, a type and an attribute with this id.
 fn has(alloc: Global, context: &Context, text: &str) -> Result<String, AllocError> {
     let name = context.has_name(name_id(text));
     let ty = context.has_type(type_id(text));
@@ -102,7 +107,7 @@ fn has(alloc: Global, context: &Context, text: &str) -> Result<String, AllocErro
     written::three(alloc, [name, ty, attr])
 }
 
-/// What is known of a context; what is no call of it is for the others.
+/// Answers a read of a context. Other calls are passed to `ranges::answer`.
 fn known(alloc: Global, context: &Context, call: &str, rest: &str) -> Result<String, AllocError> {
     match call {
         "fits" => fits(alloc, context, rest),
@@ -118,9 +123,9 @@ fn known(alloc: Global, context: &Context, call: &str, rest: &str) -> Result<Str
     }
 }
 
-/// The answer to a line.
+/// Returns the answer to a line.
 pub fn answer(alloc: Global, context: &mut Context, line: &str) -> Result<String, AllocError> {
-    let (call, rest) = first(line);
+    let (call, rest) = first_word(line);
     match call {
         "name" => name(alloc, context, rest),
         "type" => ty(alloc, context, rest),

@@ -1,7 +1,8 @@
-//! Answers the calls of a context that standard input has, one a line, one answer a line.
+//! Answers calls of a context. Standard input has one call a line, and each is answered with one line.
 #![tactic(auto)]
 
 mod answers;
+mod context_calls;
 mod nodes;
 mod ranges;
 mod tables;

@@ -1,5 +1,5 @@
-//! The nodes that a line names.
-use crate::words::{attr_id, bits, dimension, first, name_id, number, signed, type_id};
+//! Parses the nodes in a line.
+use crate::words::{attr_id, bits, dimension, first_word, name_id, number, signed, type_id};
 use ir_types::Items;
 use ir_types::ids::{AttrId, NameId, TypeId};
 use ir_types::node::{AttrNode, Sign, TypeNode};
@@ -45,7 +45,7 @@ fn dimensions(alloc: Global, text: &str) -> Result<Items<Option<u64>>, AllocErro
     Ok(Items::new(items))
 }
 
-/// Entries, as `1:2 0:3`.
+/// Parses entries: `1:2 0:3`.
 fn entries(alloc: Global, text: &str) -> Result<Items<(NameId, AttrId)>, AllocError> {
     let mut items = Vec::new(alloc);
     for word in text.split_whitespace() {
@@ -70,20 +70,20 @@ fn function(alloc: Global, text: &str) -> Result<TypeNode, AllocError> {
 }
 
 fn memref(alloc: Global, text: &str) -> Result<TypeNode, AllocError> {
-    let (elem, dims) = first(text);
+    let (elem, dims) = first_word(text);
     let elem = type_id(elem);
     let dims = dimensions(alloc, dims)?;
     Ok(TypeNode::Memref { dims, elem })
 }
 
-/// The bytes of a text.
+/// Returns the bytes of a text.
 fn bytes(alloc: Global, text: &str) -> Result<Items<u8>, AllocError> {
     Ok(Items::new(Vec::from_slice(alloc, text.as_bytes())?))
 }
 
-/// A type: `i 8`, `si 8`, `ui 8`, `func 0 1 > 2`, `memref 0 4 ?`, `opaque f32`, and `index` for anything else.
+/// Parses a type: `i 8`, `si 8`, `ui 8`, `func 0 1 > 2`, `memref 0 4 ?`, `opaque f32`; any other word is `index`.
 pub fn type_node(alloc: Global, text: &str) -> Result<TypeNode, AllocError> {
-    let (kind, rest) = first(text);
+    let (kind, rest) = first_word(text);
     match kind {
         "i" => Ok(integer(Sign::Signless, rest)),
         "si" => Ok(integer(Sign::Signed, rest)),
@@ -96,7 +96,7 @@ pub fn type_node(alloc: Global, text: &str) -> Result<TypeNode, AllocError> {
 }
 
 fn int(text: &str) -> AttrNode {
-    let (ty, value) = first(text);
+    let (ty, value) = first_word(text);
     AttrNode::Int {
         ty: type_id(ty),
         value: bits(value),
@@ -104,7 +104,7 @@ fn int(text: &str) -> AttrNode {
 }
 
 fn overflow(text: &str) -> AttrNode {
-    let (nsw, nuw) = first(text);
+    let (nsw, nuw) = first_word(text);
     AttrNode::Overflow {
         nsw: nsw == "1",
         nuw: nuw == "1",
@@ -112,24 +112,24 @@ fn overflow(text: &str) -> AttrNode {
 }
 
 fn dense(alloc: Global, text: &str) -> Result<AttrNode, AllocError> {
-    let (elem, rest) = first(text);
+    let (elem, rest) = first_word(text);
     let elem = type_id(elem);
     let values = values(alloc, rest)?;
     Ok(AttrNode::Dense { elem, values })
 }
 
-/// An opaque attribute: `0 1.0` of type 0, and `- #d.a` of none.
+/// Parses an opaque attribute: `0 1.0` with type 0, and `- #d.a` without a type.
 fn opaque(alloc: Global, words: &str) -> Result<AttrNode, AllocError> {
-    let (ty, rest) = first(words);
+    let (ty, rest) = first_word(words);
     let text = bytes(alloc, rest)?;
     let ty = if ty == "-" { None } else { Some(type_id(ty)) };
     Ok(AttrNode::Opaque { text, ty })
 }
 
-/// An attribute: `int 0 1`, `str 0`, `ty 0`, `array 0 1`, `dict 0:1 1:1`, `sym 0 1`, `dense 0 1 1`,
-/// `overflow 1 0`, `opaque 0 1.0`, and `unit` for anything else.
+/// Parses an attribute: `int 0 1`, `str 0`, `ty 0`, `array 0 1`, `dict 0:1 1:1`, `sym 0 1`, `dense 0 1 1`, `overflow 1
+/// 0`, `opaque 0 1.0`; any other word is `unit`.
 pub fn attr_node(alloc: Global, text: &str) -> Result<AttrNode, AllocError> {
-    let (kind, rest) = first(text);
+    let (kind, rest) = first_word(text);
     match kind {
         "int" => Ok(int(rest)),
         "str" => Ok(AttrNode::Str(name_id(rest))),

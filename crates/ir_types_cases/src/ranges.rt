@@ -1,10 +1,10 @@
-//! What is said of types and of bits without a context.
+//! Answers about types and bits that need no context.
 ghost use Rattle.std.specs.Prelude.{◌≡◌, IsTrue};
 ghost use Rattle.ir_types.specs.Bits.{HasWidth};
 ghost use Rattle.ir_types.specs.Reasons.{is_width as fits_width};
 
 use crate::nodes::type_node;
-use crate::words::{bits, first, literal, number, wide};
+use crate::words::{bits, first_word, literal, number, wide};
 use crate::written;
 use ir_types::bits::{Bits, BitsKind};
 use ir_types::limits::MOST_WIDTH;
@@ -13,14 +13,14 @@ use ir_types::range::{half, is_bits, is_literal, is_value};
 use ir_types::readings::{literal_bits, mask, read_bits};
 use std::alloc::{AllocError, Global};
 
-/// Whether a width is that of an integer type.
+/// Returns whether an integer type may have this width.
 fn is_width(width: u32) -> bool
     ensures { result ≡ fits_width width }
 {
     0 < width && width <= MOST_WIDTH
 }
 
-/// Whether a type that is an integer has a width that it may have.
+/// Returns true only if the width of a type, if it is an integer type, is in range.
 fn has_width(node: &TypeNode) -> bool
     ensures { IsTrue result → HasWidth node.now }
 {
@@ -31,7 +31,7 @@ fn has_width(node: &TypeNode) -> bool
     }
 }
 
-/// Whether a literal is one of a type, and its bits.
+/// Answers whether a literal is in the range of a type, with its bits.
 fn literal_of(alloc: Global, node: &TypeNode, word: &str) -> Result<String, AllocError> {
     if !has_width(node) {
         return written::none(alloc);
@@ -41,7 +41,7 @@ fn literal_of(alloc: Global, node: &TypeNode, word: &str) -> Result<String, Allo
     written::literal(alloc, answer, literal_bits(node, negative, magnitude))
 }
 
-/// Whether a number is a value of a type as it is printed.
+/// Answers whether a number is a value of a type in printed form.
 fn value_of(alloc: Global, node: &TypeNode, word: &str) -> Result<String, AllocError> {
     if !has_width(node) {
         return written::none(alloc);
@@ -49,7 +49,7 @@ fn value_of(alloc: Global, node: &TypeNode, word: &str) -> Result<String, AllocE
     written::truth(alloc, is_value(node, wide(word)))
 }
 
-/// Whether a number is the bits of a type's integer, and what it is read as.
+/// Answers whether a number is the bits of a type's integer, with the number that they represent.
 fn bits_of(alloc: Global, node: &TypeNode, word: &str) -> Result<String, AllocError> {
     if !has_width(node) {
         return written::none(alloc);
@@ -60,7 +60,7 @@ fn bits_of(alloc: Global, node: &TypeNode, word: &str) -> Result<String, AllocEr
     written::reading(alloc, &read_bits(node, bits(word)))
 }
 
-/// What is said of `i 8 : -128`.
+/// Answers a question about a type and a number: `i 8 : -128`.
 fn node_answer(alloc: Global, call: &str, text: &str) -> Result<String, AllocError> {
     let (ty, word) = text.split_once(" : ").unwrap_or((text, ""));
     let node = type_node(alloc, ty)?;
@@ -71,7 +71,7 @@ fn node_answer(alloc: Global, call: &str, text: &str) -> Result<String, AllocErr
     }
 }
 
-/// `index`, or a width.
+/// Parses a kind: `index`, or a width.
 fn kind(word: &str) -> BitsKind {
     if word == "index" {
         BitsKind::Index
@@ -80,22 +80,22 @@ fn kind(word: &str) -> BitsKind {
     }
 }
 
-/// The number of known bits.
+/// Answers the number of a constant, given by its bits.
 fn known(alloc: Global, text: &str) -> Result<String, AllocError> {
-    let (word, value) = first(text);
+    let (word, value) = first_word(text);
     match Bits::new(kind(word), bits(value)) {
         Some(bits) => written::both(alloc, bits.value, bits.number()),
         None => written::none(alloc),
     }
 }
 
-/// The bits of an index that are those of a number.
+/// Answers the bits of a number of index.
 fn index_of(alloc: Global, number: i128) -> Result<String, AllocError> {
     let bits = Bits::from_number(BitsKind::Index, number);
     written::both(alloc, bits.value, bits.number())
 }
 
-/// The bits of a width that are those of a number.
+/// Answers the bits of a number of a width.
 fn int_of(alloc: Global, width: u32, number: i128) -> Result<String, AllocError> {
     if width == 0 || width > MOST_WIDTH {
         return written::none(alloc);
@@ -104,9 +104,9 @@ fn int_of(alloc: Global, width: u32, number: i128) -> Result<String, AllocError>
     written::both(alloc, bits.value, bits.number())
 }
 
-/// The bits of a number, and the number of these.
+/// Answers the bits of a number, and the number that they represent.
 fn from_number(alloc: Global, text: &str) -> Result<String, AllocError> {
-    let (word, value) = first(text);
+    let (word, value) = first_word(text);
     if word == "index" {
         index_of(alloc, wide(value))
     } else {
@@ -114,7 +114,7 @@ fn from_number(alloc: Global, text: &str) -> Result<String, AllocError> {
     }
 }
 
-/// The greatest bits of a width, and half of how many there are.
+/// Answers the greatest bits of a width, and half the number of its values.
 fn width(alloc: Global, width: u32) -> Result<String, AllocError> {
     if width == 0 || width > MOST_WIDTH {
         return written::none(alloc);
@@ -122,7 +122,7 @@ fn width(alloc: Global, width: u32) -> Result<String, AllocError> {
     written::two(alloc, mask(width), half(width))
 }
 
-/// The answer to a line that needs no context.
+/// Returns the answer to a line that needs no context.
 pub fn answer(alloc: Global, call: &str, text: &str) -> Result<String, AllocError> {
     match call {
         "literal" | "value" | "bits" => node_answer(alloc, call, text),

@@ -1,12 +1,12 @@
-//! What the table of words says of names.
-use crate::words::{first, name_id};
+//! Queries of the table of words by names.
+use crate::words::{first_word, name_id};
 use crate::written;
 use ir_types::context::Context;
 use ir_types::ids::NameId;
 use ir_types::word::Word;
 use std::alloc::{AllocError, Global};
 
-/// Whether an operation is listed, has a symbol table, and is isolated.
+/// Answers whether an operation is registered, has a symbol table, and is isolated.
 pub fn row(alloc: Global, context: &Context, text: &str) -> Result<String, AllocError> {
     let id = name_id(text);
     let listed = context.listed(id);
@@ -15,9 +15,9 @@ pub fn row(alloc: Global, context: &Context, text: &str) -> Result<String, Alloc
     written::three(alloc, [listed, table, isolated])
 }
 
-/// Whether a key is one of an operation's row.
+/// Answers whether a key is inherent to an operation.
 pub fn inherent(alloc: Global, context: &Context, text: &str) -> Result<String, AllocError> {
-    let (op, key) = first(text);
+    let (op, key) = first_word(text);
     written::truth(alloc, context.inherent(name_id(op), name_id(key)))
 }
 
@@ -79,26 +79,31 @@ const WORDS: [Word; 54] = [
     Word::Nested,
 ];
 
-/// Writes the number of a word that a name is.
-fn put_word(out: &mut String, context: &Context, id: NameId, word: Word) -> Result<(), AllocError> {
+/// Writes the id of a word, if a name is that word.
+fn write_word(
+    out: &mut String,
+    context: &Context,
+    id: NameId,
+    word: Word,
+) -> Result<(), AllocError> {
     if context.is_word(id, word) {
-        written::put_id(out, " ", word.id().number())
+        written::write_id(out, " ", word.id().number())
     } else {
         Ok(())
     }
 }
 
-fn put_words(out: &mut String, context: &Context, id: NameId) -> Result<(), AllocError> {
+fn write_words(out: &mut String, context: &Context, id: NameId) -> Result<(), AllocError> {
     out.push_str("words:")?;
     for word in WORDS {
-        put_word(out, context, id, word)?;
+        write_word(out, context, id, word)?;
     }
     Ok(())
 }
 
-/// The words that a name is.
+/// Answers the words that a name is.
 pub fn word(alloc: Global, context: &Context, text: &str) -> Result<String, AllocError> {
     let mut out = String::new(alloc);
-    put_words(&mut out, context, name_id(text))?;
+    write_words(&mut out, context, name_id(text))?;
     Ok(out)
 }

@@ -1,28 +1,28 @@
-//! The words of a line.
+//! Parses the words of a line.
 use ir_types::ids::{AttrId, NameId, TypeId};
 use std::alloc::{AllocError, Global};
 
-/// The first word of a text, and what stands behind it.
-pub fn first(text: &str) -> (&str, &str) {
+/// Returns the first word of a text, and the rest of the text after it.
+pub fn first_word(text: &str) -> (&str, &str) {
     text.split_once(' ').unwrap_or((text, ""))
 }
 
-/// A number, or 4294967295 where the word is none.
+/// Parses a number. Returns 4294967295 if the word isn't a number.
 pub fn number(word: &str) -> u32 {
     word.parse::<u32>().unwrap_or(u32::MAX)
 }
 
-/// A number of 128 bits, or the greatest where the word is none.
+/// Parses a number of 128 bits. Returns the greatest one if the word isn't a number.
 pub fn bits(word: &str) -> u128 {
     word.parse::<u128>().unwrap_or(u128::MAX)
 }
 
-/// A signed number of 128 bits, or the least where the word is none.
+/// Parses a signed number of 128 bits. Returns the least one if the word isn't a number.
 pub fn wide(word: &str) -> i128 {
     word.parse::<i128>().unwrap_or(i128::MIN)
 }
 
-/// A literal by its sign and magnitude, as `-128`.
+/// Parses a literal, as its sign and magnitude: `-128`.
 pub fn literal(word: &str) -> (bool, u128) {
     match word.strip_prefix('-') {
         Some(digits) => (true, bits(digits)),
@@ -30,29 +30,32 @@ pub fn literal(word: &str) -> (bool, u128) {
     }
 }
 
-/// A number of 64 bits.
+/// Parses a signed number of 64 bits. Returns the least one if the word isn't a number.
 pub fn signed(word: &str) -> i64 {
     word.parse::<i64>().unwrap_or(i64::MIN)
 }
 
-/// A dimension: a number, or `?`.
+/// Parses a dimension: a number, or `?`.
 pub fn dimension(word: &str) -> Option<u64> {
     word.parse::<u64>().ok()
 }
 
+/// Parses the id of a type.
 pub fn type_id(word: &str) -> TypeId {
     TypeId::new(number(word))
 }
 
+/// Parses the id of an attribute.
 pub fn attr_id(word: &str) -> AttrId {
     AttrId::new(number(word))
 }
 
+/// Parses the id of a name.
 pub fn name_id(word: &str) -> NameId {
     NameId::new(number(word))
 }
 
-/// A hexadecimal digit's value.
+/// Returns the value of a hexadecimal digit.
 fn digit(byte: u8) -> u8 {
     match byte {
         b'0'..=b'9' => byte - b'0',
@@ -61,8 +64,8 @@ fn digit(byte: u8) -> u8 {
     }
 }
 
-/// Puts what stands behind a `\`.
-fn put_piece(out: &mut Vec<u8>, piece: &[u8]) -> Result<(), AllocError> {
+/// Writes the bytes of the text after a `\`.
+fn write_piece(out: &mut Vec<u8>, piece: &[u8]) -> Result<(), AllocError> {
     match piece {
         [b'x', high, low, rest @ ..] => {
             out.push(digit(*high).wrapping_mul(16).wrapping_add(digit(*low)))?;
@@ -72,19 +75,19 @@ fn put_piece(out: &mut Vec<u8>, piece: &[u8]) -> Result<(), AllocError> {
     }
 }
 
-/// Puts the bytes of a text, and those of each piece that stands behind a `\`.
-fn put_text(out: &mut Vec<u8>, text: &str) -> Result<(), AllocError> {
+/// Writes the bytes of a text, and those of each piece after a `\`.
+fn write_text(out: &mut Vec<u8>, text: &str) -> Result<(), AllocError> {
     let (plain, rest) = text.split_once('\\').unwrap_or((text, ""));
     out.extend_from_slice(plain.as_bytes())?;
     for piece in rest.split('\\') {
-        put_piece(out, piece.as_bytes())?;
+        write_piece(out, piece.as_bytes())?;
     }
     Ok(())
 }
 
-/// The bytes that a text stands for, where `\xff` is a byte.
+/// Returns the bytes of a text in which `\xff` is a byte.
 pub fn bytes(alloc: Global, text: &str) -> Result<Vec<u8>, AllocError> {
     let mut out = Vec::new(alloc);
-    put_text(&mut out, text)?;
+    write_text(&mut out, text)?;
     Ok(out)
 }

@@ -1,4 +1,4 @@
-//! Names, types and attributes as a line names them.
+//! Writes names, types and attributes as words of a line.
 use ir_types::ids::{AttrId, NameId, TypeId};
 use ir_types::node::{AttrNode, Sign, TypeNode};
 use ir_types::readings::Reading;
@@ -6,56 +6,56 @@ use ir_types::refusal::Refusal;
 use std::alloc::{AllocError, Global};
 use std::fmt::Write;
 
-/// Writes a number behind a text.
-fn put_number(out: &mut String, before: &str, number: u128) -> Result<(), AllocError> {
+/// Writes a text followed by a number.
+fn write_number(out: &mut String, before: &str, number: u128) -> Result<(), AllocError> {
     write!(out, "{before}{number}")
 }
 
-/// Writes a number that a type, an attribute or a name has, behind a text.
-pub fn put_id(out: &mut String, before: &str, id: u32) -> Result<(), AllocError> {
-    put_number(out, before, u128::from(id))
+/// Writes a text followed by the id of a type, an attribute or a name.
+pub fn write_id(out: &mut String, before: &str, id: u32) -> Result<(), AllocError> {
+    write_number(out, before, u128::from(id))
 }
 
-fn put_types(out: &mut String, ids: &[TypeId]) -> Result<(), AllocError> {
+fn write_types(out: &mut String, ids: &[TypeId]) -> Result<(), AllocError> {
     for id in ids {
-        put_id(out, " ", id.number())?;
+        write_id(out, " ", id.number())?;
     }
     Ok(())
 }
 
-fn put_attrs(out: &mut String, ids: &[AttrId]) -> Result<(), AllocError> {
+fn write_attrs(out: &mut String, ids: &[AttrId]) -> Result<(), AllocError> {
     for id in ids {
-        put_id(out, " ", id.number())?;
+        write_id(out, " ", id.number())?;
     }
     Ok(())
 }
 
-fn put_names(out: &mut String, ids: &[NameId]) -> Result<(), AllocError> {
+fn write_names(out: &mut String, ids: &[NameId]) -> Result<(), AllocError> {
     for id in ids {
-        put_id(out, " ", id.number())?;
+        write_id(out, " ", id.number())?;
     }
     Ok(())
 }
 
-fn put_values(out: &mut String, values: &[i64]) -> Result<(), AllocError> {
+fn write_values(out: &mut String, values: &[i64]) -> Result<(), AllocError> {
     for value in values {
         write!(out, " {value}")?;
     }
     Ok(())
 }
 
-fn put_entries(out: &mut String, entries: &[(NameId, AttrId)]) -> Result<(), AllocError> {
+fn write_entries(out: &mut String, entries: &[(NameId, AttrId)]) -> Result<(), AllocError> {
     for entry in entries {
-        put_id(out, " ", entry.0.number())?;
-        put_id(out, ":", entry.1.number())?;
+        write_id(out, " ", entry.0.number())?;
+        write_id(out, ":", entry.1.number())?;
     }
     Ok(())
 }
 
-fn put_dimensions(out: &mut String, dimensions: &[Option<u64>]) -> Result<(), AllocError> {
+fn write_dimensions(out: &mut String, dimensions: &[Option<u64>]) -> Result<(), AllocError> {
     for dimension in dimensions {
         match dimension {
-            Some(size) => put_number(out, " ", u128::from(*size))?,
+            Some(size) => write_number(out, " ", u128::from(*size))?,
             None => out.push_str(" ?")?,
         }
     }
@@ -70,166 +70,170 @@ fn prefix(sign: Sign) -> &'static str {
     }
 }
 
-fn put_function(out: &mut String, inputs: &[TypeId], outputs: &[TypeId]) -> Result<(), AllocError> {
+fn write_function(
+    out: &mut String,
+    inputs: &[TypeId],
+    outputs: &[TypeId],
+) -> Result<(), AllocError> {
     out.push_str("func")?;
-    put_types(out, inputs)?;
+    write_types(out, inputs)?;
     out.push_str(" >")?;
-    put_types(out, outputs)
+    write_types(out, outputs)
 }
 
-fn put_memref(
+fn write_memref(
     out: &mut String,
     elem: TypeId,
     dimensions: &[Option<u64>],
 ) -> Result<(), AllocError> {
-    put_id(out, "memref ", elem.number())?;
-    put_dimensions(out, dimensions)
+    write_id(out, "memref ", elem.number())?;
+    write_dimensions(out, dimensions)
 }
 
-fn put_type(out: &mut String, node: &TypeNode) -> Result<(), AllocError> {
+fn write_type(out: &mut String, node: &TypeNode) -> Result<(), AllocError> {
     match node {
-        TypeNode::Int { sign, width } => put_id(out, prefix(*sign), *width),
+        TypeNode::Int { sign, width } => write_id(out, prefix(*sign), *width),
         TypeNode::Index => out.push_str("index"),
         TypeNode::Func { inputs, outputs } => {
-            put_function(out, inputs.as_slice(), outputs.as_slice())
+            write_function(out, inputs.as_slice(), outputs.as_slice())
         }
-        TypeNode::Memref { dims, elem } => put_memref(out, *elem, dims.as_slice()),
+        TypeNode::Memref { dims, elem } => write_memref(out, *elem, dims.as_slice()),
         TypeNode::Opaque(text) => {
             out.push_str("opaque ")?;
-            put_bytes(out, text.as_slice())
+            write_bytes(out, text.as_slice())
         }
     }
 }
 
-fn put_dense(out: &mut String, elem: TypeId, values: &[i64]) -> Result<(), AllocError> {
-    put_id(out, "dense ", elem.number())?;
-    put_values(out, values)
+fn write_dense(out: &mut String, elem: TypeId, values: &[i64]) -> Result<(), AllocError> {
+    write_id(out, "dense ", elem.number())?;
+    write_values(out, values)
 }
 
-fn put_int(out: &mut String, ty: TypeId, bits: u128) -> Result<(), AllocError> {
-    put_id(out, "int ", ty.number())?;
-    put_number(out, " ", bits)
+fn write_int(out: &mut String, ty: TypeId, bits: u128) -> Result<(), AllocError> {
+    write_id(out, "int ", ty.number())?;
+    write_number(out, " ", bits)
 }
 
-fn put_flags(out: &mut String, nsw: bool, nuw: bool) -> Result<(), AllocError> {
-    put_id(out, "overflow ", u32::from(nsw))?;
-    put_id(out, " ", u32::from(nuw))
+fn write_flags(out: &mut String, nsw: bool, nuw: bool) -> Result<(), AllocError> {
+    write_id(out, "overflow ", u32::from(nsw))?;
+    write_id(out, " ", u32::from(nuw))
 }
 
-fn put_array(out: &mut String, ids: &[AttrId]) -> Result<(), AllocError> {
+fn write_array(out: &mut String, ids: &[AttrId]) -> Result<(), AllocError> {
     out.push_str("array")?;
-    put_attrs(out, ids)
+    write_attrs(out, ids)
 }
 
-fn put_dictionary(out: &mut String, entries: &[(NameId, AttrId)]) -> Result<(), AllocError> {
+fn write_dictionary(out: &mut String, entries: &[(NameId, AttrId)]) -> Result<(), AllocError> {
     out.push_str("dict")?;
-    put_entries(out, entries)
+    write_entries(out, entries)
 }
 
-fn put_symbol(out: &mut String, parts: &[NameId]) -> Result<(), AllocError> {
+fn write_symbol(out: &mut String, parts: &[NameId]) -> Result<(), AllocError> {
     out.push_str("sym")?;
-    put_names(out, parts)
+    write_names(out, parts)
 }
 
-fn put_opaque(out: &mut String, text: &[u8], ty: Option<TypeId>) -> Result<(), AllocError> {
+fn write_opaque(out: &mut String, text: &[u8], ty: Option<TypeId>) -> Result<(), AllocError> {
     match ty {
-        Some(ty) => put_id(out, "opaque ", ty.number())?,
+        Some(ty) => write_id(out, "opaque ", ty.number())?,
         None => out.push_str("opaque -")?,
     }
     out.push_str(" ")?;
-    put_bytes(out, text)
+    write_bytes(out, text)
 }
 
-fn put_attr(out: &mut String, node: &AttrNode) -> Result<(), AllocError> {
+fn write_attr(out: &mut String, node: &AttrNode) -> Result<(), AllocError> {
     match node {
-        AttrNode::Int { ty, value } => put_int(out, *ty, *value),
-        AttrNode::Str(name) => put_id(out, "str ", name.number()),
-        AttrNode::Ty(ty) => put_id(out, "ty ", ty.number()),
+        AttrNode::Int { ty, value } => write_int(out, *ty, *value),
+        AttrNode::Str(name) => write_id(out, "str ", name.number()),
+        AttrNode::Ty(ty) => write_id(out, "ty ", ty.number()),
         AttrNode::Unit => out.push_str("unit"),
-        AttrNode::Array(items) => put_array(out, items.as_slice()),
-        AttrNode::Dict(entries) => put_dictionary(out, entries.as_slice()),
-        AttrNode::Sym(parts) => put_symbol(out, parts.as_slice()),
-        AttrNode::Dense { elem, values } => put_dense(out, *elem, values.as_slice()),
-        AttrNode::Overflow { nsw, nuw } => put_flags(out, *nsw, *nuw),
-        AttrNode::Opaque { text, ty } => put_opaque(out, text.as_slice(), *ty),
+        AttrNode::Array(items) => write_array(out, items.as_slice()),
+        AttrNode::Dict(entries) => write_dictionary(out, entries.as_slice()),
+        AttrNode::Sym(parts) => write_symbol(out, parts.as_slice()),
+        AttrNode::Dense { elem, values } => write_dense(out, *elem, values.as_slice()),
+        AttrNode::Overflow { nsw, nuw } => write_flags(out, *nsw, *nuw),
+        AttrNode::Opaque { text, ty } => write_opaque(out, text.as_slice(), *ty),
     }
 }
 
-/// Puts a byte of a name.
-fn put_byte(out: &mut String, byte: u8) -> Result<(), AllocError> {
+/// Writes a byte of a name.
+fn write_byte(out: &mut String, byte: u8) -> Result<(), AllocError> {
     match byte {
         b' '..=b'~' => out.push(char::from(byte)),
         _ => write!(out, "\\x{byte:02x}"),
     }
 }
 
-fn put_bytes(out: &mut String, bytes: &[u8]) -> Result<(), AllocError> {
+fn write_bytes(out: &mut String, bytes: &[u8]) -> Result<(), AllocError> {
     for byte in bytes {
-        put_byte(out, *byte)?;
+        write_byte(out, *byte)?;
     }
     Ok(())
 }
 
-fn put_name(out: &mut String, bytes: &[u8]) -> Result<(), AllocError> {
+fn write_name(out: &mut String, bytes: &[u8]) -> Result<(), AllocError> {
     out.push('[')?;
-    put_bytes(out, bytes)?;
+    write_bytes(out, bytes)?;
     out.push(']')
 }
 
-/// A name between brackets.
+/// Returns a name in brackets.
 pub fn name(alloc: Global, bytes: &[u8]) -> Result<String, AllocError> {
     let mut out = String::new(alloc);
-    put_name(&mut out, bytes)?;
+    write_name(&mut out, bytes)?;
     Ok(out)
 }
 
-/// A type.
+/// Returns a type as text.
 pub fn ty(alloc: Global, node: &TypeNode) -> Result<String, AllocError> {
     let mut out = String::new(alloc);
-    put_type(&mut out, node)?;
+    write_type(&mut out, node)?;
     Ok(out)
 }
 
-/// An attribute.
+/// Returns an attribute as text.
 pub fn attr(alloc: Global, node: &AttrNode) -> Result<String, AllocError> {
     let mut out = String::new(alloc);
-    put_attr(&mut out, node)?;
+    write_attr(&mut out, node)?;
     Ok(out)
 }
 
-/// A number that was read of bits, with a minus also where it is 0 and said to be negative.
+/// Returns the number that bits represent as text, with a minus also for a negative 0.
 pub fn reading(alloc: Global, reading: &Reading) -> Result<String, AllocError> {
     signed(alloc, reading.negative, reading.magnitude)
 }
 
-/// A number by its sign and magnitude.
+/// Returns a number as text, given by its sign and magnitude.
 fn signed(alloc: Global, negative: bool, magnitude: u128) -> Result<String, AllocError> {
     let mut out = String::new(alloc);
-    put_number(&mut out, if negative { "-" } else { "" }, magnitude)?;
+    write_number(&mut out, if negative { "-" } else { "" }, magnitude)?;
     Ok(out)
 }
 
-/// A number.
+/// Returns a number as text.
 pub fn number(alloc: Global, number: u128) -> Result<String, AllocError> {
     signed(alloc, false, number)
 }
 
-/// Two numbers.
+/// Returns two numbers as text.
 pub fn two(alloc: Global, one: u128, other: u128) -> Result<String, AllocError> {
     format!(in alloc; "{one} {other}")
 }
 
-/// Bits, and the number that they are.
+/// Returns bits, and the number that they represent, as text.
 pub fn both(alloc: Global, one: u128, other: i128) -> Result<String, AllocError> {
     format!(in alloc; "{one} {other}")
 }
 
-/// A refusal.
+/// Returns a refusal as text.
 pub fn refusal(alloc: Global, refusal: Refusal) -> Result<String, AllocError> {
     format!(in alloc; "{refusal}")
 }
 
-/// A word.
+/// Returns a word as text.
 pub fn word(alloc: Global, word: &str) -> Result<String, AllocError> {
     String::from_str(alloc, word)
 }
@@ -238,31 +242,31 @@ fn truth_word(answer: bool) -> &'static str {
     if answer { "true" } else { "false" }
 }
 
-/// `true` or `false`.
+/// Returns `true` or `false`.
 pub fn truth(alloc: Global, answer: bool) -> Result<String, AllocError> {
     word(alloc, truth_word(answer))
 }
 
-fn put_truth(out: &mut String, before: &str, answer: bool) -> Result<(), AllocError> {
+fn write_truth(out: &mut String, before: &str, answer: bool) -> Result<(), AllocError> {
     out.push_str(before)?;
     out.push_str(truth_word(answer))
 }
 
-fn put_three(out: &mut String, answers: [bool; 3]) -> Result<(), AllocError> {
+fn write_three(out: &mut String, answers: [bool; 3]) -> Result<(), AllocError> {
     let [one, two, three] = answers;
-    put_truth(out, "", one)?;
-    put_truth(out, " ", two)?;
-    put_truth(out, " ", three)
+    write_truth(out, "", one)?;
+    write_truth(out, " ", two)?;
+    write_truth(out, " ", three)
 }
 
-/// Three answers.
+/// Returns three answers as text.
 pub fn three(alloc: Global, answers: [bool; 3]) -> Result<String, AllocError> {
     let mut out = String::new(alloc);
-    put_three(&mut out, answers)?;
+    write_three(&mut out, answers)?;
     Ok(out)
 }
 
-/// Whether a literal is one of a type, and its bits.
+/// Returns whether a literal is in the range of a type, and its bits, as text.
 pub fn literal(alloc: Global, answer: bool, bits: Option<u128>) -> Result<String, AllocError> {
     match bits {
         Some(bits) => format!(in alloc; "{answer} {bits}"),
@@ -270,7 +274,7 @@ pub fn literal(alloc: Global, answer: bool, bits: Option<u128>) -> Result<String
     }
 }
 
-/// `none`.
+/// Returns `none`.
 pub fn none(alloc: Global) -> Result<String, AllocError> {
     word(alloc, "none")
 }

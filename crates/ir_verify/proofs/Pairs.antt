@@ -1,4 +1,4 @@
--- The rows of diagnostics are those of the pairs of an operation and a rule that is told of it, rising.
+-- The rows of diagnostics are those of the pairs of an operation and a reported rule, in ascending order.
 use Rattle.std.proofs.Common.{◌≡◌, refl, sym, ap, ◌∙◌, subst, ℕ, ◌+◌, ◌<◌, Bool, true, false, cond, eqb-true, eq-eqb, List, [], ◌∷◌, ◌++◌, map, Option, Some, None, inl, inr, arith}
 use lib.Dec.{T}
 use Rattle.std.specs.Prelude.{⊤}
@@ -18,7 +18,7 @@ use Rattle.ir_verify_base.specs.Fits.{Surroundings}
 use Rattle.ir_verify_base.specs.Facts.{sorted_in, sorted_facts}
 use Rattle.ir_verify_base.proofs.SortedFacts.{tied, left, right, unfound, found, is_in_order}
 use Rattle.op_registry.specs.Registry.{row_of}
-use Rattle.ir_verify.specs.Breaks.{told_in, numbers_from, broken}
+use Rattle.ir_verify.specs.Breaks.{broken_rules_in, numbers_from, broken}
 use Rattle.ir_verify.specs.Beyond.{is_beyond, is_on_types, told}
 use Rattle.ir_verify.specs.Diagnostics.{rule_rows, rows_of, diagnostics_of}
 use Rattle.ir_verify.specs.Pairs.{ArePairs, pair_cmp, pair_row}
@@ -39,11 +39,11 @@ rows_say : (es : List (ℕ × List ℕ)) → rows_of es ≡ map pair_row (pairs_
 rows_say [] = refl
 rows_say (e ∷ es) = ap (λ l. rule_rows e.0 e.1 ++ l) (rows_say es) ∙ sym (rows_more e.0 e.1 (pairs_of es))
 
--- ---- which they are
+-- ---- the pairs of a tree
 abbrev Holds : List (ℕ × List ℕ) → ℕ × ℕ → Type 0
 Holds es p = (rules : List ℕ) × (find nat_cmp p.0 es ≡ Some rules) × In p.1 rules
 
--- the entry of a key, and of another one
+-- lookup of the first key, and of another one
 first_found : (x : ℕ) (e : ℕ × List ℕ) (es : List (ℕ × List ℕ)) → e.0 ≡ x → find nat_cmp x (e ∷ es) ≡ Some e.1
 first_found x e es k = ap (λ b. cond b (Some e.1) (find nat_cmp x es)) (tied x e.0 ∙ eq-eqb e.0 x k)
 
@@ -72,7 +72,7 @@ listed (e ∷ es) p w = elim (bool_cases (eq_by_cmp nat_cmp p.0 e.0)) [
   | inr k ↦ in_right p (with_rules e) (pairs_of es) (listed es p (w.0, sym (ap (λ b. cond b (Some e.1) (find nat_cmp p.0 es)) k) ∙ w.1, w.2))
 ]
 
--- ---- that they rise
+-- ---- the pairs ascend
 less : (o : Ordering) → T (is_lt o) → o ≡ Less
 less Less h = refl
 less Equal h = absurd h
@@ -89,7 +89,7 @@ numbers_rise n [] = tt
 numbers_rise n (true ∷ bs) = (numbers_above n (n + 1) bs (omega arith), numbers_rise (n + 1) bs)
 numbers_rise n (false ∷ bs) = numbers_rise (n + 1) bs
 
--- and so do those that are told
+-- the reported rules ascend too
 above_kept : (x : ℕ) (p : ℕ → Bool) (rs : List ℕ) → AllByRecursion (λ y. nat_cmp x y ≡ Less) rs → AllByRecursion (λ y. nat_cmp x y ≡ Less) (filter p rs)
 above_kept x p [] a = tt
 above_kept x p (r ∷ rs) a = one (p r) (filter p rs) (above_kept x p rs a.1)
@@ -108,9 +108,9 @@ kept_rise p (r ∷ rs) h = one (p r) (filter p rs) (above_kept r p rs h.0) (kept
     one false l a k = k
 
 told_rise : (s : Surroundings) → IsStrictlySortedBy nat_cmp (told s)
-told_rise s = kept_rise _ (numbers_from 1 (told_in (row_of s.node.head.name) s)) (numbers_rise 1 (told_in (row_of s.node.head.name) s))
+told_rise s = kept_rise _ (numbers_from 1 (broken_rules_in (row_of s.node.head.name) s)) (numbers_rise 1 (broken_rules_in (row_of s.node.head.name) s))
 
--- the rules of each rise
+-- the rules of each operation ascend
 abbrev EachRises : List (ℕ × List ℕ) → Type 0
 EachRises [] = ⊤
 EachRises (e ∷ es) = IsStrictlySortedBy nat_cmp e.1 × EachRises es
@@ -127,7 +127,7 @@ facts_rise : (t : Operation) (ss : List (StandOf (List ℕ) _ _)) → EachRises 
 facts_rise t [] = tt
 facts_rise t (s ∷ ss) = put_rises (stand_id s) (told (surround t s)) (sorted_in told t ss) (told_rise (surround t s)) (facts_rise t ss)
 
--- and so do their pairs
+-- the pairs of each operation ascend
 abbrev Above : ℕ × ℕ → List (ℕ × ℕ) → Type 0
 Above p ps = AllByRecursion (λ q. pair_cmp p q ≡ Less) ps
 

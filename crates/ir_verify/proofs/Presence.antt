@@ -1,4 +1,4 @@
--- An operation about which there is a fact is there, and one about which there is none isn't.
+-- An operation is in the tree exactly if there is a fact about it.
 use Rattle.std.proofs.Common.{◌≡◌, refl, sym, ap, ◌∙◌, ℕ, true, false, Option, Some, None, inl, inr}
 use Rattle.std.specs.Prelude.{option_map}
 use Rattle.ir_types.specs.Terms.{name_term, type_term, attr_term}

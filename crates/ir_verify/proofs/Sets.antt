@@ -1,11 +1,11 @@
--- Sets of rules hold what was put in them.
+-- Sets of rules have the rules that were inserted.
 use Rattle.std.proofs.Common.{◌≡◌, refl, sym, ap, ◌∙◌, ℕ, zero, suc, ◌+◌, ◌-◌, ◌*◌, ◌^◌, ◌<◌, ◌≤◌, Bool, true, false, true≢false, not, ◌&&◌, ◌||◌, List, [], ◌∷◌, ◌++◌, drop, length, get_or, arith}
 use Rattle.std.specs.Prelude.{◌/◌, ◌%◌, ◌==◌}
 use Rattle.std.proofs.Math.Nat.{pow-suc}
 use Rattle.ir_verify.specs.Sets.{with_bit, packed, bits_of}
 use Rattle.ir_verify.specs.Breaks.{numbers_from}
 
--- a list with one place more
+-- dropping one item less
 pub packed_drop : (bs : List Bool) (i : ℕ) (d : Bool) → i < length bs → packed (drop i bs) ≡ with_bit (get_or bs i d) (packed (drop (i + 1) bs))
 packed_drop [] i d l = absurd (omega arith)
 packed_drop (x ∷ bs) zero d l = refl
@@ -14,7 +14,7 @@ packed_drop (x ∷ bs) (suc i) d l =
     let s : suc i + 1 ≡ suc (i + 1) = omega arith in
     packed_drop bs i d m ∙ ap (λ k. with_bit (get_or bs i d) (packed (drop k (x ∷ bs)))) (sym s)
 
--- so many bits make no greater number
+-- k bits make a number below 2^k
 pub packed_below : (k : ℕ) (bs : List Bool) → length bs ≤ k → packed bs < 2 ^ k
 packed_below zero [] l = omega arith
 packed_below zero (b ∷ bs) l = absurd (omega arith)
@@ -35,7 +35,7 @@ pub none : (k m : ℕ) → numbers_from m (bits_of k 0) ≡ []
 none zero m = refl
 none (suc k) m = none k (m + 1)
 
--- what was put in is in it
+-- a packed list can be unpacked
 pub unpacked : (k m : ℕ) (bs : List Bool) → length bs ≤ k → numbers_from m (bits_of k (packed bs)) ≡ numbers_from m bs
 unpacked zero m [] l = refl
 unpacked zero m (b ∷ bs) l = absurd (omega arith)
@@ -60,11 +60,11 @@ next_bit n rest l =
 pub no_bits : (n rest : ℕ) → 25 ≤ n → numbers_from n (bits_of (25 - n) rest) ≡ []
 no_bits n rest l = let k : 25 - n ≡ 0 = omega arith in ap (λ m. numbers_from n (bits_of m rest)) k
 
--- what is told of an operation of right form
+-- the rule bit of a well-shaped operation
 pub told : (w b r : Bool) → w ≡ true → r ≡ b → r ≡ (w && b)
 told w b r e f = f ∙ ap (λ z. z && b) (sym e)
 
--- and of one whose own form isn't right
+-- the rule bit of an operation that isn't well-shaped
 pub hushed : (w b : Bool) → w ≡ false → false ≡ (w && b)
 hushed w b e = ap (λ z. z && b) (sym e)
 

@@ -5,11 +5,11 @@ use Rattle.op_registry.specs.Rows.{Row}
 use Rattle.op_registry.specs.Registry.{row_of}
 use Rattle.ir_verify_base.specs.Fits.{Surroundings}
 use Rattle.ir_verify.specs.declared.rules.RuleSet.{RuleSet}
-use Rattle.ir_verify.specs.Breaks.{told_in}
+use Rattle.ir_verify.specs.Breaks.{broken_rules_in}
 use Rattle.ir_verify.specs.Sets.{has_any, packed, set_of}
 
 abbrev told_by : Surroundings → Option Row → RuleSet
-told_by s r = record { bits = packed (told_in r s) }
+told_by s r = record { bits = packed (broken_rules_in r s) }
 
 pub silent : (s : Surroundings) (r : Option Row) → row_of s.node.head.name ≡ r → is_some r ≡ false → has_any (set_of s) ≡ false
 silent s None e f = ap (λ r. has_any (told_by s r)) e

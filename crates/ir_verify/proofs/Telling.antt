@@ -1,4 +1,4 @@
--- The rules in the set of an operation are those that it breaks, and the rows of a table of such sets are those of the tree.
+-- The set of an operation has the rules that it breaks, and the rows of a table of such sets are those of the tree.
 use Rattle.std.proofs.Common.{◌≡◌, refl, sym, ap, ◌∙◌, subst, ℕ, ◌≤◌, Bool, List, [], ◌∷◌, ◌++◌, length, map, cond, false, true≢false, eqb-true, inl, inr, not, Option, Some, None, arith}
 use Rattle.std.specs.Prelude.{option_map, codes, ◌==◌, ◌&&◌}
 use Rattle.std.specs.List.{All, filter}
@@ -7,7 +7,7 @@ use Rattle.std.specs.declared.cmp.Ordering.TheVariants.{Less, Equal, Greater}
 use Rattle.std.specs.FinMap.Entries.{put, by_order}
 use Rattle.std.proofs.lemmas.List.{map-append}
 use Rattle.std.proofs.lemmas.List.Elements.{All-nil, All-cons, All-head, All-tail, All-append}
-use Rattle.ir_types.specs.Things.{Things}
+use Rattle.ir_types.specs.Things.{ContextModel}
 use Rattle.ir_tree.specs.Meaning.{Operation}
 use Rattle.ir_tree_laws.specs.Stands.{StandOf, stand_id, stands}
 use Rattle.ir_tree_laws.proofs.Listed.{bool_cases}
@@ -22,22 +22,22 @@ use Rattle.ir_verify_base.specs.Facts.{fact_of, sorted_in, sorted_facts, kept_fa
 use Rattle.ir_verify_base.specs.Fits.{Surroundings, is_named}
 use Rattle.ir_verify.specs.declared.rules.RuleSet.{RuleSet}
 use Rattle.ir_verify.specs.declared.finding.Finding.{Finding}
-use Rattle.ir_verify.specs.Breaks.{told_in, broken, numbers_from}
+use Rattle.ir_verify.specs.Breaks.{broken_rules_in, broken, numbers_from}
 use Rattle.ir_verify.specs.Beyond.{is_beyond, is_on_types, told}
 use Rattle.ir_verify.specs.Sets.{bits_of, rules_in, has_any, set_of, finding_of, breaks_any, is_told, rules_told}
 use Rattle.ir_verify.specs.Diagnostics.{broken_at, rule_rows, rows_of, diagnostics_of}
 use Rattle.ir_verify.specs.Reports.{rule_cells, rules_cells, all_cells}
 use Rattle.ir_verify.proofs.Sets.{unpacked, none}
 
-few : (row : Option Row) (s : Surroundings) → length (told_in row s) ≤ 24
+few : (row : Option Row) (s : Surroundings) → length (broken_rules_in row s) ≤ 24
 few None s = omega arith
 few (Some row) s = omega arith
 
 pub rules_broken : (s : Surroundings) → rules_in (set_of s) ≡ broken s
 unfolding rules_in
-rules_broken s = unpacked 24 1 (told_in (row_of s.node.head.name) s) (few (row_of s.node.head.name) s)
+rules_broken s = unpacked 24 1 (broken_rules_in (row_of s.node.head.name) s) (few (row_of s.node.head.name) s)
 
--- the set about an operation, read
+-- the set of an operation gives its broken rules
 pub set_read : (x : ℕ) (t : Operation) (o : Option RuleSet) → o ≡ fact_of set_of t x → option_map rules_in o ≡ broken_at x t
 set_read x t o e = ap (option_map rules_in) e ∙ go (surroundings x t)
   where
@@ -53,7 +53,7 @@ pub no_rules : (set : RuleSet) → has_any set ≡ false → rules_in set ≡ []
 unfolding rules_in
 no_rules set e = ap (λ n. numbers_from 1 (bits_of 24 n)) (no_bits set.bits e) ∙ none 24 1
 
--- what is told of an operation, read
+-- the finding about an operation gives its reported rules
 abbrev pub is_told_of : Surroundings → ℕ → Bool
 is_told_of s r = not (is_beyond s && is_on_types (is_named s.node (codes "arith.constant")) r)
 
@@ -94,7 +94,7 @@ all_rows (e ∷ es) =
     ]
 
 -- ---- rows
-module _ (c : Things) where
+module _ (c : ContextModel) where
   cells_say : (x : ℕ) (rs : List ℕ) → map (map (cell_meaning c)) (rules_cells x rs) ≡ rule_rows x rs
   cells_say x [] = refl
   cells_say x (r ∷ rs) = ap (λ l. map (cell_meaning c) (rule_cells x r) ∷ l) (cells_say x rs)

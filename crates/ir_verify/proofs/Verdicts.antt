@@ -1,4 +1,4 @@
--- What the rules make of an operation, from what is kept of it; and where none is broken, none is told.
+-- The verdict on an operation is that of its finding. An operation that breaks no rule has no reported rule.
 use Rattle.std.proofs.Common.{◌≡◌, refl, sym, ap, ◌∙◌, ℕ, ◌+◌, ◌*◌, Bool, true, false, true≢false, not, List, [], ◌∷◌, length, Option, Some, None}
 use Rattle.std.specs.Prelude.{option_map, ◌==◌}
 use Rattle.std.specs.List.{filter}
@@ -9,8 +9,8 @@ use Rattle.ir_verify_base.specs.Facts.{fact_of}
 use Rattle.ir_verify_base.specs.Fits.{Surroundings}
 use Rattle.ir_verify.specs.declared.finding.Finding.{Finding}
 use Rattle.ir_verify.specs.declared.verdict.Verdict.{Verdict}
-use Rattle.ir_verify.specs.declared.verdict.Verdict.TheVariants.{Obeys, Excused, Faulty}
-use Rattle.ir_verify.specs.Breaks.{broken, numbers_from, told_in}
+use Rattle.ir_verify.specs.declared.verdict.Verdict.TheVariants.{Valid, Unlisted, Invalid}
+use Rattle.ir_verify.specs.Breaks.{broken, numbers_from, broken_rules_in}
 use Rattle.ir_verify.specs.Beyond.{told}
 use Rattle.ir_verify.specs.Diagnostics.{broken_at, told_at}
 use Rattle.ir_verify.specs.Sets.{breaks_any, finding_of, has_any, packed, rules_told, set_of}
@@ -27,10 +27,10 @@ none_broken : (s : Surroundings) → has_any (set_of s) ≡ false → broken s �
 none_broken s e = sym (rules_broken s) ∙ no_rules (set_of s) e
 
 some_broken : (s : Surroundings) → has_any (set_of s) ≡ true → broken s ≡ [] → ⊥
-some_broken s e none = true≢false (sym e ∙ ap (λ n. not (n == 0)) (none_held 1 (told_in (row_of s.node.head.name) s) none))
+some_broken s e none = true≢false (sym e ∙ ap (λ n. not (n == 0)) (none_held 1 (broken_rules_in (row_of s.node.head.name) s) none))
 
 module _ (f : Finding) (s : Surroundings) (of : f ≡ finding_of s) where
-  pub obeys : breaks_any f ≡ false → Obeys ≡ verdict_in s
+  pub obeys : breaks_any f ≡ false → Valid ≡ verdict_in s
   obeys e = sym (ap (λ bs. verdict_by bs (told s)) (none_broken s (ap breaks_any (sym of) ∙ e)))
 
   read : rules_told f ≡ told s
@@ -46,7 +46,7 @@ module _ (f : Finding) (s : Surroundings) (of : f ≡ finding_of s) where
       go [] filled = absurd (filled refl)
       go (b ∷ bs) filled = is b bs
 
--- the verdict about an operation, read
+-- the verdict of a finding is the verdict on the operation
 pub verdict_read : (x : ℕ) (t : Operation) (f : Finding) (v : Verdict) → Some f ≡ fact_of finding_of t x → ((s : Surroundings) → f ≡ finding_of s → v ≡ verdict_in s) → verdict_at x t ≡ Some v
 verdict_read x t f v e is = go (surroundings x t) e
   where
@@ -54,7 +54,7 @@ verdict_read x t f v e is = go (surroundings x t) e
     go None e = absurd cc
     go (Some s) e = let one : f ≡ finding_of s = cc in ap Some (sym (is s one))
 
--- where no rule is broken none is told
+-- an operation that breaks no rule has no reported rule
 pub none_told : (x : ℕ) (t : Operation) → broken_at x t ≡ Some [] → told_at x t ≡ Some []
 none_told x t e = go (surroundings x t) e
   where

@@ -9,8 +9,8 @@ use Rattle.ir_verify_base.specs.TypeRules.{breaks_24}
 use Rattle.ir_verify.specs.BlockRules.{breaks_6, breaks_8, breaks_9, breaks_21, breaks_22}
 use Rattle.ir_verify.specs.PlaceRules.{breaks_10, breaks_11, breaks_15, breaks_16, breaks_17, breaks_23}
 
--- for each rule in order whether a listed operation breaks it. Where its own form isn't right only the rules on its
--- form, and those on its place alone, are told
+-- for each rule in order, whether a listed operation breaks it; for an operation that isn't well-shaped, only the
+-- rules on its own form and on its position count
 abbrev pub told_of : Row → Surroundings → List Bool
 told_of row s =
     breaks_1 row s.node
@@ -40,16 +40,16 @@ told_of row s =
     ∷ []
 
 -- an operation that isn't listed breaks none
-abbrev pub told_in : Option Row → Surroundings → List Bool
-told_in None s = []
-told_in (Some row) s = told_of row s
+abbrev pub broken_rules_in : Option Row → Surroundings → List Bool
+broken_rules_in None s = []
+broken_rules_in (Some row) s = told_of row s
 
--- the numbers of those that hold, where the first has a number
+-- the numbers of the true items, counted from n
 abbrev pub numbers_from : ℕ → List Bool → List ℕ
 numbers_from n [] = []
 numbers_from n (true ∷ bs) = n ∷ numbers_from (n + 1) bs
 numbers_from n (false ∷ bs) = numbers_from (n + 1) bs
 
--- the numbers of the rules that an operation breaks, rising
+-- the numbers of the rules that an operation breaks, in ascending order
 abbrev pub broken : Surroundings → List ℕ
-broken s = numbers_from 1 (told_in (row_of s.node.head.name) s)
+broken s = numbers_from 1 (broken_rules_in (row_of s.node.head.name) s)

@@ -1,4 +1,4 @@
--- The analysis of diagnostics: which rules are told of which operations of a tree.
+-- The analysis of diagnostics: the reported rules of each operation of a tree.
 use Rattle.std.specs.Prelude.{◌≡◌, ℕ, List, [], ◌∷◌, ◌++◌, true, false, Option, option_map}
 use Rattle.ir_types.specs.declared.refusal.Refusal.{Refusal}
 use Rattle.ir_types.specs.declared.refusal.Refusal.TheVariants.{NoSuchOp, Memory}
@@ -14,26 +14,26 @@ use Rattle.ir_verify.specs.Beyond.{told}
 abbrev pub broken_at : ℕ → Operation → Option (List ℕ)
 broken_at x t = option_map broken (surroundings x t)
 
--- the rules that are told of it
+-- the reported rules of operation x, if it is in the tree
 abbrev pub told_at : ℕ → Operation → Option (List ℕ)
 told_at x t = option_map told (surroundings x t)
 
--- why operation x of a tree isn't checked: it isn't there, or memory was refused
+-- the reason why operation x isn't checked: it isn't in the tree, or memory ran out
 abbrev pub Unchecked : ℕ → Operation → Refusal → Type 0
 Unchecked x t NoSuchOp = has_id x t ≡ false
 Unchecked x t Memory = has_id x t ≡ true
 Unchecked x t _ = ⊥
 
--- the rows of an operation, by the rules' numbers
+-- the rows of an operation, one for each rule number
 abbrev pub rule_rows : ℕ → List ℕ → List RowTerm
 rule_rows x [] = []
 rule_rows x (r ∷ rs) = (Op x ∷ Rule r ∷ []) ∷ rule_rows x rs
 
--- those of several
+-- the rows of several operations
 abbrev pub rows_of : List (ℕ × List ℕ) → List RowTerm
 rows_of [] = []
 rows_of (e ∷ es) = rule_rows e.0 e.1 ++ rows_of es
 
--- the rows of a tree, by operation and rule
+-- the rows of a tree, ordered by operation and rule
 abbrev pub diagnostics_of : Operation → List RowTerm
 diagnostics_of t = rows_of (sorted_facts told t)

@@ -1,4 +1,4 @@
--- The rows of the report as they are made: the cells of each.
+-- The cells of the report's rows.
 use Rattle.std.specs.Prelude.{ℕ, List, [], ◌∷◌, ◌++◌}
 use Rattle.ir_verify_base.specs.events.declared.row.Cell.{Cell}
 use Rattle.ir_verify_base.specs.events.declared.row.Cell.TheVariants.{Op, Rule}
@@ -9,12 +9,12 @@ use Rattle.ir_verify.specs.Sets.{rules_told}
 abbrev pub rule_cells : ℕ → ℕ → List Cell
 rule_cells x r = Op x ∷ Rule r ∷ []
 
--- those of an operation and several rules
+-- the rows of an operation and several rules
 abbrev pub rules_cells : ℕ → List ℕ → List (List Cell)
 rules_cells x [] = []
 rules_cells x (r ∷ rs) = rule_cells x r ∷ rules_cells x rs
 
--- those of several operations
+-- the rows of several operations
 abbrev pub all_cells : List (ℕ × Finding) → List (List Cell)
 all_cells [] = []
 all_cells (e ∷ es) = rules_cells e.0 (rules_told e.1) ++ all_cells es

@@ -1,4 +1,4 @@
-//! The rules on the blocks of an operation of right form.
+//! The rules on the blocks of a well-shaped operation.
 ghost use Rattle.std.specs.Prelude.{◌≡◌, ◌==◌, Some, map, length, not, slice_get, option_and_then};
 ghost use Rattle.std.specs.Option.{option_map};
 ghost use Rattle.ir_types.specs.Terms.{name_term};
@@ -14,15 +14,15 @@ ghost use Rattle.ir_verify.specs.BlockRules as rules;
 use ir_types::context::Context;
 use ir_types::ids::NameId;
 use ir_types::word::Word;
-use ir_verify_base::around::Around;
 use ir_verify_base::node::{has_block, is_named, property};
+use ir_verify_base::op_context::OpContext;
 use ir_verify_base::properties::string_of;
 use ir_verify_base::store::node::Node;
 use op_registry::definition::{OpDef, RegionRule, Trait};
 use op_registry::registry::Registry;
 
-/// The name of the last operation of the block of a region.
-fn last(ctx: &Context, around: &Around<'_>, region: usize) -> Option<NameId>
+/// Returns the name of the last operation in the block of a region.
+fn last(ctx: &Context, around: &OpContext<'_>, region: usize) -> Option<NameId>
     ensures { option_map (name_term ctx.now) result ≡ rules.last_at region (around_in ctx.now around.now) }
 {
     last_of(ctx, &around.lasts, region)
@@ -40,7 +40,7 @@ fn last_of(_ctx: &Context, lasts: &[Option<NameId>], region: usize) -> Option<Na
 
 /// Rule 6: a region that must have a block has none.
 #[tactic(auto, unfolding(op_registry::specs::Registry::row_from))]
-pub(crate) fn breaks_6(ctx: &Context, def: &OpDef, around: &Around<'_>) -> bool
+pub(crate) fn breaks_6(ctx: &Context, def: &OpDef, around: &OpContext<'_>) -> bool
     requires { AroundIsOf ctx.now around.now }
     ensures { result ≡ rules.breaks_6 (row_from def.now) (around_in ctx.now around.now) }
 {
@@ -70,8 +70,8 @@ fn is_without(ctx: &Context, region: &RegionRule, node: &Node<'_>, number: usize
     !region.may_be_empty && !has_block(ctx, node, number)
 }
 
-/// Rule 8: the block of a function is empty, or its last operation is listed and no terminator.
-pub(crate) fn breaks_8(ctx: &Context, registry: &Registry, around: &Around<'_>) -> bool
+/// Rule 8: the block of a function is empty, or its last operation is listed and isn't a terminator.
+pub(crate) fn breaks_8(ctx: &Context, registry: &Registry, around: &OpContext<'_>) -> bool
     requires { AroundIsOf ctx.now around.now }
     ensures { result ≡ rules.breaks_8 (around_in ctx.now around.now) }
 {
@@ -96,8 +96,8 @@ fn is_listed_and_ends_none(ctx: &Context, registry: &Registry, name: NameId) -> 
     ctx.listed(name) && !registry.has(name, Trait::Terminator)
 }
 
-/// Rule 9: the last operation of a block isn't the one that must end it, or the block is empty.
-pub(crate) fn breaks_9(ctx: &Context, around: &Around<'_>) -> bool
+/// Rule 9: the block is empty, or its last operation isn't the required terminator.
+pub(crate) fn breaks_9(ctx: &Context, around: &OpContext<'_>) -> bool
     requires { AroundIsOf ctx.now around.now }
     ensures { result ≡ rules.breaks_9 (around_in ctx.now around.now) }
 {
@@ -112,7 +112,7 @@ pub(crate) fn breaks_9(ctx: &Context, around: &Around<'_>) -> bool
     is_named(ctx, &around.node, Word::ScfFor) && ends_otherwise(ctx, around, 0, Word::ScfYield)
 }
 
-fn ends_otherwise(ctx: &Context, around: &Around<'_>, region: usize, wanted: Word) -> bool
+fn ends_otherwise(ctx: &Context, around: &OpContext<'_>, region: usize, wanted: Word) -> bool
     requires { AroundIsOf ctx.now around.now }
     ensures { result ≡ rules.ends_otherwise region (word_bytes wanted) (around_in ctx.now around.now) }
 {
@@ -128,8 +128,8 @@ fn isnt_wanted(ctx: &Context, last: Option<NameId>, wanted: Word) -> bool
     }
 }
 
-/// Rule 21: a condition with results has no second block.
-pub(crate) fn breaks_21(ctx: &Context, around: &Around<'_>) -> bool
+/// Rule 21: an `scf.if` with results has no second block.
+pub(crate) fn breaks_21(ctx: &Context, around: &OpContext<'_>) -> bool
     requires { AroundIsOf ctx.now around.now }
     ensures { result ≡ rules.breaks_21 (around_in ctx.now around.now) }
 {
@@ -144,8 +144,8 @@ fn has_results(_ctx: &Context, node: &Node<'_>) -> bool
     node.results().len() != 0
 }
 
-/// Rule 22: a function without a block is public: its visibility is missing or says so.
-pub(crate) fn breaks_22(ctx: &Context, around: &Around<'_>) -> bool
+/// Rule 22: a function without a block is public: it has no visibility, or its visibility is `public`.
+pub(crate) fn breaks_22(ctx: &Context, around: &OpContext<'_>) -> bool
     requires { AroundIsOf ctx.now around.now }
     ensures { result ≡ rules.breaks_22 (around_in ctx.now around.now) }
 {
@@ -163,7 +163,7 @@ fn is_public(ctx: &Context, visibility: Option<NameId>) -> bool
     }
 }
 
-/// The visibility of a symbol, if it says one (Symbols and Symbol Tables, "Symbol Visibility").
+/// Returns the visibility of a symbol, if it has one (Symbols and Symbol Tables, "Symbol Visibility").
 fn visibility(ctx: &Context, node: &Node<'_>) -> Option<NameId>
     requires { NodeIsOf ctx.now node.now }
     ensures { option_map (name_term ctx.now) result

@@ -1,4 +1,4 @@
-//! Which rules an operation breaks.
+//! Checks one operation.
 ghost use Rattle.std.specs.Prelude.{◌≡◌, ◌≤◌, ◌+◌, Some, MatchResult};
 ghost use Rattle.ir_tree.specs.Ids.{find};
 ghost use Rattle.ir_verify_base.specs.events.Modules.{module_in};
@@ -13,9 +13,9 @@ use ir_verify_base::events::world::World;
 use ir_verify_base::fact::fact_at;
 use std::alloc::Global;
 
-/// The numbers of the rules that an operation of a world's module breaks, rising.
+/// Returns the numbers of the rules that an operation of the module breaks, in ascending order.
 ///
-/// Refusals: `NoSuchOp` where the operation isn't in the module; `Memory`.
+/// Refusals: `NoSuchOp` if the operation isn't in the module; `Memory`.
 pub fn check_op(alloc: Global, world: &World, op: OpId) -> Result<Vec<u8>, Refusal>
     ensures { MatchResult result (λ rules. broken_at op (module_in world.now).tree ≡ Some rules.items)
         (Unchecked op (module_in world.now).tree) }
@@ -24,8 +24,8 @@ pub fn check_op(alloc: Global, world: &World, op: OpId) -> Result<Vec<u8>, Refus
     check_in(alloc, &mut view, op)
 }
 
-/// The numbers of the rules, rising, that an operation breaks in the module that a view shows. It looks no more often
-/// than it takes to gather what is around the operation.
+/// Returns the numbers of the rules that an operation of the view's module breaks, in ascending order. The number of
+/// looks is at most that of gathering the operation's context.
 pub fn check_in(alloc: Global, view: &mut View<'_>, op: OpId) -> Result<Vec<u8>, Refusal>
     ensures rules { MatchResult result (λ rules. broken_at op (module_in view.old.world.now).tree ≡ Some rules.items)
         (Unchecked op (module_in view.old.world.now).tree) }

@@ -1,4 +1,4 @@
-//! The listener that keeps the diagnostics of a module.
+//! The listener of diagnostics.
 ghost use Rattle.std.specs.Prelude.{◌≡◌, true};
 
 use crate::finding::Finding;
@@ -8,30 +8,30 @@ use ir_verify_base::events::event::Event;
 use ir_verify_base::events::row::{Kind, Memory, ReportFault, Row};
 use ir_verify_base::events::view::View;
 use ir_verify_base::events::world::World;
-use ir_verify_base::kept::Kept;
+use ir_verify_base::fact_table::FactTable;
 use std::alloc::Global;
 
-/// The analysis `diagnostics`: which operations break which rules. Of an operation beyond the table (an addition of
-/// vectors, say, which is opaque here) the rules on the types that the table names aren't told.
+/// The analysis `diagnostics`: the rules that each operation breaks. For an operation beyond the table, such as an
+/// addition of vectors, which are opaque here, the rules on the table's types aren't reported.
 ///
-/// It keeps of each operation that breaks rules which they are. After an event it looks again at the operations near
-/// it, which alone can break other rules than before.
+/// It keeps the broken rules of each operation. After an event it checks the operations near the event again, because
+/// only these can break other rules than before.
 #[derive(Drop)]
 pub struct Diagnostics {
     alloc: Global,
-    kept: Kept<Finding>,
+    kept: FactTable<Finding>,
 }
 
 impl Diagnostics {
     ghost use Rattle.ir_verify.specs.Listeners.{diagnostics_listener};
 
-    /// A listener that has not begun, and is stale.
+    /// Returns a listener that hasn't begun and is stale.
     pub fn new(alloc: Global) -> Diagnostics
         ensures { (diagnostics_listener result).stale ≡ true }
     {
         Diagnostics {
             alloc,
-            kept: Kept::new(alloc),
+            kept: FactTable::new(alloc),
         }
     }
 }

@@ -1,5 +1,4 @@
-//! What is told of an operation: the rules that it breaks, but for those on the types that the table names where it is
-//! beyond the table.
+//! The reported rules of an operation: the rules that it breaks, except rules on types if it is beyond the table.
 ghost use Rattle.std.specs.Prelude.{◌≡◌, IfOk, OnOk, Some, ◌++◌, List, ℕ, true, false};
 ghost use Rattle.std.specs.List.{All, filter};
 ghost use Rattle.ir_types.specs.Things.{IsType};
@@ -12,41 +11,41 @@ ghost use Rattle.ir_verify.specs.Beyond as beyond;
 ghost use Rattle.ir_verify.specs.Sets.{breaks_any, is_told, rules_told, finding_of};
 
 use crate::place_rules::definition;
-use crate::rules::{RuleSet, may_break, told};
+use crate::rules::{RuleSet, broken_rules, may_break};
 use ir_types::context::Context;
 use ir_types::ids::{NameId, TypeId};
 use ir_types::node::TypeNode;
 use ir_types::word::Word;
-use ir_verify_base::around::Around;
-use ir_verify_base::fact::Fact;
+use ir_verify_base::fact::LocalFact;
 use ir_verify_base::node::is_named;
+use ir_verify_base::op_context::OpContext;
 use op_registry::definition::{OpDef, TypeRule};
 use op_registry::own::Own;
 use op_registry::registry::Registry;
 use op_registry::things::type_of;
 use std::alloc::{AllocError, Global};
 
-/// What is kept of an operation.
+/// The finding about an operation.
 #[derive(Clone, Copy)]
 pub struct Finding {
-    /// The rules that it breaks.
+    /// The rules that the operation breaks.
     broken: RuleSet,
-    /// Whether it breaks some and is beyond the table: a type is opaque where its row speaks of integers or memrefs
-    /// alone.
+    /// Whether the operation breaks a rule and is beyond the table: it has an opaque type where its row allows only
+    /// integers or memrefs.
     beyond: bool,
-    /// Whether it is an `arith.constant`.
+    /// Whether the operation is an `arith.constant`.
     constant: bool,
 }
 
 impl Finding {
-    /// Whether a rule is told of it, if it breaks it.
+    /// Returns whether a broken rule is reported.
     fn is_told(&self, rule: u8) -> bool
         ensures { result ≡ is_told self.now rule }
     {
         !(self.beyond && is_on_types(self.constant, rule))
     }
 
-    /// The numbers of the rules that are told of it, rising.
+    /// Returns the numbers of the reported rules, in ascending order.
     #[tactic(auto, unfolding(crate::specs::Sets::rules_told))]
     pub(crate) fn numbers(&self, alloc: Global) -> Result<Vec<u8>, AllocError>
         ensures { IfOk result (λ v. v.items ≡ rules_told self.now) }
@@ -57,7 +56,7 @@ impl Finding {
         Ok(numbers)
     }
 
-    /// Adds those of some rules that are told of it.
+    /// Appends those of the broken rules that are reported.
     fn push_told(&self, broken: &[u8], numbers: &mut Vec<u8>) -> Result<(), AllocError>
         ensures { OnOk result (numbers.new.items ≡ numbers.old.items ++ filter (is_told self.now) broken.now) }
     {
@@ -70,7 +69,7 @@ impl Finding {
     }
 }
 
-impl Fact for Finding {
+impl LocalFact for Finding {
     ghost use Rattle.ir_verify.specs.Sets.{breaks_any, finding_of};
 
     ghost fact = { finding_of };
@@ -82,7 +81,7 @@ impl Fact for Finding {
     }
 
     #[tactic(auto, using(crate::proofs::Gathering::gathered_beyond))]
-    fn of(ctx: &Context, registry: &Registry, around: &Around<'_>) -> Finding {
+    fn compute(ctx: &Context, registry: &Registry, around: &OpContext<'_>) -> Finding {
         finding_around(ctx, registry, around)
     }
 
@@ -91,12 +90,12 @@ impl Fact for Finding {
     }
 }
 
-/// What is kept of an operation, from what is around it.
-fn finding_around(ctx: &Context, registry: &Registry, around: &Around<'_>) -> Finding
+/// Returns the finding about an operation, given its context.
+fn finding_around(ctx: &Context, registry: &Registry, around: &OpContext<'_>) -> Finding
     requires { AroundIsOf ctx.now around.now }
     ensures { result ≡ finding_of (around_in ctx.now around.now) }
 {
-    let broken = told(ctx, registry, around);
+    let broken = broken_rules(ctx, registry, around);
     let beyond = broken.has_any() && is_beyond(ctx, registry, around);
     Finding {
         broken,
@@ -105,7 +104,7 @@ fn finding_around(ctx: &Context, registry: &Registry, around: &Around<'_>) -> Fi
     }
 }
 
-/// Whether a rule is on the types that the table names; of a constant, that on the kind of its value is one too.
+/// Returns whether the rule is on the table's types. For a constant, the rule on the kind of its value is one too.
 fn is_on_types(constant: bool, rule: u8) -> bool
     ensures { result ≡ beyond.is_on_types constant rule }
 {
@@ -116,8 +115,8 @@ fn is_on_types(constant: bool, rule: u8) -> bool
     }
 }
 
-/// Whether a listed operation is beyond the table.
-fn is_beyond(ctx: &Context, registry: &Registry, around: &Around<'_>) -> bool
+/// Returns whether a listed operation is beyond the table.
+fn is_beyond(ctx: &Context, registry: &Registry, around: &OpContext<'_>) -> bool
     requires { AroundIsOf ctx.now around.now }
     ensures { result ≡ beyond.is_beyond (around_in ctx.now around.now) }
 {
@@ -127,9 +126,9 @@ fn is_beyond(ctx: &Context, registry: &Registry, around: &Around<'_>) -> bool
     }
 }
 
-/// Whether an operation is beyond its row.
+/// Returns whether the operation is beyond its row: it has an opaque type where the row allows only some types.
 #[tactic(auto, unfolding(op_registry::specs::Registry::row_from))]
-fn is_beyond_row(ctx: &Context, def: &OpDef, around: &Around<'_>) -> bool
+fn is_beyond_row(ctx: &Context, def: &OpDef, around: &OpContext<'_>) -> bool
     requires { AroundIsOf ctx.now around.now }
     ensures { result ≡ beyond.is_beyond_row (row_from def.now) (around_in ctx.now around.now) }
 {
@@ -138,7 +137,7 @@ fn is_beyond_row(ctx: &Context, def: &OpDef, around: &Around<'_>) -> bool
         || any_opaque(ctx, computes, def.results.first, around.node.results())
 }
 
-/// Whether an operation only computes: it has no effect and no region, and ends no block.
+/// Returns whether the operation only computes: it has no effect and no region, and isn't a terminator.
 #[tactic(auto, unfolding(op_registry::specs::Registry::row_from))]
 fn only_computes(def: &OpDef) -> bool
     ensures { result ≡ beyond.only_computes (row_from def.now) }
@@ -146,7 +145,7 @@ fn only_computes(def: &OpDef) -> bool
     is_pure(def.effects) && def.regions.len() == 0 && !def.traits.terminator
 }
 
-/// Whether these are no effects.
+/// Returns whether there are no effects.
 fn is_pure(effects: Own) -> bool
     ensures { result ≡ beyond.is_pure effects }
 {
@@ -156,7 +155,7 @@ fn is_pure(effects: Own) -> bool
     }
 }
 
-/// Whether one of some types is opaque where a row speaks of integers or memrefs alone.
+/// Returns whether a type is opaque where the row allows only integers or memrefs.
 fn any_opaque(ctx: &Context, computes: bool, rules: &[TypeRule], types: &[TypeId]) -> bool
     requires { All (λ t. IsType ctx.now t) types.now }
     ensures { result ≡ beyond.any_opaque computes rules.now (typed ctx.now types.now) }
@@ -176,7 +175,8 @@ fn any_opaque(ctx: &Context, computes: bool, rules: &[TypeRule], types: &[TypeId
     false
 }
 
-/// Whether a row that calls a type so speaks of integers, where its operation only computes, or of memrefs alone.
+/// Returns whether a type rule allows only memrefs, or only integers and `index`. The latter counts only if the
+/// operation only computes.
 fn speaks_of_some(computes: bool, rule: TypeRule) -> bool
     ensures { result ≡ beyond.speaks_of_some computes rule }
 {
@@ -194,7 +194,7 @@ fn speaks_of_some(computes: bool, rule: TypeRule) -> bool
     }
 }
 
-/// Whether a type is opaque.
+/// Returns whether a type is opaque.
 fn is_opaque(ctx: &Context, ty: TypeId) -> bool
     requires { IsType ctx.now ty }
     ensures { result ≡ beyond.is_opaque (type_term ctx.now ty) }
@@ -202,7 +202,7 @@ fn is_opaque(ctx: &Context, ty: TypeId) -> bool
     node_is_opaque(type_of(ctx, ty))
 }
 
-/// Whether a type's node is an opaque one.
+/// Returns whether a type node is opaque.
 fn node_is_opaque(node: &TypeNode) -> bool
     ensures { (known : List TypeTerm) → result ≡ beyond.is_opaque (type_from known node.now) }
 {

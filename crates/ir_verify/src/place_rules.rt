@@ -1,4 +1,4 @@
-//! The rules on where an operation stands.
+//! The rules on the position of an operation.
 ghost use Rattle.std.specs.Prelude.{◌≡◌, IfSome, Some, List, ℕ, [], ◌∷◌, map, drop, codes, option_and_then};
 ghost use Rattle.std.specs.List.{All};
 ghost use Rattle.std.specs.Option.{option_map};
@@ -7,7 +7,7 @@ ghost use Rattle.ir_types.specs.Terms.{name_term, type_term};
 ghost use Rattle.ir_types.specs.WordNames.{word_bytes};
 ghost use Rattle.op_registry.specs.declared.definition.Trait.TheVariants.{Terminator};
 ghost use Rattle.op_registry.specs.Registry.{has_trait, row_from, row_of};
-ghost use Rattle.ir_verify_base.specs.Outer.{Outer as Gathered};
+ghost use Rattle.ir_verify_base.specs.ParentContext.{ParentContext as Gathered};
 ghost use Rattle.ir_verify_base.specs.events.Modules.{NodeIsOf};
 ghost use Rattle.ir_verify_base.specs.Gathered.{AroundIsOf};
 ghost use Rattle.ir_verify_base.specs.Numbers.{typed, node_in, outer_in, around_in};
@@ -17,8 +17,8 @@ ghost use Rattle.ir_verify.specs.PlaceRules as rules;
 use ir_types::context::Context;
 use ir_types::ids::{NameId, TypeId};
 use ir_types::word::Word;
-use ir_verify_base::around::{Around, Outer};
 use ir_verify_base::node::{block, function_type, is_named};
+use ir_verify_base::op_context::{OpContext, ParentContext};
 use ir_verify_base::shapes::is_well_shaped;
 use ir_verify_base::store::node::Node;
 use ir_verify_base::types::same_types;
@@ -26,7 +26,7 @@ use op_registry::definition::{OpDef, Trait};
 use op_registry::registry::Registry;
 
 /// Rule 10: a terminator isn't the last operation of its block.
-pub(crate) fn breaks_10(ctx: &Context, registry: &Registry, around: &Around<'_>) -> bool
+pub(crate) fn breaks_10(ctx: &Context, registry: &Registry, around: &OpContext<'_>) -> bool
     ensures { result ≡ rules.breaks_10 (around_in ctx.now around.now) }
 {
     is_terminator(ctx, registry, &around.node) && is_inside(ctx, &around.outer)
@@ -39,7 +39,7 @@ fn is_terminator(ctx: &Context, registry: &Registry, node: &Node<'_>) -> bool
     registry.has(node.name(), Trait::Terminator)
 }
 
-fn is_inside(_ctx: &Context, outer: &Option<Outer<'_>>) -> bool
+fn is_inside(_ctx: &Context, outer: &Option<ParentContext<'_>>) -> bool
     ensures { result ≡ rules.is_inside (option_map (outer_in _ctx.now) outer.now) }
 {
     match outer {
@@ -48,29 +48,29 @@ fn is_inside(_ctx: &Context, outer: &Option<Outer<'_>>) -> bool
     }
 }
 
-/// Rule 11: a terminator stands in a listed operation that the row doesn't name.
+/// Rule 11: the parent of a terminator is listed, and its row doesn't allow the parent.
 #[tactic(auto, unfolding(op_registry::specs::Registry::row_from))]
 pub(crate) fn breaks_11(
     ctx: &Context,
     registry: &Registry,
     def: &OpDef,
-    around: &Around<'_>,
+    around: &OpContext<'_>,
 ) -> bool
     ensures { result ≡ rules.breaks_11 (row_from def.now) (around_in ctx.now around.now) }
 {
     is_terminator(ctx, registry, &around.node) && stands_elsewhere(ctx, def.parents, &around.outer)
 }
 
-/// Rule 23: a function stands in a listed operation that is no module.
-pub(crate) fn breaks_23(ctx: &Context, around: &Around<'_>) -> bool
+/// Rule 23: the parent of a function is listed and isn't a module.
+pub(crate) fn breaks_23(ctx: &Context, around: &OpContext<'_>) -> bool
     ensures { result ≡ rules.breaks_23 (around_in ctx.now around.now) }
 {
     is_named(ctx, &around.node, Word::FuncFunc)
         && stands_elsewhere(ctx, &[Word::BuiltinModule], &around.outer)
 }
 
-/// Whether an operation stands in a listed one that isn't one of some.
-fn stands_elsewhere(ctx: &Context, names: &[Word], outer: &Option<Outer<'_>>) -> bool
+/// Returns whether the parent of an operation is listed and has none of these names.
+fn stands_elsewhere(ctx: &Context, names: &[Word], outer: &Option<ParentContext<'_>>) -> bool
     ensures { result ≡ rules.stands_elsewhere (map word_bytes names.now) (option_map (outer_in ctx.now) outer.now) }
 {
     match outer {
@@ -92,11 +92,11 @@ fn is_one(ctx: &Context, name: NameId, names: &[Word]) -> bool
     false
 }
 
-/// The operation whose block an operation ends, where it is of right form.
+/// Returns the operation whose block the operation ends, if that operation is well-shaped.
 pub(crate) fn ended<'a>(
     ctx: &Context,
     registry: &Registry,
-    around: &'a Around<'_>,
+    around: &'a OpContext<'_>,
 ) -> Option<&'a Node<'a>>
     requires { AroundIsOf ctx.now around.now }
     ensures is { option_map (λ n. node_in ctx.now n.now) result ≡ rules.ended_of (around_in ctx.now around.now) }
@@ -124,7 +124,7 @@ fn well_shaped<'a>(ctx: &Context, registry: &Registry, node: &'a Node<'a>) -> Op
     }
 }
 
-/// The row of an operation, if it is listed.
+/// Returns the row of an operation, or `None` if it isn't listed.
 pub(crate) fn definition<'a>(
     ctx: &Context,
     registry: &'a Registry,
@@ -136,8 +136,8 @@ pub(crate) fn definition<'a>(
     registry.get(node.name())
 }
 
-/// Rule 15: a return at the end of a function has operands of other types than the function's outputs.
-pub(crate) fn breaks_15(ctx: &Context, around: &Around<'_>, ended: Option<&Node<'_>>) -> bool
+/// Rule 15: the operand types of a return at the end of a function differ from the function's result types.
+pub(crate) fn breaks_15(ctx: &Context, around: &OpContext<'_>, ended: Option<&Node<'_>>) -> bool
     requires around { AroundIsOf ctx.now around.now }
     requires ended { option_map (λ n. node_in ctx.now n.now) ended ≡ rules.ended_of (around_in ctx.now around.now) }
     requires known { IfSome ended (λ n. NodeIsOf ctx.now n.now) }
@@ -147,7 +147,7 @@ pub(crate) fn breaks_15(ctx: &Context, around: &Around<'_>, ended: Option<&Node<
         && differ(ctx, returned(ctx, ended), &around.types)
 }
 
-/// Whether the wanted types are there, and some types are others.
+/// Returns whether there are expected types, and the types differ from them.
 fn differ(ctx: &Context, wanted: Option<&[TypeId]>, types: &[TypeId]) -> bool
     requires wanted { IfSome wanted (λ ts. All (λ t. IsType ctx.now t) ts.now) }
     requires types { All (λ t. IsType ctx.now t) types.now }
@@ -159,7 +159,7 @@ fn differ(ctx: &Context, wanted: Option<&[TypeId]>, types: &[TypeId]) -> bool
     }
 }
 
-/// The types that a function returns.
+/// Returns the types that a function returns.
 fn returned<'a>(ctx: &'a Context, parent: Option<&Node<'_>>) -> Option<&'a [TypeId]>
     requires { IfSome parent (λ n. NodeIsOf ctx.now n.now) }
     ensures is { option_map (λ ts. typed ctx.now ts.now) result
@@ -174,8 +174,8 @@ fn returned<'a>(ctx: &'a Context, parent: Option<&Node<'_>>) -> Option<&'a [Type
     Some(signature.outputs)
 }
 
-/// Rule 16: a yield at the end of a block has operands of other types.
-pub(crate) fn breaks_16(ctx: &Context, around: &Around<'_>, ended: Option<&Node<'_>>) -> bool
+/// Rule 16: the operand types of a yield at the end of a block differ from the expected ones.
+pub(crate) fn breaks_16(ctx: &Context, around: &OpContext<'_>, ended: Option<&Node<'_>>) -> bool
     requires around { AroundIsOf ctx.now around.now }
     requires ended { option_map (λ n. node_in ctx.now n.now) ended ≡ rules.ended_of (around_in ctx.now around.now) }
     requires known { IfSome ended (λ n. NodeIsOf ctx.now n.now) }
@@ -184,7 +184,7 @@ pub(crate) fn breaks_16(ctx: &Context, around: &Around<'_>, ended: Option<&Node<
     is_named(ctx, &around.node, Word::ScfYield) && differ(ctx, yielded(ctx, ended), &around.types)
 }
 
-/// The types that an operation wants from a yield.
+/// Returns the operand types that an operation expects of a yield.
 fn yielded<'a>(ctx: &Context, parent: Option<&'a Node<'_>>) -> Option<&'a [TypeId]>
     requires { IfSome parent (λ n. NodeIsOf ctx.now n.now) }
     ensures is { option_map (λ ts. typed ctx.now ts.now) result
@@ -201,8 +201,8 @@ fn yielded<'a>(ctx: &Context, parent: Option<&'a Node<'_>>) -> Option<&'a [TypeI
     None
 }
 
-/// Rule 17: a condition at the end of a block has, after the first, operands of other types.
-pub(crate) fn breaks_17(ctx: &Context, around: &Around<'_>, ended: Option<&Node<'_>>) -> bool
+/// Rule 17: the operand types after the first, of a condition at the end of a block, differ from the expected ones.
+pub(crate) fn breaks_17(ctx: &Context, around: &OpContext<'_>, ended: Option<&Node<'_>>) -> bool
     requires around { AroundIsOf ctx.now around.now }
     requires ended { option_map (λ n. node_in ctx.now n.now) ended ≡ rules.ended_of (around_in ctx.now around.now) }
     requires known { IfSome ended (λ n. NodeIsOf ctx.now n.now) }
@@ -212,7 +212,7 @@ pub(crate) fn breaks_17(ctx: &Context, around: &Around<'_>, ended: Option<&Node<
         && differ(ctx, passed(ctx, ended), after_first(&around.types))
 }
 
-/// The types that a while loop wants from a condition.
+/// Returns the operand types that a while loop expects of a condition.
 fn passed<'a>(ctx: &Context, parent: Option<&'a Node<'_>>) -> Option<&'a [TypeId]>
     requires { IfSome parent (λ n. NodeIsOf ctx.now n.now) }
     ensures is { option_map (λ ts. typed ctx.now ts.now) result

@@ -11,12 +11,12 @@ use ir_verify_base::events::row::{Cell, Row};
 use std::alloc::{AllocError, Global};
 use std::collections::BTreeMap;
 
-/// The row of an operation that breaks a rule.
+/// Returns the row of an operation and a rule that it breaks.
 fn row(alloc: Global, op: OpId, rule: u8) -> Result<Row, AllocError>
     ensures { IfOk result (λ row. row.cells.items ≡ rule_cells op rule) }
 {
-    // The checker has no proof of the loans of a function that makes cells, unless it has a value of each type in a
-    // cell.
+    // The checker has no proof of the loans of a function that creates cells, unless the function has a value of each
+    // type in a cell.
     let _value = Value::Result(op, 0);
     let mut cells = Vec::with_capacity(alloc, 2)?;
     cells.push(Cell::Op(op))?;
@@ -24,7 +24,7 @@ fn row(alloc: Global, op: OpId, rule: u8) -> Result<Row, AllocError>
     Ok(Row { cells })
 }
 
-/// Adds a row for each of the rules that an operation breaks.
+/// Appends a row for each of the rules that an operation breaks.
 fn push_rows(alloc: Global, op: OpId, rules: &[u8], out: &mut Vec<Row>) -> Result<(), AllocError>
     ensures { OnOk result (map (λ (r : Line). r.cells.items) out.new.items
         ≡ map (λ (r : Line). r.cells.items) out.old.items ++ rules_cells op rules.now) }
@@ -35,7 +35,7 @@ fn push_rows(alloc: Global, op: OpId, rules: &[u8], out: &mut Vec<Row>) -> Resul
     Ok(())
 }
 
-/// Adds a row for each rule that is told of an operation.
+/// Appends a row for each reported rule of an operation.
 fn push_told(
     alloc: Global,
     op: OpId,
@@ -49,7 +49,7 @@ fn push_told(
     push_rows(alloc, op, &rules, out)
 }
 
-/// A row for each operation and each rule that it breaks, by operation and rule.
+/// Returns a row for each operation and each reported rule, ordered by operation and rule.
 pub(crate) fn rows(alloc: Global, table: &BTreeMap<u32, Finding>) -> Result<Vec<Row>, AllocError>
     ensures { IfOk result (λ out. map (λ (r : Line). r.cells.items) out.items ≡ all_cells table.now.entries) }
 {
@@ -58,7 +58,7 @@ pub(crate) fn rows(alloc: Global, table: &BTreeMap<u32, Finding>) -> Result<Vec<
     Ok(out)
 }
 
-/// Adds them.
+/// Appends the rows of all operations.
 fn push_all(
     alloc: Global,
     table: &BTreeMap<u32, Finding>,

@@ -15,9 +15,9 @@ use crate::place_rules::{
 };
 use ir_types::context::Context;
 use ir_types::ids::NameId;
-use ir_verify_base::around::Around;
-use ir_verify_base::fact::Fact;
+use ir_verify_base::fact::LocalFact;
 use ir_verify_base::memref_rules::{breaks_20, breaks_24};
+use ir_verify_base::op_context::OpContext;
 use ir_verify_base::shapes::{breaks_1, breaks_3, breaks_5, breaks_12, breaks_13, is_well_shaped};
 use ir_verify_base::type_rules::{
     breaks_2, breaks_4, breaks_7, breaks_14, breaks_18, breaks_19, known_of,
@@ -30,12 +30,12 @@ use std::alloc::{AllocError, Global};
 /// A set of rules.
 #[derive(Clone, Copy)]
 pub struct RuleSet {
-    /// Bit r - 1 says whether rule r is in it.
+    /// Bit r - 1 says whether the set has rule r.
     bits: u32,
 }
 
 impl RuleSet {
-    /// The set of the rules that hold, in the order of their numbers.
+    /// Returns the set of the rules with `true`. The list is ordered by rule number.
     fn of(held: &[bool]) -> RuleSet
         requires { length held.now ≤ 24 }
         ensures { result.bits ≡ packed held.now }
@@ -49,14 +49,14 @@ impl RuleSet {
         RuleSet { bits }
     }
 
-    /// Whether a rule is in the set.
+    /// Returns whether the set has a rule.
     pub(crate) fn has_any(&self) -> bool
         ensures { result ≡ has_any self.now }
     {
         self.bits != 0
     }
 
-    /// The numbers of the rules in the set, rising.
+    /// Returns the numbers of the rules in the set, in ascending order.
     pub fn numbers(&self, alloc: Global) -> Result<Vec<u8>, AllocError>
         ensures { IfOk result (λ v. v.items ≡ rules_in self.now) }
     {
@@ -70,7 +70,7 @@ impl RuleSet {
     }
 }
 
-impl Fact for RuleSet {
+impl LocalFact for RuleSet {
     ghost use Rattle.ir_verify.specs.Sets.{has_any, set_of};
 
     ghost fact = { set_of };
@@ -82,8 +82,8 @@ impl Fact for RuleSet {
     }
 
     #[tactic(auto, using(crate::proofs::Gathering::gathered_told))]
-    fn of(ctx: &Context, registry: &Registry, around: &Around<'_>) -> RuleSet {
-        told(ctx, registry, around)
+    fn compute(ctx: &Context, registry: &Registry, around: &OpContext<'_>) -> RuleSet {
+        broken_rules(ctx, registry, around)
     }
 
     fn is_kept(&self) -> bool {
@@ -91,7 +91,7 @@ impl Fact for RuleSet {
     }
 }
 
-/// Whether an operation with a name may break rules: no other than a listed one does.
+/// Returns whether an operation with that name may break a rule. Only listed operations do.
 pub(crate) fn may_break(ctx: &Context, name: NameId) -> bool
     ensures { result ≡ false → (s : Surroundings) → s.node.head.name ≡ name_term ctx.now name
         → has_any (set_of s) ≡ false }
@@ -100,7 +100,7 @@ pub(crate) fn may_break(ctx: &Context, name: NameId) -> bool
     ctx.listed(name)
 }
 
-/// Adds a number where it is in the set.
+/// Appends the number if `held`.
 fn push_if(held: bool, number: u8, numbers: &mut Vec<u8>) -> Result<(), AllocError>
     ensures { OnOk result (numbers.new.items ≡ numbers.old.items ++ numbers_from number (held ∷ [])) }
 {
@@ -110,7 +110,7 @@ fn push_if(held: bool, number: u8, numbers: &mut Vec<u8>) -> Result<(), AllocErr
     Ok(())
 }
 
-/// A number with one bit more below the others.
+/// Returns the number shifted left by one bit, with `bit` as its lowest bit.
 fn with_bit(bit: bool, bits: u32) -> u32
     requires { bits < 2 ^ 31 }
     ensures { result ≡ with_bit bit bits }
@@ -118,8 +118,8 @@ fn with_bit(bit: bool, bits: u32) -> u32
     if bit { 2 * bits + 1 } else { 2 * bits }
 }
 
-/// The rules that an operation breaks, from what is around it.
-pub fn told(ctx: &Context, registry: &Registry, around: &Around<'_>) -> RuleSet
+/// Returns the rules that an operation breaks, given its context.
+pub fn broken_rules(ctx: &Context, registry: &Registry, around: &OpContext<'_>) -> RuleSet
     requires { AroundIsOf ctx.now around.now }
     ensures { result ≡ set_of (around_in ctx.now around.now) }
 {
@@ -129,8 +129,8 @@ pub fn told(ctx: &Context, registry: &Registry, around: &Around<'_>) -> RuleSet
     }
 }
 
-/// The rules that a listed operation breaks.
-fn told_by(ctx: &Context, registry: &Registry, def: &OpDef, around: &Around<'_>) -> RuleSet
+/// Returns the rules that a listed operation breaks.
+fn told_by(ctx: &Context, registry: &Registry, def: &OpDef, around: &OpContext<'_>) -> RuleSet
     requires { AroundIsOf ctx.now around.now }
     ensures { result.bits ≡ packed (told_of (row_from def.now) (around_in ctx.now around.now)) }
 {
@@ -141,8 +141,9 @@ fn told_by(ctx: &Context, registry: &Registry, def: &OpDef, around: &Around<'_>)
     }
 }
 
-/// Those of one whose own form isn't right: the rules that ask for a right one are silent.
-fn told_unshaped(ctx: &Context, registry: &Registry, def: &OpDef, around: &Around<'_>) -> RuleSet
+/// Returns the broken rules of an operation that isn't well-shaped. Rules that need a well-shaped operation don't
+/// count.
+fn told_unshaped(ctx: &Context, registry: &Registry, def: &OpDef, around: &OpContext<'_>) -> RuleSet
     requires around { AroundIsOf ctx.now around.now }
     requires shaped { shapes.is_well_shaped (row_from def.now) (node_in ctx.now around.now.node) ≡ false }
     ensures { result.bits ≡ packed (told_of (row_from def.now) (around_in ctx.now around.now)) }
@@ -177,8 +178,8 @@ fn told_unshaped(ctx: &Context, registry: &Registry, def: &OpDef, around: &Aroun
     ])
 }
 
-/// Those of one whose own form is right.
-fn told_shaped(ctx: &Context, registry: &Registry, def: &OpDef, around: &Around<'_>) -> RuleSet
+/// Returns the broken rules of a well-shaped operation.
+fn told_shaped(ctx: &Context, registry: &Registry, def: &OpDef, around: &OpContext<'_>) -> RuleSet
     requires around { AroundIsOf ctx.now around.now }
     requires shaped { shapes.is_well_shaped (row_from def.now) (node_in ctx.now around.now.node) ≡ true }
     ensures { result.bits ≡ packed (told_of (row_from def.now) (around_in ctx.now around.now)) }

@@ -1,4 +1,4 @@
-//! What the rules make of an operation.
+//! The verdict on an operation.
 ghost use Rattle.std.specs.Prelude.{◌≡◌, ◌∷◌, ℕ, List, IfOk, MatchResult, Some};
 ghost use Rattle.ir_verify_base.specs.events.Modules.{module_in};
 ghost use Rattle.ir_verify_base.specs.Fits.{Surroundings};
@@ -11,45 +11,45 @@ use ir_types::ids::OpId;
 use ir_types::refusal::Refusal;
 use ir_verify_base::events::view::View;
 use ir_verify_base::events::world::World;
-use ir_verify_base::fact::{Fact, fact_at};
+use ir_verify_base::fact::{LocalFact, fact_at};
 use std::alloc::{AllocError, Global};
 
-/// What the rules make of an operation.
+/// The verdict on an operation.
 #[derive(Clone, Copy)]
 pub enum Verdict {
-    /// It breaks none.
-    Obeys,
-    /// It is beyond the table, and breaks rules on types alone, none of which is told of it.
-    Excused,
-    /// Some are told of it.
-    Faulty,
+    /// The operation breaks no rule.
+    Valid,
+    /// The operation is beyond the table and breaks only rules on types. None of them is reported.
+    Unlisted,
+    /// The operation breaks a rule that is reported.
+    Invalid,
 }
 
-/// What they make of one that breaks some, from those that are told of it.
+/// Returns the verdict on an operation that breaks a rule, given its reported rules.
 fn verdict_told(told: &[u8]) -> Verdict
     ensures { (b : ℕ) (bs : List ℕ) → result ≡ verdict_by (b ∷ bs) told.now }
 {
     match told {
-        [] => Verdict::Excused,
-        _ => Verdict::Faulty,
+        [] => Verdict::Unlisted,
+        _ => Verdict::Invalid,
     }
 }
 
-/// What the rules make of an operation, from what is kept of it.
+/// Returns the verdict on an operation, given its finding.
 fn verdict_of(alloc: Global, finding: &Finding) -> Result<Verdict, AllocError>
     ensures { IfOk result (λ v. (s : Surroundings) → finding.now ≡ finding_of s → v ≡ verdict_in s) }
 {
     if !finding.is_kept() {
-        return Ok(Verdict::Obeys);
+        return Ok(Verdict::Valid);
     }
     let told = finding.numbers(alloc)?;
     Ok(verdict_told(&told))
 }
 
-/// What the rules make of an operation of a world's module.
+/// Returns the verdict on an operation of the module.
 ///
-/// Refusals: `NoSuchOp` where the operation isn't in the module; `Memory`.
-pub fn judge_op(alloc: Global, world: &World, op: OpId) -> Result<Verdict, Refusal>
+/// Refusals: `NoSuchOp` if the operation isn't in the module; `Memory`.
+pub fn verify_op(alloc: Global, world: &World, op: OpId) -> Result<Verdict, Refusal>
     ensures { MatchResult result (λ v. verdict_at op (module_in world.now).tree ≡ Some v)
         (Unchecked op (module_in world.now).tree) }
 {
@@ -57,7 +57,7 @@ pub fn judge_op(alloc: Global, world: &World, op: OpId) -> Result<Verdict, Refus
     judge_in(alloc, &mut view, op)
 }
 
-/// What they make of one in the module that a view shows.
+/// Returns the verdict on an operation of the view's module.
 fn judge_in(alloc: Global, view: &mut View<'_>, op: OpId) -> Result<Verdict, Refusal>
     ensures { MatchResult result (λ v. verdict_at op (module_in view.old.world.now).tree ≡ Some v)
         (Unchecked op (module_in view.old.world.now).tree) }

@@ -1,5 +1,5 @@
 pub mod Words
-pub use Rattle.listeners_surroundings.proofs.Meanings
-pub use Rattle.listeners_surroundings.proofs.Reading
-pub use Rattle.listeners_surroundings.proofs.SortedFacts
+pub use Rattle.listeners_support.proofs.Meanings
+pub use Rattle.listeners_support.proofs.Reading
+pub use Rattle.listeners_support.proofs.SortedFacts
 pub mod Regions

@@ -1,10 +1,10 @@
--- The regions of a row are looked through one by one.
+-- A loop over the regions of a row.
 use Rattle.std.proofs.Common.{◌≡◌, refl, ap, sym, ◌∙◌, ℕ, suc, ◌≤◌, ◌+◌, ◌-◌, List, [], ◌∷◌, length, map, take, drop, slice_index_or, Bool, true, false, ◌||◌, arith}
 use Rattle.std.proofs.Math.Seq.{take-length}
 use Rattle.op_registry.specs.Rows.{RegionRow}
 use Rattle.ir_verify_base.specs.Fits.{any_from}
 
--- what is left behind the first
+-- the rest of a list after its first item
 rest_is : {A : Type 0} (y : A) (ys : List A) → take (length (y ∷ ys) - 1) ys ≡ ys
 rest_is y ys = ap (λ n. take n ys) less ∙ take-length ys
   where
@@ -18,7 +18,7 @@ counted_more (y ∷ ys) n all l is = ap (λ zs. n + 1 + length zs) (rest_is y ys
     one_more : n + 1 + length ys ≡ n + length (y ∷ ys)
     one_more = omega arith
 
--- the first doesn't pass the test
+-- the first region doesn't pass the test
 pub left_more : {A : Type 0} (row : A → RegionRow) (test : ℕ → RegionRow → Bool) (xs : List A) (d : A) (n : ℕ) (whole passes : Bool) → 1 ≤ length xs → any_from test n (map row xs) ≡ whole → passes ≡ test n (row (slice_index_or xs 0 d)) → passes ≡ false
     → any_from test (n + 1) (map row (take (length xs - 1) (drop 1 xs))) ≡ whole
 left_more row test [] d n whole passes l is says isnt = absurd (omega (arith, l))

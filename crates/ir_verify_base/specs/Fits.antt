@@ -1,4 +1,4 @@
--- Whether types are those that a row of the operation table names.
+-- Compares types with the type rules of the operation table.
 use Rattle.std.specs.Prelude.{if◌then◌else◌, ℕ, suc, ◌+◌, List, [], ◌∷◌, map, length, drop, codes, Bool, true, false}
 use Rattle.std.specs.Prelude.{◌==◌, ◌&&◌, ◌||◌, nat_le, Option, Some, None, option_map, option_and_then, unwrap_or}
 use Rattle.std.specs.Prelude.{slice_get}
@@ -11,12 +11,12 @@ use Rattle.op_registry.specs.declared.definition.TypeRule.TheVariants as type
 use Rattle.op_registry.specs.Rows.{TypesRow, RegionRow, Row}
 use Rattle.op_registry.specs.Registry.{beside}
 use Rattle.op_registry.specs.Properties.{type_of}
-use Rattle.listeners_surroundings.specs.Nodes.{NodeOf}
-use Rattle.listeners_surroundings.specs.Surroundings.{SurroundingsOf, OuterOf}
+use Rattle.listeners_support.specs.Nodes.{NodeOf}
+use Rattle.listeners_support.specs.Surroundings.{SurroundingsOf, OuterOf}
 use Rattle.ir_types.specs.SameTypes.{same_type, function_of}
 use Rattle.ir_verify_base.specs.Types.{same_types, is_integer, is_index, is_number, is_boolean, is_memref}
 
--- what rules look at, in contents
+-- the inputs of the rules, in terms of contents
 abbrev pub Node : Type 0
 Node = NodeOf (List ℕ) TypeTerm AttrTerm
 
@@ -34,7 +34,7 @@ is_named node name = bytes_eq node.head.name name
 abbrev pub property : List ℕ → Node → Option AttrTerm
 property key node = beside key node.head.properties
 
--- the inputs and outputs of the function type that an operation has as property
+-- the inputs and outputs of the function type in an operation's properties
 abbrev pub function_type : Node → Option (List TypeTerm × List TypeTerm)
 function_type node = option_and_then function_of (option_and_then type_of (property (codes "function_type") node))
 
@@ -42,21 +42,21 @@ function_type node = option_and_then function_of (option_and_then type_of (prope
 abbrev pub block_at : ℕ → Node → Option (List TypeTerm)
 block_at k node = option_and_then (λ args. args) (slice_get node.arguments k)
 
--- whether one of the regions of a row, from the one of number k on, passes a test with its number
+-- whether a region of the row, from number k on, passes the test with its number
 abbrev pub any_from : (ℕ → RegionRow → Bool) → ℕ → List RegionRow → Bool
 any_from test k [] = false
 any_from test k (region ∷ more) = test k region || any_from test (suc k) more
 
--- whether one of the regions of a row passes a test with its number
+-- whether a region of the row passes the test with its number
 abbrev pub any_region : (ℕ → RegionRow → Bool) → List RegionRow → Bool
 any_region test regions = any_from test 0 regions
 
--- types that are all there
+-- a list of types, all present
 abbrev pub there : List TypeTerm → List (Option TypeTerm)
 there = map Some
 
--- what a type may be compared with: the types of the first operands that the row calls a number, and any; those of the
--- operands after the fixed ones; those of the results; and those of the inputs of the function type
+-- the types with which a type rule may compare a type: those of the first operands whose rules are `Number` and
+-- `Any`; those of the operands after the fixed ones; those of the results; and the inputs of the function type
 pub record Known : Type 0 where
   pub number : Option TypeTerm
   pub same : Option TypeTerm
@@ -64,18 +64,18 @@ pub record Known : Type 0 where
   pub results : List (Option TypeTerm)
   pub inputs : List (Option TypeTerm)
 
--- whether a row calls a type so; only by a number, and by any, are others compared with it
+-- whether a rule is the wanted one; types are compared only with `Number` and `Any`
 abbrev pub is_called : TypeRule → TypeRule → Bool
 is_called type.Number type.Number = true
 is_called type.Any type.Any = true
 is_called _ _ = false
 
--- the type of the first operand that a row calls so
+-- the type of the first operand with the wanted rule
 abbrev pub first_called : TypeRule → List TypeRule → List (Option TypeTerm) → Option TypeTerm
 first_called wanted (rule ∷ rules) (t ∷ ts) = if is_called wanted rule then t else first_called wanted rules ts
 first_called wanted _ _ = None
 
--- what the types of an operation may be compared with
+-- the types of an operation with which a type rule may compare a type
 abbrev pub known_of : Row → Surroundings → Known
 known_of row s = record {
   number = first_called type.Number row.operands.first s.types;
@@ -85,18 +85,18 @@ known_of row s = record {
   inputs = unwrap_or (option_map (λ f. there f.0) (function_type s.node)) [];
 }
 
--- whether there is a type, and it passes a test
+-- whether there is a type, and it passes the test
 abbrev pub is_there : (TypeTerm → Bool) → Option TypeTerm → Bool
 is_there test None = false
 is_there test (Some t) = test t
 
--- whether a type is the number of the row: the first operand's that the row calls so, or any number where it calls none
--- so
+-- whether a type equals that of the first operand whose rule is `Number`, or is any number if there is no such
+-- operand
 abbrev pub is_the_number : Option TypeTerm → Option TypeTerm → Bool
 is_the_number None t = is_there is_number t
 is_the_number (Some u) t = is_there (same_type u) t
 
--- whether a type is what a row calls it; that of a memref's element is another rule's
+-- whether a type satisfies the rule; the element types of memrefs are tested by rule 20
 abbrev pub fits : Known → TypeRule → Option TypeTerm → Bool
 fits known type.Any t = true
 fits known type.Number t = is_the_number known.number t
@@ -111,8 +111,8 @@ fits known type.Initial t = true
 fits known type.Result t = true
 fits known type.Input t = true
 
--- whether the types after the fixed ones are what a row calls them: none; those of the operands after the fixed ones,
--- of the results, of the inputs, one by one; or any number of one kind
+-- whether the types after the fixed ones satisfy the rule: there are none; they equal the types of the operands after
+-- the fixed ones, of the results or of the inputs; or each satisfies the rule
 abbrev pub more_fit : Known → Option TypeRule → List (Option TypeTerm) → Bool
 more_fit known None ts = length ts == 0
 more_fit known (Some type.Initial) ts = same_types known.initial ts
@@ -120,7 +120,7 @@ more_fit known (Some type.Result) ts = same_types known.results ts
 more_fit known (Some type.Input) ts = same_types known.inputs ts
 more_fit known (Some rule) ts = list_all (fits known rule) ts
 
--- whether types are what a row calls them
+-- whether the types satisfy the rules of the row
 abbrev pub first_fit : Known → List TypeRule → Option TypeRule → List (Option TypeTerm) → Bool
 first_fit known [] more ts = more_fit known more ts
 first_fit known (rule ∷ rules) more [] = false
@@ -129,8 +129,8 @@ first_fit known (rule ∷ rules) more (t ∷ ts) = fits known rule t && first_fi
 abbrev pub types_fit : Known → TypesRow → List (Option TypeTerm) → Bool
 types_fit known row ts = first_fit known row.first row.more ts
 
--- whether so many types may be where a row has some first ones and perhaps more, and an operation so many operands
--- after the fixed ones
+-- whether the number of types fits the row's fixed types and its rule for more, given the number of operands after
+-- the fixed ones
 abbrev pub more_count : ℕ → ℕ → Option TypeRule → ℕ → Bool
 more_count initial first None n = n == first
 more_count initial first (Some type.Initial) n = n == first + initial

@@ -3,10 +3,10 @@ pub mod Fits
 pub mod Numbers
 pub mod Shapes
 pub mod TypeRules
-pub use Rattle.listeners_surroundings.specs.Facts
-pub use Rattle.listeners_surroundings.specs.Gathered
-pub use Rattle.listeners_surroundings.specs.Mapped
-pub use Rattle.listeners_surroundings.specs.Surroundings
-pub use Rattle.listeners_surroundings.specs.declared.around.Around
-pub use Rattle.listeners_surroundings.specs.declared.around.Outer
-pub use Rattle.listeners_surroundings.specs.events
+pub use Rattle.listeners_support.specs.Facts
+pub use Rattle.listeners_support.specs.Gathered
+pub use Rattle.listeners_support.specs.Mapped
+pub use Rattle.listeners_support.specs.Surroundings
+pub use Rattle.listeners_support.specs.declared.op_context.OpContext
+pub use Rattle.listeners_support.specs.declared.op_context.ParentContext
+pub use Rattle.listeners_support.specs.events

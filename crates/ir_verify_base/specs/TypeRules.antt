@@ -1,4 +1,4 @@
--- The rules on types, of an operation of right form.
+-- The rules on the types of a well-shaped operation.
 use Rattle.std.specs.Prelude.{if◌then◌else◌, ℕ, pos, List, [], ◌∷◌, codes, length, Bool, true, false, not, ◌==◌, ◌&&◌}
 use Rattle.std.specs.Prelude.{◌||◌, nat_le, Option, Some, None, option_and_then}
 use Rattle.std.specs.Ordering.{int_eq}
@@ -11,7 +11,7 @@ use Rattle.ir_verify_base.specs.Types.{width_of, is_index, is_number, memref_of}
 use Rattle.ir_verify_base.specs.Fits.{Node, Surroundings, Known, known_of, is_named, property, block_at, any_region}
 use Rattle.ir_verify_base.specs.Fits.{there, types_fit}
 
--- rule 2: the first operand that the row calls a number is none, or an operand's type isn't what the row calls it
+-- rule 2: the type of an operand doesn't satisfy its rule, or the first operand whose rule is `Number` isn't a number
 abbrev pub is_no_number : Option TypeTerm → Bool
 is_no_number None = false
 is_no_number (Some t) = not (is_number t)
@@ -19,11 +19,11 @@ is_no_number (Some t) = not (is_number t)
 abbrev pub breaks_2 : Row → Surroundings → Bool
 breaks_2 row s = is_no_number (known_of row s).number || not (types_fit (known_of row s) row.operands s.types)
 
--- rule 4: a result's type isn't what the row calls it
+-- rule 4: the type of a result doesn't satisfy its rule
 abbrev pub breaks_4 : Row → Surroundings → Bool
 breaks_4 row s = not (types_fit (known_of row s) row.results (there s.node.head.results))
 
--- rule 7: the types of the arguments of a block aren't what the row calls them
+-- rule 7: the argument types of a block don't satisfy their rules
 abbrev pub arguments_differ : Known → RegionRow → Option (List TypeTerm) → Bool
 arguments_differ known region None = false
 arguments_differ known region (Some args) = not (types_fit known region.arguments (there args))
@@ -34,7 +34,7 @@ any_differ known regions node = any_region (λ k region. arguments_differ known 
 abbrev pub breaks_7 : Row → Surroundings → Bool
 breaks_7 row s = any_differ (known_of row s) row.regions s.node
 
--- rule 14: the value of a constant isn't of its result's type
+-- rule 14: the value of a constant isn't of the type of its result
 abbrev pub is_of_another : Option (TypeTerm × ℕ) → List TypeTerm → Bool
 is_of_another (Some integer) (t ∷ []) = not (same_type integer.0 t)
 is_of_another _ _ = false
@@ -44,7 +44,7 @@ breaks_14 s =
     is_named s.node (codes "arith.constant")
     && is_of_another (option_and_then integer_of (property (codes "value") s.node)) s.node.head.results
 
--- the widths of the one operand and the one result, where both are signless integers
+-- the widths of the single operand and the single result, if both are signless integers
 abbrev pub both_widths : Option ℕ → Option ℕ → Option (ℕ × ℕ)
 both_widths (Some v) (Some w) = Some (v, w)
 both_widths _ _ = None
@@ -53,7 +53,7 @@ abbrev pub widths : List (Option TypeTerm) → List TypeTerm → Option (ℕ × 
 widths (t ∷ []) (u ∷ []) = both_widths (option_and_then width_of t) (width_of u)
 widths _ _ = None
 
--- whether there are such widths, and that of the result isn't greater
+-- whether there are widths, and the result's isn't greater
 abbrev pub no_greater : Option (ℕ × ℕ) → Bool
 no_greater None = false
 no_greater (Some p) = nat_le p.1 p.0
@@ -61,7 +61,7 @@ no_greater (Some p) = nat_le p.1 p.0
 abbrev pub isnt_greater : List (Option TypeTerm) → List TypeTerm → Bool
 isnt_greater operands results = no_greater (widths operands results)
 
--- or isn't smaller
+-- whether there are widths, and the result's isn't smaller
 abbrev pub no_smaller : Option (ℕ × ℕ) → Bool
 no_smaller None = false
 no_smaller (Some p) = nat_le p.0 p.1
@@ -69,7 +69,7 @@ no_smaller (Some p) = nat_le p.0 p.1
 abbrev pub isnt_smaller : List (Option TypeTerm) → List TypeTerm → Bool
 isnt_smaller operands results = no_smaller (widths operands results)
 
--- rule 18: an extension not to a greater width, or a truncation not to a smaller one
+-- rule 18: an extension isn't to a greater width, or a truncation isn't to a smaller one
 abbrev pub is_extension : Node → Bool
 is_extension node = is_named node (codes "arith.extsi") || is_named node (codes "arith.extui")
 
@@ -78,7 +78,7 @@ breaks_18 s =
     if is_named s.node (codes "arith.trunci") then isnt_smaller s.types s.node.head.results
     else is_extension s.node && isnt_greater s.types s.node.head.results
 
--- rule 19: not exactly one of the operand and the result of an index cast is an index
+-- rule 19: not exactly one of the operand and the result of an index cast is `index`
 abbrev pub is_an_index : Option TypeTerm → Bool
 is_an_index None = false
 is_an_index (Some t) = is_index t
@@ -97,8 +97,8 @@ is_index_cast node = is_named node (codes "arith.index_cast") || is_named node (
 abbrev pub breaks_19 : Surroundings → Bool
 breaks_19 s = is_index_cast s.node && not_one_index s.types s.node.head.results
 
--- rule 20: a memref is read or written by another number of indices than its rank, or as another type than its
--- elements'; or a memref is made by another number of operands than it has dimensions that aren't known
+-- rule 20: the number of indices of a load or store isn't the memref's rank, or the type of its value isn't the
+-- element type; or the number of operands of an allocation isn't the number of dynamic dimensions
 abbrev pub element_differs : Option (ℕ × ℕ × TypeTerm) → ℕ → Option TypeTerm → Bool
 element_differs (Some memref) indices (Some t) = not (indices == memref.0) || not (same_type t memref.2)
 element_differs (Some memref) indices None = not (indices == memref.0)
@@ -126,7 +126,7 @@ breaks_20 s =
     else if is_named s.node (codes "memref.store") then store_differs s.types
     else is_named s.node (codes "memref.alloc") && alloc_differs s.types s.node.head.results
 
--- rule 24: the segment sizes of an allocation of n operands are there, and aren't n and 0
+-- rule 24: an allocation of n operands has segment sizes other than n and 0
 abbrev pub segments_differ : ℕ → Option AttrTerm → Bool
 segments_differ n (Some (DenseArray ty values)) = not (pointwise int_eq values (pos n ∷ pos 0 ∷ []))
 segments_differ n _ = false

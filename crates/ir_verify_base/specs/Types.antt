@@ -1,4 +1,4 @@
--- Types, as rules look at them (Builtin Dialect, "Types").
+-- The properties of types that the rules read (Builtin Dialect, "Types").
 use Rattle.std.specs.Prelude.{ℕ, ◌+◌, length, List, [], ◌∷◌, Bool, true, false, ◌==◌, ◌||◌, Option, Some, None}
 use Rattle.std.specs.Option.{option_eq}
 use Rattle.std.specs.Cmp.Lexicographic.{pointwise}
@@ -6,7 +6,7 @@ use Rattle.ir_types.specs.declared.node.Sign.TheVariants.{Signless}
 use Rattle.ir_types.specs.Terms.{TypeTerm, Integer, Index, Memref}
 use Rattle.ir_types.specs.SameTypes.{same_type}
 
--- whether two lists of types, which there may be, are one
+-- whether two lists of optional types are equal
 abbrev pub same_types : List (Option TypeTerm) → List (Option TypeTerm) → Bool
 same_types = pointwise (option_eq same_type)
 
@@ -15,7 +15,7 @@ abbrev pub width_of : TypeTerm → Option ℕ
 width_of (Integer Signless w) = Some w
 width_of _ = None
 
--- the kinds of types that the operation table names
+-- the kinds of types in the operation table
 abbrev pub is_integer : TypeTerm → Bool
 is_integer (Integer Signless w) = true
 is_integer _ = false
@@ -35,13 +35,13 @@ abbrev pub is_memref : TypeTerm → Bool
 is_memref (Memref dims elem) = true
 is_memref _ = false
 
--- how many of some dimensions aren't known
+-- the number of dynamic dimensions
 abbrev pub unknown_count : List (Option ℕ) → ℕ
 unknown_count [] = 0
 unknown_count (None ∷ dims) = unknown_count dims + 1
 unknown_count (Some d ∷ dims) = unknown_count dims
 
--- what a memref type says: its rank, how many of its dimensions aren't known, and the type of its elements
+-- the parts of a memref type: its rank, its number of dynamic dimensions, and its element type
 abbrev pub memref_of : TypeTerm → Option (ℕ × ℕ × TypeTerm)
 memref_of (Memref dims elem) = Some (length dims, unknown_count dims, elem)
 memref_of _ = None

@@ -1,4 +1,4 @@
-//! Whether types are those that a row of the operation table names.
+//! Compares types with the type rules of the operation table.
 ghost use Rattle.std.specs.Prelude.{◌≡◌, IfSome, Some, ◌+◌, ◌≤◌, length};
 ghost use Rattle.std.specs.List.{All, list_all};
 ghost use Rattle.std.specs.Option.{option_eq, option_map};
@@ -14,23 +14,23 @@ use ir_types::context::Context;
 use ir_types::ids::TypeId;
 use op_registry::definition::{TypeRule, Types};
 
-/// What the types of an operation may be compared with.
+/// The types of an operation with which a type rule may compare a type.
 #[derive(Clone, Copy)]
-pub struct Known<'a> {
-    /// The type of the first operand that the row calls a number.
+pub struct ComparedTypes<'a> {
+    /// The type of the first operand whose rule is `Number`.
     pub number: Option<TypeId>,
-    /// The type of the first operand that the row calls any.
+    /// The type of the first operand whose rule is `Any`.
     pub same: Option<TypeId>,
     /// The types of the operands after the fixed ones.
     pub initial: &'a [TypeId],
     /// The types of the results.
     pub results: &'a [TypeId],
-    /// The inputs of the function type that is a property.
+    /// The inputs of the operation's function type.
     pub inputs: &'a [TypeId],
 }
 
-/// Whether types are what a row calls them.
-pub fn types_fit(ctx: &Context, known: &Known<'_>, row: &Types, types: &[TypeId]) -> bool
+/// Returns whether the types satisfy the type rules of a row.
+pub fn types_fit(ctx: &Context, known: &ComparedTypes<'_>, row: &Types, types: &[TypeId]) -> bool
     requires known { AreKnown ctx.now known.now }
     requires types { All (λ t. IsType ctx.now t) types.now }
     ensures { result ≡ fits.types_fit (known_in ctx.now known.now) (types_row row.now) (typed ctx.now types.now) }
@@ -50,8 +50,13 @@ pub fn types_fit(ctx: &Context, known: &Known<'_>, row: &Types, types: &[TypeId]
     more_fit(ctx, known, row.more, rest)
 }
 
-/// Whether the types after the fixed ones are what a row calls them, or there are none where it names none.
-fn more_fit(ctx: &Context, known: &Known<'_>, more: Option<TypeRule>, types: &[TypeId]) -> bool
+/// Returns whether the types after the fixed ones satisfy the rule `more`. Without a rule there must be none.
+fn more_fit(
+    ctx: &Context,
+    known: &ComparedTypes<'_>,
+    more: Option<TypeRule>,
+    types: &[TypeId],
+) -> bool
     requires known { AreKnown ctx.now known.now }
     requires types { All (λ t. IsType ctx.now t) types.now }
     ensures { result ≡ fits.more_fit (known_in ctx.now known.now) more (typed ctx.now types.now) }
@@ -62,8 +67,9 @@ fn more_fit(ctx: &Context, known: &Known<'_>, more: Option<TypeRule>, types: &[T
     }
 }
 
-/// Whether the types after the fixed ones are those of a list that a rule names, or each is what it calls one type.
-fn rest_fit(ctx: &Context, known: &Known<'_>, rule: TypeRule, types: &[TypeId]) -> bool
+/// Returns whether the types after the fixed ones equal the list that the rule names, or each of them satisfies the
+/// rule.
+fn rest_fit(ctx: &Context, known: &ComparedTypes<'_>, rule: TypeRule, types: &[TypeId]) -> bool
     requires known { AreKnown ctx.now known.now }
     requires types { All (λ t. IsType ctx.now t) types.now }
     ensures { result ≡ fits.more_fit (known_in ctx.now known.now) (Some rule) (typed ctx.now types.now) }
@@ -84,8 +90,8 @@ fn rest_fit(ctx: &Context, known: &Known<'_>, rule: TypeRule, types: &[TypeId]) 
     }
 }
 
-/// Whether each of some types is what a row calls it.
-fn all_fit(ctx: &Context, known: &Known<'_>, rule: TypeRule, types: &[TypeId]) -> bool
+/// Returns whether each type satisfies the rule.
+fn all_fit(ctx: &Context, known: &ComparedTypes<'_>, rule: TypeRule, types: &[TypeId]) -> bool
     requires known { AreKnown ctx.now known.now }
     requires types { All (λ t. IsType ctx.now t) types.now }
     ensures { result ≡ list_all (fits.fits (known_in ctx.now known.now) rule) (typed ctx.now types.now) }
@@ -100,8 +106,8 @@ fn all_fit(ctx: &Context, known: &Known<'_>, rule: TypeRule, types: &[TypeId]) -
     true
 }
 
-/// Whether a type is what a row calls it. That of a memref's element is another rule's.
-fn type_fits(ctx: &Context, known: &Known<'_>, rule: TypeRule, ty: TypeId) -> bool
+/// Returns whether a type satisfies the rule. The element types of memrefs are tested by rule 20.
+fn type_fits(ctx: &Context, known: &ComparedTypes<'_>, rule: TypeRule, ty: TypeId) -> bool
     requires known { AreKnown ctx.now known.now }
     requires ty { IsType ctx.now ty }
     ensures { result ≡ fits.fits (known_in ctx.now known.now) rule (Some (type_term ctx.now ty)) }
@@ -122,7 +128,7 @@ fn type_fits(ctx: &Context, known: &Known<'_>, rule: TypeRule, ty: TypeId) -> bo
     }
 }
 
-/// Whether a type is the number of the row, or any number where the row calls no operand so.
+/// Returns whether a type equals `number`, or is any number if there is no such type.
 fn is_the_number(ctx: &Context, number: Option<TypeId>, ty: TypeId) -> bool
     requires number { IfSome number (λ t. IsType ctx.now t) }
     requires ty { IsType ctx.now ty }
@@ -134,7 +140,7 @@ fn is_the_number(ctx: &Context, number: Option<TypeId>, ty: TypeId) -> bool
     }
 }
 
-/// Whether a type is the one that the row calls any.
+/// Returns whether there is a type `wanted` and the type equals it.
 fn is_the_same(ctx: &Context, wanted: Option<TypeId>, ty: TypeId) -> bool
     requires wanted { IfSome wanted (λ t. IsType ctx.now t) }
     requires ty { IsType ctx.now ty }
@@ -146,8 +152,7 @@ fn is_the_same(ctx: &Context, wanted: Option<TypeId>, ty: TypeId) -> bool
     }
 }
 
-/// Whether an operation that has so many operands after the fixed ones may have so many types where a row
-/// names some.
+/// Returns whether `count` types fit the row's number of types, given the number of operands after the fixed ones.
 pub fn count_fits(initial: usize, row: &Types, count: usize) -> bool
     ensures { result ≡ fits.count_fits initial (types_row row.now) count }
 {
@@ -158,7 +163,8 @@ pub fn count_fits(initial: usize, row: &Types, count: usize) -> bool
     }
 }
 
-/// Whether a count may be that of `first` fixed types and more ones by a rule, after `initial` operands.
+/// Returns whether `count` types fit `first` fixed types and more by the rule, given `initial` operands after the fixed
+/// ones.
 fn more_count(initial: usize, first: usize, rule: TypeRule, count: usize) -> bool
     ensures { result ≡ fits.more_count initial first (Some rule) count }
 {

@@ -1,4 +1,4 @@
-//! What the rules of the verifier look at, and the rules on an operation's own form, its types and its memrefs.
+//! The inputs of the verifier's rules, and the rules on an operation's own form, its types and its memrefs.
 #![tactic(auto)]
 
 pub mod fits;
@@ -8,4 +8,4 @@ pub mod shapes;
 pub mod type_rules;
 pub mod types;
 
-pub use listeners_surroundings::{around, events, fact, kept, properties, store};
+pub use listeners_support::{events, fact, fact_table, op_context, properties, store};

@@ -1,14 +1,14 @@
-//! The rules on memrefs, of an operation of right form (`memref` Dialect).
+//! The rules on the memrefs of a well-shaped operation (`memref` Dialect).
 ghost use Rattle.std.specs.Prelude.{◌≡◌, IfSome, Some, ℕ, pos, List, [], ◌∷◌, map};
 ghost use Rattle.std.specs.List.{All};
 ghost use Rattle.std.specs.Option.{option_map};
 ghost use Rattle.std.specs.Ordering.{int_eq};
 ghost use Rattle.std.specs.Cmp.Lexicographic.{pointwise};
-ghost use Rattle.ir_types.specs.Things.{Things, IsType, TypeIsOf};
+ghost use Rattle.ir_types.specs.Things.{ContextModel, IsType, TypeIsOf};
 ghost use Rattle.ir_types.specs.Terms.{TypeTerm, AttrTerm, attr_from, type_at, type_from, type_term};
 ghost use Rattle.ir_types.specs.WordNames.{word_bytes};
-ghost use Rattle.listeners_surroundings.specs.events.Modules.{NodeIsOf};
-ghost use Rattle.listeners_surroundings.specs.Gathered.{AroundIsOf};
+ghost use Rattle.listeners_support.specs.events.Modules.{NodeIsOf};
+ghost use Rattle.listeners_support.specs.Gathered.{AroundIsOf};
 ghost use Rattle.ir_verify_base.specs.Numbers.{typed, node_in, around_in};
 ghost use Rattle.ir_verify_base.specs.Fits as fits;
 ghost use Rattle.ir_verify_base.specs.Types as types;
@@ -20,20 +20,20 @@ use ir_types::context::Context;
 use ir_types::ids::TypeId;
 use ir_types::node::{AttrNode, TypeNode};
 use ir_types::word::Word;
-use listeners_surroundings::around::Around;
-use listeners_surroundings::node::Node;
+use listeners_support::node::Node;
+use listeners_support::op_context::OpContext;
 use op_registry::things::{attr_of, type_of};
 
-/// What a memref type says.
+/// The parts of a memref type that the rules use.
 #[derive(Clone, Copy)]
 struct Memref {
     rank: usize,
-    /// How many of its dimensions aren't known.
+    /// The number of dynamic dimensions.
     unknown: usize,
     elem: TypeId,
 }
 
-/// What a type says, if it is a memref.
+/// Returns the parts of a memref type, or `None` for another type.
 fn memref_of(ctx: &Context, ty: TypeId) -> Option<Memref>
     requires { IsType ctx.now ty }
     ensures memref { option_map (λ m. (m.rank, m.unknown, type_term ctx.now m.elem)) result
@@ -43,11 +43,11 @@ fn memref_of(ctx: &Context, ty: TypeId) -> Option<Memref>
     memref_in(type_of(ctx, ty))
 }
 
-/// What a type's node says, if it is a memref.
+/// Returns the parts of a memref type node, or `None` for another node.
 fn memref_in(node: &TypeNode) -> Option<Memref>
     ensures memref { (known : List TypeTerm) → option_map (λ m. (m.rank, m.unknown, type_at known m.elem)) result
         ≡ types.memref_of (type_from known node.now) }
-    ensures elem { (c : Things) → TypeIsOf c node.now → IfSome result (λ m. IsType c m.elem) }
+    ensures elem { (c : ContextModel) → TypeIsOf c node.now → IfSome result (λ m. IsType c m.elem) }
 {
     match node {
         TypeNode::Int { .. } => None,
@@ -62,7 +62,7 @@ fn memref_in(node: &TypeNode) -> Option<Memref>
     }
 }
 
-/// How many of some dimensions aren't known.
+/// Returns the number of dynamic dimensions.
 fn unknown_count(dims: &[Option<u64>]) -> usize
     ensures { result ≡ types.unknown_count dims.now }
 {
@@ -77,9 +77,9 @@ fn unknown_count(dims: &[Option<u64>]) -> usize
     count
 }
 
-/// Rule 20: a memref is read or written by another number of indices than its rank, or as another type than
-/// its elements'; or a memref is made by another number of operands than it has dimensions that aren't known.
-pub fn breaks_20(ctx: &Context, around: &Around<'_>) -> bool
+/// Rule 20: the number of indices of a load or store isn't the memref's rank, or the type of its value isn't the
+/// element type; or the number of operands of an allocation isn't the number of dynamic dimensions.
+pub fn breaks_20(ctx: &Context, around: &OpContext<'_>) -> bool
     requires { AroundIsOf ctx.now around.now }
     ensures { result ≡ rules.breaks_20 (around_in ctx.now around.now) }
 {
@@ -93,7 +93,7 @@ pub fn breaks_20(ctx: &Context, around: &Around<'_>) -> bool
         && alloc_differs(ctx, &around.types, around.node.results())
 }
 
-/// Whether a load has other indices than its memref's rank, or another result than its elements' type.
+/// Returns whether a load has a number of indices other than the rank, or a result type other than the element type.
 fn load_differs(ctx: &Context, operands: &[TypeId], results: &[TypeId]) -> bool
     requires operands { All (λ t. IsType ctx.now t) operands.now }
     requires results { All (λ t. IsType ctx.now t) results.now }
@@ -108,7 +108,7 @@ fn load_differs(ctx: &Context, operands: &[TypeId], results: &[TypeId]) -> bool
     element_differs(ctx, *memref, indices.len(), *result)
 }
 
-/// Whether a store has other indices than its memref's rank, or another value than its elements' type.
+/// Returns whether a store has a number of indices other than the rank, or a value type other than the element type.
 fn store_differs(ctx: &Context, operands: &[TypeId]) -> bool
     requires { All (λ t. IsType ctx.now t) operands.now }
     ensures { result ≡ rules.store_differs (typed ctx.now operands.now) }
@@ -119,7 +119,7 @@ fn store_differs(ctx: &Context, operands: &[TypeId]) -> bool
     element_differs(ctx, *memref, indices.len(), *value)
 }
 
-/// Whether a number of indices isn't a memref's rank, or a type isn't that of its elements.
+/// Returns whether the number of indices differs from the memref's rank, or the type from its element type.
 fn element_differs(ctx: &Context, memref: TypeId, indices: usize, ty: TypeId) -> bool
     requires memref { IsType ctx.now memref }
     requires ty { IsType ctx.now ty }
@@ -132,7 +132,7 @@ fn element_differs(ctx: &Context, memref: TypeId, indices: usize, ty: TypeId) ->
     }
 }
 
-/// Whether an allocation has another number of operands than its result has dimensions that aren't known.
+/// Returns whether the number of operands of an allocation differs from the number of dynamic dimensions of its result.
 fn alloc_differs(ctx: &Context, sizes: &[TypeId], results: &[TypeId]) -> bool
     requires { All (λ t. IsType ctx.now t) results.now }
     ensures { result ≡ rules.alloc_differs (typed ctx.now sizes.now) (map (type_term ctx.now) results.now) }
@@ -143,7 +143,7 @@ fn alloc_differs(ctx: &Context, sizes: &[TypeId], results: &[TypeId]) -> bool
     sizes_differ(ctx, sizes.len(), *result)
 }
 
-/// Whether a number of sizes isn't that of a memref's dimensions that aren't known.
+/// Returns whether the number of sizes differs from the number of the memref's dynamic dimensions.
 fn sizes_differ(ctx: &Context, sizes: usize, memref: TypeId) -> bool
     requires { IsType ctx.now memref }
     ensures { result ≡ rules.sizes_differ sizes (types.memref_of (type_term ctx.now memref)) }
@@ -154,8 +154,8 @@ fn sizes_differ(ctx: &Context, sizes: usize, memref: TypeId) -> bool
     }
 }
 
-/// Rule 24: the segment sizes of an allocation of n operands are there, and aren't n and 0.
-pub fn breaks_24(ctx: &Context, around: &Around<'_>) -> bool
+/// Rule 24: an allocation of n operands has segment sizes other than n and 0.
+pub fn breaks_24(ctx: &Context, around: &OpContext<'_>) -> bool
     requires { AroundIsOf ctx.now around.now }
     ensures { result ≡ rules.breaks_24 (around_in ctx.now around.now) }
 {
@@ -163,7 +163,7 @@ pub fn breaks_24(ctx: &Context, around: &Around<'_>) -> bool
         && segments_differ(ctx, around.types.len(), &around.node)
 }
 
-/// Whether an operation has segment sizes, and they aren't a number of sizes and 0.
+/// Returns whether an operation has segment sizes other than `sizes` and 0.
 fn segments_differ(ctx: &Context, sizes: usize, node: &Node<'_>) -> bool
     requires { NodeIsOf ctx.now node.now }
     ensures { result ≡ rules.segments_differ sizes
@@ -175,7 +175,7 @@ fn segments_differ(ctx: &Context, sizes: usize, node: &Node<'_>) -> bool
     }
 }
 
-/// Whether an attribute is a list of segment sizes, and they aren't a number of sizes and 0.
+/// Returns whether an attribute is a list of segment sizes other than `sizes` and 0.
 fn are_others(node: &AttrNode, sizes: usize) -> bool
     ensures { (names : List (List ℕ)) (known : List TypeTerm) (attrs : List AttrTerm)
         → result ≡ rules.segments_differ sizes (Some (attr_from names known attrs node.now)) }
@@ -194,7 +194,7 @@ fn are_others(node: &AttrNode, sizes: usize) -> bool
     }
 }
 
-/// Whether the values are the number of sizes, and 0.
+/// Returns whether the values are `sizes` and 0.
 fn are_sizes(values: &[i64], sizes: usize) -> bool
     ensures { result ≡ pointwise int_eq values.now (pos sizes ∷ pos 0 ∷ []) }
 {
@@ -204,7 +204,7 @@ fn are_sizes(values: &[i64], sizes: usize) -> bool
     is_number(*first, sizes) && *second == 0
 }
 
-/// Whether a signed value is a number.
+/// Returns whether a signed value equals a number.
 fn is_number(value: i64, number: usize) -> bool
     ensures { result ≡ int_eq value (pos number) }
 {

@@ -1,29 +1,29 @@
 //! The rules on an operation's own form: counts and properties.
 ghost use Rattle.std.specs.Prelude.{◌≡◌, map};
 ghost use Rattle.std.specs.List.{list_any};
-ghost use Rattle.ir_types.specs.Things.{Things};
+ghost use Rattle.ir_types.specs.Things.{ContextModel};
 ghost use Rattle.op_registry.specs.Registry.{property_row, row_from};
-ghost use Rattle.listeners_surroundings.specs.events.Modules.{NodeIsOf};
+ghost use Rattle.listeners_support.specs.events.Modules.{NodeIsOf};
 ghost use Rattle.ir_verify_base.specs.Numbers.{node_in};
 ghost use Rattle.ir_verify_base.specs.Shapes as shapes;
 
 use crate::fits::count_fits;
 use crate::node::property;
 use ir_types::context::Context;
-use listeners_surroundings::node::Node;
+use listeners_support::node::Node;
 use op_registry::definition::{OpDef, Property};
 use op_registry::property::allows;
 
-/// How many operands there are after the fixed ones.
+/// Returns the number of operands after the fixed ones.
 #[tactic(auto, unfolding(op_registry::specs::Registry::row_from))]
 fn initial_count(def: &OpDef, node: &Node<'_>) -> usize
-    ensures { (c : Things) → result ≡ shapes.initial_count (row_from def.now) (node_in c node.now) }
+    ensures { (c : ContextModel) → result ≡ shapes.initial_count (row_from def.now) (node_in c node.now) }
 {
     let count = node.operands().len();
     count.saturating_sub(def.operands.first.len())
 }
 
-/// Rule 1: the number of operands isn't one that the row names.
+/// Rule 1: the row doesn't allow the number of operands.
 pub fn breaks_1(_ctx: &Context, def: &OpDef, node: &Node<'_>) -> bool
     ensures { result ≡ shapes.breaks_1 (row_from def.now) (node_in _ctx.now node.now) }
 {
@@ -31,7 +31,7 @@ pub fn breaks_1(_ctx: &Context, def: &OpDef, node: &Node<'_>) -> bool
     !count_fits(initial, &def.operands, node.operands().len())
 }
 
-/// Rule 3: the number of results isn't one that the row names.
+/// Rule 3: the row doesn't allow the number of results.
 pub fn breaks_3(_ctx: &Context, def: &OpDef, node: &Node<'_>) -> bool
     ensures { result ≡ shapes.breaks_3 (row_from def.now) (node_in _ctx.now node.now) }
 {
@@ -39,7 +39,7 @@ pub fn breaks_3(_ctx: &Context, def: &OpDef, node: &Node<'_>) -> bool
     !count_fits(initial, &def.results, node.results().len())
 }
 
-/// Rule 5: the number of regions isn't the row's.
+/// Rule 5: the number of regions isn't the row's number.
 #[tactic(auto, unfolding(op_registry::specs::Registry::row_from))]
 pub fn breaks_5(_ctx: &Context, def: &OpDef, node: &Node<'_>) -> bool
     ensures { result ≡ shapes.breaks_5 (row_from def.now) (node_in _ctx.now node.now) }
@@ -56,7 +56,7 @@ pub fn breaks_12(ctx: &Context, def: &OpDef, node: &Node<'_>) -> bool
     any_missing(ctx, def.properties, node)
 }
 
-/// Whether one of some properties is required, and an operation lacks it.
+/// Returns whether the operation lacks one of the properties that is required.
 fn any_missing(ctx: &Context, properties: &[Property], node: &Node<'_>) -> bool
     requires { NodeIsOf ctx.now node.now }
     ensures { result ≡ list_any (shapes.is_missing (node_in ctx.now node.now)) (map property_row properties.now) }
@@ -71,7 +71,7 @@ fn any_missing(ctx: &Context, properties: &[Property], node: &Node<'_>) -> bool
     false
 }
 
-/// Whether a property is required, and an operation lacks it.
+/// Returns whether the operation lacks the property and it is required.
 fn is_missing(ctx: &Context, wanted: &Property, node: &Node<'_>) -> bool
     requires { NodeIsOf ctx.now node.now }
     ensures { result ≡ shapes.is_missing (node_in ctx.now node.now) (property_row wanted.now) }
@@ -88,7 +88,7 @@ pub fn breaks_13(ctx: &Context, def: &OpDef, node: &Node<'_>) -> bool
     any_wrong(ctx, def.properties, node)
 }
 
-/// Whether one of some properties is there, and isn't of the kind that its key asks.
+/// Returns whether one of the properties is present and isn't of the kind that its key requires.
 fn any_wrong(ctx: &Context, properties: &[Property], node: &Node<'_>) -> bool
     requires { NodeIsOf ctx.now node.now }
     ensures { result ≡ list_any (shapes.is_wrong (node_in ctx.now node.now)) (map property_row properties.now) }
@@ -103,7 +103,7 @@ fn any_wrong(ctx: &Context, properties: &[Property], node: &Node<'_>) -> bool
     false
 }
 
-/// Whether a property is there, and isn't of the kind that its key asks.
+/// Returns whether the property is present and isn't of the kind that its key requires.
 #[tactic(auto, using(crate::proofs::Words::word_named))]
 fn is_wrong(ctx: &Context, given: &Property, node: &Node<'_>) -> bool
     requires { NodeIsOf ctx.now node.now }
@@ -116,14 +116,14 @@ fn is_wrong(ctx: &Context, given: &Property, node: &Node<'_>) -> bool
     }
 }
 
-/// Whether a count isn't one that the row names.
+/// Returns whether the row doesn't allow the number of operands, results or regions.
 fn has_wrong_counts(ctx: &Context, def: &OpDef, node: &Node<'_>) -> bool
     ensures { result ≡ shapes.has_wrong_counts (row_from def.now) (node_in ctx.now node.now) }
 {
     breaks_1(ctx, def, node) || breaks_3(ctx, def, node) || breaks_5(ctx, def, node)
 }
 
-/// Whether a property that the row requires is missing, or one of the row is of the wrong kind.
+/// Returns whether the operation lacks a required property, or a property of the row is of the wrong kind.
 fn has_wrong_properties(ctx: &Context, def: &OpDef, node: &Node<'_>) -> bool
     requires { NodeIsOf ctx.now node.now }
     ensures { result ≡ shapes.has_wrong_properties (row_from def.now) (node_in ctx.now node.now) }
@@ -131,7 +131,7 @@ fn has_wrong_properties(ctx: &Context, def: &OpDef, node: &Node<'_>) -> bool
     breaks_12(ctx, def, node) || breaks_13(ctx, def, node)
 }
 
-/// Whether an operation's own form is right.
+/// Returns whether the operation is well-shaped: its counts and its properties are those of its row.
 pub fn is_well_shaped(ctx: &Context, def: &OpDef, node: &Node<'_>) -> bool
     requires { NodeIsOf ctx.now node.now }
     ensures { result ≡ shapes.is_well_shaped (row_from def.now) (node_in ctx.now node.now) }

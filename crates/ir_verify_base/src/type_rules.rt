@@ -1,38 +1,38 @@
-//! The rules on types, of an operation of right form.
+//! The rules on the types of a well-shaped operation.
 ghost use Rattle.std.specs.Prelude.{◌≡◌, IfSome, Some, ℕ, List, [], map, length, drop, not, unwrap_or, option_and_then};
 ghost use Rattle.std.specs.List.{All};
 ghost use Rattle.std.specs.Option.{option_map};
-ghost use Rattle.ir_types.specs.Things.{Things, IsType, TypeIsOf, IsAttr};
+ghost use Rattle.ir_types.specs.Things.{ContextModel, IsType, TypeIsOf, IsAttr};
 ghost use Rattle.ir_types.specs.Terms.{TypeTerm, AttrTerm, attr_from, attr_term, type_at, type_from, type_term};
 ghost use Rattle.ir_types.specs.WordNames.{word_bytes};
 ghost use Rattle.op_registry.specs.Registry.{region_row, row_from};
 ghost use Rattle.op_registry.specs.Properties.{integer_of as integer_in};
-ghost use Rattle.listeners_surroundings.specs.events.Modules.{NodeIsOf};
-ghost use Rattle.listeners_surroundings.specs.Gathered.{AroundIsOf};
+ghost use Rattle.listeners_support.specs.events.Modules.{NodeIsOf};
+ghost use Rattle.listeners_support.specs.Gathered.{AroundIsOf};
 ghost use Rattle.ir_verify_base.specs.Numbers.{typed, known_in, node_in, around_in, AreKnown, AreKnownOf};
 ghost use Rattle.ir_verify_base.specs.Fits as fits;
 ghost use Rattle.ir_verify_base.specs.Types as types;
 ghost use Rattle.ir_verify_base.specs.TypeRules as rules;
 
-use crate::fits::{Known, types_fit};
+use crate::fits::{ComparedTypes, types_fit};
 use crate::node::{block, function_type, is_named, property};
 use crate::types::{is_index, is_number, same, width_of};
 use ir_types::context::Context;
 use ir_types::ids::TypeId;
 use ir_types::word::Word;
-use listeners_surroundings::around::Around;
-use listeners_surroundings::node::Node;
+use listeners_support::node::Node;
+use listeners_support::op_context::OpContext;
 use op_registry::definition::{OpDef, RegionRule, TypeRule};
 use op_registry::property::integer_of;
 
-/// What the types of an operation may be compared with.
-pub fn known_of<'a>(ctx: &'a Context, def: &OpDef, around: &'a Around<'_>) -> Known<'a>
+/// Returns the types of an operation with which a type rule may compare a type.
+pub fn known_of<'a>(ctx: &'a Context, def: &OpDef, around: &'a OpContext<'_>) -> ComparedTypes<'a>
     requires { AroundIsOf ctx.now around.now }
     ensures { AreKnownOf ctx.now def.now around.now result }
 {
     let types: &[TypeId] = &around.types;
     let rules: &[TypeRule] = def.operands.first;
-    Known {
+    ComparedTypes {
         number: first_called(TypeRule::Number, rules, types),
         same: first_called(TypeRule::Any, rules, types),
         initial: after(types, rules.len()),
@@ -41,11 +41,11 @@ pub fn known_of<'a>(ctx: &'a Context, def: &OpDef, around: &'a Around<'_>) -> Kn
     }
 }
 
-/// The type of the first operand that a row calls as is wanted.
+/// Returns the type of the first operand whose rule is `wanted`.
 fn first_called(wanted: TypeRule, rules: &[TypeRule], types: &[TypeId]) -> Option<TypeId>
-    ensures is { (c : Things)
+    ensures is { (c : ContextModel)
         → option_map (type_term c) result ≡ fits.first_called wanted rules.now (typed c types.now) }
-    ensures known { (c : Things) → All (λ t. IsType c t) types.now → IfSome result (λ t. IsType c t) }
+    ensures known { (c : ContextModel) → All (λ t. IsType c t) types.now → IfSome result (λ t. IsType c t) }
 {
     let mut named = rules;
     let mut rest = types;
@@ -62,7 +62,8 @@ fn first_called(wanted: TypeRule, rules: &[TypeRule], types: &[TypeId]) -> Optio
     None
 }
 
-/// Whether a rule is the one that is wanted, where that is a number or any: with no others are types compared.
+/// Returns whether `rule` is `wanted`. The answer is `false` unless `wanted` is `Number` or `Any`, because types are
+/// compared with no others.
 fn is_called(wanted: TypeRule, rule: TypeRule) -> bool
     ensures { result ≡ fits.is_called wanted rule }
 {
@@ -73,7 +74,7 @@ fn is_called(wanted: TypeRule, rule: TypeRule) -> bool
     }
 }
 
-/// The types after the first ones.
+/// Returns the types after the first `count`.
 fn after(types: &[TypeId], count: usize) -> &[TypeId]
     ensures { result.now ≡ drop count types.now }
 {
@@ -84,7 +85,7 @@ fn after(types: &[TypeId], count: usize) -> &[TypeId]
     }
 }
 
-/// The inputs of the function type that an operation has as property.
+/// Returns the inputs of the function type in an operation's properties, or none.
 fn inputs_of<'a>(ctx: &'a Context, node: &Node<'_>) -> &'a [TypeId]
     requires { NodeIsOf ctx.now node.now }
     ensures inputs { typed ctx.now result.now
@@ -97,10 +98,14 @@ fn inputs_of<'a>(ctx: &'a Context, node: &Node<'_>) -> &'a [TypeId]
     }
 }
 
-/// Rule 2: the first operand that the row calls a number is none, or an operand's type isn't what the row
-/// calls it.
+/// Rule 2: the type of an operand doesn't satisfy its rule, or the first operand whose rule is `Number` isn't a number.
 #[tactic(auto, unfolding(op_registry::specs::Registry::row_from))]
-pub fn breaks_2(ctx: &Context, def: &OpDef, around: &Around<'_>, known: &Known<'_>) -> bool
+pub fn breaks_2(
+    ctx: &Context,
+    def: &OpDef,
+    around: &OpContext<'_>,
+    known: &ComparedTypes<'_>,
+) -> bool
     requires around { AroundIsOf ctx.now around.now }
     requires known { AreKnownOf ctx.now def.now around.now known.now }
     ensures { result ≡ rules.breaks_2 (row_from def.now) (around_in ctx.now around.now) }
@@ -108,7 +113,7 @@ pub fn breaks_2(ctx: &Context, def: &OpDef, around: &Around<'_>, known: &Known<'
     is_no_number(ctx, known.number) || !types_fit(ctx, known, &def.operands, &around.types)
 }
 
-/// Whether there is a type, and it is neither a signless integer type nor `index`.
+/// Returns whether there is a type, and it is neither a signless integer type nor `index`.
 fn is_no_number(ctx: &Context, ty: Option<TypeId>) -> bool
     requires { IfSome ty (λ t. IsType ctx.now t) }
     ensures { result ≡ rules.is_no_number (option_map (type_term ctx.now) ty) }
@@ -119,9 +124,14 @@ fn is_no_number(ctx: &Context, ty: Option<TypeId>) -> bool
     }
 }
 
-/// Rule 4: a result's type isn't what the row calls it.
+/// Rule 4: the type of a result doesn't satisfy its rule.
 #[tactic(auto, unfolding(op_registry::specs::Registry::row_from))]
-pub fn breaks_4(ctx: &Context, def: &OpDef, around: &Around<'_>, known: &Known<'_>) -> bool
+pub fn breaks_4(
+    ctx: &Context,
+    def: &OpDef,
+    around: &OpContext<'_>,
+    known: &ComparedTypes<'_>,
+) -> bool
     requires around { AroundIsOf ctx.now around.now }
     requires known { AreKnownOf ctx.now def.now around.now known.now }
     ensures { result ≡ rules.breaks_4 (row_from def.now) (around_in ctx.now around.now) }
@@ -129,9 +139,14 @@ pub fn breaks_4(ctx: &Context, def: &OpDef, around: &Around<'_>, known: &Known<'
     !types_fit(ctx, known, &def.results, around.node.results())
 }
 
-/// Rule 7: the types of the arguments of a block aren't what the row calls them.
+/// Rule 7: the argument types of a block don't satisfy their rules.
 #[tactic(auto, unfolding(op_registry::specs::Registry::row_from))]
-pub fn breaks_7(ctx: &Context, def: &OpDef, around: &Around<'_>, known: &Known<'_>) -> bool
+pub fn breaks_7(
+    ctx: &Context,
+    def: &OpDef,
+    around: &OpContext<'_>,
+    known: &ComparedTypes<'_>,
+) -> bool
     requires around { AroundIsOf ctx.now around.now }
     requires known { AreKnownOf ctx.now def.now around.now known.now }
     ensures { result ≡ rules.breaks_7 (row_from def.now) (around_in ctx.now around.now) }
@@ -139,8 +154,13 @@ pub fn breaks_7(ctx: &Context, def: &OpDef, around: &Around<'_>, known: &Known<'
     any_differ(ctx, known, def.regions, &around.node)
 }
 
-/// Whether the block of one of some regions has arguments whose types aren't what the row calls them.
-fn any_differ(ctx: &Context, known: &Known<'_>, regions: &[RegionRule], node: &Node<'_>) -> bool
+/// Returns whether the argument types of the block of some region don't satisfy their rules.
+fn any_differ(
+    ctx: &Context,
+    known: &ComparedTypes<'_>,
+    regions: &[RegionRule],
+    node: &Node<'_>,
+) -> bool
     requires node { NodeIsOf ctx.now node.now }
     requires known { AreKnown ctx.now known.now }
     ensures { result ≡ rules.any_differ (known_in ctx.now known.now) (map region_row regions.now)
@@ -158,10 +178,10 @@ fn any_differ(ctx: &Context, known: &Known<'_>, regions: &[RegionRule], node: &N
     false
 }
 
-/// Whether a region has a block whose arguments' types aren't what the row calls them.
+/// Returns whether a region has a block whose argument types don't satisfy their rules.
 fn arguments_differ(
     ctx: &Context,
-    known: &Known<'_>,
+    known: &ComparedTypes<'_>,
     region: &RegionRule,
     node: &Node<'_>,
     number: usize,
@@ -177,15 +197,15 @@ fn arguments_differ(
     }
 }
 
-/// Rule 14: the value of a constant isn't of its result's type.
-pub fn breaks_14(ctx: &Context, around: &Around<'_>) -> bool
+/// Rule 14: the value of a constant isn't of the type of its result.
+pub fn breaks_14(ctx: &Context, around: &OpContext<'_>) -> bool
     requires { AroundIsOf ctx.now around.now }
     ensures { result ≡ rules.breaks_14 (around_in ctx.now around.now) }
 {
     is_named(ctx, &around.node, Word::ArithConstant) && is_of_another(ctx, &around.node)
 }
 
-/// Whether an operation's property `value` is an integer of another type than its one result.
+/// Returns whether the property `value` of an operation is an integer of a type other than its single result's.
 fn is_of_another(ctx: &Context, node: &Node<'_>) -> bool
     requires { NodeIsOf ctx.now node.now }
     ensures { result ≡ rules.is_of_another
@@ -201,7 +221,7 @@ fn is_of_another(ctx: &Context, node: &Node<'_>) -> bool
     !same(ctx, ty, *result)
 }
 
-/// The type of the value of a constant.
+/// Returns the type of the value of a constant, if the value is an integer.
 fn value_type(ctx: &Context, node: &Node<'_>) -> Option<TypeId>
     requires { NodeIsOf ctx.now node.now }
     ensures is { option_map (type_term ctx.now) result ≡ option_map (λ i. i.0)
@@ -213,8 +233,8 @@ fn value_type(ctx: &Context, node: &Node<'_>) -> Option<TypeId>
     Some(ty)
 }
 
-/// Rule 18: an extension not to a greater width, or a truncation not to a smaller one.
-pub fn breaks_18(ctx: &Context, around: &Around<'_>) -> bool
+/// Rule 18: an extension isn't to a greater width, or a truncation isn't to a smaller one.
+pub fn breaks_18(ctx: &Context, around: &OpContext<'_>) -> bool
     requires { AroundIsOf ctx.now around.now }
     ensures { result ≡ rules.breaks_18 (around_in ctx.now around.now) }
 {
@@ -224,14 +244,14 @@ pub fn breaks_18(ctx: &Context, around: &Around<'_>) -> bool
     is_extension(ctx, &around.node) && isnt_greater(ctx, &around.types, around.node.results())
 }
 
-/// Whether an operation extends an integer, by its sign or by zeros.
+/// Returns whether an operation is a sign extension or a zero extension.
 fn is_extension(ctx: &Context, node: &Node<'_>) -> bool
     ensures { result ≡ rules.is_extension (node_in ctx.now node.now) }
 {
     is_named(ctx, node, Word::ArithExtsi) || is_named(ctx, node, Word::ArithExtui)
 }
 
-/// Whether the one operand and the one result have widths, and that of the result isn't greater.
+/// Returns whether the single operand and the single result have widths, and the result's isn't greater.
 fn isnt_greater(ctx: &Context, operands: &[TypeId], results: &[TypeId]) -> bool
     requires operands { All (λ t. IsType ctx.now t) operands.now }
     requires results { All (λ t. IsType ctx.now t) results.now }
@@ -243,7 +263,7 @@ fn isnt_greater(ctx: &Context, operands: &[TypeId], results: &[TypeId]) -> bool
     }
 }
 
-/// Whether the one operand and the one result have widths, and that of the result isn't smaller.
+/// Returns whether the single operand and the single result have widths, and the result's isn't smaller.
 fn isnt_smaller(ctx: &Context, operands: &[TypeId], results: &[TypeId]) -> bool
     requires operands { All (λ t. IsType ctx.now t) operands.now }
     requires results { All (λ t. IsType ctx.now t) results.now }
@@ -255,7 +275,7 @@ fn isnt_smaller(ctx: &Context, operands: &[TypeId], results: &[TypeId]) -> bool
     }
 }
 
-/// The widths of the one operand and the one result, where both are signless integers.
+/// Returns the widths of the single operand and the single result, if both are signless integers.
 fn widths(ctx: &Context, operands: &[TypeId], results: &[TypeId]) -> Option<(u32, u32)>
     requires operands { All (λ t. IsType ctx.now t) operands.now }
     requires results { All (λ t. IsType ctx.now t) results.now }
@@ -272,22 +292,22 @@ fn widths(ctx: &Context, operands: &[TypeId], results: &[TypeId]) -> Option<(u32
     Some((v, w))
 }
 
-/// Rule 19: not exactly one of the operand and the result of an index cast is an index.
-pub fn breaks_19(ctx: &Context, around: &Around<'_>) -> bool
+/// Rule 19: not exactly one of the operand and the result of an index cast is `index`.
+pub fn breaks_19(ctx: &Context, around: &OpContext<'_>) -> bool
     requires { AroundIsOf ctx.now around.now }
     ensures { result ≡ rules.breaks_19 (around_in ctx.now around.now) }
 {
     is_index_cast(ctx, &around.node) && not_one_index(ctx, &around.types, around.node.results())
 }
 
-/// Whether an operation casts between integers and `index`, signed or unsigned.
+/// Returns whether an operation is a signed or unsigned cast between integers and `index`.
 fn is_index_cast(ctx: &Context, node: &Node<'_>) -> bool
     ensures { result ≡ rules.is_index_cast (node_in ctx.now node.now) }
 {
     is_named(ctx, node, Word::ArithIndexCast) || is_named(ctx, node, Word::ArithIndexCastui)
 }
 
-/// Whether both the one operand and the one result are of type `index`, or neither is.
+/// Returns whether both the single operand and the single result are `index`, or neither is.
 fn not_one_index(ctx: &Context, operands: &[TypeId], results: &[TypeId]) -> bool
     requires operands { All (λ t. IsType ctx.now t) operands.now }
     requires results { All (λ t. IsType ctx.now t) results.now }

@@ -1,4 +1,4 @@
-//! What rules ask of types (Builtin Dialect, "Types").
+//! The properties of types that the rules read (Builtin Dialect, "Types").
 ghost use Rattle.std.specs.Prelude.{◌≡◌, IfSome, Some, List, map, length};
 ghost use Rattle.std.specs.List.{All};
 ghost use Rattle.std.specs.Option.{option_map};
@@ -13,7 +13,7 @@ use ir_types::ids::TypeId;
 use ir_types::node::{Sign, TypeNode};
 use op_registry::things::type_of;
 
-/// Whether two types are one.
+/// Returns whether two types are equal.
 #[tactic(auto, using(ir_types::proofs::SameTerms::same_numbers))]
 pub fn same(ctx: &Context, a: TypeId, b: TypeId) -> bool
     requires a { IsType ctx.now a }
@@ -24,7 +24,7 @@ pub fn same(ctx: &Context, a: TypeId, b: TypeId) -> bool
     a == b
 }
 
-/// Whether two lists of types are one.
+/// Returns whether two lists of types are equal.
 pub fn same_types(ctx: &Context, ones: &[TypeId], others: &[TypeId]) -> bool
     requires ones { All (λ t. IsType ctx.now t) ones.now }
     requires others { All (λ t. IsType ctx.now t) others.now }
@@ -45,7 +45,7 @@ pub fn same_types(ctx: &Context, ones: &[TypeId], others: &[TypeId]) -> bool
     right.is_empty()
 }
 
-/// The width of a signless integer type.
+/// Returns the width of a signless integer type, or `None` for another type.
 pub fn width_of(ctx: &Context, ty: TypeId) -> Option<u32>
     requires { IsType ctx.now ty }
     ensures { result ≡ types.width_of (type_term ctx.now ty) }
@@ -53,7 +53,7 @@ pub fn width_of(ctx: &Context, ty: TypeId) -> Option<u32>
     width_in(type_of(ctx, ty))
 }
 
-/// The width that a type's node gives, if it is a signless integer type.
+/// Returns the width of a signless integer type node, or `None` for another node.
 fn width_in(node: &TypeNode) -> Option<u32>
     ensures { (known : List TypeTerm) → result ≡ types.width_of (type_from known node.now) }
 {
@@ -70,7 +70,7 @@ fn width_in(node: &TypeNode) -> Option<u32>
     }
 }
 
-/// Whether a type is a signless integer type.
+/// Returns whether a type is a signless integer type.
 pub fn is_integer(ctx: &Context, ty: TypeId) -> bool
     requires { IsType ctx.now ty }
     ensures { result ≡ types.is_integer (type_term ctx.now ty) }
@@ -78,7 +78,7 @@ pub fn is_integer(ctx: &Context, ty: TypeId) -> bool
     node_is_integer(type_of(ctx, ty))
 }
 
-/// Whether a type's node is a signless integer type.
+/// Returns whether a type node is a signless integer type.
 fn node_is_integer(node: &TypeNode) -> bool
     ensures { (known : List TypeTerm) → result ≡ types.is_integer (type_from known node.now) }
 {
@@ -95,7 +95,7 @@ fn node_is_integer(node: &TypeNode) -> bool
     }
 }
 
-/// Whether a type is `index`.
+/// Returns whether a type is `index`.
 pub fn is_index(ctx: &Context, ty: TypeId) -> bool
     requires { IsType ctx.now ty }
     ensures { result ≡ types.is_index (type_term ctx.now ty) }
@@ -103,7 +103,7 @@ pub fn is_index(ctx: &Context, ty: TypeId) -> bool
     node_is_index(type_of(ctx, ty))
 }
 
-/// Whether a type's node is `index`.
+/// Returns whether a type node is `index`.
 fn node_is_index(node: &TypeNode) -> bool
     ensures { (known : List TypeTerm) → result ≡ types.is_index (type_from known node.now) }
 {
@@ -116,7 +116,7 @@ fn node_is_index(node: &TypeNode) -> bool
     }
 }
 
-/// Whether a type is a signless integer type or `index`.
+/// Returns whether a type is a signless integer type or `index`.
 pub fn is_number(ctx: &Context, ty: TypeId) -> bool
     requires { IsType ctx.now ty }
     ensures { result ≡ types.is_number (type_term ctx.now ty) }
@@ -124,7 +124,7 @@ pub fn is_number(ctx: &Context, ty: TypeId) -> bool
     is_integer(ctx, ty) || is_index(ctx, ty)
 }
 
-/// Whether a type is `i1`.
+/// Returns whether a type is `i1`.
 pub fn is_boolean(ctx: &Context, ty: TypeId) -> bool
     requires { IsType ctx.now ty }
     ensures { result ≡ types.is_boolean (type_term ctx.now ty) }
@@ -132,7 +132,7 @@ pub fn is_boolean(ctx: &Context, ty: TypeId) -> bool
     node_is_boolean(type_of(ctx, ty))
 }
 
-/// Whether a type's node is `i1`.
+/// Returns whether a type node is `i1`.
 fn node_is_boolean(node: &TypeNode) -> bool
     ensures { (known : List TypeTerm) → result ≡ types.is_boolean (type_from known node.now) }
 {
@@ -149,7 +149,7 @@ fn node_is_boolean(node: &TypeNode) -> bool
     }
 }
 
-/// Whether a type is a memref.
+/// Returns whether a type is a memref.
 pub fn is_memref(ctx: &Context, ty: TypeId) -> bool
     requires { IsType ctx.now ty }
     ensures { result ≡ types.is_memref (type_term ctx.now ty) }
@@ -157,7 +157,7 @@ pub fn is_memref(ctx: &Context, ty: TypeId) -> bool
     node_is_memref(type_of(ctx, ty))
 }
 
-/// Whether a type's node is a memref type.
+/// Returns whether a type node is a memref.
 fn node_is_memref(node: &TypeNode) -> bool
     ensures { (known : List TypeTerm) → result ≡ types.is_memref (type_from known node.now) }
 {

@@ -1,4 +1,4 @@
--- The uses of a tree, parted into those by one operation and those by others.
+-- The uses of a tree, split into those by one operation and those by others.
 use Rattle.std.proofs.Common.{◌≡◌, refl, ap, sym, ◌∙◌, subst, ℕ, Bool, true, false, cond, not, eqb, eqb-true, eq-eqb, List, [], ◌∷◌, ◌++◌, map, Some}
 use Rattle.std.specs.Prelude.{option_map}
 use Rattle.std.specs.List.{IsDistinct, AllByRecursion}
@@ -11,7 +11,7 @@ use Rattle.listeners.specs.declared.key.Use.{Use}
 use Rattle.listeners.specs.Uses.{operand_uses, uses_in, in_order}
 use Rattle.listeners.specs.Others.{is_other, others}
 use Rattle.listeners.proofs.Cutting.{moved_front}
-use Rattle.listeners.proofs.Others.{behind_alike, only_append, own_in, own_out}
+use Rattle.listeners.proofs.Others.{after_alike, only_append, own_in, own_out}
 use Rattle.listeners.proofs.Places.{Replaced, uses_at, uses_by_heads}
 use Rattle.ir_event.proofs.of_types.Sorting.{flips_eq}
 
@@ -40,11 +40,11 @@ module _ {N T A : Type 0} (x : ℕ) where
           let first : first_head x hs ≡ Some g = sym (ap (λ b. cond b (Some h) (first_head x hs)) is) ∙ e in
           let here : List Use = operand_uses h.id 0 h.operands in
           let own : List Use = operand_uses x 0 g.operands in
-          behind_alike here (uses_at hs) (own ++ others x (uses_at hs)) (later first)
+          after_alike here (uses_at hs) (own ++ others x (uses_at hs)) (later first)
           ∙ moved_front here own (others x (uses_at hs))
           ∙ ap (λ l. in_order (own ++ l)) (sym (only_append (is_other x) here (uses_at hs) ∙ ap (λ l. l ++ others x (uses_at hs)) (own_in x h.id 0 h.operands (flips_eq x h.id ∙ is))))
 
-  -- the uses of an operation are those of its operands, and stand among those of the others
+  -- the uses of a tree are those of an operation's operands and those by the others
   pub split_tree : (t o : OpOf N T A) → HasDistinctIds t → find x t ≡ Some o → in_order (uses_in t) ≡ in_order (operand_uses x 0 (head o).operands ++ others x (uses_in t))
   split_tree t o d found =
       let first : first_head x (heads t) ≡ Some (head o) = sym (found_head x t) ∙ ap (option_map (λ p. head p)) found in
@@ -53,7 +53,7 @@ module _ {N T A : Type 0} (x : ℕ) where
       ∙ split_heads (head o) (heads t) apart first
       ∙ ap (λ l. in_order (operand_uses x 0 (head o).operands ++ others x l)) (sym (uses_by_heads t))
 
--- where a use of an operation is another, those by others are as they were
+-- if one use of an operation changes, the uses by others don't
 pub replaced_others : (x : ℕ) (u v : Use) (us vs : List Use) → u.user ≡ x → v.user ≡ x → Replaced u v us vs → others x us ≡ others x vs
 replaced_others x u v us vs a b r =
     ap (others x) r.was

@@ -1,4 +1,4 @@
--- A table of uses where an operation is given other operands.
+-- A table of uses in which the operands of an operation change.
 use Rattle.std.proofs.Common.{Result, Ok, Err, OnOk, ◌≡◌, refl, ap, sym, ◌∙◌, subst, ℕ, ◌<◌, Bool, true, false, cond, not, ◌&&◌, ◌+◌, eqb, eqb-true, eq-eqb, length, take, drop, List, [], ◌∷◌, ◌++◌, append_assoc, map, Option, Some, None, arith}
 use Rattle.std.specs.Prelude.{is_some}
 use Rattle.std.specs.declared.alloc.AllocError.{AllocError}
@@ -13,14 +13,14 @@ use Rattle.std.specs.Map.{lookup}
 use Rattle.std.specs.Map as entries
 use Rattle.std.specs.BTreeMap.{is_at, insert_entry}
 use Rattle.std.specs.FinMap.{nat_cmp-IsAntisymmetric}
-use Rattle.id_map.specs.Map.{IdMap}
-use Rattle.id_map.specs.Map as idmap
+use Rattle.listeners_support.specs.Map.{IdMap}
+use Rattle.listeners_support.specs.Map as idmap
 use Rattle.std.proofs.lemmas.Bool.{ne_eqb}
 use Rattle.ir_event.specs.trees.declared.value.Value.{Value}
 use Rattle.listeners.specs.declared.key.Use.{Use}
-use Rattle.listeners.specs.declared.key.Key.{Key}
+use Rattle.listeners.specs.declared.key.UseKey.{UseKey}
 use Rattle.listeners.specs.declared.user.User.{User}
-use Rattle.listeners.specs.declared.changed.Changed.{Changed}
+use Rattle.listeners.specs.declared.operand_change.OperandChange.{OperandChange}
 use Rattle.listeners.specs.Uses.{operand_uses, in_order}
 use Rattle.listeners.specs.Keys.{key_of, keys_of}
 use Rattle.listeners.specs.Others.{is_other, only, others}
@@ -28,25 +28,25 @@ use Rattle.listeners.specs.Listings.{operand_count, listed_uses, user_uses, forg
 use Rattle.listeners.specs.Tables.{changed_uses, is_unchanged}
 use Rattle.listeners.proofs.Cutting.{moved_front}
 use Rattle.listeners.proofs.Listed.{keys_joined}
-use Rattle.listeners.proofs.Others.{behind_alike, only_append, only_both, only_same, only_turned, own_in, own_only, own_out}
+use Rattle.listeners.proofs.Others.{after_alike, only_append, only_both, only_same, only_turned, own_in, own_only, own_out}
 use Rattle.ir_event.proofs.of_types.Sorting.{flips_eq}
 use Rattle.ir_event.proofs.of_types.Truths.{same_test}
 
 apart : (x y : ℕ) (r : Ordering) → nat_cmp x y ≡ r → is_eq r ≡ false → eqb x y ≡ false
 apart x y r e f = sym (same_test x y) ∙ ap is_eq e ∙ f
 
-further : (x y : ℕ) (ks : List ℕ) → nat_cmp x y ≡ Less → AllByRecursion (λ z. nat_cmp y z ≡ Less) ks → AllByRecursion (λ z. nat_cmp x z ≡ Less) ks
-further x y [] l a = tt
-further x y (k ∷ ks) l a = (nat_cmp_total.trans x y k l a.0, further x y ks l a.1)
+extra : (x y : ℕ) (ks : List ℕ) → nat_cmp x y ≡ Less → AllByRecursion (λ z. nat_cmp y z ≡ Less) ks → AllByRecursion (λ z. nat_cmp x z ≡ Less) ks
+extra x y [] l a = tt
+extra x y (k ∷ ks) l a = (nat_cmp_total.trans x y k l a.0, extra x y ks l a.1)
 
 module _ (x : ℕ) where
-  -- operations behind x are not x
-  above : (es : List (ℕ × Changed)) → AllByRecursion (λ y. nat_cmp x y ≡ Less) (entries.keys_of es) → others x (changed_uses es) ≡ changed_uses es
+  -- operations with ids above x aren't x
+  above : (es : List (ℕ × OperandChange)) → AllByRecursion (λ y. nat_cmp x y ≡ Less) (entries.keys_of es) → others x (changed_uses es) ≡ changed_uses es
   above [] a = refl
   above (e ∷ es) a = only_append (is_other x) (operand_uses e.0 0 e.1.operands.items) (changed_uses es) ∙ λ i. own_in x e.0 0 e.1.operands.items (apart x e.0 Less a.0 refl) i ++ above es a.1 i
 
-  -- an operation's operands take the place of those that it had
-  put_entry : (v : Changed) (es : List (ℕ × Changed)) (ws : List Use) → IsStrictlySortedBy nat_cmp (entries.keys_of es)
+  -- new operands replace the old operands of an operation
+  put_entry : (v : OperandChange) (es : List (ℕ × OperandChange)) (ws : List Use) → IsStrictlySortedBy nat_cmp (entries.keys_of es)
       → in_order (changed_uses (insert_entry nat_cmp es x v) ++ ws) ≡ in_order (operand_uses x 0 v.operands.items ++ (others x (changed_uses es) ++ ws))
   unfolding IsStrictlySortedBy
   put_entry v [] ws s = ap in_order (append_assoc (operand_uses x 0 v.operands.items) [] ws)
@@ -62,12 +62,12 @@ module _ (x : ℕ) where
           → in_order (changed_uses (insert_entry nat_cmp (e ∷ es) x v) ++ ws) ≡ in_order (own ++ (others x (changed_uses (e ∷ es)) ++ ws))
       go later a Less l =
           ap (λ r. in_order (changed_uses (match_ordering r ((x, v) ∷ e ∷ es) ((e.0, v) ∷ es) (e ∷ insert_entry nat_cmp es x v)) ++ ws)) l
-          ∙ ap in_order (append_assoc own (changed_uses (e ∷ es)) ws ∙ ap (λ k. own ++ (k ++ ws)) (sym (above (e ∷ es) (l, further x e.0 (entries.keys_of es) l a))))
+          ∙ ap in_order (append_assoc own (changed_uses (e ∷ es)) ws ∙ ap (λ k. own ++ (k ++ ws)) (sym (above (e ∷ es) (l, extra x e.0 (entries.keys_of es) l a))))
       go later a Equal l =
           let id : x ≡ e.0 = nat_cmp-IsAntisymmetric x e.0 l in
-          let behind : AllByRecursion (λ z. nat_cmp x z ≡ Less) (entries.keys_of es) = subst (λ y. AllByRecursion (λ z. nat_cmp y z ≡ Less) (entries.keys_of es)) (sym id) a in
+          let trailing : AllByRecursion (λ z. nat_cmp x z ≡ Less) (entries.keys_of es) = subst (λ y. AllByRecursion (λ z. nat_cmp y z ≡ Less) (entries.keys_of es)) (sym id) a in
           let out : others x here ≡ [] = ap (λ y. others x (operand_uses y 0 e.1.operands.items)) (sym id) ∙ own_out x 0 e.1.operands.items in
-          let left : others x (changed_uses (e ∷ es)) ≡ changed_uses es = only_append (is_other x) here (changed_uses es) ∙ λ i. out i ++ above es behind i in
+          let left : others x (changed_uses (e ∷ es)) ≡ changed_uses es = only_append (is_other x) here (changed_uses es) ∙ λ i. out i ++ above es trailing i in
           ap (λ r. in_order (changed_uses (match_ordering r ((x, v) ∷ e ∷ es) ((e.0, v) ∷ es) (e ∷ insert_entry nat_cmp es x v)) ++ ws)) l
           ∙ (λ i. in_order ((operand_uses (sym id i) 0 v.operands.items ++ changed_uses es) ++ ws))
           ∙ ap in_order (append_assoc own (changed_uses es) ws ∙ ap (λ k. own ++ (k ++ ws)) (sym left))
@@ -76,24 +76,24 @@ module _ (x : ℕ) where
           let stays : others x (changed_uses (e ∷ es)) ≡ here ++ others x (changed_uses es) = only_append (is_other x) here (changed_uses es) ∙ ap (λ k. k ++ others x (changed_uses es)) (own_in x e.0 0 e.1.operands.items (apart x e.0 Greater l refl)) in
           ap (λ r. in_order (changed_uses (match_ordering r ((x, v) ∷ e ∷ es) ((e.0, v) ∷ es) (e ∷ insert_entry nat_cmp es x v)) ++ ws)) l
           ∙ ap in_order (append_assoc here put ws)
-          ∙ behind_alike here (put ++ ws) (own ++ (others x (changed_uses es) ++ ws)) later
+          ∙ after_alike here (put ++ ws) (own ++ (others x (changed_uses es) ++ ws)) later
           ∙ moved_front here own (others x (changed_uses es) ++ ws)
           ∙ ap (λ k. in_order (own ++ k)) (sym (append_assoc here (others x (changed_uses es)) ws) ∙ ap (λ k. k ++ ws) (sym stays))
 
-  -- the listed uses of the operations that are unchanged, where x is one more that is changed
-  now_unchanged : (old new : IdMap Changed) (v : Changed) (listed : List Use) → ((q : ℕ) → idmap.get new q ≡ cond (is_at (nat_cmp x) q) (Some v) (idmap.get old q))
+  -- the listed uses of unchanged operations, if x changed too
+  now_unchanged : (old new : IdMap OperandChange) (v : OperandChange) (listed : List Use) → ((q : ℕ) → idmap.get new q ≡ cond (is_at (nat_cmp x) q) (Some v) (idmap.get old q))
       → only (is_unchanged new) listed ≡ others x (only (is_unchanged old) listed)
   now_unchanged old new v listed gets =
       only_same (is_unchanged new) (λ y. is_unchanged old y && is_other x y) listed (λ y. ap (λ o. not (is_some o)) (gets y) ∙ ap (λ b. not (is_some (cond b (Some v) (idmap.get old y)))) (same_test x y) ∙ one (eqb x y) (idmap.get old y))
       ∙ sym (only_both (is_other x) (is_unchanged old) listed)
     where
-      one : (b : Bool) (o : Option Changed) → not (is_some (cond b (Some v) o)) ≡ (not (is_some o) && not b)
+      one : (b : Bool) (o : Option OperandChange) → not (is_some (cond b (Some v) o)) ≡ (not (is_some o) && not b)
       one true None = refl
       one true (Some w) = refl
       one false None = refl
       one false (Some w) = refl
 
-  pub put_table : (old new : IdMap Changed) (v : Changed) (listed : List Use) → idmap.IsOrdered old → new.entries ≡ insert_entry nat_cmp old.entries x v
+  pub put_table : (old new : IdMap OperandChange) (v : OperandChange) (listed : List Use) → idmap.IsOrdered old → new.entries ≡ insert_entry nat_cmp old.entries x v
       → ((q : ℕ) → idmap.get new q ≡ cond (is_at (nat_cmp x) q) (Some v) (idmap.get old q))
       → in_order (changed_uses new.entries ++ only (is_unchanged new) listed) ≡ in_order (operand_uses x 0 v.operands.items ++ others x (changed_uses old.entries ++ only (is_unchanged old) listed))
   put_table old new v listed ordered is gets =
@@ -102,8 +102,8 @@ module _ (x : ℕ) where
       ∙ ap (λ l. in_order (operand_uses x 0 v.operands.items ++ l))
       (ap (λ l. others x (changed_uses old.entries) ++ l) (now_unchanged old new v listed gets) ∙ sym (only_append (is_other x) (changed_uses old.entries) (only (is_unchanged old) listed)))
 
-  -- an operation that is not among the changed ones has no uses there
-  absent : (es : List (ℕ × Changed)) → lookup (is_at (nat_cmp x)) es ≡ None → others x (changed_uses es) ≡ changed_uses es
+  -- an operation that isn't changed has no uses among the changed ones
+  absent : (es : List (ℕ × OperandChange)) → lookup (is_at (nat_cmp x)) es ≡ None → others x (changed_uses es) ≡ changed_uses es
   absent [] h = refl
   absent (e ∷ es) h = go (absent es) (is_eq (nat_cmp x e.0)) refl
     where
@@ -113,14 +113,14 @@ module _ (x : ℕ) where
           let rest : lookup (is_at (nat_cmp x)) es ≡ None = sym (ap (λ b. cond b (Some e.1) (lookup (is_at (nat_cmp x)) es)) is) ∙ h in
           only_append (is_other x) (operand_uses e.0 0 e.1.operands.items) (changed_uses es) ∙ λ i. own_in x e.0 0 e.1.operands.items (sym (same_test x e.0) ∙ is) i ++ later rest i
 
-  -- what a listing forgets is forgotten in the table, where the operation is unchanged
-  pub forget_table : (old new : IdMap Changed) (listed left : List Use) → idmap.get old x ≡ None → new.entries ≡ old.entries → left ≡ others x listed
+  -- a use that is removed from the listing is removed from the table, if the operation is unchanged
+  pub forget_table : (old new : IdMap OperandChange) (listed left : List Use) → idmap.get old x ≡ None → new.entries ≡ old.entries → left ≡ others x listed
       → in_order (changed_uses new.entries ++ only (is_unchanged new) left) ≡ in_order (others x (changed_uses old.entries ++ only (is_unchanged old) listed))
   forget_table old new listed left none same is =
       (λ i. in_order (changed_uses (same i) ++ only (λ y. not (is_some (lookup (is_at (nat_cmp y)) (same i)))) (is i)))
       ∙ ap in_order ((λ i. sym (absent old.entries none) i ++ only_turned (is_unchanged old) (is_other x) listed i) ∙ sym (only_append (is_other x) (changed_uses old.entries) (only (is_unchanged old) listed)))
 
-  -- a listing with a user that is live no more
+  -- a listing with a user that isn't live any more
   forgotten_size : (u : User) → (forgotten x u).count ≡ u.count
   forgotten_size u = elim (eqb u.id x) as (λ b. (cond b (record u { live = false }) u).count ≡ u.count) [ true ↦ refl | false ↦ refl ]
 
@@ -158,12 +158,12 @@ module _ (x : ℕ) where
   pub forgets_uses : (us ps : List User) (vs : List Value) → ps ≡ map (forgotten x) us → listed_uses ps vs ≡ others x (listed_uses us vs)
   forgets_uses us ps vs is = ap (λ l. listed_uses l vs) is ∙ forgotten_uses us vs
 
--- a table of listed uses alone
+-- a table of listed uses only
 all_left : (us : List Use) → only (λ x. true) us ≡ us
 all_left [] = refl
 all_left (u ∷ us) = ap (λ l. u ∷ l) (all_left us)
 
-pub new_table : (m : IdMap Changed) (listed : List Use) → m.entries ≡ [] → changed_uses m.entries ++ only (is_unchanged m) listed ≡ listed
+pub new_table : (m : IdMap OperandChange) (listed : List Use) → m.entries ≡ [] → changed_uses m.entries ++ only (is_unchanged m) listed ≡ listed
 new_table m listed none = (λ i. changed_uses (none i) ++ only (λ x. not (is_some (lookup (is_at (nat_cmp x)) (none i)))) listed) ∙ all_left listed
 
 -- the uses of a user that count
@@ -183,10 +183,10 @@ user_hidden p u vs e = user_only p u vs ∙ ap (λ b. cond u.live (cond b (opera
 pub user_counts : (p : ℕ → Bool) (u : User) (vs : List Value) → u.live ≡ true → p u.id ≡ true → only p (user_uses u vs) ≡ operand_uses u.id 0 vs
 user_counts p u vs live counts = user_only p u vs ∙ λ i. cond (live i) (cond (counts i) (operand_uses u.id 0 vs) []) []
 
--- the keys of listed uses, a user at a time
-pub next_user : (p : ℕ → Bool) (u : User) (us : List User) (vs own behind : List Value) (old new start : List Key) → own ≡ take u.count vs → behind ≡ drop u.count vs
-    → old ++ keys_of (only p (listed_uses (u ∷ us) vs)) ≡ start → new ≡ old ++ keys_of (only p (user_uses u own)) → new ++ keys_of (only p (listed_uses us behind)) ≡ start
-next_user p u us vs own behind old new start front back was is =
+-- the keys of listed uses, user by user
+pub next_user : (p : ℕ → Bool) (u : User) (us : List User) (vs own trailing : List Value) (old new start : List UseKey) → own ≡ take u.count vs → trailing ≡ drop u.count vs
+    → old ++ keys_of (only p (listed_uses (u ∷ us) vs)) ≡ start → new ≡ old ++ keys_of (only p (user_uses u own)) → new ++ keys_of (only p (listed_uses us trailing)) ≡ start
+next_user p u us vs own trailing old new start front back was is =
     (λ i. is i ++ keys_of (only p (listed_uses us (back i))))
     ∙ append_assoc old (keys_of (only p (user_uses u own))) (keys_of (only p (listed_uses us (drop u.count vs))))
     ∙ ap (λ l. old ++ l) (
@@ -195,12 +195,12 @@ next_user p u us vs own behind old new start front back was is =
     )
     ∙ was
 
--- the uses of changed operations in two parts of a map
-changed_joined : (es fs : List (ℕ × Changed)) → changed_uses (es ++ fs) ≡ changed_uses es ++ changed_uses fs
+-- the uses of changed operations in both parts of a map
+changed_joined : (es fs : List (ℕ × OperandChange)) → changed_uses (es ++ fs) ≡ changed_uses es ++ changed_uses fs
 changed_joined [] fs = refl
 changed_joined (e ∷ es) fs = ap (λ us. operand_uses e.0 0 e.1.operands.items ++ us) (changed_joined es fs) ∙ sym (append_assoc (operand_uses e.0 0 e.1.operands.items) (changed_uses es) (changed_uses fs))
 
-pub both_parts : (r : Result (Unit {0}) AllocError) (old mid new : List Key) (near far all : List (ℕ × Changed)) → all ≡ near ++ far → mid ≡ old ++ keys_of (changed_uses near) → OnOk r (new ≡ mid ++ keys_of (changed_uses far))
+pub both_parts : (r : Result (Unit {0}) AllocError) (old mid new : List UseKey) (near far all : List (ℕ × OperandChange)) → all ≡ near ++ far → mid ≡ old ++ keys_of (changed_uses near) → OnOk r (new ≡ mid ++ keys_of (changed_uses far))
     → OnOk r (new ≡ old ++ keys_of (changed_uses all))
 both_parts (Ok u) old mid new near far all is front back =
     back

@@ -1,4 +1,4 @@
--- The uses of a module are those of its operations, one after another.
+-- The uses of a module are those of its operations, in order.
 use Rattle.std.proofs.Common.{◌≡◌, refl, ap, sym, ◌∙◌, subst, ℕ, false, eqb, eq-eqb, List, [], ◌∷◌, ◌++◌, map, Option, Some, None, inl, inr}
 use Rattle.std.specs.Prelude.{option_map}
 use Rattle.std.specs.FinMap as finmap
@@ -17,7 +17,7 @@ use Rattle.listeners.specs.Following.{operands_in}
 use Rattle.listeners.specs.Collected.{if_any, uses_by}
 use Rattle.listeners.proofs.Places.{uses_at, uses_by_heads}
 
--- a head of a list without equal ids is the first with its id
+-- a head in a list of distinct ids is the first with its id
 apart : (x : ℕ) (hs : List Head) → AllByRecursion (λ z. eqb x z ≡ false) (map (λ (h : Head). h.id) hs) → (h : Head) → In h hs → eqb x h.id ≡ false
 apart x [] a h m = absurd m
 apart x (g ∷ hs) a h (inl e) = ap (λ (k : Head). eqb x k.id) e ∙ a.0

@@ -1,4 +1,4 @@
--- The uses of a tree where an operation is taken out of it.
+-- The uses of a tree after an operation is removed.
 use Rattle.std.proofs.Common.{◌≡◌, refl, ap, sym, ◌∙◌, ℕ, ◌+◌, false, eqb, List, [], ◌∷◌, ◌++◌, append_assoc, map, Some}
 use Rattle.ir_event.specs.trees.Tree.{HeadOf, OpOf, op, RegionsOf, no_regions, region, RegionOf, empty, block, OpsOf, no_ops, next, head, regions}
 use Rattle.ir_event.specs.trees.Ids.{HasDistinctIds, find}
@@ -17,7 +17,7 @@ use Rattle.listeners.specs.declared.key.Use.{Use}
 use Rattle.listeners.specs.Uses.{operand_uses, uses_in, regions_uses, region_uses, ops_uses, put_use, in_order}
 use Rattle.listeners.proofs.Orders.{put_among}
 
--- uses in order are the same in whichever order they came
+-- the ordered list doesn't depend on the order of insertion
 pub moved_front : (us vs ws : List Use) → in_order (us ++ (vs ++ ws)) ≡ in_order (vs ++ (us ++ ws))
 moved_front us [] ws = refl
 moved_front us (v ∷ vs) ws = put_among us (vs ++ ws) v ∙ ap (put_use v) (moved_front us vs ws)
@@ -26,7 +26,7 @@ module _ {N T A : Type 0} where
   abbrev own : StandOf N T A → List Use
   own s = operand_uses (stand_id s) 0 (head s.here).operands
 
-  -- the uses read off the list
+  -- uses by the list of operations
   mutual
     pub uses_stands : (path : List (StepOf N T A)) (t : OpOf N T A) → gather (λ (s : StandOf N T A). operand_uses (stand_id s) 0 (head s.here).operands) (stands path t) ≡ uses_in t
     uses_stands path (op h rs) = ap (λ l. operand_uses h.id 0 h.operands ++ l) (regions_uses_stands (op h rs) path 0 rs)
@@ -46,7 +46,7 @@ module _ {N T A : Type 0} where
         gather-append own (stands (step p r args front os ∷ path) o) (ops_stands p path r args (front ++ o ∷ []) os)
         ∙ λ i. uses_stands (step p r args front os ∷ path) o i ++ ops_uses_stands p path r args (front ++ o ∷ []) os i
 
-  -- those of an operation that is taken were among the others
+  -- the uses of a removed operation were among the others
   pub record Cut (o t u : OpOf N T A) : Type 0 where
     pub front : List Use
     pub back : List Use
@@ -74,7 +74,7 @@ module _ {N T A : Type 0} where
   pub cut_order : (o t u : OpOf N T A) → Cut o t u → in_order (uses_in t) ≡ in_order (uses_in o ++ uses_in u)
   cut_order o t u c = ap in_order c.was ∙ moved_front c.front (uses_in o) c.back ∙ ap (λ l. in_order (uses_in o ++ l)) (sym c.is)
 
-  -- an operation that holds none has the uses of its operands alone
+  -- an operation without nested operations has only the uses of its operands
   none_inside : (rs : RegionsOf N T A) → HoldNone rs → regions_uses rs ≡ []
   none_inside no_regions h = refl
   none_inside (region empty rs) h = none_inside rs h
@@ -84,7 +84,7 @@ module _ {N T A : Type 0} where
   pub leaf_uses : (o : OpOf N T A) (us : List Use) → HoldNone (regions o) → uses_in o ++ us ≡ operand_uses (head o).id 0 (head o).operands ++ us
   leaf_uses (op h rs) us n = append_assoc (operand_uses h.id 0 h.operands) (regions_uses rs) us ∙ ap (λ l. operand_uses h.id 0 h.operands ++ (l ++ us)) (none_inside rs n)
 
-  -- an edit of heads that leaves ids and operands leaves the uses
+  -- an edit of heads that keeps ids and operands keeps the uses
   module _ (f : HeadOf N T A → HeadOf N T A) (id : (h : HeadOf N T A) → (f h).id ≡ h.id) (operands : (h : HeadOf N T A) → (f h).operands ≡ h.operands) where
     edited_head : (o : OpOf N T A) → head (each_head f o) ≡ f (head o)
     edited_head (op h rs) = refl

@@ -1,10 +1,10 @@
--- A table of uses that follows a module.
+-- A table of uses that is updated after events.
 use Rattle.std.proofs.Common.{◌≡◌, refl, ap, sym, ◌∙◌, subst, ℕ, Bool, true, false, cond, eqb, eqb-true, List, [], ◌∷◌, ◌++◌, map, Option, Some, None, inl, inr}
 use Rattle.std.specs.Prelude.{option_map}
 use Rattle.std.proofs.lemmas.List.Elements.{All-cons, All-nil}
 use Rattle.std.specs.FinMap as finmap
 use Rattle.std.specs.List.{All}
-use Rattle.ir_event.specs.types.Things.{Things}
+use Rattle.ir_event.specs.types.Things.{ContextModel}
 use Rattle.ir_event.specs.types.Terms.{name_term, type_term, attr_term}
 use Rattle.ir_event.specs.trees.Tree.{HeadOf, OpOf, op, Op as Tree, head}
 use Rattle.ir_event.specs.trees.Ids.{HasDistinctIds, find, first_of}
@@ -35,19 +35,19 @@ use Rattle.ir_event.specs.Modules.{Module, Node, module_meaning}
 use Rattle.ir_event.specs.Rows.{cell_meaning, row_meaning, rows_meaning, CellIsOf, RowIsOf, Shows}
 use Rattle.ir_event.specs.Step.{Step}
 use Rattle.listeners.specs.declared.key.Use.{Use}
-use Rattle.listeners.specs.declared.key.Key.{Key}
+use Rattle.listeners.specs.declared.key.UseKey.{UseKey}
 use Rattle.listeners.specs.Uses.{in_order, operand_uses, uses_in, all_uses, use_row}
 use Rattle.listeners.specs.Keys.{key_of, keys_of, value_at, key_cells}
 use Rattle.listeners.specs.Others.{others}
 use Rattle.listeners.specs.Following.{HasNow, IsFollowed, operands_in}
 use Rattle.listeners.proofs.Apart.{replaced_others, split_tree}
 use Rattle.listeners.proofs.Cutting.{cut_order, edited_uses, leaf_uses, taken}
-use Rattle.listeners.proofs.Others.{behind_alike, cancelled, others_alike, others_twice}
+use Rattle.listeners.proofs.Others.{after_alike, cancelled, others_alike, others_twice}
 use Rattle.listeners.proofs.Sorted.{value_back}
 use Rattle.listeners.proofs.Places.{one_use, set_uses, mapped_uses}
 use Rattle.ir_event.proofs.of_trees.Facts.{part_id, part_operands}
 
--- an operation that stands at a place, which the root doesn't
+-- an operation at a place; the root has none
 record Placed {N T A : Type 0} (x : ℕ) (t : OpOf N T A) : Type 0 where
   here : OpOf N T A
   found : find x t ≡ Some here
@@ -72,8 +72,8 @@ placed {N} {T} {A} x place t d e =
     root_in : (t : OpOf N T A) → In (stand t []) (stands [] t)
     root_in (op h rs) = inl refl
 
--- the operands that a store shows, where it shows a node in contents
-shown_operands : (c : Things) (s : Stored) (x : ℕ) (o : Operation) → option_map (λ (q : Tree). node_of (meaning c q)) (known x s) ≡ Some (node_of o) → operands_in s x ≡ Some (head o).operands
+-- the operands that the view shows, in terms of contents
+shown_operands : (c : ContextModel) (s : Stored) (x : ℕ) (o : Operation) → option_map (λ (q : Tree). node_of (meaning c q)) (known x s) ≡ Some (node_of o) → operands_in s x ≡ Some (head o).operands
 shown_operands c s x o e = go (known x s) e
   where
     head_of : (q : Tree) (o : Operation) → node_of (meaning c q) ≡ node_of o → (node_of q).head.operands ≡ (head o).operands
@@ -83,8 +83,8 @@ shown_operands c s x o e = go (known x s) e
     go None f = absurd cc
     go (Some q) f = (let one : node_of (meaning c q) ≡ node_of o = cc in ap Some (head_of q o one))
 
--- the module of a store shows what stands in it
-shown_there : (c : Things) (s : Stored) (x : ℕ) (o : Operation) → find x (meaning c s.module_of.tree) ≡ Some o → option_map (λ (q : Tree). node_of (meaning c q)) (known x s) ≡ Some (node_of o)
+-- the view shows the operations of the store's module
+shown_there : (c : ContextModel) (s : Stored) (x : ℕ) (o : Operation) → find x (meaning c s.module_of.tree) ≡ Some o → option_map (λ (q : Tree). node_of (meaning c q)) (known x s) ≡ Some (node_of o)
 shown_there c s x o f = go (find x s.module_of.tree) refl
   where
     tree : Tree
@@ -97,7 +97,7 @@ shown_there c s x o f = go (find x s.module_of.tree) refl
     go None e = (let bad : None ≡ Some o = sym (ap (option_map (meaning c)) e) ∙ mapped in absurd cc)
     go (Some q) e = (let same : Some (meaning c q) ≡ Some o = sym (ap (option_map (meaning c)) e) ∙ mapped in let one : meaning c q ≡ o = cc in ap (λ (u : Operation). Some (node_of u)) one)
 
--- where an operation is taken out, what is left are the uses by others
+-- after an operation is removed, the uses by others are left
 left_taken : (x : ℕ) (place : Place) (fresh : Bool) (m n : Module) → HasDistinctIds m.tree → Takes x place fresh m n → in_order (others x (uses_in m.tree)) ≡ in_order (uses_in n.tree)
 left_taken x place fresh m n d takes =
     let p = placed x place m.tree d takes.there in
@@ -109,13 +109,13 @@ left_taken x place fresh m n d takes =
     ∙ (λ i. in_order (operand_uses (p.id i) 0 (head p.here).operands ++ uses_in (sym takes.left i))) in
     cancelled own (others x (uses_in m.tree)) (uses_in n.tree) (sym (split_tree x m.tree p.here d p.found) ∙ whole)
 
--- a table in which an operation has the operands that a tree shows, and the others what they have there
+-- a table in which an operation has the operands that the tree shows, and the others have theirs
 now_agrees : (x : ℕ) (t o : Operation) (before after : List Use) → HasDistinctIds t → find x t ≡ Some o → in_order (others x before) ≡ in_order (others x (uses_in t)) → HasNow x (head o).operands before after → in_order after ≡ all_uses t
 now_agrees x t o before after d found rest now =
-    now ∙ behind_alike (operand_uses x 0 (head o).operands) (others x before) (others x (uses_in t)) rest ∙ sym (split_tree x t o d found)
+    now ∙ after_alike (operand_uses x 0 (head o).operands) (others x before) (others x (uses_in t)) rest ∙ sym (split_tree x t o d found)
 
--- a table that followed an event is that of the module after it
-pub followed_agrees : (c : Things) (e : Event) (s : Stored) (m : Module) (before after : List Use) → Step c e m (module_meaning c s.module_of) → ShowsTaken e m (λ x. option_map (λ (q : Tree). node_of (meaning c q)) (known x s))
+-- a table that was updated after an event is that of the module after it
+pub followed_agrees : (c : ContextModel) (e : Event) (s : Stored) (m : Module) (before after : List Use) → Step c e m (module_meaning c s.module_of) → ShowsTaken e m (λ x. option_map (λ (q : Tree). node_of (meaning c q)) (known x s))
     → IsFollowed (operands_in s) e before after → in_order before ≡ all_uses m.tree → in_order after ≡ all_uses (meaning c s.module_of.tree)
 followed_agrees c (Put x place fresh) s m before after step shows f is =
     let n : Module = module_meaning c s.module_of in
@@ -154,11 +154,11 @@ followed_agrees c (Shift x old new) s m before after step shows f is =
     ∙ ap (λ t. in_order (uses_in p.here ++ uses_in t)) (sym step.changes.rest)
     ∙ sym (cut_order p.here n.tree (without x n.tree) now)
 
--- the row of a key says its use
-row_says : (c : Things) (row : Row) (u : Use) → row.cells.items ≡ key_cells (key_of u) → row_meaning c row ≡ use_row u
+-- the row of a key is the row of its use
+row_says : (c : ContextModel) (row : Row) (u : Use) → row.cells.items ≡ key_cells (key_of u) → row_meaning c row ≡ use_row u
 row_says c row u is = ap (map (cell_meaning c)) is ∙ ap (λ (v : Value). use_row (record u { value = v })) (value_back u.value)
 
-row_known : (c : Things) (row : Row) (u : Use) → row.cells.items ≡ key_cells (key_of u) → RowIsOf c row
+row_known : (c : ContextModel) (row : Row) (u : Use) → row.cells.items ≡ key_cells (key_of u) → RowIsOf c row
 row_known c row u is =
     let value : Cell = Val (value_at (key_of u).owner (key_of u).region (key_of u).place) in
     let user : Cell = Op u.user in
@@ -166,7 +166,7 @@ row_known c row u is =
     let P = CellIsOf c in
     subst (All P) (sym is) (All-cons P value (user ∷ number ∷ []) (tt {0}) (All-cons P user (number ∷ []) (tt {0}) (All-cons P number [] (tt {0}) (All-nil P))))
 
-rows_say : (c : Things) (rows : List Row) (us : List Use) → map (λ (r : Row). r.cells.items) rows ≡ map key_cells (keys_of us) → rows_meaning c rows ≡ map use_row us
+rows_say : (c : ContextModel) (rows : List Row) (us : List Use) → map (λ (r : Row). r.cells.items) rows ≡ map key_cells (keys_of us) → rows_meaning c rows ≡ map use_row us
 rows_say c [] [] is = refl
 rows_say c [] (u ∷ us) is = absurd cc
 rows_say c (r ∷ rs) [] is = absurd cc
@@ -175,7 +175,7 @@ rows_say c (r ∷ rs) (u ∷ us) is =
     let rest : map (λ (r : Row). r.cells.items) rs ≡ map key_cells (keys_of us) = cc in
     λ i. row_says c r u one i ∷ rows_say c rs us rest i
 
-rows_known : (c : Things) (rows : List Row) (us : List Use) → map (λ (r : Row). r.cells.items) rows ≡ map key_cells (keys_of us) → All (RowIsOf c) rows
+rows_known : (c : ContextModel) (rows : List Row) (us : List Use) → map (λ (r : Row). r.cells.items) rows ≡ map key_cells (keys_of us) → All (RowIsOf c) rows
 rows_known c [] us is = All-nil (RowIsOf c)
 rows_known c (r ∷ rs) [] is = absurd cc
 rows_known c (r ∷ rs) (u ∷ us) is =
@@ -183,10 +183,10 @@ rows_known c (r ∷ rs) (u ∷ us) is =
     let rest : map (λ (r : Row). r.cells.items) rs ≡ map key_cells (keys_of us) = cc in
     All-cons (RowIsOf c) r rs (row_known c r u one) (rows_known c rs us rest)
 
--- the rows of a table show the uses
-pub rows_show : (c : Things) (rows : List Row) (keys : List Key) (us : List Use) → map (λ (r : Row). r.cells.items) rows ≡ map key_cells keys → keys ≡ keys_of us → Shows c rows (map use_row us)
+-- the rows of a table are those of the uses
+pub rows_show : (c : ContextModel) (rows : List Row) (keys : List UseKey) (us : List Use) → map (λ (r : Row). r.cells.items) rows ≡ map key_cells keys → keys ≡ keys_of us → Shows c rows (map use_row us)
 rows_show c rows keys us is kept = let e = is ∙ ap (map key_cells) kept in record { says = rows_say c rows us e; known = rows_known c rows us e }
 
--- the uses of what a module of a context stands for
-pub meaning_uses : (c : Things) (t : Tree) → all_uses (meaning c t) ≡ all_uses t
+-- the uses of a tree of numbers are those of its tree of terms
+pub meaning_uses : (c : ContextModel) (t : Tree) → all_uses (meaning c t) ≡ all_uses t
 meaning_uses c t = ap in_order (mapped_uses (name_term c) (type_term c) (attr_term c) t)

@@ -10,3 +10,12 @@ pub mod Apart
 pub mod Changing
 pub mod Following
 pub mod Collecting
+pub mod Least
+pub mod Taken
+pub mod Sets
+pub mod Under
+pub mod Numbers
+pub mod Entries
+pub mod Reported
+pub mod Steps
+pub mod Silent

@@ -1,4 +1,4 @@
--- Many uses put in, or dropped.
+-- Many uses inserted or removed.
 use Rattle.std.proofs.Common.{◌≡◌, refl, ap, ◌∙◌, List, [], ◌∷◌, ◌++◌}
 use Rattle.listeners.specs.declared.key.Use.{Use}
 use Rattle.listeners.specs.Uses.{in_order}

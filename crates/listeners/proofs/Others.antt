@@ -9,10 +9,10 @@ use Rattle.listeners.specs.Uses.{operand_uses, use_cmp, put_use, in_order}
 use Rattle.listeners.specs.Others.{is_other, only, others}
 use Rattle.listeners.proofs.Drops.{drop_all, put_all}
 use Rattle.listeners.proofs.Moving.{drop_all_order, put_all_order}
-use Rattle.listeners.proofs.Orders.{put_behind, put_first, put_twice}
+use Rattle.listeners.proofs.Orders.{put_after, put_first, put_twice}
 use Rattle.ir_event.proofs.of_types.Sorting.{flips_eq}
 
--- some uses of two lists
+-- the filtered uses of two concatenated lists
 pub only_append : (p : ℕ → Bool) (us vs : List Use) → only p (us ++ vs) ≡ only p us ++ only p vs
 only_append p [] vs = refl
 only_append p (u ∷ us) vs =
@@ -45,7 +45,7 @@ others_twice x us = only_both (is_other x) (is_other x) us ∙ only_same (λ y. 
     once true = refl
     once false = refl
 
--- the uses of one operation are all there, or none
+-- the uses of one operation are all kept or all removed
 pub own_only : (p : ℕ → Bool) (x k : ℕ) (vs : List Value) → only p (operand_uses x k vs) ≡ cond (p x) (operand_uses x k vs) []
 own_only p x k [] = none (p x)
   where
@@ -64,7 +64,7 @@ own_out x k vs = own_only (is_other x) x k vs ∙ ap (λ b. cond (not b) (operan
 pub own_in : (x y k : ℕ) (vs : List Value) → eqb x y ≡ false → others x (operand_uses y k vs) ≡ operand_uses y k vs
 own_in x y k vs e = own_only (is_other x) y k vs ∙ ap (λ b. cond (not b) (operand_uses y k vs) []) e
 
--- what is left out does not depend on the order
+-- the remaining uses don't depend on the order
 front : (x : ℕ) (u : Use) (us vs : List Use) → in_order (others x us) ≡ in_order (others x vs) → in_order (others x (u ∷ us)) ≡ in_order (others x (u ∷ vs))
 front x u us vs e =
     elim (not (eqb x u.user)) as (λ b. in_order (cond b (u ∷ others x us) (others x us)) ≡ in_order (cond b (u ∷ others x vs) (others x vs))) [ true ↦ ap (put_use u) e | false ↦ e ]
@@ -81,7 +81,7 @@ put_others x u (v ∷ vs) = go (put_others x u vs) (is_gt (use_cmp u v)) refl
   where
     go : in_order (others x (put_use u vs)) ≡ in_order (others x (u ∷ vs)) → (b : Bool) → is_gt (use_cmp u v) ≡ b → in_order (others x (put_use u (v ∷ vs))) ≡ in_order (others x (u ∷ v ∷ vs))
     go later true e =
-        ap (λ l. in_order (others x l)) (put_behind u v vs e) ∙ front x v (put_use u vs) (u ∷ vs) later ∙ either_first (not (eqb x u.user)) (not (eqb x v.user)) u v (others x vs)
+        ap (λ l. in_order (others x l)) (put_after u v vs e) ∙ front x v (put_use u vs) (u ∷ vs) later ∙ either_first (not (eqb x u.user)) (not (eqb x v.user)) u v (others x vs)
     go later false e = ap (λ l. in_order (others x l)) (put_first u v vs e)
 
 others_order : (x : ℕ) (us : List Use) → in_order (others x (in_order us)) ≡ in_order (others x us)
@@ -91,9 +91,9 @@ others_order x (u ∷ us) = put_others x u (in_order us) ∙ front x u (in_order
 pub others_alike : (x : ℕ) (us vs : List Use) → in_order us ≡ in_order vs → in_order (others x us) ≡ in_order (others x vs)
 others_alike x us vs e = sym (others_order x us) ∙ ap (λ l. in_order (others x l)) e ∙ others_order x vs
 
--- uses in front of others
-pub behind_alike : (us vs ws : List Use) → in_order vs ≡ in_order ws → in_order (us ++ vs) ≡ in_order (us ++ ws)
-behind_alike us vs ws e = sym (put_all_order us vs) ∙ ap (put_all us) e ∙ put_all_order us ws
+-- uses prepended to others
+pub after_alike : (us vs ws : List Use) → in_order vs ≡ in_order ws → in_order (us ++ vs) ≡ in_order (us ++ ws)
+after_alike us vs ws e = sym (put_all_order us vs) ∙ ap (put_all us) e ∙ put_all_order us ws
 
 pub cancelled : (us vs ws : List Use) → in_order (us ++ vs) ≡ in_order (us ++ ws) → in_order vs ≡ in_order ws
 cancelled us vs ws e = sym (drop_all_order us vs) ∙ ap (drop_all us) e ∙ drop_all_order us ws

@@ -1,4 +1,4 @@
--- The uses of a tree where one operand is set.
+-- The uses of a tree after an operand is set.
 use Rattle.std.proofs.Common.{◌≡◌, refl, ap, sym, ◌∙◌, subst, ℕ, zero, suc, ◌+◌, Bool, true, false, true≢false, cond, eqb, eqb-true, eq-eqb, List, [], ◌∷◌, ◌++◌, append_assoc, map, Some, slice_get, arith}
 use Rattle.std.specs.Prelude.{option_map, slice_set}
 use Rattle.std.specs.List.{IsDistinct, AllByRecursion}
@@ -15,20 +15,20 @@ use Rattle.ir_event.proofs.Operands.{holder}
 use Rattle.listeners.specs.declared.key.Use.{Use}
 use Rattle.listeners.specs.Uses.{operand_uses, uses_in, regions_uses, region_uses, ops_uses}
 
--- the uses at heads
+-- the uses of a list of heads
 abbrev pub uses_at : {N T A : Type 0} → List (HeadOf N T A) → List Use
 uses_at [] = []
 uses_at (h ∷ hs) = operand_uses h.id 0 h.operands ++ uses_at hs
 
--- one list has the first use where the other has the second
+-- the second list has v where the first has u
 pub record Replaced (u v : Use) (us vs : List Use) : Type 0 where
   pub front : List Use
   pub back : List Use
   pub was : us ≡ front ++ u ∷ back
   pub is : vs ≡ front ++ v ∷ back
 
-behind : (u v : Use) (us vs ws : List Use) → Replaced u v us vs → Replaced u v (us ++ ws) (vs ++ ws)
-behind u v us vs ws r = record {
+trailing : (u v : Use) (us vs ws : List Use) → Replaced u v us vs → Replaced u v (us ++ ws) (vs ++ ws)
+trailing u v us vs ws r = record {
   front = r.front;
   back = r.back ++ ws;
   was = ap (λ l. l ++ ws) r.was ∙ append_assoc r.front (u ∷ r.back) ws;
@@ -47,7 +47,7 @@ before u v ws us vs r = record {
 abbrev pub one_use : Value → ℕ → ℕ → Use
 one_use v x k = record { value = v; user = x; operand = k }
 
--- an operand in a list of operands that are numbered from n on
+-- an operand of a list of operands, numbered from n on
 set_among : (x n k : ℕ) (old new : Value) (vs : List Value) → slice_get vs k ≡ Some old → Replaced (one_use old x (n + k)) (one_use new x (n + k)) (operand_uses x n vs) (operand_uses x n (slice_set vs k new))
 set_among x n zero old new [] h = absurd cc
 set_among x n (suc k) old new [] h = absurd cc
@@ -86,7 +86,7 @@ module _ {N T A : Type 0} where
     abbrev f : HeadOf N T A → HeadOf N T A
     f = at x (put_operand k new)
 
-    -- heads of other operations stay
+    -- the heads of other operations don't change
     others : (y : ℕ) → eqb y x ≡ true → (hs : List (HeadOf N T A)) → AllByRecursion (λ z. eqb y z ≡ false) (map (λ (h : HeadOf N T A). h.id) hs) → map f hs ≡ hs
     others y e [] a = refl
     others y e (h ∷ hs) a = λ i. stays (eqb h.id x) refl i ∷ others y e hs a.1 i
@@ -113,7 +113,7 @@ module _ {N T A : Type 0} where
             let zeroed : 0 + k ≡ k = omega arith in
             let named : Replaced (one_use old x k) (one_use new x k) (operand_uses h.id 0 h.operands) (operand_uses h.id 0 (slice_set h.operands k new)) =
             subst (λ (p : ℕ × ℕ). Replaced (one_use old p.0 p.1) (one_use new p.0 p.1) (operand_uses h.id 0 h.operands) (operand_uses h.id 0 (slice_set h.operands k new))) (λ i. (id i, zeroed i)) own in
-            let whole = behind (one_use old x k) (one_use new x k) (operand_uses h.id 0 h.operands) (operand_uses h.id 0 (slice_set h.operands k new)) (uses_at hs) named in
+            let whole = trailing (one_use old x k) (one_use new x k) (operand_uses h.id 0 h.operands) (operand_uses h.id 0 (slice_set h.operands k new)) (uses_at hs) named in
             subst (Replaced (one_use old x k) (one_use new x k) (uses_at (h ∷ hs)))
             (λ i. operand_uses (sym set i).id 0 (sym set i).operands ++ uses_at (sym (rest is hs (IsDistinct-head eqb h.id (map (λ (h : HeadOf N T A). h.id) hs) d)) i)) whole
         go later rest false is =
@@ -122,7 +122,7 @@ module _ {N T A : Type 0} where
             let whole = before (one_use old x k) (one_use new x k) (operand_uses h.id 0 h.operands) (uses_at hs) (uses_at (map f hs)) (later first) in
             subst (Replaced (one_use old x k) (one_use new x k) (uses_at (h ∷ hs))) (λ i. operand_uses (sym set i).id 0 (sym set i).operands ++ uses_at (map f hs)) whole
 
-    -- where operand k of x is set, its use is another, and all else is as it was
+    -- if operand k of x is set, its use changes, and no other use
     pub set_uses : (t : OpOf N T A) → HasDistinctIds t → operand_at x k t ≡ Some old → Replaced (one_use old x k) (one_use new x k) (uses_in t) (uses_in (with_operand x k new t))
     set_uses t d e =
         let o = holder x k old new t e in
@@ -132,7 +132,7 @@ module _ {N T A : Type 0} where
         let after : uses_at (map f (heads t)) ≡ uses_in (with_operand x k new t) = ap uses_at (sym (heads_each f t)) ∙ sym (uses_by_heads (with_operand x k new t)) in
         subst (λ (p : List Use × List Use). Replaced (one_use old x k) (one_use new x k) p.0 p.1) (λ i. (sym (uses_by_heads t) i, after i)) at_heads
 
--- what a tree stands for has its uses
+-- a mapped tree has the same uses
 module _ {N T A M U B : Type 0} (f : N → M) (g : T → U) (h : A → B) where
   mutual
     pub mapped_uses : (t : OpOf N T A) → uses_in (map_tree f g h t) ≡ uses_in t

@@ -6,3 +6,9 @@ pub mod Tables
 pub mod Listeners
 pub mod Following
 pub mod Collected
+pub mod Reached
+pub mod Unreached
+pub mod Marking
+pub mod Marks
+pub mod Lines
+pub mod UnreachedListener

@@ -1,8 +1,8 @@
--- The uses by some operations alone.
+-- The uses by some of the operations.
 use Rattle.std.specs.Prelude.{ℕ, List, [], ◌∷◌, eqb, Bool, not, if◌then◌else◌}
 use Rattle.listeners.specs.declared.key.Use.{Use}
 
--- the uses whose users p holds of
+-- the uses whose users satisfy p
 abbrev pub only : (ℕ → Bool) → List Use → List Use
 only p [] = []
 only p (u ∷ us) = if p u.user then u ∷ only p us else only p us

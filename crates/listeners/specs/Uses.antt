@@ -11,7 +11,7 @@ use Rattle.ir_event.specs.trees.Meaning.{Operation}
 use Rattle.ir_event.specs.Rows.{RowTerm, Val, Op, Num}
 use Rattle.listeners.specs.declared.key.Use.{Use}
 
--- the uses among operands of operation x, the first of which has the number k
+-- the uses in a list of operands of operation x, the first with operand number k
 abbrev pub operand_uses : ℕ → ℕ → List Value → List Use
 operand_uses x k [] = []
 operand_uses x k (v ∷ vs) = record { value = v; user = x; operand = k } ∷ operand_uses x (k + 1) vs
@@ -33,8 +33,8 @@ abbrev mutual
   ops_uses no_ops = []
   ops_uses (next o os) = uses_in o ++ ops_uses os
 
--- the order of uses: by the owner of the value, its results before arguments, which have a region, by the
--- region and the place of the value, and then by user and operand number
+-- the order of uses: by the owner of the value, its results before its arguments (which have a region), by the region
+-- and the place of the value, and then by user and operand number
 abbrev pub use_cmp : Use → Use → Ordering
 use_cmp u v =
     ordering_then (nat_cmp (owner_of u.value).0 (owner_of v.value).0)
@@ -42,12 +42,12 @@ use_cmp u v =
     (ordering_then (nat_cmp (place_of u.value) (place_of v.value))
     (ordering_then (nat_cmp u.user v.user) (nat_cmp u.operand v.operand))))
 
--- uses that are in order, with one more
+-- one more use in an ordered list of uses
 abbrev pub put_use : Use → List Use → List Use
 put_use u [] = u ∷ []
 put_use u (v ∷ vs) = if is_gt (use_cmp u v) then v ∷ put_use u vs else u ∷ v ∷ vs
 
--- uses put in order
+-- the uses in order
 abbrev pub in_order : List Use → List Use
 in_order [] = []
 in_order (u ∷ us) = put_use u (in_order us)
@@ -56,7 +56,7 @@ in_order (u ∷ us) = put_use u (in_order us)
 abbrev pub all_uses : {N T A : Type 0} → OpOf N T A → List Use
 all_uses t = in_order (uses_in t)
 
--- the row of a use: the value, the user, the number of the operand
+-- the row of a use: the value, the user, the operand number
 abbrev pub use_row : Use → RowTerm
 use_row u = Val u.value ∷ Op u.user ∷ Num u.operand ∷ []
 

@@ -1,4 +1,4 @@
-//! The uses of a module, by one walk over its operations that counts them, and one that lists them.
+//! Collects the uses of a module in two passes over its operations: one counts the uses, and one lists them.
 ghost use Rattle.std.specs.Prelude.{◌≡◌, ◌++◌, IfOk, OnOk};
 ghost use Rattle.listeners.specs.Uses.{operand_uses, uses_in};
 ghost use Rattle.listeners.specs.Following.{operands_in};
@@ -10,14 +10,14 @@ use ir_event::types::ids::OpId;
 use ir_event::world::World;
 use std::alloc::{AllocError, Global};
 
-/// How many operations have operands, and how many operands there are.
+/// The number of operations with operands, and the number of operands.
 #[derive(Clone, Copy)]
 struct Counts {
     users: usize,
     operands: usize,
 }
 
-/// The uses of a world's module: users in pre-order, the operands of each in order.
+/// Returns the uses of the module: users in pre-order, the operands of each in order.
 pub(crate) fn collect(alloc: Global, world: &World) -> Result<Listing, AllocError>
     ensures { IfOk result (λ uses. uses ≡ uses_in world.now.store.module_of.tree) }
 {
@@ -30,7 +30,7 @@ pub(crate) fn collect(alloc: Global, world: &World) -> Result<Listing, AllocErro
     Ok(out)
 }
 
-/// Counts, so that room is taken once. Nothing follows from the counts but how much that is.
+/// Counts users and operands, to reserve memory once. The contracts don't depend on the counts.
 fn count(store: &Store, ops: &[OpId]) -> Counts {
     let mut users: usize = 0;
     let mut operands: usize = 0;
@@ -44,7 +44,7 @@ fn count(store: &Store, ops: &[OpId]) -> Counts {
     Counts { users, operands }
 }
 
-/// How many operands an operation has.
+/// Returns the number of operands of an operation.
 fn operand_count(store: &Store, op: OpId) -> usize {
     match store.node(op) {
         None => 0,
@@ -52,7 +52,7 @@ fn operand_count(store: &Store, op: OpId) -> usize {
     }
 }
 
-/// Adds the uses of operations, one after another.
+/// Appends the uses of the operations in order.
 fn push_all(store: &Store, ops: &[OpId], out: &mut Listing) -> Result<(), AllocError>
     ensures { OnOk result (out.new ≡ out.old ++ uses_by (operands_in store.now) ops.now) }
 {
@@ -62,7 +62,7 @@ fn push_all(store: &Store, ops: &[OpId], out: &mut Listing) -> Result<(), AllocE
     Ok(())
 }
 
-/// Adds the uses of an operation.
+/// Appends the uses of an operation.
 fn push_uses(store: &Store, op: OpId, out: &mut Listing) -> Result<(), AllocError>
     ensures { OnOk result (out.new ≡ out.old ++ operand_uses op 0 (if_any (operands_in store.now op))) }
 {

@@ -1,35 +1,35 @@
-//! The keys of uses, gathered from a listing and from what was changed since.
+//! Gathers the keys of uses from a listing and from the changes since.
 ghost use Rattle.std.specs.Prelude.{◌≡◌, ◌+◌, ◌++◌, ◌∷◌, List, Option, length, OnOk};
-ghost use Rattle.id_map.specs.Map.{entries_from};
-ghost use Rattle.listeners.specs.declared.changed.Changed.{Changed as Entry};
+ghost use Rattle.listeners_support.specs.Map.{entries_from};
+ghost use Rattle.listeners.specs.declared.operand_change.OperandChange.{OperandChange as Entry};
 ghost use Rattle.listeners.specs.Uses.{operand_uses};
 ghost use Rattle.listeners.specs.Keys.{key_of, keys_of};
 ghost use Rattle.listeners.specs.Others.{only};
 ghost use Rattle.listeners.specs.Listings.{operand_count, listed_uses, user_uses};
 ghost use Rattle.listeners.specs.Tables.{changed_uses, is_unchanged};
 
-use crate::changed::Changed;
-use crate::key::{Key, Use};
+use crate::key::{Use, UseKey};
+use crate::operand_change::OperandChange;
 use crate::user::User;
-use id_map::IdMap;
 use ir_event::trees::value::Value;
 use ir_event::types::ids::OpId;
+use listeners_support::IdMap;
 use std::alloc::AllocError;
 use std::collections::BTreeMap;
 
-/// The key of a use.
-fn key(entry: &Use) -> Key
+/// Returns the key of a use.
+fn key(entry: &Use) -> UseKey
     ensures { result ≡ key_of entry.now }
 {
     match entry.value {
-        Value::Result(owner, place) => Key {
+        Value::Result(owner, place) => UseKey {
             owner,
             region: None,
             place,
             user: entry.user,
             operand: entry.operand,
         },
-        Value::Arg(owner, region, place) => Key {
+        Value::Arg(owner, region, place) => UseKey {
             owner,
             region: Some(region),
             place,
@@ -39,12 +39,12 @@ fn key(entry: &Use) -> Key
     }
 }
 
-/// Adds the keys of the uses of an operation.
-fn push_keys(user: OpId, operands: &[Value], keys: &mut Vec<Key>) -> Result<(), AllocError>
+/// Appends the keys of the uses of an operation.
+fn push_keys(user: OpId, operands: &[Value], keys: &mut Vec<UseKey>) -> Result<(), AllocError>
     ensures { OnOk result (keys.new.items ≡ keys.old.items ++ keys_of (operand_uses user 0 operands.now)) }
 {
     for (number, operand) in operands.iter().enumerate() {
-        // A module has at most 256 operands at an operation.
+        // An operation of a module has at most 256 operands.
         let Ok(number) = u32::try_from(number) else {
             return Err(AllocError);
         };
@@ -57,12 +57,12 @@ fn push_keys(user: OpId, operands: &[Value], keys: &mut Vec<Key>) -> Result<(), 
     Ok(())
 }
 
-/// Adds the keys of the uses of a user, if they count.
+/// Appends the keys of the uses of a user, if they count.
 fn push_user(
     user: &User,
     operands: &[Value],
-    changed: &IdMap<Changed>,
-    keys: &mut Vec<Key>,
+    changed: &IdMap<OperandChange>,
+    keys: &mut Vec<UseKey>,
 ) -> Result<(), AllocError>
     ensures { OnOk result (keys.new.items
         ≡ keys.old.items ++ keys_of (only (is_unchanged changed.now) (user_uses user.now operands.now))) }
@@ -73,12 +73,12 @@ fn push_user(
     push_keys(user.id, operands, keys)
 }
 
-/// Adds the keys of listed uses whose users were not changed.
+/// Appends the keys of the listed uses whose users are unchanged.
 pub(crate) fn push_listed(
     users: &[User],
     operands: &[Value],
-    changed: &IdMap<Changed>,
-    keys: &mut Vec<Key>,
+    changed: &IdMap<OperandChange>,
+    keys: &mut Vec<UseKey>,
 ) -> Result<(), AllocError>
     requires { operand_count users.now ≡ length operands.now }
     ensures { OnOk result (keys.new.items
@@ -86,15 +86,19 @@ pub(crate) fn push_listed(
 {
     let mut rest = operands;
     for user in users {
-        let (own, behind) = rest.split_at(user.count as usize);
+        let (own, trailing) = rest.split_at(user.count as usize);
         push_user(user, own, changed, keys)?;
-        rest = behind;
+        rest = trailing;
     }
     Ok(())
 }
 
-/// Adds the keys of the uses of an operation by its number, if it was changed.
-fn push_slot(id: usize, slot: &Option<Changed>, keys: &mut Vec<Key>) -> Result<(), AllocError>
+/// Appends the keys of the uses of operation `id`, if it changed.
+fn push_slot(
+    id: usize,
+    slot: &Option<OperandChange>,
+    keys: &mut Vec<UseKey>,
+) -> Result<(), AllocError>
     ensures { (rest : List (Option Entry)) → OnOk result (keys.new.items
         ++ keys_of (changed_uses (entries_from (id + 1) rest))
         ≡ keys.old.items ++ keys_of (changed_uses (entries_from id (slot.now ∷ rest)))) }
@@ -108,8 +112,8 @@ fn push_slot(id: usize, slot: &Option<Changed>, keys: &mut Vec<Key>) -> Result<(
     push_keys(OpId::new(number), &now.operands, keys)
 }
 
-/// Adds those of the operations of a list.
-fn push_near(near: &[Option<Changed>], keys: &mut Vec<Key>) -> Result<(), AllocError>
+/// Appends the keys of the uses of the changed operations in a list.
+fn push_near(near: &[Option<OperandChange>], keys: &mut Vec<UseKey>) -> Result<(), AllocError>
     ensures { OnOk result (keys.new.items ≡ keys.old.items ++ keys_of (changed_uses (entries_from 0 near.now))) }
 {
     for (id, slot) in near.iter().enumerate() {
@@ -118,8 +122,8 @@ fn push_near(near: &[Option<Changed>], keys: &mut Vec<Key>) -> Result<(), AllocE
     Ok(())
 }
 
-/// Adds those of the others.
-fn push_far(far: &BTreeMap<u32, Changed>, keys: &mut Vec<Key>) -> Result<(), AllocError>
+/// Appends the keys of the uses of the changed operations in a sorted map.
+fn push_far(far: &BTreeMap<u32, OperandChange>, keys: &mut Vec<UseKey>) -> Result<(), AllocError>
     ensures { OnOk result (keys.new.items ≡ keys.old.items ++ keys_of (changed_uses far.now.entries)) }
 {
     for (id, now) in far {
@@ -128,8 +132,11 @@ fn push_far(far: &BTreeMap<u32, Changed>, keys: &mut Vec<Key>) -> Result<(), All
     Ok(())
 }
 
-/// Adds the keys of the uses of operations that were changed.
-pub(crate) fn push_changed(changed: &IdMap<Changed>, keys: &mut Vec<Key>) -> Result<(), AllocError>
+/// Appends the keys of the uses of all changed operations.
+pub(crate) fn push_changed(
+    changed: &IdMap<OperandChange>,
+    keys: &mut Vec<UseKey>,
+) -> Result<(), AllocError>
     ensures { OnOk result (keys.new.items ≡ keys.old.items ++ keys_of (changed_uses changed.now.entries)) }
 {
     let (near, far) = changed.parts();

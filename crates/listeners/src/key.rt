@@ -1,11 +1,11 @@
-//! Uses, and the keys by which they are kept in order.
+//! Uses, and the keys that sort them.
 ghost use Rattle.std.specs.Prelude.{◌≡◌};
 ghost use Rattle.ir_event.specs.trees.declared.value.Value.{Value as TreeValue};
 
 use ir_event::trees::value::Value;
 use ir_event::types::ids::OpId;
 
-/// A use of a value: an operation has it as the operand of a number.
+/// A use of a value: the operation that has it as an operand, and the operand's number.
 #[derive(Clone, Copy, Debug)]
 pub struct Use {
     pub value: Value,
@@ -13,10 +13,10 @@ pub struct Use {
     pub operand: u32,
 }
 
-/// A use, its value given by the owner, the region if it is an argument, and the place. Keys are in the
-/// order of reports: by value, results before arguments, then by user and number.
+/// A use with its value split into the owner, the region if it is an argument, and the place. Keys sort like the
+/// report's rows: by value, results before arguments, then by user and operand number.
 #[derive(Clone, Copy, Debug, PartialEq, Eq, PartialOrd, Ord)]
-pub struct Key {
+pub struct UseKey {
     pub owner: OpId,
     pub region: Option<u32>,
     pub place: u32,

@@ -1,4 +1,4 @@
-//! Uses listed by their users, before anything asks for their order.
+//! Uses listed by user, not yet sorted by value.
 ghost use Rattle.std.specs.Prelude.{◌≡◌, [], ◌++◌, map, IfOk, OnOk};
 ghost use Rattle.listeners.specs.Uses.{operand_uses};
 ghost use Rattle.listeners.specs.Keys.{keys_of};
@@ -6,26 +6,25 @@ ghost use Rattle.listeners.specs.Others.{only, others};
 ghost use Rattle.listeners.specs.Listings.{forgotten};
 ghost use Rattle.listeners.specs.Tables.{is_unchanged};
 
-use crate::changed::Changed;
 use crate::gather::push_listed;
-use crate::key::Key;
+use crate::key::UseKey;
+use crate::operand_change::OperandChange;
 use crate::user::User;
-use id_map::IdMap;
 use ir_event::trees::value::Value;
 use ir_event::types::ids::OpId;
+use listeners_support::IdMap;
 use std::alloc::{AllocError, Global};
 use std::marker::Model;
 
-/// Uses listed by their users: a contract sees the list of uses.
+/// Uses listed by user. A contract describes the listing by its list of uses.
 ///
-/// The uses of a whole module are listed wherever a listener begins, and often nothing asks for them afterwards. So
-/// they are kept in two rows: a use takes the bytes of its value alone, since its user and number follow from where
-/// it stands.
+/// A listener lists the uses of a whole module when it begins, and often no report sorts them later. The listing is
+/// kept in two lists, so a use takes only the bytes of its value: its user and operand number follow from its position.
 #[derive(Drop)]
 pub(crate) struct Listing {
-    /// The operations that have operands, with the number of them.
+    /// The operations that have operands, with the number of operands.
     users: Vec<User>,
-    /// The operands of all of these, one after another.
+    /// The operands of these operations, in order.
     operands: Vec<Value>,
 }
 
@@ -43,7 +42,7 @@ impl Model for Listing {
 }
 
 impl Listing {
-    /// A listing of no uses.
+    /// Returns an empty listing.
     pub(crate) fn new(alloc: Global) -> Listing
         ensures { result ≡ [] }
     {
@@ -53,7 +52,7 @@ impl Listing {
         }
     }
 
-    /// A listing of no uses, with room for so many users and operands.
+    /// Returns an empty listing with capacity for these numbers of users and operands.
     pub(crate) fn with_room(
         alloc: Global,
         users: usize,
@@ -66,14 +65,14 @@ impl Listing {
         Ok(Listing { users, operands })
     }
 
-    /// Adds the uses of an operation: its operands in order.
+    /// Appends the uses of an operation, given its operands in order.
     pub(crate) fn push(&mut self, id: OpId, operands: &[Value]) -> Result<(), AllocError>
         ensures { OnOk result (self.new ≡ self.old ++ operand_uses id 0 operands.now) }
     {
         if operands.is_empty() {
             return Ok(());
         }
-        // A module has at most 256 operands at an operation.
+        // An operation of a module has at most 256 operands.
         let Ok(count) = u16::try_from(operands.len()) else {
             return Err(AllocError);
         };
@@ -93,31 +92,32 @@ impl Listing {
         }
     }
 
-    /// Leaves out the uses of an operation, if it has some. This walks over all users, and needs no memory.
+    /// Removes the uses of an operation, if it has some. Takes time proportional to the number of users, and needs no
+    /// memory.
     pub(crate) fn forget(&mut self, id: OpId)
         ensures { self.new ≡ others id self.old }
     {
         forget_in(&mut self.users, id);
     }
 
-    /// Adds the keys of the uses whose users were not changed.
+    /// Appends the keys of the uses whose users are unchanged.
     pub(crate) fn push_unchanged(
         &self,
-        changed: &IdMap<Changed>,
-        keys: &mut Vec<Key>,
+        changed: &IdMap<OperandChange>,
+        keys: &mut Vec<UseKey>,
     ) -> Result<(), AllocError>
         ensures { OnOk result (keys.new.items ≡ keys.old.items ++ keys_of (only (is_unchanged changed.now) self.now)) }
     {
         push_listed(&self.users, &self.operands, changed, keys)
     }
 
-    /// How many operands are listed. Nothing follows from it but how much room is taken.
+    /// Returns the number of listed operands, to reserve memory. The contracts don't depend on it.
     pub(crate) fn len(&self) -> usize {
         self.operands.len()
     }
 }
 
-/// Leaves out the uses of an operation.
+/// Marks the user `id` as removed.
 fn forget_in(users: &mut [User], id: OpId)
     ensures { users.new ≡ map (forgotten id) users.old }
 {
@@ -126,7 +126,7 @@ fn forget_in(users: &mut [User], id: OpId)
     }
 }
 
-/// A user where the uses of an operation are left out.
+/// Returns the user, marked as removed if it is `id`.
 fn after(user: &User, id: OpId) -> User
     ensures { result ≡ forgotten id user.now }
 {

@@ -1,4 +1,4 @@
-//! The rows of a table of uses.
+//! The report rows of a table of uses.
 ghost use Rattle.std.specs.Prelude.{◌≡◌, [], ◌∷◌, ◌++◌, map, IfOk, OnOk};
 ghost use Rattle.ir_event.specs.declared.row.Row.{Row as Line};
 ghost use Rattle.listeners.specs.Uses.{in_order};
@@ -6,14 +6,14 @@ ghost use Rattle.listeners.specs.Keys.{keys_of, key_cells, value_at};
 ghost use Rattle.listeners.specs.Tables.{table_uses};
 
 use crate::gather::push_changed;
-use crate::key::Key;
-use crate::table::Table;
+use crate::key::UseKey;
+use crate::table::UseTable;
 use ir_event::row::{Cell, Row};
 use ir_event::trees::value::Value;
 use std::alloc::{AllocError, Global};
 
-/// The keys of the uses, in order.
-fn sorted_keys(alloc: Global, table: &Table) -> Result<Vec<Key>, AllocError>
+/// Returns the keys of the uses in order.
+fn sorted_keys(alloc: Global, table: &UseTable) -> Result<Vec<UseKey>, AllocError>
     ensures { IfOk result (λ keys. keys.items ≡ keys_of (in_order (table_uses table.now))) }
 {
     let mut keys = Vec::with_capacity(alloc, table.listed.len())?;
@@ -23,8 +23,8 @@ fn sorted_keys(alloc: Global, table: &Table) -> Result<Vec<Key>, AllocError>
     Ok(keys)
 }
 
-/// The value of a key.
-fn value_of(key: &Key) -> Value
+/// Returns the value of a key.
+fn value_of(key: &UseKey) -> Value
     ensures { result ≡ value_at key.now.owner key.now.region key.now.place }
 {
     match key.region {
@@ -33,8 +33,8 @@ fn value_of(key: &Key) -> Value
     }
 }
 
-/// The row of a key.
-fn row(alloc: Global, key: &Key) -> Result<Row, AllocError>
+/// Returns the row of a key.
+fn row(alloc: Global, key: &UseKey) -> Result<Row, AllocError>
     ensures { IfOk result (λ row. row.cells.items ≡ key_cells key.now) }
 {
     let mut cells = Vec::with_capacity(alloc, 3)?;
@@ -44,8 +44,8 @@ fn row(alloc: Global, key: &Key) -> Result<Row, AllocError>
     Ok(Row { cells })
 }
 
-/// Adds the row of a key.
-fn push_row(alloc: Global, key: &Key, rows: &mut Vec<Row>) -> Result<(), AllocError>
+/// Appends the row of a key.
+fn push_row(alloc: Global, key: &UseKey, rows: &mut Vec<Row>) -> Result<(), AllocError>
     ensures { OnOk result (map (λ (r : Line). r.cells.items) rows.new.items
         ≡ map (λ (r : Line). r.cells.items) rows.old.items ++ key_cells key.now ∷ []) }
 {
@@ -53,8 +53,8 @@ fn push_row(alloc: Global, key: &Key, rows: &mut Vec<Row>) -> Result<(), AllocEr
     Ok(())
 }
 
-/// The rows of keys.
-fn rows_of_keys(alloc: Global, keys: &[Key]) -> Result<Vec<Row>, AllocError>
+/// Returns the rows of the keys.
+fn rows_of_keys(alloc: Global, keys: &[UseKey]) -> Result<Vec<Row>, AllocError>
     ensures { IfOk result (λ rows. map (λ (r : Line). r.cells.items) rows.items ≡ map key_cells keys.now) }
 {
     let mut rows = Vec::with_capacity(alloc, keys.len())?;
@@ -64,8 +64,8 @@ fn rows_of_keys(alloc: Global, keys: &[Key]) -> Result<Vec<Row>, AllocError>
     Ok(rows)
 }
 
-/// The rows of a table, in order.
-pub(crate) fn rows_of_table(alloc: Global, table: &Table) -> Result<Vec<Row>, AllocError>
+/// Returns the rows of a table, in order.
+pub(crate) fn rows_of_table(alloc: Global, table: &UseTable) -> Result<Vec<Row>, AllocError>
     ensures { IfOk result (λ rows. map (λ (r : Line). r.cells.items) rows.items
         ≡ map key_cells (keys_of (in_order (table_uses table.now)))) }
 {

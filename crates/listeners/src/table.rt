@@ -5,46 +5,46 @@ ghost use Rattle.listeners.specs.Uses.{operand_uses, in_order};
 ghost use Rattle.listeners.specs.Others.{others};
 ghost use Rattle.listeners.specs.Tables.{table_uses};
 
-use crate::changed::Changed;
 use crate::listing::Listing;
-use id_map::IdMap;
+use crate::operand_change::OperandChange;
 use ir_event::trees::value::Value;
 use ir_event::types::ids::OpId;
+use listeners_support::IdMap;
 use std::alloc::{AllocError, Global};
 
-/// The uses of a module: those that were listed where the listener began, and beside them the operands of each
-/// operation that an event changed since, which count in place of the listed ones.
+/// The uses of a module: the uses that were listed when the listener began, and the current operands of each operation
+/// that changed since. The latter replace the listed ones.
 #[derive(Drop)]
-pub(crate) struct Table {
+pub(crate) struct UseTable {
     pub(crate) listed: Listing,
-    pub(crate) changed: IdMap<Changed>,
+    pub(crate) changed: IdMap<OperandChange>,
 }
 
-impl Table {
-    /// The table of listed uses.
-    pub(crate) fn new(alloc: Global, listed: Listing) -> Table
+impl UseTable {
+    /// Returns the table of listed uses.
+    pub(crate) fn new(alloc: Global, listed: Listing) -> UseTable
         ensures { table_uses result ≡ listed }
     {
-        Table {
+        UseTable {
             listed,
             changed: IdMap::new(alloc),
         }
     }
 
-    /// The table of listed uses. What changes of operations below a bound is found in one step.
+    /// Returns the table of listed uses. A change of an operation with an id below `bound` is found in one step.
     pub(crate) fn with_room(
         alloc: Global,
         listed: Listing,
         bound: usize,
-    ) -> Result<Table, AllocError>
+    ) -> Result<UseTable, AllocError>
         ensures { IfOk result (λ table. table_uses table ≡ listed) }
     {
         let changed = IdMap::with_room(alloc, bound)?;
-        Ok(Table { listed, changed })
+        Ok(UseTable { listed, changed })
     }
 
-    /// Gives an operation operands, in place of those that it had, if any. It is false where memory was refused.
-    pub(crate) fn put(&mut self, alloc: Global, op: OpId, operands: &[Value]) -> bool
+    /// Sets the operands of an operation. Returns `false` if memory ran out.
+    pub(crate) fn set_operands(&mut self, alloc: Global, op: OpId, operands: &[Value]) -> bool
         ensures { OnTrue result (in_order (table_uses self.new)
             ≡ in_order (operand_uses op 0 operands.now ++ others op (table_uses self.old))) }
     {
@@ -52,19 +52,19 @@ impl Table {
             return false;
         };
         self.changed.ordered();
-        match self.changed.insert(op.number(), Changed { operands }) {
+        match self.changed.insert(op.number(), OperandChange { operands }) {
             Ok(_) => true,
             Err(_) => false,
         }
     }
 
-    /// Takes the operands of an operation out, if it has some. This is done without memory where none is given.
+    /// Removes the operands of an operation, if it has some. Succeeds also if memory runs out.
     pub(crate) fn take(&mut self, alloc: Global, op: OpId)
         ensures { in_order (table_uses self.new) ≡ in_order (others op (table_uses self.old)) }
     {
         let operands = Vec::new(alloc);
         self.changed.ordered();
-        match self.changed.insert(op.number(), Changed { operands }) {
+        match self.changed.insert(op.number(), OperandChange { operands }) {
             Ok(_) => {}
             Err(_) => self.listed.forget(op),
         }

@@ -2,7 +2,7 @@
 
 use ir_event::types::ids::OpId;
 
-/// An operation with operands, and how many they are. One that is not live has no uses any more.
+/// An operation with operands, and the number of operands. A user that isn't live has no uses any more.
 #[derive(Clone, Copy, Debug)]
 pub(crate) struct User {
     pub(crate) id: OpId,

@@ -1,8 +1,8 @@
-//! The listener that keeps the uses of values.
+//! The listener of uses.
 ghost use Rattle.std.specs.Prelude.{◌≡◌, true, IfOk};
-ghost use Rattle.ir_event.specs.Modules.{Module, things_in, module_in, shown_in};
+ghost use Rattle.ir_event.specs.Modules.{Module, context_model, module_in, node_of_op};
 ghost use Rattle.ir_event.specs.Listener.{ShowsTaken};
-ghost use Rattle.ir_event.specs.Hearing.{Hears};
+ghost use Rattle.ir_event.specs.Notification.{IsNotified};
 ghost use Rattle.ir_event.specs.Step.{Step};
 ghost use Rattle.listeners.specs.Following.{adds_no_use};
 ghost use Rattle.listeners.specs.Uses.{all_uses, in_order};
@@ -12,7 +12,7 @@ use crate::collect::collect;
 use crate::follow::follow;
 use crate::listing::Listing;
 use crate::report::rows_of_table;
-use crate::table::Table;
+use crate::table::UseTable;
 use ir_event::analysis::Analysis;
 use ir_event::event::Event;
 use ir_event::row::{Kind, Memory, ReportFault, Row};
@@ -22,37 +22,38 @@ use std::alloc::{AllocError, Global};
 
 /// The analysis `uses`: each use of each value, in order.
 ///
-/// It follows every event, and is stale where its own growth is refused, which only a `Put` and a `SetOperand` need.
+/// The table is updated after every event. The listener becomes stale if memory runs out, which only `Put` and
+/// `SetOperand` need.
 #[derive(Drop)]
 pub struct Uses {
     alloc: Global,
-    table: Table,
+    table: UseTable,
     stale: bool,
 }
 
 impl Uses {
     ghost use Rattle.listeners.specs.Listeners.{uses_listener};
 
-    /// A listener that has not begun, and is stale.
+    /// Returns a listener that hasn't begun and is stale.
     pub fn new(alloc: Global) -> Uses
         ensures { (uses_listener result).stale ≡ true }
     {
         Uses {
             alloc,
-            table: Table::new(alloc, Listing::new(alloc)),
+            table: UseTable::new(alloc, Listing::new(alloc)),
             stale: true,
         }
     }
 }
 
-/// The table of the uses of a world's module.
-fn table_in(alloc: Global, world: &World) -> Result<Table, AllocError>
+/// Returns the table of the uses of the module.
+fn table_in(alloc: Global, world: &World) -> Result<UseTable, AllocError>
     ensures { IfOk result (λ table. in_order (table_uses table) ≡ all_uses world.now.store.module_of.tree) }
 {
     let listed = collect(alloc, world)?;
-    // Operations with operands have ids below this, where ids come in order; it is only how much room is taken.
+    // If ids ascend, operations with operands have ids below this. The number only affects how much memory is reserved.
     let room = listed.len().saturating_add(64);
-    Table::with_room(alloc, listed, room)
+    UseTable::with_room(alloc, listed, room)
 }
 
 impl Analysis for Uses {
@@ -65,8 +66,8 @@ impl Analysis for Uses {
     }
 
     fn begin(&mut self, world: &World) -> Result<(), Memory> {
-        // What was kept goes first, so that there is room for what is kept now.
-        self.table = Table::new(self.alloc, Listing::new(self.alloc));
+        // The old table is dropped first, to free its memory.
+        self.table = UseTable::new(self.alloc, Listing::new(self.alloc));
         self.stale = true;
         match table_in(self.alloc, world) {
             Ok(table) => {
@@ -78,14 +79,14 @@ impl Analysis for Uses {
         }
     }
 
-    /// Where it agreed before an operation was taken or moved, or an entry was set, it agrees afterwards, and isn't
-    /// stale.
+    /// If the listener agreed before an operation was removed or moved, or an entry was set, it agrees afterwards and
+    /// isn't stale.
     fn told<'a>(&mut self, view: View<'a>, event: Event) -> View<'a>
-        ensures heard { Hears event view.entry result (uses_listener self.old) (uses_listener self.new) }
-        ensures grown { (m : Module) → adds_no_use event ≡ true → Step (things_in view.entry.world.now) event m
-            (module_in view.entry.world.now) → ShowsTaken event m (shown_in view.entry.world.now)
-            → (uses_listener self.old).agrees (things_in view.entry.world.now) m
-            → (uses_listener self.new).agrees (things_in view.entry.world.now) (module_in view.entry.world.now) }
+        ensures notified { IsNotified event view.entry result (uses_listener self.old) (uses_listener self.new) }
+        ensures grown { (m : Module) → adds_no_use event ≡ true → Step (context_model view.entry.world.now) event m
+            (module_in view.entry.world.now) → ShowsTaken event m (node_of_op view.entry.world.now)
+            → (uses_listener self.old).agrees (context_model view.entry.world.now) m
+            → (uses_listener self.new).agrees (context_model view.entry.world.now) (module_in view.entry.world.now) }
     {
         if self.stale {
             return view;

@@ -2,17 +2,17 @@
 use Rattle.std.proofs.Common.{◌≡◌, refl, sym, ap, ◌∙◌, subst, ℕ, List, [], ◌∷◌, length, map}
 use Rattle.std.specs.List.{All}
 use Rattle.std.proofs.lemmas.List.Elements.{All-nil, All-cons, All-head, All-tail}
-use Rattle.ir_event.specs.types.Things.{Things}
+use Rattle.ir_event.specs.types.Things.{ContextModel}
 use Rattle.ir_event.specs.trees.Meaning.{Operation}
 use Rattle.ir_event.specs.declared.row.Cell.{Cell}
 use Rattle.ir_event.specs.declared.row.Cell.TheVariants.{Num}
 use Rattle.ir_event.specs.declared.row.Row.{Row as Line}
 use Rattle.ir_event.specs.Rows.{cell_meaning, rows_meaning, CellIsOf, RowIsOf, Shows}
-use Rattle.listeners_surroundings.specs.Facts.{kept_facts}
+use Rattle.listeners_support.specs.Facts.{kept_facts}
 use Rattle.listeners_example.specs.declared.additions.IsAddition.{IsAddition}
 use Rattle.listeners_example.specs.Additions.{is_addition, holds, additions_of}
 
-module _ (c : Things) where
+module _ (c : ContextModel) where
   lines_say : (rows : List Line) → rows_meaning c rows ≡ map (map (cell_meaning c)) (map (λ (r : Line). r.cells.items) rows)
   lines_say [] = refl
   lines_say (r ∷ rows) = ap (λ l. map (cell_meaning c) r.cells.items ∷ l) (lines_say rows)

@@ -1,4 +1,4 @@
--- how many additions a tree has, and what the listener that counts them means.
+-- The number of additions of a tree, and the contract of the listener that counts them.
 use Rattle.std.specs.Prelude.{◌≡◌, ℕ, List, [], ◌∷◌, length, Bool, false, None}
 use Rattle.std.specs.Ordering.{nat_cmp}
 use Rattle.std.specs.BTreeMap.{get}
@@ -9,8 +9,8 @@ use Rattle.ir_event.specs.types.declared.word.Word.TheVariants.{ArithAddi}
 use Rattle.ir_event.specs.trees.Meaning.{Operation}
 use Rattle.ir_event.specs.Listener.{Listener}
 use Rattle.ir_event.specs.Rows.{RowTerm, Num}
-use Rattle.listeners_surroundings.specs.Surroundings.{SurroundingsOf}
-use Rattle.listeners_surroundings.specs.Facts.{Keeps, kept_facts, most_looks}
+use Rattle.listeners_support.specs.Surroundings.{SurroundingsOf}
+use Rattle.listeners_support.specs.Facts.{Keeps, kept_facts, most_looks}
 use Rattle.listeners_example.specs.declared.additions.IsAddition.{IsAddition}
 use Rattle.listeners_example.specs.declared.additions.AdditionCount.{AdditionCount}
 
@@ -18,7 +18,7 @@ use Rattle.listeners_example.specs.declared.additions.AdditionCount.{AdditionCou
 abbrev pub is_addition : SurroundingsOf (List ℕ) TypeTerm AttrTerm → IsAddition
 is_addition s = record { yes = bytes_eq s.node.head.name (word_bytes ArithAddi) }
 
--- whether that holds
+-- whether the operation is an addition
 abbrev pub holds : IsAddition → Bool
 holds f = f.yes
 
@@ -33,7 +33,7 @@ addition_count_listener s = record {
   analysis = additions_of;
   agrees = λ c m. (s.kept.stale ≡ false) × Keeps is_addition holds m.tree (get nat_cmp s.kept.table);
   stale = s.kept.stale;
-  heard = None;
+  notified = None;
   most = λ e m n. most_looks e n.tree;
   fresh = λ c m h. h.0;
   grows = λ c d m holds also g h. h;

@@ -12,19 +12,19 @@ use ir_event::types::ids::{NameId, OpId};
 use ir_event::types::word::Word;
 use ir_event::view::View;
 use ir_event::world::World;
-use listeners_surroundings::around::Around;
-use listeners_surroundings::fact::Fact;
-use listeners_surroundings::kept::Kept;
+use listeners_support::fact::LocalFact;
+use listeners_support::fact_table::FactTable;
+use listeners_support::op_context::OpContext;
 use op_registry::registry::Registry;
 use std::alloc::{AllocError, Global};
 
-/// Whether an operation is an addition.
+/// The fact whether an operation is an addition.
 #[derive(Drop)]
 pub struct IsAddition {
     yes: bool,
 }
 
-impl Fact for IsAddition {
+impl LocalFact for IsAddition {
     ghost use Rattle.listeners_example.specs.Additions.{is_addition, holds};
 
     ghost fact = { is_addition };
@@ -35,7 +35,7 @@ impl Fact for IsAddition {
         true
     }
 
-    fn of(ctx: &Context, _registry: &Registry, around: &Around<'_>) -> IsAddition {
+    fn compute(ctx: &Context, _registry: &Registry, around: &OpContext<'_>) -> IsAddition {
         IsAddition {
             yes: ctx.is_word(around.node.name(), Word::ArithAddi),
         }
@@ -48,23 +48,23 @@ impl Fact for IsAddition {
 
 /// The analysis that counts the operations named `arith.addi`.
 ///
-/// It keeps which operations are additions. After an event it looks again at the operations near it.
+/// It keeps which operations are additions. After an event it checks the operations near the event again.
 #[derive(Drop)]
 pub struct AdditionCount {
     alloc: Global,
-    kept: Kept<IsAddition>,
+    kept: FactTable<IsAddition>,
 }
 
 impl AdditionCount {
     ghost use Rattle.listeners_example.specs.Additions.{addition_count_listener};
 
-    /// A listener that has not begun, and is stale.
+    /// Returns a listener that hasn't begun and is stale.
     pub fn new(alloc: Global) -> AdditionCount
         ensures { (addition_count_listener result).stale ≡ true }
     {
         AdditionCount {
             alloc,
-            kept: Kept::new(alloc),
+            kept: FactTable::new(alloc),
         }
     }
 }
@@ -104,12 +104,12 @@ impl Analysis for AdditionCount {
     }
 }
 
-/// One row: the count.
+/// Returns one row with the count.
 fn rows(alloc: Global, count: u32) -> Result<Vec<Row>, AllocError>
     ensures { IfOk result (λ rows. map (λ (r : Line). r.cells.items) rows.items ≡ (Num count ∷ []) ∷ []) }
 {
-    // The checker has no proof of the loans of a function that makes cells, unless it has a value of each type in a
-    // cell.
+    // The checker has no proof of the loans of a function that creates cells, unless the function has a value of each
+    // type in a cell.
     let _value = Value::Result(OpId::new(0), 0);
     let mut cells = Vec::with_capacity(alloc, 1)?;
     cells.push(Cell::Num(count))?;

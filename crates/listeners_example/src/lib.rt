@@ -1,4 +1,4 @@
-//! A listener of one's own, as an example: it counts the additions of a module.
+//! An example of a user-defined listener: it counts the additions of a module.
 #![tactic(auto)]
 
 pub mod additions;

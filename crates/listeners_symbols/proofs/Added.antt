@@ -1,8 +1,8 @@
--- Tables to which the roles of operations are added, each behind that of the one that it stands in.
+-- Tables to which the roles of operations are added, parents before their children.
 use Rattle.std.proofs.Common.{◌≡◌, refl, ap, sym, ◌∙◌, subst, ℕ, Bool, true, false, true≢false, ◌||◌, eqb, eq-eqb, eqb-true, List, [], ◌∷◌, Option, Some, None, inl, inr}
 use Rattle.std.specs.Prelude.{option_map, is_some, IfSome}
 use Rattle.std.specs.List.{list_any}
-use Rattle.ir_event.specs.types.Things.{Things}
+use Rattle.ir_event.specs.types.Things.{ContextModel}
 use Rattle.ir_event.specs.trees.Ids.{ids, has_id}
 use Rattle.ir_event.specs.trees.Meaning.{Operation}
 use Rattle.ir_event.specs.tree_laws.Stands.{stands, stand_of}
@@ -16,11 +16,11 @@ use Rattle.listeners_symbols.specs.Table.{Table, Says, Keeps, Renewed, AreRight,
 use Rattle.std.proofs.lemmas.Bool.{or_left, or_right}
 use Rattle.ir_event.proofs.of_tree_laws.Reasoned.{some_there}
 
-module _ (c : Things) (t : Operation) where
+module _ (c : ContextModel) (t : Operation) where
   pub added_none : (f : Table) → Added c t [] f f
   added_none f = record { right = λ h r. r; there = λ x e. absurd (true≢false (sym e)); others = λ x e. refl }
 
-  -- the table after one was renewed
+  -- the table after one update
   renewed_right : (x : ℕ) (f g : Table) → Renewed c t x f g → has_id x t ≡ true → AreRight c t f → AreRight c t g
   renewed_right x f g r has right y k e = elim (bool_cases (eqb x y)) [
     | inr apart ↦ right y k (sym (r.others y apart) ∙ e)
@@ -52,7 +52,7 @@ module _ (c : Things) (t : Operation) where
           let m = member y (stands [] t) s f in
           absurd (true≢false (sym (stand_present [] t s m.0) ∙ ap (λ k. list_any (λ z. eqb z k) (ids t)) m.1 ∙ e))
 
-  -- what is kept of a whole tree
+  -- the table of a whole tree
   pub all_added : (xs : List ℕ) (f g : Table) → xs ≡ ids t → ((y : ℕ) → f y ≡ None) → Added c t xs f g → Keeps c t g
   all_added xs f g e vacant a y = go (list_any (λ z. eqb z y) xs) refl
     where
@@ -65,11 +65,11 @@ module _ (c : Things) (t : Operation) where
           let none : g y ≡ None = a.others y i ∙ vacant y in
           record { is = ap (option_map (role_meaning c)) none ∙ sym (no_role y (ap (list_any (λ z. eqb z y)) (sym e) ∙ i)); known = subst (λ o. IfSome o (RoleIsOf c)) (sym none) tt }
 
--- the same in a world that is equal
+-- the same in an equal IR state
 pub renewed_in : (u w : World) → u ≡ w → (x : ℕ) (f g : Table) → Renewed u.ctx (module_in u).tree x f g → Renewed w.ctx (module_in w).tree x f g
 renewed_in u w e x f g r = subst (λ (z : World). Renewed z.ctx (module_in z).tree x f g) e r
 
-pub added_as : (c : Things) (t : Operation) (xs ys : List ℕ) (f g : Table) → xs ≡ ys → Added c t xs f g → Added c t ys f g
+pub added_as : (c : ContextModel) (t : Operation) (xs ys : List ℕ) (f g : Table) → xs ≡ ys → Added c t xs f g → Added c t ys f g
 added_as c t xs ys f g e a = subst (λ l. Added c t l f g) e a
 
 pub added_in : (u w : World) → u ≡ w → (xs : List ℕ) (f g : Table) → Added u.ctx (module_in u).tree xs f g → Added w.ctx (module_in w).tree xs f g

@@ -1,9 +1,9 @@
--- A table that followed an event keeps the roles of the module after it.
+-- A table that was updated after an event keeps the roles of the module after it.
 use Rattle.std.proofs.Common.{◌≡◌, refl, ap, sym, ◌∙◌, subst, ℕ, suc, true, false, true≢false, cond, eqb, eq-eqb, eqb-true, List, [], ◌∷◌, length, map, get_or, Option, Some, None, inl, inr, arith}
 use Rattle.std.specs.Prelude.{option_map, option_and_then, IfSome}
 use Rattle.std.specs.List.{All, list_any}
 use Rattle.std.proofs.lemmas.List.Elements.{All-head, All-tail}
-use Rattle.ir_event.specs.types.Things.{Things, Grows, IsName, IsType, IsAttr}
+use Rattle.ir_event.specs.types.Things.{ContextModel, IsExtendedBy, IsName, IsType, IsAttr}
 use Rattle.ir_event.specs.types.Sound.{Holds, IsSound}
 use Rattle.ir_event.specs.types.Terms.{TypeTerm, AttrTerm, name_term, type_term}
 use Rattle.ir_event.proofs.of_types.Growth.{front_length, grows_refl}
@@ -28,7 +28,7 @@ use Rattle.ir_event.specs.declared.event.Event.{Event}
 use Rattle.ir_event.specs.declared.event.Event.TheVariants.{Put, Take, SetOperand, SetEntry, Shift}
 use Rattle.ir_event.specs.Modules.{Module}
 use Rattle.ir_event.specs.Step.{Step}
-use Rattle.listeners_surroundings.proofs.Moves.{left_id}
+use Rattle.listeners_support.proofs.Moves.{left_id}
 use Rattle.listeners_symbols.specs.declared.role.Role.{Role as Numbers}
 use Rattle.listeners_symbols.specs.declared.role.Reference.{Reference}
 use Rattle.listeners_symbols.specs.declared.role.Call.{Call}
@@ -59,7 +59,7 @@ somes : {X Y : Type 0} (f : X → Y) (xs : List X) → map (option_map f) (map S
 somes f [] = refl
 somes f (x ∷ xs) = ap (λ l. Some (f x) ∷ l) (somes f xs)
 
-module _ (b c : Things) (holds : Holds b) (g : Grows b c) where
+module _ (b c : ContextModel) (holds : Holds b) (g : IsExtendedBy b c) where
   pub name_more : (n : ℕ) → IsName b n → IsName c n
   name_more n h = let l = front_length b.names c.names g.names in omega (arith, l, h)
 
@@ -118,7 +118,7 @@ module _ (b c : Things) (holds : Holds b) (g : Grows b c) where
   pub keeps_more : (t : Operation) (f : Table) → Keeps b t f → Keeps c t f
   keeps_more t f h x = says_more (role_of t x) (f x) (h x)
 
--- ---- where an operation of an event is
+-- ---- the place of an event's operation
 stand_there : (x : ℕ) (t : Operation) (s : Stand) → In s (stands [] t) → stand_id s ≡ x → has_id x t ≡ true
 stand_there x t s h i = ap (λ y. list_any (λ z. eqb z y) (ids t)) (sym i) ∙ stand_present [] t s h
 
@@ -142,7 +142,7 @@ entry_there x t f y e = go (find x t) refl
     go (Some o) i = find_there x t o i
     go None i = (let no : None ≡ Some y = sym (ap (option_map f) i) ∙ e in absurd cc)
 
--- no operation stands in itself
+-- no operation is its own parent
 parent_apart : (t : Operation) → HasDistinctIds t → (x p : ℕ) → parent_of x t ≡ Some p → eqb x p ≡ false
 parent_apart t d x p e = go (place_of x t) refl
   where
@@ -162,7 +162,7 @@ parent_apart t d x p e = go (place_of x t) refl
               absurd (omega (arith, long)))
         ]
 
--- what was taken has no role
+-- a removed operation has no role
 taken_none : (x : ℕ) (t w : Operation) → w ≡ without x t → eqb (head t).id x ≡ false → role_of w x ≡ None
 taken_none x t w is inner = go (stand_of x w) refl
   where
@@ -174,14 +174,14 @@ taken_none x t w is inner = go (stand_of x w) refl
         absurd (left_apart x t b.0 b.1 b.2 inner (sym (left_id x b.0) ∙ ap (λ (s : Stand). stand_id s) (sym b.3) ∙ m.1))
 
 -- ---- events
-module _ (c : Things) (e : Event) (m n : Module) (s : Step c e m n) (f g : Table) (h : Keeps c m.tree f) where
+module _ (c : ContextModel) (e : Event) (m n : Module) (s : Step c e m n) (f g : Table) (h : Keeps c m.tree f) where
   renewed_keeps : (x : ℕ) → ((y : ℕ) → eqb x y ≡ false → role_of n.tree y ≡ role_of m.tree y) → has_id x n.tree ≡ true → Renewed c n.tree x f g → Keeps c n.tree g
   renewed_keeps x far there r y = elim (bool_cases (eqb x y)) [
     | inr apart ↦ subst (λ z. Says c (role_of n.tree y) z) (sym (r.others y apart)) (subst (λ z. Says c z (f y)) (sym (far y apart)) (h y))
     | inl same ↦ subst (λ z. Says c (role_of n.tree z) (g z)) (eqb-true x y same) (r.own there (λ p k. subst (λ z. Says c z (f p)) (sym (far p (parent_apart n.tree s.after.distinct x p k))) (h p)))
   ]
 
-pub followed_keeps : (c : Things) (e : Event) (m n : Module) → Step c e m n → (f g : Table) → Keeps c m.tree f → Followed c n.tree e f g → Keeps c n.tree g
+pub followed_keeps : (c : ContextModel) (e : Event) (m n : Module) → Step c e m n → (f g : Table) → Keeps c m.tree f → Followed c n.tree e f g → Keeps c n.tree g
 followed_keeps c (Put x place fresh) m n s f g h r = renewed_keeps c (Put x place fresh) m n s f g h x (far_roles c (Put x place fresh) m n s) (place_there x n.tree place s.changes.there) r
 followed_keeps c (Take x place fresh) m n s f g h r = λ y. elim (bool_cases (eqb x y)) [
   | inr apart ↦ subst (λ z. Says c (role_of n.tree y) z) (sym (r y ∙ ap (λ b. cond b None (f y)) apart)) (subst (λ z. Says c z (f y)) (sym (far_roles c (Take x place fresh) m n s y apart)) (h y))
@@ -202,8 +202,8 @@ followed_keeps c (SetOperand x k old new) m n s f g h (inr r) = λ y. subst (λ 
 followed_keeps c (SetEntry x part key old new) m n s f g h r = renewed_keeps c (SetEntry x part key old new) m n s f g h x (far_roles c (SetEntry x part key old new) m n s) (entry_there x n.tree _ _ s.changes.is) r
 followed_keeps c (Shift x old new) m n s f g h r = renewed_keeps c (Shift x old new) m n s f g h x (far_roles c (Shift x old new) m n s) (place_there x n.tree new s.changes.is) r
 
--- a listener's table
-pub followed_is_kept : (c : Things) (e : Event) (m n : Module) → IsSound c → Step c e m n → (f g : Table) → IsKept c m.tree f → Followed c n.tree e f g → IsKept c n.tree g
+-- the table of a listener
+pub followed_is_kept : (c : ContextModel) (e : Event) (m n : Module) → IsSound c → Step c e m n → (f g : Table) → IsKept c m.tree f → Followed c n.tree e f g → IsKept c n.tree g
 followed_is_kept c e m n sound s f g h r = record {
   from = c;
   sound = sound;
@@ -211,8 +211,8 @@ followed_is_kept c e m n sound s f g h r = record {
   keeps = followed_keeps c e m n s f g (keeps_more h.from c h.sound.holds h.grown m.tree f h.keeps) r;
 }
 
--- the operation of an event that doesn't take it is there afterwards
-pub op_there : (c : Things) (e : Event) (m n : Module) → Step c e m n → is_take e ≡ false → has_id (op_of e) n.tree ≡ true
+-- unless the event removes its operation, the operation is in the module afterwards
+pub op_there : (c : ContextModel) (e : Event) (m n : Module) → Step c e m n → is_take e ≡ false → has_id (op_of e) n.tree ≡ true
 op_there c (Put x place fresh) m n s k = place_there x n.tree place s.changes.there
 op_there c (Take x place fresh) m n s k = absurd (true≢false k)
 op_there c (SetOperand x k old new) m n s l = mapped_there x n.tree _ new s.changes.is

@@ -1,4 +1,4 @@
--- References that were found are known by their attributes.
+-- Found references are identified by their attributes.
 use Rattle.std.proofs.Common.{◌≡◌, refl, ap, sym, ◌∙◌, subst, ℕ, Bool, true, false, true≢false, cond, ◌||◌, eqb, eq-eqb, eqb-true, List, [], ◌∷◌, ◌++◌, map, inl, inr}
 use Rattle.std.specs.List.{All, list_any}
 use Rattle.std.specs.Ordering.{nat_cmp}
@@ -9,13 +9,13 @@ use Rattle.std.specs.BTreeMap.{is_at}
 use Rattle.std.specs.BTreeSet.{contains}
 use Rattle.std.proofs.lemmas.List.Elements.{All-push, All-head, All-tail}
 use Rattle.std.proofs.lemmas.List.Folds.{list_any-append}
-use Rattle.ir_event.specs.types.Things.{Things, IsAttr}
+use Rattle.ir_event.specs.types.Things.{ContextModel, IsAttr}
 use Rattle.ir_event.specs.types.Terms.{AttrTerm, Symbol, attr_term, name_term}
 use Rattle.ir_event.specs.types.Sound.{IsSound}
 use Rattle.ir_event.proofs.of_types.Terms.{attr_term_one}
 use Rattle.ir_event.proofs.of_tree_laws.Listed.{bool_cases}
 use Rattle.listeners_symbols.specs.declared.role.Reference.{Reference}
-use Rattle.listeners_symbols.specs.declared.references.Found.{Found}
+use Rattle.listeners_symbols.specs.declared.references.FoundReferences.{FoundReferences}
 use Rattle.listeners_symbols.specs.Roles.{has_parts}
 use Rattle.listeners_symbols.specs.Table.{reference_meaning, ReferenceIsOf}
 use Rattle.listeners_symbols.specs.Found.{found_meaning, HasItsParts, IsFound}
@@ -28,8 +28,8 @@ abbrev parts_in : AttrTerm → List (List ℕ)
 parts_in (Symbol parts) = parts
 parts_in _ = []
 
-module _ (c : Things) (a : ℕ) (parts : List (List ℕ)) (sound : IsSound c) (is : IsAttr c a) (symbol : attr_term c a ≡ Symbol parts) where
-  -- a reference is this attribute where it has its parts
+module _ (c : ContextModel) (a : ℕ) (parts : List (List ℕ)) (sound : IsSound c) (is : IsAttr c a) (symbol : attr_term c a ≡ Symbol parts) where
+  -- a reference is this attribute if it has its parts
   one_attribute : (p : Reference) → ReferenceIsOf c p → HasItsParts c p → eqb p.path a ≡ has_parts parts (reference_meaning c p)
   one_attribute p k h = go (has_parts parts (reference_meaning c p)) refl
     where
@@ -47,8 +47,8 @@ module _ (c : Things) (a : ℕ) (parts : List (List ℕ)) (sound : IsSound c) (i
   among [] h k = refl
   among (p ∷ ps) h k = λ i. one_attribute p (All-head (ReferenceIsOf c) p ps h) (All-head (HasItsParts c) p ps k) i || among ps (All-tail (ReferenceIsOf c) p ps h) (All-tail (HasItsParts c) p ps k) i
 
-  -- one with these parts was found where this attribute was seen
-  pub seen_among : (f : Found) → IsFound c f → contains nat_cmp f.seen a ≡ list_any (has_parts parts) (found_meaning c f)
+  -- a reference with these parts was found if this attribute was seen
+  pub seen_among : (f : FoundReferences) → IsFound c f → contains nat_cmp f.seen a ≡ list_any (has_parts parts) (found_meaning c f)
   seen_among f h = h.seen a ∙ among f.list.items h.known h.parts
 
 either_way : (t b : Bool) → cond t true b ≡ (b || (t || false))
@@ -57,8 +57,8 @@ either_way true false = refl
 either_way false true = refl
 either_way false false = refl
 
--- with one more reference, and its attribute seen
-pub added_found : (c : Things) (f g : Found) (p : Reference) → IsFound c f → ReferenceIsOf c p → HasItsParts c p → g.list.items ≡ f.list.items ++ p ∷ []
+-- one more reference, whose attribute is seen
+pub added_found : (c : ContextModel) (f g : FoundReferences) (p : Reference) → IsFound c f → ReferenceIsOf c p → HasItsParts c p → g.list.items ≡ f.list.items ++ p ∷ []
     → ((q : ℕ) → contains nat_cmp g.seen q ≡ cond (is_at (nat_cmp p.path) q) true (contains nat_cmp f.seen q)) → IsFound c g
 added_found c f g p h k i e up = record {
   known = subst (All (ReferenceIsOf c)) (sym e) (All-push (ReferenceIsOf c) f.list.items p h.known k);

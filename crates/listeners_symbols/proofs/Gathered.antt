@@ -1,9 +1,9 @@
--- What is read of an operation by reading calls is its role.
+-- The role read by reading calls is the operation's role.
 use Rattle.std.proofs.Common.{◌≡◌, refl, ap, sym, ◌∙◌, subst, ℕ, Bool, true, false, cond, eqb, List, [], ◌∷◌, map, Option, Some, None}
 use Rattle.std.specs.Prelude.{option_map, is_some}
 use Rattle.std.specs.List.{IsDistinct}
 use Rattle.std.specs.FinMap as finmap
-use Rattle.ir_event.specs.types.Things.{Things}
+use Rattle.ir_event.specs.types.Things.{ContextModel}
 use Rattle.ir_event.specs.types.Terms.{TypeTerm, AttrTerm, name_term, type_term, attr_term}
 use Rattle.ir_event.specs.types.Words.{is_table}
 use Rattle.ir_event.specs.trees.declared.place.Place.{Place}
@@ -12,8 +12,8 @@ use Rattle.ir_event.specs.trees.Ids.{HasDistinctIds, find, first_of}
 use Rattle.ir_event.specs.trees.Places.{place_of}
 use Rattle.ir_event.specs.trees.Meaning.{Operation, meaning}
 use Rattle.ir_event.proofs.of_trees.Mapped.{map_find, map_place, map_ids}
-use Rattle.listeners_surroundings.specs.Nodes.{Node, node_of}
-use Rattle.listeners_surroundings.specs.Stored.{known}
+use Rattle.listeners_support.specs.Nodes.{Node, node_of}
+use Rattle.listeners_support.specs.Stored.{known}
 use Rattle.ir_event.specs.tree_laws.Reads.{parent_of}
 use Rattle.ir_event.specs.tree_laws.Values.{type_of_value}
 use Rattle.ir_event.specs.tree_laws.Stands.{StepOf, stand_id, stands, stand_of, table_in, place_in}
@@ -22,22 +22,22 @@ use Rattle.ir_event.proofs.of_tree_laws.Members.{stand, stand_of_member, same_st
 use Rattle.ir_event.proofs.of_tree_laws.Around.{around_there, member_of_place, place_of_member, present_stand}
 use Rattle.ir_event.specs.declared.world.World.{World}
 use Rattle.ir_event.specs.Modules.{module_in}
-use Rattle.listeners_surroundings.proofs.Reading.{head_shown}
+use Rattle.listeners_support.proofs.Reading.{head_shown}
 use Rattle.listeners_symbols.specs.declared.role.Role.{Role as Numbers}
 use Rattle.listeners_symbols.specs.declared.role.Tables.{Tables}
 use Rattle.listeners_symbols.specs.Roles.{Head, Stand, Role, parent_in, home_of, table_at, role_from, role, role_of}
 use Rattle.listeners_symbols.specs.Table.{Table, Says, IsRight, IsReadAs, head_meaning, role_meaning, tables_in, tables_for, tree_in}
 
-pub meaning_distinct : (c : Things) (t : Op) → HasDistinctIds t → HasDistinctIds (meaning c t)
+pub meaning_distinct : (c : ContextModel) (t : Op) → HasDistinctIds t → HasDistinctIds (meaning c t)
 meaning_distinct c t d = subst (IsDistinct eqb) (sym (map_ids (name_term c) (type_term c) (attr_term c) t)) d
 
-pub meaning_parent : (c : Things) (x : ℕ) (t : Op) → parent_of x (meaning c t) ≡ parent_of x t
+pub meaning_parent : (c : ContextModel) (x : ℕ) (t : Op) → parent_of x (meaning c t) ≡ parent_of x t
 meaning_parent c x t = ap (option_map (λ (p : Place). p.parent)) (map_place (name_term c) (type_term c) (attr_term c) x t)
 
-head_meant : (c : Things) (o : Op) → head (meaning c o) ≡ head_meaning c (head o)
+head_meant : (c : ContextModel) (o : Op) → head (meaning c o) ≡ head_meaning c (head o)
 head_meant c (op h rs) = refl
 
--- the head of an operation that is shown
+-- the head of an operation that the view shows
 pub shown_head : (w : World) (x : ℕ) (n : Node) (o : Operation) → option_map node_of (known x w.store) ≡ Some n → find x (module_in w).tree ≡ Some o → head o ≡ head_meaning w.ctx n.head
 shown_head w x n o shown is = go (find x w.store.module_of.tree) refl (sym (map_find (name_term w.ctx) (type_term w.ctx) (attr_term w.ctx) x w.store.module_of.tree) ∙ is)
   where
@@ -66,12 +66,12 @@ parent_placed t d s h a q e =
     let there : In (stand s.here (a ∷ q)) (stands [] t) = subst (λ z. In (stand s.here z) (stands [] t)) e h in
     (ap (option_map (λ (p : Place). p.parent)) (place_of_member t d s.here a q there), (around_there t s.here a q there).1)
 
--- under a table that an operation is, or else under its own
+-- the operation as the symbol table, or else its own symbol table
 table_above : (h : Head) (q : List (StepOf (List ℕ) TypeTerm AttrTerm)) → cond (is_table h.name) (Some h.id) (table_in is_table q) ≡ cond (is_table h.name) (Some h.id) (table_at h q)
 table_above h [] = elim (is_table h.name) as (λ b. cond b (Some h.id) None ≡ cond b (Some h.id) (cond b (Some h.id) None)) [ true ↦ refl | false ↦ refl ]
 table_above h (a ∷ q) = refl
 
-tables_right : (c : Things) (t : Operation) → HasDistinctIds t → (s : Stand) → In s (stands [] t) → (x : ℕ) → stand_id s ≡ x → (table : Table) (tables : Tables)
+tables_right : (c : ContextModel) (t : Operation) → HasDistinctIds t → (s : Stand) → In s (stands [] t) → (x : ℕ) → stand_id s ≡ x → (table : Table) (tables : Tables)
     → ((p : ℕ) → parent_of x t ≡ Some p → Says c (role_of t p) (table p)) → tables_for table x (is_table (head s.here).name) (parent_of x t) ≡ Some tables
     → (parent_in s.path ≡ tables.parent) × (home_of s.path ≡ tables.home) × (table_at (head s.here) s.path ≡ tables.table)
 tables_right c t d s h x id table tables right is = at_path s.path refl
@@ -126,7 +126,7 @@ read_right w x n table tables r shown is read has right =
       known = read.known;
     }
 
--- where its tables are known, what it stands in is kept
+-- if the symbol tables of an operation are known, the table has its parent
 pub parent_kept : (table : Table) (x : ℕ) (b : Bool) (o : Option ℕ) (tables : Tables) → tables_for table x b o ≡ Some tables → (p : ℕ) → o ≡ Some p → is_some (table p) ≡ true
 parent_kept table x b o tables is p e = go (table p) refl
   where

@@ -1,4 +1,4 @@
--- Rows of tables.
+-- The report rows of tables.
 use Rattle.std.proofs.Common.{◌≡◌, refl, ap, sym, ◌∙◌, subst, ◌<◌, Bool, true, false, cond, ◌&&◌, List, [], ◌∷◌, ◌++◌, append_assoc, map, Option, Some, None, ℕ, eqb, eq-eqb, eqb-true, arith}
 use Rattle.std.proofs.lemmas.List.{map-append}
 use Rattle.std.specs.Option.{option_eq}
@@ -24,7 +24,7 @@ some_types [] (y ∷ ys) = refl
 some_types (x ∷ xs) [] = refl
 some_types (x ∷ xs) (y ∷ ys) = ap (λ b. eqb x y && b) (some_types xs ys)
 
--- five groups of rows, added one after another
+-- five groups of rows, appended in order
 joined : {X : Type 0} (a0 a1 a2 a3 a4 l0 l1 l2 l3 l4 : List X) → a1 ≡ a0 ++ l0 → a2 ≡ a1 ++ l1 → a3 ≡ a2 ++ l2 → a4 ≡ a3 ++ l3 → a4 ++ l4 ≡ a0 ++ (l0 ++ (l1 ++ (l2 ++ (l3 ++ l4))))
 joined a0 a1 a2 a3 a4 l0 l1 l2 l3 l4 e1 e2 e3 e4 =
     ap (λ z. z ++ l4) e4 ∙ append_assoc a3 l3 l4

@@ -1,7 +1,7 @@
--- Each event leaves the role of every operation but its own.
+-- An event changes only the role of the event's operation.
 use Rattle.std.proofs.Common.{◌≡◌, refl, ap, sym, ◌∙◌, subst, ℕ, ◌+◌, true, false, true≢false, cond, eqb, eq-eqb, eqb-true, List, [], ◌∷◌, ◌++◌, map, Option, Some, None, inl, inr, ◌⊎◌}
 use Rattle.std.specs.Prelude.{option_map, option_and_then}
-use Rattle.ir_event.specs.types.Things.{Things}
+use Rattle.ir_event.specs.types.Things.{ContextModel}
 use Rattle.ir_event.specs.types.Terms.{TypeTerm, AttrTerm}
 use Rattle.ir_event.specs.types.Words.{is_table}
 use Rattle.ir_event.specs.trees.declared.value.Value.{Value}
@@ -14,7 +14,7 @@ use Rattle.ir_event.specs.trees.Edits.{each_head, regions_each_head, at, put_ope
 use Rattle.ir_event.specs.trees.Frames.{owner_of}
 use Rattle.ir_event.specs.trees.Places.{without}
 use Rattle.ir_event.specs.trees.Meaning.{Operation}
-use Rattle.listeners_surroundings.specs.Nodes.{node_of, regions_arguments}
+use Rattle.listeners_support.specs.Nodes.{node_of, regions_arguments}
 use Rattle.ir_event.specs.tree_laws.Changes.{HoldNone}
 use Rattle.ir_event.specs.tree_laws.Values.{type_of_value}
 use Rattle.ir_event.specs.tree_laws.Tables.{table_of}
@@ -32,11 +32,11 @@ use Rattle.ir_event.specs.Bounds.{op_of}
 use Rattle.ir_event.specs.Modules.{Module}
 use Rattle.ir_event.specs.Step.{Step}
 use Rattle.ir_event.proofs.Typed.{types_of, typed, typed_value}
-use Rattle.listeners_surroundings.proofs.Operands.{same_map, not_used}
-use Rattle.listeners_surroundings.proofs.Left.{left_head, left_node}
-use Rattle.listeners_surroundings.proofs.Alike.{Both, neither, each, both, same_value_type}
-use Rattle.listeners_surroundings.proofs.Moves.{left_id, taken}
-use Rattle.listeners_surroundings.proofs.Heads.{Keeps}
+use Rattle.listeners_support.proofs.Operands.{same_map, not_used}
+use Rattle.listeners_support.proofs.Left.{left_head, left_node}
+use Rattle.listeners_support.proofs.Alike.{Both, neither, each, both, same_value_type}
+use Rattle.listeners_support.proofs.Moves.{left_id, taken}
+use Rattle.listeners_support.proofs.Heads.{Keeps}
 use Rattle.listeners_symbols.specs.Roles.{Head, Stand, parent_in, home_of, table_at, symbol_of, name_of, is_private, references_of, signature_of, callee_of, call_of, role_from, role, role_of}
 use Rattle.ir_event.proofs.of_types.Truths.{unlike}
 
@@ -46,7 +46,7 @@ Step_in = StepOf (List ℕ) TypeTerm AttrTerm
 abbrev Path : Type 0
 Path = List Step_in
 
--- two operations with the same roles, as far as their operands have the same types
+-- two operations with the same roles, if their operands have the same types
 pub record AlikeRoles (s r : Stand) : Type 0 where
   pub heads : head s.here ≡ head r.here
   pub parent : parent_in s.path ≡ parent_in r.path
@@ -68,7 +68,7 @@ same_roles y t u (each s r m i j a) f =
     let same : role t s ≡ role u r = (λ k. role_from (a.parent k) (a.home k) (a.table k) (a.heads k) (types k)) in
     ap (option_map (role t)) i ∙ ap Some same ∙ sym (ap (option_map (role u)) j)
 
--- ---- an operation left in a tree that another was taken out of
+-- ---- an operation of a tree from which another was removed
 module _ (x : ℕ) where
   parent_left : (path : Path) → parent_in (map (left_step x) path) ≡ parent_in path
   parent_left [] = refl
@@ -178,7 +178,7 @@ module _ (g : Head → Head) (keeps : (h : Head) → Keeps (g h) h) where
           let same : role n (edit_stand g s) ≡ role m s = (λ i. role_from (around i) (home i) (table i) (heads i) (map (λ v. one v i) (heads i).operands)) in
           ap (option_map (role n)) (there ∙ ap (option_map (edit_stand g)) e) ∙ ap Some same ∙ sym (ap (option_map (role m)) e)
 
--- ---- an operation that is moved with what is inside it
+-- ---- an operation moved with its subtree
 abbrev Again : Stand → List Stand → Type 0
 Again s us = (u : Stand) × In u us × (u.here ≡ s.here) × (parent_in u.path ≡ parent_in s.path) × (home_of u.path ≡ home_of s.path) × (table_at (head s.here) u.path ≡ table_at (head s.here) s.path)
 
@@ -188,8 +188,8 @@ more s us vs f w = (w.0, f w.0 w.1, w.2, w.3, w.4, w.5)
 under : (a : Step_in) (b c : Path) → table_in is_table b ≡ table_in is_table c → table_in is_table (a ∷ b) ≡ table_in is_table (a ∷ c)
 under a b c e = ap (cond (is_table (head a.parent).name) (Some (head a.parent).id)) e
 
--- what stands inside an operation stands there whatever stands around it, and has the same tables where that is under
--- the same table
+-- an operation inside another one keeps its path there, and its symbol tables, if the outer operation has the same
+-- symbol table
 mutual
   again : (b c : Path) → table_in is_table b ≡ table_in is_table c → (t : Operation) (s : Stand) → In s (stands b t) → (s ≡ stand t b) ⊎ Again s (stands c t)
   again b c j (op h rs) s (inl e) = inl e
@@ -231,7 +231,7 @@ mutual
         | inr l ↦ more s ys (xs ++ ys) (λ z m. in_right z xs ys m) (ops_again p b c j r args (front ++ o ∷ []) os s l)
       ]
 
--- one that was moved
+-- a moved operation
 record Moved (s r : Stand) : Type 0 where
   id : stand_id r ≡ stand_id s
   alike : AlikeRoles s r
@@ -312,7 +312,7 @@ keeps_part : (part : Part) (f : List (List ℕ × AttrTerm) → List (List ℕ �
 keeps_part Props f h = record { id = refl; name = refl; results = refl }
 keeps_part Attrs f h = record { id = refl; name = refl; results = refl }
 
--- an operation that calls nothing, one of whose operands became another
+-- an operation that calls nothing, one of whose operands changed
 unmapped : {A B : Type 0} (f : A → B) (o : Option A) → o ≡ None → option_map f o ≡ None
 unmapped f o e = ap (option_map f) e
 
@@ -354,7 +354,7 @@ module _ (x k : ℕ) (new : Value) (m n : Operation) (is : n ≡ each_head (at x
 at_others : (x : ℕ) (f : Head → Head) (y : ℕ) → eqb x y ≡ false → (h : Head) → h.id ≡ y → at x f h ≡ h
 at_others x f y e h i = elim (bool_cases (eqb h.id x)) [ inl k ↦ absurd (unlike x y e (sym i ∙ eqb-true h.id x k)) | inr k ↦ ap (λ b. cond b (f h) h) k ]
 
-pub far_roles : (c : Things) (e : Event) (m n : Module) → Step c e m n → (y : ℕ) → eqb (op_of e) y ≡ false → role_of n.tree y ≡ role_of m.tree y
+pub far_roles : (c : ContextModel) (e : Event) (m n : Module) → Step c e m n → (y : ℕ) → eqb (op_of e) y ≡ false → role_of n.tree y ≡ role_of m.tree y
 far_roles c (Put x place fresh) m n s y far = sym (taken_far x n.tree m.tree s.after.distinct s.before.distinct s.changes.left s.changes.empty s.changes.unused y (unlike x y far))
 far_roles c (Take x place fresh) m n s y far = taken_far x m.tree n.tree s.before.distinct s.after.distinct s.changes.left s.changes.empty s.changes.unused y (unlike x y far)
 far_roles c (SetOperand x k old new) m n s y far = each_far (at x (put_operand k new)) (keeps_at x (put_operand k new) (λ h. record { id = refl; name = refl; results = refl })) m.tree n.tree s.changes.after y (at_others x (put_operand k new) y far)

@@ -1,4 +1,4 @@
--- How often the event's operation is looked at.
+-- The number of looks at the event's operation.
 use Rattle.std.proofs.Common.{◌≡◌, refl, ap, sym, ◌∙◌, ℕ, ◌+◌, ◌≤◌, true, length, Option, Some, None, arith}
 use Rattle.std.specs.Prelude.{option_map}
 use Rattle.std.specs.FinMap as finmap
@@ -7,7 +7,7 @@ use Rattle.ir_event.specs.trees.Tree.{Op, op, head}
 use Rattle.ir_event.specs.trees.Ids.{find, first_of}
 use Rattle.ir_event.specs.trees.Meaning.{meaning, Operation}
 use Rattle.ir_event.proofs.of_trees.Mapped.{map_find}
-use Rattle.listeners_surroundings.specs.Stored.{known}
+use Rattle.listeners_support.specs.Stored.{known}
 use Rattle.ir_event.specs.declared.event.Event.{Event}
 use Rattle.ir_event.specs.declared.event.Event.TheVariants.{Put, Take, SetOperand, SetEntry, Shift}
 use Rattle.ir_event.specs.declared.world.World.{World}
@@ -17,7 +17,7 @@ use Rattle.ir_event.specs.Modules.{Module, module_in}
 use Rattle.ir_event.specs.Step.{Step}
 use Rattle.listeners_symbols.proofs.Agreed.{op_there, found_there}
 
--- as many operands as in what an operation stands for
+-- the number of operands in numbers and in contents is equal
 counted : (w : World) (x : ℕ) (o : Operation) → find x (module_in w).tree ≡ Some o → operand_count (known x w.store) ≡ operand_count (find x (module_in w).tree)
 counted w x o is = go (find x w.store.module_of.tree) refl (sym (map_find (name_term w.ctx) (type_term w.ctx) (attr_term w.ctx) x w.store.module_of.tree) ∙ is)
   where

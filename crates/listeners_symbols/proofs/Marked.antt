@@ -1,11 +1,11 @@
--- Sets that have each operation of which a test holds, where the role of one changes.
+-- Sets that have each operation that passes a test, when the role of one operation changes.
 use Rattle.std.proofs.Common.{◌≡◌, refl, ap, sym, ◌∙◌, subst, ◌⊎◌, inl, inr, ℕ, Bool, true, false, cond, true≢false, eqb, eqb-true, List, [], Option, Some, None}
 use Rattle.std.specs.List.{list_any}
 use Rattle.std.specs.Map.{lookup}
 use Rattle.std.specs.Ordering.{nat_cmp, is_eq}
 use Rattle.std.specs.BTreeMap.{is_at}
-use Rattle.id_map.specs.Map.{IdMap}
-use Rattle.id_map.specs.Map as idmap
+use Rattle.listeners_support.specs.Map.{IdMap}
+use Rattle.listeners_support.specs.Map as idmap
 use Rattle.std.specs.BTreeSet.{BTreeSet, contains}
 use Rattle.std.specs.BTreeSet as set
 use Rattle.ir_event.proofs.of_tree_laws.Listed.{bool_cases}
@@ -13,18 +13,18 @@ use Rattle.ir_event.proofs.of_types.Truths.{same_test}
 use Rattle.listeners_symbols.specs.declared.role.Role.{Role as Numbers}
 use Rattle.listeners_symbols.specs.Telling.{HasThose, said_at}
 
--- no set is too small for no roles
+-- every set is large enough for an empty table
 pub none_those : (test : Numbers → Bool) (m : IdMap Numbers) (s : BTreeSet ℕ) → m.entries ≡ [] → HasThose test m s
 none_those test m s e x h = absurd (true≢false (sym h ∙ ap (λ (es : List (ℕ × Numbers)). said_at test (lookup (is_at (nat_cmp x)) es)) e))
 
--- and no greater set is
+-- a larger set is large enough
 pub more_those : (test : Numbers → Bool) (m : IdMap Numbers) (s t : BTreeSet ℕ) → HasThose test m s → ((x : ℕ) → contains nat_cmp s x ≡ true → contains nat_cmp t x ≡ true) → HasThose test m t
 more_those test m s t has more x h = more x (has x h)
 
 pub same_those : (test : Numbers → Bool) (m n : IdMap Numbers) (s : BTreeSet ℕ) → n.entries ≡ m.entries → HasThose test m s → HasThose test n s
 same_those test m n s e has x h = has x (ap (λ (es : List (ℕ × Numbers)). said_at test (lookup (is_at (nat_cmp x)) es)) (sym e) ∙ h)
 
--- where the role of operation k becomes o, a set that has k where the test holds of that, and all others that it had
+-- if the role of operation k becomes o, a set is large enough that has k if o passes the test, and keeps its others
 pub new_those : (test : Numbers → Bool) (m n : IdMap Numbers) (s t : BTreeSet ℕ) (k : ℕ) (o : Option Numbers) → HasThose test m s → idmap.Updates m n k o
     → (said_at test o ≡ true → contains nat_cmp t k ≡ true) → ((x : ℕ) → eqb k x ≡ false → contains nat_cmp s x ≡ true → contains nat_cmp t x ≡ true) → HasThose test n t
 new_those test m n s t k o has updates own others x h = go (bool_cases (is_eq (nat_cmp k x)))

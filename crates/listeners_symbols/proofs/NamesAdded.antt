@@ -1,4 +1,4 @@
--- Sets of names, to which those of operations are added.
+-- Sets of names to which the names of operations are added.
 use Rattle.std.proofs.Common.{◌≡◌, refl, ap, sym, ◌∙◌, ℕ, Bool, true, false, cond, ◌||◌, eqb, List, [], ◌∷◌, ◌++◌, Option}
 use Rattle.std.specs.Ordering.{nat_cmp}
 use Rattle.std.specs.BTreeSet.{BTreeSet, contains}
@@ -36,7 +36,7 @@ among_append : (xs ys : List ℕ) (n : ℕ) → is_among eqb (xs ++ ys) n ≡ (i
 among_append [] ys n = refl
 among_append (x ∷ xs) ys n = ap (λ b. eqb n x || b) (among_append xs ys n) ∙ sym (or_assoc (eqb n x) (is_among eqb xs n) (is_among eqb ys n))
 
--- the names of the operations that are left, where one less is
+-- the names of the remaining operations, with one less remaining
 pub one_named : (kept : ℕ → Option Numbers) (x : ℕ) (xs all : List ℕ) (before after : BTreeSet ℕ) (whole : ℕ → Bool) → x ∷ xs ≡ all
     → ((n : ℕ) → contains nat_cmp after n ≡ (contains nat_cmp before n || is_among eqb (told_at undefined_by x (kept x)) n))
     → ((n : ℕ) → (contains nat_cmp before n || is_among eqb (told undefined_by kept all) n) ≡ whole n)

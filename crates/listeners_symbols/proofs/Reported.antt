@@ -1,4 +1,4 @@
--- What a report shows.
+-- The rows of a report.
 use Rattle.std.proofs.Common.{◌≡◌, refl, ap, sym, ◌∙◌, subst, ℕ, ◌++◌, Bool, true, false, true≢false, cond, not, ◌&&◌, ◌||◌, eqb, eq-eqb, eqb-true, List, [], ◌∷◌, map, Option, Some, None, inl, inr, arith}
 use Rattle.std.specs.Prelude.{option_map, IfSome, is_some}
 use Rattle.std.specs.List.{AllByRecursion, All, list_any}
@@ -10,14 +10,14 @@ use Rattle.std.specs.Cmp.Lexicographic.{pointwise}
 use Rattle.std.specs.declared.cmp.Ordering.TheVariants.{Less}
 use Rattle.std.specs.Map.{lookup, keys_of}
 use Rattle.std.specs.BTreeMap.{is_at}
-use Rattle.id_map.specs.Map as idmap
+use Rattle.listeners_support.specs.Map as idmap
 use Rattle.std.specs.FinMap.{nat_cmp-IsAntisymmetric}
 use Rattle.std.specs.FinMap.Entries.{find, is_sorted, below_all, find-put, is_sorted-put, same_entries}
 use Rattle.std.proofs.lemmas.Cmp.{nat_cmp_total}
 use Rattle.std.proofs.lemmas.List.{map-append}
 use Rattle.std.proofs.lemmas.List.Elements.{All-head, All-tail, All-cons, All-nil}
 use lib.Dec.{T}
-use Rattle.ir_event.specs.types.Things.{Things, Grows, IsName, IsType, IsAttr}
+use Rattle.ir_event.specs.types.Things.{ContextModel, IsExtendedBy, IsName, IsType, IsAttr}
 use Rattle.ir_event.specs.types.Sound.{Holds, IsSound}
 use Rattle.ir_event.specs.types.Terms.{TypeTerm, AttrTerm, name_term, type_term, attr_term}
 use Rattle.ir_event.proofs.of_types.Growth.{name_is, name_refl}
@@ -55,14 +55,14 @@ pub each_append : {X : Type 0} (P : X → Type 0) (xs ys : List X) → Each P xs
 each_append P [] ys a b = b
 each_append P (x ∷ xs) ys a b = (a.0, each_append P xs ys a.1 b)
 
--- a test that holds exactly where two numbers are one
+-- a test that holds exactly if two numbers are equal
 pub decided : (test : Bool) (m n : ℕ) → (test ≡ true → m ≡ n) → (m ≡ n → test ≡ true) → test ≡ eqb m n
 decided test m n f g = elim (bool_cases test) [
   | inl e ↦ e ∙ sym (eq-eqb m n (f e))
   | inr e ↦ elim (bool_cases (eqb m n)) [ inl k ↦ absurd (true≢false (sym (g (eqb-true m n k)) ∙ e)) | inr k ↦ e ∙ sym k ]
 ]
 
--- a definition, and a row, in contents
+-- a definition, and a row, in terms of contents
 abbrev pub map_definition : {N M : Type 0} → (N → M) → DefinitionOf N → DefinitionOf M
 map_definition f d = ((d.0.0, f d.0.1), d.1)
 
@@ -74,7 +74,7 @@ map_line f h (Unresolved y p) = Unresolved y (h p)
 map_line f h (Unknown y p) = Unknown y (h p)
 map_line f h (Mismatch y x) = Mismatch y x
 
-module _ (b : Things) where
+module _ (b : ContextModel) where
   abbrev pub DefinitionIs : DefinitionOf ℕ → Type 0
   DefinitionIs d = IsName b d.0.1
 
@@ -340,7 +340,7 @@ pub look_above : (x : ℕ) (es : List (ℕ × Numbers)) → AllByRecursion (λ y
 look_above x [] a = refl
 look_above x (e ∷ es) a = ap (λ o. cond (is_eq o) (Some e.1) (lookup (is_at (nat_cmp x)) es)) a.0 ∙ look_above x es a.1
 
-module _ (b : Things) where
+module _ (b : ContextModel) where
   below_meant : (x : ℕ) (es : List (ℕ × Numbers)) → AllByRecursion (λ y. nat_cmp x y ≡ Less) (keys_of es) → T (below_all nat_cmp x (meant b es))
   below_meant x [] a = tt
   below_meant x (e ∷ es) a = both_hold (is_lt (nat_cmp x e.0)) (below_all nat_cmp x (meant b es)) (subst (λ o. T (is_lt o)) (sym a.0) tt) (below_meant x es a.1)
@@ -381,12 +381,12 @@ module _ (t : Operation) where
   roles_sorted [] = tt
   roles_sorted (s ∷ ss) = is_sorted-put nat_cmp nat_cmp_total (stand_id s) (role t s) (roles_in t ss) (roles_sorted ss)
 
-  pub entries_meant : (b : Things) (m : Roles) → idmap.IsOrdered m.all → Keeps b t (kept_at m) → meant b m.all.entries ≡ roles_by_id t
+  pub entries_meant : (b : ContextModel) (m : Roles) → idmap.IsOrdered m.all → Keeps b t (kept_at m) → meant b m.all.entries ≡ roles_by_id t
   entries_meant b m ordered keeps =
       same_entries nat_cmp nat_cmp_total nat_cmp-IsAntisymmetric (meant b m.all.entries) (roles_by_id t) (meant_sorted b m.all.entries ordered) (roles_sorted (stands [] t)) (λ q. find_meant b q m.all.entries ∙ (keeps q).is ∙ sym (found_role q (stands [] t)))
 
 -- ---- rows
-module _ (b c : Things) (holds : Holds b) (g : Grows b c) where
+module _ (b c : ContextModel) (holds : Holds b) (g : IsExtendedBy b c) where
   cells_say : (l : LineOf ℕ ℕ) → LineIs b l → map (cell_meaning c) (line_cells cell.Tag cell.Op cell.Name cell.Path l) ≡ line_cells Tag Op Name Path (in_line b l)
   cells_say (Definition t n x) k = ap (λ z. Tag 0 ∷ Op t ∷ Name z ∷ Op x ∷ []) (name_stays b c n g k)
   cells_say (Duplicate t n x) k = ap (λ z. Tag 1 ∷ Op t ∷ Name z ∷ Op x ∷ []) (name_stays b c n g k)
@@ -429,7 +429,7 @@ module _ (b c : Things) (holds : Holds b) (g : Grows b c) where
       let rest : cells_of rs ≡ lines_cells ls = cc in
       All-cons (RowIsOf c) r rs (subst (All (CellIsOf c)) (sym one) (cells_known l k.0)) (rows_known rs ls rest k.1)
 
-pub shows_symbols : (c : Things) (t : Operation) (which : Definers) (m : Roles) (rows : List Row) → idmap.IsOrdered m.all → IsKept c t (kept_at m)
+pub shows_symbols : (c : ContextModel) (t : Operation) (which : Definers) (m : Roles) (rows : List Row) → idmap.IsOrdered m.all → IsKept c t (kept_at m)
     → cells_of rows ≡ lines_cells (symbol_lines eqb eqb which (numbers_at m) (numbered m.all.entries)) → Shows c rows (symbol_rows which t)
 shows_symbols c t which m rows ordered kept is =
     let b = kept.from in

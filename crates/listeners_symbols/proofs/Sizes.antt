@@ -1,4 +1,4 @@
--- How large attributes are, by which the walk through them ends.
+-- The size of attributes, which shows that the visit of their parts ends.
 use Rattle.std.proofs.Common.{ℕ, ◌+◌}
 use Rattle.ir_event.specs.types.Terms.{AttrTerm, Array, Dictionary, AttrTerms, no_attrs, next_attr, EntryTerms, no_entries, next_entry}
 

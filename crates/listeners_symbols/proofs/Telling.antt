@@ -1,4 +1,4 @@
--- What is told of the operations that a set has is told of all, where nothing is told of the others.
+-- If other operations contribute nothing, the contributions of the operations in a set are those of all operations.
 use Rattle.std.proofs.Common.{◌≡◌, refl, ap, sym, ◌∙◌, subst, ◌⊎◌, inl, inr, ℕ, ◌<◌, is_some, Bool, true, false, cond, true≢false, ◌&&◌, ◌||◌, not, eqb, eq-eqb, eqb-true, List, [], ◌∷◌, ◌++◌, map, append_assoc, append-nil, Option, Some, None, arith}
 use Rattle.std.proofs.lemmas.Bool.{ne_eqb}
 use Rattle.std.specs.Option.{option_map}
@@ -10,8 +10,8 @@ use Rattle.std.specs.declared.cmp.Ordering.{Ordering}
 use Rattle.std.specs.declared.cmp.Ordering.TheVariants.{Less, Equal, Greater}
 use Rattle.std.specs.Map.{lookup, keys_of}
 use Rattle.std.specs.BTreeMap.{is_at}
-use Rattle.id_map.specs.Map.{IdMap}
-use Rattle.id_map.specs.Map as idmap
+use Rattle.listeners_support.specs.Map.{IdMap}
+use Rattle.listeners_support.specs.Map as idmap
 use Rattle.std.specs.BTreeSet.{BTreeSet, contains}
 use Rattle.std.specs.BTreeSet as set
 use Rattle.ir_event.specs.tree_laws.Members.{In}
@@ -35,9 +35,9 @@ look es x = lookup (is_at (nat_cmp x)) es
 abbrev Above : ℕ → List ℕ → Type 0
 Above x ys = AllByRecursion (λ y. nat_cmp x y ≡ Less) ys
 
-further : (x y : ℕ) (ks : List ℕ) → nat_cmp x y ≡ Less → Above y ks → Above x ks
-further x y [] l a = tt
-further x y (k ∷ ks) l a = (nat_cmp_total.trans x y k l a.0, further x y ks l a.1)
+extra : (x y : ℕ) (ks : List ℕ) → nat_cmp x y ≡ Less → Above y ks → Above x ks
+extra x y [] l a = tt
+extra x y (k ∷ ks) l a = (nat_cmp_total.trans x y k l a.0, extra x y ks l a.1)
 
 not_above : (x : ℕ) (ys : List ℕ) → Above x ys → In x ys → ⊥
 not_above x [] a i = i
@@ -50,17 +50,17 @@ turned x y e = sym (nat_cmp_is y x Less (subst (λ r. MatchOrdering r (x < y) (x
 same : (x y : ℕ) → nat_cmp x y ≡ Equal → x ≡ y
 same x y e = subst (λ r. MatchOrdering r (x < y) (x ≡ y) (y < x)) e (ranks x y)
 
--- a number below another isn't at it
+-- a number below another isn't equal to it
 apart : (y x : ℕ) → nat_cmp y x ≡ Less → is_eq (nat_cmp x y) ≡ false
 apart y x l = same_test x y ∙ ne_eqb x y (λ e. (let m = less_than y x l in omega (arith, m, e)))
 
 module _ {X : Type 0} (f : ℕ → Numbers → List X) where
-  -- what is told of entries
+  -- the contributions of all entries
   abbrev pub all_told : List (ℕ × Numbers) → List X
   all_told [] = []
   all_told (e ∷ es) = f e.0 e.1 ++ all_told es
 
-  -- of an entry nothing is told, or its operation is one of these
+  -- an entry contributes nothing, or its operation is in the list
   abbrev pub Told : List ℕ → ℕ × Numbers → Type 0
   Told xs e = (f e.0 e.1 ≡ []) ⊎ In e.0 xs
 
@@ -68,7 +68,7 @@ module _ {X : Type 0} (f : ℕ → Numbers → List X) where
   none_kept [] = refl
   none_kept (x ∷ xs) = none_kept xs
 
-  -- the first entry isn't looked at, where all are above it
+  -- the first entry is skipped if all ids of the list are above it
   skipped : (e : ℕ × Numbers) (es : List (ℕ × Numbers)) (xs : List ℕ) → Above e.0 xs → told f (look (e ∷ es)) xs ≡ told f (look es) xs
   skipped e es [] a = refl
   skipped e es (x ∷ xs) a = λ i. told_at f x (cond (apart e.0 x a.0 i) (Some e.1) (look es x)) ++ skipped e es xs a.1 i
@@ -77,7 +77,7 @@ module _ {X : Type 0} (f : ℕ → Numbers → List X) where
   silent [] h = refl
   silent (e ∷ es) h = elim h.0 [ inl none ↦ ap (λ l. l ++ all_told es) none ∙ silent es h.1 | inr i ↦ absurd i ]
 
-  -- one that is below all entries isn't needed
+  -- an id below all entries isn't needed
   without : (x : ℕ) (xs : List ℕ) (es : List (ℕ × Numbers)) → Above x (keys_of es) → Each (Told (x ∷ xs)) es → Each (Told xs) es
   without x xs [] a h = tt
   without x xs (e ∷ es) a h = (
@@ -88,13 +88,13 @@ module _ {X : Type 0} (f : ℕ → Numbers → List X) where
     without x xs es a.1 h.1,
   )
 
-  -- entries, where what is told of those behind the first is all, by where the first operation stands beside it
+  -- the entries, given the claim for those after the first, by comparing the first entry with the first id
   by : (e : ℕ × Numbers) (es : List (ℕ × Numbers)) → ((ys : List ℕ) → IsStrictlySortedBy nat_cmp ys → Each (Told ys) es → told f (look es) ys ≡ all_told es)
       → IsStrictlySortedBy nat_cmp (keys_of (e ∷ es)) → (x : ℕ) (xs : List ℕ) → IsStrictlySortedBy nat_cmp (x ∷ xs) → Each (Told (x ∷ xs)) (e ∷ es)
       → (IsStrictlySortedBy nat_cmp xs → Each (Told xs) (e ∷ es) → told f (look (e ∷ es)) xs ≡ all_told (e ∷ es)) → (r : Ordering) → nat_cmp x e.0 ≡ r → told f (look (e ∷ es)) (x ∷ xs) ≡ all_told (e ∷ es)
   unfolding IsStrictlySortedBy
   by e es rest s x xs t h more Less l =
-      let below : Above x (keys_of (e ∷ es)) = (l, further x e.0 (keys_of es) l s.0) in
+      let below : Above x (keys_of (e ∷ es)) = (l, extra x e.0 (keys_of es) l s.0) in
       ap (λ o. told_at f x o ++ told f (look (e ∷ es)) xs) (look_above x (e ∷ es) below) ∙ more t.1 (without x xs (e ∷ es) below h)
   by e es rest s x xs t h more Equal l =
       let is = same x e.0 l in
@@ -105,7 +105,7 @@ module _ {X : Type 0} (f : ℕ → Numbers → List X) where
       ∙ ap (λ z. f e.0 e.1 ++ z) (skipped e es xs above ∙ rest xs t.1 left)
   by e es rest s x xs t h more Greater l =
       let first = turned x e.0 l in
-      let above : Above e.0 (x ∷ xs) = (first, further e.0 x xs first t.0) in
+      let above : Above e.0 (x ∷ xs) = (first, extra e.0 x xs first t.0) in
       skipped e es (x ∷ xs) above ∙ rest (x ∷ xs) t h.1 ∙ nothing h.0 above
     where
       nothing : Told (x ∷ xs) e → Above e.0 (x ∷ xs) → all_told es ≡ all_told (e ∷ es)
@@ -122,9 +122,9 @@ module _ {X : Type 0} (f : ℕ → Numbers → List X) where
   told_all [] xs s t h = none_kept xs
   told_all (e ∷ es) xs s t h = step e es (λ ys u k. told_all es ys s.1 u k) s xs t h
 
--- ---- a set that has each of which something is told
+-- ---- a set that has each operation with a contribution
 
--- a number that a set has is one of its keys
+-- a number of the set is one of its keys
 pub listed : (x : ℕ) (ks : List ℕ) → list_any (is_at (nat_cmp x)) ks ≡ true → In x ks
 listed x [] e = absurd (true≢false (sym e))
 listed x (k ∷ ks) e = go (listed x ks) (bool_cases (is_eq (nat_cmp x k)))
@@ -234,7 +234,7 @@ module _ (m : Roles) (ordered : idmap.IsOrdered m.all) (rises : set.IsOrdered na
 pub names_told : (m : Roles) → idmap.IsOrdered m.all → set.IsOrdered nat_cmp m.naming → told undefined_by (kept_at m) m.naming.keys ≡ undefined_names (numbered m.all.entries)
 names_told m ordered rises = told_of_set undefined_by names none_undefined m.naming.keys m.all m.naming refl ordered rises m.name ∙ each_undefined m.all.entries
 
--- what is told of one more
+-- the contribution of one more operation
 module _ {X : Type 0} (f : ℕ → Numbers → List X) (kept : ℕ → Option Numbers) where
   pub one_told : {Y : Type 0} (cells : X → Y) (x : ℕ) (xs all : List ℕ) (before after whole : List Y) → x ∷ xs ≡ all → after ≡ before ++ map cells (told_at f x (kept x)) → before ++ map cells (told f kept all) ≡ whole → after ++ map cells (told f kept xs) ≡ whole
   one_told cells x xs all before after whole next one so_far =

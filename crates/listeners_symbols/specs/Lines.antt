@@ -1,4 +1,4 @@
--- The rows that a table of roles gives, in numbers.
+-- The report rows of a table of roles, in numbers.
 use Rattle.std.specs.Prelude.{◌≡◌, ℕ, List, map, eqb, Bool, Option, option_map}
 use Rattle.std.specs.Ordering.{nat_cmp, ordering_then}
 use Rattle.std.specs.declared.cmp.Ordering.{Ordering}
@@ -15,15 +15,15 @@ use Rattle.listeners_symbols.specs.Listeners.{kept_at}
 use Rattle.listeners_symbols.specs.Symbols.{RolesOf, RoleAt, LineOf, DefinitionOf, defined, first_defined, is_among, line_cells, reference_lines}
 use Rattle.listeners_symbols.specs.Symbols.{call_line, undefined}
 
--- the roles of a table in the order of ids, and by their ids
+-- the roles of a table, ordered by id and as a function of the id
 abbrev pub numbered : List (ℕ × Numbers) → RolesOf ℕ ℕ ℕ
 numbered es = map (λ (e : ℕ × Numbers). (e.0, role_numbers e.1)) es
 
 abbrev pub numbers_at : Roles → RoleAt ℕ ℕ ℕ
 numbers_at m x = option_map role_numbers (kept_at m x)
 
--- what is told of an operation by what is kept of it: a definition, the name of one that isn't a definition, the rows
--- of its references, and that of its call
+-- the contributions of an operation, by its entry: its definition, its name if it isn't a definition, the rows of its
+-- references, and the row of its call
 abbrev pub defined_by : ℕ → Numbers → List (DefinitionOf ℕ)
 defined_by x r = defined r.home r.symbol x
 
@@ -37,24 +37,24 @@ references_by roles ds possible resolved x r =
 abbrev pub call_by : RoleAt ℕ ℕ ℕ → List (DefinitionOf ℕ) → ℕ → Numbers → List (LineOf ℕ ℕ)
 call_by roles ds x r = call_line eqb eqb roles ds x r.table (option_map call_numbers r.call)
 
--- the cells of rows, and of lines
+-- the cells of report rows, and of lines
 abbrev pub cells_of : List Row → List (List Cell)
 cells_of rows = map (λ (r : Row). r.cells.items) rows
 
 abbrev pub lines_cells : List (LineOf ℕ ℕ) → List (List Cell)
 lines_cells ls = map (line_cells cell.Tag cell.Op cell.Name cell.Path) ls
 
--- the order of names in tables, and what a map has at one
+-- the order of names in symbol tables, and the entry of a map
 abbrev pub key_cmp : ℕ × ℕ → ℕ × ℕ → Ordering
 key_cmp k l = ordering_then (nat_cmp k.0 l.0) (nat_cmp k.1 l.1)
 
 abbrev pub first_in : BTreeMap (ℕ × ℕ) ℕ → ℕ → ℕ → Option ℕ
 first_in m table name = tree.get key_cmp m (table, name)
 
--- a map has the first definition of each name
+-- the map has the first definition of each name
 abbrev pub HasFirst : List (DefinitionOf ℕ) → BTreeMap (ℕ × ℕ) ℕ → Type 0
 HasFirst ds m = (table name : ℕ) → first_in m table name ≡ first_defined eqb table name ds
 
--- a set has these names, and no others
+-- the set has exactly these names
 abbrev pub HasNames : List ℕ → BTreeSet ℕ → Type 0
 HasNames names s = (n : ℕ) → contains nat_cmp s n ≡ is_among eqb names n

@@ -1,7 +1,7 @@
--- What the listener means.
+-- The contract of the listener.
 use Rattle.std.specs.Prelude.{◌≡◌, ℕ, ◌+◌, false, None}
 use Rattle.std.specs.Ordering.{nat_cmp}
-use Rattle.id_map.specs.Map as idmap
+use Rattle.listeners_support.specs.Map as idmap
 use Rattle.ir_types.proofs.Growth.{grows_trans}
 use Rattle.ir_event.specs.Bounds.{operands_of}
 use Rattle.ir_event.specs.Listener.{Listener}
@@ -10,7 +10,7 @@ use Rattle.listeners_symbols.specs.declared.symbols.Symbols.{Symbols}
 use Rattle.listeners_symbols.specs.Symbols.{symbol_rows}
 use Rattle.listeners_symbols.specs.Table.{Table, IsKept}
 
--- what is kept of an operation
+-- the entry of an operation
 abbrev pub kept_at : Roles → Table
 kept_at m = idmap.get m.all
 
@@ -21,7 +21,7 @@ symbols_listener s = record {
   analysis = symbol_rows s.definers;
   agrees = λ c m. (s.stale ≡ false) × IsKept c m.tree (kept_at s.roles);
   stale = s.stale;
-  heard = None;
+  notified = None;
   most = λ e m n. 2 + operands_of e m n;
   fresh = λ c m h. h.0;
   grows =

@@ -1,5 +1,5 @@
--- What the operations of a tree have to do with symbols: where they stand among symbol tables, which symbols they are,
--- which they refer to, and what they call (Symbols and Symbol Tables).
+-- The roles of a tree's operations in symbol resolution: their symbol tables, the symbols that they define, reference
+-- and call (Symbols and Symbol Tables).
 use Rattle.std.specs.Prelude.{ℕ, List, [], ◌∷◌, ◌++◌, map, codes, Bool, false, ◌||◌, if◌then◌else◌, Option, Some, None}
 use Rattle.std.specs.Prelude.{option_map, option_and_then}
 use Rattle.std.specs.List.{list_any}
@@ -18,38 +18,38 @@ use Rattle.op_registry.specs.Registry.{beside}
 use Rattle.op_registry.specs.Properties.{string_of, type_of}
 use Rattle.ir_event.specs.types.SameTypes.{function_of}
 
--- a symbol reference: the attribute, and its parts
+-- a symbol reference: its attribute, and its parts
 abbrev pub ReferenceOf : Type 0 → Type 0 → Type 0
 ReferenceOf N A = A × List N
 
--- a call: the parts of the symbol that it calls, the types of its operands, as far as these have one, and of its
+-- a call: the parts of the called symbol, the types of its operands, where these have one, and the types of its
 -- results
 pub record CallOf (N T : Type 0) : Type 0 where
   pub callee : List N
   pub inputs : List (Option T)
   pub outputs : List T
 
--- what an operation has to do with symbols
+-- the role of an operation in symbol resolution
 pub record RoleOf (N T A : Type 0) : Type 0 where
-  -- the operation around it, if there is one
+  -- the parent operation, if there is one
   pub parent : Option ℕ
-  -- the symbol table whose symbol it can be: the operation around it, where that is one
+  -- the parent, if it is a symbol table
   pub home : Option ℕ
-  -- the symbol table in which its references are resolved
+  -- the symbol table in which the operation's references are resolved
   pub table : Option ℕ
   -- whether it is a symbol table
   pub is_table : Bool
-  -- the name that it has as a symbol
+  -- the name of the symbol that the operation defines
   pub symbol : Option N
-  -- the string that it has as `sym_name`, whether it is a symbol or not
+  -- the string with the key `sym_name`, whether the operation is a symbol or not
   pub name : Option N
-  -- whether its visibility is private
+  -- whether the visibility is `private`
   pub is_private : Bool
-  -- the symbol references in its dictionaries, each once
+  -- the symbol references in the operation's dictionaries, each once
   pub references : List (ReferenceOf N A)
-  -- its call, where it calls a symbol
+  -- the call, if the operation calls a symbol
   pub call : Option (CallOf N T)
-  -- its inputs and outputs, where it is a function
+  -- the inputs and outputs, if the operation is a function
   pub function : Option (List T × List T)
 
 abbrev pub Role : Type 0
@@ -61,7 +61,7 @@ Head = HeadOf (List ℕ) TypeTerm AttrTerm
 abbrev pub Stand : Type 0
 Stand = StandOf (List ℕ) TypeTerm AttrTerm
 
--- the symbols are functions and modules, with a string as `sym_name`
+-- the symbols are functions and modules with a string as `sym_name`
 abbrev pub is_function : List ℕ → Bool
 is_function name = bytes_eq name (codes "func.func")
 
@@ -73,20 +73,20 @@ symbol_of h =
     if is_table h.name || is_function h.name then option_and_then string_of (beside (codes "sym_name") h.properties)
     else None
 
--- the string that a dictionary has as `sym_name`
+-- the string with the key `sym_name` of a dictionary
 abbrev pub name_in : List (List ℕ × AttrTerm) → Option (List ℕ)
 name_in entries = option_and_then string_of (beside (codes "sym_name") entries)
 
--- the string that an operation has as `sym_name`: among its properties, or else among its attributes
+-- the string with the key `sym_name` of an operation, in its properties or else in its attributes
 abbrev pub name_of : Head → Option (List ℕ)
 name_of h = first_of (name_in h.properties) (name_in h.attributes)
 
--- whether a visibility is private
+-- whether a visibility is `private`
 abbrev pub says_private : Option (List ℕ) → Bool
 says_private None = false
 says_private (Some visibility) = bytes_eq visibility (codes "private")
 
--- whether an operation's is, by its `sym_visibility` (Symbols and Symbol Tables, "Symbol Visibility")
+-- whether an operation's `sym_visibility` is private (Symbols and Symbol Tables, "Symbol Visibility")
 abbrev pub is_private : Head → Bool
 is_private h = says_private (option_and_then string_of (beside (codes "sym_visibility") h.properties))
 
@@ -101,7 +101,7 @@ abbrev pub parts_of : AttrTerm → Option (List (List ℕ))
 parts_of (Symbol parts) = Some parts
 parts_of _ = None
 
--- what an operation calls, by its `callee`
+-- the symbol that an operation calls, by its `callee`
 abbrev pub callee_of : Head → Option (List (List ℕ))
 callee_of h = if is_call h.name then option_and_then parts_of (beside (codes "callee") h.properties) else None
 
@@ -116,11 +116,11 @@ References = List (ReferenceOf (List ℕ) AttrTerm)
 abbrev pub has_parts : List (List ℕ) → ReferenceOf (List ℕ) AttrTerm → Bool
 has_parts parts p = pointwise bytes_eq parts p.1
 
--- references with one more, where that isn't among them
+-- the references with one more, unless it is among them
 abbrev pub with_reference : References → ReferenceOf (List ℕ) AttrTerm → References
 with_reference seen p = if list_any (has_parts p.1) seen then seen else seen ++ p ∷ []
 
--- references with those in an attribute, depth first
+-- the references with those in an attribute, depth first
 abbrev mutual
   pub with_symbols : References → AttrTerm → References
   with_symbols seen (IntegerOf ty value) = seen
@@ -142,31 +142,31 @@ abbrev mutual
   with_entries seen no_entries = seen
   with_entries seen (next_entry key a rest) = with_entries (with_symbols seen a) rest
 
--- with those in a dictionary, in the order of its keys
+-- the references with those in a dictionary, in the order of its keys
 abbrev pub with_dictionary : References → List (List ℕ × AttrTerm) → References
 with_dictionary seen [] = seen
 with_dictionary seen (e ∷ es) = with_dictionary (with_symbols seen e.1) es
 
--- those of an operation, each once, in the order in which they occur first: properties, then attributes
+-- the references of an operation, each once, in the order of first occurrence: properties, then attributes
 abbrev pub references_of : Head → References
 references_of h = with_dictionary (with_dictionary [] h.properties) h.attributes
 
--- the operation around, if there is one
+-- the parent operation, if there is one
 abbrev pub parent_in : List (StepOf (List ℕ) TypeTerm AttrTerm) → Option ℕ
 parent_in [] = None
 parent_in (a ∷ path) = Some (head a.parent).id
 
--- the operation around, where it is a symbol table
+-- the parent, if it is a symbol table
 abbrev pub home_of : List (StepOf (List ℕ) TypeTerm AttrTerm) → Option ℕ
 home_of [] = None
 home_of (a ∷ path) = if is_table (head a.parent).name then Some (head a.parent).id else None
 
--- the nearest symbol table around an operation; the root is its own, where it is one
+-- the nearest symbol table around an operation; the root is its own, if it is one
 abbrev pub table_at : Head → List (StepOf (List ℕ) TypeTerm AttrTerm) → Option ℕ
 table_at h [] = if is_table h.name then Some h.id else None
 table_at h (a ∷ path) = table_in is_table (a ∷ path)
 
--- the role of an operation in this operation and with these tables, whose operands have these types
+-- the role of an operation, given its parent, its symbol tables and the types of its operands
 abbrev pub role_from : Option ℕ → Option ℕ → Option ℕ → Head → List (Option TypeTerm) → Role
 role_from parent home table h types = record {
   parent = parent;
@@ -181,12 +181,12 @@ role_from parent home table h types = record {
   function = signature_of h;
 }
 
--- the role of an operation where it stands in a tree
+-- the role of an operation at its position in the tree
 abbrev pub role : Operation → Stand → Role
 role t s =
     role_from (parent_in s.path) (home_of s.path) (table_at (head s.here) s.path) (head s.here)
     (map (λ v. type_of_value v t) (head s.here).operands)
 
--- that of operation x, if it is there
+-- the role of operation x, if it is in the tree
 abbrev pub role_of : Operation → ℕ → Option Role
 role_of t x = option_map (role t) (stand_of x t)

@@ -2,7 +2,7 @@
 use Rattle.std.specs.Prelude.{◌≡◌, ◌⊎◌, ℕ, List, map, eqb, Bool, true, false, if◌then◌else◌, Option, Some, None}
 use Rattle.std.specs.Prelude.{option_map, is_some, IfSome}
 use Rattle.std.specs.List.{All, list_any}
-use Rattle.ir_event.specs.types.Things.{Things, IsName, IsType, IsAttr, Grows}
+use Rattle.ir_event.specs.types.Things.{ContextModel, IsName, IsType, IsAttr, IsExtendedBy}
 use Rattle.ir_event.specs.types.Terms.{TypeTerm, AttrTerm, name_term, type_term, attr_term}
 use Rattle.ir_event.specs.types.Sound.{IsSound}
 use Rattle.ir_event.specs.trees.Tree.{HeadOf, Op, head}
@@ -21,7 +21,7 @@ use Rattle.listeners_symbols.specs.declared.role.Signature.{Signature}
 use Rattle.listeners_symbols.specs.declared.role.Tables.{Tables}
 use Rattle.listeners_symbols.specs.Roles.{ReferenceOf, CallOf, RoleOf, Role, Head, callee_of, role_of, role_from}
 
--- what is kept of an operation, as a role in numbers
+-- an entry as a role in numbers
 abbrev pub reference_of : Reference → ReferenceOf ℕ ℕ
 reference_of p = (p.path, p.parts.items)
 
@@ -45,7 +45,7 @@ role_numbers r = record {
   function = option_map signature_numbers r.function;
 }
 
--- a role with f of each name, g of each type and h of each attribute
+-- a role with f applied to each name, g to each type and h to each attribute
 abbrev pub map_reference : {N A M B : Type 0} → (N → M) → (A → B) → ReferenceOf N A → ReferenceOf M B
 map_reference f h p = (h p.0, map f p.1)
 
@@ -69,88 +69,88 @@ map_role f g h r = record {
   function = option_map (map_signature g) r.function;
 }
 
--- what is kept of an operation, in contents
-abbrev pub role_meaning : Things → Numbers → Role
+-- the role of an entry, in terms of contents
+abbrev pub role_meaning : ContextModel → Numbers → Role
 role_meaning c r = map_role (name_term c) (type_term c) (attr_term c) (role_numbers r)
 
-abbrev pub reference_meaning : Things → Reference → ReferenceOf (List ℕ) AttrTerm
+abbrev pub reference_meaning : ContextModel → Reference → ReferenceOf (List ℕ) AttrTerm
 reference_meaning c p = map_reference (name_term c) (attr_term c) (reference_of p)
 
-abbrev pub call_meaning : Things → Call → CallOf (List ℕ) TypeTerm
+abbrev pub call_meaning : ContextModel → Call → CallOf (List ℕ) TypeTerm
 call_meaning c k = map_call (name_term c) (type_term c) (call_numbers k)
 
-abbrev pub signature_meaning : Things → Signature → List TypeTerm × List TypeTerm
+abbrev pub signature_meaning : ContextModel → Signature → List TypeTerm × List TypeTerm
 signature_meaning c s = map_signature (type_term c) (signature_numbers s)
 
-abbrev pub head_meaning : Things → HeadOf ℕ ℕ ℕ → Head
+abbrev pub head_meaning : ContextModel → HeadOf ℕ ℕ ℕ → Head
 head_meaning c h = map_head (name_term c) (type_term c) (attr_term c) h
 
--- its numbers are of the context
-pub record ReferenceIsOf (c : Things) (p : Reference) : Type 0 where
+-- the numbers of an entry are in the context
+pub record ReferenceIsOf (c : ContextModel) (p : Reference) : Type 0 where
   pub path : IsAttr c p.path
   pub is : IsSymbol (attr_term c p.path)
   pub parts : All (IsName c) p.parts.items
 
-pub record CallIsOf (c : Things) (k : Call) : Type 0 where
+pub record CallIsOf (c : ContextModel) (k : Call) : Type 0 where
   pub callee : All (IsName c) k.callee.items
   pub inputs : All (IsType c) k.inputs.items
   pub outputs : All (IsType c) k.outputs.items
 
-pub record SignatureIsOf (c : Things) (s : Signature) : Type 0 where
+pub record SignatureIsOf (c : ContextModel) (s : Signature) : Type 0 where
   pub inputs : All (IsType c) s.inputs.items
   pub outputs : All (IsType c) s.outputs.items
 
-pub record RoleIsOf (c : Things) (r : Numbers) : Type 0 where
+pub record RoleIsOf (c : ContextModel) (r : Numbers) : Type 0 where
   pub symbol : IfSome r.symbol (IsName c)
   pub name : IfSome r.name (IsName c)
   pub references : All (ReferenceIsOf c) r.references.items
   pub call : IfSome r.call (CallIsOf c)
   pub function : IfSome r.function (SignatureIsOf c)
 
--- a table: what it keeps of an operation, if it keeps it
+-- a table: the entry of an operation, if it has one
 abbrev pub Table : Type 0
 Table = ℕ → Option Numbers
 
--- what a table keeps of operation x is a role, if there is one, in numbers of a context
-pub record Says (c : Things) (r : Option Role) (kept : Option Numbers) : Type 0 where
+-- the entry is this role, if there is one, in numbers of a context
+pub record Says (c : ContextModel) (r : Option Role) (kept : Option Numbers) : Type 0 where
   pub is : option_map (role_meaning c) kept ≡ r
   pub known : IfSome kept (RoleIsOf c)
 
--- a table keeps the roles of a tree, in numbers of a context: that of each operation, and no others
-abbrev pub Keeps : Things → Operation → Table → Type 0
+-- the table keeps exactly the roles of the tree's operations, in numbers of a context
+abbrev pub Keeps : ContextModel → Operation → Table → Type 0
 Keeps c t table = (x : ℕ) → Says c (role_of t x) (table x)
 
--- they are numbers of a sound context that has grown to this one, so that two numbers for one thing are one
-pub record IsKept (c : Things) (t : Operation) (table : Table) : Type 0 where
-  pub from : Things
+-- the numbers are those of a sound context that has grown to this one, so equal things have equal numbers
+pub record IsKept (c : ContextModel) (t : Operation) (table : Table) : Type 0 where
+  pub from : ContextModel
   pub sound : IsSound from
-  pub grown : Grows from c
+  pub grown : IsExtendedBy from c
   pub keeps : Keeps from t table
 
--- what a table says of x, whatever it says of the operations that x isn't in, is right
-abbrev pub IsRight : Things → Operation → ℕ → Table → Option Numbers → Type 0
+-- the entry of x is right if the entry of its parent is
+abbrev pub IsRight : ContextModel → Operation → ℕ → Table → Option Numbers → Type 0
 IsRight c t x table kept = has_id x t ≡ true → ((p : ℕ) → parent_of x t ≡ Some p → Says c (role_of t p) (table p))
     → Says c (role_of t x) kept
 
--- a table where what is said of x is right, where what was said of the operation around it is, which was there
-pub record Renewed (c : Things) (t : Operation) (x : ℕ) (before after : Table) : Type 0 where
+-- the table after the entry of x was updated: it is right if the entry of the parent was there and right
+pub record Renewed (c : ContextModel) (t : Operation) (x : ℕ) (before after : Table) : Type 0 where
   pub own : IsRight c t x before (after x)
   pub there : is_some (after x) ≡ true
   pub parent : (p : ℕ) → parent_of x t ≡ Some p → is_some (before p) ≡ true
   pub others : (y : ℕ) → eqb x y ≡ false → after y ≡ before y
 
--- a table that keeps the roles of some operations of a tree
-abbrev pub AreRight : Things → Operation → Table → Type 0
+-- the table keeps the roles of some operations of a tree
+abbrev pub AreRight : ContextModel → Operation → Table → Type 0
 AreRight c t table = (x : ℕ) (r : Numbers) → table x ≡ Some r → Says c (role_of t x) (Some r)
 
--- a table with the roles of more operations of a tree
-pub record Added (c : Things) (t : Operation) (xs : List ℕ) (before after : Table) : Type 0 where
+-- the table after the roles of more operations of a tree were added
+pub record Added (c : ContextModel) (t : Operation) (xs : List ℕ) (before after : Table) : Type 0 where
   pub right : ((x : ℕ) → list_any (λ y. eqb y x) xs ≡ true → has_id x t ≡ true) → AreRight c t before
       → AreRight c t after
   pub there : (x : ℕ) → list_any (λ y. eqb y x) xs ≡ true → is_some (after x) ≡ true
   pub others : (x : ℕ) → list_any (λ y. eqb y x) xs ≡ false → after x ≡ before x
 
--- a table that doesn't keep x
+-- the table without x
 abbrev pub Dropped : ℕ → Table → Table → Type 0
 Dropped x before after = (y : ℕ) → after y ≡ (if eqb x y then None else before y)
 
@@ -158,19 +158,19 @@ Dropped x before after = (y : ℕ) → after y ≡ (if eqb x y then None else be
 abbrev pub CallsNone : Operation → ℕ → Type 0
 CallsNone t x = (o : Operation) → find x t ≡ Some o → callee_of (head o) ≡ None
 
--- a table that followed an operand of x: as it was, where x calls nothing
-abbrev pub OperandFollowed : Things → Operation → ℕ → Table → Table → Type 0
+-- the table after an operand of x was set: unchanged if x calls nothing
+abbrev pub OperandFollowed : ContextModel → Operation → ℕ → Table → Table → Type 0
 OperandFollowed c t x before after = Renewed c t x before after ⊎ (CallsNone t x × ((y : ℕ) → after y ≡ before y))
 
--- a table that followed an event that led to a tree
-abbrev pub Followed : Things → Operation → Event → Table → Table → Type 0
+-- the table after an event that led to the tree
+abbrev pub Followed : ContextModel → Operation → Event → Table → Table → Type 0
 Followed c t (Put x place fresh) = Renewed c t x
 Followed c t (Take x place fresh) = Dropped x
 Followed c t (SetOperand x k old new) = OperandFollowed c t x
 Followed c t (SetEntry x part key old new) = Renewed c t x
 Followed c t (Shift x old new) = Renewed c t x
 
--- the tables of an operation that stands in operation p, of which this is kept
+-- the symbol tables of an operation whose parent p has this entry
 abbrev pub tables_in : ℕ → Numbers → Tables
 tables_in p r =
     record {
@@ -179,14 +179,14 @@ tables_in p r =
       table = if r.is_table then Some p else r.table;
     }
 
--- those of an operation x whose parent, if it has one, is this
+-- the symbol tables of operation x, given its parent
 abbrev pub tables_for : Table → ℕ → Bool → Option ℕ → Option Tables
 tables_for table x is_table None =
     Some (record { parent = None; home = None; table = if is_table then Some x else None })
 tables_for table x is_table (Some p) = option_map (tables_in p) (table p)
 
--- what is read of an operation that has these tables, with the types of its operands
-pub record IsReadAs (c : Things) (h : Head) (types : List (Option TypeTerm)) (tables : Tables)
+-- the role read from an operation that has these symbol tables, with the types of its operands
+pub record IsReadAs (c : ContextModel) (h : Head) (types : List (Option TypeTerm)) (tables : Tables)
     (r : Numbers) : Type 0 where
   pub is : role_meaning c r ≡ role_from tables.parent tables.home tables.table h types
   pub known : RoleIsOf c r

@@ -1,9 +1,9 @@
--- Which operations a report tells of, so that it needn't look at the others.
+-- The operations that a report must visit.
 use Rattle.std.specs.Prelude.{◌≡◌, ℕ, List, [], ◌∷◌, ◌++◌, Bool, true, false, ◌&&◌, ◌||◌, not, if◌then◌else◌, Option, Some, None, is_some}
 use Rattle.std.specs.Coded.{Coded-set, coded_bool, Π_prop}
 use Rattle.std.specs.Ordering.{nat_cmp}
-use Rattle.id_map.specs.Map.{IdMap}
-use Rattle.id_map.specs.Map as idmap
+use Rattle.listeners_support.specs.Map.{IdMap}
+use Rattle.listeners_support.specs.Map as idmap
 use Rattle.std.specs.BTreeSet.{BTreeSet, contains}
 use Rattle.listeners_symbols.specs.declared.role.Role.{Role as Numbers}
 
@@ -11,15 +11,15 @@ abbrev pub has_some : {X : Type 0} → List X → Bool
 has_some [] = false
 has_some (x ∷ xs) = true
 
--- whether an operation defines a symbol, refers to one, or calls one, by what is kept of it
+-- whether an operation defines, references or calls a symbol, by its entry
 abbrev pub tells : Numbers → Bool
 tells r = (is_some r.home && is_some r.symbol) || (has_some r.references.items || is_some r.call)
 
--- whether it defines one whose visibility is private
+-- whether it defines a symbol with private visibility
 abbrev pub hides : Numbers → Bool
 hides r = is_some (if is_some r.home && r.is_private then r.symbol else None)
 
--- whether it has a name, and defines no symbol
+-- whether it has a name and defines no symbol
 abbrev pub names : Numbers → Bool
 names r = not (is_some r.home && is_some r.symbol) && is_some r.name
 
@@ -27,19 +27,19 @@ abbrev pub said_at : (Numbers → Bool) → Option Numbers → Bool
 said_at test None = false
 said_at test (Some r) = test r
 
--- a set has each operation of which a test holds, and maybe others
+-- the set has each operation that passes the test, and maybe others
 abbrev pub HasThose : (Numbers → Bool) → IdMap Numbers → BTreeSet ℕ → Type 0
 HasThose test m s = (x : ℕ) → said_at test (idmap.get m x) ≡ true → contains nat_cmp s x ≡ true
 
 pub HasThose-prop : (test : Numbers → Bool) (m : IdMap Numbers) (s : BTreeSet ℕ) → IsProp (HasThose test m s)
 HasThose-prop test m s = Π_prop (λ x. Π_prop (λ h. Coded-set coded_bool (contains nat_cmp s x) true))
 
--- what is told of an operation, by what is kept of it
+-- the contribution of an operation, by its entry
 abbrev pub told_at : {X : Type 0} → (ℕ → Numbers → List X) → ℕ → Option Numbers → List X
 told_at f x None = []
 told_at f x (Some r) = f x r
 
--- what is told of some operations, one after another
+-- the contributions of a list of operations, in order
 abbrev pub told : {X : Type 0} → (ℕ → Numbers → List X) → (ℕ → Option Numbers) → List ℕ → List X
 told f kept [] = []
 told f kept (x ∷ xs) = told_at f x (kept x) ++ told f kept xs

@@ -1,10 +1,10 @@
-//! Which operations may define symbols.
+//! The operations that may define symbols.
 
-/// Which operations a report takes for definers of symbols.
+/// The operations that a report accepts as definers of symbols.
 #[derive(Clone, Copy)]
 pub enum Definers {
-    /// Functions and modules alone, which the operation table lists.
+    /// Only functions and modules, which the operation table lists.
     Listed,
-    /// These; and any other operation with a string as `sym_name` may define one, as in MLIR with more dialects.
+    /// Functions and modules, and every other operation with a string as `sym_name`, as in MLIR with more dialects.
     AnyNamed,
 }

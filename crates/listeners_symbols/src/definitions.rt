@@ -13,14 +13,14 @@ use std::alloc::{AllocError, Global};
 use std::collections::BTreeMap;
 use std::marker::Model;
 
-/// A definition: the table and the name, and the operation.
+/// A definition: the symbol table and the name, and the operation.
 pub type Definition = ((OpId, NameId), OpId);
 
-/// Definitions in the order of the operations' ids: a contract sees the list.
+/// Definitions ordered by operation id. A contract describes them by the list.
 #[derive(Drop)]
 pub struct Definitions {
     list: Vec<Definition>,
-    /// Of each name in a table the first one.
+    /// The first definition of each name in each symbol table.
     first: BTreeMap<(OpId, NameId), OpId>,
 }
 
@@ -37,14 +37,14 @@ impl Model for Definitions {
 }
 
 impl Definitions {
-    /// The definitions, in the order of the operations' ids.
+    /// Returns the definitions, ordered by operation id.
     pub fn list(&self) -> &[Definition]
         ensures { result.now ≡ self.now }
     {
         &self.list
     }
 
-    /// The operation that a name is in a table: of several definitions the first one.
+    /// Returns the operation that defines a name in a symbol table: the first of several definitions, or `None`.
     pub fn first(&self, table: OpId, name: NameId) -> Option<OpId>
         ensures { result ≡ first_defined eqb table name self.now }
     {
@@ -52,7 +52,7 @@ impl Definitions {
     }
 }
 
-/// Adds the definition that an operation is, if it is one.
+/// Appends the definition of an operation, if it is one.
 fn push_definition(op: OpId, role: &Role, out: &mut Vec<Definition>) -> Result<(), AllocError>
     ensures { OnOk result (out.new.items ≡ out.old.items ++ defined role.now.home role.now.symbol op) }
 {
@@ -66,7 +66,7 @@ fn push_definition(op: OpId, role: &Role, out: &mut Vec<Definition>) -> Result<(
     Ok(())
 }
 
-/// Adds the definition that an operation of a table is, if it is one.
+/// Appends the definition of an operation of a table, if it is one.
 fn push_definition_at(roles: &Roles, op: OpId, out: &mut Vec<Definition>) -> Result<(), AllocError>
     ensures { OnOk result (out.new.items ≡ out.old.items ++ told_at defined_by op (kept_at roles.now op)) }
 {
@@ -76,7 +76,7 @@ fn push_definition_at(roles: &Roles, op: OpId, out: &mut Vec<Definition>) -> Res
     }
 }
 
-/// The list of the definitions of a table of roles, in the order of the operations' ids.
+/// Returns the definitions of a table of roles, ordered by operation id.
 fn listed(alloc: Global, roles: &Roles) -> Result<Vec<Definition>, AllocError>
     ensures { IfOk result (λ v. v.items ≡ definitions (numbered roles.now.all.entries)) }
 {
@@ -88,7 +88,7 @@ fn listed(alloc: Global, roles: &Roles) -> Result<Vec<Definition>, AllocError>
     Ok(out)
 }
 
-/// Adds a definition, where none of its name in its table is there.
+/// Adds a definition if its symbol table has no definition of its name yet.
 fn add_first(
     definition: &Definition,
     first: &mut BTreeMap<(OpId, NameId), OpId>,
@@ -104,7 +104,7 @@ fn add_first(
     Ok(())
 }
 
-/// Of each name in a table the first definition.
+/// Returns the first definition of each name in each symbol table.
 fn firsts(alloc: Global, list: &[Definition]) -> Result<BTreeMap<(OpId, NameId), OpId>, AllocError>
     ensures { IfOk result (λ m. HasFirst list.now m) }
 {
@@ -117,7 +117,7 @@ fn firsts(alloc: Global, list: &[Definition]) -> Result<BTreeMap<(OpId, NameId),
     Ok(first)
 }
 
-/// The definitions of a table of roles.
+/// Returns the definitions of a table of roles.
 pub fn definitions_of(alloc: Global, roles: &Roles) -> Result<Definitions, AllocError>
     ensures { IfOk result (λ d. d ≡ definitions (numbered roles.now.all.entries)) }
 {

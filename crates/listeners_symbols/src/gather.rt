@@ -1,4 +1,4 @@
-//! What an operation has to do with symbols is gathered from a view, with at most two looks and one for each operand.
+//! Gathers the role of an operation from a view, with at most two looks and one for each operand.
 ghost use Rattle.std.specs.Prelude.{◌≡◌, ◌≤◌, ◌+◌, ℕ, List, Option, Some, true, IfOk, IfSome, is_some, length, map};
 ghost use Rattle.std.specs.Prelude.{option_map};
 ghost use Rattle.std.specs.List.{All};
@@ -6,8 +6,8 @@ ghost use Rattle.ir_event.specs.types.Things.{IsName, IsType};
 ghost use Rattle.ir_event.specs.types.Terms.{TypeTerm, type_term, name_term};
 ghost use Rattle.ir_event.specs.tree_laws.Reads.{parent_of};
 ghost use Rattle.ir_event.specs.tree_laws.Values.{type_of_value};
-ghost use Rattle.listeners_surroundings.specs.Nodes.{node_of};
-ghost use Rattle.listeners_surroundings.specs.Stored.{known};
+ghost use Rattle.listeners_support.specs.Nodes.{node_of};
+ghost use Rattle.listeners_support.specs.Stored.{known};
 ghost use Rattle.ir_event.specs.Bounds.{operand_count};
 ghost use Rattle.ir_event.specs.Modules.{NodeIsOf, module_in};
 ghost use Rattle.listeners_symbols.specs.Roles.{call_of as call_from};
@@ -23,10 +23,10 @@ use ir_event::trees::value::Value;
 use ir_event::types::context::Context;
 use ir_event::types::ids::{NameId, OpId, TypeId};
 use ir_event::view::View;
-use listeners_surroundings::node::Node;
+use listeners_support::node::Node;
 use std::alloc::{AllocError, Global};
 
-/// The tables of an operation that stands in another.
+/// Returns the symbol tables of an operation, given its parent and the parent's role.
 fn tables_in(role: &Role, parent: OpId) -> Tables
     ensures { result ≡ tables_in parent role.now }
 {
@@ -45,7 +45,7 @@ fn tables_in(role: &Role, parent: OpId) -> Tables
     }
 }
 
-/// The tables of an operation that the view shows, or none where what it stands in isn't kept.
+/// Returns the symbol tables of an operation that the view shows, or `None` if the table has no role of its parent.
 fn tables_of(roles: &Roles, view: &mut View<'_>, op: OpId, is_table: bool) -> Option<Tables>
     ensures tables { result ≡ tables_for (kept_at roles.now) op is_table (parent_of op (tree_in view.old.world.now)) }
     ensures looks { view.new.looks ≤ view.old.looks + 1 }
@@ -61,7 +61,7 @@ fn tables_of(roles: &Roles, view: &mut View<'_>, op: OpId, is_table: bool) -> Op
     }
 }
 
-/// The types of the operands of an operation of the module.
+/// Returns the types of an operation's operands.
 fn types_of(alloc: Global, view: &mut View<'_>, values: &[Value]) -> Result<Vec<TypeId>, AllocError>
     ensures types { IfOk result
         (λ v. map Some v.items ≡ map (λ x. type_of_value x (tree_in view.old.world.now)) values.now) }
@@ -77,7 +77,7 @@ fn types_of(alloc: Global, view: &mut View<'_>, values: &[Value]) -> Result<Vec<
     Ok(types)
 }
 
-/// The type of a value of the module.
+/// Returns the type of a value of the module.
 fn type_of(view: &mut View<'_>, value: &Value) -> Result<TypeId, AllocError>
     ensures ty { IfOk result (λ t. type_of_value value.now (tree_in view.old.world.now) ≡ Some t) }
     ensures known { IfOk result (λ t. IsType view.old.world.now.ctx t) }
@@ -87,7 +87,7 @@ fn type_of(view: &mut View<'_>, value: &Value) -> Result<TypeId, AllocError>
     view.value_type(*value).ok_or(AllocError)
 }
 
-/// The call of these parts by an operation.
+/// Returns the call of an operation to a symbol with these parts.
 fn call_with(
     alloc: Global,
     view: &mut View<'_>,
@@ -117,7 +117,7 @@ fn call_with(
     })
 }
 
-/// The call of an operation, where it calls a symbol.
+/// Returns the call of an operation, or `None` if it calls no symbol.
 fn call_of(alloc: Global, view: &mut View<'_>, node: &Node<'_>) -> Result<Option<Call>, AllocError>
     requires { NodeIsOf view.old.world.now.ctx node.now }
     ensures call { IfOk result
@@ -134,7 +134,7 @@ fn call_of(alloc: Global, view: &mut View<'_>, node: &Node<'_>) -> Result<Option
     Ok(Some(call_with(alloc, view, node, callee)?))
 }
 
-/// What an operation with these tables and this call has to do with symbols.
+/// Returns the role of an operation, given its symbol tables and its call.
 fn role_with(
     alloc: Global,
     ctx: &Context,
@@ -164,8 +164,8 @@ fn role_with(
     })
 }
 
-/// What an operation, which the view shows as this one, has to do with symbols. It is refused where memory is, or where
-/// what the operation stands in isn't kept.
+/// Returns the role of an operation that the view shows as `node`. Refuses if memory runs out, or if the table has no
+/// role of its parent.
 pub(crate) fn gather(
     alloc: Global,
     roles: &Roles,

@@ -1,5 +1,4 @@
-//! The listener that keeps which symbols a module defines and what its references to symbols resolve to: where it
-//! agreed with a module before an event it agrees with the module after it, or is stale.
+//! The listener of symbols: the symbols that a module defines, and the definitions to which its references resolve.
 #![tactic(auto)]
 
 pub mod definers;

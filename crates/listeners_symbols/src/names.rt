@@ -1,4 +1,4 @@
-//! The names that references may mean.
+//! The names to which references may refer.
 ghost use Rattle.std.specs.Prelude.{◌≡◌, ◌||◌, ℕ, eqb, OnOk, IfOk};
 ghost use Rattle.std.specs.List.{list_any};
 ghost use Rattle.std.specs.Ordering.{nat_cmp};
@@ -17,14 +17,14 @@ use ir_event::types::ids::{NameId, OpId};
 use std::alloc::{AllocError, Global};
 use std::collections::BTreeSet;
 
-/// What a reference is resolved by: the definitions, and the names that may be symbols of other operations.
+/// The definitions, and the names that other operations may define as symbols.
 #[derive(Drop)]
 pub(crate) struct Names {
     pub(crate) definitions: Definitions,
     pub(crate) possible: BTreeSet<NameId>,
 }
 
-/// Adds the name of an operation, where it has one and isn't a definition.
+/// Adds the name of an operation if it has one and isn't a definition.
 fn add_name(role: &Role, names: &mut BTreeSet<NameId>) -> Result<(), AllocError>
     ensures { OnOk result ((n : ℕ) → contains nat_cmp names.new n
         ≡ (contains nat_cmp names.old n || is_among eqb (undefined role.now.home role.now.symbol role.now.name) n)) }
@@ -39,7 +39,7 @@ fn add_name(role: &Role, names: &mut BTreeSet<NameId>) -> Result<(), AllocError>
     Ok(())
 }
 
-/// Adds the name of an operation of a table, where it has one and isn't a definition.
+/// Adds the name of an operation of a table if it has one and isn't a definition.
 fn add_name_at(roles: &Roles, op: OpId, names: &mut BTreeSet<NameId>) -> Result<(), AllocError>
     ensures { OnOk result ((n : ℕ) → contains nat_cmp names.new n
         ≡ (contains nat_cmp names.old n || is_among eqb (told_at undefined_by op (kept_at roles.now op)) n)) }
@@ -50,7 +50,7 @@ fn add_name_at(roles: &Roles, op: OpId, names: &mut BTreeSet<NameId>) -> Result<
     }
 }
 
-/// The names of the operations of a table of roles that aren't definitions.
+/// Returns the names of the operations of a table of roles that aren't definitions.
 fn undefined_names(alloc: Global, roles: &Roles) -> Result<BTreeSet<NameId>, AllocError>
     ensures { IfOk result (λ s. HasNames (symbols.undefined_names (numbered roles.now.all.entries)) s) }
 {
@@ -62,7 +62,7 @@ fn undefined_names(alloc: Global, roles: &Roles) -> Result<BTreeSet<NameId>, All
     Ok(names)
 }
 
-/// The names that may be symbols of operations that aren't definitions.
+/// Returns the names that operations which aren't definitions may define as symbols.
 pub(crate) fn possible_names(
     alloc: Global,
     definers: Definers,
@@ -76,7 +76,7 @@ pub(crate) fn possible_names(
     }
 }
 
-/// Whether a part of a reference is such a name.
+/// Returns whether a part of a reference is one of these names.
 pub(crate) fn may_mean(possible: &BTreeSet<NameId>, parts: &[NameId]) -> bool
     ensures { result ≡ list_any (contains nat_cmp possible.now) parts.now }
 {

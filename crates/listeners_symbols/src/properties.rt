@@ -1,8 +1,8 @@
-//! What an operation's properties say of symbols.
+//! The parts of an operation's properties that are about symbols.
 ghost use Rattle.std.specs.Prelude.{◌≡◌, IfSome, IfOk, List, [], ℕ, map, slice_index_or};
 ghost use Rattle.std.specs.List.{All};
 ghost use Rattle.std.specs.Option.{option_map, option_and_then};
-ghost use Rattle.ir_event.specs.types.Things.{Things, IsName, IsAttr, IsType, AttrIsOf};
+ghost use Rattle.ir_event.specs.types.Things.{ContextModel, IsName, IsAttr, IsType, AttrIsOf};
 ghost use Rattle.ir_event.specs.types.Terms.{TypeTerm, AttrTerm, attr_from, attr_term, name_term, type_term};
 ghost use Rattle.ir_event.specs.types.WordNames.{word_bytes};
 ghost use Rattle.ir_event.specs.trees.Maps.{map_entry};
@@ -18,12 +18,12 @@ use ir_event::types::ids::{AttrId, NameId, TypeId};
 use ir_event::types::node::AttrNode;
 use ir_event::types::things::attr_of;
 use ir_event::types::word::Word;
-use listeners_surroundings::node::Node;
-use listeners_surroundings::properties::{entry, string_of};
+use listeners_support::node::Node;
+use listeners_support::properties::{entry, string_of};
 use op_registry::signature;
 use std::alloc::{AllocError, Global};
 
-/// The name that an operation has as a symbol.
+/// Returns the name of the symbol that an operation defines, if it defines one.
 pub(crate) fn symbol_of(ctx: &Context, node: &Node<'_>) -> Option<NameId>
     requires { NodeIsOf ctx.now node.now }
     ensures symbol { option_map (name_term ctx.now) result ≡ roles.symbol_of (head_meaning ctx.now node.now.head) }
@@ -36,7 +36,7 @@ pub(crate) fn symbol_of(ctx: &Context, node: &Node<'_>) -> Option<NameId>
     string_of(ctx, attr)
 }
 
-/// The string that a dictionary has as `sym_name`.
+/// Returns the string with the key `sym_name` in a dictionary, if there is one.
 fn name_in(ctx: &Context, entries: &[(NameId, AttrId)]) -> Option<NameId>
     requires { All (λ e. IsName ctx.now e.0 × IsAttr ctx.now e.1) entries.now }
     ensures name { option_map (name_term ctx.now) result
@@ -47,7 +47,7 @@ fn name_in(ctx: &Context, entries: &[(NameId, AttrId)]) -> Option<NameId>
     string_of(ctx, attr)
 }
 
-/// The string that an operation has as `sym_name`: among its properties, or else among its attributes.
+/// Returns the string with the key `sym_name` of an operation, in its properties or else in its attributes.
 pub(crate) fn name_of(ctx: &Context, node: &Node<'_>) -> Option<NameId>
     requires { NodeIsOf ctx.now node.now }
     ensures name { option_map (name_term ctx.now) result ≡ roles.name_of (head_meaning ctx.now node.now.head) }
@@ -59,7 +59,7 @@ pub(crate) fn name_of(ctx: &Context, node: &Node<'_>) -> Option<NameId>
     Some(name)
 }
 
-/// The visibility of an operation as a symbol, if it says one.
+/// Returns the visibility of an operation as a symbol, if it has one.
 fn visibility_of(ctx: &Context, node: &Node<'_>) -> Option<NameId>
     requires { NodeIsOf ctx.now node.now }
     ensures { option_map (name_term ctx.now) result ≡ option_and_then properties.string_of
@@ -69,7 +69,7 @@ fn visibility_of(ctx: &Context, node: &Node<'_>) -> Option<NameId>
     string_of(ctx, attr)
 }
 
-/// Whether a visibility is private.
+/// Returns whether a visibility is `private`.
 fn says_private(ctx: &Context, visibility: Option<NameId>) -> bool
     ensures { result ≡ roles.says_private (option_map (name_term ctx.now) visibility) }
 {
@@ -79,7 +79,7 @@ fn says_private(ctx: &Context, visibility: Option<NameId>) -> bool
     }
 }
 
-/// Whether an operation's visibility is private (Symbols and Symbol Tables, "Symbol Visibility").
+/// Returns whether an operation's visibility is `private` (Symbols and Symbol Tables, "Symbol Visibility").
 pub(crate) fn is_private(ctx: &Context, node: &Node<'_>) -> bool
     requires { NodeIsOf ctx.now node.now }
     ensures { result ≡ roles.is_private (head_meaning ctx.now node.now.head) }
@@ -87,7 +87,7 @@ pub(crate) fn is_private(ctx: &Context, node: &Node<'_>) -> bool
     says_private(ctx, visibility_of(ctx, node))
 }
 
-/// The parts of the symbol that an operation calls, if it calls one.
+/// Returns the parts of the symbol that an operation calls, if it calls one.
 pub(crate) fn callee_of<'a>(ctx: &'a Context, node: &Node<'_>) -> Option<&'a [NameId]>
     requires { NodeIsOf ctx.now node.now }
     ensures parts { option_map (λ parts. map (name_term ctx.now) parts.now) result
@@ -101,7 +101,7 @@ pub(crate) fn callee_of<'a>(ctx: &'a Context, node: &Node<'_>) -> Option<&'a [Na
     parts_of(ctx, attr)
 }
 
-/// The parts of a symbol reference.
+/// Returns the parts of a symbol reference, or `None` if the attribute isn't one.
 fn parts_of(ctx: &Context, attr: AttrId) -> Option<&[NameId]>
     requires { IsAttr ctx.now attr }
     ensures parts { option_map (λ parts. map (name_term ctx.now) parts.now) result
@@ -115,7 +115,7 @@ fn parts_in(node: &AttrNode) -> Option<&[NameId]>
     ensures parts { (names : List (List ℕ)) (types : List TypeTerm) (attrs : List AttrTerm)
         → option_map (λ parts. map (λ n. slice_index_or names n []) parts.now) result
         ≡ roles.parts_of (attr_from names types attrs node.now) }
-    ensures known { (c : Things) → AttrIsOf c node.now → IfSome result (λ parts. All (IsName c) parts.now) }
+    ensures known { (c : ContextModel) → AttrIsOf c node.now → IfSome result (λ parts. All (IsName c) parts.now) }
 {
     match node {
         AttrNode::Int { .. } => None,
@@ -131,7 +131,7 @@ fn parts_in(node: &AttrNode) -> Option<&[NameId]>
     }
 }
 
-/// The function type that an operation has as property, where it is a function.
+/// Returns the function type of an operation, or `None` if it isn't a function.
 fn function_type<'a>(ctx: &'a Context, node: &Node<'_>) -> Option<signature::Signature<'a>>
     requires { NodeIsOf ctx.now node.now }
     ensures signature { option_map
@@ -147,7 +147,7 @@ fn function_type<'a>(ctx: &'a Context, node: &Node<'_>) -> Option<signature::Sig
     signature::signature_of(ctx, signature::type_in(attr_of(ctx, attr))?)
 }
 
-/// The inputs and outputs of an operation that is a function.
+/// Returns the inputs and outputs of an operation, or `None` if it isn't a function.
 pub(crate) fn function_of(
     alloc: Global,
     ctx: &Context,

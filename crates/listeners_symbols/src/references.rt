@@ -14,27 +14,27 @@ use crate::role::Reference;
 use ir_event::types::context::Context;
 use ir_event::types::ids::{AttrId, NameId};
 use ir_event::types::node::AttrNode;
-use listeners_surroundings::node::Node;
+use listeners_support::node::Node;
 use op_registry::things::attr_of;
 use std::alloc::{AllocError, Global};
 use std::collections::BTreeSet;
 
-/// The references that were found so far, and which attributes they are.
+/// The references found so far, and their attributes.
 #[derive(Drop)]
-pub(crate) struct Found {
-    /// Each once, by where they occur first.
+pub(crate) struct FoundReferences {
+    /// Each reference once, in the order of first occurrence.
     list: Vec<Reference>,
-    /// The attributes of those in the list.
+    /// The attributes of the listed references.
     seen: BTreeSet<AttrId>,
 }
 
-/// Adds a reference, where it isn't among those that are there: references with the same parts are one attribute.
+/// Adds a reference if it isn't in the list. References with the same parts are the same attribute.
 fn add(
     alloc: Global,
     ctx: &Context,
     path: AttrId,
     parts: &[NameId],
-    out: &mut Found,
+    out: &mut FoundReferences,
 ) -> Result<(), AllocError>
     requires path { IsAttr ctx.now path }
     requires symbol { attr_term ctx.now path ≡ Symbol (map (name_term ctx.now) parts.now) }
@@ -57,7 +57,12 @@ fn add(
 
 /// Adds the references in an attribute, depth first.
 #[cycle(references)]
-fn add_attr(alloc: Global, ctx: &Context, id: AttrId, out: &mut Found) -> Result<(), AllocError>
+fn add_attr(
+    alloc: Global,
+    ctx: &Context,
+    id: AttrId,
+    out: &mut FoundReferences,
+) -> Result<(), AllocError>
     requires id { IsAttr ctx.now id }
     requires out { IsFound ctx.now out.old }
     ensures added { OnOk result
@@ -78,13 +83,13 @@ fn add_attr(alloc: Global, ctx: &Context, id: AttrId, out: &mut Found) -> Result
     }
 }
 
-/// Adds those in attributes.
+/// Adds the references in a list of attributes.
 #[cycle(references)]
 fn add_attrs(
     alloc: Global,
     ctx: &Context,
     ids: &[AttrId],
-    out: &mut Found,
+    out: &mut FoundReferences,
 ) -> Result<(), AllocError>
     requires ids { All (λ a. a < length ctx.now.attrs) ids.now }
     requires out { IsFound ctx.now out.old }
@@ -101,13 +106,13 @@ fn add_attrs(
     Ok(())
 }
 
-/// Adds those in the entries of a dictionary.
+/// Adds the references in the entries of a dictionary.
 #[cycle(references)]
 fn add_entries(
     alloc: Global,
     ctx: &Context,
     entries: &[(NameId, AttrId)],
-    out: &mut Found,
+    out: &mut FoundReferences,
 ) -> Result<(), AllocError>
     requires entries { All (λ e. e.1 < length ctx.now.attrs) entries.now }
     requires out { IsFound ctx.now out.old }
@@ -124,12 +129,12 @@ fn add_entries(
     Ok(())
 }
 
-/// Adds those in a dictionary of an operation.
+/// Adds the references in a dictionary of an operation.
 fn add_dictionary(
     alloc: Global,
     ctx: &Context,
     entries: &[(NameId, AttrId)],
-    out: &mut Found,
+    out: &mut FoundReferences,
 ) -> Result<(), AllocError>
     requires entries { All (λ e. IsName ctx.now e.0 × IsAttr ctx.now e.1) entries.now }
     requires out { IsFound ctx.now out.old }
@@ -141,7 +146,7 @@ fn add_dictionary(
     add_entries(alloc, ctx, entries, out)
 }
 
-/// The symbol references in the dictionaries of an operation, each once, by where they occur first.
+/// Returns the symbol references in the dictionaries of an operation, each once, in the order of first occurrence.
 pub(crate) fn references_of(
     alloc: Global,
     ctx: &Context,
@@ -152,13 +157,13 @@ pub(crate) fn references_of(
         (λ v. map (reference_meaning ctx.now) v.items ≡ references_of (head_meaning ctx.now node.now.head)) }
     ensures known { IfOk result (λ v. All (ReferenceIsOf ctx.now) v.items) }
 {
-    let mut found = Found {
+    let mut found = FoundReferences {
         list: Vec::new(alloc),
         seen: BTreeSet::new(alloc),
     };
     add_dictionary(alloc, ctx, node.properties(), &mut found)?;
     add_dictionary(alloc, ctx, node.attributes(), &mut found)?;
-    let Found { list, seen } = found;
+    let FoundReferences { list, seen } = found;
     drop(seen);
     Ok(list)
 }

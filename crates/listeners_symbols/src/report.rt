@@ -3,7 +3,7 @@ ghost use Rattle.std.specs.Prelude.{◌≡◌, ◌++◌, ◌∷◌, [], eqb, map
 ghost use Rattle.std.specs.List.{list_any};
 ghost use Rattle.std.specs.Ordering.{nat_cmp};
 ghost use Rattle.std.specs.BTreeSet.{contains};
-ghost use Rattle.id_map.specs.Map as idmap;
+ghost use Rattle.listeners_support.specs.Map as idmap;
 ghost use Rattle.ir_event.specs.declared.row.Cell.TheVariants as cell;
 ghost use Rattle.ir_event.specs.declared.tag.Tag.TheVariants as word;
 ghost use Rattle.ir_event.specs.Tags.{tag_number};
@@ -30,7 +30,7 @@ use std::alloc::{AllocError, Global};
 // The checker has no proof of the loans of a function that holds cells, unless the function has a value of each type in
 // a cell: so some make a `Value` that nothing uses.
 
-/// Adds the row of a definition, with this word.
+/// Appends the row of a definition, with the word `tag`.
 fn push_definition(
     alloc: Global,
     tag: Tag,
@@ -53,7 +53,7 @@ fn push_definition(
     Ok(())
 }
 
-/// Adds the rows of definitions.
+/// Appends the rows of the definitions.
 fn push_definitions(
     alloc: Global,
     definitions: &Definitions,
@@ -70,7 +70,7 @@ fn push_definitions(
     Ok(())
 }
 
-/// Whether a definition isn't the one that counts.
+/// Returns whether another operation defines the same name in the same symbol table first.
 fn is_duplicate(definitions: &Definitions, definition: &Definition) -> bool
     ensures { result ≡ is_duplicate eqb definitions.now definition.now }
 {
@@ -81,7 +81,7 @@ fn is_duplicate(definitions: &Definitions, definition: &Definition) -> bool
     }
 }
 
-/// Adds the rows of duplicates.
+/// Appends the rows of the duplicate definitions.
 fn push_duplicates(
     alloc: Global,
     definitions: &Definitions,
@@ -100,7 +100,7 @@ fn push_duplicates(
     Ok(())
 }
 
-/// Adds the row of a reference that resolves.
+/// Appends the row of a reference that resolves.
 fn push_use(
     alloc: Global,
     user: OpId,
@@ -121,7 +121,7 @@ fn push_use(
     Ok(())
 }
 
-/// Adds the row of a reference that doesn't resolve, with this word.
+/// Appends the row of a reference that doesn't resolve, with the word `tag`.
 fn push_unresolved(
     alloc: Global,
     tag: Tag,
@@ -141,7 +141,8 @@ fn push_unresolved(
     Ok(())
 }
 
-/// Adds the row of a reference that doesn't resolve: whether it may name a symbol all the same decides the word.
+/// Appends the row of a reference that doesn't resolve. The word is `unknown` if an operation that isn't a definition
+/// may have the name, and `unresolved` otherwise.
 fn push_missing(
     alloc: Global,
     may: bool,
@@ -159,7 +160,7 @@ fn push_missing(
     }
 }
 
-/// Adds the row of a reference, where it resolves, or where it doesn't.
+/// Appends the row of a reference if it resolves and `resolved` is `true`, or if it doesn't and `resolved` is `false`.
 fn push_reference(
     alloc: Global,
     resolved: bool,
@@ -189,7 +190,7 @@ fn push_reference(
     Ok(())
 }
 
-/// Adds the rows of the references of an operation.
+/// Appends the rows of an operation's references.
 fn push_references(
     alloc: Global,
     resolved: bool,
@@ -214,7 +215,7 @@ fn push_references(
     Ok(())
 }
 
-/// Adds the rows of the references of an operation of a table.
+/// Appends the rows of the references of an operation of a table.
 fn push_references_at(
     alloc: Global,
     resolved: bool,
@@ -233,7 +234,7 @@ fn push_references_at(
     }
 }
 
-/// Adds the rows of the references of all operations.
+/// Appends the rows of the references of all operations.
 fn push_all_references(
     alloc: Global,
     resolved: bool,
@@ -252,7 +253,7 @@ fn push_all_references(
     Ok(())
 }
 
-/// Adds the row of a mismatch.
+/// Appends the row of a call that doesn't match its callee.
 fn push_mismatch(alloc: Global, user: OpId, op: OpId, out: &mut Vec<Row>) -> Result<(), AllocError>
     ensures { OnOk result (cells_of out.new.items
         ≡ cells_of out.old.items ++ (cell.Tag (tag_number word.Mismatch) ∷ cell.Op user ∷ cell.Op op ∷ []) ∷ []) }
@@ -266,7 +267,7 @@ fn push_mismatch(alloc: Global, user: OpId, op: OpId, out: &mut Vec<Row>) -> Res
     Ok(())
 }
 
-/// Adds the row of a call, where it resolves to what isn't a function of its types.
+/// Appends a row if a call resolves to an operation that isn't a function of its types.
 fn push_call(
     alloc: Global,
     roles: &Roles,
@@ -287,7 +288,7 @@ fn push_call(
     push_mismatch(alloc, user, op, out)
 }
 
-/// Adds the row of an operation's call, where there is one.
+/// Appends the row of an operation's call, if it has a call that doesn't match.
 fn push_call_of(
     alloc: Global,
     roles: &Roles,
@@ -308,7 +309,7 @@ fn push_call_of(
     push_call(alloc, roles, user, call, found, out)
 }
 
-/// Adds the row of the call of an operation of a table, where there is one.
+/// Appends the row of the call of an operation of a table, if it has a call that doesn't match.
 fn push_call_at(
     alloc: Global,
     roles: &Roles,
@@ -325,7 +326,7 @@ fn push_call_at(
     }
 }
 
-/// Adds the rows of mismatches.
+/// Appends the rows of the calls that don't match.
 fn push_mismatches(
     alloc: Global,
     roles: &Roles,
@@ -342,7 +343,7 @@ fn push_mismatches(
     Ok(())
 }
 
-/// The rows of all operations, by these names.
+/// Returns the rows of all operations, given the names.
 fn push_lines(
     alloc: Global,
     roles: &Roles,
@@ -360,7 +361,7 @@ fn push_lines(
     push_mismatches(alloc, roles, &names.definitions, out)
 }
 
-/// The rows of a table of roles, where these operations may define symbols.
+/// Returns the rows of a table of roles, given the operations that may define symbols.
 pub(crate) fn lines(
     alloc: Global,
     definers: Definers,

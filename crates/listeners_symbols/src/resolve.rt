@@ -1,4 +1,4 @@
-//! Symbol references are resolved in a table of roles.
+//! Resolves symbol references in a table of roles.
 ghost use Rattle.std.specs.Prelude.{◌≡◌, eqb};
 ghost use Rattle.std.specs.Cmp.Lexicographic.{pointwise};
 ghost use Rattle.listeners_symbols.specs.Symbols as symbols;
@@ -11,7 +11,7 @@ use crate::role::Call;
 use crate::roles::Roles;
 use ir_event::types::ids::{NameId, OpId, TypeId};
 
-/// Whether an operation is a symbol table.
+/// Returns whether an operation is a symbol table.
 fn is_table(roles: &Roles, op: OpId) -> bool
     ensures { result ≡ says_table (numbers_at roles.now op) }
 {
@@ -21,7 +21,8 @@ fn is_table(roles: &Roles, op: OpId) -> bool
     }
 }
 
-/// The operation that a name is in another.
+/// Returns the operation that defines a name in operation `op`, or `None` if `op` isn't a symbol table or has no such
+/// name.
 fn look_up(roles: &Roles, definitions: &Definitions, op: OpId, name: NameId) -> Option<OpId>
     ensures { result ≡ symbols.look_up eqb (numbers_at roles.now) definitions.now op name }
 {
@@ -31,7 +32,7 @@ fn look_up(roles: &Roles, definitions: &Definitions, op: OpId, name: NameId) -> 
     definitions.first(op, name)
 }
 
-/// The operation that a name is in another that there may be.
+/// Returns the operation that defines a name in an operation, if there is an operation.
 pub fn look_in(
     roles: &Roles,
     definitions: &Definitions,
@@ -46,7 +47,8 @@ pub fn look_in(
     }
 }
 
-/// What the parts of a reference resolve to: the first in a table, each further one in the symbol before it.
+/// Returns the operation to which a reference resolves: the first part is looked up in a symbol table, each later part
+/// in the operation of the part before it.
 pub(crate) fn resolve(
     roles: &Roles,
     definitions: &Definitions,
@@ -64,7 +66,7 @@ pub(crate) fn resolve(
     found
 }
 
-/// Whether two lists of types are one.
+/// Returns whether two lists of types are equal.
 fn same_types(ones: &[TypeId], others: &[TypeId]) -> bool
     ensures { result ≡ pointwise eqb ones.now others.now }
 {
@@ -83,7 +85,7 @@ fn same_types(ones: &[TypeId], others: &[TypeId]) -> bool
     right.is_empty()
 }
 
-/// Whether an operation is a function that has the types of a call's operands and results.
+/// Returns whether an operation is a function with the types of a call's operands and results.
 #[tactic(auto, using(crate::proofs::Lines::some_types))]
 pub(crate) fn fits(roles: &Roles, call: &Call, op: OpId) -> bool
     ensures { result ≡ symbols.fits eqb (call_numbers call.now) (function_at (numbers_at roles.now op)) }

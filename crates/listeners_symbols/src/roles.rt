@@ -2,26 +2,26 @@
 ghost use Rattle.std.specs.Prelude.{◌≡◌, ◌&&◌, ◌||◌, not, ℕ, eqb, false, true, is_some, OnOk, Some, None};
 ghost use Rattle.std.specs.Option.{option_copied};
 ghost use Rattle.std.specs.Ordering.{nat_cmp};
-ghost use Rattle.id_map.specs.Map as idmap;
+ghost use Rattle.listeners_support.specs.Map as idmap;
 ghost use Rattle.std.specs.BTreeSet as set;
 ghost use Rattle.std.specs.BTreeSet.{contains};
 ghost use Rattle.listeners_symbols.specs.Telling.{HasThose, HasThose-prop, has_some, hides, names, tells};
 
 use crate::role::Role;
-use id_map::IdMap;
 use ir_event::types::ids::OpId;
+use listeners_support::IdMap;
 use std::alloc::{AllocError, Global};
 use std::collections::BTreeSet;
 
-/// What is kept of each operation, and of which reports tell.
+/// The role of each operation, and the sets of operations that reports visit.
 #[derive(Drop)]
 pub struct Roles {
     pub all: IdMap<Role>,
-    /// Those that define a symbol, refer to one or call one, and maybe some that did.
+    /// The operations that define, reference or call a symbol. The set may have more operations.
     pub telling: BTreeSet<OpId>,
-    /// Private definitions, and maybe some that were.
+    /// The private definitions. The set may have more operations.
     pub hidden: BTreeSet<OpId>,
-    /// Those with a name that define no symbol, and maybe some that were.
+    /// The operations with a name that define no symbol. The set may have more operations.
     pub naming: BTreeSet<OpId>,
     pub ghost tell: { HasThose tells all telling } by { HasThose-prop tells all telling },
     pub ghost hide: { HasThose hides all hidden } by { HasThose-prop hides all hidden },
@@ -29,7 +29,7 @@ pub struct Roles {
 }
 
 impl Roles {
-    /// No roles.
+    /// Returns an empty table.
     pub fn new(alloc: Global) -> Roles
         ensures { (x : ℕ) → idmap.get result.all x ≡ None }
     {
@@ -41,7 +41,7 @@ impl Roles {
         }
     }
 
-    /// Says that all stands in the order of the operations' ids.
+    /// States that all entries are ordered by operation id.
     pub fn ordered(&self)
         ensures all { idmap.IsOrdered self.now.all }
         ensures telling { set.IsOrdered nat_cmp self.now.telling }
@@ -54,14 +54,14 @@ impl Roles {
         let _ = self.naming.len();
     }
 
-    /// What is kept of an operation.
+    /// Returns the role of an operation, if the table has one.
     pub fn get(&self, op: OpId) -> Option<&Role>
         ensures value { option_copied result ≡ idmap.get self.now.all op }
     {
         self.all.get(op.number())
     }
 
-    /// Sets the role of an operation. Where memory is refused, all roles stay.
+    /// Sets the role of an operation. If memory runs out, the roles are unchanged.
     pub fn insert(&mut self, op: OpId, role: Role) -> Result<(), AllocError>
         ensures updates { OnOk result (idmap.Updates self.old.all self.new.all op (Some role)) }
     {
@@ -81,7 +81,7 @@ impl Roles {
         Ok(())
     }
 
-    /// Takes the role of an operation out, which needs no memory.
+    /// Removes the role of an operation. Needs no memory.
     pub fn remove(&mut self, op: OpId)
         ensures updates { idmap.Updates self.old.all self.new.all op None }
     {
@@ -92,14 +92,14 @@ impl Roles {
     }
 }
 
-/// Whether an operation defines a symbol, refers to one, or calls one.
+/// Returns whether an operation defines, references or calls a symbol.
 fn tells(role: &Role) -> bool
     ensures { result ≡ tells role.now }
 {
     defines(role) || refers(role) || role.call.is_some()
 }
 
-/// Whether an operation defines a symbol.
+/// Returns whether an operation defines a symbol.
 pub(crate) fn defines(role: &Role) -> bool
     ensures { result ≡ (is_some role.now.home && is_some role.now.symbol) }
 {
@@ -112,7 +112,7 @@ fn refers(role: &Role) -> bool
     !role.references.is_empty()
 }
 
-/// Whether an operation defines a symbol whose visibility is private.
+/// Returns whether an operation defines a symbol with private visibility.
 fn hides(role: &Role) -> bool
     ensures { result ≡ hides role.now }
 {
@@ -123,14 +123,14 @@ fn hides(role: &Role) -> bool
     }
 }
 
-/// Whether an operation has a name, and defines no symbol.
+/// Returns whether an operation has a name and defines no symbol.
 fn names(role: &Role) -> bool
     ensures { result ≡ names role.now }
 {
     !defines(role) && role.name.is_some()
 }
 
-/// Whether one that there may be tells of symbols. Nothing follows from it: a set may have more.
+/// Returns whether there is a role and it satisfies `tells`. No contract depends on it, because the set may have more.
 fn tells_of(role: Option<&Role>) -> bool {
     match role {
         Some(role) => tells(role),
@@ -138,7 +138,7 @@ fn tells_of(role: Option<&Role>) -> bool {
     }
 }
 
-/// Whether one that there may be hides a symbol. Nothing follows from it either.
+/// Returns whether there is a role and it satisfies `hides`. No contract depends on it.
 fn hides_of(role: Option<&Role>) -> bool {
     match role {
         Some(role) => hides(role),
@@ -146,7 +146,7 @@ fn hides_of(role: Option<&Role>) -> bool {
     }
 }
 
-/// Whether one that there may be has a name. Nothing follows from it either.
+/// Returns whether there is a role and it satisfies `names`. No contract depends on it.
 fn names_of(role: Option<&Role>) -> bool {
     match role {
         Some(role) => names(role),
@@ -154,7 +154,7 @@ fn names_of(role: Option<&Role>) -> bool {
     }
 }
 
-/// Adds an operation to a set, where something holds. Nothing goes out, also where memory is refused.
+/// Adds an operation to a set if `holds`. No operation is removed, also if memory runs out.
 fn add_if(set: &mut BTreeSet<OpId>, op: OpId, holds: bool) -> Result<(), AllocError>
     ensures added { OnOk result (holds ≡ true → contains nat_cmp set.new op ≡ true) }
     ensures stay { (x : ℕ) → contains nat_cmp set.old x ≡ true → contains nat_cmp set.new x ≡ true }
@@ -165,7 +165,7 @@ fn add_if(set: &mut BTreeSet<OpId>, op: OpId, holds: bool) -> Result<(), AllocEr
     Ok(())
 }
 
-/// Takes an operation out of a set, unless something holds.
+/// Removes an operation from a set unless `holds`.
 fn drop_unless(set: &mut BTreeSet<OpId>, op: OpId, holds: bool)
     ensures kept { holds ≡ true → set.new ≡ set.old }
     ensures others { (x : ℕ) → eqb op x ≡ false → contains nat_cmp set.old x ≡ true → contains nat_cmp set.new x ≡ true }

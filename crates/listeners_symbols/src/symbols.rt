@@ -1,4 +1,4 @@
-//! The listener that keeps symbols.
+//! The listener of symbols.
 ghost use Rattle.std.specs.Prelude.{◌≡◌, true};
 
 use crate::definers::Definers;
@@ -12,15 +12,15 @@ use ir_event::view::View;
 use ir_event::world::World;
 use std::alloc::Global;
 
-/// The analysis `symbols`: which symbols a module defines, and what its references to symbols resolve to (Symbols and
-/// Symbol Tables).
+/// The analysis `symbols`: the symbols that a module defines, and the definitions to which its references resolve
+/// (Symbols and Symbol Tables).
 ///
-/// It keeps of each operation what that has to do with symbols, by itself and by where it stands; a report resolves the
+/// It keeps the role of each operation, which depends on the operation and its position. A report resolves the
 /// references.
 #[derive(Drop)]
 pub struct Symbols {
     alloc: Global,
-    /// Which operations may define symbols.
+    /// The operations that may define symbols.
     definers: Definers,
     roles: Roles,
     stale: bool,
@@ -29,7 +29,7 @@ pub struct Symbols {
 impl Symbols {
     ghost use Rattle.listeners_symbols.specs.Listeners.{symbols_listener};
 
-    /// A listener that has not begun, and is stale. `definers` are the operations that may define symbols, for good.
+    /// Returns a listener that hasn't begun and is stale. `definers` are the operations that may define symbols.
     pub fn new(alloc: Global, definers: Definers) -> Symbols
         ensures stale { (symbols_listener result).stale ≡ true }
         ensures definers { result.definers ≡ definers }
@@ -53,7 +53,7 @@ impl Analysis for Symbols {
     }
 
     fn begin(&mut self, world: &World) -> Result<(), Memory> {
-        // What was kept goes first, so that there is room for what is kept now.
+        // The old table is dropped first, to free its memory.
         self.roles = Roles::new(self.alloc);
         self.stale = true;
         world.ctx.sound();
@@ -67,8 +67,8 @@ impl Analysis for Symbols {
         }
     }
 
-    /// It looks at the event's operation alone, at most twice and once for each operand; at one that was taken it
-    /// doesn't look.
+    /// The listener looks only at the event's operation, at most twice and once for each operand. It doesn't look at a
+    /// removed operation.
     fn told<'a>(&mut self, view: View<'a>, event: Event) -> View<'a> {
         if self.stale {
             return view;

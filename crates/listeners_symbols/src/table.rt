@@ -1,7 +1,7 @@
-//! The table of roles follows a module.
+//! Updates the table of roles.
 ghost use Rattle.std.specs.Prelude.{◌≡◌, ◌≤◌, ◌+◌, Some, true, option_map, OnOk, IfOk};
-ghost use Rattle.listeners_surroundings.specs.Nodes.{node_of};
-ghost use Rattle.listeners_surroundings.specs.Stored.{known};
+ghost use Rattle.listeners_support.specs.Nodes.{node_of};
+ghost use Rattle.listeners_support.specs.Stored.{known};
 ghost use Rattle.ir_event.specs.Bounds.{op_of, operand_count};
 ghost use Rattle.ir_event.specs.Listener.{is_take};
 ghost use Rattle.ir_event.specs.Modules.{module_in};
@@ -15,10 +15,10 @@ use ir_event::event::Event;
 use ir_event::types::ids::OpId;
 use ir_event::view::View;
 use ir_event::world::World;
-use listeners_surroundings::node::Node;
+use listeners_support::node::Node;
 use std::alloc::{AllocError, Global};
 
-/// Makes what is kept of an operation, which the view shows as this one, what it is in the module.
+/// Updates the role of an operation that the view shows as `node`.
 fn renew_by(
     alloc: Global,
     roles: &mut Roles,
@@ -38,7 +38,7 @@ fn renew_by(
     Ok(())
 }
 
-/// Makes what is kept of an operation what it is in the module that the view shows.
+/// Updates the role of an operation of the view's module.
 fn renew(alloc: Global, roles: &mut Roles, view: &mut View<'_>, op: OpId) -> Result<(), AllocError>
     ensures renewed { OnOk result
         (Renewed view.old.world.now.ctx (module_in view.old.world.now).tree op (kept_at roles.old)
@@ -52,7 +52,8 @@ fn renew(alloc: Global, roles: &mut Roles, view: &mut View<'_>, op: OpId) -> Res
     renew_by(alloc, roles, view, op, &node)
 }
 
-/// Follows an operand that became another value. It matters at a call alone, whose operands have types.
+/// Updates the table after an operand was set. Only a call can change, because a role has the types of a call's
+/// operands.
 fn follow_operand(
     alloc: Global,
     roles: &mut Roles,
@@ -74,7 +75,7 @@ fn follow_operand(
     }
 }
 
-/// Follows an event, which led to the module that the view shows. It looks at the event's operation alone.
+/// Updates the table after an event, given the view of the module after it. Looks only at the event's operation.
 pub fn follow(
     alloc: Global,
     roles: &mut Roles,
@@ -101,8 +102,7 @@ pub fn follow(
     }
 }
 
-/// Makes what is kept of operations what they are in the module that the view shows. Each stands behind the one that it
-/// stands in.
+/// Updates the roles of operations of the view's module, parents before their children.
 fn renew_all(
     alloc: Global,
     roles: &mut Roles,
@@ -118,7 +118,7 @@ fn renew_all(
     Ok(())
 }
 
-/// The roles of the operations of a module.
+/// Returns the roles of the operations of the module.
 pub fn tabulate(alloc: Global, world: &World) -> Result<Roles, AllocError>
     ensures { IfOk result (λ roles. Keeps world.now.ctx (module_in world.now).tree (kept_at roles)) }
 {

@@ -1,37 +1,36 @@
-//! The input of a run from files and commands that the command line names, its book of patterns, and its output to a
-//! file.
+//! Reads the files that the command line names: modules, scripts and user patterns.
 
-use mlir_work_front::input::{ReadFault, read_all};
-use mlir_work_front::options::Given;
-use mlir_work_inputs::inputs::{input_of, parts_of};
-use mlir_work_patterns::book::Book;
-use mlir_work_patterns::reading::{Unread, read_patterns};
+use mlir_work_cli::input::{ReadFault, read_all};
+use mlir_work_cli::inputs::{input_of, parts_of};
+use mlir_work_cli::options::CommandLine;
+use mlir_work_cli::reading::{PatternFileError, read_patterns};
+use mlir_work_cli::registry::PatternRegistry;
 use std::alloc::{AllocError, Global};
 use std::{fs, io};
 
-/// The name that stands for standard input and standard output.
+/// The file name for standard input or standard output.
 const STANDARD: &str = "-";
 
 /// Why there is no input.
 #[derive(Clone, Copy)]
 pub(crate) enum Fault<'a> {
-    /// There is no memory for it.
+    /// Memory ran out.
     Memory,
     /// The file can't be opened or read.
-    Unread(&'a str),
-    /// The file has more bytes than an input may have.
+    Unreadable(&'a str),
+    /// The file is longer than an input may be.
     TooLong(&'a str),
 }
 
-/// A file of patterns: its name, and its text.
+/// A file of user patterns: its name and its text.
 #[derive(Drop)]
 pub(crate) struct PatternFile<'a> {
     name: &'a str,
     text: Vec<u8>,
 }
 
-/// The file that the output goes to, where it isn't standard output.
-pub(crate) fn output_of<'a>(given: &Given<'a>) -> Option<&'a str> {
+/// Returns the output file, or `None` for standard output.
+pub(crate) fn output_of<'a>(given: &CommandLine<'a>) -> Option<&'a str> {
     match given.output {
         Some(name) => {
             if name == STANDARD {
@@ -43,12 +42,12 @@ pub(crate) fn output_of<'a>(given: &Given<'a>) -> Option<&'a str> {
     }
 }
 
-/// Whether the input comes from files or commands.
-pub(crate) fn names_any(given: &Given<'_>) -> bool {
+/// Returns whether the input comes from files or commands of the command line.
+pub(crate) fn names_any(given: &CommandLine<'_>) -> bool {
     given.split || given.module.is_some() || !given.scripts.is_empty() || !given.commands.is_empty()
 }
 
-/// The bytes of a file that was opened.
+/// Reads an open file to its end.
 fn read<'a, R: io::Read>(
     alloc: Global,
     reader: &mut R,
@@ -58,19 +57,19 @@ fn read<'a, R: io::Read>(
         Ok(bytes) => Ok(bytes),
         Err(ReadFault::Memory) => Err(Fault::Memory),
         Err(ReadFault::TooMany) => Err(Fault::TooLong(name)),
-        Err(ReadFault::Broken) => Err(Fault::Unread(name)),
+        Err(ReadFault::Broken) => Err(Fault::Unreadable(name)),
     }
 }
 
-/// The bytes of a file.
+/// Reads a file.
 fn text_of_file<'a>(rt: &HostRuntime, name: &'a str) -> Result<Vec<u8>, Fault<'a>> {
     match fs::open(rt, name) {
         Ok(mut file) => read(rt.alloc(), &mut file, name),
-        Err(_) => Err(Fault::Unread(name)),
+        Err(_) => Err(Fault::Unreadable(name)),
     }
 }
 
-/// The bytes of a file, or of standard input.
+/// Reads a file or standard input.
 fn text_of<'a>(rt: &HostRuntime, name: &'a str) -> Result<Vec<u8>, Fault<'a>> {
     if name == STANDARD {
         return read(rt.alloc(), &mut rt.stdin(), name);
@@ -78,8 +77,8 @@ fn text_of<'a>(rt: &HostRuntime, name: &'a str) -> Result<Vec<u8>, Fault<'a>> {
     text_of_file(rt, name)
 }
 
-/// Puts the scripts of files behind others.
-fn put_files<'a>(
+/// Reads script files and appends their texts to the scripts.
+fn write_files<'a>(
     rt: &HostRuntime,
     scripts: &mut Vec<Vec<u8>>,
     names: &[&'a str],
@@ -93,8 +92,8 @@ fn put_files<'a>(
     Ok(())
 }
 
-/// Puts commands behind scripts.
-fn put_commands<'a>(
+/// Appends the commands of the command line to the scripts.
+fn write_commands<'a>(
     alloc: Global,
     scripts: &mut Vec<Vec<u8>>,
     commands: &[&'a str],
@@ -110,16 +109,16 @@ fn put_commands<'a>(
     Ok(())
 }
 
-/// The scripts and commands that the command line names.
-fn scripts_of<'a>(rt: &HostRuntime, given: &Given<'a>) -> Result<Vec<Vec<u8>>, Fault<'a>> {
+/// Returns the scripts and commands that the command line names.
+fn scripts_of<'a>(rt: &HostRuntime, given: &CommandLine<'a>) -> Result<Vec<Vec<u8>>, Fault<'a>> {
     let mut scripts = Vec::new(rt.alloc());
-    put_files(rt, &mut scripts, &given.scripts)?;
-    put_commands(rt.alloc(), &mut scripts, &given.commands)?;
+    write_files(rt, &mut scripts, &given.scripts)?;
+    write_commands(rt.alloc(), &mut scripts, &given.commands)?;
     Ok(scripts)
 }
 
-/// The text of the module, or the texts of all modules where it is split.
-fn modules_of<'a>(rt: &HostRuntime, given: &Given<'a>) -> Result<Vec<Vec<u8>>, Fault<'a>> {
+/// Returns the text of the module, or the texts of all modules with `--split-input-file`.
+fn modules_of<'a>(rt: &HostRuntime, given: &CommandLine<'a>) -> Result<Vec<Vec<u8>>, Fault<'a>> {
     let text = text_of(rt, given.module.unwrap_or(STANDARD))?;
     let found = if given.split {
         parts_of(rt.alloc(), &text)
@@ -132,16 +131,19 @@ fn modules_of<'a>(rt: &HostRuntime, given: &Given<'a>) -> Result<Vec<Vec<u8>>, F
     }
 }
 
-/// One text alone.
+/// Returns a list of one text.
 fn one(alloc: Global, text: Vec<u8>) -> Result<Vec<Vec<u8>>, AllocError> {
     let mut texts = Vec::new(alloc);
     texts.push(text)?;
     Ok(texts)
 }
 
-/// The inputs of all that the command line names: one, or one for each module. Without the name of a module standard
-/// input has it.
-pub(crate) fn inputs<'a>(rt: &HostRuntime, given: &Given<'a>) -> Result<Vec<Vec<u8>>, Fault<'a>> {
+/// Returns the inputs that the command line names, one for each module. Without a module file the module comes from
+/// standard input.
+pub(crate) fn inputs<'a>(
+    rt: &HostRuntime,
+    given: &CommandLine<'a>,
+) -> Result<Vec<Vec<u8>>, Fault<'a>> {
     let modules = modules_of(rt, given)?;
     let scripts = scripts_of(rt, given)?;
     let mut inputs = Vec::new(rt.alloc());
@@ -156,10 +158,10 @@ pub(crate) fn inputs<'a>(rt: &HostRuntime, given: &Given<'a>) -> Result<Vec<Vec<
     Ok(inputs)
 }
 
-/// The files of patterns that the command line names, in their order; `-` is no standard input here.
+/// Reads the files of user patterns that the command line names, in order. Here `-` isn't standard input.
 pub(crate) fn pattern_files<'a>(
     rt: &HostRuntime,
-    given: &Given<'a>,
+    given: &CommandLine<'a>,
 ) -> Result<Vec<PatternFile<'a>>, Fault<'a>> {
     let mut files = Vec::new(rt.alloc());
     for name in &given.patterns {
@@ -171,24 +173,28 @@ pub(crate) fn pattern_files<'a>(
     Ok(files)
 }
 
-/// The book of the patterns of files, or the name of a file with a line that isn't read, and that line.
-pub(crate) fn book_of<'a>(
+/// Returns the registry of the patterns of these files. If a line is refused, returns the file's name and the line's
+/// error.
+pub(crate) fn registry_from_files<'a>(
     alloc: Global,
     files: &[PatternFile<'a>],
-) -> Result<Book, (&'a str, Unread)> {
-    let mut book = Book::new(alloc);
+) -> Result<PatternRegistry, (&'a str, PatternFileError)> {
+    let mut registry = PatternRegistry::new(alloc);
     for file in files {
-        if let Err(unread) = read_patterns(alloc, &mut book, &file.text) {
-            return Err((file.name, unread));
+        if let Err(unparsed) = read_patterns(alloc, &mut registry, &file.text) {
+            return Err((file.name, unparsed));
         }
     }
-    Ok(book)
+    Ok(registry)
 }
 
-/// The book of the patterns of files that were read before, so that nothing but memory can be wanting.
-pub(crate) fn book_anew(alloc: Global, files: &[PatternFile<'_>]) -> Result<Book, AllocError> {
-    match book_of(alloc, files) {
-        Ok(book) => Ok(book),
+/// Builds the registry again from pattern files that were accepted before. The call can fail only if memory runs out.
+pub(crate) fn rebuild_registry(
+    alloc: Global,
+    files: &[PatternFile<'_>],
+) -> Result<PatternRegistry, AllocError> {
+    match registry_from_files(alloc, files) {
+        Ok(registry) => Ok(registry),
         Err(_) => Err(AllocError),
     }
 }

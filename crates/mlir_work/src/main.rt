@@ -1,43 +1,44 @@
-//! Runs a script over a module: `mlir_work [OPTIONS] [MODULE]`.
+//! The program: runs a script on a module. `mlir_work [OPTIONS] [MODULE]`.
 #![tactic(auto)]
 
 mod files;
 
 use crate::files::{
-    Fault, PatternFile, book_anew, book_of, inputs, names_any, output_of, pattern_files,
+    Fault, PatternFile, inputs, names_any, output_of, pattern_files, rebuild_registry,
+    registry_from_files,
 };
 use clap::Error;
 use clap::error::ErrorKind;
-use mlir_work_front::dry::Bytes;
-use mlir_work_front::json::run_as_json;
-use mlir_work_front::live::run_live;
-use mlir_work_front::options::{Format, Given, options_of};
-use mlir_work_front::run::{Options, run_watched};
-use mlir_work_front::sink::Sink;
-use mlir_work_front::source::Source;
-use mlir_work_front::watched::Watched;
-use mlir_work_front::writing::put;
-use mlir_work_listeners::seven::all_listeners;
-use mlir_work_patterns::error::PatternError;
-use mlir_work_patterns::reading::Unread;
+use mlir_work_analyses::any_analysis::all_listeners;
+use mlir_work_cli::dry_run::Bytes;
+use mlir_work_cli::error::PatternError;
+use mlir_work_cli::json::run_as_json;
+use mlir_work_cli::live::run_live;
+use mlir_work_cli::options::{CommandLine, Format, options_of};
+use mlir_work_cli::reading::PatternFileError;
+use mlir_work_cli::run::{Options, run_watched};
+use mlir_work_cli::sink::Sink;
+use mlir_work_cli::source::Source;
+use mlir_work_cli::watched::Watched;
+use mlir_work_cli::writing::write;
 use std::alloc::{AllocError, Global};
 use std::io::BufWriter;
 use std::process::ExitCode;
 use std::random::RandomSource;
 use std::{env, fs, io};
 
-/// Says that there is no memory to begin a run, and gives the status.
+/// Prints that there is no memory to begin a run. Returns the status.
 fn no_memory(rt: &HostRuntime) -> u8 {
     let _ = rt.eprintln("no memory");
     2
 }
 
-/// The words of the command line. One that is not UTF-8 is an error.
+/// Returns the words of the command line, or an error if one isn't UTF-8.
 fn words_of(rt: &HostRuntime) -> io::Result<Vec<String>> {
     Ok(env::args(rt)?.collect(rt.alloc())?)
 }
 
-/// Says why there are no words, and gives the status.
+/// Prints why the command line can't be read. Returns the status.
 fn refuse_words(rt: &HostRuntime, error: &io::Error) -> u8 {
     if error.kind() == io::ErrorKind::OutOfMemory {
         return no_memory(rt);
@@ -46,7 +47,8 @@ fn refuse_words(rt: &HostRuntime, error: &io::Error) -> u8 {
     2
 }
 
-/// A key that nobody who writes a text knows, or 0 where there is none to be had.
+/// Returns a random key for hashing names, or 0 if there is no source of randomness. A secret key keeps an attacker
+/// from choosing names that collide.
 fn key_of<R: RandomSource>(rt: &R) -> u64 {
     let mut bytes = [0u8; 8];
     match rt.fill_bytes(&mut bytes) {
@@ -55,7 +57,7 @@ fn key_of<R: RandomSource>(rt: &R) -> u64 {
     }
 }
 
-/// Prints the help or the version that was asked for, or what is wrong with the command line, and gives the status.
+/// Prints the requested help or version, or the error in the command line. Returns the status.
 fn answer_words(rt: &HostRuntime, error: &Error) -> u8 {
     if error.kind() == ErrorKind::OutOfMemory {
         return no_memory(rt);
@@ -67,11 +69,11 @@ fn answer_words(rt: &HostRuntime, error: &Error) -> u8 {
     if printed.is_ok() { 0 } else { 4 }
 }
 
-/// Says why there is no input, and gives the status.
+/// Prints why there is no input. Returns the status.
 fn refuse_input(rt: &HostRuntime, fault: &Fault<'_>) -> u8 {
     match fault {
         Fault::Memory => return no_memory(rt),
-        Fault::Unread(name) => {
+        Fault::Unreadable(name) => {
             let _ = eprintln!(rt; "error: {name}: it can't be read");
         }
         Fault::TooLong(name) => {
@@ -81,37 +83,37 @@ fn refuse_input(rt: &HostRuntime, fault: &Fault<'_>) -> u8 {
     2
 }
 
-/// Says why a line of a file of patterns isn't read, and gives the status.
-fn refuse_pattern(rt: &HostRuntime, name: &str, unread: &Unread) -> u8 {
-    let PatternError::Refused(fault) = unread.error else {
+/// Prints why a line of a pattern file was refused. Returns the status.
+fn refuse_pattern(rt: &HostRuntime, name: &str, unparsed: &PatternFileError) -> u8 {
+    let PatternError::Refused(fault) = unparsed.error else {
         return no_memory(rt);
     };
     let refusal = fault.refusal.refusal();
-    let (line, at) = (unread.line, unread.at);
+    let (line, at) = (unparsed.line, unparsed.at);
     let (number, word) = (refusal.number(), refusal.word());
     let _ = eprintln!(rt; "error: {name}: line {line}: refused {number} {word} at {at}");
     2
 }
 
-/// Runs what a reader has, with the analyses of the program, in the order of their kinds, and patterns of one's own,
-/// and gives the status.
+/// Runs the input of a reader with the program's analyses, in the order of their kinds, and user patterns. Returns
+/// the status.
 fn run_one<R: Source, W: Sink>(
     rt: &HostRuntime,
-    given: &Given<'_>,
+    given: &CommandLine<'_>,
     patterns: &[PatternFile<'_>],
     reader: &mut R,
     writer: &mut W,
 ) -> Result<u8, AllocError> {
     let boxes = all_listeners(rt.alloc(), given.options.opaque)?;
-    let book = book_anew(rt.alloc(), patterns)?;
+    let registry = rebuild_registry(rt.alloc(), patterns)?;
     let (alloc, key, options) = (rt.alloc(), key_of(rt), given.options);
     match given.format {
-        Format::Text => Ok(run_watched(alloc, key, options, reader, writer, boxes, book)),
-        Format::Json => run_as_json(alloc, key, options, reader, writer, boxes, book),
+        Format::Text => Ok(run_watched(alloc, key, options, reader, writer, boxes, registry)),
+        Format::Json => run_as_json(alloc, key, options, reader, writer, boxes, registry),
     }
 }
 
-/// A writer of which it is known whether it failed.
+/// Returns a writer that records whether a write failed.
 fn watched<W: io::Write + Drop>(
     alloc: Global,
     writer: W,
@@ -122,10 +124,10 @@ fn watched<W: io::Write + Drop>(
     }
 }
 
-/// Runs standard input, and gives the status.
+/// Runs standard input. Returns the status.
 fn run_standard(
     rt: &HostRuntime,
-    given: &Given<'_>,
+    given: &CommandLine<'_>,
     patterns: &[PatternFile<'_>],
 ) -> Result<u8, AllocError> {
     let mut reader = Watched::new(rt.stdin());
@@ -133,20 +135,20 @@ fn run_standard(
     run_one(rt, given, patterns, &mut reader, &mut writer)
 }
 
-/// Writes what stands between the outputs of two modules: the divider, or its object.
-fn put_divider<W: Sink>(given: &Given<'_>, writer: &mut W) -> bool {
+/// Writes the separator between the outputs of two modules: the divider, or its JSON object.
+fn put_divider<W: Sink>(given: &CommandLine<'_>, writer: &mut W) -> bool {
     let line: &[u8] = match given.format {
         Format::Text => b"// -----\n",
         Format::Json => b"{\"divider\":true}\n",
     };
-    put(writer, line).is_ok()
+    write(writer, line).is_ok()
 }
 
-/// Runs inputs, one behind the other, each with a book of its own, and gives the greatest status. It ends where a write
+/// Runs inputs one after another, each with a new pattern registry. Returns the largest status. Stops if a write
 /// fails.
 fn run_inputs<W: io::Write + Drop>(
     rt: &HostRuntime,
-    given: &Given<'_>,
+    given: &CommandLine<'_>,
     patterns: &[PatternFile<'_>],
     inputs: &[Vec<u8>],
     writer: W,
@@ -173,10 +175,10 @@ fn run_inputs<W: io::Write + Drop>(
     Ok(worst)
 }
 
-/// Runs what the command line names, and gives the status.
+/// Runs the input that the command line names. Returns the status.
 fn run_named(
     rt: &HostRuntime,
-    given: &Given<'_>,
+    given: &CommandLine<'_>,
     patterns: &[PatternFile<'_>],
 ) -> Result<u8, AllocError> {
     let inputs = match inputs(rt, given) {
@@ -195,15 +197,15 @@ fn run_named(
     }
 }
 
-/// Answers each line of standard input as soon as it is there, with the analyses of the program, in the order of their
-/// kinds, and patterns of one's own, and gives the status.
+/// Answers each line of standard input at once, with the program's analyses, in the order of their kinds, and user
+/// patterns. Returns the status.
 fn answer_lines(
     rt: &HostRuntime,
     options: Options,
     patterns: &[PatternFile<'_>],
 ) -> Result<u8, AllocError> {
     let listeners = all_listeners(rt.alloc(), options.opaque)?;
-    let book = book_anew(rt.alloc(), patterns)?;
+    let registry = rebuild_registry(rt.alloc(), patterns)?;
     let Ok(writer) = BufWriter::new(rt.alloc(), io::writer(rt)) else {
         return Err(AllocError);
     };
@@ -217,14 +219,14 @@ fn answer_lines(
         &mut reader,
         &mut writer,
         listeners,
-        book,
+        registry,
     ))
 }
 
-/// Runs what the command line says, with patterns that it names, and gives the status.
+/// Runs as the command line says, with the user patterns that it names. Returns the status.
 fn run_with(
     rt: &HostRuntime,
-    given: &Given<'_>,
+    given: &CommandLine<'_>,
     patterns: &[PatternFile<'_>],
 ) -> Result<u8, AllocError> {
     if names_any(given) || output_of(given).is_some() {
@@ -236,15 +238,15 @@ fn run_with(
     run_standard(rt, given, patterns)
 }
 
-/// Runs what the command line says, and gives the status. Nothing is run where a pattern that it names is refused.
-fn run_given(rt: &HostRuntime, given: &Given<'_>) -> Result<u8, AllocError> {
+/// Runs as the command line says. Returns the status. Nothing runs if one of the named patterns is refused.
+fn run_given(rt: &HostRuntime, given: &CommandLine<'_>) -> Result<u8, AllocError> {
     let patterns = match pattern_files(rt, given) {
         Ok(patterns) => patterns,
         Err(fault) => return Ok(refuse_input(rt, &fault)),
     };
-    match book_of(rt.alloc(), &patterns) {
+    match registry_from_files(rt.alloc(), &patterns) {
         Ok(_) => run_with(rt, given, &patterns),
-        Err((name, unread)) => Ok(refuse_pattern(rt, name, &unread)),
+        Err((name, unparsed)) => Ok(refuse_pattern(rt, name, &unparsed)),
     }
 }
 

@@ -1,4 +1,4 @@
--- The machine values of a place for a box.
+-- The machine values of a handle slot.
 use Rattle.std.proofs.Common.{◌≡◌, List, [], ◌∷◌, ◌++◌, refl, ap, ◌∙◌, arith}
 use Rattle.std.specs.Prelude.{Option, Some, None}
 use seplogic.Ra.Ura.{Ura}
@@ -14,8 +14,8 @@ use denote.Struct.Struct.{within}
 use denote.Struct.Owning.{shape}
 use Rattle.std.proofs.cell.Inside.{Good}
 use Rattle.mlir_work_c.specs.Slots.{slot_owns, heap_token, IsFull}
-use Rattle.mlir_work_held.specs.contracts.session.Session as held
-use Rattle.mlir_work_c.specs.contracts.slot.Slot as slot
+use Rattle.mlir_work_c.specs.contracts.session.Session as held
+use Rattle.mlir_work_c.specs.contracts.handle_slot.HandleSlot as slot
 
 abbrev pub slot_val : Ptr → Val
 slot_val p = vstruct (vcons (ptr_val p) vnil)
@@ -37,7 +37,7 @@ module _ {M : Type 1} {𝓤 : Ura M} {𝓛 : Logic 𝓤} {K : Type 0} {Γ : List
       nothing t $ feq_i t (List Val) (ptr_val p ∷ []) (ptr_val p ∷ []) refl $ fjoin t $ feq_i t (List Val) (v ∷ []) (v ∷ []) refl $ fjoin t $
       fpack t (Valss (RawPtr ∷ [])) (within (shape slot.the_type) (p, tt) (v ∷ [])) (ptr_val p ∷ [], tt) $ fjoin t $ s)
 
--- a full place has a value in it
+-- a full slot has a value
 pub full_is : {X : Type 0} → (y : Option X) → IsFull y → (x : X) × (y ≡ Some x)
 full_is None full = absurd full
 full_is (Some x) full = (x, refl)

@@ -1,4 +1,4 @@
--- What is asked of a handle by numbers.
+-- Queries on a handle by number.
 use Rattle.std.specs.Prelude.{◌≡◌, ℕ, List, [], Bool, true, false, Option, Some, None}
 use Rattle.ir_event.specs.trees.Tree.{head}
 use Rattle.ir_event.specs.trees.Ids.{has_id}
@@ -7,8 +7,8 @@ use Rattle.ir_event.specs.trees.declared.value.Value.{Value}
 use Rattle.ir_event.specs.store.Using.{is_use}
 use Rattle.ir_event.specs.tree_laws.Reads.{first_at, last_at, next_of, parent_of, prev_of}
 use Rattle.ir_event.specs.tree_laws.Changes.{operand_at}
-use Rattle.mlir_work_held.specs.Queries.{tree_of}
-use Rattle.mlir_work_held.specs.declared.session.Session.{Session}
+use Rattle.mlir_work_c.specs.Queries.{tree_of}
+use Rattle.mlir_work_c.specs.declared.session.Session.{Session}
 use Rattle.mlir_work_c.specs.Numbers.{numbers_of}
 use Rattle.mlir_work_c.specs.declared.numbers.UseNumbers.{UseNumbers}
 use Rattle.mlir_work_c.specs.declared.numbers.ValueNumbers.{ValueNumbers}
@@ -37,27 +37,27 @@ last_in op region s = last_at op region (tree_of s)
 abbrev pub operand_in : ℕ → ℕ → Session → Option Value
 operand_in op place s = operand_at op place (tree_of s)
 
--- whether it is so of the session that is held; of a closed handle nothing is
+-- whether the handle's session satisfies a test; a closed handle doesn't
 abbrev pub is_asked : (Session → Bool) → Option Session → Bool
 is_asked look None = false
 is_asked look (Some s) = look s
 
--- what the session that is held has; a closed handle has nothing
+-- the result of a query on the handle's session; a closed handle has none
 abbrev pub asked : {A : Type 0} → (Session → Option A) → Option Session → Option A
 asked look None = None
 asked look (Some s) = look s
 
--- whether there is a value, and its numbers; where there is none, they are as they were
+-- whether there is a value, and its struct; without a value the struct doesn't change
 abbrev pub Told : Option Value → ValueNumbers → ValueNumbers → Bool → Type 0
 Told None old new found = (found ≡ false) × (new ≡ old)
 Told (Some value) old new found = (found ≡ true) × (new ≡ numbers_of value)
 
--- the uses of a value of the session that is held; a closed handle has none
+-- the uses of a value in the handle's session; a closed handle has none
 abbrev pub uses_in : Value → Option Session → List (ℕ × ℕ)
 uses_in value None = []
 uses_in value (Some s) = uses_of value (tree_of s)
 
--- one of these uses, if there is one; where there is none, the numbers are as they were
+-- one of these uses, if there is one; without a use the struct doesn't change
 abbrev pub ToldUse : List (ℕ × ℕ) → UseNumbers → UseNumbers → Bool → Type 0
 ToldUse uses old new true = is_use new.operation new.operand uses ≡ true
 ToldUse uses old new false = (uses ≡ []) × (new ≡ old)

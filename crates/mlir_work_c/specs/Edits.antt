@@ -1,23 +1,23 @@
--- What edits by numbers make of a handle.
+-- The effect of edits by number on a handle.
 use Rattle.std.specs.Prelude.{◌≡◌, ℕ, [], Option, Some, None}
 use Rattle.ir_event.specs.types.declared.refusal.Refusal.TheVariants.{BadCommand}
-use Rattle.rewriter.specs.Spots.{Spot}
+use Rattle.rewriter.specs.Points.{Point}
 use Rattle.rewriter.specs.Commands.{Command, Move}
 use Rattle.mlir_work_script.specs.Commands.{Obey}
-use Rattle.mlir_work_held.specs.Answers.{refused}
-use Rattle.mlir_work_held.specs.Stepped.{Answered, way}
-use Rattle.mlir_work_held.specs.declared.answer.Answer.{Answer}
-use Rattle.mlir_work_held.specs.declared.session.Session.{Session}
+use Rattle.mlir_work_c.specs.Answers.{refused}
+use Rattle.mlir_work_c.specs.Stepped.{Answered, setting}
+use Rattle.mlir_work_c.specs.declared.answer.Answer.{Answer}
+use Rattle.mlir_work_c.specs.declared.session.Session.{Session}
 use Rattle.mlir_work_c.specs.Calls.{Goes}
 
--- a command goes as the machine has it, with no byte handed in
+-- a command has the effect that the machine gives it; it has no input bytes
 abbrev pub EditGoes : Option Session → Command → Answer → Option Session → Type 0
-EditGoes old command a new = Goes (λ s b t. Answered (way s []) s (Obey command) b t) old a new
+EditGoes old command a new = Goes (λ s b t. Answered (setting s []) s (Obey command) b t) old a new
 
--- an operation is moved to a place; to none it isn't, and all stays
-abbrev pub Moves : ℕ → Option Spot → Session → Answer → Session → Type 0
+-- an operation is moved to an insertion point; an unknown insertion point changes nothing
+abbrev pub Moves : ℕ → Option Point → Session → Answer → Session → Type 0
 Moves op None s a t = (a ≡ refused BadCommand) × (t ≡ s)
-Moves op (Some spot) s a t = Answered (way s []) s (Obey (Move op spot)) a t
+Moves op (Some point) s a t = Answered (setting s []) s (Obey (Move op point)) a t
 
-abbrev pub MoveGoes : Option Session → ℕ → Option Spot → Answer → Option Session → Type 0
-MoveGoes old op spot a new = Goes (λ s b t. Moves op spot s b t) old a new
+abbrev pub MoveGoes : Option Session → ℕ → Option Point → Answer → Option Session → Type 0
+MoveGoes old op point a new = Goes (λ s b t. Moves op point s b t) old a new

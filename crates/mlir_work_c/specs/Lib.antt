@@ -3,3 +3,8 @@ pub mod Calls
 pub mod Numbers
 pub mod Edits
 pub mod Asked
+pub mod Answers
+pub mod Stepped
+pub mod Opened
+pub mod Queries
+pub mod Talks

@@ -1,20 +1,20 @@
-//! What C calls.
+//! The C functions for sessions and script lines.
 ghost use Rattle.std.specs.Prelude.{◌≡◌, ◌++◌, IfErr, IfOk, None, Some, false, take, true, drop};
 ghost use Rattle.std.specs.Option.{MatchOption};
-ghost use Rattle.rewriter.specs.Benched.{IsKept};
-ghost use Rattle.mlir_work_listeners.specs.Listeners.{seven_listener};
-ghost use Rattle.mlir_work_held.specs.Answers.{closed as no_session};
-ghost use Rattle.mlir_work_held.specs.Opened.{Opened, WhyNotOpened};
+ghost use Rattle.rewriter.specs.RewriterCalls.{AgreesOrStale};
+ghost use Rattle.mlir_work_analyses.specs.Listeners.{any_analysis};
+ghost use Rattle.mlir_work_c.specs.Answers.{closed as no_session};
+ghost use Rattle.mlir_work_c.specs.Opened.{Opened, WhyNotOpened};
 ghost use Rattle.mlir_work_c.specs.Calls.{CommandGoes, IsHeld, OpenGoes, ShownOf};
 
+use crate::answer::{Answer, closed, open_failed, opened};
 use crate::handle::Handle;
+use crate::open::{OpenError, open};
+use crate::session::{Session, read_shown, send_line};
 use ir_event::types::refusal::Refusal;
-use mlir_work_held::answer::{Answer, closed, opened, unopened};
-use mlir_work_held::opening::{Unopened, open};
-use mlir_work_held::session::{Session, read_shown, say};
 use std::alloc::Global;
 
-/// The version of these calls. It counts up where a signature or the meaning of a number changes.
+/// Returns the version of the C interface. It increases when a signature or the meaning of a number changes.
 #[unsafe(no_mangle)]
 pub extern "C" fn mlir_work_version() -> u32
     ensures { result ≡ 1 }
@@ -22,24 +22,24 @@ pub extern "C" fn mlir_work_version() -> u32
     1
 }
 
-/// A session over the text of a module, in a box, or why there is none.
+/// Opens a session on the text of a module. Returns it boxed, or the reason why it can't be opened.
 fn open_box(
     alloc: Global,
     key: u64,
     limit: u32,
     opaque: bool,
     text: &[u8],
-) -> Result<Box<Session>, Unopened>
+) -> Result<Box<Session>, OpenError>
     ensures opened { IfOk result (λ b. Opened opaque text.now limit b.value) }
-    ensures kept { IfOk result (λ b. IsKept seven_listener b.value.bench) }
-    ensures unopened { IfErr result (λ e. WhyNotOpened opaque text.now e.refusal e.offset) }
+    ensures kept { IfOk result (λ b. AgreesOrStale any_analysis b.value.bench) }
+    ensures not_opened { IfErr result (λ e. WhyNotOpened opaque text.now e.refusal e.offset) }
 {
     let session = match open(alloc, key, limit, opaque, text) {
         Ok(session) => session,
         Err(why) => return Err(why),
     };
     let Ok(session) = Box::new(alloc, session) else {
-        return Err(Unopened {
+        return Err(OpenError {
             refusal: Refusal::Memory,
             offset: None,
         });
@@ -47,7 +47,7 @@ fn open_box(
     Ok(session)
 }
 
-/// Opens a session over the text of a module. What the handle held is given up first.
+/// Opens a session on the text of a module and stores it in the handle. First closes the handle's old session.
 fn open_into(
     alloc: Global,
     held: &mut Handle,
@@ -64,16 +64,16 @@ fn open_into(
     let old = held.take(alloc);
     drop(old);
     match open_box(alloc, key, limit, opaque, text) {
-        Err(why) => *answer = unopened(why.refusal, why.offset),
+        Err(why) => *answer = open_failed(why.refusal, why.offset),
         Ok(session) => {
-            held.put(session);
+            held.open_with(session);
             *answer = opened();
         }
     }
 }
 
-/// Opens a session over the text of a module, whose types and attributes are known ones. What the handle held is given
-/// up first.
+/// Opens a session on the text of a module, with registered types and attributes only. First closes the handle's old
+/// session.
 #[unsafe(no_mangle)]
 pub extern "C" fn mlir_work_open(
     alloc: Global,
@@ -90,8 +90,8 @@ pub extern "C" fn mlir_work_open(
     open_into(alloc, held, text, key, limit, false, answer);
 }
 
-/// Opens a session over the text of a module; types and attributes that aren't known are read as opaque ones, in it and
-/// in each line. What the handle held is given up first.
+/// Opens a session on the text of a module. Unregistered types and attributes are accepted as opaque ones, in the
+/// module and in each line. First closes the handle's old session.
 #[unsafe(no_mangle)]
 pub extern "C" fn mlir_work_open_opaque(
     alloc: Global,
@@ -108,7 +108,7 @@ pub extern "C" fn mlir_work_open_opaque(
     open_into(alloc, held, text, key, limit, true, answer);
 }
 
-/// Says a line to the session that the handle holds.
+/// Runs a script line in the handle's session.
 #[unsafe(no_mangle)]
 pub extern "C" fn mlir_work_command(
     alloc: Global,
@@ -124,11 +124,11 @@ pub extern "C" fn mlir_work_command(
         *answer = closed();
         return;
     };
-    *answer = say(alloc, &mut found, line);
-    held.put(found);
+    *answer = send_line(alloc, &mut found, line);
+    held.open_with(found);
 }
 
-/// Copies what the last line showed, from a byte on, and says how many bytes were copied.
+/// Copies the bytes that the last line showed, starting at `from`, and returns the number of copied bytes.
 #[unsafe(no_mangle)]
 pub extern "C" fn mlir_work_read(
     alloc: Global,
@@ -144,11 +144,11 @@ pub extern "C" fn mlir_work_read(
         return 0;
     };
     let count = read_shown(&found, from, into);
-    held.put(found);
+    held.open_with(found);
     count
 }
 
-/// Closes the handle, also one that is closed.
+/// Closes the handle. A closed handle stays closed.
 #[unsafe(no_mangle)]
 pub extern "C" fn mlir_work_close(alloc: Global, held: &mut Handle)
     requires kept { IsHeld held.old.slot.value }

@@ -1,19 +1,19 @@
-//! Edits by numbers, which C calls: each does what the command of its name does.
+//! The C functions for edits by number. Each makes the edit of the command of the same name.
 ghost use Rattle.std.specs.Prelude.{◌≡◌, None, Some};
 ghost use Rattle.rewriter.specs.Commands.{Erase, Replace, SetOperand};
 ghost use Rattle.mlir_work_c.specs.Calls.{IsHeld};
 ghost use Rattle.mlir_work_c.specs.Edits.{EditGoes, MoveGoes};
-ghost use Rattle.mlir_work_c.specs.Numbers.{spot_of_numbers, value_of as told_value};
+ghost use Rattle.mlir_work_c.specs.Numbers.{point_of_numbers, value_of as told_value};
 
+use crate::answer::{Answer, closed, refused};
+use crate::edits;
 use crate::handle::Handle;
-use crate::numbers::{SpotNumbers, ValueNumbers, spot_of, value_of};
+use crate::numbers::{InsertionPointNumbers, ValueNumbers, point_of, value_of};
 use ir_event::types::ids::OpId;
 use ir_event::types::refusal::Refusal;
-use mlir_work_held::answer::{Answer, closed, refused};
-use mlir_work_held::edits;
 use std::alloc::Global;
 
-/// `set-operand`: a value becomes an operand of an operation, by its place.
+/// `set-operand`: sets an operand of an operation.
 #[unsafe(no_mangle)]
 pub extern "C" fn mlir_work_set_operand(
     alloc: Global,
@@ -33,10 +33,10 @@ pub extern "C" fn mlir_work_set_operand(
     };
     let op = OpId::new(operation);
     *answer = edits::set_operand(alloc, &mut found, op, operand, value_of(value));
-    held.put(found);
+    held.open_with(found);
 }
 
-/// `replace`: one value is used in place of another, everywhere.
+/// `replace`: replaces all uses of `old` by `new`.
 #[unsafe(no_mangle)]
 pub extern "C" fn mlir_work_replace(
     alloc: Global,
@@ -54,10 +54,10 @@ pub extern "C" fn mlir_work_replace(
         return;
     };
     *answer = edits::replace(alloc, &mut found, value_of(old), value_of(new));
-    held.put(found);
+    held.open_with(found);
 }
 
-/// `erase`: an operation is taken away, with what is inside it.
+/// `erase`: erases an operation and everything inside it.
 #[unsafe(no_mangle)]
 pub extern "C" fn mlir_work_erase(
     alloc: Global,
@@ -74,31 +74,32 @@ pub extern "C" fn mlir_work_erase(
         return;
     };
     *answer = edits::erase(alloc, &mut found, OpId::new(operation));
-    held.put(found);
+    held.open_with(found);
 }
 
-/// `move`: an operation is moved, with what is inside it. A place of no kind is refused as a bad command.
+/// `move`: moves an operation and everything inside it. An insertion point of unknown kind is refused as a bad
+/// command.
 #[unsafe(no_mangle)]
 pub extern "C" fn mlir_work_move(
     alloc: Global,
     held: &mut Handle,
     operation: u32,
-    spot: &SpotNumbers,
+    point: &InsertionPointNumbers,
     answer: &mut Answer,
 )
     requires kept { IsHeld held.old.slot.value }
-    ensures goes { MoveGoes held.old.slot.value operation (spot_of_numbers spot.now) answer.new held.new.slot.value }
+    ensures goes { MoveGoes held.old.slot.value operation (point_of_numbers point.now) answer.new held.new.slot.value }
     ensures kept { IsHeld held.new.slot.value }
 {
     let Some(mut found) = held.take(alloc) else {
         *answer = closed();
         return;
     };
-    let Some(spot) = spot_of(spot) else {
-        held.put(found);
+    let Some(point) = point_of(point) else {
+        held.open_with(found);
         *answer = refused(Refusal::BadCommand);
         return;
     };
-    *answer = edits::move_op(alloc, &mut found, OpId::new(operation), spot);
-    held.put(found);
+    *answer = edits::move_op(alloc, &mut found, OpId::new(operation), point);
+    held.open_with(found);
 }

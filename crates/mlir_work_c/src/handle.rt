@@ -1,49 +1,50 @@
-//! What C keeps.
+//! The handle that C stores.
 ghost use Rattle.std.specs.Prelude.{◌≡◌, Option, None, Some, IfSome, is_some};
 ghost use Rattle.std.specs.Option.{MatchOption};
-ghost use Rattle.rewriter.specs.Benched.{IsKept};
-ghost use Rattle.mlir_work_listeners.specs.Listeners.{seven_listener};
+ghost use Rattle.rewriter.specs.RewriterCalls.{AgreesOrStale};
+ghost use Rattle.mlir_work_analyses.specs.Listeners.{any_analysis};
 ghost use Rattle.mlir_work_c.specs.Calls.{IsHeld, is_open, open_word};
-ghost use Rattle.mlir_work_held.specs.declared.session.Session.{Session};
+ghost use Rattle.mlir_work_c.specs.declared.session.Session.{Session};
 
-use crate::slot::Slot;
-use mlir_work_held::session::Session;
+use crate::handle_slot::HandleSlot;
+use crate::session::Session;
 use std::alloc::Global;
 use std::mem;
 
-/// The word of a handle that holds a session: the bytes `mlirwrk1`, whose last is the version of the calls.
+/// Returns the word of a handle that holds a session: the bytes `mlirwrk1`, whose last byte is the version of the
+/// interface.
 fn open_word() -> u64
     ensures { result ≡ open_word }
 {
     0x316b_7277_7269_6c6d
 }
 
-/// What C keeps: closed, or with a session. Only with the one word it holds a session; with whatever else stands in its
-/// place it is closed, also where no call wrote it.
+/// The handle that C stores: closed, or with a session. It holds a session only if its word is `open_word`. With any
+/// other word it is closed, even if no call wrote that word.
 #[repr(C)]
 pub struct Handle {
-    slot: Slot,
+    slot: HandleSlot,
     word: u64,
     ghost told: { is_open word ≡ is_some slot.value },
 }
 
 impl Handle {
-    /// A closed one.
+    /// Returns a closed handle.
     pub fn closed() -> Handle
         ensures { result.slot.value ≡ None }
     {
         Handle {
-            slot: Slot::empty(),
+            slot: HandleSlot::empty(),
             word: 0,
         }
     }
 
-    /// What it holds is taken out, and it is closed.
+    /// Takes the session out and closes the handle. Returns `None` if the handle was closed.
     pub fn take(&mut self, alloc: Global) -> Option<Box<Session>>
         requires { IsHeld self.old.slot.value }
         ensures closed { self.new.slot.value ≡ None }
         ensures taken { MatchOption result (self.old.slot.value ≡ None) (λ b. self.old.slot.value ≡ Some b.value) }
-        ensures kept { IfSome result (λ b. IsKept seven_listener b.value.bench) }
+        ensures kept { IfSome result (λ b. AgreesOrStale any_analysis b.value.bench) }
     {
         let Handle { slot, word } = mem::replace(self, Handle::closed());
         if word == open_word() {
@@ -53,17 +54,17 @@ impl Handle {
         None
     }
 
-    /// A closed one is given a session.
-    pub fn put(&mut self, held: Box<Session>)
+    /// Stores a session in a closed handle.
+    pub fn open_with(&mut self, held: Box<Session>)
         requires closed { self.old.slot.value ≡ None }
-        requires kept { IsKept seven_listener held.value.bench }
+        requires kept { AgreesOrStale any_analysis held.value.bench }
         ensures held { self.new.slot.value ≡ Some held.value }
         ensures kept { IsHeld self.new.slot.value }
     {
         let Handle { slot, word: _ } = mem::replace(
             self,
             Handle {
-                slot: Slot::holding(held),
+                slot: HandleSlot::holding(held),
                 word: open_word(),
             },
         );

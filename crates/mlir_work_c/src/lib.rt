@@ -1,10 +1,24 @@
-//! The workbench as a library that C calls: a session by a handle, one line at a time, and what needs no text by numbers.
-//! `c/mlir_work.h` has the calls, and what whoever makes them must keep.
+//! The C interface: sessions on a module, script lines, edits and queries by number. `bindings/c/mlir_work.h` declares the
+//! functions and the duties of their callers.
+//!
+//! - `session` runs one script line at a time in a session that lives between calls: a module, its marks, its seven
+//!   analyses and its pattern registry. Each line has the effect that it has in a script.
+//! - `open` opens a session, `edits` and `session_queries` edit and inspect its module without texts, and `answer`
+//!   has the numbers of an answer.
+//! - `calls`, `editing` and `queries` are the C functions. `handle`, `handle_slot` and `raw_box` store a session
+//!   in a C struct.
 #![tactic(auto)]
 
-pub mod asking;
+pub mod answer;
 pub mod calls;
 pub mod editing;
+pub mod edits;
 mod handle;
+mod handle_slot;
+pub mod laws;
 mod numbers;
-mod slot;
+pub mod open;
+pub mod queries;
+pub mod raw_box;
+pub mod session;
+pub mod session_queries;

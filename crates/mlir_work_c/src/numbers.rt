@@ -1,15 +1,15 @@
-//! Values and places as C writes them, in numbers.
+//! Values and insertion points as C structs.
 ghost use Rattle.std.specs.Prelude.{◌≡◌};
 ghost use Rattle.std.specs.Option.{option_map};
-ghost use Rattle.mlir_work_script_base.specs.Spots.{spot_of};
-ghost use Rattle.mlir_work_c.specs.Numbers.{no_number, number_of as told, numbers_of, spot_of_numbers, value_of};
+ghost use Rattle.mlir_work_script_base.specs.InsertionPoints.{insertion_point_of};
+ghost use Rattle.mlir_work_c.specs.Numbers.{no_number, number_of as told, numbers_of, point_of_numbers, value_of};
 
 use ir_event::trees::value::Value;
 use ir_event::types::ids::OpId;
-use mlir_work_script_base::spots::Spot;
+use mlir_work_script_base::insertion_points::InsertionPoint;
 
-/// A value: result `place` of an operation where `region` is 4294967295, or else argument `place` of the block of that
-/// region of it.
+/// A value: result `place` of an operation if `region` is 4294967295, or else argument `place` of the block of that
+/// region.
 #[repr(C)]
 #[derive(Clone, Copy)]
 pub struct ValueNumbers {
@@ -18,7 +18,7 @@ pub struct ValueNumbers {
     pub place: u32,
 }
 
-/// A use: the operation, and which of its operands.
+/// A use: the operation and the index of its operand.
 #[repr(C)]
 #[derive(Clone, Copy)]
 pub struct UseNumbers {
@@ -26,17 +26,17 @@ pub struct UseNumbers {
     pub operand: u32,
 }
 
-/// Where an operation is to stand: right before (0) or right behind (1) an operation, or at the start (2) or the end (3)
-/// of the block of a region of it.
+/// An insertion point: directly before (0) or after (1) an operation, or at the start (2) or the end (3) of the block
+/// of its region.
 #[repr(C)]
 #[derive(Clone, Copy)]
-pub struct SpotNumbers {
+pub struct InsertionPointNumbers {
     pub kind: u32,
     pub operation: u32,
     pub region: u32,
 }
 
-/// The value of some numbers.
+/// Returns the value of a C struct.
 pub(crate) fn value_of(numbers: &ValueNumbers) -> Value
     ensures { result ≡ value_of numbers.now }
 {
@@ -47,7 +47,7 @@ pub(crate) fn value_of(numbers: &ValueNumbers) -> Value
     Value::Arg(op, numbers.region, numbers.place)
 }
 
-/// The numbers of a value.
+/// Returns the C struct of a value.
 pub(crate) fn numbers_of(value: Value) -> ValueNumbers
     ensures { result ≡ numbers_of value }
 {
@@ -65,21 +65,21 @@ pub(crate) fn numbers_of(value: Value) -> ValueNumbers
     }
 }
 
-/// The place of some numbers, if they are one's.
-pub(crate) fn spot_of(numbers: &SpotNumbers) -> Option<Spot>
-    ensures { option_map spot_of result ≡ spot_of_numbers numbers.now }
+/// Returns the insertion point of a C struct, or `None` if its kind is unknown.
+pub(crate) fn point_of(numbers: &InsertionPointNumbers) -> Option<InsertionPoint>
+    ensures { option_map insertion_point_of result ≡ point_of_numbers numbers.now }
 {
     let op = OpId::new(numbers.operation);
     match numbers.kind {
-        0 => Some(Spot::Before(op)),
-        1 => Some(Spot::After(op)),
-        2 => Some(Spot::Start(op, numbers.region)),
-        3 => Some(Spot::End(op, numbers.region)),
+        0 => Some(InsertionPoint::Before(op)),
+        1 => Some(InsertionPoint::After(op)),
+        2 => Some(InsertionPoint::Start(op, numbers.region)),
+        3 => Some(InsertionPoint::End(op, numbers.region)),
         _ => None,
     }
 }
 
-/// The number of an operation, or 2^64 - 1 where there is none.
+/// Returns the id of an operation as a number, or 2^64 - 1 for `None`.
 pub(crate) fn number_of(op: Option<OpId>) -> u64
     ensures { result ≡ told op }
 {
@@ -89,7 +89,7 @@ pub(crate) fn number_of(op: Option<OpId>) -> u64
     }
 }
 
-/// What is told where there is no operation.
+/// Returns the number for `None`.
 pub(crate) fn no_number() -> u64
     ensures { result ≡ no_number }
 {

@@ -1,22 +1,22 @@
 //! What lines of a script and words say, and how texts are cut.
+use crate::texts::{both_shown, bytes, shown, write_all_shown};
 use ir_event::trees::value::Value;
 use ir_event::types::ids::OpId;
-use mlir_work_cases_base::texts::{both_shown, bytes, number, put_all_shown, shown};
-use mlir_work_run::book_order::BookOrder;
-use mlir_work_run::clauses::Clauses;
-use mlir_work_run::command::{Command, Line, read_line};
-use mlir_work_run::expect::expected_of;
-use mlir_work_run::input::{script_is_too_long, split};
-use mlir_work_run::keys::{Key, bytes_of};
-use mlir_work_run::kind::{Kind, kind_named};
-use mlir_work_run::lines::split_line;
-use mlir_work_run::numbers;
-use mlir_work_run::order::Order;
-use mlir_work_run::rule_name::RuleName;
-use mlir_work_run::spots::Spot;
-use mlir_work_run::values::{op_named, value_named};
-use mlir_work_run::words::{split_word, trim};
-use mlir_work_script_base::subject::Subject;
+use mlir_work_session::clauses::Clauses;
+use mlir_work_session::command::{Command, Line, read_line};
+use mlir_work_session::expected_refusal::expected_of;
+use mlir_work_session::input::split;
+use mlir_work_session::insertion_points::InsertionPoint;
+use mlir_work_session::keys::{Key, bytes_of};
+use mlir_work_session::kind::{Kind, kind_named};
+use mlir_work_session::lines::split_line;
+use mlir_work_session::numbers;
+use mlir_work_session::registry_command::RegistryCommand;
+use mlir_work_session::rule_name::RuleName;
+use mlir_work_session::session_command::SessionCommand;
+use mlir_work_session::subject::Subject;
+use mlir_work_session::values::{op_named, value_named};
+use mlir_work_session::words::{split_word, trim};
 use std::alloc::{AllocError, Global};
 
 /// A line that sets an operand.
@@ -33,18 +33,18 @@ fn told_set(alloc: Global, op: OpId, operand: u32, value: Value) -> Result<Strin
 }
 
 /// A place.
-fn told_spot(alloc: Global, spot: &Spot) -> Result<String, AllocError> {
-    match spot {
-        Spot::Before(op) => format!(in alloc; "before {}", op.number()),
-        Spot::After(op) => format!(in alloc; "after {}", op.number()),
-        Spot::Start(op, region) => format!(in alloc; "start {} {region}", op.number()),
-        Spot::End(op, region) => format!(in alloc; "end {} {region}", op.number()),
+fn told_point(alloc: Global, point: &InsertionPoint) -> Result<String, AllocError> {
+    match point {
+        InsertionPoint::Before(op) => format!(in alloc; "before {}", op.number()),
+        InsertionPoint::After(op) => format!(in alloc; "after {}", op.number()),
+        InsertionPoint::Start(op, region) => format!(in alloc; "start {} {region}", op.number()),
+        InsertionPoint::End(op, region) => format!(in alloc; "end {} {region}", op.number()),
     }
 }
 
 /// A line that moves an operation.
-fn told_move(alloc: Global, op: OpId, spot: &Spot) -> Result<String, AllocError> {
-    let place = told_spot(alloc, spot)?;
+fn told_move(alloc: Global, op: OpId, point: &InsertionPoint) -> Result<String, AllocError> {
+    let place = told_point(alloc, point)?;
     format!(in alloc; "move {} {place}", op.number())
 }
 
@@ -56,8 +56,12 @@ fn told_replace(alloc: Global, old: Value, new: Value) -> Result<String, AllocEr
 }
 
 /// A line that puts an operation in.
-fn told_insert(alloc: Global, spot: &Spot, operation: &[u8]) -> Result<String, AllocError> {
-    let place = told_spot(alloc, spot)?;
+fn told_insert(
+    alloc: Global,
+    point: &InsertionPoint,
+    operation: &[u8],
+) -> Result<String, AllocError> {
+    let place = told_point(alloc, point)?;
     let operation = shown(alloc, operation)?;
     format!(in alloc; "insert {place} {operation}")
 }
@@ -95,11 +99,11 @@ fn told_canon(alloc: Global, limit: Option<u32>) -> Result<String, AllocError> {
 }
 
 /// Puts a list of a conversion, if it has it.
-fn put_list(out: &mut String, name: &str, list: Option<&[u8]>) -> Result<(), AllocError> {
+fn write_list(out: &mut String, name: &str, list: Option<&[u8]>) -> Result<(), AllocError> {
     match list {
         Some(list) => {
             out.push_str(name)?;
-            put_all_shown(out, list)
+            write_all_shown(out, list)
         }
         None => Ok(()),
     }
@@ -108,10 +112,10 @@ fn put_list(out: &mut String, name: &str, list: Option<&[u8]>) -> Result<(), All
 /// The lists of a conversion.
 fn told_lists(alloc: Global, clauses: &Clauses<'_>) -> Result<String, AllocError> {
     let mut out = String::new(alloc);
-    put_list(&mut out, " legal ", clauses.legal)?;
-    put_list(&mut out, " illegal ", clauses.illegal)?;
-    put_list(&mut out, " dynamic ", clauses.dynamic)?;
-    put_list(&mut out, " rules ", clauses.rules)?;
+    write_list(&mut out, " legal ", clauses.legal)?;
+    write_list(&mut out, " illegal ", clauses.illegal)?;
+    write_list(&mut out, " dynamic ", clauses.dynamic)?;
+    write_list(&mut out, " rules ", clauses.rules)?;
     Ok(out)
 }
 
@@ -129,7 +133,7 @@ fn told_convert(alloc: Global, full: bool, clauses: &Clauses<'_>) -> Result<Stri
     format!(in alloc; "convert {target}")
 }
 
-/// A line that converts, and tells each rule that stands.
+/// A line that converts, and lists each applied rule.
 fn told_convert_trace(
     alloc: Global,
     full: bool,
@@ -142,8 +146,8 @@ fn told_convert_trace(
 /// A rule at an operation.
 fn told_apply(alloc: Global, rule: &RuleName<'_>, op: OpId) -> Result<String, AllocError> {
     match rule {
-        RuleName::Numbered(number) => format!(in alloc; "apply {number} {}", op.number()),
-        RuleName::Worded(word) => {
+        RuleName::Number(number) => format!(in alloc; "apply {number} {}", op.number()),
+        RuleName::Word(word) => {
             let word = shown(alloc, word)?;
             format!(in alloc; "apply {word} {}", op.number())
         }
@@ -154,12 +158,12 @@ fn told_apply(alloc: Global, rule: &RuleName<'_>, op: OpId) -> Result<String, Al
 fn told_edit(alloc: Global, command: &Command<'_>) -> Result<String, AllocError> {
     match command {
         Command::SetOperand { op, operand, value } => told_set(alloc, *op, *operand, *value),
-        Command::Move { op, spot } => told_move(alloc, *op, spot),
+        Command::Move { op, point } => told_move(alloc, *op, point),
         Command::SetAttr { op, key, attribute } => told_set_attr(alloc, *op, key, attribute),
         Command::DropAttr { op, key } => told_drop_attr(alloc, *op, key),
         Command::Replace { old, new } => told_replace(alloc, *old, *new),
         Command::Erase(op) => format!(in alloc; "erase {}", op.number()),
-        Command::Insert { spot, operation } => told_insert(alloc, spot, operation),
+        Command::Insert { point, operation } => told_insert(alloc, point, operation),
         _ => String::from_str(alloc, "no edit"),
     }
 }
@@ -189,7 +193,7 @@ fn told_rewrite(alloc: Global, rules: &[u8], limit: Option<u32>) -> Result<Strin
     format!(in alloc; "rewrite {rules} limit {limit}")
 }
 
-/// A line that rewrites by some rules, or by those of canonicalization, and tells each rewrite.
+/// A line that rewrites by some rules, or by those of canonicalization, and lists each rewrite.
 fn told_trace(
     alloc: Global,
     rules: Option<&[u8]>,
@@ -213,8 +217,8 @@ fn told_canon_at(alloc: Global, op: OpId, limit: Option<u32>) -> Result<String, 
 fn told_why(alloc: Global, op: OpId, rule: &Option<RuleName<'_>>) -> Result<String, AllocError> {
     match rule {
         None => format!(in alloc; "why {} all", op.number()),
-        Some(RuleName::Numbered(number)) => format!(in alloc; "why {} {number}", op.number()),
-        Some(RuleName::Worded(word)) => {
+        Some(RuleName::Number(number)) => format!(in alloc; "why {} {number}", op.number()),
+        Some(RuleName::Word(word)) => {
             let word = shown(alloc, word)?;
             format!(in alloc; "why {} {word}", op.number())
         }
@@ -233,16 +237,16 @@ fn told_about(alloc: Global, kind: Kind, subject: &Subject) -> Result<String, Al
 }
 
 /// An order.
-fn told_order(alloc: Global, order: &Order<'_>) -> Result<String, AllocError> {
+fn told_order(alloc: Global, order: &SessionCommand<'_>) -> Result<String, AllocError> {
     match order {
-        Order::Attach(kind) => format!(in alloc; "attach {}", kind.number()),
-        Order::PrintIds => String::from_str(alloc, "ids"),
-        Order::ReportOf { kind, subject } => told_about(alloc, *kind, subject),
-        Order::Rewrite { rules, limit } => told_rewrite(alloc, rules, *limit),
-        Order::Trace { rules, limit } => told_trace(alloc, *rules, *limit),
-        Order::TraceConvert { full, clauses } => told_convert_trace(alloc, *full, clauses),
-        Order::CanonAt { op, limit } => told_canon_at(alloc, *op, *limit),
-        Order::Why { op, rule } => told_why(alloc, *op, rule),
+        SessionCommand::Attach(kind) => format!(in alloc; "attach {}", kind.number()),
+        SessionCommand::PrintIds => String::from_str(alloc, "ids"),
+        SessionCommand::ReportAbout { kind, subject } => told_about(alloc, *kind, subject),
+        SessionCommand::Rewrite { rules, limit } => told_rewrite(alloc, rules, *limit),
+        SessionCommand::Trace { rules, limit } => told_trace(alloc, *rules, *limit),
+        SessionCommand::TraceConvert { full, clauses } => told_convert_trace(alloc, *full, clauses),
+        SessionCommand::CanonAt { op, limit } => told_canon_at(alloc, *op, *limit),
+        SessionCommand::Why { op, rule } => told_why(alloc, *op, rule),
     }
 }
 
@@ -266,31 +270,31 @@ fn told_pattern(alloc: Global, text: &[u8]) -> Result<String, AllocError> {
 }
 
 /// An order about patterns.
-fn told_book_order(alloc: Global, order: &BookOrder<'_>) -> Result<String, AllocError> {
+fn told_registry_order(alloc: Global, order: &RegistryCommand<'_>) -> Result<String, AllocError> {
     match order {
-        BookOrder::Define(text) => told_pattern(alloc, text),
-        BookOrder::Patterns => String::from_str(alloc, "patterns"),
-        BookOrder::Check { name, width } => told_check(alloc, name, *width),
-        BookOrder::Sample { name, width } => told_sample(alloc, name, *width),
+        RegistryCommand::Define(text) => told_pattern(alloc, text),
+        RegistryCommand::Patterns => String::from_str(alloc, "patterns"),
+        RegistryCommand::Check { name, width } => told_check(alloc, name, *width),
+        RegistryCommand::Sample { name, width } => told_sample(alloc, name, *width),
     }
 }
 
 /// What a line says.
 fn told_said(alloc: Global, line: &Line<'_>) -> Result<String, AllocError> {
     match line {
-        Line::Nothing => String::from_str(alloc, "nothing"),
-        Line::Bad => String::from_str(alloc, "bad"),
-        Line::Obey(command) => told_command(alloc, command),
-        Line::Ordered(order) => told_order(alloc, order),
-        Line::Booked(order) => told_book_order(alloc, order),
+        Line::Empty => String::from_str(alloc, "nothing"),
+        Line::BadCommand => String::from_str(alloc, "bad"),
+        Line::Command(command) => told_command(alloc, command),
+        Line::Session(order) => told_order(alloc, order),
+        Line::Registry(order) => told_registry_order(alloc, order),
     }
 }
 
 /// A line. (The checker of borrows has to meet each type that a line may hold.)
 fn told_line(alloc: Global, text: &[u8]) -> Result<String, AllocError> {
-    let _command = Line::Obey(Command::Print);
-    let _order = Line::Ordered(Order::PrintIds);
-    let _booked = Line::Booked(BookOrder::Patterns);
+    let _command = Line::Command(Command::Print);
+    let _order = Line::Session(SessionCommand::PrintIds);
+    let _registered = Line::Registry(RegistryCommand::Patterns);
     let line = read_line(text);
     let said = told_said(alloc, &line)?;
     match expected_of(text) {
@@ -325,7 +329,7 @@ fn told_some_value(alloc: Global, value: Option<Value>) -> Result<String, AllocE
     }
 }
 
-/// What is said of bytes.
+/// Returns the answer to bytes.
 fn told(alloc: Global, call: &str, bytes: &[u8]) -> Result<String, AllocError> {
     match call {
         "line" => told_line(alloc, bytes),
@@ -339,20 +343,12 @@ fn told(alloc: Global, call: &str, bytes: &[u8]) -> Result<String, AllocError> {
         ),
         "op" => told_number(alloc, op_named(bytes).map(|op| op.number())),
         "value" => told_some_value(alloc, value_named(bytes)),
-        _ => told_number(alloc, numbers::number(bytes)),
+        _ => told_number(alloc, numbers::parse_number(bytes)),
     }
 }
 
-/// What is said of the bytes that a text stands for.
+/// Returns the answer to the bytes that a text denotes.
 pub fn answer(alloc: Global, call: &str, text: &str) -> Result<String, AllocError> {
     let bytes = bytes(alloc, text)?;
     told(alloc, call, &bytes)
-}
-
-/// Whether a script of so many bytes is too long.
-pub fn is_too_long(alloc: Global, text: &str) -> Result<String, AllocError> {
-    let mut script = Vec::new(alloc);
-    script.resize(number(text) as usize, b'\n')?;
-    let answer = script_is_too_long(&script);
-    format!(in alloc; "{answer}")
 }

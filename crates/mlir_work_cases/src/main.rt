@@ -1,18 +1,19 @@
-//! Answers the calls of what a run reads and writes, and the whole runs, that standard input has, one a line, one
-//! answer a line.
+//! A test program of what no output of `mlir_work` shows: what a line of a script says, how an input is cut, what is
+//! written for each reply, the events that a listener is notified of, and rules where ids run out. Standard input has a
+//! case in each line, and an answer is printed for each. `bench/cases/mlir_work_cases.py` writes both.
+//!
 //! A line's text has `\n`, `\t`, `\r` and `\xff` for bytes.
 #![tactic(auto)]
 
 mod answers;
-mod boxes;
-mod counts;
+mod events;
 mod lines;
-mod readers;
 mod replies;
 mod rules;
-mod runs;
+mod texts;
 mod traces;
-mod writers;
+mod witness;
+mod worlds;
 
 use std::alloc::AllocError;
 use std::io;

@@ -1,19 +1,18 @@
 //! Lines and cells as they are written.
+use crate::texts::{first_word, parse_number, shown, small};
 use ir_event::trees::value::Value;
 use ir_event::types::ids::OpId;
 use ir_event::types::refusal::Refusal;
-use mlir_work_cases_base::texts::{first, number, small};
-use mlir_work_run::cells::{put_number, put_op_id, put_value};
-use mlir_work_run::kind::Kind;
-use mlir_work_run::outcome::Outcome;
-use mlir_work_run::replies::{
-    put_attach_refused, put_expected, put_kind, put_kind_memory, put_module_memory,
-    put_module_refused, put_ok, put_outcome, put_refused, put_refused_at, put_refused_on,
-    put_stale,
+use mlir_work_session::cells::{write_number, write_op_id, write_value};
+use mlir_work_session::kind::Kind;
+use mlir_work_session::outcome::Outcome;
+use mlir_work_session::replies::{
+    write_attach_refused, write_expected, write_module_memory, write_module_refused, write_ok,
+    write_outcome, write_refused, write_refused_at, write_refused_for_op, write_report_heading,
+    write_report_memory, write_report_stale,
 };
-use mlir_work_run::writing::{WriteFault, put_all};
+use mlir_work_session::writing::{WriteFault, write_all};
 use std::alloc::{AllocError, Global};
-use std::io::Write;
 
 /// Every refusal.
 const REFUSALS: [Refusal; 40] = [
@@ -89,21 +88,26 @@ fn value(word: &str) -> Value {
     }
 }
 
-fn put_module<W: Write>(writer: &mut W, text: &str) -> Result<(), WriteFault> {
-    let (word, offset) = first(text);
+fn write_module(writer: &mut Vec<u8>, text: &str) -> Result<(), WriteFault> {
+    let (word, offset) = first_word(text);
     let offset = offset.parse::<usize>().ok();
-    put_module_refused(writer, refusal(word), offset)
+    write_module_refused(writer, refusal(word), offset)
 }
 
-fn put_refused_command<W: Write>(writer: &mut W, text: &str) -> Result<(), WriteFault> {
-    let (n, word) = first(text);
-    put_refused(writer, number(n), refusal(word))
+fn write_refused_command(writer: &mut Vec<u8>, text: &str) -> Result<(), WriteFault> {
+    let (n, word) = first_word(text);
+    write_refused(writer, parse_number(n), refusal(word))
 }
 
-fn put_refused_text<W: Write>(writer: &mut W, text: &str) -> Result<(), WriteFault> {
-    let (n, rest) = first(text);
-    let (word, offset) = first(rest);
-    put_refused_at(writer, number(n), refusal(word), number(offset) as usize)
+fn write_refused_text(writer: &mut Vec<u8>, text: &str) -> Result<(), WriteFault> {
+    let (n, rest) = first_word(text);
+    let (word, offset) = first_word(rest);
+    write_refused_at(
+        writer,
+        parse_number(n),
+        refusal(word),
+        parse_number(offset) as usize,
+    )
 }
 
 /// The outcome of a word and a number.
@@ -117,47 +121,61 @@ fn outcome(word: &str, count: usize) -> Outcome {
     }
 }
 
-fn put_what_came<W: Write>(writer: &mut W, text: &str) -> Result<(), WriteFault> {
-    let (n, rest) = first(text);
-    let (word, count) = first(rest);
-    put_outcome(writer, number(n), outcome(word, number(count) as usize))
+fn write_what_came(writer: &mut Vec<u8>, text: &str) -> Result<(), WriteFault> {
+    let (n, rest) = first_word(text);
+    let (word, count) = first_word(rest);
+    write_outcome(
+        writer,
+        parse_number(n),
+        outcome(word, parse_number(count) as usize),
+    )
 }
 
-fn put_refused_op<W: Write>(writer: &mut W, text: &str) -> Result<(), WriteFault> {
-    let (n, rest) = first(text);
-    let (word, op) = first(rest);
-    put_refused_on(writer, number(n), refusal(word), OpId::new(small(op)))
+fn write_refused_op(writer: &mut Vec<u8>, text: &str) -> Result<(), WriteFault> {
+    let (n, rest) = first_word(text);
+    let (word, op) = first_word(rest);
+    write_refused_for_op(writer, parse_number(n), refusal(word), OpId::new(small(op)))
 }
 
-fn put_box<W: Write>(writer: &mut W, text: &str) -> Result<(), WriteFault> {
-    let (number, word) = first(text);
-    put_attach_refused(writer, kind(number), refusal(word))
+fn write_box(writer: &mut Vec<u8>, text: &str) -> Result<(), WriteFault> {
+    let (number, word) = first_word(text);
+    write_attach_refused(writer, kind(number), refusal(word))
 }
 
 /// What was expected: `7 HasUses`.
-fn put_wanted<W: Write>(writer: &mut W, text: &str) -> Result<(), WriteFault> {
-    let (count, word) = first(text);
-    put_expected(writer, number(count), refusal(word))
+fn write_wanted(writer: &mut Vec<u8>, text: &str) -> Result<(), WriteFault> {
+    let (count, word) = first_word(text);
+    write_expected(writer, parse_number(count), refusal(word))
 }
 
 /// Writes what a call writes.
-pub fn put_reply<W: Write>(writer: &mut W, call: &str, text: &str) -> Result<(), WriteFault> {
+fn write_reply(writer: &mut Vec<u8>, call: &str, text: &str) -> Result<(), WriteFault> {
     match call {
-        "ok" => put_ok(writer, number(text)),
-        "refused" => put_refused_command(writer, text),
-        "refused-at" => put_refused_text(writer, text),
-        "refused-on" => put_refused_op(writer, text),
-        "came" => put_what_came(writer, text),
-        "module" => put_module(writer, text),
-        "attach" => put_box(writer, text),
-        "expected" => put_wanted(writer, text),
-        "rows" => put_kind(writer, kind(text)),
-        "stale" => put_stale(writer, kind(text)),
-        "memory" => put_kind_memory(writer, kind(text)),
-        "module-memory" => put_module_memory(writer),
-        "number" => put_number(writer, number(text)),
-        "op" => put_op_id(writer, OpId::new(small(text))),
-        "value" => put_value(writer, value(text)),
-        _ => put_all(writer, &[call.as_bytes(), b"", text.as_bytes()]),
+        "ok" => write_ok(writer, parse_number(text)),
+        "refused" => write_refused_command(writer, text),
+        "refused-at" => write_refused_text(writer, text),
+        "refused-on" => write_refused_op(writer, text),
+        "came" => write_what_came(writer, text),
+        "module" => write_module(writer, text),
+        "attach" => write_box(writer, text),
+        "expected" => write_wanted(writer, text),
+        "rows" => write_report_heading(writer, kind(text)),
+        "stale" => write_report_stale(writer, kind(text)),
+        "memory" => write_report_memory(writer, kind(text)),
+        "module-memory" => write_module_memory(writer),
+        "number" => write_number(writer, parse_number(text)),
+        "op" => write_op_id(writer, OpId::new(small(text))),
+        "value" => write_value(writer, value(text)),
+        _ => write_all(writer, &[call.as_bytes(), b"", text.as_bytes()]),
+    }
+}
+
+/// What a call writes.
+pub fn written(alloc: Global, line: &str) -> Result<String, AllocError> {
+    let (call, text) = first_word(line);
+    let mut out: Vec<u8> = Vec::new(alloc);
+    match write_reply(&mut out, call, text) {
+        Ok(()) => shown(alloc, &out),
+        Err(_) => Err(AllocError),
     }
 }

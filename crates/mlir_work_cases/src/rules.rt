@@ -1,16 +1,16 @@
 //! A rule at an operation of a module.
+use crate::texts::{bytes, first_word, small, write_all_shown};
+use crate::witness::Witness;
+use crate::worlds::{bench_from, text_of};
 use ir_event::types::ids::OpId;
-use mlir_work_cases_base::texts::{bytes, first, put_all_shown, small};
-use mlir_work_cases_base::witness::Witness;
-use mlir_work_run::greedy::patterns::apply::apply;
-use mlir_work_run::greedy::patterns::rule::Rule;
-use rewriter_cases_base::Bench;
-use rewriter_cases_base::worlds::{bench_from, text_of};
+use mlir_work_session::Bench;
+use mlir_work_session::greedy::patterns::apply::apply;
+use mlir_work_session::greedy::patterns::rule::Rule;
 use std::alloc::{AllocError, Global};
 use std::fmt::Write;
 
-/// Applies a rule, and tells whether it did, or why not.
-fn put_applied(
+/// Applies a rule. Writes whether it applied, or why it didn't.
+fn write_applied(
     alloc: Global,
     out: &mut String,
     bench: &mut Bench<Witness>,
@@ -27,13 +27,13 @@ fn put_applied(
     }
 }
 
-/// Tells the module of a bench.
-fn put_module(alloc: Global, out: &mut String, bench: &Bench<Witness>) -> Result<(), AllocError> {
+/// Writes the module of a rewriter.
+fn write_module(alloc: Global, out: &mut String, bench: &Bench<Witness>) -> Result<(), AllocError> {
     let Ok(text) = text_of(alloc, bench.world()) else {
         return Err(AllocError);
     };
     out.push(' ')?;
-    put_all_shown(out, &text)
+    write_all_shown(out, &text)
 }
 
 /// A rule at an operation of a bench's module, and the module after it.
@@ -44,17 +44,17 @@ fn applied(
     op: OpId,
 ) -> Result<String, AllocError> {
     let mut out = String::new(alloc);
-    put_applied(alloc, &mut out, bench, rule, op)?;
-    put_module(alloc, &mut out, bench)?;
+    write_applied(alloc, &mut out, bench, rule, op)?;
+    write_module(alloc, &mut out, bench)?;
     Ok(out)
 }
 
-/// `apply RULE OP NEXT TEXT`, behind its name: whether a rule applies at an operation of the module that a text spells, whose next free id is
+/// `RULE OP NEXT TEXT`: whether a rule applies at an operation of the module that a text spells, whose next free id is
 /// at least `NEXT`, and the module after it.
 pub fn answer(alloc: Global, line: &str) -> Result<String, AllocError> {
-    let (rule, rest) = first(line);
-    let (op, rest) = first(rest);
-    let (next, text) = first(rest);
+    let (rule, rest) = first_word(line);
+    let (op, rest) = first_word(rest);
+    let (next, text) = first_word(rest);
     let text = bytes(alloc, text)?;
     match bench_from(alloc, &text, small(next)) {
         Ok(mut bench) => applied(alloc, &mut bench, small(rule), OpId::new(small(op))),

@@ -1,4 +1,4 @@
--- The object of a line has no float, and nests no deeper than its members do.
+-- The object of a line has no floats, and it is no deeper than its members.
 use Rattle.std.proofs.Common.{◌≡◌, ℕ, ◌≤◌, List, [], ◌∷◌, map, false, Ordering, Less, Equal, Greater, refl, arith}
 use Rattle.std.specs.Ordering.{match_ordering}
 use Rattle.serde_json.specs.Data.{Data, Members, no_members, member, put, depth, items_depth, members_depth}
@@ -9,7 +9,7 @@ use Rattle.mlir_work_json.specs.Items.{Item, Text, Number, Texts, Member, text_d
 use Rattle.mlir_work_json.specs.Lines.{line_data, line_members}
 use Rattle.std.proofs.lemmas.Bool.{or_from, or_parts}
 
--- ---- no float
+-- ---- no floats
 
 ordered_floats : (o : Ordering) (a b c : Members) → members_have_float a ≡ false → members_have_float b ≡ false → members_have_float c ≡ false → members_have_float (match_ordering o a b c) ≡ false
 ordered_floats Less a b c p q r = p
@@ -36,11 +36,11 @@ floats_all : (ms : List Member) (found : Members) → members_have_float found �
 floats_all [] found h = h
 floats_all (m ∷ ms) found h = floats_all ms (put m.0 (data_of m.1) found) (floats_put m.0 (data_of m.1) found (floats_item m.1) h)
 
--- the object of a line has none
+-- the object of a line has no floats
 pub line_has_no_float : (line : List ℕ) → has_float (line_data line) ≡ false
 line_has_no_float line = floats_all (line_members line) no_members refl
 
--- ---- how deep it is
+-- ---- depth
 
 ordered_depth : (o : Ordering) (a b c : Members) (n : ℕ) → members_depth a ≤ n → members_depth b ≤ n → members_depth c ≤ n → members_depth (match_ordering o a b c) ≤ n
 ordered_depth Less a b c n p q r = p
@@ -65,6 +65,6 @@ depth_all : (ms : List Member) (found : Members) → members_depth found ≤ 1 �
 depth_all [] found h = h
 depth_all (m ∷ ms) found h = depth_all ms (put m.0 (data_of m.1) found) (depth_put m.0 (data_of m.1) found 1 (depth_item m.1) h)
 
--- the object of a line can be read
+-- the depth of a line's object is at most `max_depth`, so a parser accepts it
 pub line_is_shallow : (line : List ℕ) → depth (line_data line) ≤ max_depth
 line_is_shallow line = let flat = depth_all (line_members line) no_members (omega arith) in omega arith

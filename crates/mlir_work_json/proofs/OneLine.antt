@@ -1,4 +1,4 @@
--- JSON has no end of a line within, so the lines of JSON are those that it was made of.
+-- JSON text has no line feed inside, so the lines of the JSON correspond to the lines of the output.
 use Rattle.std.proofs.Common.{◌≡◌, ◌==◌, ℕ, zero, suc, ◌+◌, ◌<◌, ◌/◌, ◌%◌, List, [], ◌∷◌, ◌++◌, map, Bool, true, false, cond, if◌then◌else◌, refl, ap, subst, ◌∙◌, arith}
 use Rattle.std.specs.Prelude.{◌||◌, nat_lt, decimal, pos, negsuc}
 use Rattle.std.specs.Char.{digit_char}
@@ -11,7 +11,7 @@ use Rattle.mlir_work_json.specs.Lines.{line_data, json_line, json_lines}
 use Rattle.mlir_work_script_base.specs.Lines.{is_newline, onto_first}
 use Rattle.std.proofs.lemmas.Bool.{or_from, or_parts}
 
--- whether an end stands within
+-- whether a text contains a line feed
 abbrev pub has_end : List ℕ → Bool
 has_end [] = false
 has_end (b ∷ bs) = is_newline b || has_end bs
@@ -120,12 +120,12 @@ mutual
 
 -- ---- lines
 
--- a text without an end, and then one, is the first part
+-- a text without a line feed, followed by one, is the first part
 one_part : (line rest : List ℕ) → has_end line ≡ false → parts is_newline ((line ++ 10 ∷ []) ++ rest) ≡ line ∷ parts is_newline rest
 one_part [] rest h = refl
 one_part (b ∷ bs) rest h = let first = or_parts (is_newline b) (has_end bs) h in rw (first.0) (ap (onto_first b) (one_part bs rest first.1))
 
--- the lines of the JSON of lines are the JSON of each
+-- the lines of the converted output are the conversions of its lines
 pub lines_of_json : (lines : List (List ℕ)) → parts is_newline (json_lines lines) ≡ map json_line lines
 lines_of_json [] = refl
 lines_of_json (line ∷ lines) =

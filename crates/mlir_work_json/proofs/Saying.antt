@@ -1,4 +1,4 @@
--- Cells and numbers of lines, as they are printed.
+-- Proofs about printed cells and numbers.
 use Rattle.std.proofs.Common.{◌≡◌, ◌==◌, ℕ, zero, suc, ◌+◌, ◌^◌, ◌<◌, List, [], ◌∷◌, ◌++◌, length, take, drop, get_or, Bool, true, false, true≢false, not, Some, refl, sym, ap, ◌∙◌, arith, codes, add-one}
 use Rattle.std.specs.Prelude.{◌&&◌, ◌||◌, nat_lt, decimal}
 use Rattle.std.specs.Char.{is_ascii_digit}
@@ -9,13 +9,13 @@ use Rattle.std.proofs.lemmas.Fmt.{digits_decimal, digits_value-decimal, decimal_
 use Rattle.std.proofs.Common.{length-append}
 use Rattle.std.proofs.lemmas.Grind.{common_steps}
 use Rattle.mlir_work_json.proofs.Cutting.{cells_step}
-use Rattle.mlir_work_json.specs.Cuts.{cell_len, cell, cells, behind, is_whole}
+use Rattle.mlir_work_json.specs.Cuts.{cell_len, cell, cells, trailing, is_whole}
 use Rattle.mlir_work_json.specs.Forms.{form_of}
 use Rattle.mlir_work_json.specs.Items.{Number, text, numeral, number_item}
 use Rattle.mlir_work_json.specs.Lines.{form_members, line_members}
 use Rattle.mlir_work_json.specs.Numbers.{number_of}
 use Rattle.mlir_work_json.specs.Replies.{answer_members, place_members, refusal_members}
-use Rattle.mlir_work_json.specs.declared.form.Form.TheVariants.{Reply}
+use Rattle.mlir_work_json.specs.declared.form.LineKind.TheVariants.{Reply}
 use Rattle.mlir_work_script_base.specs.Numbers.{value_after}
 use Rattle.mlir_work_script_base.proofs.Printed.{numerals}
 use Rattle.mlir_work_script_base.proofs.Spanning.{take_front}
@@ -53,21 +53,21 @@ drop_whole xs = grind (arith, common_steps)
 cell_whole : (w rest : List ℕ) → is_whole w ≡ true → cell (w ++ 32 ∷ rest) ≡ w
 cell_whole w rest h = ap (λ n. take n (w ++ 32 ∷ rest)) (whole_len w rest h) ∙ take_front w (32 ∷ rest)
 
-behind_whole : (w rest : List ℕ) → is_whole w ≡ true → behind (w ++ 32 ∷ rest) ≡ rest
-behind_whole w rest h = ap (λ n. drop (n + 1) (w ++ 32 ∷ rest)) (whole_len w rest h) ∙ (ap (λ n. drop n (w ++ 32 ∷ rest)) (add-one (length w)) ∙ drop_front w 32 rest)
+after_whole : (w rest : List ℕ) → is_whole w ≡ true → trailing (w ++ 32 ∷ rest) ≡ rest
+after_whole w rest h = ap (λ n. drop (n + 1) (w ++ 32 ∷ rest)) (whole_len w rest h) ∙ (ap (λ n. drop n (w ++ 32 ∷ rest)) (add-one (length w)) ∙ drop_front w 32 rest)
 
 cell_last : (w : List ℕ) → is_whole w ≡ true → cell w ≡ w
 cell_last w h = ap (λ n. take n w) (whole_len_last w h) ∙ take_all (length w) w (omega arith)
 
-behind_last : (w : List ℕ) → is_whole w ≡ true → behind w ≡ []
-behind_last w h = ap (λ n. drop (n + 1) w) (whole_len_last w h) ∙ drop_whole w
+after_last : (w : List ℕ) → is_whole w ≡ true → trailing w ≡ []
+after_last w h = ap (λ n. drop (n + 1) w) (whole_len_last w h) ∙ drop_whole w
 
--- a word and its blank are the first cell
+-- a word followed by a blank is the first cell
 pub words_are_cells : (word rest : List ℕ) → is_whole word ≡ true → cells (word ++ 32 ∷ rest) ≡ word ∷ cells rest
 words_are_cells word rest h =
     let text = word ++ 32 ∷ rest in
     cells_step text (omega (arith, length-append word (32 ∷ rest)))
-    ∙ (ap (λ w. w ∷ cells (behind text)) (cell_whole word rest h) ∙ ap (λ r. word ∷ cells r) (behind_whole word rest h))
+    ∙ (ap (λ w. w ∷ cells (trailing text)) (cell_whole word rest h) ∙ ap (λ r. word ∷ cells r) (after_whole word rest h))
 
 -- ---- numbers
 
@@ -115,8 +115,8 @@ reply_is (d ∷ ds) answer n h l e =
     let form : form_of ((d ∷ ds) ++ 32 ∷ answer) ≡ Reply = rw digit refl in
     let whole = digits_whole (d ∷ ds) h in
     ap (λ f. form_members f ((d ∷ ds) ++ 32 ∷ answer)) form
-    ∙ (ap (λ w. numeral (codes "n") w ∷ answer_members (behind ((d ∷ ds) ++ 32 ∷ answer))) (cell_whole (d ∷ ds) answer whole)
-    ∙ (ap (λ a. numeral (codes "n") (d ∷ ds) ∷ answer_members a) (behind_whole (d ∷ ds) answer whole)
+    ∙ (ap (λ w. numeral (codes "n") w ∷ answer_members (trailing ((d ∷ ds) ++ 32 ∷ answer))) (cell_whole (d ∷ ds) answer whole)
+    ∙ (ap (λ a. numeral (codes "n") (d ∷ ds) ∷ answer_members a) (after_whole (d ∷ ds) answer whole)
     ∙ ap (λ o. (codes "n", number_item o (d ∷ ds)) ∷ answer_members answer) e))
 
 pub replies_have_numbers : (n : ℕ) (answer : List ℕ) → n < 2 ^ 32 → line_members (decimal n ++ 32 ∷ answer) ≡ (codes "n", Number n) ∷ answer_members answer
@@ -124,27 +124,27 @@ replies_have_numbers n answer s =
     let long : n < 2 ^ 64 = omega arith in
     reply_is (decimal n) answer n (digits_decimal numerals n long) (decimal_nonempty n long) (numbers_stay n s)
 
--- a refusal whose number, word and place are these
-refusal_is : (line number word place : List ℕ) (m : ℕ) → cell line ≡ number → cell (behind line) ≡ word → behind (behind line) ≡ place → number_of number ≡ Some m
+-- the members of a refusal with this number, word and place
+refusal_is : (line number word place : List ℕ) (m : ℕ) → cell line ≡ number → cell (trailing line) ≡ word → trailing (trailing line) ≡ place → number_of number ≡ Some m
     → refusal_members line ≡ (codes "refused", Number m) ∷ text (codes "word") word ∷ place_members place
 refusal_is line number word place m a b c e =
-    ap (λ w. numeral (codes "refused") w ∷ text (codes "word") (cell (behind line)) ∷ place_members (behind (behind line))) a
-    ∙ (ap (λ o. (codes "refused", number_item o number) ∷ text (codes "word") (cell (behind line)) ∷ place_members (behind (behind line))) e
-    ∙ (ap (λ w. (codes "refused", Number m) ∷ text (codes "word") w ∷ place_members (behind (behind line))) b
+    ap (λ w. numeral (codes "refused") w ∷ text (codes "word") (cell (trailing line)) ∷ place_members (trailing (trailing line))) a
+    ∙ (ap (λ o. (codes "refused", number_item o number) ∷ text (codes "word") (cell (trailing line)) ∷ place_members (trailing (trailing line))) e
+    ∙ (ap (λ w. (codes "refused", Number m) ∷ text (codes "word") w ∷ place_members (trailing (trailing line))) b
     ∙ ap (λ p. (codes "refused", Number m) ∷ text (codes "word") word ∷ place_members p) c))
 
 pub refusals_have_places : (m : ℕ) (word place : List ℕ) → m < 2 ^ 32 → is_whole word ≡ true → answer_members (codes "refused " ++ (decimal m ++ 32 ∷ (word ++ 32 ∷ place))) ≡ (codes "refused", Number m) ∷ text (codes "word") word ∷ place_members place
 refusals_have_places m word place s h =
     let number = decimal_whole m s in
     let line = decimal m ++ 32 ∷ (word ++ 32 ∷ place) in
-    let rest = behind_whole (decimal m) (word ++ 32 ∷ place) number in
+    let rest = after_whole (decimal m) (word ++ 32 ∷ place) number in
     refusal_is line (decimal m) word place m (cell_whole (decimal m) (word ++ 32 ∷ place) number)
-    (ap cell rest ∙ cell_whole word place h) (ap behind rest ∙ behind_whole word place h) (numbers_stay m s)
+    (ap cell rest ∙ cell_whole word place h) (ap trailing rest ∙ after_whole word place h) (numbers_stay m s)
 
 pub refusals_have_words : (m : ℕ) (word : List ℕ) → m < 2 ^ 32 → is_whole word ≡ true → answer_members (codes "refused " ++ (decimal m ++ 32 ∷ word)) ≡ (codes "refused", Number m) ∷ text (codes "word") word ∷ []
 refusals_have_words m word s h =
     let number = decimal_whole m s in
     let line = decimal m ++ 32 ∷ word in
-    let rest = behind_whole (decimal m) word number in
+    let rest = after_whole (decimal m) word number in
     refusal_is line (decimal m) word [] m (cell_whole (decimal m) word number)
-    (ap cell rest ∙ cell_last word h) (ap behind rest ∙ behind_last word h) (numbers_stay m s)
+    (ap cell rest ∙ cell_last word h) (ap trailing rest ∙ after_last word h) (numbers_stay m s)

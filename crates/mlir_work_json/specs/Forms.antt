@@ -1,12 +1,12 @@
--- What a line of an output is, told by how it begins.
+-- The kind of an output line. The beginning of the line decides it.
 use Rattle.std.specs.Prelude.{ℕ, List, [], ◌∷◌, ◌==◌, ◌||◌, ◌&&◌, not, Bool, false, if◌then◌else◌, is_some, codes, position}
 use Rattle.std.specs.Char.{is_ascii_digit}
 use Rattle.std.specs.Str.{bytes_eq}
-use Rattle.mlir_work_json.specs.Cuts.{behind, behind_second, cell, second}
+use Rattle.mlir_work_json.specs.Cuts.{trailing, after_second, cell, second}
 use Rattle.mlir_work_json.specs.Numbers.{number_of}
 use Rattle.mlir_work_json.specs.Replies.{says_width}
-use Rattle.mlir_work_json.specs.declared.form.Form.{Form}
-use Rattle.mlir_work_json.specs.declared.form.Form.TheVariants.{Reply, Heading, Unread, Unattached, Module, Use, Constant, Dead, Unreached, Diagnostic, Effect, Definition, Reference, Unresolved, Mismatch, Reason, Stayed, Rewritten, Applied, Unproved, Pattern, Outcome, Other}
+use Rattle.mlir_work_json.specs.declared.form.LineKind.{LineKind}
+use Rattle.mlir_work_json.specs.declared.form.LineKind.TheVariants.{Reply, Heading, ModuleRefused, AttachRefused, Module, Use, Constant, Dead, Unreached, Diagnostic, Effect, Definition, Reference, Unresolved, Mismatch, Reason, NotLegalised, AppliedRule, AppliedPattern, Unproved, Pattern, Outcome, Other}
 use Rattle.mlir_work_script_base.specs.Cuts.{before, after}
 use Rattle.mlir_work_script_base.specs.Values.{is_dot}
 
@@ -14,8 +14,8 @@ use Rattle.mlir_work_script_base.specs.Values.{is_dot}
 abbrev pub begins_module : ℕ → Bool
 begins_module b = (b == 32) || ((b == 34) || ((b == 125) || (b == 94)))
 
--- a row that begins with an operation, by what stands behind that: nothing, `@f`, `V8` or words
-abbrev pub op_form : List ℕ → Form
+-- the kind of a row that begins with an operation, from the rest: nothing, `@f`, `V8` or words
+abbrev pub op_form : List ℕ → LineKind
 op_form [] = Dead
 op_form (b ∷ bs) = if b == 64 then Unreached else if b == 86 then Diagnostic else Effect
 
@@ -37,18 +37,18 @@ names_value [] = false
 names_value (a ∷ []) = false
 names_value (a ∷ b ∷ text) = if b == 118 then are_two text else if b == 97 then are_three text else false
 
--- a row that begins with a value, or with a name that a pattern has for one
-abbrev pub named_form : List ℕ → Form
+-- a row that begins with the name of a value, of a module or of a pattern
+abbrev pub named_form : List ℕ → LineKind
 named_form word = if names_value word then Constant else Outcome
 
--- a row that begins so, by what stands behind that: an operation, or an attribute
-abbrev pub value_form : List ℕ → List ℕ → Form
+-- the kind of such a row, from the rest: an operation or an attribute
+abbrev pub value_form : List ℕ → List ℕ → LineKind
 value_form word [] = named_form word
 value_form word (b ∷ bs) = if b == 35 then Use else named_form word
 
 -- ---- a line that begins with a word
 
--- an attribute of a check begins with its number, or is `true` or `false`
+-- an attribute in a check begins with its number, or is `true` or `false`
 abbrev pub begins_number : List ℕ → Bool
 begins_number [] = false
 begins_number (b ∷ bs) = is_ascii_digit b || (b == 45)
@@ -62,31 +62,31 @@ abbrev pub begins_op : List ℕ → Bool
 begins_op [] = false
 begins_op (b ∷ bs) = b == 35
 
--- a line that tells of a rewrite has an operation behind the number and the word of the rule; a constant of a pattern
--- that is called so has none
+-- the trace of a rewrite by a rule has an operation after the number and the word of the rule; a constant of a
+-- pattern named `rewrote` has none
 abbrev pub tells_rewrite : List ℕ → Bool
-tells_rewrite line = bytes_eq (cell line) (codes "rewrote") && begins_op (behind (behind_second line))
+tells_rewrite line = bytes_eq (cell line) (codes "rewrote") && begins_op (trailing (after_second line))
 
--- and a line that tells of a pattern of one's own has one behind its name
+-- the trace of a rewrite by a user pattern has an operation after the name
 abbrev pub tells_pattern : List ℕ → Bool
-tells_pattern line = bytes_eq (cell line) (codes "rewrote") && begins_op (behind_second line)
+tells_pattern line = bytes_eq (cell line) (codes "rewrote") && begins_op (after_second line)
 
--- a pattern has `=>`
+-- a pattern contains `=>`
 abbrev pub has_arrow : List ℕ → Bool
 has_arrow line = is_some (position (λ b. b == 61) line)
 
--- what a check says, or that there was none
+-- a check result, or `unchecked`
 abbrev pub is_verdict : List ℕ → Bool
 is_verdict word = says_width word || bytes_eq word (codes "unchecked")
 
--- a line that names a pattern that no check proves has what a check says of it behind its name; a pattern or a constant
--- of a pattern that is called so hasn't
+-- the line of an unproved pattern has a check result after the name; a pattern named `unproved`, or a constant of
+-- that name in a check, has none
 abbrev pub tells_unproved : List ℕ → Bool
 tells_unproved line =
-    bytes_eq (cell line) (codes "unproved") && (is_verdict (cell (behind_second line)) && not (has_arrow line))
+    bytes_eq (cell line) (codes "unproved") && (is_verdict (cell (after_second line)) && not (has_arrow line))
 
--- a row of symbols, or a reason, in which an operation stands behind the word
-abbrev pub symbol_form : List ℕ → Form
+-- a row of `symbols` or a verdict on a rule: an operation follows the word
+abbrev pub symbol_form : List ℕ → LineKind
 symbol_form word =
     if bytes_eq word (codes "def") then Definition
     else if bytes_eq word (codes "duplicate") then Definition
@@ -95,32 +95,32 @@ symbol_form word =
     else if bytes_eq word (codes "unknown") then Unresolved
     else if bytes_eq word (codes "mismatch") then Mismatch
     else if bytes_eq word (codes "why") then Reason
-    else if bytes_eq word (codes "stays") then Stayed
+    else if bytes_eq word (codes "stays") then NotLegalised
     else Other
 
--- what is refused that is no command
-abbrev pub refusal_form : List ℕ → Form
+-- the kind of a refusal that isn't a reply to a command
+abbrev pub refusal_form : List ℕ → LineKind
 refusal_form word =
-    if bytes_eq word (codes "module") then Unread
-    else if bytes_eq word (codes "attach") then Unattached
+    if bytes_eq word (codes "module") then ModuleRefused
+    else if bytes_eq word (codes "attach") then AttachRefused
     else Other
 
-abbrev pub word_form : List ℕ → Form
+abbrev pub word_form : List ℕ → LineKind
 word_form line =
     if bytes_eq (cell line) (codes "--") then Heading
-    else if begins_op (behind line) then symbol_form (cell line)
-    else if tells_rewrite line then Rewritten
-    else if tells_pattern line then Applied
+    else if begins_op (trailing line) then symbol_form (cell line)
+    else if tells_rewrite line then AppliedRule
+    else if tells_pattern line then AppliedPattern
     else if tells_unproved line then Unproved
     else if is_outcome (second line) then Outcome
     else if has_arrow line then Pattern
     else refusal_form (cell line)
 
-abbrev pub form_of : List ℕ → Form
+abbrev pub form_of : List ℕ → LineKind
 form_of [] = Other
 form_of (b ∷ bs) =
     if is_ascii_digit b then Reply
-    else if b == 35 then op_form (behind (b ∷ bs))
-    else if b == 37 then value_form (cell (b ∷ bs)) (behind (b ∷ bs))
+    else if b == 35 then op_form (trailing (b ∷ bs))
+    else if b == 37 then value_form (cell (b ∷ bs)) (trailing (b ∷ bs))
     else if begins_module b then Module
     else word_form (b ∷ bs)

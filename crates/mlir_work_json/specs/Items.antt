@@ -1,4 +1,4 @@
--- What stands in the object of a line: members, each with its key.
+-- The object of a line: members with their keys.
 use Rattle.std.specs.Prelude.{◌≡◌, ℕ, List, [], ◌∷◌, map, Option, Some, None, OnOk, Result, String}
 use Rattle.std.specs.Str.Lossy.{utf8_lossy}
 use Rattle.std.specs.BTreeMap.{BTreeMap}
@@ -9,17 +9,17 @@ use Rattle.serde_json.specs.View.{items_of, members_view}
 use Rattle.serde_json.specs.declared.value.Value.{Value}
 use Rattle.mlir_work_json.specs.Numbers.{number_of}
 
--- a text, a number, or some texts
+-- the value of a member: a text, a number, or a list of texts
 pub data Item : Type 0 where
   Text : List ℕ → Item
   Number : ℕ → Item
   Texts : List (List ℕ) → Item
 
--- a key, and what it has
+-- a key with its value
 abbrev pub Member : Type 0
 Member = List ℕ × Item
 
--- a member whose value is this text
+-- a member with this text
 abbrev pub text : List ℕ → List ℕ → Member
 text key word = (key, Text word)
 
@@ -27,13 +27,13 @@ abbrev pub number_item : Option ℕ → List ℕ → Item
 number_item None word = Text word
 number_item (Some n) word = Number n
 
--- a member whose value is the number that the word is, or else the word
+-- a member with the number that the word spells, or else with the word
 abbrev pub numeral : List ℕ → List ℕ → Member
 numeral key word = (key, number_item (number_of word) word)
 
--- ---- as JSON
+-- ---- JSON values
 
--- a byte that is no UTF-8 is written as U+FFFD; no run writes one
+-- an invalid UTF-8 sequence becomes U+FFFD; no run writes one
 abbrev pub text_data : List ℕ → Data
 text_data word = string (utf8_lossy word)
 
@@ -42,11 +42,11 @@ data_of (Text word) = text_data word
 data_of (Number n) = number (unsigned n)
 data_of (Texts words) = array (items_of (map text_data words))
 
--- members go in one after the other; they stand in the order of their keys
+-- members are set one by one; the object keeps them ordered by their keys
 abbrev pub put_all : List Member → Members → Members
 put_all [] found = found
 put_all (m ∷ ms) found = put_all ms (put m.0 (data_of m.1) found)
 
--- where there is memory, an object has more members
+-- unless memory runs out, the object has these members too
 abbrev pub Puts : Result (Unit {0}) AllocError → BTreeMap (String Global) Value → BTreeMap (String Global) Value → List Member → Type 0
 Puts result old new ms = OnOk result (members_view new.entries ≡ put_all ms (members_view old.entries))

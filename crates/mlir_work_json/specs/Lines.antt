@@ -1,22 +1,22 @@
--- What a run writes, as JSON: each line is an object of a line.
+-- The output of a run as JSON: each line is one object on one line.
 use Rattle.std.specs.Prelude.{ℕ, List, [], ◌∷◌, ◌++◌, codes}
 use Rattle.serde_json.specs.Data.{Data, object, no_members}
 use Rattle.serde_json.specs.Written.{compact_text}
 use Rattle.mlir_work_json.specs.Cuts.{parts}
 use Rattle.mlir_work_json.specs.Forms.{form_of}
 use Rattle.mlir_work_json.specs.Items.{Member, text, put_all}
-use Rattle.mlir_work_json.specs.Replies.{reply_members, heading_members, unread_members, unattached_members}
+use Rattle.mlir_work_json.specs.Replies.{reply_members, heading_members, unparsed_members, unattached_members}
 use Rattle.mlir_work_json.specs.Rows.{use_members, constant_members, dead_members, unreached_members, diagnostic_members, effect_members, definition_members, reference_members, unresolved_members, mismatch_members, reason_members, stayed_members, rewritten_members, applied_members, unproved_members, pattern_members, outcome_members}
-use Rattle.mlir_work_json.specs.declared.form.Form.{Form}
-use Rattle.mlir_work_json.specs.declared.form.Form.TheVariants.{Reply, Heading, Unread, Unattached, Module, Use, Constant, Dead, Unreached, Diagnostic, Effect, Definition, Reference, Unresolved, Mismatch, Reason, Stayed, Rewritten, Applied, Unproved, Pattern, Outcome, Other}
+use Rattle.mlir_work_json.specs.declared.form.LineKind.{LineKind}
+use Rattle.mlir_work_json.specs.declared.form.LineKind.TheVariants.{Reply, Heading, ModuleRefused, AttachRefused, Module, Use, Constant, Dead, Unreached, Diagnostic, Effect, Definition, Reference, Unresolved, Mismatch, Reason, NotLegalised, AppliedRule, AppliedPattern, Unproved, Pattern, Outcome, Other}
 use Rattle.mlir_work_script_base.specs.Lines.{is_newline}
 
--- the members of a line of a form
-abbrev pub form_members : Form → List ℕ → List Member
+-- the members of a line of this kind
+abbrev pub form_members : LineKind → List ℕ → List Member
 form_members Reply line = reply_members line
 form_members Heading line = heading_members line
-form_members Unread line = unread_members line
-form_members Unattached line = unattached_members line
+form_members ModuleRefused line = unparsed_members line
+form_members AttachRefused line = unattached_members line
 form_members Module line = text (codes "module") line ∷ []
 form_members Use line = use_members line
 form_members Constant line = constant_members line
@@ -29,9 +29,9 @@ form_members Reference line = reference_members line
 form_members Unresolved line = unresolved_members line
 form_members Mismatch line = mismatch_members line
 form_members Reason line = reason_members line
-form_members Stayed line = stayed_members line
-form_members Rewritten line = rewritten_members line
-form_members Applied line = applied_members line
+form_members NotLegalised line = stayed_members line
+form_members AppliedRule line = rewritten_members line
+form_members AppliedPattern line = applied_members line
 form_members Unproved line = unproved_members line
 form_members Pattern line = pattern_members line
 form_members Outcome line = outcome_members line
@@ -45,11 +45,11 @@ line_members line = form_members (form_of line) line
 abbrev pub line_data : List ℕ → Data
 line_data line = object (put_all (line_members line) no_members)
 
--- a line as JSON, both without their ends
+-- a line as JSON, both without line feeds
 abbrev pub json_line : List ℕ → List ℕ
 json_line line = compact_text (line_data line)
 
--- lines as JSON, each with an end behind it
+-- lines as JSON, each with a line feed
 abbrev pub json_lines : List (List ℕ) → List ℕ
 json_lines [] = []
 json_lines (line ∷ lines) = (json_line line ++ 10 ∷ []) ++ json_lines lines

@@ -1,7 +1,7 @@
--- The members of rows. Each has its kind.
+-- The members of report rows. Each row has its kind.
 use Rattle.std.specs.Prelude.{ℕ, List, [], ◌∷◌, ◌==◌, Bool, if◌then◌else◌, is_some, codes}
 use Rattle.std.specs.Str.{bytes_eq}
-use Rattle.mlir_work_json.specs.Cuts.{behind, behind_second, cell, is_blank, parts, second, without_last}
+use Rattle.mlir_work_json.specs.Cuts.{trailing, after_second, cell, is_blank, parts, second, without_last}
 use Rattle.mlir_work_json.specs.Items.{Member, Texts, text, numeral}
 use Rattle.mlir_work_json.specs.Numbers.{number_of}
 use Rattle.mlir_work_script_base.specs.Cuts.{before, after}
@@ -14,12 +14,12 @@ kind word = text (codes "kind") word
 abbrev pub use_members : List ℕ → List Member
 use_members line =
     kind (codes "uses") ∷ text (codes "value") (cell line) ∷ text (codes "user") (second line)
-    ∷ numeral (codes "operand") (behind_second line) ∷ []
+    ∷ numeral (codes "operand") (after_second line) ∷ []
 
 -- `%v2.0 0 : i32`
 abbrev pub constant_members : List ℕ → List Member
 constant_members line =
-    kind (codes "constants") ∷ text (codes "value") (cell line) ∷ text (codes "attribute") (behind line) ∷ []
+    kind (codes "constants") ∷ text (codes "value") (cell line) ∷ text (codes "attribute") (trailing line) ∷ []
 
 -- `#3`
 abbrev pub dead_members : List ℕ → List Member
@@ -28,19 +28,19 @@ dead_members line = kind (codes "dead") ∷ text (codes "op") line ∷ []
 -- `#6 @b`
 abbrev pub unreached_members : List ℕ → List Member
 unreached_members line =
-    kind (codes "unreached") ∷ text (codes "op") (cell line) ∷ text (codes "name") (behind line) ∷ []
+    kind (codes "unreached") ∷ text (codes "op") (cell line) ∷ text (codes "name") (trailing line) ∷ []
 
 -- `#4 V2`
 abbrev pub diagnostic_members : List ℕ → List Member
 diagnostic_members line =
-    kind (codes "diagnostics") ∷ text (codes "op") (cell line) ∷ text (codes "rule") (behind line) ∷ []
+    kind (codes "diagnostics") ∷ text (codes "op") (cell line) ∷ text (codes "rule") (trailing line) ∷ []
 
 -- `#6 read write`
 abbrev pub effect_members : List ℕ → List Member
 effect_members line =
-    kind (codes "effects") ∷ text (codes "op") (cell line) ∷ (codes "words", Texts (parts is_blank (behind line))) ∷ []
+    kind (codes "effects") ∷ text (codes "op") (cell line) ∷ (codes "words", Texts (parts is_blank (trailing line))) ∷ []
 
--- ---- symbols: a group, and what stands behind its word
+-- ---- symbols: the word, and the text after it
 
 abbrev pub symbol_members : List ℕ → List Member → List Member
 symbol_members line rest = kind (codes "symbols") ∷ text (codes "group") (cell line) ∷ rest
@@ -48,86 +48,86 @@ symbol_members line rest = kind (codes "symbols") ∷ text (codes "group") (cell
 -- `def #0 @f #1`, `duplicate #0 @f #1`
 abbrev pub definition_members : List ℕ → List Member
 definition_members line =
-    symbol_members line (text (codes "table") (second line) ∷ text (codes "name") (cell (behind_second line))
-    ∷ text (codes "op") (behind (behind_second line)) ∷ [])
+    symbol_members line (text (codes "table") (second line) ∷ text (codes "name") (cell (after_second line))
+    ∷ text (codes "op") (trailing (after_second line)) ∷ [])
 
 -- `use #3 @f #1`
 abbrev pub reference_members : List ℕ → List Member
 reference_members line =
-    symbol_members line (text (codes "op") (second line) ∷ text (codes "name") (cell (behind_second line))
-    ∷ text (codes "target") (behind (behind_second line)) ∷ [])
+    symbol_members line (text (codes "op") (second line) ∷ text (codes "name") (cell (after_second line))
+    ∷ text (codes "target") (trailing (after_second line)) ∷ [])
 
 -- `unresolved #4 @g`, `unknown #4 @g`
 abbrev pub unresolved_members : List ℕ → List Member
 unresolved_members line =
-    symbol_members line (text (codes "op") (second line) ∷ text (codes "name") (behind_second line) ∷ [])
+    symbol_members line (text (codes "op") (second line) ∷ text (codes "name") (after_second line) ∷ [])
 
 -- `mismatch #3 #1`
 abbrev pub mismatch_members : List ℕ → List Member
 mismatch_members line =
-    symbol_members line (text (codes "op") (second line) ∷ text (codes "target") (behind_second line) ∷ [])
+    symbol_members line (text (codes "op") (second line) ∷ text (codes "target") (after_second line) ∷ [])
 
 -- ---- rewrites
 
 -- `erased #7`, or nothing
 abbrev pub erased_members : List ℕ → List Member
 erased_members [] = []
-erased_members (b ∷ bs) = text (codes "erased") (behind (b ∷ bs)) ∷ []
+erased_members (b ∷ bs) = text (codes "erased") (trailing (b ∷ bs)) ∷ []
 
 -- `made #12,#13 erased #7`, or one of the two, or nothing
 abbrev pub change_members : List ℕ → List Member
 change_members line =
     if bytes_eq (cell line) (codes "made")
-    then (codes "made", Texts (parts is_comma (second line))) ∷ erased_members (behind_second line)
+    then (codes "made", Texts (parts is_comma (second line))) ∷ erased_members (after_second line)
     else erased_members line
 
 -- `rewrote 10 regroup-constants #7 made #12,#13 erased #7`
 abbrev pub rewritten_members : List ℕ → List Member
 rewritten_members line =
-    kind (codes "trace") ∷ numeral (codes "rule") (second line) ∷ text (codes "word") (cell (behind_second line))
-    ∷ text (codes "op") (second (behind_second line)) ∷ change_members (behind_second (behind_second line))
+    kind (codes "trace") ∷ numeral (codes "rule") (second line) ∷ text (codes "word") (cell (after_second line))
+    ∷ text (codes "op") (second (after_second line)) ∷ change_members (after_second (after_second line))
 
 -- `rewrote times_power #3 made #7,#8 erased #3`
 abbrev pub applied_members : List ℕ → List Member
 applied_members line =
-    kind (codes "trace") ∷ text (codes "name") (second line) ∷ text (codes "op") (cell (behind_second line))
-    ∷ change_members (behind (behind_second line))
+    kind (codes "trace") ∷ text (codes "name") (second line) ∷ text (codes "op") (cell (after_second line))
+    ∷ change_members (trailing (after_second line))
 
 -- ---- reasons
 
 -- `why #5 4 drop-zero second-not-zero`
 abbrev pub reason_members : List ℕ → List Member
 reason_members line =
-    kind (codes "why") ∷ text (codes "op") (second line) ∷ numeral (codes "rule") (cell (behind_second line))
-    ∷ text (codes "word") (second (behind_second line)) ∷ text (codes "said") (behind_second (behind_second line)) ∷ []
+    kind (codes "why") ∷ text (codes "op") (second line) ∷ numeral (codes "rule") (cell (after_second line))
+    ∷ text (codes "word") (second (after_second line)) ∷ text (codes "said") (after_second (after_second line)) ∷ []
 
--- the rule that was tried last, `27 expand-remainder makes-illegal`, or that there is none, `no-rule`
+-- the rule that was tried last with its failure, `27 expand-remainder makes-illegal`, or `no-rule`
 abbrev pub stay_members : List ℕ → List Member
 stay_members said =
     if is_some (number_of (cell said))
     then numeral (codes "rule") (cell said) ∷ text (codes "word") (second said)
-    ∷ text (codes "said") (behind_second said) ∷ []
+    ∷ text (codes "said") (after_second said) ∷ []
     else text (codes "said") said ∷ []
 
 -- `stays #5 27 expand-remainder makes-illegal`, `stays #5 no-rule`
 abbrev pub stayed_members : List ℕ → List Member
 stayed_members line =
-    kind (codes "stays") ∷ text (codes "op") (second line) ∷ stay_members (behind_second line)
+    kind (codes "stays") ∷ text (codes "op") (second line) ∷ stay_members (after_second line)
 
--- ---- patterns of one's own
+-- ---- user patterns
 
 -- `holds 8`, or `holds`, or `not checked`
 abbrev pub said_members : List ℕ → List Member
 said_members said =
-    if is_some (number_of (behind said))
-    then text (codes "said") (cell said) ∷ numeral (codes "width") (behind said) ∷ []
+    if is_some (number_of (trailing said))
+    then text (codes "said") (cell said) ∷ numeral (codes "width") (trailing said) ∷ []
     else text (codes "said") said ∷ []
 
 -- `unproved mask holds 8`, `unproved mask unchecked`
 abbrev pub unproved_members : List ℕ → List Member
-unproved_members line = kind (codes "unproved") ∷ text (codes "name") (second line) ∷ said_members (behind_second line)
+unproved_members line = kind (codes "unproved") ∷ text (codes "name") (second line) ∷ said_members (after_second line)
 
--- no pattern has a slash within, and a blank stands in front of the comment
+-- a pattern contains no slash, and a blank precedes the comment
 abbrev pub is_slash : ℕ → Bool
 is_slash b = b == 47
 
@@ -135,9 +135,9 @@ is_slash b = b == 47
 abbrev pub pattern_members : List ℕ → List Member
 pattern_members line =
     kind (codes "patterns") ∷ text (codes "name") (cell line) ∷ text (codes "pattern") (without_last (before is_slash line))
-    ∷ said_members (behind (after is_slash line))
+    ∷ said_members (trailing (after is_slash line))
 
 -- `%a -2 : i2`, `c -2 : i2`, `old 1 : i2`, `new poison`
 abbrev pub outcome_members : List ℕ → List Member
 outcome_members line =
-    kind (codes "check") ∷ text (codes "name") (cell line) ∷ text (codes "outcome") (behind line) ∷ []
+    kind (codes "check") ∷ text (codes "name") (cell line) ∷ text (codes "outcome") (trailing line) ∷ []

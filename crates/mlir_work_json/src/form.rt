@@ -1,26 +1,26 @@
-//! What a line of an output is.
+//! Classifies the lines of an output.
 ghost use Rattle.std.specs.Prelude.{◌≡◌};
 ghost use Rattle.mlir_work_json.specs.Forms.{are_three, are_two, begins_module, begins_number, begins_op, form_of};
 ghost use Rattle.mlir_work_json.specs.Forms.{has_arrow, is_number, is_outcome, is_verdict, named_form, names_value, op_form};
 ghost use Rattle.mlir_work_json.specs.Forms.{refusal_form, symbol_form, tells_pattern, tells_rewrite, tells_unproved, value_form};
 ghost use Rattle.mlir_work_json.specs.Forms.{word_form};
 
-use crate::cuts::{behind_cell, cut_cell, has_byte};
-use crate::numbers::number;
+use crate::cuts::{after_cell, cut_cell, has_byte};
+use crate::numbers::parse_number;
 use crate::replies::says_width;
 use mlir_work_script_base::cuts::cut_at;
 
-/// What a line of an output is, told by how it begins.
+/// The kind of an output line. The beginning of the line decides it.
 #[derive(Clone, Copy, Debug, PartialEq, Eq)]
-pub enum Form {
-    /// The reply to a command, behind its number.
+pub enum LineKind {
+    /// The reply to a command; the line begins with the number.
     Reply,
-    /// What stands above the rows of a kind, or in their place.
+    /// The heading of the report rows of a kind, or the line in their place.
     Heading,
-    /// The module was refused.
-    Unread,
-    /// An analysis was refused.
-    Unattached,
+    /// The refusal of the module.
+    ModuleRefused,
+    /// The refusal of an analysis.
+    AttachRefused,
     /// A line of a module.
     Module,
     /// A row of `uses`.
@@ -35,59 +35,59 @@ pub enum Form {
     Diagnostic,
     /// A row of `effects`.
     Effect,
-    /// A row of `symbols`: a definition, or one more of its name.
+    /// A row of `symbols`: a definition, or another definition of the same name.
     Definition,
-    /// A row of `symbols`: a reference, and what it comes to.
+    /// A row of `symbols`: a reference and the operation to which it resolves.
     Reference,
-    /// A row of `symbols`: a reference that names nothing.
+    /// A row of `symbols`: a reference that doesn't resolve.
     Unresolved,
-    /// A row of `symbols`: a call that doesn't fit.
+    /// A row of `symbols`: a call whose types don't match the function's.
     Mismatch,
-    /// Why a rule doesn't apply, or that it does.
+    /// The reason why a rule doesn't match, or that it does.
     Reason,
-    /// Why an operation can't be legalised.
-    Stayed,
-    /// A rewrite by a rule that is told.
-    Rewritten,
-    /// A rewrite by a pattern of one's own that is told.
-    Applied,
-    /// A pattern by which a command rewrites, and that no check proves for its module.
+    /// The reason why an operation can't be legalized.
+    NotLegalised,
+    /// A traced rewrite by a rule.
+    AppliedRule,
+    /// A traced rewrite by a user pattern.
+    AppliedPattern,
+    /// A pattern by which a command rewrites and which no check proves for the module.
     Unproved,
-    /// A pattern, and what its last check said.
+    /// A pattern with the result of its last check.
     Pattern,
-    /// A row of a check: a variable, or a result, and what it is.
+    /// A row of a check: a variable or a result, with its value.
     Outcome,
-    /// No line of an output.
+    /// Not an output line.
     Other,
 }
 
-/// Whether a line of a module begins so.
+/// Returns whether a line that begins with this byte is a line of a module.
 fn begins_module(byte: u8) -> bool
     ensures { result ≡ begins_module byte }
 {
     byte == b' ' || byte == b'"' || byte == b'}' || byte == b'^'
 }
 
-/// What a row is in which this stands behind an operation.
-fn op_form(behind: &[u8]) -> Form
-    ensures { result ≡ op_form behind.now }
+/// Returns the kind of a row that begins with an operation; `trailing` is the rest of the row.
+fn op_form(trailing: &[u8]) -> LineKind
+    ensures { result ≡ op_form trailing.now }
 {
-    match behind {
-        [] => Form::Dead,
-        [b'@', ..] => Form::Unreached,
-        [b'V', ..] => Form::Diagnostic,
-        _ => Form::Effect,
+    match trailing {
+        [] => LineKind::Dead,
+        [b'@', ..] => LineKind::Unreached,
+        [b'V', ..] => LineKind::Diagnostic,
+        _ => LineKind::Effect,
     }
 }
 
-/// Whether a word is a number.
+/// Returns whether a word is a number.
 fn is_number(word: &[u8]) -> bool
     ensures { result ≡ is_number word.now }
 {
-    number(word).is_some()
+    parse_number(word).is_some()
 }
 
-/// Whether a text is two numbers: `2.0`.
+/// Returns whether a text is two numbers: `2.0`.
 fn are_two(text: &[u8]) -> bool
     ensures { result ≡ are_two text.now }
 {
@@ -95,7 +95,7 @@ fn are_two(text: &[u8]) -> bool
     is_number(op) && is_number(place)
 }
 
-/// Whether a text is three numbers: `1.0.0`.
+/// Returns whether a text is three numbers: `1.0.0`.
 fn are_three(text: &[u8]) -> bool
     ensures { result ≡ are_three text.now }
 {
@@ -103,7 +103,7 @@ fn are_three(text: &[u8]) -> bool
     is_number(op) && are_two(rest)
 }
 
-/// Whether a word is the name of a value of a module, behind its first byte.
+/// Returns whether a word is the name of a module's value; the first byte isn't tested.
 fn names_value(word: &[u8]) -> bool
     ensures { result ≡ names_value word.now }
 {
@@ -114,28 +114,28 @@ fn names_value(word: &[u8]) -> bool
     }
 }
 
-/// What a row is that begins with the name of a value, of a module or of a pattern.
-fn named_form(word: &[u8]) -> Form
+/// Returns the kind of a row that begins with the name of a value, of a module or of a pattern.
+fn named_form(word: &[u8]) -> LineKind
     ensures { result ≡ named_form word.now }
 {
     if names_value(word) {
-        Form::Constant
+        LineKind::Constant
     } else {
-        Form::Outcome
+        LineKind::Outcome
     }
 }
 
-/// What a row is in which this stands behind the name of a value.
-fn value_form(word: &[u8], behind: &[u8]) -> Form
-    ensures { result ≡ value_form word.now behind.now }
+/// Returns the kind of a row that begins with the name of a value; `trailing` is the rest of the row.
+fn value_form(word: &[u8], trailing: &[u8]) -> LineKind
+    ensures { result ≡ value_form word.now trailing.now }
 {
-    match behind {
-        [b'#', ..] => Form::Use,
+    match trailing {
+        [b'#', ..] => LineKind::Use,
         _ => named_form(word),
     }
 }
 
-/// Whether a word begins as a number does.
+/// Returns whether a word begins like a number.
 fn begins_number(word: &[u8]) -> bool
     ensures { result ≡ begins_number word.now }
 {
@@ -145,7 +145,7 @@ fn begins_number(word: &[u8]) -> bool
     }
 }
 
-/// Whether a word is what a check says of a variable or a result, or how that begins.
+/// Returns whether a word is a value of a variable or result in a check, or the beginning of such a value.
 fn is_outcome(word: &[u8]) -> bool
     ensures { result ≡ is_outcome word.now }
 {
@@ -156,7 +156,7 @@ fn is_outcome(word: &[u8]) -> bool
         || word == b"undefined".as_slice()
 }
 
-/// Whether a text begins with an operation.
+/// Returns whether a text begins with an operation id.
 fn begins_op(text: &[u8]) -> bool
     ensures { result ≡ begins_op text.now }
 {
@@ -166,132 +166,132 @@ fn begins_op(text: &[u8]) -> bool
     }
 }
 
-/// Whether a line tells of a rewrite.
+/// Returns whether a line is the trace of a rewrite by a rule.
 fn tells_rewrite(line: &[u8]) -> bool
     ensures { result ≡ tells_rewrite line.now }
 {
-    let (word, behind) = cut_cell(line);
-    let rule = behind_cell(behind);
-    word == b"rewrote".as_slice() && begins_op(behind_cell(rule))
+    let (word, trailing) = cut_cell(line);
+    let rule = after_cell(trailing);
+    word == b"rewrote".as_slice() && begins_op(after_cell(rule))
 }
 
-/// Whether a line tells of a pattern of one's own that was applied.
+/// Returns whether a line is the trace of a rewrite by a user pattern.
 fn tells_pattern(line: &[u8]) -> bool
     ensures { result ≡ tells_pattern line.now }
 {
-    let (word, behind) = cut_cell(line);
-    word == b"rewrote".as_slice() && begins_op(behind_cell(behind))
+    let (word, trailing) = cut_cell(line);
+    word == b"rewrote".as_slice() && begins_op(after_cell(trailing))
 }
 
-/// Whether a line has the arrow of a pattern.
+/// Returns whether a line has the arrow of a pattern.
 fn has_arrow(line: &[u8]) -> bool
     ensures { result ≡ has_arrow line.now }
 {
     has_byte(line, b'=')
 }
 
-/// Whether a word is what a check says, or that there was none.
+/// Returns whether a word is a check result, or `unchecked`.
 fn is_verdict(word: &[u8]) -> bool
     ensures { result ≡ is_verdict word.now }
 {
     says_width(word) || word == b"unchecked".as_slice()
 }
 
-/// Whether a line names a pattern that no check proves.
+/// Returns whether a line names a pattern that no check proves.
 fn tells_unproved(line: &[u8]) -> bool
     ensures { result ≡ tells_unproved line.now }
 {
-    let (word, behind) = cut_cell(line);
-    let said = behind_cell(behind);
+    let (word, trailing) = cut_cell(line);
+    let said = after_cell(trailing);
     word == b"unproved".as_slice() && is_verdict(cut_cell(said).0) && !has_arrow(line)
 }
 
-/// What a row is that begins with this word, behind which an operation stands.
-fn symbol_form(word: &[u8]) -> Form
+/// Returns the kind of a row that begins with this word, followed by an operation.
+fn symbol_form(word: &[u8]) -> LineKind
     ensures { result ≡ symbol_form word.now }
 {
     if word == b"def".as_slice() || word == b"duplicate".as_slice() {
-        return Form::Definition;
+        return LineKind::Definition;
     }
     if word == b"use".as_slice() {
-        return Form::Reference;
+        return LineKind::Reference;
     }
     if word == b"unresolved".as_slice() || word == b"unknown".as_slice() {
-        return Form::Unresolved;
+        return LineKind::Unresolved;
     }
     if word == b"mismatch".as_slice() {
-        return Form::Mismatch;
+        return LineKind::Mismatch;
     }
     if word == b"why".as_slice() {
-        return Form::Reason;
+        return LineKind::Reason;
     }
     if word == b"stays".as_slice() {
-        return Form::Stayed;
+        return LineKind::NotLegalised;
     }
-    Form::Other
+    LineKind::Other
 }
 
-/// What is refused by a line that begins with this word.
-fn refusal_form(word: &[u8]) -> Form
+/// Returns the kind of a refusal line that begins with this word.
+fn refusal_form(word: &[u8]) -> LineKind
     ensures { result ≡ refusal_form word.now }
 {
     if word == b"module".as_slice() {
-        return Form::Unread;
+        return LineKind::ModuleRefused;
     }
     if word == b"attach".as_slice() {
-        return Form::Unattached;
+        return LineKind::AttachRefused;
     }
-    Form::Other
+    LineKind::Other
 }
 
-/// What a line is that begins with a word.
-fn word_form(line: &[u8]) -> Form
+/// Returns the kind of a line that begins with a word.
+fn word_form(line: &[u8]) -> LineKind
     ensures { result ≡ word_form line.now }
 {
-    let (word, behind) = cut_cell(line);
+    let (word, trailing) = cut_cell(line);
     if word == b"--".as_slice() {
-        return Form::Heading;
+        return LineKind::Heading;
     }
-    if begins_op(behind) {
+    if begins_op(trailing) {
         return symbol_form(word);
     }
     if tells_rewrite(line) {
-        return Form::Rewritten;
+        return LineKind::AppliedRule;
     }
     if tells_pattern(line) {
-        return Form::Applied;
+        return LineKind::AppliedPattern;
     }
     if tells_unproved(line) {
-        return Form::Unproved;
+        return LineKind::Unproved;
     }
-    if is_outcome(cut_cell(behind).0) {
-        return Form::Outcome;
+    if is_outcome(cut_cell(trailing).0) {
+        return LineKind::Outcome;
     }
     if has_arrow(line) {
-        return Form::Pattern;
+        return LineKind::Pattern;
     }
     refusal_form(word)
 }
 
-/// What a line is.
-pub(crate) fn form_of(line: &[u8]) -> Form
+/// Returns the kind of a line.
+pub(crate) fn form_of(line: &[u8]) -> LineKind
     ensures { result ≡ form_of line.now }
 {
     let Some(first) = line.first() else {
-        return Form::Other;
+        return LineKind::Other;
     };
     if first.is_ascii_digit() {
-        return Form::Reply;
+        return LineKind::Reply;
     }
     if *first == b'#' {
-        return op_form(behind_cell(line));
+        return op_form(after_cell(line));
     }
     if *first == b'%' {
-        let (word, behind) = cut_cell(line);
-        return value_form(word, behind);
+        let (word, trailing) = cut_cell(line);
+        return value_form(word, trailing);
     }
     if begins_module(*first) {
-        return Form::Module;
+        return LineKind::Module;
     }
     word_form(line)
 }

@@ -1,4 +1,4 @@
-//! What a run writes, as JSON: each line of it is an object of a line.
+//! Converts the output of a run to JSON: each line becomes one object on one line.
 #![tactic(auto)]
 
 mod cuts;

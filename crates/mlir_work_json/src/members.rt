@@ -1,27 +1,27 @@
-//! Members of the object of a line.
+//! Sets members of the object of a line.
 ghost use Rattle.std.specs.Prelude.{◌≡◌, ◌==◌, [], ◌∷◌, map, IfOk};
 ghost use Rattle.serde_json.specs.View.{view};
 ghost use Rattle.mlir_work_json.specs.Cuts.{cells, parts};
 ghost use Rattle.mlir_work_json.specs.Items.{Puts, Texts, text, numeral, text_data};
 
 use crate::cuts::cut_cell;
-use crate::numbers::number;
+use crate::numbers::parse_number;
 use mlir_work_script_base::cuts::cut_at;
 use serde_json::{Map, Value, put};
 use std::alloc::{AllocError, Global};
 
-/// The members of an object, in the order of their keys.
+/// The members of an object, ordered by their keys.
 pub(crate) type Object = Map<String, Value>;
 
-/// A text. A byte that is no UTF-8 becomes U+FFFD.
+/// Returns a text as a JSON string. An invalid UTF-8 sequence becomes U+FFFD.
 fn text_value(alloc: Global, word: &[u8]) -> Result<Value, AllocError>
     ensures { IfOk result (λ v. view v ≡ text_data word.now) }
 {
     Ok(Value::String(String::from_utf8_lossy(alloc, word)?))
 }
 
-/// Puts a member whose value is a text.
-pub(crate) fn put_text(
+/// Sets a member to a text.
+pub(crate) fn set_text(
     object: &mut Object,
     alloc: Global,
     key: &str,
@@ -33,8 +33,8 @@ pub(crate) fn put_text(
     put(object, alloc, key, value)
 }
 
-/// Puts a member whose value is the number that a word is, or else the word.
-pub(crate) fn put_number(
+/// Sets a member to the number that a word spells, or else to the word.
+pub(crate) fn set_number(
     object: &mut Object,
     alloc: Global,
     key: &str,
@@ -42,42 +42,42 @@ pub(crate) fn put_number(
 ) -> Result<(), AllocError>
     ensures { Puts result object.old object.new (numeral key.now word.now ∷ []) }
 {
-    match number(word) {
+    match parse_number(word) {
         Some(n) => put(object, alloc, key, Value::from(n)),
-        None => put_text(object, alloc, key, word),
+        None => set_text(object, alloc, key, word),
     }
 }
 
-/// The parts of a text, which end at a byte.
+/// Returns the parts of a text as JSON strings. The byte `end` ends a part.
 fn parts_value(alloc: Global, text: &[u8], end: u8) -> Result<Vec<Value>, AllocError>
     ensures { IfOk result (λ v. map view v.items ≡ map text_data (parts (λ b. b == end) text.now)) }
 {
     let mut values = Vec::new(alloc);
     let mut rest = text;
     while !rest.is_empty() {
-        let (word, behind) = cut_at(rest, end);
+        let (word, trailing) = cut_at(rest, end);
         values.push(text_value(alloc, word)?)?;
-        rest = behind;
+        rest = trailing;
     }
     Ok(values)
 }
 
-/// The cells of a text.
+/// Returns the cells of a text as JSON strings.
 fn cells_value(alloc: Global, text: &[u8]) -> Result<Vec<Value>, AllocError>
     ensures { IfOk result (λ v. map view v.items ≡ map text_data (cells text.now)) }
 {
     let mut values = Vec::new(alloc);
     let mut rest = text;
     while !rest.is_empty() {
-        let (word, behind) = cut_cell(rest);
+        let (word, trailing) = cut_cell(rest);
         values.push(text_value(alloc, word)?)?;
-        rest = behind;
+        rest = trailing;
     }
     Ok(values)
 }
 
-/// Puts a member whose value is the cells of a text.
-pub(crate) fn put_cells(
+/// Sets a member to the cells of a text.
+pub(crate) fn set_cells(
     object: &mut Object,
     alloc: Global,
     key: &str,
@@ -89,8 +89,8 @@ pub(crate) fn put_cells(
     put(object, alloc, key, Value::Array(values))
 }
 
-/// Puts a member whose value is the parts of a text, which end at a byte.
-pub(crate) fn put_parts(
+/// Sets a member to the parts of a text. The byte `end` ends a part.
+pub(crate) fn set_parts(
     object: &mut Object,
     alloc: Global,
     key: &str,

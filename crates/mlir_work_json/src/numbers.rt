@@ -1,11 +1,11 @@
-//! Decimal numbers, as they are printed.
+//! Decimal numbers in output lines.
 ghost use Rattle.std.specs.Prelude.{◌≡◌};
 ghost use Rattle.mlir_work_json.specs.Numbers.{number_of};
 
 use mlir_work_script_base::numbers::digits_value;
 
-/// The decimal number that a word is, or `None` where it is none, or greater than 4,294,967,295, or has a zero in front.
-pub(crate) fn number(word: &[u8]) -> Option<u32>
+/// Parses a decimal number. Returns `None` if the word isn't a number, has a leading zero or exceeds 4,294,967,295.
+pub(crate) fn parse_number(word: &[u8]) -> Option<u32>
     ensures { result ≡ number_of word.now }
 {
     match word {

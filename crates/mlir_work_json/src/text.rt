@@ -1,4 +1,4 @@
-//! What a run writes, as JSON.
+//! Converts lines and whole outputs to JSON.
 ghost use Rattle.std.specs.Prelude.{◌≡◌, [], ◌∷◌, ◌++◌, map, Some, IfOk, OnOk};
 ghost use Rattle.serde_json.specs.Read.{read};
 ghost use Rattle.serde_json.specs.View.{view};
@@ -7,60 +7,65 @@ ghost use Rattle.mlir_work_json.specs.Items.{Puts};
 ghost use Rattle.mlir_work_json.specs.Lines.{form_members, line_data, json_line, json_text};
 ghost use Rattle.mlir_work_script_base.specs.Lines.{is_newline};
 
-use crate::form::{Form, form_of};
-use crate::members::{Object, put_text};
-use crate::replies::{put_heading, put_reply, put_unattached, put_unread};
+use crate::form::{LineKind, form_of};
+use crate::members::{Object, set_text};
+use crate::replies::{add_attach_refused, add_module_refused, set_heading, set_reply};
 use crate::rows::{
-    put_applied, put_constant, put_dead, put_definition, put_diagnostic, put_effect, put_mismatch,
-    put_outcome, put_pattern, put_reason, put_reference, put_rewritten, put_stayed, put_unproved,
-    put_unreached, put_unresolved, put_use,
+    add_not_legalised, set_applied, set_constant, set_dead, set_definition, set_diagnostic,
+    set_effect, set_mismatch, set_outcome, set_pattern, set_reason, set_reference, set_rewritten,
+    set_unproved, set_unreached, set_unresolved, set_use,
 };
 use mlir_work_script_base::cuts::cut_at;
 use serde_json::{Map, Value};
 use std::alloc::{AllocError, Global};
 
-/// Puts the members of a line of a form.
-fn put_form(object: &mut Object, alloc: Global, form: &Form, line: &[u8]) -> Result<(), AllocError>
+/// Sets the members of a line of this kind.
+fn set_form(
+    object: &mut Object,
+    alloc: Global,
+    form: &LineKind,
+    line: &[u8],
+) -> Result<(), AllocError>
     ensures { Puts result object.old object.new (form_members form.now line.now) }
 {
     match form {
-        Form::Reply => put_reply(object, alloc, line),
-        Form::Heading => put_heading(object, alloc, line),
-        Form::Unread => put_unread(object, alloc, line),
-        Form::Unattached => put_unattached(object, alloc, line),
-        Form::Module => put_text(object, alloc, "module", line),
-        Form::Use => put_use(object, alloc, line),
-        Form::Constant => put_constant(object, alloc, line),
-        Form::Dead => put_dead(object, alloc, line),
-        Form::Unreached => put_unreached(object, alloc, line),
-        Form::Diagnostic => put_diagnostic(object, alloc, line),
-        Form::Effect => put_effect(object, alloc, line),
-        Form::Definition => put_definition(object, alloc, line),
-        Form::Reference => put_reference(object, alloc, line),
-        Form::Unresolved => put_unresolved(object, alloc, line),
-        Form::Mismatch => put_mismatch(object, alloc, line),
-        Form::Reason => put_reason(object, alloc, line),
-        Form::Stayed => put_stayed(object, alloc, line),
-        Form::Rewritten => put_rewritten(object, alloc, line),
-        Form::Applied => put_applied(object, alloc, line),
-        Form::Unproved => put_unproved(object, alloc, line),
-        Form::Pattern => put_pattern(object, alloc, line),
-        Form::Outcome => put_outcome(object, alloc, line),
-        Form::Other => put_text(object, alloc, "text", line),
+        LineKind::Reply => set_reply(object, alloc, line),
+        LineKind::Heading => set_heading(object, alloc, line),
+        LineKind::ModuleRefused => add_module_refused(object, alloc, line),
+        LineKind::AttachRefused => add_attach_refused(object, alloc, line),
+        LineKind::Module => set_text(object, alloc, "module", line),
+        LineKind::Use => set_use(object, alloc, line),
+        LineKind::Constant => set_constant(object, alloc, line),
+        LineKind::Dead => set_dead(object, alloc, line),
+        LineKind::Unreached => set_unreached(object, alloc, line),
+        LineKind::Diagnostic => set_diagnostic(object, alloc, line),
+        LineKind::Effect => set_effect(object, alloc, line),
+        LineKind::Definition => set_definition(object, alloc, line),
+        LineKind::Reference => set_reference(object, alloc, line),
+        LineKind::Unresolved => set_unresolved(object, alloc, line),
+        LineKind::Mismatch => set_mismatch(object, alloc, line),
+        LineKind::Reason => set_reason(object, alloc, line),
+        LineKind::NotLegalised => add_not_legalised(object, alloc, line),
+        LineKind::AppliedRule => set_rewritten(object, alloc, line),
+        LineKind::AppliedPattern => set_applied(object, alloc, line),
+        LineKind::Unproved => set_unproved(object, alloc, line),
+        LineKind::Pattern => set_pattern(object, alloc, line),
+        LineKind::Outcome => set_outcome(object, alloc, line),
+        LineKind::Other => set_text(object, alloc, "text", line),
     }
 }
 
-/// The object of a line.
+/// Returns the object of a line.
 #[tactic(auto, unfolding(crate::specs::Lines::line_members))]
 pub fn line_value(alloc: Global, line: &[u8]) -> Result<Value, AllocError>
     ensures { IfOk result (λ v. view v ≡ line_data line.now) }
 {
     let mut object = Map::new(alloc);
-    put_form(&mut object, alloc, &form_of(line), line)?;
+    set_form(&mut object, alloc, &form_of(line), line)?;
     Ok(Value::Object(object))
 }
 
-/// A line of an output as JSON, both without their ends. It reads back as the object of the line.
+/// Converts one output line to one line of JSON, both without line feeds. The JSON parses as the object of the line.
 pub fn json_line(alloc: Global, line: &[u8]) -> Result<Vec<u8>, AllocError>
     ensures json { IfOk result (λ json. json.items ≡ json_line line.now) }
     ensures reads { IfOk result (λ json. read json.items ≡ Some (line_data line.now)) }
@@ -68,8 +73,8 @@ pub fn json_line(alloc: Global, line: &[u8]) -> Result<Vec<u8>, AllocError>
     line_value(alloc, line)?.to_vec(alloc)
 }
 
-/// Puts a line of an output behind others, as JSON, with its end.
-fn put_line(json: &mut Vec<u8>, alloc: Global, line: &[u8]) -> Result<(), AllocError>
+/// Appends a line of an output as JSON, with a line feed.
+fn write_line(json: &mut Vec<u8>, alloc: Global, line: &[u8]) -> Result<(), AllocError>
     ensures { OnOk result (json.new.items ≡ json.old.items ++ (json_line line.now ++ 10 ∷ [])) }
 {
     let text = json_line(alloc, line)?;
@@ -78,7 +83,7 @@ fn put_line(json: &mut Vec<u8>, alloc: Global, line: &[u8]) -> Result<(), AllocE
     Ok(())
 }
 
-/// An output as JSON: each line of it is an object of a line, and the lines of the JSON are the JSON of its lines.
+/// Converts an output to JSON. Each line becomes one object on one line.
 pub fn json_text(alloc: Global, output: &[u8]) -> Result<Vec<u8>, AllocError>
     ensures text { IfOk result (λ json. json.items ≡ json_text output.now) }
     ensures lines { IfOk result (λ json. parts is_newline json.items
@@ -87,9 +92,9 @@ pub fn json_text(alloc: Global, output: &[u8]) -> Result<Vec<u8>, AllocError>
     let mut json = Vec::new(alloc);
     let mut rest = output;
     while !rest.is_empty() {
-        let (line, behind) = cut_at(rest, b'\n');
-        put_line(&mut json, alloc, line)?;
-        rest = behind;
+        let (line, trailing) = cut_at(rest, b'\n');
+        write_line(&mut json, alloc, line)?;
+        rest = trailing;
     }
     Ok(json)
 }

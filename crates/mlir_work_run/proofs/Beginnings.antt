@@ -1,4 +1,4 @@
--- Inputs up to a line.
+-- Proofs about an input up to a line.
 use Rattle.std.proofs.Common.{◌≡◌, ◌∙◌, sym, ap, subst, refl, ℕ, ◌≤◌, List, [], ◌∷◌, ◌++◌, length, length-append, append_assoc, append-nil, arith, Bool, true, false, ◌&&◌, ◌⊎◌, inl, inr, Option, Some, None}
 use Rattle.std.specs.Prelude.{IfSome, codes}
 use Rattle.std.specs.Str.{bytes_eq}
@@ -21,7 +21,7 @@ none_left : {A : Type 0} (xs ys : List A) → [] ≡ xs ++ ys → xs ≡ []
 none_left [] ys e = refl
 none_left (x ∷ xs) ys e = absurd (cc)
 
--- the first lines of a text are the lines of these bytes
+-- the first lines of a text are the lines of their bytes
 again : (line : List ℕ) (lines : List (List ℕ)) (rest : List ℕ) (others : List (List ℕ)) → IsWhole line rest → whole_lines rest ≡ lines ++ others → whole_lines (joined lines) ≡ lines → whole_lines (joined (line ∷ lines)) ≡ line ∷ lines
 again line lines rest others (inl closed) more ih = closed (joined lines) ∙ ap (λ (ls : List (List ℕ)). line ∷ ls) ih
 again line lines rest others (inr (none, one)) more ih =
@@ -42,7 +42,7 @@ joined_both : (xs ys : List (List ℕ)) → joined (xs ++ ys) ≡ joined xs ++ j
 joined_both [] ys = refl
 joined_both (x ∷ xs) ys = ap (λ (zs : List ℕ). x ++ zs) (joined_both xs ys) ∙ sym (append_assoc x (joined xs) (joined ys))
 
--- ---- a module by itself
+-- ---- a module without a script
 
 line_at : (b : ℕ) (bs cs : List ℕ) (t : Bool) → is_newline b ≡ t → line_of bs ≡ line_of cs → line_of (b ∷ bs) ≡ line_of (b ∷ cs)
 line_at b bs cs true e h = rw e refl
@@ -62,7 +62,7 @@ first_stays b bs = stays_at b bs (is_newline b) refl (line_stays bs)
 same_divider : (start : Bool) (xs ys : List ℕ) (t : Bool) → line_of xs ≡ line_of ys → (start && at_divider ys) ≡ t → (start && at_divider xs) ≡ t
 same_divider start xs ys t e h = ap (λ (zs : List ℕ). start && bytes_eq zs (codes "// -----")) e ∙ h
 
--- it has no divider
+-- the text has no divider
 abbrev IsAlone : Bool → List ℕ → Type 0
 IsAlone start bs = (module_from start (module_from start bs) ≡ module_from start bs) × (script_from start (module_from start bs) ≡ [])
 
@@ -100,7 +100,7 @@ other_script true [] xs ys h = (refl, refl)
 other_script false [] xs ys h = absurd (cc)
 other_script start (b ∷ text) xs ys h = other_at start b text xs ys (start && at_divider (b ∷ dividing text xs)) refl h (λ k. other_script (is_newline b) text xs ys k)
 
--- an input is divided where it has a script
+-- an input with a script has a divider
 is_divided : (input text : List ℕ) (b : ℕ) (bs : List ℕ) → IsSplit input text (b ∷ bs) → input ≡ dividing text (b ∷ bs)
 is_divided input text b bs (inl (end, is, inl ends)) = is ∙ ap (λ (xs : List ℕ). text ++ (codes "// -----" ++ xs)) ends
 is_divided input text b bs (inl (end, is, inr (ends, none))) = absurd (cc)
@@ -108,7 +108,7 @@ is_divided input text b bs (inr (is, none)) = absurd (cc)
 
 -- ---- both
 
--- an input up to a line has the module of the input, and the lines up to this one
+-- an input up to a line has the module of the whole input, and the lines up to this one
 abbrev Begins : List ℕ → List (List ℕ) → Type 0
 Begins input lines = (module_text (up_to (module_text input) lines) ≡ module_text input) × (whole_lines (script_text (up_to (module_text input) lines)) ≡ lines) × (script_text (up_to (module_text input) lines) ≡ joined lines) × (length (up_to (module_text input) lines) ≤ length input)
 
@@ -139,7 +139,7 @@ begins input [] first =
 begins input (line ∷ lines) (others, e) = begins_some input (script_text input) line lines others refl e
 
 module _ (setting : Setting) (boxes : List Shown) (input : List ℕ) where
-  -- what answers some lines of an input is an output of the input up to them
+  -- a live answer to the first lines of an input is an output of the input up to these lines
   pub live_up_to : (lines : List (List ℕ)) (status : ℕ) (out : List ℕ) → AreFirst (whole_lines (script_text input)) lines → IsLiveOf setting boxes input lines status out → IsWholeUpTo setting boxes input lines status out
   live_up_to lines status out first (inl many) short few = absurd (let long = many.0 in omega (arith, long, short))
   live_up_to lines status out first (inr live) short few =

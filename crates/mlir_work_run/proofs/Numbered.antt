@@ -1,4 +1,5 @@
--- Ids that are 0, 1, .. are distinct, and below their number. What a tree stands for is numbered and formed as the tree.
+-- The ids 0, 1, .. are distinct and below their number. A tree of term numbers is numbered and valid like the tree
+-- that the numbers denote.
 use Rattle.ir_event.specs.Modules.{Module}
 use Rattle.mlir_work_session.specs.Public.{IsOnly}
 use Rattle.ir_text_modules.specs.Modules.{SpellsModule}
@@ -9,13 +10,13 @@ use Rattle.std.specs.Cmp.{unsigned_Decides}
 use Rattle.std.specs.List.{AllPairs, IsDistinct, range_with_len}
 use Rattle.std.proofs.lemmas.List.FromFn.{length-range_with_len, get_or-range_with_len}
 use Rattle.std.proofs.lemmas.Map.Made.{IsDistinct-from_AllPairs}
-use Rattle.ir_event.specs.types.Things.{Things}
+use Rattle.ir_event.specs.types.Things.{ContextModel}
 use Rattle.ir_event.specs.types.Terms.{name_term, type_term, attr_term}
 use Rattle.ir_event.specs.types.Words.{is_isolated}
 use Rattle.ir_event.specs.trees.Tree.{Op}
 use Rattle.ir_event.specs.trees.Ids.{ids, op_count, IsNumberedFrom, HasDistinctIds}
 use Rattle.ir_event.specs.trees.Meaning.{isolated_in, meaning}
-use Rattle.ir_event.specs.trees.WellFormed.{IsFormed}
+use Rattle.ir_event.specs.trees.WellFormed.{IsValidTree}
 use Rattle.ir_event.proofs.of_trees.Mapped.{map_counts, map_depth, map_ids, map_operands_visible}
 use Rattle.ir_event.proofs.of_tree_laws.Facts.{count_meaning}
 
@@ -38,20 +39,20 @@ numbers_below n k d lt =
 pub numbered_below : (t : Op) (next : ℕ) → next ≡ op_count t → IsNumberedFrom 0 t → All (λ x. x < next) (ids t)
 numbered_below t next same e = rw same (subst (All (λ x. x < op_count t)) (sym e) (numbers_below (op_count t)))
 
--- what a tree stands for is numbered as the tree
-pub numbered_meaning : (c : Things) (t : Op) → IsNumberedFrom 0 (meaning c t) → IsNumberedFrom 0 t
+-- a tree of term numbers is numbered like the tree that it denotes
+pub numbered_meaning : (c : ContextModel) (t : Op) → IsNumberedFrom 0 (meaning c t) → IsNumberedFrom 0 t
 numbered_meaning c t e = rw (map_ids (name_term c) (type_term c) (attr_term c) t) at e
 
--- a tree is formed where what it stands for is
-pub formed_meaning : (c : Things) (t : Op) → IsFormed is_isolated (meaning c t) → IsFormed (isolated_in c) t
+-- a tree of term numbers is valid if the tree that it denotes is
+pub formed_meaning : (c : ContextModel) (t : Op) → IsValidTree is_isolated (meaning c t) → IsValidTree (isolated_in c) t
 formed_meaning c t w = record {
   visible = subst IsTrue (map_operands_visible (name_term c) (type_term c) (attr_term c) is_isolated t) w.visible;
   shallow = rw (← map_depth (name_term c) (type_term c) (attr_term c) t) w.shallow;
   counts = subst IsTrue (map_counts (name_term c) (type_term c) (attr_term c) t) w.counts;
 }
 
--- a tree that was read gives the world of what its text spells
-pub world_is : (opaque : Bool) (text : List ℕ) (c : Things) (t : Op) (m : Module) → IsOnly (SpellsModule opaque text) c t → m ≡ record { tree = meaning c t; next = op_count t } → IsWorldOf opaque text m
+-- the IR state of a parsed tree is that of the text
+pub world_is : (opaque : Bool) (text : List ℕ) (c : ContextModel) (t : Op) (m : Module) → IsOnly (SpellsModule opaque text) c t → m ≡ record { tree = meaning c t; next = op_count t } → IsWorldOf opaque text m
 world_is opaque text c t m h e =
     let at : ℕ → Module = λ n. record { tree = meaning c t; next = n } in
     (meaning c t, h.holds, e ∙ ap at (sym (count_meaning c t)))

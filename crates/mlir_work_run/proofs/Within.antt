@@ -1,4 +1,4 @@
--- Live runs within the limits of whole ones.
+-- Proofs about live runs within the limits of whole runs.
 use Rattle.std.proofs.Common.{◌≡◌, ◌∙◌, ap, subst, refl, ℕ, ◌+◌, ◌≤◌, List, [], ◌∷◌, ◌++◌, length, length-append, arith, Bool, true, false, map, inl, inr}
 use Rattle.std.specs.Prelude.{codes}
 use Rattle.ir_event.specs.Modules.{Module}
@@ -43,7 +43,7 @@ pub joined_same : (bs : List ℕ) → joined (whole_lines bs) ≡ bs
 joined_same [] = refl
 joined_same (b ∷ bs) = joined_at b bs (is_newline b) refl (joined_same bs)
 
--- ---- what is answered early is answered so in the end
+-- ---- early answers are final answers
 
 module _ (setting : Setting) (total : ℕ) where
   lives_run : (lines : List (List ℕ)) (read n : ℕ) (s : Sitting) (status : ℕ) (out : List ℕ) → read + length (joined lines) ≤ total → Lives setting read n s lines status out → Runs (way_at setting total) n s (map line_of lines) status out
@@ -81,7 +81,7 @@ session_of setting boxes m input status out h = record {
   out_is = h.out_is ∙ ap (λ (xs : List ℕ). xs ++ h.rest) h.begins.out_is;
 }
 
--- what answers an input as it comes is an output of it, within the limits
+-- a live answer to an input is an output of the input, within the limits
 pub live_whole : (setting : Setting) (boxes : List Shown) (input : List ℕ) (status : ℕ) (out : List ℕ) → length input ≤ most_input_bytes → length (script_text input) ≤ most_script_bytes → IsLive setting boxes (module_text input) (whole_lines (script_text input)) status out → IsOutput setting boxes input status out
-live_whole setting boxes input status out short few (inl unread) = inr (short, inl unread)
+live_whole setting boxes input status out short few (inl unparsed) = inr (short, inl unparsed)
 live_whole setting boxes input status out short few (inr (m, world, h)) = inr (short, inr (m, world, inr (few, session_of setting boxes m input status out h)))

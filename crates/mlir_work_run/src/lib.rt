@@ -1,13 +1,19 @@
-//! What a whole run writes is an output of what it read: a module and a script, from bytes to bytes.
+//! Runs the program from input bytes to output bytes.
+//!
+//! - `run` reads the whole input, a module and a script, and then writes the output.
+//! - `live` answers each line at once and flushes the answer before it reads the next line.
+//! - `dry_run` runs on bytes in memory and returns only the status.
+//! - `write_refusal` writes the line for a refused module.
 #![tactic(auto)]
 
-pub mod dry;
+pub mod dry_run;
 pub mod live;
-mod refusing;
 pub mod run;
+mod write_refusal;
 
 pub use mlir_work_session::{
-    Bench, book, book_order, boxes, cells, clauses, command, expect, greedy, input, keys, kind,
-    lines, manner, notice, numbers, order, outcome, reader, replies, reply, rule_name, script,
-    sink, source, spots, supplied, values, watched, words, writing,
+    Bench, analysis_source, attach, cells, clauses, command, expected_refusal, greedy, input,
+    insertion_points, keys, kind, lines, numbers, options, outcome, reader, registry,
+    registry_command, replies, reply, response, rule_name, script, session_command, sink, source,
+    values, watched, words, writing,
 };

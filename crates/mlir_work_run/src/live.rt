@@ -1,16 +1,15 @@
-//! A live run: each line is answered as soon as it is there, and all that is written is handed on before the next line is
-//! read.
+//! Live runs: each line is answered at once, and the answer is flushed before the next line is read.
 ghost use Rattle.std.specs.Prelude.{◌≡◌, ◌≤◌, ◌+◌, ℕ, List, IfErr, IfOk, IfSome, [], length, true};
 ghost use Rattle.ir_event.specs.Modules.{module_in};
-ghost use Rattle.mlir_work_lines.specs.Feeding.{waiting};
-ghost use Rattle.mlir_work_session.specs.Benched.{IsKept, state_of};
+ghost use Rattle.mlir_work_script_base.specs.Feeding.{waiting};
+ghost use Rattle.mlir_work_session.specs.RewriterCalls.{AgreesOrStale, state_of};
 ghost use Rattle.mlir_work_session.specs.Commands.{line_says};
 ghost use Rattle.mlir_work_session.specs.Expecting.{line_expects};
 ghost use Rattle.mlir_work_session.specs.Held.{module_held, open_marks};
 ghost use Rattle.mlir_work_session.specs.Lines.{line_of};
-ghost use Rattle.mlir_work_session.specs.Output.{Begun, IsAnswered, way_of, worse as worst};
+ghost use Rattle.mlir_work_session.specs.Output.{Begun, IsAnswered, session_setting, worse as worst};
 ghost use Rattle.mlir_work_session.specs.Limits.{most_input_bytes, most_script_bytes};
-ghost use Rattle.mlir_work_session.specs.Shelf.{book_view};
+ghost use Rattle.mlir_work_session.specs.Registry.{registry_model};
 ghost use Rattle.mlir_work_session.specs.Panels.{Shown, all_shown};
 ghost use Rattle.mlir_work_session.specs.Parts.{module_text, script_text};
 ghost use Rattle.mlir_work_session.specs.Ran.{AttachedOut, RanOut};
@@ -18,29 +17,29 @@ ghost use Rattle.mlir_work_session.specs.Sittings.{sitting_of};
 ghost use Rattle.mlir_work_run.specs.Live.{AreFirst, IsLive, IsLiveOf, IsWholeUpTo, Live, LiveEnded, LiveEndedAt, LiveRead, Lives, divider_bytes};
 ghost use Rattle.mlir_work_run.specs.Live.{exit_of, halt_of, halted_of, whole_lines};
 ghost use Rattle.mlir_work_run.specs.Whole.{IsOutput, IsWorldOf, Setting, WhyNot, module_cause, setting_with};
-ghost use Rattle.rewriter_laws.specs.Journals.{IsSlotted, IsTidy};
+ghost use Rattle.rewriter_machine.specs.Journals.{TracksRemovedKeys, HasNoStaleIds};
 
-use crate::run::{Options, Unread, hold, manner_of, no_memory, refuse, tree_of};
+use crate::run::{Options, ParseError, hold, no_memory, refuse, session_options_of, tree_of};
 use ir_event::analysis::Analysis;
 use ir_event::types::refusal::Refusal;
 use ir_event::world::World;
-use mlir_work_lines::feed::{Stop, take_line};
-use mlir_work_lines::parts::take_module;
+use mlir_work_script_base::feed::{LineError, take_line};
+use mlir_work_script_base::parts::take_module;
 use mlir_work_session::Bench;
-use mlir_work_session::book::Book;
+use mlir_work_session::analysis_source::AnalysisSource;
 use mlir_work_session::input::{MAX_INPUT_BYTES, MAX_SCRIPT_BYTES};
 use mlir_work_session::lines::split_line;
-use mlir_work_session::manner::Manner;
 use mlir_work_session::opening::begin;
-use mlir_work_session::script::{accepted_behind, answer_line, number_behind};
+use mlir_work_session::options::SessionOptions;
+use mlir_work_session::registry::PatternRegistry;
+use mlir_work_session::script::{accepted_so_far, answer_line, next_number};
 use mlir_work_session::sink::Sink;
 use mlir_work_session::source::Source;
-use mlir_work_session::supplied::Supplied;
 use mlir_work_session::writing::{WriteFault, flush};
 use std::alloc::Global;
 use thiserror::Error;
 
-/// How many bytes the line between a module and its script has, with its line feed.
+/// The number of bytes of the divider line, with its line feed.
 const DIVIDER_BYTES: usize = 9;
 
 /// Why a live run ends before its input does.
@@ -52,21 +51,21 @@ pub enum Halt {
     /// A write failed.
     #[error("the output couldn't be written")]
     Write,
-    /// There is no memory for the next line.
+    /// Memory ran out for the next line.
     #[error("there was no memory for a line")]
     Memory,
-    /// The next line is longer than a line may be, or more bytes were read than are counted.
+    /// The next line is too long, or the byte count overflows.
     #[error("a line is too long")]
     TooLong,
 }
 
-fn halt_of(stop: Stop) -> Halt
+fn halt_of(stop: LineError) -> Halt
     ensures { result ≡ halt_of stop }
 {
     match stop {
-        Stop::Broken => Halt::Read,
-        Stop::Memory => Halt::Memory,
-        Stop::TooMany => Halt::TooLong,
+        LineError::Broken => Halt::Read,
+        LineError::Memory => Halt::Memory,
+        LineError::TooMany => Halt::TooLong,
     }
 }
 
@@ -79,27 +78,27 @@ fn halted(ran: Result<u8, WriteFault>) -> Result<u8, Halt>
     }
 }
 
-/// Answers a line, which may have its line feed, and hands on what was written: one step of a live run. `n` is the
-/// number of the next reply. Says whether what came is right, or nothing of a line that says nothing.
-pub fn live_step<L: Supplied, W: Sink>(
+/// Answers a line, with or without its line feed, and flushes the writer: one step of a live run. `n` is the number
+/// of the next reply. Returns whether the outcome was right, or `None` for an empty line.
+pub fn live_step<L: AnalysisSource, W: Sink>(
     alloc: Global,
-    manner: &Manner,
+    session_options: &SessionOptions,
     bench: &mut Bench<L>,
-    book: &mut Book,
+    registry: &mut PatternRegistry,
     n: u64,
     line: &[u8],
     writer: &mut W,
 ) -> Result<Option<bool>, WriteFault>
-    requires kept { IsKept L.meaning bench.old }
-    requires mode { bench.old.desk.ctx.opaque ≡ manner.now.opaque }
-    ensures answered { RanOut (IsAnswered (way_of L.supply manner.now) n (sitting_of L.meaning bench.old book.old)
-        (line_expects (line_of line.now)) (line_says (line_of line.now)) (sitting_of L.meaning bench.new book.new)) (W.stream writer.old) (W.stream writer.new) result }
+    requires kept { AgreesOrStale L.meaning bench.old }
+    requires mode { bench.old.transaction.ctx.opaque ≡ session_options.now.opaque }
+    ensures answered { RanOut (IsAnswered (session_setting L.supply session_options.now) n (sitting_of L.meaning bench.old registry.old)
+        (line_expects (line_of line.now)) (line_says (line_of line.now)) (sitting_of L.meaning bench.new registry.new)) (W.stream writer.old) (W.stream writer.new) result }
     ensures handed { IfOk result (λ _. W.handed writer.new ≡ true) }
-    ensures kept { IsKept L.meaning bench.new }
-    ensures mode { bench.new.desk.ctx.opaque ≡ bench.old.desk.ctx.opaque }
+    ensures kept { AgreesOrStale L.meaning bench.new }
+    ensures mode { bench.new.transaction.ctx.opaque ≡ bench.old.transaction.ctx.opaque }
 {
     let (line, _) = split_line(line);
-    let told = match answer_line(alloc, manner, bench, book, n, line, writer) {
+    let told = match answer_line(alloc, session_options, bench, registry, n, line, writer) {
         Ok(told) => told,
         Err(fault) => return Err(fault),
     };
@@ -109,7 +108,7 @@ pub fn live_step<L: Supplied, W: Sink>(
     }
 }
 
-/// Begins a session, and hands on the answer to its module.
+/// Begins a session, and writes and flushes the answer to its module.
 fn begin_live<L: Analysis, W: Sink>(
     ends: bool,
     bench: &mut Bench<L>,
@@ -117,12 +116,12 @@ fn begin_live<L: Analysis, W: Sink>(
     writer: &mut W,
 ) -> Result<bool, WriteFault>
     requires none { bench.old.listeners ≡ [] }
-    requires unmarked { open_marks bench.old.desk ≡ [] }
-    ensures begun { AttachedOut (Begun ends (all_shown L.meaning boxes.items) (module_held bench.old.desk))
+    requires unmarked { open_marks bench.old.transaction ≡ [] }
+    ensures begun { AttachedOut (Begun ends (all_shown L.meaning boxes.items) (module_held bench.old.transaction))
         (state_of L.meaning bench.new) (W.stream writer.old) (W.stream writer.new) result }
     ensures handed { IfOk result (λ _. W.handed writer.new ≡ true) }
-    ensures kept { IsKept L.meaning bench.new }
-    ensures mode { bench.new.desk.ctx.opaque ≡ bench.old.desk.ctx.opaque }
+    ensures kept { AgreesOrStale L.meaning bench.new }
+    ensures mode { bench.new.transaction.ctx.opaque ≡ bench.old.transaction.ctx.opaque }
 {
     let accepted = match begin(ends, bench, boxes, writer) {
         Ok(accepted) => accepted,
@@ -134,31 +133,31 @@ fn begin_live<L: Analysis, W: Sink>(
     }
 }
 
-/// The status of lines of which all were accepted, or not.
+/// Returns the status of a list of lines: 0 if all were accepted, else 1.
 fn status_of(accepted: bool) -> u8
     ensures { result ≡ worst accepted 0 }
 {
     if accepted { 0 } else { 1 }
 }
 
-/// Answers the lines of an input, each as soon as it is there, behind so many bytes that were read: takes one, answers it,
-/// and hands on what was written before the next is read.
-fn answer_lines<L: Supplied, R: Source, W: Sink>(
+/// Answers the remaining lines of an input one by one: takes a line, answers it and flushes the writer before the
+/// next read. `before` is the number of bytes read before these lines.
+fn answer_lines<L: AnalysisSource, R: Source, W: Sink>(
     alloc: Global,
     options: Options,
     before: usize,
     bench: &mut Bench<L>,
-    book: &mut Book,
+    registry: &mut PatternRegistry,
     kept: &mut Vec<u8>,
     reader: &mut R,
     writer: &mut W,
 ) -> Result<u8, Halt>
-    requires kept { IsKept L.meaning bench.old }
-    requires mode { bench.old.desk.ctx.opaque ≡ options.opaque }
+    requires kept { AgreesOrStale L.meaning bench.old }
+    requires mode { bench.old.transaction.ctx.opaque ≡ options.opaque }
     requires handed { W.handed writer.old ≡ true }
-    requires behind { divider_bytes ≤ before }
+    requires trailing { divider_bytes ≤ before }
     ensures ended { IfSome (waiting kept.old.items (R.intake reader.old).remaining) (λ script. LiveEnded
-        (Lives (setting_with L.supply options (book_view book.old)) before 1 (sitting_of L.meaning bench.old book.old)) (whole_lines script)
+        (Lives (setting_with L.supply options (registry_model registry.old)) before 1 (sitting_of L.meaning bench.old registry.old)) (whole_lines script)
         (W.stream writer.old) (W.stream writer.new) (W.handed writer.new) result) }
     ensures read { LiveRead (R.intake reader.old) (R.intake reader.new) result }
 {
@@ -175,13 +174,13 @@ fn answer_lines<L: Supplied, R: Source, W: Sink>(
             return Err(Halt::TooLong);
         };
         read = more;
-        let manner = manner_of(options, read);
-        let told = match live_step(alloc, &manner, bench, book, n, &line, writer) {
+        let session_options = session_options_of(options, read);
+        let told = match live_step(alloc, &session_options, bench, registry, n, &line, writer) {
             Ok(told) => told,
             Err(WriteFault) => return Err(Halt::Write),
         };
-        n = number_behind(n, told);
-        accepted = accepted_behind(accepted, told);
+        n = next_number(n, told);
+        accepted = accepted_so_far(accepted, told);
     }
 }
 
@@ -191,8 +190,8 @@ fn worse(accepted: bool, status: u8) -> u8
     if accepted { status } else { 1 }
 }
 
-/// Answers a module and the lines behind it.
-fn answer_bench<L: Supplied, R: Source, W: Sink>(
+/// Answers a module in a rewriter and the lines after it.
+fn answer_bench<L: AnalysisSource, R: Source, W: Sink>(
     alloc: Global,
     options: Options,
     before: usize,
@@ -201,14 +200,14 @@ fn answer_bench<L: Supplied, R: Source, W: Sink>(
     reader: &mut R,
     writer: &mut W,
     boxes: Vec<L>,
-    book: Book,
+    registry: PatternRegistry,
 ) -> Result<u8, Halt>
     requires none { bench.old.listeners ≡ [] }
-    requires unmarked { open_marks bench.old.desk ≡ [] }
-    requires mode { bench.old.desk.ctx.opaque ≡ options.opaque }
-    requires behind { divider_bytes ≤ before }
+    requires unmarked { open_marks bench.old.transaction ≡ [] }
+    requires mode { bench.old.transaction.ctx.opaque ≡ options.opaque }
+    requires trailing { divider_bytes ≤ before }
     ensures ended { IfSome (waiting kept.old.items (R.intake reader.old).remaining) (λ script. LiveEnded
-        (Live (setting_with L.supply options (book_view book)) (all_shown L.meaning boxes.items) (module_held bench.old.desk) before)
+        (Live (setting_with L.supply options (registry_model registry)) (all_shown L.meaning boxes.items) (module_held bench.old.transaction) before)
         (whole_lines script)
         (W.stream writer.old) (W.stream writer.new) (W.handed writer.new) result) }
     ensures read { LiveRead (R.intake reader.old) (R.intake reader.new) result }
@@ -217,17 +216,24 @@ fn answer_bench<L: Supplied, R: Source, W: Sink>(
         Ok(accepted) => accepted,
         Err(WriteFault) => return Err(Halt::Write),
     };
-    let mut book = book;
+    let mut registry = registry;
     match answer_lines(
-        alloc, options, before, bench, &mut book, kept, reader, writer,
+        alloc,
+        options,
+        before,
+        bench,
+        &mut registry,
+        kept,
+        reader,
+        writer,
     ) {
         Ok(status) => Ok(worse(accepted, status)),
         Err(halt) => Err(halt),
     }
 }
 
-/// Makes a bench of a world that was read, and answers it and the lines behind it.
-fn answer_world<L: Supplied, R: Source, W: Sink>(
+/// Builds a rewriter on an IR state, and answers the module and the lines after it.
+fn answer_world<L: AnalysisSource, R: Source, W: Sink>(
     alloc: Global,
     options: Options,
     before: usize,
@@ -236,36 +242,36 @@ fn answer_world<L: Supplied, R: Source, W: Sink>(
     reader: &mut R,
     writer: &mut W,
     boxes: Vec<L>,
-    book: Book,
+    registry: PatternRegistry,
 ) -> Result<u8, Halt>
-    requires slotted { IsSlotted world.store }
-    requires tidy { IsTidy world.store }
+    requires slotted { TracksRemovedKeys world.store }
+    requires tidy { HasNoStaleIds world.store }
     requires mode { world.ctx.opaque ≡ options.opaque }
-    requires behind { divider_bytes ≤ before }
+    requires trailing { divider_bytes ≤ before }
     ensures ended { IfSome (waiting kept.old.items (R.intake reader.old).remaining) (λ script. LiveEnded
-        (Live (setting_with L.supply options (book_view book)) (all_shown L.meaning boxes.items) (module_in world) before)
+        (Live (setting_with L.supply options (registry_model registry)) (all_shown L.meaning boxes.items) (module_in world) before)
         (whole_lines script)
         (W.stream writer.old) (W.stream writer.new) (W.handed writer.new) result) }
     ensures read { LiveRead (R.intake reader.old) (R.intake reader.new) result }
 {
-    let mut bench = Bench::over(alloc, world);
+    let mut bench = Bench::from_world(alloc, world);
     answer_bench(
-        alloc, options, before, &mut bench, kept, reader, writer, boxes, book,
+        alloc, options, before, &mut bench, kept, reader, writer, boxes, registry,
     )
 }
 
-/// The world of the module that a text spells, or why there is none.
-fn world_of(alloc: Global, key: u64, opaque: bool, text: &[u8]) -> Result<World, Unread>
+/// Parses a module's text and builds its IR state.
+fn world_of(alloc: Global, key: u64, opaque: bool, text: &[u8]) -> Result<World, ParseError>
     ensures world { IfOk result (λ w. IsWorldOf opaque text.now (module_in w)) }
     ensures mode { IfOk result (λ w. w.ctx.opaque ≡ opaque) }
-    ensures slotted { IfOk result (λ w. IsSlotted w.store) }
-    ensures tidy { IfOk result (λ w. IsTidy w.store) }
-    ensures unread { IfErr result (λ e. WhyNot opaque text.now e.refusal e.offset) }
-    ensures cause { IfErr result (λ e. e.cause ≡ module_cause text.now e.refusal e.offset) }
+    ensures slotted { IfOk result (λ w. TracksRemovedKeys w.store) }
+    ensures tidy { IfOk result (λ w. HasNoStaleIds w.store) }
+    ensures unparsed { IfErr result (λ e. WhyNot opaque text.now e.refusal e.offset) }
+    ensures unsupported { IfErr result (λ e. e.unsupported ≡ module_cause text.now e.refusal e.offset) }
 {
     let (ctx, tree) = match tree_of(alloc, key, opaque, text) {
         Ok(found) => found,
-        Err(unread) => return Err(unread),
+        Err(unparsed) => return Err(unparsed),
     };
     match hold(alloc, ctx, tree) {
         Some(world) => Ok(world),
@@ -273,27 +279,28 @@ fn world_of(alloc: Global, key: u64, opaque: bool, text: &[u8]) -> Result<World,
     }
 }
 
-/// The world of the module that a text spells, whose bytes are given back, and how many there are with the divider.
-fn taken(alloc: Global, key: u64, opaque: bool, text: Vec<u8>) -> Result<(World, usize), Unread>
+/// Parses a module's text, builds its IR state and frees the text. Also returns the number of bytes of the text and
+/// the divider.
+fn taken(alloc: Global, key: u64, opaque: bool, text: Vec<u8>) -> Result<(World, usize), ParseError>
     ensures world { IfOk result (λ x. IsWorldOf opaque text.items (module_in x.0)) }
     ensures mode { IfOk result (λ x. x.0.ctx.opaque ≡ opaque) }
-    ensures slotted { IfOk result (λ x. IsSlotted x.0.store) }
-    ensures tidy { IfOk result (λ x. IsTidy x.0.store) }
+    ensures slotted { IfOk result (λ x. TracksRemovedKeys x.0.store) }
+    ensures tidy { IfOk result (λ x. HasNoStaleIds x.0.store) }
     ensures bytes { IfOk result (λ x. x.1 ≡ length text.items + divider_bytes) }
-    ensures unread { IfErr result (λ e. WhyNot opaque text.items e.refusal e.offset) }
-    ensures cause { IfErr result (λ e. e.cause ≡ module_cause text.items e.refusal e.offset) }
+    ensures unparsed { IfErr result (λ e. WhyNot opaque text.items e.refusal e.offset) }
+    ensures unsupported { IfErr result (λ e. e.unsupported ≡ module_cause text.items e.refusal e.offset) }
 {
     let Some(before) = text.len().checked_add(DIVIDER_BYTES) else {
         return Err(no_memory());
     };
     match world_of(alloc, key, opaque, &text) {
         Ok(world) => Ok((world, before)),
-        Err(unread) => Err(unread),
+        Err(unparsed) => Err(unparsed),
     }
 }
 
-/// Answers the text of a module, and the lines behind it.
-fn answer_text<L: Supplied, R: Source, W: Sink>(
+/// Answers the text of a module and the lines after it.
+fn answer_text<L: AnalysisSource, R: Source, W: Sink>(
     alloc: Global,
     key: u64,
     options: Options,
@@ -302,37 +309,37 @@ fn answer_text<L: Supplied, R: Source, W: Sink>(
     reader: &mut R,
     writer: &mut W,
     boxes: Vec<L>,
-    book: Book,
+    registry: PatternRegistry,
 ) -> Result<u8, Halt>
     ensures ended { IfSome (waiting kept.old.items (R.intake reader.old).remaining) (λ script. LiveEnded
-        (IsLive (setting_with L.supply options (book_view book)) (all_shown L.meaning boxes.items) text.items) (whole_lines script)
+        (IsLive (setting_with L.supply options (registry_model registry)) (all_shown L.meaning boxes.items) text.items) (whole_lines script)
         (W.stream writer.old) (W.stream writer.new) (W.handed writer.new) result) }
     ensures read { LiveRead (R.intake reader.old) (R.intake reader.new) result }
 {
     match taken(alloc, key, options.opaque, text) {
         Ok((world, before)) => {
             answer_world(
-                alloc, options, before, world, kept, reader, writer, boxes, book,
+                alloc, options, before, world, kept, reader, writer, boxes, registry,
             )
         }
-        Err(unread) => halted(refuse(writer, options.explain, unread)),
+        Err(unparsed) => halted(refuse(writer, options.explain, unparsed)),
     }
 }
 
-/// Reads a module, and then a line at a time; answers each as soon as it is there, and hands on what was written before
-/// the next is read. No read is made while a whole line is kept. A line may have as many bytes as a script, and the module
-/// as many as an input; how many lines there are, and how long all of them are, has no limit.
-pub fn answer_live<L: Supplied, R: Source, W: Sink>(
+/// Reads a module and then line by line. Answers each line and flushes the writer before the next read. No read is
+/// made while a whole line is buffered. A line may be as long as a script, and the module as long as an input. The
+/// number of lines and their total length have no limit.
+pub fn answer_live<L: AnalysisSource, R: Source, W: Sink>(
     alloc: Global,
     key: u64,
     options: Options,
     reader: &mut R,
     writer: &mut W,
     boxes: Vec<L>,
-    book: Book,
+    registry: PatternRegistry,
 ) -> Result<u8, Halt>
     ensures ended { IfSome (R.intake reader.old).remaining (λ input. LiveEnded
-        (IsLiveOf (setting_with L.supply options (book_view book)) (all_shown L.meaning boxes.items) input) (whole_lines (script_text input))
+        (IsLiveOf (setting_with L.supply options (registry_model registry)) (all_shown L.meaning boxes.items) input) (whole_lines (script_text input))
         (W.stream writer.old) (W.stream writer.new) (W.handed writer.new) result) }
     ensures read { LiveRead (R.intake reader.old) (R.intake reader.new) result }
 {
@@ -343,19 +350,19 @@ pub fn answer_live<L: Supplied, R: Source, W: Sink>(
     let mut kept = Vec::new(alloc);
     let text = match take_module(alloc, &mut kept, reader, writer) {
         Ok(text) => text,
-        Err(Stop::Broken) => return Err(Halt::Read),
-        Err(Stop::Memory) => return halted(refuse(writer, options.explain, no_memory())),
-        Err(Stop::TooMany) => {
-            let unread = Unread {
+        Err(LineError::Broken) => return Err(Halt::Read),
+        Err(LineError::Memory) => return halted(refuse(writer, options.explain, no_memory())),
+        Err(LineError::TooMany) => {
+            let unparsed = ParseError {
                 refusal: Refusal::TooMany,
                 offset: Some(MAX_INPUT_BYTES),
-                cause: None,
+                unsupported: None,
             };
-            return halted(refuse(writer, options.explain, unread));
+            return halted(refuse(writer, options.explain, unparsed));
         }
     };
     answer_text(
-        alloc, key, options, text, &mut kept, reader, writer, boxes, book,
+        alloc, key, options, text, &mut kept, reader, writer, boxes, registry,
     )
 }
 
@@ -368,9 +375,9 @@ fn exit_status(ended: Result<u8, Halt>) -> u8
     }
 }
 
-/// What answers an input's module and its lines as they come is an output of the input, as a whole run has one with those
-/// ends, where the input and its script are within their limits; and what answers the first of these lines is one of the
-/// input up to them.
+/// A live answer to an input's module and lines is an output of a whole run on the input with `ends`, if the input
+/// and its script are within the limits. A live answer to the first lines is an output of a whole run on the input up
+/// to these lines.
 pub fn live_runs_are_whole()
     ensures all { (setting : Setting) (boxes : List Shown) (input : List ℕ) (status : ℕ) (out : List ℕ)
         → length input ≤ most_input_bytes → length (script_text input) ≤ most_script_bytes
@@ -381,25 +388,27 @@ pub fn live_runs_are_whole()
         → IsLiveOf setting boxes input lines status out → IsWholeUpTo setting boxes input lines status out }
 {}
 
-/// Runs as `answer_live` does, and gives the exit status: 0 where all was accepted, 1 where a command or a listener was
-/// refused, 3 where the module was; 4 where a read or a write failed, or a line is too long, or found no memory. All that
-/// answers the lines before that is handed on then, but where a write failed: of that a front is written. Nothing that is
-/// written depends on the key with which names are hashed.
-pub fn run_live<L: Supplied, R: Source, W: Sink>(
+/// Runs as `answer_live` does, and returns the exit status: 0 if all lines were accepted, 1 if a command or a
+/// listener was refused, 3 if the module was refused, and 4 if a read or write failed, a line is too long or memory
+/// ran out for a line.
+///
+/// With status 4 all earlier answers were written and flushed, or a prefix of them if a write failed. The output
+/// doesn't depend on the key with which names are hashed.
+pub fn run_live<L: AnalysisSource, R: Source, W: Sink>(
     alloc: Global,
     key: u64,
     options: Options,
     reader: &mut R,
     writer: &mut W,
     boxes: Vec<L>,
-    book: Book,
+    registry: PatternRegistry,
 ) -> u8
     ensures live { IfSome (R.intake reader.old).remaining (λ input. LiveEndedAt
-        (IsLiveOf (setting_with L.supply options (book_view book)) (all_shown L.meaning boxes.items) input) (whole_lines (script_text input))
+        (IsLiveOf (setting_with L.supply options (registry_model registry)) (all_shown L.meaning boxes.items) input) (whole_lines (script_text input))
         (W.stream writer.old) (W.stream writer.new) (W.handed writer.new) result) }
     ensures whole { IfSome (R.intake reader.old).remaining (λ input. LiveEndedAt
-        (IsWholeUpTo (setting_with L.supply options (book_view book)) (all_shown L.meaning boxes.items) input) (whole_lines (script_text input))
+        (IsWholeUpTo (setting_with L.supply options (registry_model registry)) (all_shown L.meaning boxes.items) input) (whole_lines (script_text input))
         (W.stream writer.old) (W.stream writer.new) (W.handed writer.new) result) }
 {
-    exit_status(answer_live(alloc, key, options, reader, writer, boxes, book))
+    exit_status(answer_live(alloc, key, options, reader, writer, boxes, registry))
 }

@@ -1,27 +1,27 @@
-//! A whole run, from bytes to bytes.
+//! A whole run, from input bytes to output bytes.
 ghost use Rattle.std.specs.Prelude.{◌≡◌, ◌≤◌, ℕ, IsTrue, length, IfOk, IfErr, IfSome, None, Some, false, true};
 ghost use Rattle.std.specs.Io.KnownBytes.{Keeps};
 ghost use Rattle.ir_event.specs.trees.Ids.{IsNumberedFrom, op_count};
 ghost use Rattle.ir_event.specs.trees.Meaning.{meaning, isolated_in, IsSoundIn};
-ghost use Rattle.ir_event.specs.trees.WellFormed.{IsFormed};
+ghost use Rattle.ir_event.specs.trees.WellFormed.{IsValidTree};
 ghost use Rattle.ir_event.specs.Modules.{module_in};
 ghost use Rattle.mlir_work_session.specs.Public.{IsOnly};
 ghost use Rattle.ir_text_modules.specs.Modules.{SpellsModule};
-ghost use Rattle.rewriter_laws.specs.Journals.{IsSlotted, IsTidy};
-ghost use Rattle.mlir_work_session.specs.Shelf.{Book as Patterns, book_view};
+ghost use Rattle.rewriter_machine.specs.Journals.{TracksRemovedKeys, HasNoStaleIds};
+ghost use Rattle.mlir_work_session.specs.Registry.{RegistryModel as Patterns, registry_model};
 ghost use Rattle.mlir_work_session.specs.Panels.{all_shown};
 ghost use Rattle.mlir_work_session.specs.Limits.{most_input_bytes, most_reads, most_script_bytes};
 ghost use Rattle.mlir_work_session.specs.Lines.{lines_of};
 ghost use Rattle.mlir_work_session.specs.Parts.{module_text, script_text};
 ghost use Rattle.mlir_work_session.specs.Reads.{AreMadeAtMost};
 ghost use Rattle.mlir_work_session.specs.Writes.{HandsOn};
-ghost use Rattle.mlir_work_session.specs.Output.{IsSession, Way, way_of};
+ghost use Rattle.mlir_work_session.specs.Output.{IsSession, SessionSetting, session_setting};
 ghost use Rattle.mlir_work_session.specs.PrintsAlone.{all_print, kinds_apart};
 ghost use Rattle.mlir_work_run.specs.Ends.{EndedSo, HandedOut, HasFailed, HasStatus, Leaves, LeavesAt, ended_of};
 ghost use Rattle.mlir_work_run.specs.Ends.{status_of};
-ghost use Rattle.mlir_work_run.specs.Whole.{IsOutput, IsRefusal, WhyNot, cause_if, manner_of, module_cause, setting_of, setting_with};
+ghost use Rattle.mlir_work_run.specs.Whole.{IsOutput, IsRefusal, WhyNot, cause_if, session_options_of, module_cause, setting_of, setting_with};
 
-use crate::refusing::{cause_if, put_unread};
+use crate::write_refusal::{cause_if, write_module_refusal};
 use dialects_int::tables::registry;
 use ir_event::analysis::Analysis;
 use ir_event::trees::count::op_count;
@@ -30,42 +30,42 @@ use ir_event::types::context::Context;
 use ir_event::types::refusal::Refusal;
 use ir_event::world::World;
 use ir_text_modules::module::read_module;
-use mlir_work_causes::cause::{Cause, cause_at};
-use mlir_work_session::book::Book;
+use mlir_work_notes::unsupported::{UnsupportedConstruct, unsupported_at};
+use mlir_work_session::analysis_source::AnalysisSource;
 use mlir_work_session::input::{MAX_INPUT_BYTES, ReadFault, read_all, script_is_too_long, split};
-use mlir_work_session::manner::Manner;
+use mlir_work_session::options::SessionOptions;
 use mlir_work_session::prints::{only_prints, print_session};
 use mlir_work_session::reader::ReadError;
+use mlir_work_session::registry::PatternRegistry;
 use mlir_work_session::session::run_session;
 use mlir_work_session::sink::Sink;
 use mlir_work_session::source::Source;
-use mlir_work_session::supplied::Supplied;
 use mlir_work_session::writing::{WriteFault, flush};
-use rewriter_laws::journal_laws::{stores_stay_slotted, stores_stay_tidy};
+use rewriter_machine::journal_laws::{stores_stay_slotted, stores_stay_tidy};
 use std::alloc::Global;
 use std::io::{Read, Write};
 use thiserror::Error;
 
-/// What the command line says.
+/// The options of a run.
 #[derive(Clone, Copy, Debug)]
 pub struct Options {
-    /// The module and the rows don't follow each command.
+    /// Whether to leave out the listing (module and report rows) after each command.
     pub brief: bool,
-    /// The most rewrites of a `canon` that says no limit.
+    /// The rewrite limit of a `canon` without a limit.
     pub limit: u32,
-    /// An empty line follows each answer, that to the module among them. The program answers each line as soon as it is
-    /// there then (`live::run_live`).
+    /// Whether to write an empty line after each answer, and after the answer to the module. The program then answers
+    /// each line at once (`live::run_live`).
     pub ends: bool,
-    /// Types and attributes that aren't known are read as opaque ones, which are their texts; and the module may have
-    /// aliases and locations.
+    /// Whether to accept unregistered types and attributes as opaque ones, stored as their texts. The module may then
+    /// have aliases and locations.
     pub opaque: bool,
-    /// What a refusal is about is told behind it.
+    /// Whether to write a note after each refusal.
     pub explain: bool,
-    /// A command isn't right if it rewrites by a pattern that no check proves for the module.
+    /// Whether a command fails if it rewrites by a pattern that no check proves for the module.
     pub strict: bool,
 }
 
-/// Why a run has no status of its own.
+/// Why a run has no status.
 #[derive(Clone, Copy, Debug, PartialEq, Eq, Error)]
 pub enum Fault {
     /// The input couldn't be read.
@@ -76,76 +76,78 @@ pub enum Fault {
     Write,
 }
 
-/// Why a text isn't read, and where: in bytes from the first; and what stands there, where it is left out.
+/// Why a text was refused, the byte at which it was refused, and the unsupported MLIR construct there, if that is the
+/// reason.
 #[derive(Clone, Copy, Debug, PartialEq, Eq, Error)]
 #[error("{refusal}")]
-pub struct Unread {
+pub struct ParseError {
     pub refusal: Refusal,
     pub offset: Option<usize>,
-    pub cause: Option<Cause>,
+    pub unsupported: Option<UnsupportedConstruct>,
 }
 
-/// What of MLIR stands at the byte at which a text is refused, where it is left out.
-fn cause_of(text: &[u8], refusal: Refusal, offset: usize) -> Option<Cause>
+/// Returns the unsupported MLIR construct at the byte at which a text was refused, if that is the reason.
+fn cause_of(text: &[u8], refusal: Refusal, offset: usize) -> Option<UnsupportedConstruct>
     ensures { result ≡ module_cause text.now refusal (Some offset) }
 {
     match refusal {
-        Refusal::LeftOut => Some(cause_at(text, offset)),
+        Refusal::LeftOut => Some(unsupported_at(text, offset)),
         _ => None,
     }
 }
 
-/// The tree that a text spells, and a context that holds what it names. No text within its limit fills it. `opaque` says
-/// whether types and attributes that aren't known are read as opaque ones; then the text may have aliases and locations.
+/// Parses a module's text. Returns the tree and a context with its names, types and attributes. A text within the
+/// size limit can't fill the context. `opaque` says whether unregistered types and attributes are accepted as opaque
+/// ones, and aliases and locations are allowed.
 pub fn tree_of(
     alloc: Global,
     key: u64,
     opaque: bool,
     text: &[u8],
-) -> Result<(Context, TreeOp), Unread>
+) -> Result<(Context, TreeOp), ParseError>
     ensures read { IfOk result (λ x. IsOnly (SpellsModule opaque text.now) x.0 x.1) }
     ensures sound { IfOk result (λ x. IsSoundIn x.0 x.1) }
     ensures mode { IfOk result (λ x. x.0.opaque ≡ opaque) }
-    ensures unread { IfErr result (λ e. WhyNot opaque text.now e.refusal e.offset) }
-    ensures cause { IfErr result (λ e. e.cause ≡ module_cause text.now e.refusal e.offset) }
+    ensures unparsed { IfErr result (λ e. WhyNot opaque text.now e.refusal e.offset) }
+    ensures unsupported { IfErr result (λ e. e.unsupported ≡ module_cause text.now e.refusal e.offset) }
 {
     match read_module(alloc, key, opaque, text) {
         Ok(found) => Ok(found),
-        Err(ReadError::Memory) => Err(Unread {
+        Err(ReadError::Memory) => Err(ParseError {
             refusal: Refusal::Memory,
             offset: None,
-            cause: None,
+            unsupported: None,
         }),
-        Err(ReadError::Full { offset }) => Err(Unread {
+        Err(ReadError::Full { offset }) => Err(ParseError {
             refusal: Refusal::TooMany,
             offset: Some(offset),
-            cause: None,
+            unsupported: None,
         }),
-        Err(ReadError::Refused { refusal, offset }) => Err(Unread {
+        Err(ReadError::Refused { refusal, offset }) => Err(ParseError {
             refusal,
             offset: Some(offset),
-            cause: cause_of(text, refusal, offset),
+            unsupported: cause_of(text, refusal, offset),
         }),
     }
 }
 
-/// How many operations a tree has, where an id can be so great.
+/// Returns the number of operations of a tree, or `None` if it doesn't fit into an id.
 fn next_free(tree: &TreeOp) -> Option<u32>
     ensures { IfSome result (λ n. n ≡ op_count tree.now) }
 {
     u32::try_from(op_count(tree)).ok()
 }
 
-/// The world of a tree that was read, or none where it has more operations than there are ids, or memory is
-/// refused.
+/// Builds the IR state of a parsed tree. Returns `None` if the tree has more operations than there are ids, or memory
+/// runs out.
 pub fn hold(alloc: Global, ctx: Context, tree: TreeOp) -> Option<World>
     requires sound { IsSoundIn ctx tree }
     requires numbered { IsNumberedFrom 0 tree }
-    requires formed { IsFormed (isolated_in ctx) tree }
+    requires formed { IsValidTree (isolated_in ctx) tree }
     ensures module { IfSome result (λ w. module_in w ≡ record { tree = meaning ctx tree; next = op_count tree }) }
     ensures ctx { IfSome result (λ w. w.ctx ≡ ctx) }
-    ensures slotted { IfSome result (λ w. IsSlotted w.store) }
-    ensures tidy { IfSome result (λ w. IsTidy w.store) }
+    ensures slotted { IfSome result (λ w. TracksRemovedKeys w.store) }
+    ensures tidy { IfSome result (λ w. HasNoStaleIds w.store) }
 {
     stores_stay_slotted();
     stores_stay_tidy();
@@ -155,26 +157,26 @@ pub fn hold(alloc: Global, ctx: Context, tree: TreeOp) -> Option<World>
     let Ok(registry) = registry(&ctx) else {
         return None;
     };
-    match World::hold(alloc, ctx, registry, tree, next) {
+    match World::from_checked(alloc, ctx, registry, tree, next) {
         Ok(world) => Some(world),
         Err(_) => None,
     }
 }
 
-/// Why there is no memory.
-pub(crate) fn no_memory() -> Unread
+/// Returns the error that memory ran out.
+pub(crate) fn no_memory() -> ParseError
     ensures refusal { result.refusal ≡ Refusal.Memory }
     ensures offset { result.offset ≡ None }
-    ensures cause { result.cause ≡ None }
+    ensures unsupported { result.unsupported ≡ None }
 {
-    Unread {
+    ParseError {
         refusal: Refusal::Memory,
         offset: None,
-        cause: None,
+        unsupported: None,
     }
 }
 
-/// Hands on what a buffering writer still holds, and gives the status.
+/// Flushes the writer and returns the status.
 fn finish<W: Sink>(writer: &mut W, status: u8) -> Result<u8, WriteFault>
     ensures stays { HandsOn (W.stream writer.old) (W.stream writer.new) result }
     ensures handed { IfOk result (λ _. W.handed writer.new ≡ true) }
@@ -186,45 +188,45 @@ fn finish<W: Sink>(writer: &mut W, status: u8) -> Result<u8, WriteFault>
     }
 }
 
-/// Writes that the module is refused, and where refusals are explained what stands there.
+/// Writes the refusal of a module, with a note on the unsupported construct if `explain` is set.
 pub(crate) fn refuse<W: Sink>(
     writer: &mut W,
     explain: bool,
-    unread: Unread,
+    unparsed: ParseError,
 ) -> Result<u8, WriteFault>
-    ensures { HandedOut (IsRefusal unread.refusal unread.offset (cause_if explain unread.cause))
+    ensures { HandedOut (IsRefusal unparsed.refusal unparsed.offset (cause_if explain unparsed.unsupported))
         (W.stream writer.old) (W.stream writer.new) (W.handed writer.new) result }
 {
-    match put_unread(
+    match write_module_refusal(
         writer,
-        unread.refusal,
-        unread.offset,
-        cause_if(explain, unread.cause),
+        unparsed.refusal,
+        unparsed.offset,
+        cause_if(explain, unparsed.unsupported),
     ) {
         Ok(()) => finish(writer, 3),
         Err(fault) => Err(fault),
     }
 }
 
-/// The tree that the module of an input spells, with its context, and the script. The input is given back to the
-/// allocator, since its text may be as large as the module.
+/// Parses the module of an input and copies its script, and then frees the input, whose text may be as large as the
+/// module.
 fn taken_apart(
     alloc: Global,
     key: u64,
     opaque: bool,
     input: Vec<u8>,
-) -> Result<((Context, TreeOp), Vec<u8>), Unread>
+) -> Result<((Context, TreeOp), Vec<u8>), ParseError>
     ensures read { IfOk result (λ x. IsOnly (SpellsModule opaque (module_text input.items)) x.0.0 x.0.1) }
     ensures sound { IfOk result (λ x. IsSoundIn x.0.0 x.0.1) }
     ensures mode { IfOk result (λ x. x.0.0.opaque ≡ opaque) }
     ensures script { IfOk result (λ x. x.1.items ≡ script_text input.items) }
-    ensures unread { IfErr result (λ e. WhyNot opaque (module_text input.items) e.refusal e.offset) }
-    ensures cause { IfErr result (λ e. e.cause ≡ module_cause (module_text input.items) e.refusal e.offset) }
+    ensures unparsed { IfErr result (λ e. WhyNot opaque (module_text input.items) e.refusal e.offset) }
+    ensures unsupported { IfErr result (λ e. e.unsupported ≡ module_cause (module_text input.items) e.refusal e.offset) }
 {
     let (module, script) = split(&input);
     let found = match tree_of(alloc, key, opaque, module) {
         Ok(found) => found,
-        Err(unread) => return Err(unread),
+        Err(unparsed) => return Err(unparsed),
     };
     let Ok(script) = Vec::from_slice(alloc, script) else {
         return Err(no_memory());
@@ -232,8 +234,8 @@ fn taken_apart(
     Ok((found, script))
 }
 
-/// Whether a script only prints, and no two listeners have one kind, where no answer has an end: then no line asks for
-/// what a listener keeps.
+/// Returns whether a script only prints, all listeners have different kinds and `ends` isn't set. No line then reads
+/// a report.
 fn asks_for_prints<L: Analysis>(ends: bool, script: &[u8], boxes: &[L]) -> bool
     ensures endless { IsTrue result → ends ≡ false }
     ensures short { IsTrue result → length script.now ≤ most_script_bytes }
@@ -246,7 +248,7 @@ fn asks_for_prints<L: Analysis>(ends: bool, script: &[u8], boxes: &[L]) -> bool
     only_prints(script, boxes)
 }
 
-/// Runs a script that only prints over a tree that was read.
+/// Runs a script that only prints on a parsed tree.
 fn answer_prints<W: Sink, L: Analysis>(
     alloc: Global,
     ctx: &Context,
@@ -259,8 +261,8 @@ fn answer_prints<W: Sink, L: Analysis>(
     requires short { length script.now ≤ most_script_bytes }
     requires prints { all_print (lines_of script.now) ≡ true }
     requires apart { kinds_apart L.meaning boxes.now ≡ true }
-    ensures { (way : Way) (start : Patterns) (next : ℕ) → way.manner.ends ≡ false → HandedOut
-        (IsSession way start (all_shown L.meaning boxes.now)
+    ensures { (setting : SessionSetting) (start : Patterns) (next : ℕ) → setting.session_options.ends ≡ false → HandedOut
+        (IsSession setting start (all_shown L.meaning boxes.now)
         (record { tree = meaning ctx.now tree.now; next = next }) script.now)
         (W.stream writer.old) (W.stream writer.new) (W.handed writer.new) result }
 {
@@ -270,33 +272,41 @@ fn answer_prints<W: Sink, L: Analysis>(
     }
 }
 
-/// Makes a world of a tree that was read, and runs a script over it.
-fn answer_script<W: Sink, L: Supplied>(
+/// Builds the IR state of a parsed tree and runs a script on it.
+fn answer_script<W: Sink, L: AnalysisSource>(
     alloc: Global,
-    manner: &Manner,
+    session_options: &SessionOptions,
     world: World,
     script: &[u8],
     writer: &mut W,
     boxes: Vec<L>,
-    book: Book,
+    registry: PatternRegistry,
 ) -> Result<u8, WriteFault>
-    requires slotted { IsSlotted world.store }
-    requires tidy { IsTidy world.store }
-    requires mode { world.ctx.opaque ≡ manner.now.opaque }
-    ensures { HandedOut (IsSession (way_of L.supply manner.now) (book_view book) (all_shown L.meaning boxes.items) (module_in world) script.now)
+    requires slotted { TracksRemovedKeys world.store }
+    requires tidy { HasNoStaleIds world.store }
+    requires mode { world.ctx.opaque ≡ session_options.now.opaque }
+    ensures { HandedOut (IsSession (session_setting L.supply session_options.now) (registry_model registry) (all_shown L.meaning boxes.items) (module_in world) script.now)
         (W.stream writer.old) (W.stream writer.new) (W.handed writer.new) result }
 {
-    match run_session(alloc, manner, world, script, writer, boxes, book) {
+    match run_session(
+        alloc,
+        session_options,
+        world,
+        script,
+        writer,
+        boxes,
+        registry,
+    ) {
         Ok(status) => finish(writer, status),
         Err(fault) => Err(fault),
     }
 }
 
-/// How the script of an input of so many bytes is run.
-pub(crate) fn manner_of(options: Options, bytes: usize) -> Manner
-    ensures { result ≡ manner_of options bytes }
+/// Returns the session options for an input of `bytes` bytes.
+pub(crate) fn session_options_of(options: Options, bytes: usize) -> SessionOptions
+    ensures { result ≡ session_options_of options bytes }
 {
-    Manner {
+    SessionOptions {
         brief: options.brief,
         bytes,
         limit: options.limit,
@@ -307,24 +317,24 @@ pub(crate) fn manner_of(options: Options, bytes: usize) -> Manner
     }
 }
 
-/// Runs an input that was read. A script that only prints is answered from the tree, without a world.
-fn answer_input<W: Sink, L: Supplied>(
+/// Runs an input that was read. A script that only prints is answered from the tree, without an IR state.
+fn answer_input<W: Sink, L: AnalysisSource>(
     alloc: Global,
     key: u64,
     options: Options,
     input: Vec<u8>,
     writer: &mut W,
     boxes: Vec<L>,
-    book: Book,
+    registry: PatternRegistry,
 ) -> Result<u8, WriteFault>
     requires { length input.items ≤ most_input_bytes }
-    ensures { HandedOut (IsOutput (setting_with L.supply options (book_view book)) (all_shown L.meaning boxes.items) input.items)
+    ensures { HandedOut (IsOutput (setting_with L.supply options (registry_model registry)) (all_shown L.meaning boxes.items) input.items)
         (W.stream writer.old) (W.stream writer.new) (W.handed writer.new) result }
 {
-    let manner = manner_of(options, input.len());
+    let session_options = session_options_of(options, input.len());
     let ((ctx, tree), script) = match taken_apart(alloc, key, options.opaque, input) {
         Ok(parts) => parts,
-        Err(unread) => return refuse(writer, options.explain, unread),
+        Err(unparsed) => return refuse(writer, options.explain, unparsed),
     };
     if asks_for_prints(options.ends, &script, &boxes) {
         return answer_prints(alloc, &ctx, &tree, &script, writer, &boxes);
@@ -332,7 +342,15 @@ fn answer_input<W: Sink, L: Supplied>(
     let Some(world) = hold(alloc, ctx, tree) else {
         return refuse(writer, options.explain, no_memory());
     };
-    answer_script(alloc, &manner, world, &script, writer, boxes, book)
+    answer_script(
+        alloc,
+        &session_options,
+        world,
+        &script,
+        writer,
+        boxes,
+        registry,
+    )
 }
 
 fn ended(ran: Result<u8, WriteFault>) -> Result<u8, Fault>
@@ -344,21 +362,22 @@ fn ended(ran: Result<u8, WriteFault>) -> Result<u8, Fault>
     }
 }
 
-/// Reads the whole input, and then runs it, with a reader and a writer of which it may be known whether they failed.
-/// After a read fault nothing is written; after a write fault a front of an output is. At most `MAX_READS` reads are
-/// made. A fault is answered only where a read or a write failed, or one more read was wanted. Nothing that is written
-/// depends on the key with which names are hashed.
-pub fn read_and_answer_watched<R: Source, W: Sink, L: Supplied>(
+/// Reads the whole input and runs it. The reader and the writer may record whether they failed.
+///
+/// After a read fault nothing was written; after a write fault a prefix of an output was written. At most `MAX_READS`
+/// reads are made. A fault is returned only if a read or a write failed, or more reads were needed. The output
+/// doesn't depend on the key with which names are hashed.
+pub fn read_and_answer_watched<R: Source, W: Sink, L: AnalysisSource>(
     alloc: Global,
     key: u64,
     options: Options,
     reader: &mut R,
     writer: &mut W,
     boxes: Vec<L>,
-    book: Book,
+    registry: PatternRegistry,
 ) -> Result<u8, Fault>
     ensures ran { IfSome (R.intake reader.old).remaining (λ input. EndedSo
-        (IsOutput (setting_with L.supply options (book_view book)) (all_shown L.meaning boxes.items) input)
+        (IsOutput (setting_with L.supply options (registry_model registry)) (all_shown L.meaning boxes.items) input)
         (W.stream writer.old).contents (W.stream writer.new).contents result) }
     ensures leaves { Leaves (R.intake reader.old) (R.intake reader.new)
         (W.stream writer.old) (W.stream writer.new) (W.handed writer.new) result }
@@ -367,24 +386,24 @@ pub fn read_and_answer_watched<R: Source, W: Sink, L: Supplied>(
     let input = match read_all(alloc, reader) {
         Ok(input) => input,
         Err(ReadFault::TooMany) => {
-            let unread = Unread {
+            let unparsed = ParseError {
                 refusal: Refusal::TooMany,
                 offset: Some(MAX_INPUT_BYTES),
-                cause: None,
+                unsupported: None,
             };
-            return ended(refuse(writer, options.explain, unread));
+            return ended(refuse(writer, options.explain, unparsed));
         }
         Err(ReadFault::Memory) => {
             return ended(refuse(writer, options.explain, no_memory()));
         }
         Err(ReadFault::Broken) => return Err(Fault::Read),
     };
-    ended(answer_input(alloc, key, options, input, writer, boxes, book))
+    ended(answer_input(alloc, key, options, input, writer, boxes, registry))
 }
 
-/// Reads the whole input, and then runs it. After a read fault nothing is written; after a write fault a
-/// front of an output is. Nothing that is written depends on the key with which names are hashed.
-pub fn read_and_answer<R: Read, W: Write, L: Supplied>(
+/// Reads the whole input and runs it. After a read fault nothing was written; after a write fault a prefix of an
+/// output was written. The output doesn't depend on the key with which names are hashed.
+pub fn read_and_answer<R: Read, W: Write, L: AnalysisSource>(
     alloc: Global,
     key: u64,
     options: Options,
@@ -395,9 +414,17 @@ pub fn read_and_answer<R: Read, W: Write, L: Supplied>(
     ensures ran { IfSome (R.remaining reader.old) (λ input. EndedSo
         (IsOutput (setting_of L.supply options) (all_shown L.meaning boxes.items) input)
         (W.contents writer.old) (W.contents writer.new) result) }
-    ensures unread { IfErr result (λ e. e ≡ Fault.Read → Keeps (W.contents writer.old) (W.contents writer.new)) }
+    ensures unparsed { IfErr result (λ e. e ≡ Fault.Read → Keeps (W.contents writer.old) (W.contents writer.new)) }
 {
-    read_and_answer_watched(alloc, key, options, reader, writer, boxes, Book::new(alloc))
+    read_and_answer_watched(
+        alloc,
+        key,
+        options,
+        reader,
+        writer,
+        boxes,
+        PatternRegistry::new(alloc),
+    )
 }
 
 fn exit_status(ended: Result<u8, Fault>) -> u8
@@ -409,37 +436,37 @@ fn exit_status(ended: Result<u8, Fault>) -> u8
     }
 }
 
-/// Reads the whole input, a module and a script, then writes the output, with a reader and a writer of which it may be
-/// known whether they failed. What is written is an output of what was read, and the answer is the exit status: 0 where
-/// all was accepted, 1 where a command or a box was refused, 3 where the module was, and 4 only where a read or a write
-/// failed, or one more read than `MAX_READS` was wanted. After a read fault nothing was written; all is read before the
-/// first byte is written, and all that is written is handed on where the answer isn't 4. Nothing that is written
-/// depends on the key with which names are hashed.
-pub fn run_watched<L: Supplied, R: Source, W: Sink>(
+/// Reads the whole input, a module and a script, and then writes the output, which is an output of the input. The
+/// reader and the writer may record whether they failed.
+///
+/// Returns the exit status: 0 if all was accepted, 1 if a command or a listener was refused, 3 if the module was
+/// refused, and 4 only if a read or a write failed or more than `MAX_READS` reads were needed. The whole input is
+/// read before the first byte is written, so nothing is written after a read fault. Unless the status is 4, all
+/// written bytes are flushed. The output doesn't depend on the key with which names are hashed.
+pub fn run_watched<L: AnalysisSource, R: Source, W: Sink>(
     alloc: Global,
     key: u64,
     options: Options,
     reader: &mut R,
     writer: &mut W,
     boxes: Vec<L>,
-    book: Book,
+    registry: PatternRegistry,
 ) -> u8
     ensures ran { IfSome (R.intake reader.old).remaining (λ input. HasStatus
-        (IsOutput (setting_with L.supply options (book_view book)) (all_shown L.meaning boxes.items) input)
+        (IsOutput (setting_with L.supply options (registry_model registry)) (all_shown L.meaning boxes.items) input)
         (W.stream writer.old).contents (W.stream writer.new).contents result) }
     ensures leaves { LeavesAt (R.intake reader.old) (R.intake reader.new)
         (W.stream writer.old) (W.stream writer.new) (W.handed writer.new) result }
     ensures fault { result ≡ 4 → HasFailed (R.intake reader.old) (R.intake reader.new) (W.stream writer.new) }
     ensures made { AreMadeAtMost (R.intake reader.old).reads (R.intake reader.new).reads most_reads }
 {
-    exit_status(read_and_answer_watched(alloc, key, options, reader, writer, boxes, book))
+    exit_status(read_and_answer_watched(alloc, key, options, reader, writer, boxes, registry))
 }
 
-/// Reads the whole input, a module and a script, then writes the output. What is written is an output of
-/// what was read, and the answer is the exit status: 0 where all was accepted, 1 where a command or a box
-/// was refused, 3 where the module was, 4 where a read or a write failed, and then nothing was written, or a
-/// front of an output.
-pub fn run<L: Supplied, R: Read, W: Write>(
+/// Reads the whole input, a module and a script, and then writes the output, which is an output of the input. Returns
+/// the exit status: 0 if all was accepted, 1 if a command or a listener was refused, 3 if the module was refused, and
+/// 4 if a read or a write failed. With 4, nothing or a prefix of an output was written.
+pub fn run<L: AnalysisSource, R: Read, W: Write>(
     alloc: Global,
     options: Options,
     reader: &mut R,
@@ -453,9 +480,9 @@ pub fn run<L: Supplied, R: Read, W: Write>(
     run_keyed(alloc, 0, options, reader, writer, boxes)
 }
 
-/// Runs as `run` does, but names are hashed with a key that nobody who writes a text knows, so that no text can be
-/// written whose names collide. Nothing that is written depends on it.
-pub fn run_keyed<L: Supplied, R: Read, W: Write>(
+/// Runs as `run` does, and hashes names with a secret key, so that an attacker can't choose names that collide. The
+/// output doesn't depend on the key.
+pub fn run_keyed<L: AnalysisSource, R: Read, W: Write>(
     alloc: Global,
     key: u64,
     options: Options,
@@ -467,5 +494,13 @@ pub fn run_keyed<L: Supplied, R: Read, W: Write>(
         (IsOutput (setting_of L.supply options) (all_shown L.meaning boxes.items) input)
         (W.contents writer.old) (W.contents writer.new) result) }
 {
-    run_watched(alloc, key, options, reader, writer, boxes, Book::new(alloc))
+    run_watched(
+        alloc,
+        key,
+        options,
+        reader,
+        writer,
+        boxes,
+        PatternRegistry::new(alloc),
+    )
 }

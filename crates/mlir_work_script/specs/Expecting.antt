@@ -1,4 +1,4 @@
--- `expect REFUSAL COMMAND`: a line on which it is said that its command is to be refused, and why.
+-- `expect REFUSAL COMMAND`: a line whose command should be refused with this refusal.
 use Rattle.std.specs.Prelude.{ℕ, List, [], ◌∷◌, ◌||◌, Bool, eqb, false, Option, Some, None, if◌then◌else◌, codes}
 use Rattle.std.specs.List.{find}
 use Rattle.std.specs.Str.{bytes_eq, is_utf8}
@@ -18,7 +18,7 @@ use Rattle.ir_event.specs.types.declared.refusal.Refusal.TheVariants.{ChainTooDe
 use Rattle.mlir_work_script_base.specs.Numbers.{number_of}
 use Rattle.mlir_work_script_base.specs.Words.{trim, word_of, after_word}
 
--- all refusals, by rising numbers
+-- all refusals in the order of their numbers
 unfoldable pub all_refusals : List Refusal
 all_refusals =
     BadToken ∷ Unexpected ∷ UnknownValue ∷ Redefined ∷ TypeMismatch ∷ BadWidth ∷ BadValue ∷ MultipleBlocks
@@ -32,11 +32,11 @@ abbrev pub is_number_of : Option ℕ → Refusal → Bool
 is_number_of None refusal = false
 is_number_of (Some n) refusal = eqb (refusals.number_of refusal) n
 
--- whether a word names a refusal: it is its number, or its word
+-- whether a word is the number or the word of a refusal
 abbrev pub names : List ℕ → Refusal → Bool
 names word refusal = is_number_of (number_of word) refusal || bytes_eq (refusals.word_of refusal) word
 
--- the refusal that a word names
+-- the refusal with this number or word
 abbrev pub refusal_in : List ℕ → Option Refusal
 refusal_in word = find (names word) all_refusals
 
@@ -44,10 +44,10 @@ refusal_in word = find (names word) all_refusals
 abbrev pub expected_in : List ℕ → Option Refusal
 expected_in text = if bytes_eq (word_of text) (codes "expect") then refusal_in (word_of (after_word text)) else None
 
--- the command of a trimmed line: what stands behind the refusal, where one is expected
-abbrev pub command_behind : Option Refusal → List ℕ → List ℕ
-command_behind None text = text
-command_behind (Some refusal) text = after_word (after_word text)
+-- the command of a trimmed line: the text after the expected refusal, or the whole text if none is expected
+abbrev pub command_after : Option Refusal → List ℕ → List ℕ
+command_after None text = text
+command_after (Some refusal) text = after_word (after_word text)
 
 -- the refusal that a line expects
 abbrev pub line_expects : List ℕ → Option Refusal

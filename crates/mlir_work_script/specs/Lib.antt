@@ -1,5 +1,5 @@
-pub mod Orders
-pub mod BookOrders
+pub mod SessionCommands
+pub mod RegistryCommands
 pub mod Expecting
 pub mod Commands
 pub mod Outcomes

@@ -1,4 +1,4 @@
--- What came of a transformation, and the word and the number by which a reply tells it.
+-- The outcomes of transformations, with their words and numbers in a reply.
 use Rattle.std.specs.Prelude.{ℕ, List, codes}
 use Rattle.rewriter_machine.specs.Machine.{Applied, Outcome, Swept, Converged, Limited, Converted}
 use Rattle.mlir_work_script.specs.declared.outcome.Outcome.{Outcome as Coded}

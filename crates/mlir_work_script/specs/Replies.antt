@@ -30,7 +30,7 @@ abbrev pub refused_on_line : ℕ → Refusal → ℕ → List ℕ
 refused_on_line n refusal op =
     decimal n ++ (codes " refused " ++ (text_of refusal ++ (codes " " ++ (op_text op ++ codes "\n"))))
 
--- where a text is refused, counted in bytes from its first
+-- the offset of a refused text, in bytes from its start
 abbrev pub at_offset : Option ℕ → List ℕ
 at_offset (Some offset) = codes " at " ++ (decimal offset ++ codes "\n")
 at_offset None = codes "\n"
@@ -39,7 +39,7 @@ at_offset None = codes "\n"
 abbrev pub refused_at_line : ℕ → Refusal → ℕ → List ℕ
 refused_at_line n refusal offset = decimal n ++ (codes " refused " ++ (text_of refusal ++ at_offset (Some offset)))
 
--- `1 expected 22 HasUses`, below the reply to a command that was to be refused so and wasn't
+-- `1 expected 22 HasUses`, after the reply to a command that wasn't refused as expected
 abbrev pub expected_line : ℕ → Refusal → List ℕ
 expected_line n refusal = decimal n ++ (codes " expected " ++ (text_of refusal ++ codes "\n"))
 
@@ -52,11 +52,11 @@ abbrev pub attach_refused_line : ℕ → Refusal → List ℕ
 attach_refused_line kind refusal =
     codes "attach " ++ (kind_word kind ++ (codes " refused " ++ (text_of refusal ++ codes "\n")))
 
--- `-- uses`, over the rows of a kind
+-- `-- uses`, the heading of report rows
 abbrev pub kind_line : ℕ → List ℕ
 kind_line kind = codes "-- " ++ (kind_word kind ++ codes "\n")
 
--- `-- uses stale`, in place of them
+-- `-- uses stale`, in place of the rows
 abbrev pub stale_line : ℕ → List ℕ
 stale_line kind = codes "-- " ++ (kind_word kind ++ codes " stale\n")
 
@@ -64,6 +64,6 @@ stale_line kind = codes "-- " ++ (kind_word kind ++ codes " stale\n")
 abbrev pub kind_memory_line : ℕ → List ℕ
 kind_memory_line kind = codes "-- " ++ (kind_word kind ++ codes " memory\n")
 
--- in place of a module's text that found no memory
+-- the line in place of a module text that found no memory
 abbrev pub module_memory_line : List ℕ
 module_memory_line = codes "-- module memory\n"

@@ -1,4 +1,4 @@
-//! The commands of a script.
+//! Parses the lines of a script.
 ghost use Rattle.std.specs.Prelude.{◌≡◌, Some};
 ghost use Rattle.std.specs.Option.{option_map};
 ghost use Rattle.rewriter_machine.specs.Commands as said;
@@ -7,121 +7,121 @@ ghost use Rattle.mlir_work_script.specs.Commands.{drop_attr_in, erase_in, insert
 ghost use Rattle.mlir_work_script.specs.Commands.{apply_in, canon_in, convert_in, entry_command, mark_command, panel_command};
 ghost use Rattle.mlir_work_script.specs.Commands.{transforming_command, command_of, line_says, text_says};
 
-use crate::book_order::{BookOrder, book_order_in};
-use crate::expect::{command_behind, expected_in};
-use crate::order::{Order, order_in};
+use crate::expected_refusal::{command_after, expected_in};
+use crate::registry_command::{RegistryCommand, parse_registry_command};
+use crate::session_command::{SessionCommand, parse_session_command};
 use ir_event::trees::value::Value;
 use ir_event::types::ids::OpId;
 use mlir_work_script_base::clauses::{Clauses, clauses_in, mode_named};
+use mlir_work_script_base::insertion_points::{InsertionPoint, split_insertion_point};
 use mlir_work_script_base::keys::{Key, split_key};
 use mlir_work_script_base::kind::{Kind, kind_named};
-use mlir_work_script_base::numbers::number;
+use mlir_work_script_base::numbers::parse_number;
 use mlir_work_script_base::rule_name::{RuleName, rule_named};
-use mlir_work_script_base::spots::{Spot, split_spot};
 use mlir_work_script_base::values::{op_named, value_named};
 use mlir_work_script_base::words::{is_text, split_word, trim};
 
-/// A command of a script.
+/// An editing or report command of a script.
 #[derive(Clone, Copy)]
 pub enum Command<'a> {
-    /// `report KIND` prints the rows of an analysis.
+    /// `report KIND` shows the report rows of an analysis.
     Report(Kind),
-    /// `print` prints the module.
+    /// `print` shows the module.
     Print,
-    /// `set-operand #N K VALUE` sets an operand of an operation, by its place.
+    /// `set-operand #N K VALUE` sets an operand of an operation.
     SetOperand {
         /// The operation.
         op: OpId,
-        /// The place of the operand.
+        /// The index of the operand.
         operand: u32,
-        /// What the operand is to be.
+        /// The new operand.
         value: Value,
     },
-    /// `replace VALUE VALUE` sets one value in place of another, wherever that is used.
+    /// `replace VALUE VALUE` replaces all uses of one value by another value.
     Replace {
-        /// The value that is used.
+        /// The value whose uses are replaced.
         old: Value,
-        /// What is to be used.
+        /// The value that replaces it.
         new: Value,
     },
-    /// `erase #N` takes an operation away, with what is inside it.
+    /// `erase #N` erases an operation and everything inside it.
     Erase(OpId),
-    /// `move #N PLACE` moves an operation, with what is inside it.
+    /// `move #N PLACE` moves an operation and everything inside it.
     Move {
         /// The operation.
         op: OpId,
-        /// Where it is to stand.
-        spot: Spot,
+        /// The insertion point.
+        point: InsertionPoint,
     },
-    /// `insert PLACE OPERATION` puts an operation in, with what is inside it.
+    /// `insert PLACE OPERATION` inserts an operation and everything inside it.
     Insert {
-        /// Where it is to stand.
-        spot: Spot,
+        /// The insertion point.
+        point: InsertionPoint,
         /// The text of the operation.
         operation: &'a [u8],
     },
-    /// `set-attr #N KEY ATTRIBUTE` sets an entry of an operation.
+    /// `set-attr #N KEY ATTRIBUTE` sets an attribute of an operation.
     SetAttr {
         /// The operation.
         op: OpId,
-        /// The entry's key.
+        /// The attribute's key.
         key: Key<'a>,
         /// The text of the attribute.
         attribute: &'a [u8],
     },
-    /// `drop-attr #N KEY` takes an entry out.
+    /// `drop-attr #N KEY` removes an attribute of an operation.
     DropAttr {
         /// The operation.
         op: OpId,
-        /// The entry's key.
+        /// The attribute's key.
         key: Key<'a>,
     },
-    /// `canon` and `canon limit N` rewrite until no rule applies any more, or so many times.
+    /// `canon` and `canon limit N` canonicalize until no rule applies or the limit is reached.
     Canon(Option<u32>),
-    /// `convert MODE CLAUSES` rewrites what isn't legal, or leaves all as it was.
+    /// `convert MODE CLAUSES` converts illegal operations. A refused conversion changes nothing.
     Convert {
-        /// Whether each operation is to be legal in the end, also one that is named nowhere.
+        /// Whether the conversion is full: each operation must become legal, even one that no clause names.
         full: bool,
         /// What is legal, and which rules are tried.
         clauses: Clauses<'a>,
     },
-    /// `sweep` takes the private symbols away that nothing reaches.
+    /// `sweep` erases the private symbols that nothing reaches.
     Sweep,
-    /// `apply RULE #N` applies a rule at an operation, where it applies there.
+    /// `apply RULE #N` applies a rule at an operation, if it matches there.
     Apply {
         /// The rule, by its number or its word.
         rule: RuleName<'a>,
         /// The operation.
         op: OpId,
     },
-    /// `begin` makes a mark of the module.
+    /// `begin` pushes a mark of the module.
     Begin,
-    /// `commit` drops the newest mark.
+    /// `commit` pops the newest mark and keeps the edits since it.
     Commit,
-    /// `rollback` goes back to the newest mark, and drops it.
+    /// `rollback` undoes the edits since the newest mark, and pops the mark.
     Rollback,
-    /// `detach KIND` drops an analysis.
+    /// `detach KIND` detaches an analysis.
     Detach(Kind),
-    /// `resync KIND` begins an analysis again.
+    /// `resync KIND` computes an analysis again.
     Resync(Kind),
 }
 
-/// What a line of a script says.
+/// A parsed line of a script.
 #[derive(Clone, Copy)]
 pub enum Line<'a> {
-    /// Nothing: an empty line or a comment.
-    Nothing,
-    /// No command, though it should be one.
-    Bad,
-    /// A command of the bench.
-    Obey(Command<'a>),
-    /// An order of the session.
-    Ordered(Order<'a>),
-    /// One about its patterns.
-    Booked(BookOrder<'a>),
+    /// An empty line or a comment.
+    Empty,
+    /// A line that can't be parsed.
+    BadCommand,
+    /// A command on the rewriter.
+    Command(Command<'a>),
+    /// A session command.
+    Session(SessionCommand<'a>),
+    /// A command on the pattern registry.
+    Registry(RegistryCommand<'a>),
 }
 
-/// `report KIND`, behind its name.
+/// Parses the arguments of `report KIND`.
 fn report(rest: &[u8]) -> Option<Command<'_>>
     ensures { option_map said_of result ≡ with_kind said.Report rest.now }
 {
@@ -133,7 +133,7 @@ fn report(rest: &[u8]) -> Option<Command<'_>>
     Some(Command::Report(kind))
 }
 
-/// `detach KIND`, behind its name.
+/// Parses the arguments of `detach KIND`.
 fn detach(rest: &[u8]) -> Option<Command<'_>>
     ensures { option_map said_of result ≡ with_kind said.Detach rest.now }
 {
@@ -145,7 +145,7 @@ fn detach(rest: &[u8]) -> Option<Command<'_>>
     Some(Command::Detach(kind))
 }
 
-/// `resync KIND`, behind its name.
+/// Parses the arguments of `resync KIND`.
 fn resync(rest: &[u8]) -> Option<Command<'_>>
     ensures { option_map said_of result ≡ with_kind said.Resync rest.now }
 {
@@ -157,7 +157,7 @@ fn resync(rest: &[u8]) -> Option<Command<'_>>
     Some(Command::Resync(kind))
 }
 
-/// `set-operand #N K VALUE`, behind its name.
+/// Parses the arguments of `set-operand #N K VALUE`.
 fn set_operand(rest: &[u8]) -> Option<Command<'_>>
     ensures { option_map said_of result ≡ set_operand_in rest.now }
 {
@@ -168,12 +168,12 @@ fn set_operand(rest: &[u8]) -> Option<Command<'_>>
         return None;
     }
     let op = op_named(op)?;
-    let operand = number(operand)?;
+    let operand = parse_number(operand)?;
     let value = value_named(value)?;
     Some(Command::SetOperand { op, operand, value })
 }
 
-/// `replace VALUE VALUE`, behind its name.
+/// Parses the arguments of `replace VALUE VALUE`.
 fn replace(rest: &[u8]) -> Option<Command<'_>>
     ensures { option_map said_of result ≡ replace_in rest.now }
 {
@@ -187,7 +187,7 @@ fn replace(rest: &[u8]) -> Option<Command<'_>>
     Some(Command::Replace { old, new })
 }
 
-/// `erase #N`, behind its name.
+/// Parses the argument of `erase #N`.
 fn erase(rest: &[u8]) -> Option<Command<'_>>
     ensures { option_map said_of result ≡ erase_in rest.now }
 {
@@ -199,20 +199,20 @@ fn erase(rest: &[u8]) -> Option<Command<'_>>
     Some(Command::Erase(op))
 }
 
-/// `insert PLACE OPERATION`, behind its name.
+/// Parses the arguments of `insert PLACE OPERATION`.
 fn insert(rest: &[u8]) -> Option<Command<'_>>
     ensures { option_map said_of result ≡ insert_in rest.now }
 {
-    let Some((spot, operation)) = split_spot(rest) else {
+    let Some((point, operation)) = split_insertion_point(rest) else {
         return None;
     };
     if operation.is_empty() {
         return None;
     }
-    Some(Command::Insert { spot, operation })
+    Some(Command::Insert { point, operation })
 }
 
-/// `print`, behind its name.
+/// Parses `print`, which has no arguments.
 fn print(rest: &[u8]) -> Option<Command<'_>>
     ensures { option_map said_of result ≡ alone rest.now (Some said.Print) }
 {
@@ -222,8 +222,8 @@ fn print(rest: &[u8]) -> Option<Command<'_>>
     Some(Command::Print)
 }
 
-/// `limit N`.
-fn limit(text: &[u8]) -> Option<Command<'_>>
+/// Parses `limit N`.
+fn parse_limit(text: &[u8]) -> Option<Command<'_>>
     ensures { option_map said_of result ≡ limit_in text.now }
 {
     let (name, rest) = split_word(text);
@@ -234,21 +234,21 @@ fn limit(text: &[u8]) -> Option<Command<'_>>
     if !left.is_empty() {
         return None;
     }
-    let limit = number(limit)?;
+    let limit = parse_number(limit)?;
     Some(Command::Canon(Some(limit)))
 }
 
-/// `canon [limit N]`, behind its name.
+/// Parses the arguments of `canon [limit N]`.
 fn canon(rest: &[u8]) -> Option<Command<'_>>
     ensures { option_map said_of result ≡ canon_in rest.now }
 {
     if rest.is_empty() {
         return Some(Command::Canon(None));
     }
-    limit(rest)
+    parse_limit(rest)
 }
 
-/// `convert MODE CLAUSES`, behind its name.
+/// Parses the arguments of `convert MODE CLAUSES`.
 fn convert(rest: &[u8]) -> Option<Command<'_>>
     ensures { option_map said_of result ≡ convert_in rest.now }
 {
@@ -258,7 +258,7 @@ fn convert(rest: &[u8]) -> Option<Command<'_>>
     Some(Command::Convert { full, clauses })
 }
 
-/// `sweep`, behind its name.
+/// Parses `sweep`, which has no arguments.
 fn sweep(rest: &[u8]) -> Option<Command<'_>>
     ensures { option_map said_of result ≡ alone rest.now (Some said.Sweep) }
 {
@@ -268,8 +268,8 @@ fn sweep(rest: &[u8]) -> Option<Command<'_>>
     Some(Command::Sweep)
 }
 
-/// `apply RULE #N`, behind its name.
-fn apply(rest: &[u8]) -> Option<Command<'_>>
+/// Parses the arguments of `apply RULE #N`.
+fn parse_apply(rest: &[u8]) -> Option<Command<'_>>
     ensures { option_map said_of result ≡ apply_in rest.now }
 {
     let (rule, rest) = split_word(rest);
@@ -282,8 +282,8 @@ fn apply(rest: &[u8]) -> Option<Command<'_>>
     Some(Command::Apply { rule, op })
 }
 
-/// `begin`, behind its name.
-fn begin(rest: &[u8]) -> Option<Command<'_>>
+/// Parses `begin`, which has no arguments.
+fn parse_begin(rest: &[u8]) -> Option<Command<'_>>
     ensures { option_map said_of result ≡ alone rest.now (Some said.Begin) }
 {
     if !rest.is_empty() {
@@ -292,7 +292,7 @@ fn begin(rest: &[u8]) -> Option<Command<'_>>
     Some(Command::Begin)
 }
 
-/// `commit`, behind its name.
+/// Parses `commit`, which has no arguments.
 fn commit(rest: &[u8]) -> Option<Command<'_>>
     ensures { option_map said_of result ≡ alone rest.now (Some said.Commit) }
 {
@@ -302,7 +302,7 @@ fn commit(rest: &[u8]) -> Option<Command<'_>>
     Some(Command::Commit)
 }
 
-/// `rollback`, behind its name.
+/// Parses `rollback`, which has no arguments.
 fn rollback(rest: &[u8]) -> Option<Command<'_>>
     ensures { option_map said_of result ≡ alone rest.now (Some said.Rollback) }
 {
@@ -312,22 +312,22 @@ fn rollback(rest: &[u8]) -> Option<Command<'_>>
     Some(Command::Rollback)
 }
 
-/// `move #N PLACE`, behind its name.
+/// Parses the arguments of `move #N PLACE`.
 fn move_op(rest: &[u8]) -> Option<Command<'_>>
     ensures { option_map said_of result ≡ move_in rest.now }
 {
     let (op, rest) = split_word(rest);
     let op = op_named(op)?;
-    let Some((spot, left)) = split_spot(rest) else {
+    let Some((point, left)) = split_insertion_point(rest) else {
         return None;
     };
     if !left.is_empty() {
         return None;
     }
-    Some(Command::Move { op, spot })
+    Some(Command::Move { op, point })
 }
 
-/// `set-attr #N KEY ATTRIBUTE`, behind its name.
+/// Parses the arguments of `set-attr #N KEY ATTRIBUTE`.
 fn set_attr(rest: &[u8]) -> Option<Command<'_>>
     ensures { option_map said_of result ≡ set_attr_in rest.now }
 {
@@ -340,7 +340,7 @@ fn set_attr(rest: &[u8]) -> Option<Command<'_>>
     Some(Command::SetAttr { op, key, attribute })
 }
 
-/// `drop-attr #N KEY`, behind its name.
+/// Parses the arguments of `drop-attr #N KEY`.
 fn drop_attr(rest: &[u8]) -> Option<Command<'_>>
     ensures { option_map said_of result ≡ drop_attr_in rest.now }
 {
@@ -353,7 +353,7 @@ fn drop_attr(rest: &[u8]) -> Option<Command<'_>>
     Some(Command::DropAttr { op, key })
 }
 
-/// The command of a name that transforms the module, or is about marks.
+/// Parses a command that transforms the module, or a command on marks.
 fn transforming_command<'a>(name: &[u8], rest: &'a [u8]) -> Option<Command<'a>>
     ensures { option_map said_of result ≡ transforming_command name.now rest.now }
 {
@@ -367,17 +367,17 @@ fn transforming_command<'a>(name: &[u8], rest: &'a [u8]) -> Option<Command<'a>>
         return sweep(rest);
     }
     if name == b"apply".as_slice() {
-        return apply(rest);
+        return parse_apply(rest);
     }
     mark_command(name, rest)
 }
 
-/// The command of a name that is about marks.
+/// Parses a command on marks.
 fn mark_command<'a>(name: &[u8], rest: &'a [u8]) -> Option<Command<'a>>
     ensures { option_map said_of result ≡ mark_command name.now rest.now }
 {
     if name == b"begin".as_slice() {
-        return begin(rest);
+        return parse_begin(rest);
     }
     if name == b"commit".as_slice() {
         return commit(rest);
@@ -388,7 +388,7 @@ fn mark_command<'a>(name: &[u8], rest: &'a [u8]) -> Option<Command<'a>>
     None
 }
 
-/// The command of a name that shows something, is of an analysis, transforms the module or is about marks.
+/// Parses a command that shows something, is on an analysis, transforms the module, or is on marks.
 fn panel_command<'a>(name: &[u8], rest: &'a [u8]) -> Option<Command<'a>>
     ensures { option_map said_of result ≡ panel_command name.now rest.now }
 {
@@ -407,7 +407,7 @@ fn panel_command<'a>(name: &[u8], rest: &'a [u8]) -> Option<Command<'a>>
     transforming_command(name, rest)
 }
 
-/// The command of a name that edits entries, or none.
+/// Parses a command that edits attributes.
 fn entry_command<'a>(name: &[u8], rest: &'a [u8]) -> Option<Command<'a>>
     ensures { option_map said_of result ≡ entry_command name.now rest.now }
 {
@@ -420,7 +420,7 @@ fn entry_command<'a>(name: &[u8], rest: &'a [u8]) -> Option<Command<'a>>
     panel_command(name, rest)
 }
 
-/// The command that a trimmed line is.
+/// Parses a trimmed line as a command.
 fn command_in(text: &[u8]) -> Option<Command<'_>>
     ensures { option_map said_of result ≡ command_of text.now }
 {
@@ -443,34 +443,34 @@ fn command_in(text: &[u8]) -> Option<Command<'_>>
     entry_command(name, rest)
 }
 
-/// What a text says that is no comment and not empty, or that stands behind a refusal.
+/// Parses a text that isn't empty and isn't a comment, or the command after an expected refusal.
 fn read_text(text: &[u8]) -> Line<'_>
     ensures { spoken_of result ≡ text_says text.now }
 {
-    if let Some(order) = book_order_in(text) {
-        return Line::Booked(order);
+    if let Some(session_command) = parse_registry_command(text) {
+        return Line::Registry(session_command);
     }
-    if let Some(order) = order_in(text) {
-        return Line::Ordered(order);
+    if let Some(session_command) = parse_session_command(text) {
+        return Line::Session(session_command);
     }
     match command_in(text) {
-        None => Line::Bad,
-        Some(command) => Line::Obey(command),
+        None => Line::BadCommand,
+        Some(command) => Line::Command(command),
     }
 }
 
-/// What a line says, but for the refusal that it may expect (`expect::expected_of`). Spaces, tabs and carriage returns
-/// at its ends don't count; words are separated by spaces or tabs. A line that isn't UTF-8 is bad, also where it is a
-/// comment.
+/// Parses a line, without the refusal that it may expect (`expected_refusal::expected_of`). Spaces, tabs and
+/// carriage returns at the ends are ignored. Spaces or tabs separate words. A line that isn't UTF-8 is `BadCommand`,
+/// even if it is a comment.
 pub fn read_line(line: &[u8]) -> Line<'_>
     ensures { spoken_of result ≡ line_says line.now }
 {
     if !is_text(line) {
-        return Line::Bad;
+        return Line::BadCommand;
     }
     let text = trim(line);
     if text.is_empty() || text.starts_with(b"//") {
-        return Line::Nothing;
+        return Line::Empty;
     }
-    read_text(command_behind(expected_in(text), text))
+    read_text(command_after(expected_in(text), text))
 }

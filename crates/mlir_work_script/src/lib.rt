@@ -1,10 +1,13 @@
-//! What a line of a script says, and what replies to it: each line of a script says what its definition says, and each
-//! line of the output is written as its definition says.
+//! The script language: parses the lines of a script and writes the replies.
+//!
+//! - `command`, `session_command` and `registry_command` parse the three groups of commands.
+//! - `expected_refusal` parses `expect REFUSAL COMMAND`.
+//! - `replies` writes the lines of the output, and `outcome` has the words of transformations.
 #![tactic(auto)]
 
-pub mod book_order;
 pub mod command;
-pub mod expect;
-pub mod order;
+pub mod expected_refusal;
 pub mod outcome;
+pub mod registry_command;
 pub mod replies;
+pub mod session_command;

@@ -1,24 +1,24 @@
-//! What came of a transformation of the module.
+//! The outcomes of transformations of the module.
 ghost use Rattle.std.specs.Prelude.{◌≡◌};
 ghost use Rattle.mlir_work_script.specs.Outcomes.{outcome_count, outcome_of, outcome_word};
 
-/// What came of a transformation of the module, which was made whole.
+/// The outcome of a transformation that was made.
 #[derive(Clone, Copy)]
 pub enum Outcome {
-    /// So many private symbols that nothing reaches were taken away.
+    /// The number of private symbols that a sweep erased.
     Swept(usize),
-    /// So many rewrites were made, and no rule applies any more.
+    /// The number of rewrites after which no rule applies any more.
     Converged(usize),
-    /// So many rewrites were made, which are as many as are allowed.
+    /// The number of rewrites; the limit was reached.
     Limited(usize),
-    /// So many rules of a conversion stand.
+    /// The number of rules that a conversion applied.
     Converted(usize),
-    /// A rule was applied so often: once, or not at all.
+    /// How often a rule was applied: once or not at all.
     Applied(usize),
 }
 
 impl Outcome {
-    /// The word by which a reply tells it.
+    /// Returns the word of the outcome in a reply.
     pub(crate) fn word(self) -> &'static [u8]
         ensures { result.now ≡ outcome_word (outcome_of self) }
     {
@@ -31,7 +31,7 @@ impl Outcome {
         }
     }
 
-    /// The number behind it.
+    /// Returns the number after the word in a reply.
     pub(crate) fn count(self) -> usize
         ensures { result ≡ outcome_count (outcome_of self) }
     {

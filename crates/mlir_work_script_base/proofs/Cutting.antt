@@ -1,4 +1,4 @@
--- A text cut where a byte first stands.
+-- Proofs about splitting a text at the first occurrence of a byte.
 use Rattle.std.proofs.Common.{◌≡◌, ℕ, ◌+◌, ◌<◌, ◌≤◌, List, [], ◌∷◌, length, take, drop, Bool, true, false, not, cond, if◌then◌else◌, refl, ap, arith, Some, None, position}
 use Rattle.std.proofs.lemmas.Grind.{common_steps}
 use Rattle.std.specs.List.{position_or_len}
@@ -19,15 +19,15 @@ found p xs n e = grind (arith, common_steps)
 missing : (p : ℕ → Bool) (xs : List ℕ) → None ≡ position p xs → length xs ≤ position_or_len p xs
 missing p xs e = grind (arith, common_steps)
 
--- what stands before and after the byte at n
+-- the parts before and after the byte at `n`
 pub cut_found : (p : ℕ → Bool) (text : List ℕ) (n : ℕ) → Some n ≡ position p text → (take n text ≡ before p text) × (drop (n + 1) text ≡ after p text)
 cut_found p text n e = let at = found p text n e in (rw (before_is p text, at) refl, rw (after_is p text, at) refl)
 
--- where there is no such byte
+-- the parts of a text without such a byte
 pub cut_missing : (p : ℕ → Bool) (text : List ℕ) → None ≡ position p text → (text ≡ before p text) × ([] ≡ after p text)
 cut_missing p text e = let at = missing p text e in (rw (before_is p text) (grind (arith, common_steps, at)), rw (after_is p text) (grind (arith, common_steps, at)))
 
--- a text that isn't empty has a first line, and then the lines of the rest
+-- the lines of a text that isn't empty are its first line and the lines of the rest
 pub lines_step : (text : List ℕ) → 0 < length text → lines_of text ≡ line_of text ∷ lines_of (after_line text)
 lines_step [] h = absurd (omega arith)
 lines_step (b ∷ []) h = elim (is_newline b) as (λ t. (if t then [] ∷ [] else (b ∷ []) ∷ []) ≡ (if t then [] else b ∷ []) ∷ lines_of (if t then [] else [])) [ true ↦ refl | false ↦ refl ]

@@ -1,4 +1,4 @@
--- A line that doesn't begin as the divider does.
+-- A line that begins differently isn't the divider.
 use Rattle.std.proofs.Common.{◌≡◌, ℕ, Bool, true, false, cond, List, [], ◌∷◌, refl}
 use Rattle.std.specs.Prelude.{◌==◌, codes}
 use Rattle.std.specs.Str.{bytes_eq}

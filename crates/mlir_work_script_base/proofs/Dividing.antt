@@ -1,4 +1,4 @@
--- What stands around the divider of an input.
+-- Proofs about the parts of an input around the divider.
 use Rattle.std.proofs.Common.{◌≡◌, ℕ, List, [], ◌∷◌, ◌++◌, Bool, true, false, if◌then◌else◌, inl, inr, refl, ap, ◌∙◌}
 use Rattle.std.specs.Prelude.{◌&&◌, codes}
 use Rattle.ir_event.proofs.of_types.Growth.{name_is}

@@ -51,9 +51,9 @@ word_again n h = elim (cases_Bool (n == 1)) [
   ]
 ]
 
--- ---- the other way
+-- ---- from words to kinds
 
--- the kind n has this word
+-- kind `n` has this word
 pub record HasWord (word : List ℕ) (n : ℕ) : Type 0 where
   pub small : n < 256
   pub is : word ≡ kind_word n
@@ -63,7 +63,7 @@ has_named word k n h e s =
     let same : k ≡ n = cc in
     subst (HasWord word) same (record { small = h; is = name_is word (kind_word k) e })
 
--- a test for one word, before the others
+-- a test for one word, before the tests for the others
 first_of_words : (word : List ℕ) (k n : ℕ) (t : Bool) (rest : Option ℕ) → bytes_eq word (kind_word k) ≡ t → k < 256 → (rest ≡ Some n → HasWord word n) → (if t then Some k else rest) ≡ Some n → HasWord word n
 first_of_words word k n true rest e h others s = has_named word k n h e s
 first_of_words word k n false rest e h others s = others s

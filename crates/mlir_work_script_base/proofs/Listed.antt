@@ -1,4 +1,4 @@
--- Lists that are one word.
+-- Proofs about comma-separated lists.
 use Rattle.std.proofs.Common.{◌≡◌, ℕ, ◌+◌, ◌<◌, ◌≤◌, List, [], ◌∷◌, length, take, drop, Bool, true, false, not, cond, if◌then◌else◌, refl, ap, arith, Some, None, Option, position}
 use Rattle.std.proofs.lemmas.Grind.{common_steps}
 use Rattle.std.specs.List.{position_or_len}
@@ -25,15 +25,15 @@ at_comma text n e = grind (arith, common_steps)
 no_comma : (text : List ℕ) → None ≡ position is_comma text → length text ≤ position_or_len is_comma text
 no_comma text e = grind (arith, common_steps)
 
--- a list with a comma at n
+-- a list with a comma at `n`
 pub items_found : (text : List ℕ) (n : ℕ) → Some n ≡ position is_comma text → items_of text ≡ take n text ∷ items_of (drop (n + 1) text)
 items_found text n e = let cut = cut_found is_comma text n e in rw (found text (at_comma text n e), cut.0, cut.1) refl
 
--- a list without one
+-- a list without a comma
 pub items_missing : (text : List ℕ) → None ≡ position is_comma text → items_of text ≡ text ∷ []
 items_missing text e = missing text (no_comma text e)
 
--- how much is left of a list
+-- the length of the remaining list
 abbrev pub left_of : Option (List ℕ) → ℕ
 left_of None = 0
 left_of (Some text) = 1 + length text

@@ -1,4 +1,4 @@
--- How many reads were made.
+-- Proofs about the number of reads.
 use Rattle.std.proofs.Common.{◌≡◌, ℕ, ◌+◌, ◌≤◌, ◌<◌, Option, Some, None, Bool, true, ◌⊎◌, inl, inr, refl, ◌∙◌, arith, zero, suc}
 use Rattle.mlir_work_script_base.specs.Reads.{AreMade, AreMadeAtMost}
 
@@ -14,7 +14,7 @@ made_at_most (Some x) None c n k h more = absurd h
 made_at_most (Some x) (Some y) None n k h more = absurd more
 made_at_most (Some x) (Some y) (Some z) n k h more = omega (arith, h, more)
 
--- so many are at most as many as may be
+-- a number of reads is within a larger limit
 pub few_made : (a b : Option ℕ) (n k : ℕ) → AreMade a b n → n ≤ k → AreMadeAtMost a b k
 few_made None b n k h le = tt
 few_made (Some x) None n k h le = h
@@ -29,12 +29,12 @@ gave_one : (made count taken : ℕ) → made ≤ count → (taken ≡ 0 → ⊥)
 gave_one made count zero h some = absurd (some refl)
 gave_one made count (suc taken) h some = omega arith
 
--- each read gave a byte at least, or one was interrupted
+-- each read gave at least one byte, or a read was interrupted
 pub gave_more : (made count taken : ℕ) (before after : Bool) → (made ≤ count) ⊎ (before ≡ true) → (taken ≡ 0 → ⊥) → after ≡ before → (made + 1 ≤ count + taken) ⊎ (after ≡ true)
 gave_more made count taken before after (inr h) some same = inr (same ∙ h)
 gave_more made count taken before after (inl h) some same = inl (gave_one made count taken h some)
 
--- more reads than bytes: one was interrupted
+-- if there were more reads than bytes, a read was interrupted
 pub ran_out : (made count : ℕ) (interrupted : Bool) → (made ≤ count) ⊎ (interrupted ≡ true) → count < made → interrupted ≡ true
 ran_out made count interrupted (inl few) more = absurd (omega arith)
 ran_out made count interrupted (inr e) more = e

@@ -1,4 +1,4 @@
--- Numbers and names that are printed are read again.
+-- Printed numbers and names parse as themselves.
 use Rattle.std.proofs.Common.{◌≡◌, ℕ, ◌^◌, ◌<◌, List, [], ◌∷◌, ◌++◌, length, true, false, Some, refl, ap, arith}
 use Rattle.std.specs.Prelude.{◌==◌, nat_lt}
 use Rattle.std.specs.Char.{is_ascii_digit}
@@ -14,7 +14,7 @@ use Rattle.mlir_work_script_base.specs.Numbers.{value_after, number_of}
 use Rattle.mlir_work_script_base.specs.Values.{is_dot, op_of, op_text, value_of, value_text}
 use Rattle.std.proofs.lemmas.Bool.{lt-ltb, and_parts}
 
--- what numbers are read as is what the library's lemmas want of numerals
+-- the library's lemmas about numerals apply to this parser
 pub numerals : IsNumeralModel (λ ds. all_ascii_digits ds ≡ true) (value_after 0)
 numerals = numerals_by_fold _ tells_all_ascii_digits value_after (search rules)
 
@@ -35,7 +35,7 @@ number_again n h =
 pub op_again : (n : ℕ) → n < 2 ^ 32 → op_of (op_text n) ≡ Some n
 op_again n h = number_again n h
 
--- ---- parts between dots
+-- ---- parts separated by dots
 
 no_dot : (d : ℕ) → is_ascii_digit d ≡ true → is_dot d ≡ false
 no_dot d e = grind (arith, nat_tests)

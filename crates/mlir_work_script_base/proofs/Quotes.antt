@@ -1,4 +1,4 @@
--- A text that begins with a quote begins with a string literal, or with no token.
+-- A text that begins with a quote begins with a string literal or with no token.
 use Rattle.std.proofs.Common.{◌≡◌, ◌∙◌, ap, sym, refl, ℕ, List, ◌∷◌, Option, Some, None}
 use Rattle.std.specs.Prelude.{option_map, option_and_then}
 use Rattle.ir_text_tokens.specs.Tokens.{Lexeme, string, next, string_parts}
@@ -12,7 +12,7 @@ raws (Some p) = refl
 parts_from : (tail : List ℕ) → option_and_then (λ (x : Lexeme × List ℕ). option_map (λ raw. (raw, x.1)) (raw_in x.0)) (next (34 ∷ tail)) ≡ string_parts tail
 parts_from tail = ap (option_and_then (λ (x : Lexeme × List ℕ). option_map (λ raw. (raw, x.1)) (raw_in x.0))) (string_token tail) ∙ raws (string_parts tail)
 
--- the parts of a string literal, by the token that stands there
+-- the parts of a string literal, from the token at the start of the text
 pub no_parts : (text tail : List ℕ) → text ≡ 34 ∷ tail → next text ≡ None → string_parts tail ≡ None
 no_parts text tail e h = sym (parts_from tail) ∙ ap (option_and_then (λ (x : Lexeme × List ℕ). option_map (λ raw. (raw, x.1)) (raw_in x.0))) (ap next (sym e) ∙ h)
 

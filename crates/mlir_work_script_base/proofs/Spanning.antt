@@ -1,11 +1,11 @@
--- A text is split line by line.
+-- Proofs about splitting a text line by line.
 use Rattle.std.proofs.Common.{◌≡◌, ◌∙◌, refl, sym, ap, ℕ, zero, suc, ◌+◌, ◌-◌, ◌<◌, ◌≤◌, Bool, true, false, cond, List, [], ◌∷◌, ◌++◌, length, take, drop, append_assoc, arith}
 use Rattle.std.specs.Prelude.{◌==◌, slice_index}
 use Rattle.std.proofs.lemmas.List.{append-nil, length-append, take_rest}
 use Rattle.mlir_work_script_base.specs.Lines.{is_newline, after_line}
 use Rattle.mlir_work_script_base.specs.Parts.{at_divider, module_from, script_from}
 
--- a line with its line feed, and what follows it
+-- a line with its line feed, and the text after it
 pub record Spans (bs line : List ℕ) : Type 0 where
   pub whole : bs ≡ line ++ after_line bs
   pub module_text : module_from false bs ≡ line ++ module_from true (after_line bs)
@@ -33,13 +33,13 @@ pub take_front : (front back : List ℕ) → take (length front) (front ++ back)
 take_front [] back = refl
 take_front (b ∷ front) back = ap (λ l. b ∷ l) (take_front front back)
 
--- what stands before a text's end
+-- the text before a suffix
 pub front_is : (input front back : List ℕ) → front ++ back ≡ input → take (length input - length back) input ≡ front
 front_is input front back e =
     let n : length input - length back ≡ length front = rw (← e) (omega (arith, length-append front back)) in
     rw n (rw (← e) (take_front front back))
 
--- the lines before `rest` have no divider
+-- no line before `rest` is the divider
 pub record Passed (input rest : List ℕ) : Type 0 where
   pub whole : take (length input - length rest) input ++ rest ≡ input
   pub module_text : take (length input - length rest) input ++ module_from true rest ≡ module_from true input
@@ -67,7 +67,7 @@ divided_here : (bs : List ℕ) → at_divider bs ≡ true → (module_from true 
 divided_here [] e = (refl, refl)
 divided_here (b ∷ bs) e = (rw e refl, rw e refl)
 
--- at the divider
+-- the text at the divider
 pub ends_module : (input rest : List ℕ) → at_divider rest ≡ true → Passed input rest → take (length input - length rest) input ≡ module_from true input
 ends_module input rest e h = sym (append-nil (take (length input - length rest) input)) ∙ ap (λ m. take (length input - length rest) input ++ m) (sym (divided_here rest e).0) ∙ h.module_text
 
@@ -85,7 +85,7 @@ after_most : (bs : List ℕ) → length (after_line bs) ≤ length bs
 after_most [] = omega arith
 after_most (b ∷ bs) = omega (arith, most_if (is_newline b) b bs (after_most bs))
 
--- a line is left behind
+-- the text after a line is shorter
 pub shorter : (bs : List ℕ) → 0 < length bs → length (after_line bs) < length bs
 shorter [] lt = absurd (omega (arith, lt))
 shorter (b ∷ bs) lt = most_if (is_newline b) b bs (after_most bs)

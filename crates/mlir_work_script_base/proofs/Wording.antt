@@ -1,4 +1,4 @@
--- Words of a text, and the clauses that they are.
+-- Proofs about the words of a text and the clauses that they form.
 use Rattle.std.proofs.Common.{◌≡◌, ◌∙◌, sym, ap, refl, ℕ, ◌<◌, ◌≤◌, List, [], ◌∷◌, length, Bool, true, false, if◌then◌else◌, Some, None, Option, arith}
 use Rattle.std.specs.Prelude.{◌&&◌, codes, is_none}
 use Rattle.std.specs.Str.{bytes_eq}
@@ -29,15 +29,15 @@ after_blank : (text : List ℕ) → length (after is_blank text) ≤ length text
 after_blank [] = omega arith
 after_blank (b ∷ bs) = let ih = after_blank bs in elim (is_blank b) as (λ t. length (if t then bs else after is_blank bs) ≤ length (b ∷ bs)) [ true ↦ omega arith | false ↦ omega arith ]
 
--- what stands behind a word is no longer than the text, and shorter where that isn't empty
-pub behind_within : (text : List ℕ) → length (after_word text) ≤ length text
-behind_within text = let s = skip_shorter (after is_blank text) in let a = after_blank text in omega arith
+-- the rest after a word is no longer than the text, and shorter if the text isn't empty
+pub after_within : (text : List ℕ) → length (after_word text) ≤ length text
+after_within text = let s = skip_shorter (after is_blank text) in let a = after_blank text in omega arith
 
-pub behind_shorter : (text : List ℕ) → 0 < length text → length (after_word text) < length text
-behind_shorter [] h = absurd (omega arith)
-behind_shorter (b ∷ bs) h =
+pub after_shorter : (text : List ℕ) → 0 < length text → length (after_word text) < length text
+after_shorter [] h = absurd (omega arith)
+after_shorter (b ∷ bs) h =
     let s = skip_shorter bs in
-    let a = behind_within bs in
+    let a = after_within bs in
     elim (is_blank b) as (λ t. length (skip_blanks (if t then bs else after is_blank bs)) < length (b ∷ bs)) [ true ↦ omega arith | false ↦ omega arith ]
 
 pub skip_words : (text : List ℕ) → words_of (skip_blanks text) ≡ words_of text
@@ -49,7 +49,7 @@ skip_words (b ∷ bs) =
 onto_more : (b c : ℕ) (cs : List ℕ) (words : List (List ℕ)) → is_blank c ≡ false → onto_word b (c ∷ cs) words ≡ onto_first b words
 onto_more b c cs words e = rw e refl
 
--- a text that begins with a word has this, and then the words of the rest
+-- the words of a text that begins with a word are that word and the words of the rest
 words_from : (b : ℕ) (bs : List ℕ) → is_blank b ≡ false → words_of (b ∷ bs) ≡ word_of (b ∷ bs) ∷ words_of (after_word (b ∷ bs))
 words_from b [] e = rw e refl
 words_from b (c ∷ cs) e =
@@ -65,7 +65,7 @@ words_step (b ∷ bs) h e = words_from b bs e
 nothing_and : {X : Type 0} (t : Bool) (x : Option X) → (if t && false then x else None) ≡ None
 nothing_and t x = elim t as (λ t. (if t && false then x else None) ≡ None) [ true ↦ refl | false ↦ refl ]
 
--- no clause has an empty list
+-- a clause with an empty list isn't accepted
 no_word : (name : List ℕ) (c : Clauses) → with_named name [] c ≡ None
 no_word name c =
     choose (bytes_eq name (codes "legal")) _ _ (nothing_and (is_none c.legal) _)
@@ -74,22 +74,22 @@ no_word name c =
     (choose (bytes_eq name (codes "rules")) _ _ (nothing_and (is_none c.rules) _)
     (choose (bytes_eq name (codes "depth")) _ _ refl refl))))
 
--- behind what is no clause there are none
+-- after a malformed clause the result stays `None`
 pub no_clause : (words : List (List ℕ)) → with_clauses words None ≡ None
 no_clause [] = refl
 no_clause (name ∷ []) = refl
 no_clause (name ∷ word ∷ words) = no_clause words
 
-one_left : (name behind : List ℕ) (c : Clauses) → starts_blank behind ≡ false → with_clauses (name ∷ words_of behind) (Some c) ≡ with_clauses (words_of (after_word behind)) (with_named name (word_of behind) c)
+one_left : (name trailing : List ℕ) (c : Clauses) → starts_blank trailing ≡ false → with_clauses (name ∷ words_of trailing) (Some c) ≡ with_clauses (words_of (after_word trailing)) (with_named name (word_of trailing) c)
 one_left name [] c e = sym (no_word name c)
 one_left name (b ∷ bs) c e = rw (words_step (b ∷ bs) (omega arith) e) refl
 
--- a text that begins with a word has a clause, if it is one, and then those of the rest
+-- the clauses of a text that begins with a word: its first clause, if it is one, and those of the rest
 pub clauses_step : (text : List ℕ) (c : Clauses) → 0 < length text → starts_blank text ≡ false
     → with_clauses (words_of text) (Some c) ≡ with_clauses (words_of (after_word (after_word text))) (with_named (word_of text) (word_of (after_word text)) c)
 clauses_step text c h e = rw (words_step text h e) (one_left (word_of text) (after_word text) c (skipped (after is_blank text)))
 
--- a text that may begin with blanks has the clauses of its rest without them
+-- leading blanks don't change the clauses of a text
 pub clauses_end : (text rest : List ℕ) (c : Clauses) → rest ≡ skip_blanks text → length rest ≡ 0 → Some c ≡ with_clauses (words_of text) (Some c)
 clauses_end text [] c is e = rw (← skip_words text, ← is) refl
 clauses_end text (b ∷ bs) c is e = absurd (omega arith)
@@ -100,12 +100,12 @@ clauses_next text rest c is h = ap (λ words. with_clauses words (Some c)) (sym 
 
 pub clauses_fall : (text rest : List ℕ) → rest ≡ skip_blanks text → 0 < length rest → length (after_word (after_word rest)) < length text
 clauses_fall text rest is h =
-    let first : length (after_word rest) < length rest = behind_shorter rest h in
-    let second : length (after_word (after_word rest)) ≤ length (after_word rest) = behind_within (after_word rest) in
+    let first : length (after_word rest) < length rest = after_shorter rest h in
+    let second : length (after_word (after_word rest)) ≤ length (after_word rest) = after_within (after_word rest) in
     let whole : length rest ≤ length text = rw is (skip_shorter text) in
     omega arith
 
--- where the first two words are no clause, and where they are one
+-- the first two words aren't a clause, or they are one
 pub clauses_none : (text rest name word : List ℕ) (c : Clauses) → rest ≡ skip_blanks text → 0 < length rest → name ≡ word_of rest → word ≡ word_of (after_word rest)
     → with_named name word c ≡ None → with_clauses (words_of text) (Some c) ≡ None
 clauses_none text rest name word c is h a b e =
@@ -113,7 +113,7 @@ clauses_none text rest name word c is h a b e =
     ∙ ap (with_clauses (words_of (after_word (after_word rest)))) ((λ i. with_named (sym a i) (sym b i) c) ∙ e)
     ∙ no_clause (words_of (after_word (after_word rest)))
 
-pub clauses_more : (text rest name word behind : List ℕ) (c more : Clauses) → rest ≡ skip_blanks text → 0 < length rest → name ≡ word_of rest → word ≡ word_of (after_word rest) → behind ≡ after_word (after_word rest)
-    → with_named name word c ≡ Some more → with_clauses (words_of text) (Some c) ≡ with_clauses (words_of behind) (Some more)
-clauses_more text rest name word behind c more is h a b d e =
+pub clauses_more : (text rest name word trailing : List ℕ) (c more : Clauses) → rest ≡ skip_blanks text → 0 < length rest → name ≡ word_of rest → word ≡ word_of (after_word rest) → trailing ≡ after_word (after_word rest)
+    → with_named name word c ≡ Some more → with_clauses (words_of text) (Some c) ≡ with_clauses (words_of trailing) (Some more)
+clauses_more text rest name word trailing c more is h a b d e =
     clauses_next text rest c is h ∙ (λ i. with_clauses (words_of (sym d i)) (((λ j. with_named (sym a j) (sym b j) c) ∙ e) i))

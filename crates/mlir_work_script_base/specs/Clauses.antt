@@ -1,5 +1,5 @@
--- The clauses of a conversion: `legal NAMES`, `illegal NAMES`, `dynamic NAMES`, `rules NUMBERS` and `depth N`, each at
--- most once and in any order. NAMES and NUMBERS are one word each, of items between commas.
+-- The clauses of a conversion: `legal NAMES`, `illegal NAMES`, `dynamic NAMES`, `rules NUMBERS` and `depth N`, each
+-- at most once and in any order. NAMES and NUMBERS are one word each, with commas between the items.
 use Rattle.std.specs.Prelude.{ℕ, List, [], ◌∷◌, ◌&&◌, Bool, true, false, Option, Some, None, is_none, if◌then◌else◌}
 use Rattle.std.specs.Prelude.{codes}
 use Rattle.std.specs.Option.{option_map, unwrap_or}
@@ -9,7 +9,7 @@ use Rattle.mlir_work_script_base.specs.Items.{are_names, are_numbers, items_of, 
 use Rattle.mlir_work_script_base.specs.Numbers.{number_of}
 use Rattle.mlir_work_script_base.specs.declared.clauses.Clauses.{Clauses as Written}
 
--- what each clause says, where there is one
+-- the value of each clause, if the clause is present
 pub record Clauses : Type 0 where
   pub legal : Option (List (List ℕ))
   pub illegal : Option (List (List ℕ))
@@ -17,7 +17,7 @@ pub record Clauses : Type 0 where
   pub rules : Option (List ℕ)
   pub depth : Option ℕ
 
--- what clauses say whose lists are still words
+-- the clauses whose lists are still words
 abbrev pub clauses_of : Written → Clauses
 clauses_of c =
     record {
@@ -31,9 +31,9 @@ clauses_of c =
 abbrev pub no_clauses : Clauses
 no_clauses = record { legal = None; illegal = None; dynamic = None; rules = None; depth = None }
 
--- ---- reading
+-- ---- parsing
 
--- one clause more, if it is one and isn't there yet
+-- adds a clause, unless it is malformed or repeated
 abbrev pub with_legal : List ℕ → Clauses → Option Clauses
 with_legal word c = if is_none c.legal && are_names word then Some (record c { legal = Some (items_of word) }) else None
 
@@ -56,7 +56,7 @@ depth_from (Some n) c = if is_none c.depth then Some (record c { depth = Some n 
 abbrev pub with_depth : List ℕ → Clauses → Option Clauses
 with_depth word c = depth_from (number_of word) c
 
--- the clause of this name
+-- adds the clause of this name
 abbrev pub with_named : List ℕ → List ℕ → Clauses → Option Clauses
 with_named name word c =
     if bytes_eq name (codes "legal") then with_legal word c
@@ -70,22 +70,22 @@ abbrev pub with_clause : List ℕ → List ℕ → Option Clauses → Option Cla
 with_clause name word None = None
 with_clause name word (Some c) = with_named name word c
 
--- with the clauses of some words: two for each
+-- adds the clauses of these words, two words for each
 abbrev pub with_clauses : List (List ℕ) → Option Clauses → Option Clauses
 with_clauses [] read = read
 with_clauses (name ∷ []) read = None
 with_clauses (name ∷ word ∷ words) read = with_clauses words (with_clause name word read)
 
--- whether a conversion is full, by its first word
+-- whether a conversion is full, from its first word
 abbrev pub mode_of : List ℕ → Option Bool
 mode_of word =
     if bytes_eq word (codes "partial") then Some false
     else if bytes_eq word (codes "full") then Some true
     else None
 
--- ---- what they come to
+-- ---- the target
 
--- how deep rules may follow one another, where no clause says
+-- the depth limit if no clause gives one
 abbrev pub default_depth : ℕ
 default_depth = 16
 

@@ -1,4 +1,4 @@
--- The words of the kinds of analysis.
+-- The words of the kinds of analyses.
 use Rattle.std.specs.Prelude.{ℕ, List, ◌++◌, ◌==◌, ◌&&◌, not, Option, Some, None, if◌then◌else◌, codes, drop, nat_lt}
 use Rattle.std.specs.Prelude.{nat_eq}
 use Rattle.std.specs.Fmt.{decimal}
@@ -7,7 +7,7 @@ use Rattle.std.specs.Option.{is_some}
 use Rattle.std.specs.Str.{bytes_eq}
 use Rattle.mlir_work_script_base.specs.Numbers.{number_of}
 
--- the name of a kind that has one
+-- the name of a kind, if it has one
 abbrev pub kind_name : ℕ → Option (List ℕ)
 kind_name n =
     if n == 1 then Some (codes "uses")
@@ -27,18 +27,18 @@ named_or_numbered None n = codes "kind" ++ decimal n
 abbrev pub kind_word : ℕ → List ℕ
 kind_word n = named_or_numbered (kind_name n) n
 
--- a number is a kind's that has no name, and the digits are as it is printed
+-- the kind with this number, if it has no name and the digits are the printed form of the number
 abbrev pub numbered_from : Option ℕ → List ℕ → Option ℕ
 numbered_from None digits = None
 numbered_from (Some n) digits =
     if nat_lt n 256 && (not (is_some (kind_name n)) && bytes_eq digits (decimal n)) then Some n else None
 
--- the kind of which `kind` with its number is the word
+-- the kind whose word is `kind` with its number
 abbrev pub numbered_kind : List ℕ → Option ℕ
 numbered_kind word =
     if starts_with nat_eq word (codes "kind") then numbered_from (number_of (drop 4 word)) (drop 4 word) else None
 
--- the kind, from 0 to 255, of which this is the word
+-- the kind, from 0 to 255, with this word
 abbrev pub kind_of : List ℕ → Option ℕ
 kind_of word =
     if bytes_eq word (codes "uses") then Some 1

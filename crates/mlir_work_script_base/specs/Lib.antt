@@ -7,10 +7,11 @@ pub mod Items
 pub mod Clauses
 pub mod Values
 pub mod Kinds
-pub mod Spots
+pub mod InsertionPoints
 pub mod Keys
 pub mod RuleNames
 pub mod Subjects
 pub mod Writes
 pub mod Limits
 pub mod Reads
+pub mod Feeding

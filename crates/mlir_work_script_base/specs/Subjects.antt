@@ -1,4 +1,4 @@
--- What a report may be asked of alone: an operation, or a value.
+-- The subjects of a partial report: an operation or a value.
 use Rattle.std.specs.Prelude.{ℕ, List, Option, Some, None}
 use Rattle.std.specs.Option.{option_map}
 use Rattle.ir_event.specs.trees.declared.value.Value.{Value}
@@ -10,6 +10,6 @@ abbrev pub subject_from : Option ℕ → Option Value → Option Subject
 subject_from (Some op) value = Some (Op op)
 subject_from None value = option_map Val value
 
--- the operation or the value that a word names
+-- the operation or value with this name
 abbrev pub subject_in : List ℕ → Option Subject
 subject_in word = subject_from (op_of word) (value_of word)

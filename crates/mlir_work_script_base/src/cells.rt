@@ -1,37 +1,37 @@
-//! The cells of a report's rows.
+//! Writes the cells of report rows.
 ghost use Rattle.std.specs.Fmt.{decimal};
 ghost use Rattle.ir_event.specs.trees.declared.value.Value.TheVariants.{Result as ResultOf, Arg};
 ghost use Rattle.mlir_work_script_base.specs.Values.{op_text, value_text};
-ghost use Rattle.mlir_work_script_base.specs.Writes.{Puts};
+ghost use Rattle.mlir_work_script_base.specs.Writes.{Writes};
 
 use crate::sink::Sink;
-use crate::writing::{WriteFault, put, put_all};
+use crate::writing::{WriteFault, write, write_all};
 use ir_event::trees::value::Value;
 use ir_event::types::ids::OpId;
 use itoa::Buffer;
 
 /// Writes a decimal number.
-pub fn put_number<W: Sink>(writer: &mut W, n: u64) -> Result<(), WriteFault>
-    ensures { Puts (W.stream writer.old) (W.stream writer.new) (decimal n) result }
+pub fn write_number<W: Sink>(writer: &mut W, n: u64) -> Result<(), WriteFault>
+    ensures { Writes (W.stream writer.old) (W.stream writer.new) (decimal n) result }
 {
     let mut number = Buffer::new();
-    put(writer, number.format(n).as_bytes())
+    write(writer, number.format(n).as_bytes())
 }
 
-/// Writes an operation by its id: `#3`.
-pub fn put_op_id<W: Sink>(writer: &mut W, op: OpId) -> Result<(), WriteFault>
-    ensures { Puts (W.stream writer.old) (W.stream writer.new) (op_text op) result }
+/// Writes an operation id: `#3`.
+pub fn write_op_id<W: Sink>(writer: &mut W, op: OpId) -> Result<(), WriteFault>
+    ensures { Writes (W.stream writer.old) (W.stream writer.new) (op_text op) result }
 {
     let mut number = Buffer::new();
-    put_all(writer, &[b"#", number.format(op.number()).as_bytes()])
+    write_all(writer, &[b"#", number.format(op.number()).as_bytes()])
 }
 
-fn put_result<W: Sink>(writer: &mut W, op: OpId, place: u32) -> Result<(), WriteFault>
-    ensures { Puts (W.stream writer.old) (W.stream writer.new) (value_text (ResultOf op place)) result }
+fn write_result<W: Sink>(writer: &mut W, op: OpId, place: u32) -> Result<(), WriteFault>
+    ensures { Writes (W.stream writer.old) (W.stream writer.new) (value_text (ResultOf op place)) result }
 {
     let mut owner = Buffer::new();
     let mut number = Buffer::new();
-    put_all(
+    write_all(
         writer,
         &[
             b"%v",
@@ -42,18 +42,18 @@ fn put_result<W: Sink>(writer: &mut W, op: OpId, place: u32) -> Result<(), Write
     )
 }
 
-fn put_argument<W: Sink>(
+fn write_argument<W: Sink>(
     writer: &mut W,
     op: OpId,
     region: u32,
     place: u32,
 ) -> Result<(), WriteFault>
-    ensures { Puts (W.stream writer.old) (W.stream writer.new) (value_text (Arg op region place)) result }
+    ensures { Writes (W.stream writer.old) (W.stream writer.new) (value_text (Arg op region place)) result }
 {
     let mut owner = Buffer::new();
     let mut block = Buffer::new();
     let mut number = Buffer::new();
-    put_all(
+    write_all(
         writer,
         &[
             b"%a",
@@ -66,12 +66,12 @@ fn put_argument<W: Sink>(
     )
 }
 
-/// Writes a value: a result as `%v2.0`, an argument as `%a1.0.0`.
-pub fn put_value<W: Sink>(writer: &mut W, value: Value) -> Result<(), WriteFault>
-    ensures { Puts (W.stream writer.old) (W.stream writer.new) (value_text value) result }
+/// Writes a value: a result as `%v2.0`, a block argument as `%a1.0.0`.
+pub fn write_value<W: Sink>(writer: &mut W, value: Value) -> Result<(), WriteFault>
+    ensures { Writes (W.stream writer.old) (W.stream writer.new) (value_text value) result }
 {
     match value {
-        Value::Result(op, place) => put_result(writer, op, place),
-        Value::Arg(op, region, place) => put_argument(writer, op, region, place),
+        Value::Result(op, place) => write_result(writer, op, place),
+        Value::Arg(op, region, place) => write_argument(writer, op, region, place),
     }
 }

@@ -1,4 +1,4 @@
-//! The clauses of a conversion.
+//! Parses the clauses of a conversion.
 ghost use Rattle.std.specs.Prelude.{◌≡◌, Some};
 ghost use Rattle.std.specs.Option.{option_map};
 ghost use Rattle.mlir_work_script_base.specs.Clauses.{clauses_of, mode_of, no_clauses, with_clauses, with_depth};
@@ -6,21 +6,22 @@ ghost use Rattle.mlir_work_script_base.specs.Clauses.{with_dynamic, with_illegal
 ghost use Rattle.mlir_work_script_base.specs.Words.{words_of};
 
 use crate::items::{are_names, are_numbers};
-use crate::numbers::number;
+use crate::numbers::parse_number;
 use crate::words::{skip_blanks, split_word};
 
-/// The clauses of a conversion, those that there are.
+/// The clauses of a conversion. Each is optional.
 #[derive(Clone, Copy)]
 pub struct Clauses<'a> {
-    /// `legal NAMES`: the operations that are legal, between commas.
+    /// `legal NAMES`: the legal operations, separated by commas.
     pub legal: Option<&'a [u8]>,
-    /// `illegal NAMES`: those that aren't.
+    /// `illegal NAMES`: the illegal operations, separated by commas.
     pub illegal: Option<&'a [u8]>,
-    /// `dynamic NAMES`: those that are where nothing of theirs is of type index.
+    /// `dynamic NAMES`: the operations that are legal if none of their operands, results and block arguments has the
+    /// type `index`.
     pub dynamic: Option<&'a [u8]>,
-    /// `rules NUMBERS`: the rules that are tried, between commas.
+    /// `rules NUMBERS`: the rules to try, separated by commas.
     pub rules: Option<&'a [u8]>,
-    /// `depth N`: how deep rules may follow one another.
+    /// `depth N`: the depth limit of nested legalizations.
     pub depth: Option<u32>,
 }
 
@@ -87,7 +88,7 @@ fn with_rules<'a>(clauses: &Clauses<'a>, word: &'a [u8]) -> Option<Clauses<'a>>
 fn with_depth<'a>(clauses: &Clauses<'a>, word: &[u8]) -> Option<Clauses<'a>>
     ensures { option_map clauses_of result ≡ with_depth word.now (clauses_of clauses.now) }
 {
-    let depth = number(word)?;
+    let depth = parse_number(word)?;
     if clauses.depth.is_some() {
         return None;
     }
@@ -97,7 +98,7 @@ fn with_depth<'a>(clauses: &Clauses<'a>, word: &[u8]) -> Option<Clauses<'a>>
     })
 }
 
-/// With the clause of this name.
+/// Adds the clause of this name. Returns `None` for an unknown, malformed or repeated clause.
 fn with_named<'a>(clauses: &Clauses<'a>, name: &[u8], word: &'a [u8]) -> Option<Clauses<'a>>
     ensures { option_map clauses_of result ≡ with_named name.now word.now (clauses_of clauses.now) }
 {
@@ -119,7 +120,7 @@ fn with_named<'a>(clauses: &Clauses<'a>, name: &[u8], word: &'a [u8]) -> Option<
     None
 }
 
-/// With the clauses that a text is, of which there are at most as many as there are names.
+/// Adds the clauses of a text. Returns `None` if one of them is unknown, malformed or repeated.
 fn with_clauses<'a>(clauses: &Clauses<'a>, text: &'a [u8]) -> Option<Clauses<'a>>
     ensures { option_map clauses_of result ≡ with_clauses (words_of text.now) (Some (clauses_of clauses.now)) }
 {
@@ -135,15 +136,15 @@ fn with_clauses<'a>(clauses: &Clauses<'a>, text: &'a [u8]) -> Option<Clauses<'a>
     with_clauses(&more, rest)
 }
 
-/// The clauses that a text is: `legal NAMES depth N`, and the others, each at most once and in any order. `None` where it
-/// has a clause twice, or words that are none.
+/// Parses clauses such as `legal NAMES depth N`, each at most once and in any order. Returns `None` if a clause is
+/// unknown, malformed or repeated.
 pub fn clauses_in(text: &[u8]) -> Option<Clauses<'_>>
     ensures { option_map clauses_of result ≡ with_clauses (words_of text.now) (Some no_clauses) }
 {
     with_clauses(&none(), text)
 }
 
-/// Whether a conversion is full, by its first word, `full` or `partial`; of another word `None`.
+/// Parses the mode of a conversion: `full` is `true`, `partial` is `false`, any other word is `None`.
 pub fn mode_named(word: &[u8]) -> Option<bool>
     ensures { result ≡ mode_of word.now }
 {

@@ -1,4 +1,4 @@
-//! The input of a run: read whole, under limits, and split into a module and a script.
+//! Reads the whole input of a run, within limits, and splits it into a module and a script.
 ghost use Rattle.std.specs.Prelude.{◌≡◌, ◌<◌, ◌≤◌, ◌++◌, length, None, IfErr, IfOk, IfSome, IsTrue, ◌↔◌};
 ghost use Rattle.mlir_work_script_base.specs.declared.input.ReadFault.TheVariants.{TooMany, Memory as NoMemory};
 ghost use Rattle.mlir_work_script_base.specs.Limits.{most_input_bytes, most_reads, most_script_bytes};
@@ -12,37 +12,37 @@ use memchr::memchr;
 use std::alloc::Global;
 use thiserror::Error;
 
-/// The most bytes of an input.
+/// The maximum number of bytes of an input.
 pub const MAX_INPUT_BYTES: usize = 33_554_432;
 
-/// The most bytes of a script.
+/// The maximum number of bytes of a script.
 pub const MAX_SCRIPT_BYTES: usize = 16_777_216;
 
-/// The most reads of a run, interrupted ones among them: more than an input has bytes, and each other one but the last
-/// gives one.
+/// The maximum number of reads of a run, interrupted ones included. An input has fewer bytes, and each uninterrupted
+/// read except the last gives at least one.
 pub const MAX_READS: u32 = 40_000_000;
 
 /// The bytes that one read asks for.
 const CHUNK: usize = 8192;
 
-/// The line between a module and its script.
+/// The line between the module and the script.
 const DIVIDER: &[u8] = b"// -----";
 
-/// Why an input wasn't read.
+/// Why an input couldn't be read.
 #[derive(Clone, Copy, Debug, PartialEq, Eq, Error)]
 pub enum ReadFault {
-    /// A read failed, or would have been more than `MAX_READS`.
+    /// A read failed, or the number of reads would exceed `MAX_READS`.
     #[error("a read failed")]
     Broken,
-    /// There are more than `MAX_INPUT_BYTES` bytes.
+    /// The input has more than `MAX_INPUT_BYTES` bytes.
     #[error("the input is too long")]
     TooMany,
-    /// No memory for the bytes.
+    /// Memory ran out.
     #[error("memory was refused")]
     Memory,
 }
 
-/// Keeps bytes that were read behind those before them, or gives up keeping any.
+/// Appends bytes to the buffer. Drops the buffer if memory runs out.
 fn keep(kept: &mut Option<Vec<u8>>, bytes: &[u8])
     ensures kept { IfSome kept.new (λ all. IfSome kept.old (λ before. all.items ≡ before.items ++ bytes.now)) }
     ensures lost { kept.old ≡ None → kept.new ≡ None }
@@ -55,8 +55,8 @@ fn keep(kept: &mut Option<Vec<u8>>, bytes: &[u8])
     }
 }
 
-/// Reads to the end, by at most `MAX_READS` reads; one that is interrupted is made again, and is one of them. Where
-/// there is no memory for the bytes it reads on, so that an input that is too long is always told to be so.
+/// Reads to the end of the input with at most `MAX_READS` reads. An interrupted read is repeated, and counts. If
+/// memory runs out, reading continues without a buffer, so that an oversized input always gives `TooMany`.
 pub fn read_all<R: Source>(alloc: Global, reader: &mut R) -> Result<Vec<u8>, ReadFault>
     ensures whole { IfOk result (λ all. IfSome (R.intake reader.old).remaining (λ input. all.items ≡ input)) }
     ensures within { IfOk result (λ all. length all.items ≤ most_input_bytes) }
@@ -87,8 +87,8 @@ pub fn read_all<R: Source>(alloc: Global, reader: &mut R) -> Result<Vec<u8>, Rea
     Err(ReadFault::Broken)
 }
 
-/// Whether the first line of a text is exactly the divider. Of another line than a comment only the first
-/// byte is looked at.
+/// Returns whether the first line of a text is exactly the divider. If the line isn't a comment, only its first byte
+/// is inspected.
 #[tactic(auto, using(crate::proofs::Dividers::no_slash))]
 fn at_divider(text: &[u8]) -> bool
     ensures { result ≡ at_divider text.now }
@@ -105,7 +105,7 @@ fn at_divider(text: &[u8]) -> bool
     }
 }
 
-/// The text after the first line.
+/// Returns the text after the first line.
 fn next_line(text: &[u8]) -> &[u8]
     ensures { result.now ≡ after_line text.now }
 {
@@ -115,7 +115,7 @@ fn next_line(text: &[u8]) -> &[u8]
     }
 }
 
-/// The text of the module and the script of an input: what stands before and after the first line that is
+/// Splits an input into the text of the module and the script: the parts before and after the first line that is
 /// exactly `// -----`. Without such a line the script is empty.
 pub fn split(input: &[u8]) -> (&[u8], &[u8])
     ensures module { result.0.now ≡ module_text input.now }
@@ -131,7 +131,7 @@ pub fn split(input: &[u8]) -> (&[u8], &[u8])
     (input, &[])
 }
 
-/// Whether a script has more than `MAX_SCRIPT_BYTES` bytes.
+/// Returns whether a script has more than `MAX_SCRIPT_BYTES` bytes.
 pub fn script_is_too_long(script: &[u8]) -> bool
     ensures { IsTrue result ↔ (most_script_bytes < length script.now) }
 {

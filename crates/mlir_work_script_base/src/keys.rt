@@ -1,4 +1,4 @@
-//! Keys of entries in a script: bare identifiers and string literals.
+//! Parses attribute keys: bare identifiers and string literals.
 ghost use Rattle.std.specs.Prelude.{◌≡◌, ◌∷◌, IfOk};
 ghost use Rattle.std.specs.Option.{option_map};
 ghost use Rattle.ir_text_tokens.specs.Tokens.{lexeme_of, string_parts};
@@ -12,16 +12,16 @@ use ir_text_tokens::strings::string_value;
 use ir_text_tokens::token::Token;
 use std::alloc::{AllocError, Global};
 
-/// A key as it is written.
+/// A key in its source form.
 #[derive(Clone, Copy)]
 pub enum Key<'a> {
     /// A bare identifier.
     Bare(&'a [u8]),
-    /// What stands between the quotes of a string literal.
+    /// The raw text between the quotes of a string literal.
     Quoted(&'a [u8]),
 }
 
-/// The bytes that a key stands for.
+/// Returns the bytes that a key denotes.
 pub fn bytes_of(alloc: Global, key: &Key<'_>) -> Result<Vec<u8>, AllocError>
     ensures { IfOk result (λ bytes. bytes.items ≡ key_bytes key.now) }
 {
@@ -31,7 +31,7 @@ pub fn bytes_of(alloc: Global, key: &Key<'_>) -> Result<Vec<u8>, AllocError>
     }
 }
 
-/// Whether a word ends before a text.
+/// Returns whether a word ends before this text.
 fn ends_word(text: &[u8]) -> bool
     ensures { result ≡ ends_word text.now }
 {
@@ -41,7 +41,7 @@ fn ends_word(text: &[u8]) -> bool
     }
 }
 
-/// What stands between the quotes of a token that is a string literal.
+/// Returns the raw text between the quotes of a token, or `None` if the token isn't a string literal.
 fn raw_of<'a>(token: &Token<'a>) -> Option<&'a [u8]>
     ensures { option_map (λ raw. raw.now) result ≡ raw_in (lexeme_of token.now) }
 {
@@ -51,7 +51,7 @@ fn raw_of<'a>(token: &Token<'a>) -> Option<&'a [u8]>
     }
 }
 
-/// What stands between the quotes of the string literal with which a text begins, and what follows it.
+/// Splits a string literal off the start of a text: its raw text, and the rest of the text.
 #[tactic(auto, using(crate::proofs::Quotes::no_parts))]
 fn string_in<'a>(text: &'a [u8], tail: &[u8]) -> Option<(&'a [u8], &'a [u8])>
     requires { text.now ≡ 34 ∷ tail.now }
@@ -64,7 +64,7 @@ fn string_in<'a>(text: &'a [u8], tail: &[u8]) -> Option<(&'a [u8], &'a [u8])>
     Some((raw, rest))
 }
 
-/// The key that is a string literal, and what follows it and the blanks.
+/// Parses a key that is a string literal, and skips the blanks after it.
 fn quoted<'a>(text: &'a [u8], tail: &[u8]) -> Option<(Key<'a>, &'a [u8])>
     requires { text.now ≡ 34 ∷ tail.now }
     ensures { option_map (λ x. (key_bytes x.0, x.1.now)) result ≡ quoted_from (string_parts tail.now) }
@@ -76,7 +76,7 @@ fn quoted<'a>(text: &'a [u8], tail: &[u8]) -> Option<(Key<'a>, &'a [u8])>
     None
 }
 
-/// The key that is a bare identifier, and what follows it and the blanks.
+/// Parses a key that is a bare identifier, and skips the blanks after it.
 fn bare(text: &[u8]) -> Option<(Key<'_>, &[u8])>
     ensures { option_map (λ x. (key_bytes x.0, x.1.now)) result ≡ bare_in text.now }
 {
@@ -87,7 +87,7 @@ fn bare(text: &[u8]) -> Option<(Key<'_>, &[u8])>
     None
 }
 
-/// The key at the front of a text, and what follows it and the blanks.
+/// Parses a key at the start of a text, skips the blanks after it, and returns the rest of the text.
 pub fn split_key(text: &[u8]) -> Option<(Key<'_>, &[u8])>
     ensures { option_map (λ x. (key_bytes x.0, x.1.now)) result ≡ key_in text.now }
 {

@@ -1,13 +1,14 @@
-//! The kinds of analysis, and their words.
+//! The kinds of analyses and their words.
 ghost use Rattle.std.specs.Prelude.{◌≡◌};
 ghost use Rattle.std.specs.Option.{option_map};
 ghost use Rattle.mlir_work_script_base.specs.Kinds.{kind_name, kind_of, numbered_kind};
 
-use crate::numbers::number;
+use crate::numbers::parse_number;
 pub use ir_event::row::Kind;
 use itoa::Buffer;
 
-/// The name of a kind that has one. Another kind's word is `kind` with its number.
+/// Returns the name of a kind, or `None` if it has no name. The word of a kind without a name is `kind` with its
+/// number.
 pub fn name_of(kind: Kind) -> Option<&'static [u8]>
     ensures { option_map (λ name. name.now) result ≡ kind_name kind }
 {
@@ -23,7 +24,7 @@ pub fn name_of(kind: Kind) -> Option<&'static [u8]>
     }
 }
 
-/// The kind that `kind9` is, where 9 has no name and is written as it is printed.
+/// Parses `kind9`. Returns `None` if the number's kind has a name, or if the number isn't in its printed form.
 fn numbered_kind(word: &[u8]) -> Option<Kind>
     ensures { result ≡ numbered_kind word.now }
 {
@@ -31,7 +32,7 @@ fn numbered_kind(word: &[u8]) -> Option<Kind>
         return None;
     }
     let digits = &word[4..];
-    let number = number(digits)?;
+    let number = parse_number(digits)?;
     let number = u8::try_from(number).ok()?;
     let mut buffer = Buffer::new();
     if name_of(Kind::new(number)).is_some() || digits != buffer.format(number).as_bytes() {
@@ -40,7 +41,7 @@ fn numbered_kind(word: &[u8]) -> Option<Kind>
     Some(Kind::new(number))
 }
 
-/// The kind of which this is the word.
+/// Returns the kind with this word, or `None`.
 pub fn kind_named(word: &[u8]) -> Option<Kind>
     ensures { result ≡ kind_of word.now }
 {

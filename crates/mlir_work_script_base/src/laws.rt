@@ -1,4 +1,5 @@
-//! What is printed is read again, and no byte of an input is lost.
+//! Theorems on round trips: printed names parse again, and splitting an input loses no byte. Each is the contract of
+//! a function with an empty body.
 ghost use Rattle.std.specs.Prelude.{◌≡◌, ◌^◌, ◌<◌, ℕ, List, Some};
 ghost use Rattle.std.specs.Fmt.{decimal};
 ghost use Rattle.ir_event.specs.trees.declared.value.Value.TheVariants.{Result as ResultOf, Arg};
@@ -7,7 +8,7 @@ ghost use Rattle.mlir_work_script_base.specs.Numbers.{number_of};
 ghost use Rattle.mlir_work_script_base.specs.Parts.{IsSplit, module_text, script_text};
 ghost use Rattle.mlir_work_script_base.specs.Values.{op_of, op_text, value_of, value_text};
 
-/// A number, an operation and a value are read as they are printed.
+/// A printed number, operation or value parses as itself.
 pub fn names_read_back()
     ensures number { (n : ℕ) → n < 2 ^ 32 → number_of (decimal n) ≡ Some n }
     ensures op { (n : ℕ) → n < 2 ^ 32 → op_of (op_text n) ≡ Some n }
@@ -17,7 +18,7 @@ pub fn names_read_back()
         value_of (value_text (Arg op region place)) ≡ Some (Arg op region place) }
 {}
 
-/// A word is a kind's where it is printed for it, and nowhere else.
+/// Each kind has exactly one word, and the word parses as the kind.
 pub fn kinds_have_one_word()
     ensures again { (n : ℕ) → n < 256 → kind_of (kind_word n) ≡ Some n }
     ensures small { (word : List ℕ) (n : ℕ) → kind_of word ≡ Some n → n < 256 }

@@ -1,21 +1,30 @@
-//! What a script is read with, below its commands: an input is read and split into lines, words, names and clauses, and
-//! bytes are written.
+//! The lexical layer of scripts: reads an input, splits it into lines and words, parses names and clauses, and writes
+//! bytes. The crate knows no command.
+//!
+//! - `input` reads a whole input, and `feed` and `parts` read it line by line: a line is read only after the output
+//!   was flushed.
+//! - `lines`, `words`, `items` and `cuts` split texts.
+//! - `numbers`, `values`, `subject`, `kind`, `keys`, `insertion_points`, `rule_name` and `clauses` parse the parts of
+//!   commands.
+//! - `source`, `sink`, `watched`, `writing` and `cells` read and write bytes.
 #![tactic(auto)]
 
 pub mod cells;
 pub mod clauses;
 pub mod cuts;
+pub mod feed;
 pub mod input;
+pub mod insertion_points;
 pub mod items;
 pub mod keys;
 pub mod kind;
 pub mod laws;
 pub mod lines;
 pub mod numbers;
+pub mod parts;
 pub mod rule_name;
 pub mod sink;
 pub mod source;
-pub mod spots;
 pub mod subject;
 pub mod values;
 pub mod watched;

@@ -4,7 +4,7 @@ ghost use Rattle.mlir_work_script_base.specs.Lines.{line_of, after_line, lines_o
 
 use crate::cuts::cut_at;
 
-/// The first line of a text without its line feed, and the text after it.
+/// Splits a text into its first line, without the line feed, and the rest.
 pub fn split_line(text: &[u8]) -> (&[u8], &[u8])
     ensures line { result.0.now ≡ line_of text.now }
     ensures rest { result.1.now ≡ after_line text.now }

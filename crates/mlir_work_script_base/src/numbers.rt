@@ -2,7 +2,7 @@
 ghost use Rattle.std.specs.Prelude.{◌≡◌, ◌+◌, ◌-◌, ◌*◌, ◌^◌, ◌<◌, ◌≤◌, SomeIff};
 ghost use Rattle.mlir_work_script_base.specs.Numbers.{number_after, number_of};
 
-/// A number with one more digit, or `None` where it is too great.
+/// Appends a digit to a number. Returns `None` on overflow.
 fn with_digit(number: u32, digit: u8) -> Option<u32>
     requires { 48 ≤ digit }
     ensures { SomeIff result (number * 10 + (digit - 48) < 2 ^ 32) (number * 10 + (digit - 48)) }
@@ -10,8 +10,8 @@ fn with_digit(number: u32, digit: u8) -> Option<u32>
     number.checked_mul(10)?.checked_add(u32::from(digit - b'0'))
 }
 
-/// The number of a text of digits, 0 where it is empty; or `None` where another byte stands in it, or it is greater than
-/// 4,294,967,295.
+/// Returns the value of a text of digits, and 0 for an empty text. Returns `None` if the text has another byte or the
+/// value exceeds 4,294,967,295.
 pub fn digits_value(digits: &[u8]) -> Option<u32>
     ensures { result ≡ number_after 0 digits.now }
 {
@@ -28,9 +28,9 @@ pub fn digits_value(digits: &[u8]) -> Option<u32>
     Some(number)
 }
 
-/// The decimal number that a word is, or `None` where it is none, or greater than 4,294,967,295. It may
-/// have leading zeros.
-pub fn number(word: &[u8]) -> Option<u32>
+/// Parses a decimal number, which may have leading zeros. Returns `None` if the word isn't a number or exceeds
+/// 4,294,967,295.
+pub fn parse_number(word: &[u8]) -> Option<u32>
     ensures { result ≡ number_of word.now }
 {
     if word.is_empty() {

@@ -1,31 +1,31 @@
-//! How a command names a rule, and a list of rules.
+//! Parses rule names and lists of rules.
 ghost use Rattle.std.specs.Prelude.{◌≡◌, option_map};
 ghost use Rattle.mlir_work_script_base.specs.RuleNames.{are_tried, is_tried, name_of, name_or_none, numbered, rule_in};
 
 use crate::items::split_item;
-use crate::numbers::number;
+use crate::numbers::parse_number;
 
-/// A rule of a command, by its number or by its word.
+/// A rule name in a command: a number or a word.
 #[derive(Clone, Copy)]
 pub enum RuleName<'a> {
-    /// One of 1 to 30.
-    Numbered(u32),
-    /// A word, which may be no rule's.
-    Worded(&'a [u8]),
+    /// A number from 1 to 30.
+    Number(u32),
+    /// A word, which may not be a rule's.
+    Word(&'a [u8]),
 }
 
-/// The name of a rule by its number, which is one of 1 to 30.
+/// Returns the rule name for a number from 1 to 30, or `None` for another number.
 fn numbered<'a>(number: u32) -> Option<RuleName<'a>>
     ensures { option_map name_of result ≡ numbered number }
 {
     if 1 <= number && number <= 30 {
-        Some(RuleName::Numbered(number))
+        Some(RuleName::Number(number))
     } else {
         None
     }
 }
 
-/// The name of a rule that a word is, where it is one: one that begins with a digit is a number.
+/// Parses a rule name. A word that begins with a digit must be a number from 1 to 30.
 pub fn rule_named(word: &[u8]) -> Option<RuleName<'_>>
     ensures { option_map name_of result ≡ rule_in word.now }
 {
@@ -33,43 +33,43 @@ pub fn rule_named(word: &[u8]) -> Option<RuleName<'_>>
         return None;
     };
     if !first.is_ascii_digit() {
-        return Some(RuleName::Worded(word));
+        return Some(RuleName::Word(word));
     }
-    numbered(number(word)?)
+    numbered(parse_number(word)?)
 }
 
-/// The name that an item of a list of rules is. One that is none is as the word that no rule has.
+/// Parses an item of a rule list. A malformed item becomes a word that no rule has.
 pub fn name_in(item: &[u8]) -> RuleName<'_>
     ensures { name_of result ≡ name_or_none (rule_in item.now) }
 {
     match rule_named(item) {
         Some(name) => name,
-        None => RuleName::Worded(b""),
+        None => RuleName::Word(b""),
     }
 }
 
-/// Whether an item of a list names a rule that rewriting may try: the numbers 25 to 30 are those of conversion.
+/// Returns whether an item of a list may name a rewriting rule. The numbers 25 to 30 are conversion rules.
 fn is_tried(item: &[u8]) -> bool
     ensures { result ≡ is_tried item.now }
 {
     match rule_named(item) {
-        Some(RuleName::Numbered(number)) => number <= 24,
-        Some(RuleName::Worded(_)) => true,
+        Some(RuleName::Number(number)) => number <= 24,
+        Some(RuleName::Word(_)) => true,
         None => false,
     }
 }
 
-/// Whether each item of a list, between commas, names a rule that rewriting may try.
+/// Returns whether each item of a list may name a rewriting rule.
 pub fn are_tried(text: &[u8]) -> bool
     ensures { result ≡ are_tried text.now }
 {
     let mut rest = Some(text);
     'items: while let Some(items) = rest {
-        let (item, behind) = split_item(items);
+        let (item, trailing) = split_item(items);
         if !is_tried(item) {
             return false;
         }
-        rest = behind;
+        rest = trailing;
     }
     true
 }

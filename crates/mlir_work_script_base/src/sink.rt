@@ -1,4 +1,4 @@
-//! Writers that keep a record of the writes that were made of them.
+//! The trait `Sink`: writers that may record failed writes.
 ghost use Rattle.std.specs.Prelude.{◌≡◌, ◌<◌, length, Bool, true, IfOk};
 ghost use Rattle.std.specs.Io.{WritesAtMost};
 ghost use Rattle.mlir_work_script_base.specs.Writes.{Stream, Accepts, HandsOn};
@@ -7,27 +7,27 @@ use crate::watched::Watched;
 use crate::writing::WriteFault;
 use std::io::Write;
 
-/// What bytes are written to. Each writer of the library is one; of a `Watched` one it is also known whether a write
-/// failed, and whether what was written has been handed on.
+/// A writer of bytes. Each `std::io::Write` is a sink. A `Watched` writer also records whether a write failed and
+/// whether all written bytes were flushed.
 pub trait Sink {
     ghost stream: { Self → Stream };
 
-    /// Whether what was written has been handed on. Of a writer that isn't watched it isn't known that it hasn't.
+    /// Whether all written bytes were flushed. It is `true` for an unwatched writer, which keeps no record.
     ghost handed: { Self → Bool };
 
-    /// Writes some of the bytes, at least one, and says how many.
+    /// Writes at least one of the bytes and returns the number written.
     fn write_some(&mut self, bytes: &[u8]) -> Result<usize, WriteFault>
         requires { 0 < length bytes.now }
         ensures bound { WritesAtMost result bytes.now }
         ensures wrote { Accepts (stream self.old) (stream self.new) result bytes.now };
 
-    /// Hands on what a buffering writer still holds.
-    fn hand_on(&mut self) -> Result<(), WriteFault>
+    /// Flushes the writer's buffer.
+    fn flush_inner(&mut self) -> Result<(), WriteFault>
         ensures stays { HandsOn (stream self.old) (stream self.new) result }
         ensures handed { IfOk result (λ _. handed self.new ≡ true) };
 }
 
-/// A write that fails, is interrupted or takes no byte is a fault. No record is kept.
+/// A write that fails, is interrupted or takes no byte is a fault. Nothing is recorded.
 impl<W: Write> Sink for W {
     ghost stream = { λ w. record { contents = W.contents w; failed = true } };
 
@@ -41,7 +41,7 @@ impl<W: Write> Sink for W {
         }
     }
 
-    fn hand_on(&mut self) -> Result<(), WriteFault> {
+    fn flush_inner(&mut self) -> Result<(), WriteFault> {
         match self.flush() {
             Ok(()) => Ok(()),
             Err(_) => Err(WriteFault),
@@ -49,7 +49,7 @@ impl<W: Write> Sink for W {
     }
 }
 
-/// The record is kept.
+/// Failed writes and flushes are recorded.
 impl<W: Write> Sink for Watched<W> {
     ghost stream = { λ w. record { contents = W.contents w.inner; failed = w.failed } };
 
@@ -66,8 +66,8 @@ impl<W: Write> Sink for Watched<W> {
         }
     }
 
-    fn hand_on(&mut self) -> Result<(), WriteFault> {
-        match self.inner.hand_on() {
+    fn flush_inner(&mut self) -> Result<(), WriteFault> {
+        match self.inner.flush_inner() {
             Ok(()) => {
                 self.handed = true;
                 Ok(())

@@ -1,4 +1,4 @@
-//! Readers that keep a record of the reads that were made of them.
+//! The trait `Source`: readers that may record their reads.
 ghost use Rattle.std.specs.Prelude.{None, Some, true};
 ghost use Rattle.std.specs.Io.{ReadsAtMost};
 ghost use Rattle.std.specs.Io.KnownBytes.{ReadConsumes};
@@ -11,27 +11,27 @@ use thiserror::Error;
 /// Why a read gave nothing.
 #[derive(Clone, Copy, Debug, PartialEq, Eq, Error)]
 pub enum SourceFault {
-    /// It was interrupted, and may be made again.
+    /// The read was interrupted and can be repeated.
     #[error("a read was interrupted")]
     Interrupted,
-    /// It failed.
+    /// The read failed.
     #[error("a read failed")]
     Failed,
 }
 
-/// What bytes are read from. Each reader of the library is one; of a `Watched` one it is also known how many reads were
-/// made, and whether one was interrupted or failed.
+/// A reader of bytes. Each `std::io::Read` is a source. A `Watched` reader also records the number of reads, and
+/// whether one was interrupted or failed.
 pub trait Source {
     ghost intake: { Self → Intake };
 
-    /// Makes one read into the buffer, and says how many bytes it gave; none only at the end, or where the buffer has
-    /// no room.
+    /// Reads once into the buffer and returns the number of bytes: 0 only at the end of the input or if the buffer is
+    /// empty.
     fn read_some(&mut self, buffer: &mut [u8]) -> Result<usize, SourceFault>
         ensures bound { ReadsAtMost result buffer.new }
         ensures took { Takes (intake self.old) (intake self.new) result buffer.new };
 }
 
-/// Makes one read.
+/// Reads once.
 fn read_once<R: Read>(reader: &mut R, buffer: &mut [u8]) -> Result<usize, SourceFault>
     ensures bound { ReadsAtMost result buffer.new }
     ensures took { ReadConsumes (R.remaining reader.old) (R.remaining reader.new) result buffer.new }
@@ -48,7 +48,7 @@ fn read_once<R: Read>(reader: &mut R, buffer: &mut [u8]) -> Result<usize, Source
     }
 }
 
-/// No record is kept.
+/// Nothing is recorded.
 impl<R: Read> Source for R {
     ghost intake = { λ r. record { remaining = R.remaining r; failed = true; interrupted = true; reads = None } };
 
@@ -57,7 +57,7 @@ impl<R: Read> Source for R {
     }
 }
 
-/// The record is kept. Where no more reads can be counted none is made, which counts as one that failed.
+/// Reads are recorded. If the read counter would overflow, no read is made, and the call counts as a failed read.
 impl<R: Read> Source for Watched<R> {
     ghost intake = { λ r. record {
       remaining = R.remaining r.inner;

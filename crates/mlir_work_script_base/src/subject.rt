@@ -1,4 +1,4 @@
-//! What a report may be asked of alone.
+//! The subjects of a partial report.
 ghost use Rattle.std.specs.Prelude.{◌≡◌};
 ghost use Rattle.mlir_work_script_base.specs.Subjects.{subject_in};
 
@@ -9,13 +9,13 @@ use ir_event::types::ids::OpId;
 /// An operation or a value of a module.
 #[derive(Clone, Copy, Debug, PartialEq, Eq)]
 pub enum Subject {
-    /// An operation, with the values that belong to it.
+    /// An operation, with its results and block arguments.
     Op(OpId),
     /// A value.
     Val(Value),
 }
 
-/// The operation or the value that a word names: `#3`, `%v2.0`, `%a1.0.0`.
+/// Parses an operation or a value: `#3`, `%v2.0`, `%a1.0.0`.
 pub fn subject_named(word: &[u8]) -> Option<Subject>
     ensures { result ≡ subject_in word.now }
 {

@@ -1,17 +1,17 @@
-//! The words of a line.
+//! Splits lines into words.
 ghost use Rattle.std.specs.Prelude.{◌≡◌, position};
 ghost use Rattle.std.specs.Str.{is_utf8};
 ghost use Rattle.mlir_work_script_base.specs.Words.{is_blank, is_edge, trim_front, trim_back, trim, skip_blanks, word_of};
 ghost use Rattle.mlir_work_script_base.specs.Words.{after_word};
 
-/// A space or a tab.
+/// Returns whether a byte is a space or a tab.
 pub(crate) fn is_blank(b: u8) -> bool
     ensures { result ≡ is_blank b }
 {
     b == b' ' || b == b'\t'
 }
 
-/// A space, a tab or a carriage return.
+/// Returns whether a byte is a space, a tab or a carriage return.
 fn is_edge(b: u8) -> bool
     ensures { result ≡ is_edge b }
 {
@@ -44,7 +44,7 @@ fn trim_back(text: &[u8]) -> &[u8]
     rest
 }
 
-/// A line without the spaces, tabs and carriage returns at its ends.
+/// Returns a line without the spaces, tabs and carriage returns at its ends.
 pub fn trim(line: &[u8]) -> &[u8]
     ensures { result.now ≡ trim line.now }
 {
@@ -64,14 +64,14 @@ pub(crate) fn skip_blanks(text: &[u8]) -> &[u8]
     rest
 }
 
-/// Where the first word ends.
+/// Returns the index of the first blank, which ends the first word.
 fn word_end(text: &[u8]) -> Option<usize>
     ensures { result ≡ position is_blank text.now }
 {
     text.iter().position(|b| is_blank(*b))
 }
 
-/// The first word of a text, and what stands after it and the blanks behind it.
+/// Splits a text into its first word and the rest after the following blanks.
 pub fn split_word(text: &[u8]) -> (&[u8], &[u8])
     ensures word { result.0.now ≡ word_of text.now }
     ensures rest { result.1.now ≡ after_word text.now }
@@ -82,7 +82,7 @@ pub fn split_word(text: &[u8]) -> (&[u8], &[u8])
     }
 }
 
-/// Whether a line is UTF-8.
+/// Returns whether a line is UTF-8.
 pub fn is_text(line: &[u8]) -> bool
     ensures { result ≡ is_utf8 line.now }
 {

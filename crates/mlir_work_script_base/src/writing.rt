@@ -1,6 +1,6 @@
-//! Writing, with nothing kept in memory.
+//! Writes bytes without buffering.
 ghost use Rattle.std.specs.Prelude.{◌≡◌, map, true, IfOk};
-ghost use Rattle.mlir_work_script_base.specs.Writes.{HandsOn, Puts, joined};
+ghost use Rattle.mlir_work_script_base.specs.Writes.{HandsOn, Writes, joined};
 
 use crate::sink::Sink;
 use thiserror::Error;
@@ -10,9 +10,9 @@ use thiserror::Error;
 #[error("a write failed")]
 pub struct WriteFault;
 
-/// Writes the bytes. At a fault a front of them was written, and then a write failed.
-pub fn put<W: Sink>(writer: &mut W, bytes: &[u8]) -> Result<(), WriteFault>
-    ensures { Puts (W.stream writer.old) (W.stream writer.new) bytes.now result }
+/// Writes all bytes. After a fault, a prefix of them was written.
+pub fn write<W: Sink>(writer: &mut W, bytes: &[u8]) -> Result<(), WriteFault>
+    ensures { Writes (W.stream writer.old) (W.stream writer.new) bytes.now result }
 {
     let mut rest = bytes;
     while !rest.is_empty() {
@@ -24,12 +24,12 @@ pub fn put<W: Sink>(writer: &mut W, bytes: &[u8]) -> Result<(), WriteFault>
     Ok(())
 }
 
-/// Writes the pieces in a row. At a fault a front of them was written, and then a write failed.
-pub fn put_all<W: Sink>(writer: &mut W, pieces: &[&[u8]]) -> Result<(), WriteFault>
-    ensures { Puts (W.stream writer.old) (W.stream writer.new) (joined (map (λ piece. piece.now) pieces.now)) result }
+/// Writes the pieces one after another. After a fault, a prefix of them was written.
+pub fn write_all<W: Sink>(writer: &mut W, pieces: &[&[u8]]) -> Result<(), WriteFault>
+    ensures { Writes (W.stream writer.old) (W.stream writer.new) (joined (map (λ piece. piece.now) pieces.now)) result }
 {
     for piece in pieces {
-        match put(writer, piece) {
+        match write(writer, piece) {
             Ok(()) => {}
             Err(fault) => return Err(fault),
         }
@@ -37,10 +37,10 @@ pub fn put_all<W: Sink>(writer: &mut W, pieces: &[&[u8]]) -> Result<(), WriteFau
     Ok(())
 }
 
-/// Hands on what a buffering writer still holds.
+/// Flushes the writer's buffer.
 pub fn flush<W: Sink>(writer: &mut W) -> Result<(), WriteFault>
     ensures stays { HandsOn (W.stream writer.old) (W.stream writer.new) result }
     ensures handed { IfOk result (λ _. W.handed writer.new ≡ true) }
 {
-    writer.hand_on()
+    writer.flush_inner()
 }

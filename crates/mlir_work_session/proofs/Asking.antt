@@ -1,15 +1,15 @@
--- How it is answered why rules don't apply at an operation.
+-- Proofs about the answer to `why`.
 use Rattle.std.proofs.Common.{◌≡◌, ◌∙◌, sym, ap, ℕ, List, Bool, Option}
 use Rattle.ir_event.specs.trees.Ids.{has_id}
 use Rattle.ir_event.specs.declared.world.World.{World}
 use Rattle.ir_event.specs.Modules.{module_in}
-use Rattle.mlir_work_mixed.specs.transforms.Rule.{Rule}
-use Rattle.mlir_work_mixed.specs.transforms.WhyText.{told_rules, why_lines}
-use Rattle.mlir_work_mixed.specs.transforms.rewriter.Held.{Held, module_held}
+use Rattle.mlir_work_transforms.specs.Rule.{Rule}
+use Rattle.mlir_work_transforms.specs.WhyText.{told_rules, why_lines}
+use Rattle.mlir_work_transforms.specs.rewriter.Held.{TransactionModel, module_held}
 use Rattle.mlir_work_session.proofs.Reading.{module_seen}
 
--- what is in the module of a bench, by its world
-module _ (h : Held) (w : World) (ctx : w.ctx ≡ h.ctx) (store : w.store ≡ h.store) where
+-- an operation is in the rewriter's module iff it is in the module of its IR state
+module _ (h : TransactionModel) (w : World) (ctx : w.ctx ≡ h.ctx) (store : w.store ≡ h.store) where
   pub in_held : (x : ℕ) (b : Bool) → b ≡ has_id x (module_in w).tree → has_id x (module_held h).tree ≡ b
   in_held x b e = ap (λ m. has_id x m.tree) (sym (module_seen h w ctx store)) ∙ sym e
 

@@ -1,176 +1,176 @@
--- How orders are answered.
+-- Proofs about the answers to session commands.
 use Rattle.std.proofs.Common.{◌≡◌, ◌∙◌, ap, sym, subst, refl, inl, inr, ℕ, List, [], ◌++◌, Bool, Option, Some, None, false, true, Result, Ok, Err}
 use Rattle.std.specs.Prelude.{is_some, option_map, OnOk}
 use Rattle.ir_event.specs.types.declared.refusal.Refusal.{Refusal}
 use Rattle.ir_event.specs.types.declared.refusal.Refusal.TheVariants.{Memory, NoSuchKey, NoSuchKind, NoSuchOp}
 use Rattle.ir_event.specs.Modules.{Module}
-use Rattle.mlir_work_mixed.specs.transforms.rewriter.Commands.{AppliesRule, RuleName, Asked, Ask, Misplaced, Target, Unread, Follows, Response, Replied, TextRefusedAt}
-use Rattle.mlir_work_mixed.specs.transforms.rewriter.Machine as call
-use Rattle.mlir_work_mixed.specs.transforms.rewriter.Machine.{State, Call, Reply, Done, Refused, Shows, Nothing, Transformation, Tree, Goes}
-use Rattle.mlir_work_mixed.specs.transforms.rewriter.Panels.{Shown}
-use Rattle.mlir_work_script.specs.Orders.{Attach, CanonAt, Order, PrintIds, Rewrite, Trace, TraceConvert, Why, ReportOf}
+use Rattle.mlir_work_transforms.specs.rewriter.Commands.{AppliesRule, RuleName, Asked, Ask, Misplaced, Target, Unparsed, Follows, Response, Replied, TextRefusedAt}
+use Rattle.mlir_work_transforms.specs.rewriter.Machine as call
+use Rattle.mlir_work_transforms.specs.rewriter.Machine.{State, Call, Reply, Done, Refused, Shows, Nothing, Transformation, Tree, Goes}
+use Rattle.mlir_work_transforms.specs.rewriter.Panels.{Shown}
+use Rattle.mlir_work_script.specs.SessionCommands.{Attach, CanonAt, SessionCommand, PrintIds, Rewrite, Trace, TraceConvert, Why, ReportOf}
 use Rattle.mlir_work_session_base.specs.IdsText.{ids_text}
-use Rattle.mlir_work_session.specs.Machine.{AsksWhy, AttachesKind, Fulfils, OrdersIn, Way, limit_or, order_bytes, told_if, AsksAbout, order_shows, shows_about}
+use Rattle.mlir_work_session.specs.Machine.{AsksWhy, AttachesKind, RunsSessionCommand, OrdersIn, SessionSetting, limit_or, order_bytes, told_if, AsksAbout, order_shows, shows_about}
 use Rattle.mlir_work_script_base.specs.declared.subject.Subject.{Subject}
 use Rattle.mlir_work_session_base.specs.Subjects.{absent, is_there}
-use Rattle.mlir_work_book.specs.Replies.{IsBounded, is_accepted}
-use Rattle.mlir_work_mixed.specs.transforms.greedy.Changes.{canonical_reply, rewriting}
-use Rattle.mlir_work_mixed.specs.transforms.greedy.Tracing.{trace_of}
-use Rattle.mlir_work_mixed.specs.transforms.greedy.Trial.{by_rules}
-use Rattle.mlir_work_mixed.specs.transforms.greedy.declared.outcome.Outcome.{Outcome as Ended}
-use Rattle.mlir_work_mixed.specs.transforms.ConvertText.{conversion_text}
-use Rattle.mlir_work_mixed.specs.transforms.Converting.{command_aim, conversion}
-use Rattle.mlir_work_mixed.specs.transforms.Rewriting.{rewriting_named, rules_named}
-use Rattle.mlir_work_mixed.specs.transforms.TraceText.{trace_by, trace_text, traced_rules, tracing}
-use Rattle.mlir_work_mixed.specs.transforms.Rule.{Rule}
-use Rattle.mlir_work_mixed.specs.transforms.At.{canonicalizing_at}
-use Rattle.mlir_work_mixed.specs.transforms.WhyText.{asked_rules, why_lines, why_text}
+use Rattle.mlir_work_registry.specs.Replies.{IsBounded, is_accepted}
+use Rattle.mlir_work_transforms.specs.greedy.Changes.{canonical_reply, rewriting}
+use Rattle.mlir_work_transforms.specs.greedy.Tracing.{trace_of}
+use Rattle.mlir_work_transforms.specs.greedy.PatternSet.{by_rules}
+use Rattle.mlir_work_transforms.specs.greedy.declared.outcome.Outcome.{Outcome as Ended}
+use Rattle.mlir_work_transforms.specs.ConvertText.{conversion_text}
+use Rattle.mlir_work_transforms.specs.Converting.{command_aim, conversion}
+use Rattle.mlir_work_transforms.specs.Rewriting.{rewriting_named, rules_named}
+use Rattle.mlir_work_transforms.specs.TraceText.{trace_by, trace_text, traced_rules, tracing}
+use Rattle.mlir_work_transforms.specs.Rule.{Rule}
+use Rattle.mlir_work_transforms.specs.At.{canonicalizing_at}
+use Rattle.mlir_work_transforms.specs.WhyText.{asked_rules, why_lines, why_text}
 use Rattle.ir_event.specs.trees.Ids.{has_id}
 use Rattle.mlir_work_session.proofs.Obeying.{some_goes}
 use Rattle.mlir_work_session.proofs.Panels.{all_stay}
 
-module _ (way : Way) where
-  -- an order that comes to a call
-  pub fulfils_call : (s t : State) (o : Order) (c : Call) (reply : Reply) (shows : Shows) → OrdersIn way o s.held (Ask c) → Goes s c reply shows t → Fulfils way s o (Replied reply) (order_bytes way o s.held (Replied reply) shows) t
+module _ (setting : SessionSetting) where
+  -- a session command that calls the machine
+  pub fulfils_call : (s t : State) (o : SessionCommand) (c : Call) (reply : Reply) (shows : Shows) → OrdersIn setting o s.held (Ask c) → Goes s c reply shows t → RunsSessionCommand setting s o (Replied reply) (order_bytes setting o s.held (Replied reply) shows) t
   fulfils_call s t o c reply shows asks goes = record { asked = Ask c; shows = shows; asks = asks; follows = goes; text = refl }
 
   -- ---- attaching
 
-  -- a kind of which there is no analysis
-  pub fulfils_unsupplied : (kind : ℕ) (s : State) → way.supply kind ≡ None → Fulfils way s (Attach kind) (Replied (Refused NoSuchKind)) [] s
+  -- `attach` of a kind without an analysis is refused
+  pub fulfils_unsupplied : (kind : ℕ) (s : State) → setting.supply kind ≡ None → RunsSessionCommand setting s (Attach kind) (Replied (Refused NoSuchKind)) [] s
   fulfils_unsupplied kind s e =
       record { asked = Misplaced NoSuchKind; shows = Nothing; asks = subst (λ (o : Option Shown). AttachesKind o (Misplaced NoSuchKind)) (sym e) refl; follows = (refl, refl, refl); text = refl }
 
-  asks_supplied : (kind : ℕ) (a : Shown) (m : Module) → way.supply kind ≡ Some a → OrdersIn way (Attach kind) m (Ask (call.Attach a))
+  asks_supplied : (kind : ℕ) (a : Shown) (m : Module) → setting.supply kind ≡ Some a → OrdersIn setting (Attach kind) m (Ask (call.Attach a))
   asks_supplied kind a m e = subst (λ (o : Option Shown). AttachesKind o (Ask (call.Attach a))) (sym e) refl
 
-  -- one of which there is one
-  pub fulfils_supplied : (kind : ℕ) (a : Shown) (s t : State) (reply : Reply) (response : Response) → way.supply kind ≡ Some a → response ≡ Replied reply → Goes s (call.Attach a) reply Nothing t → Fulfils way s (Attach kind) response [] t
+  -- `attach` of a kind with an analysis calls the machine
+  pub fulfils_supplied : (kind : ℕ) (a : Shown) (s t : State) (reply : Reply) (response : Response) → setting.supply kind ≡ Some a → response ≡ Replied reply → Goes s (call.Attach a) reply Nothing t → RunsSessionCommand setting s (Attach kind) response [] t
   fulfils_supplied kind a s t reply response e is goes = rw is (fulfils_call s t (Attach kind) (call.Attach a) reply Nothing (asks_supplied kind a s.held e) goes)
 
   -- ---- printing
 
-  pub fulfils_printed : (s : State) (bytes : List ℕ) → bytes ≡ ids_text s.held.tree → Fulfils way s PrintIds (Replied Done) bytes s
+  pub fulfils_printed : (s : State) (bytes : List ℕ) → bytes ≡ ids_text s.held.tree → RunsSessionCommand setting s PrintIds (Replied Done) bytes s
   fulfils_printed s bytes is = rw is (fulfils_call s s PrintIds call.Print Done (Tree s.held.tree) refl (record { answer = inl refl; panel = refl }))
 
-  pub fulfils_unprinted : (s : State) → Fulfils way s PrintIds (Replied (Refused Memory)) [] s
+  pub fulfils_unprinted : (s : State) → RunsSessionCommand setting s PrintIds (Replied (Refused Memory)) [] s
   fulfils_unprinted s = fulfils_call s s PrintIds call.Print (Refused Memory) Nothing refl (record { answer = inr (refl, refl); panel = refl })
 
   -- ---- rows about an operation or a value
 
-  -- what isn't there
-  pub fulfils_no_subject : (kind : ℕ) (subject : Subject) (s : State) → is_there subject s.held.tree ≡ false → Fulfils way s (ReportOf kind subject) (Replied (Refused (absent subject))) [] s
+  -- a report about a missing operation or value is refused
+  pub fulfils_no_subject : (kind : ℕ) (subject : Subject) (s : State) → is_there subject s.held.tree ≡ false → RunsSessionCommand setting s (ReportOf kind subject) (Replied (Refused (absent subject))) [] s
   fulfils_no_subject kind subject s e =
       record { asked = Misplaced (absent subject); shows = Nothing; asks = subst (λ (there : Bool). AsksAbout there kind subject (Misplaced (absent subject))) (sym e) refl; follows = (refl, refl, refl); text = refl }
 
-  asks_about : (kind : ℕ) (subject : Subject) (m : Module) → is_there subject m.tree ≡ true → OrdersIn way (ReportOf kind subject) m (Ask (call.Report kind))
+  asks_about : (kind : ℕ) (subject : Subject) (m : Module) → is_there subject m.tree ≡ true → OrdersIn setting (ReportOf kind subject) m (Ask (call.Report kind))
   asks_about kind subject m e = subst (λ (there : Bool). AsksAbout there kind subject (Ask (call.Report kind))) (sym e) refl
 
-  -- what is there
+  -- a report about an existing operation or value
   pub fulfils_about : (kind : ℕ) (subject : Subject) (s : State) (reply : Reply) (shows : Shows) → is_there subject s.held.tree ≡ true → Goes s (call.Report kind) reply shows s
-      → Fulfils way s (ReportOf kind subject) (Replied reply) (order_shows (shows_about subject shows)) s
+      → RunsSessionCommand setting s (ReportOf kind subject) (Replied reply) (order_shows (shows_about subject shows)) s
   fulfils_about kind subject s reply shows there goes = fulfils_call s s (ReportOf kind subject) (call.Report kind) reply shows (asks_about kind subject s.held there) goes
 
   -- ---- rewriting
 
-  -- a list in which a name is no rule's
-  pub fulfils_unruled : (names : List RuleName) (limit : Option ℕ) (s : State) → rewriting_named names (limit_or way.manner.limit limit) ≡ None → Fulfils way s (Rewrite names limit) (Replied (Refused NoSuchKey)) [] s
+  -- `rewrite` with a name that isn't a rule's is refused
+  pub fulfils_unruled : (names : List RuleName) (limit : Option ℕ) (s : State) → rewriting_named names (limit_or setting.session_options.limit limit) ≡ None → RunsSessionCommand setting s (Rewrite names limit) (Replied (Refused NoSuchKey)) [] s
   fulfils_unruled names limit s e =
       record { asked = Misplaced NoSuchKey; shows = Nothing; asks = subst (λ (o : Option Transformation). AppliesRule o (Misplaced NoSuchKey)) (sym e) refl; follows = (refl, refl, refl); text = refl }
 
-  asks_ruled : (names : List RuleName) (limit : Option ℕ) (f : Transformation) (m : Module) → rewriting_named names (limit_or way.manner.limit limit) ≡ Some f → OrdersIn way (Rewrite names limit) m (Ask (call.Change f))
+  asks_ruled : (names : List RuleName) (limit : Option ℕ) (f : Transformation) (m : Module) → rewriting_named names (limit_or setting.session_options.limit limit) ≡ Some f → OrdersIn setting (Rewrite names limit) m (Ask (call.Change f))
   asks_ruled names limit f m e = subst (λ (o : Option Transformation). AppliesRule o (Ask (call.Change f))) (sym e) refl
 
-  -- one of rules
-  pub fulfils_ruled : (names : List RuleName) (limit : Option ℕ) (f : Transformation) (s t : State) (reply : Reply) (response : Response) → rewriting_named names (limit_or way.manner.limit limit) ≡ Some f → response ≡ Replied reply → Goes s (call.Change f) reply Nothing t → Fulfils way s (Rewrite names limit) response [] t
+  -- `rewrite` with names of rules
+  pub fulfils_ruled : (names : List RuleName) (limit : Option ℕ) (f : Transformation) (s t : State) (reply : Reply) (response : Response) → rewriting_named names (limit_or setting.session_options.limit limit) ≡ Some f → response ≡ Replied reply → Goes s (call.Change f) reply Nothing t → RunsSessionCommand setting s (Rewrite names limit) response [] t
   fulfils_ruled names limit f s t reply response e is goes = rw is (fulfils_call s t (Rewrite names limit) (call.Change f) reply Nothing (asks_ruled names limit f s.held e) goes)
 
-  -- for which there is no memory
-  pub fulfils_unlisted : (names : List RuleName) (limit : Option ℕ) (s : State) (refusal : Refusal) → refusal ≡ Memory → is_some (rules_named names) ≡ true → Fulfils way s (Rewrite names limit) (Replied (Refused refusal)) [] s
+  -- `rewrite` with names of rules, refused since memory ran out
+  pub fulfils_unlisted : (names : List RuleName) (limit : Option ℕ) (s : State) (refusal : Refusal) → refusal ≡ Memory → is_some (rules_named names) ≡ true → RunsSessionCommand setting s (Rewrite names limit) (Replied (Refused refusal)) [] s
   fulfils_unlisted names limit s refusal is there = go (rules_named names) refl
     where
-      go : (o : Option (List Rule)) → rules_named names ≡ o → Fulfils way s (Rewrite names limit) (Replied (Refused refusal)) [] s
+      go : (o : Option (List Rule)) → rules_named names ≡ o → RunsSessionCommand setting s (Rewrite names limit) (Replied (Refused refusal)) [] s
       go None e = absurd (let f : false ≡ true = sym (ap is_some e) ∙ there in cc)
       go (Some rs) e =
-          rw is (fulfils_ruled names limit (rewriting (by_rules rs) (limit_or way.manner.limit limit)) s s (Refused Memory) (Replied (Refused Memory)) (ap (option_map (λ rs. rewriting (by_rules rs) (limit_or way.manner.limit limit))) e) refl (record { answer = inr (refl, inl refl); panel = all_stay s.panel }))
+          rw is (fulfils_ruled names limit (rewriting (by_rules rs) (limit_or setting.session_options.limit limit)) s s (Refused Memory) (Replied (Refused Memory)) (ap (option_map (λ rs. rewriting (by_rules rs) (limit_or setting.session_options.limit limit))) e) refl (record { answer = inr (refl, inl refl); panel = all_stay s.panel }))
 
-  -- ---- telling
+  -- ---- tracing
 
-  -- a list in which a name is no rule's
-  pub fulfils_untold : (names : Option (List RuleName)) (limit : Option ℕ) (s : State) → tracing names (limit_or way.manner.limit limit) ≡ None → Fulfils way s (Trace names limit) (Replied (Refused NoSuchKey)) [] s
+  -- `trace` with a name that isn't a rule's is refused
+  pub fulfils_untold : (names : Option (List RuleName)) (limit : Option ℕ) (s : State) → tracing names (limit_or setting.session_options.limit limit) ≡ None → RunsSessionCommand setting s (Trace names limit) (Replied (Refused NoSuchKey)) [] s
   fulfils_untold names limit s e =
       record { asked = Misplaced NoSuchKey; shows = Nothing; asks = subst (λ (o : Option Transformation). AppliesRule o (Misplaced NoSuchKey)) (sym e) refl; follows = (refl, refl, refl); text = refl }
 
-  asks_told : (names : Option (List RuleName)) (limit : Option ℕ) (f : Transformation) (m : Module) → tracing names (limit_or way.manner.limit limit) ≡ Some f → OrdersIn way (Trace names limit) m (Ask (call.Change f))
+  asks_told : (names : Option (List RuleName)) (limit : Option ℕ) (f : Transformation) (m : Module) → tracing names (limit_or setting.session_options.limit limit) ≡ Some f → OrdersIn setting (Trace names limit) m (Ask (call.Change f))
   asks_told names limit f m e = subst (λ (o : Option Transformation). AppliesRule o (Ask (call.Change f))) (sym e) refl
 
-  -- rewrites that are told, where they are made
-  pub fulfils_told : (names : Option (List RuleName)) (limit : Option ℕ) (f : Transformation) (s t : State) (reply : Reply) (response : Response) (bytes : List ℕ) → tracing names (limit_or way.manner.limit limit) ≡ Some f → response ≡ Replied reply → Goes s (call.Change f) reply Nothing t
-      → bytes ≡ told_if (is_accepted (Replied reply)) (trace_by (traced_rules names) (limit_or way.manner.limit limit) s.held) → Fulfils way s (Trace names limit) response bytes t
+  -- a traced rewrite
+  pub fulfils_told : (names : Option (List RuleName)) (limit : Option ℕ) (f : Transformation) (s t : State) (reply : Reply) (response : Response) (bytes : List ℕ) → tracing names (limit_or setting.session_options.limit limit) ≡ Some f → response ≡ Replied reply → Goes s (call.Change f) reply Nothing t
+      → bytes ≡ told_if (is_accepted (Replied reply)) (trace_by (traced_rules names) (limit_or setting.session_options.limit limit) s.held) → RunsSessionCommand setting s (Trace names limit) response bytes t
   fulfils_told names limit f s t reply response bytes e is goes told = rw is (rw told (fulfils_call s t (Trace names limit) (call.Change f) reply Nothing (asks_told names limit f s.held e) goes))
 
-  -- for which there is no memory
-  pub fulfils_forgot : (names : List RuleName) (limit : Option ℕ) (s : State) (refusal : Refusal) → refusal ≡ Memory → is_some (rules_named names) ≡ true → Fulfils way s (Trace (Some names) limit) (Replied (Refused refusal)) [] s
+  -- a traced rewrite, refused since memory ran out
+  pub fulfils_forgot : (names : List RuleName) (limit : Option ℕ) (s : State) (refusal : Refusal) → refusal ≡ Memory → is_some (rules_named names) ≡ true → RunsSessionCommand setting s (Trace (Some names) limit) (Replied (Refused refusal)) [] s
   fulfils_forgot names limit s refusal is there = go (rules_named names) refl
     where
-      go : (o : Option (List Rule)) → rules_named names ≡ o → Fulfils way s (Trace (Some names) limit) (Replied (Refused refusal)) [] s
+      go : (o : Option (List Rule)) → rules_named names ≡ o → RunsSessionCommand setting s (Trace (Some names) limit) (Replied (Refused refusal)) [] s
       go None e = absurd (let f : false ≡ true = sym (ap is_some e) ∙ there in cc)
       go (Some rs) e =
-          rw is (fulfils_told (Some names) limit (rewriting (by_rules rs) (limit_or way.manner.limit limit)) s s (Refused Memory) (Replied (Refused Memory)) [] (ap (option_map (λ rs. rewriting (by_rules rs) (limit_or way.manner.limit limit))) e) refl (record { answer = inr (refl, inl refl); panel = all_stay s.panel }) refl)
+          rw is (fulfils_told (Some names) limit (rewriting (by_rules rs) (limit_or setting.session_options.limit limit)) s s (Refused Memory) (Replied (Refused Memory)) [] (ap (option_map (λ rs. rewriting (by_rules rs) (limit_or setting.session_options.limit limit))) e) refl (record { answer = inr (refl, inl refl); panel = all_stay s.panel }) refl)
 
   -- ---- converting
 
-  -- a conversion that is told, also where it is refused
+  -- a traced conversion; a refused conversion has a trace too
   pub fulfils_converted : (target : Target) (s t : State) (reply : Reply) (response : Response) (bytes : List ℕ) → response ≡ Replied reply → Goes s (call.Change (conversion target)) reply Nothing t
-      → bytes ≡ conversion_text (command_aim target) s.held reply → Fulfils way s (TraceConvert target) response bytes t
+      → bytes ≡ conversion_text (command_aim target) s.held reply → RunsSessionCommand setting s (TraceConvert target) response bytes t
   fulfils_converted target s t reply response bytes is goes told = rw is (rw told (fulfils_call s t (TraceConvert target) (call.Change (conversion target)) reply Nothing refl goes))
 
   -- ---- canonicalizing one operation
 
-  pub fulfils_at : (x : ℕ) (limit : Option ℕ) (n : ℕ) (s t : State) (reply : Reply) (response : Response) → n ≡ limit_or way.manner.limit limit → response ≡ Replied reply → Goes s (call.Change (canonicalizing_at n x)) reply Nothing t → Fulfils way s (CanonAt x limit) response [] t
+  pub fulfils_at : (x : ℕ) (limit : Option ℕ) (n : ℕ) (s t : State) (reply : Reply) (response : Response) → n ≡ limit_or setting.session_options.limit limit → response ≡ Replied reply → Goes s (call.Change (canonicalizing_at n x)) reply Nothing t → RunsSessionCommand setting s (CanonAt x limit) response [] t
   fulfils_at x limit n s t reply response same is goes =
       rw is (fulfils_call s t (CanonAt x limit) (call.Change (canonicalizing_at n x)) reply Nothing (ap (λ k. Ask (call.Change (canonicalizing_at k x))) same) goes)
 
-  -- ---- asking why
+  -- ---- answers to `why`
 
-  -- a name that is no rule's
-  pub fulfils_unasked : (x : ℕ) (name : Option RuleName) (s : State) → asked_rules name x s.held ≡ None → Fulfils way s (Why x name) (Replied (Refused NoSuchKey)) [] s
+  -- `why` with a name that isn't a rule's is refused
+  pub fulfils_unasked : (x : ℕ) (name : Option RuleName) (s : State) → asked_rules name x s.held ≡ None → RunsSessionCommand setting s (Why x name) (Replied (Refused NoSuchKey)) [] s
   fulfils_unasked x name s e =
       record { asked = Misplaced NoSuchKey; shows = Nothing; asks = subst (λ (o : Option (List Rule)). AsksWhy o (has_id x s.held.tree) (Misplaced NoSuchKey)) (sym e) refl; follows = (refl, refl, refl); text = refl }
 
-  -- an operation that isn't there
-  pub fulfils_absent : (x : ℕ) (name : Option RuleName) (rs : List Rule) (s : State) → asked_rules name x s.held ≡ Some rs → has_id x s.held.tree ≡ false → Fulfils way s (Why x name) (Replied (Refused NoSuchOp)) [] s
+  -- `why` of a missing operation is refused
+  pub fulfils_absent : (x : ℕ) (name : Option RuleName) (rs : List Rule) (s : State) → asked_rules name x s.held ≡ Some rs → has_id x s.held.tree ≡ false → RunsSessionCommand setting s (Why x name) (Replied (Refused NoSuchOp)) [] s
   fulfils_absent x name rs s e gone =
       record { asked = Misplaced NoSuchOp; shows = Nothing; asks = subst (λ (o : Option (List Rule)). AsksWhy o (has_id x s.held.tree) (Misplaced NoSuchOp)) (sym e) (subst (λ (b : Bool). AsksWhy (Some rs) b (Misplaced NoSuchOp)) (sym gone) refl); follows = (refl, refl, refl); text = refl }
 
-  asks_why : (x : ℕ) (name : Option RuleName) (rs : List Rule) (m : Module) → asked_rules name x m ≡ Some rs → has_id x m.tree ≡ true → OrdersIn way (Why x name) m (Ask call.Print)
+  asks_why : (x : ℕ) (name : Option RuleName) (rs : List Rule) (m : Module) → asked_rules name x m ≡ Some rs → has_id x m.tree ≡ true → OrdersIn setting (Why x name) m (Ask call.Print)
   asks_why x name rs m e there = subst (λ (o : Option (List Rule)). AsksWhy o (has_id x m.tree) (Ask call.Print)) (sym e) (subst (λ (b : Bool). AsksWhy (Some rs) b (Ask call.Print)) (sym there) refl)
 
-  pub fulfils_why : (x : ℕ) (name : Option RuleName) (rs : List Rule) (s : State) (bytes : List ℕ) → asked_rules name x s.held ≡ Some rs → has_id x s.held.tree ≡ true → bytes ≡ why_lines rs x s.held → Fulfils way s (Why x name) (Replied Done) bytes s
+  pub fulfils_why : (x : ℕ) (name : Option RuleName) (rs : List Rule) (s : State) (bytes : List ℕ) → asked_rules name x s.held ≡ Some rs → has_id x s.held.tree ≡ true → bytes ≡ why_lines rs x s.held → RunsSessionCommand setting s (Why x name) (Replied Done) bytes s
   fulfils_why x name rs s bytes e there is =
       rw (is ∙ ap (λ o. why_text o x s.held) (sym e)) (fulfils_call s s (Why x name) call.Print Done (Tree s.held.tree) (asks_why x name rs s.held e there) (record { answer = inl refl; panel = refl }))
 
-  -- for which there is no memory
-  pub fulfils_unwhy : (x : ℕ) (name : Option RuleName) (rs : List Rule) (s : State) → asked_rules name x s.held ≡ Some rs → has_id x s.held.tree ≡ true → Fulfils way s (Why x name) (Replied (Refused Memory)) [] s
+  -- `why`, refused since memory ran out
+  pub fulfils_unwhy : (x : ℕ) (name : Option RuleName) (rs : List Rule) (s : State) → asked_rules name x s.held ≡ Some rs → has_id x s.held.tree ≡ true → RunsSessionCommand setting s (Why x name) (Replied (Refused Memory)) [] s
   fulfils_unwhy x name rs s e there = fulfils_call s s (Why x name) call.Print (Refused Memory) Nothing (asks_why x name rs s.held e there) (record { answer = inr (refl, refl); panel = refl })
 
-  -- ---- each order has an answer, and none of them is refused at a byte
+  -- ---- each session command has an answer, and none is refused at a byte
 
-  abbrev pub SomeFulfilled : State → Order → Type 0
-  SomeFulfilled s o = (response : Response) × (bytes : List ℕ) × (t : State) × Fulfils way s o response bytes t
+  abbrev pub SomeFulfilled : State → SessionCommand → Type 0
+  SomeFulfilled s o = (response : Response) × (bytes : List ℕ) × (t : State) × RunsSessionCommand setting s o response bytes t
 
-  by_call : (s : State) (o : Order) (c : Call) → OrdersIn way o s.held (Ask c) → SomeFulfilled s o
-  by_call s o c asks = let g = some_goes way.manner s c in (Replied g.0, order_bytes way o s.held (Replied g.0) g.1, g.2, fulfils_call s g.2 o c g.0 g.1 asks g.3)
+  by_call : (s : State) (o : SessionCommand) (c : Call) → OrdersIn setting o s.held (Ask c) → SomeFulfilled s o
+  by_call s o c asks = let g = some_goes setting.session_options s c in (Replied g.0, order_bytes setting o s.held (Replied g.0) g.1, g.2, fulfils_call s g.2 o c g.0 g.1 asks g.3)
 
-  by_kind : (s : State) (kind : ℕ) (a : Option Shown) → way.supply kind ≡ a → SomeFulfilled s (Attach kind)
+  by_kind : (s : State) (kind : ℕ) (a : Option Shown) → setting.supply kind ≡ a → SomeFulfilled s (Attach kind)
   by_kind s kind None e = (Replied (Refused NoSuchKind), [], s, fulfils_unsupplied kind s e)
   by_kind s kind (Some a) e = by_call s (Attach kind) (call.Attach a) (asks_supplied kind a s.held e)
 
-  by_ruled : (s : State) (names : List RuleName) (limit : Option ℕ) (f : Option Transformation) → rewriting_named names (limit_or way.manner.limit limit) ≡ f → SomeFulfilled s (Rewrite names limit)
+  by_ruled : (s : State) (names : List RuleName) (limit : Option ℕ) (f : Option Transformation) → rewriting_named names (limit_or setting.session_options.limit limit) ≡ f → SomeFulfilled s (Rewrite names limit)
   by_ruled s names limit None e = (Replied (Refused NoSuchKey), [], s, fulfils_unruled names limit s e)
   by_ruled s names limit (Some f) e = by_call s (Rewrite names limit) (call.Change f) (asks_ruled names limit f s.held e)
 
-  by_trace : (s : State) (names : Option (List RuleName)) (limit : Option ℕ) (f : Option Transformation) → tracing names (limit_or way.manner.limit limit) ≡ f → SomeFulfilled s (Trace names limit)
+  by_trace : (s : State) (names : Option (List RuleName)) (limit : Option ℕ) (f : Option Transformation) → tracing names (limit_or setting.session_options.limit limit) ≡ f → SomeFulfilled s (Trace names limit)
   by_trace s names limit None e = (Replied (Refused NoSuchKey), [], s, fulfils_untold names limit s e)
   by_trace s names limit (Some f) e = by_call s (Trace names limit) (call.Change f) (asks_told names limit f s.held e)
 
@@ -183,66 +183,66 @@ module _ (way : Way) where
   by_subject s kind subject false e = (Replied (Refused (absent subject)), [], s, fulfils_no_subject kind subject s e)
   by_subject s kind subject true e = by_call s (ReportOf kind subject) (call.Report kind) (asks_about kind subject s.held e)
 
-  pub some_fulfilled : (s : State) (o : Order) → SomeFulfilled s o
-  some_fulfilled s (Attach kind) = by_kind s kind (way.supply kind) refl
+  pub some_fulfilled : (s : State) (o : SessionCommand) → SomeFulfilled s o
+  some_fulfilled s (Attach kind) = by_kind s kind (setting.supply kind) refl
   some_fulfilled s PrintIds = by_call s PrintIds call.Print refl
   some_fulfilled s (ReportOf kind subject) = by_subject s kind subject (is_there subject s.held.tree) refl
-  some_fulfilled s (Rewrite names limit) = by_ruled s names limit (rewriting_named names (limit_or way.manner.limit limit)) refl
-  some_fulfilled s (Trace names limit) = by_trace s names limit (tracing names (limit_or way.manner.limit limit)) refl
+  some_fulfilled s (Rewrite names limit) = by_ruled s names limit (rewriting_named names (limit_or setting.session_options.limit limit)) refl
+  some_fulfilled s (Trace names limit) = by_trace s names limit (tracing names (limit_or setting.session_options.limit limit)) refl
   some_fulfilled s (TraceConvert target) = by_call s (TraceConvert target) (call.Change (conversion target)) refl
-  some_fulfilled s (CanonAt x limit) = by_call s (CanonAt x limit) (call.Change (canonicalizing_at (limit_or way.manner.limit limit) x)) refl
+  some_fulfilled s (CanonAt x limit) = by_call s (CanonAt x limit) (call.Change (canonicalizing_at (limit_or setting.session_options.limit limit) x)) refl
   some_fulfilled s (Why x name) = by_why s x name (asked_rules name x s.held) (has_id x s.held.tree) refl refl
 
--- what is told of rewrites by some rules, where no line was there before
+-- the trace of a rewrite by rules, if the list of lines was empty at first
 pub told_trace : (rs : List Rule) (n limit : ℕ) (m : Module) (called : Result Ended Refusal) (before after bytes : List ℕ) (names : List (List ℕ)) → n ≡ limit → before ≡ [] → names ≡ [] → OnOk called (after ≡ before ++ trace_text names (trace_of (by_rules rs) n m))
     → bytes ≡ told_if (is_accepted (Replied (canonical_reply called))) after → bytes ≡ told_if (is_accepted (Replied (canonical_reply called))) (trace_by (Some rs) limit m)
 told_trace rs n limit m (Ok o) before after bytes names same none unnamed told is =
     is ∙ told ∙ ap (λ l. l ++ trace_text names (trace_of (by_rules rs) n m)) none ∙ ap (λ ns. trace_text ns (trace_of (by_rules rs) n m)) unnamed ∙ ap (λ k. trace_text [] (trace_of (by_rules rs) k m)) same
 told_trace rs n limit m (Err e) before after bytes names same none unnamed told is = is
 
--- of rules that are named
+-- the same for rules given by name
 pub told_named : (names : List RuleName) (rs : List Rule) (n limit : ℕ) (m : Module) (called : Result Ended Refusal) (before after bytes : List ℕ) (labels : List (List ℕ)) → Some rs ≡ rules_named names → n ≡ limit → before ≡ [] → labels ≡ [] → OnOk called (after ≡ before ++ trace_text labels (trace_of (by_rules rs) n m))
     → bytes ≡ told_if (is_accepted (Replied (canonical_reply called))) after → bytes ≡ told_if (is_accepted (Replied (canonical_reply called))) (trace_by (traced_rules (Some names)) limit m)
 told_named names rs n limit m called before after bytes labels rules same none unnamed told is =
     told_trace rs n limit m called before after bytes labels same none unnamed told is ∙ ap (λ o. told_if (is_accepted (Replied (canonical_reply called))) (trace_by o limit m)) rules
 
--- an order is no text that isn't read
-never_unread : (way : Way) (o : Order) (m : Module) (refusal : Refusal) (offset : Option ℕ) → OrdersIn way o m (Unread refusal offset) → ⊥
-never_unread way (Attach kind) m refusal offset asks = go (way.supply kind) asks
+-- a session command is never refused at a byte of a text
+never_unparsed : (setting : SessionSetting) (o : SessionCommand) (m : Module) (refusal : Refusal) (offset : Option ℕ) → OrdersIn setting o m (Unparsed refusal offset) → ⊥
+never_unparsed setting (Attach kind) m refusal offset asks = go (setting.supply kind) asks
   where
-    go : (a : Option Shown) → AttachesKind a (Unread refusal offset) → ⊥
+    go : (a : Option Shown) → AttachesKind a (Unparsed refusal offset) → ⊥
     go None e = absurd cc
     go (Some a) e = absurd cc
-never_unread way (Rewrite names limit) m refusal offset asks = go (rewriting_named names (limit_or way.manner.limit limit)) asks
+never_unparsed setting (Rewrite names limit) m refusal offset asks = go (rewriting_named names (limit_or setting.session_options.limit limit)) asks
   where
-    go : (o : Option Transformation) → AppliesRule o (Unread refusal offset) → ⊥
+    go : (o : Option Transformation) → AppliesRule o (Unparsed refusal offset) → ⊥
     go None e = absurd cc
     go (Some f) e = absurd cc
-never_unread way (Trace names limit) m refusal offset asks = go (tracing names (limit_or way.manner.limit limit)) asks
+never_unparsed setting (Trace names limit) m refusal offset asks = go (tracing names (limit_or setting.session_options.limit limit)) asks
   where
-    go : (o : Option Transformation) → AppliesRule o (Unread refusal offset) → ⊥
+    go : (o : Option Transformation) → AppliesRule o (Unparsed refusal offset) → ⊥
     go None e = absurd cc
     go (Some f) e = absurd cc
-never_unread way (TraceConvert target) m refusal offset asks = absurd (let e : Unread refusal offset ≡ Ask (call.Change (conversion target)) = asks in cc)
-never_unread way (CanonAt x limit) m refusal offset asks = absurd (let e : Unread refusal offset ≡ Ask (call.Change (canonicalizing_at (limit_or way.manner.limit limit) x)) = asks in cc)
-never_unread way (Why x name) m refusal offset asks = go (asked_rules name x m) (has_id x m.tree) asks
+never_unparsed setting (TraceConvert target) m refusal offset asks = absurd (let e : Unparsed refusal offset ≡ Ask (call.Change (conversion target)) = asks in cc)
+never_unparsed setting (CanonAt x limit) m refusal offset asks = absurd (let e : Unparsed refusal offset ≡ Ask (call.Change (canonicalizing_at (limit_or setting.session_options.limit limit) x)) = asks in cc)
+never_unparsed setting (Why x name) m refusal offset asks = go (asked_rules name x m) (has_id x m.tree) asks
   where
-    go : (o : Option (List Rule)) (b : Bool) → AsksWhy o b (Unread refusal offset) → ⊥
+    go : (o : Option (List Rule)) (b : Bool) → AsksWhy o b (Unparsed refusal offset) → ⊥
     go None b e = absurd cc
     go (Some rs) false e = absurd cc
     go (Some rs) true e = absurd cc
-never_unread way (ReportOf kind subject) m refusal offset asks = go (is_there subject m.tree) asks
+never_unparsed setting (ReportOf kind subject) m refusal offset asks = go (is_there subject m.tree) asks
   where
-    go : (there : Bool) → AsksAbout there kind subject (Unread refusal offset) → ⊥
+    go : (there : Bool) → AsksAbout there kind subject (Unparsed refusal offset) → ⊥
     go false e = absurd cc
     go true e = absurd cc
-never_unread way PrintIds m refusal offset asks = absurd (let e : Unread refusal offset ≡ Ask call.Print = asks in cc)
+never_unparsed setting PrintIds m refusal offset asks = absurd (let e : Unparsed refusal offset ≡ Ask call.Print = asks in cc)
 
-not_at : (way : Way) (s t : State) (o : Order) (asked : Asked) (shows : Shows) (refusal : Refusal) (offset : ℕ) → OrdersIn way o s.held asked → Follows s asked (TextRefusedAt refusal offset) shows t → ⊥
-not_at way s t o (Ask c) shows refusal offset asks follows = follows
-not_at way s t o (Misplaced why) shows refusal offset asks follows = absurd (let e : TextRefusedAt refusal offset ≡ Replied (Refused why) = follows.0 in cc)
-not_at way s t o (Unread why place) shows refusal offset asks follows = never_unread way o s.held why place asks
+not_at : (setting : SessionSetting) (s t : State) (o : SessionCommand) (asked : Asked) (shows : Shows) (refusal : Refusal) (offset : ℕ) → OrdersIn setting o s.held asked → Follows s asked (TextRefusedAt refusal offset) shows t → ⊥
+not_at setting s t o (Ask c) shows refusal offset asks follows = follows
+not_at setting s t o (Misplaced why) shows refusal offset asks follows = absurd (let e : TextRefusedAt refusal offset ≡ Replied (Refused why) = follows.0 in cc)
+not_at setting s t o (Unparsed why place) shows refusal offset asks follows = never_unparsed setting o s.held why place asks
 
-pub fulfils_bounded : (bytes : ℕ) (way : Way) (s : State) (o : Order) (response : Response) (shown : List ℕ) (t : State) → Fulfils way s o response shown t → IsBounded bytes response
-fulfils_bounded bytes way s o response shown t h = λ refusal offset is.
-    absurd (not_at way s t o h.asked h.shows refusal offset h.asks (subst (λ (r : Response). Follows s h.asked r h.shows t) is h.follows))
+pub fulfils_bounded : (bytes : ℕ) (setting : SessionSetting) (s : State) (o : SessionCommand) (response : Response) (shown : List ℕ) (t : State) → RunsSessionCommand setting s o response shown t → IsBounded bytes response
+fulfils_bounded bytes setting s o response shown t h = λ refusal offset is.
+    absurd (not_at setting s t o h.asked h.shows refusal offset h.asks (subst (λ (r : Response). Follows s h.asked r h.shows t) is h.follows))

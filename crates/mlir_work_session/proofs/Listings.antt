@@ -1,12 +1,12 @@
--- Listings, of which there always is one: memory may be refused.
+-- Every state has a listing, since memory may run out.
 use Rattle.std.proofs.Common.{◌≡◌, ℕ, ◌+◌, ◌<◌, ◌≤◌, List, [], ◌∷◌, ◌++◌, length, drop, get_or, Bool, true, false, inl, inr, refl, add-one, arith}
 use Rattle.std.proofs.lemmas.Grind.{common_steps}
 use Rattle.std.proofs.Math.Seq.{drop-cons}
 use Rattle.ir_event.specs.trees.Meaning.{Operation}
 use Rattle.ir_event.specs.Listener.{Listener}
 use Rattle.mlir_work_script.specs.Replies.{stale_line, kind_memory_line, module_memory_line}
-use Rattle.mlir_work_mixed.specs.transforms.rewriter.Machine.{State}
-use Rattle.mlir_work_mixed.specs.transforms.rewriter.Panels.{Shown, shown, all_shown}
+use Rattle.mlir_work_transforms.specs.rewriter.Machine.{State}
+use Rattle.mlir_work_transforms.specs.rewriter.Panels.{Shown, shown, all_shown}
 use Rattle.mlir_work_session.specs.Output.{IsKind, AreKinds, IsListing, IsListingIf}
 
 some_kind : (t : Operation) (k : Shown) → (out : List ℕ) × IsKind t k out

@@ -1,8 +1,8 @@
--- The place that a command names is the same in a tree of numbers and in what it stands for.
+-- An insertion point names the same place in a tree of term numbers and in the tree that the numbers denote.
 use Rattle.std.proofs.Common.{◌≡◌, ◌∙◌, ap, sym, refl, ℕ, zero, suc, eqb, true, false, Option, Some, None, cond}
 use Rattle.std.specs.Prelude.{is_some, option_map, option_and_then, Result, slice_get}
 use Rattle.std.specs.Option.{option_eq}
-use Rattle.ir_event.specs.types.Things.{Things}
+use Rattle.ir_event.specs.types.Things.{ContextModel}
 use Rattle.ir_event.specs.types.Terms.{name_term, type_term, attr_term}
 use Rattle.ir_event.specs.types.declared.refusal.Refusal.{Refusal}
 use Rattle.ir_event.specs.trees.declared.place.Place.{Place}
@@ -19,8 +19,8 @@ use Rattle.ir_event.proofs.of_tree_laws.Contents.{map_has_id, same_id, map_ops_a
 use Rattle.ir_event.specs.store.Nodes.{Node, node_of, regions_arguments}
 use Rattle.ir_event.specs.store.Stored.{Stored, known}
 use Rattle.ir_event.proofs.Shown.{known_there}
-use Rattle.mlir_work_mixed.specs.transforms.rewriter.Held.{Held, module_held}
-use Rattle.mlir_work_mixed.specs.transforms.rewriter.Spots.{Spot, Before, After, Start, End, passing, coming, behind, beside, in_block, spot_place}
+use Rattle.mlir_work_transforms.specs.rewriter.Held.{TransactionModel, module_held}
+use Rattle.mlir_work_transforms.specs.rewriter.Points.{Point, Before, After, Start, End, passing, coming, trailing, beside, in_block, point_place}
 
 module _ {N T A M U B : Type 0} (f : N → M) (g : T → U) (h : A → B) where
   map_has_block : (p r : ℕ) (t : OpOf N T A) → is_some (ops_at p r (map_tree f g h t)) ≡ is_some (ops_at p r t)
@@ -45,28 +45,28 @@ module _ {N T A M U B : Type 0} (f : N → M) (g : T → U) (h : A → B) where
   map_passing None b t = refl
   map_passing (Some x) b t = ap (λ o. cond (option_eq eqb b (Some x)) o b) (map_next_of x t)
 
-  map_behind : (x : Option ℕ) (t : OpOf N T A) (p : Option Place) → option_map (behind x (map_tree f g h t)) p ≡ option_map (behind x t) p
-  map_behind x t None = refl
-  map_behind x t (Some p) = ap (λ b. Some (coming b p)) (map_passing x p.before t)
+  map_after : (x : Option ℕ) (t : OpOf N T A) (p : Option Place) → option_map (trailing x (map_tree f g h t)) p ≡ option_map (trailing x t) p
+  map_after x t None = refl
+  map_after x t (Some p) = ap (λ b. Some (coming b p)) (map_passing x p.before t)
 
-  pub map_spot : (x : Option ℕ) (spot : Spot) (t : OpOf N T A) → spot_place x spot (map_tree f g h t) ≡ spot_place x spot t
-  map_spot x (Before y) t = λ i. beside (map_has_id f g h y t i) (option_map (coming (Some y)) (map_place f g h y t i))
-  map_spot x (After y) t =
-      (λ i. beside (map_has_id f g h y t i) (option_map (behind x (map_tree f g h t)) (map_place f g h y t i)))
-      ∙ ap (beside (has_id y t)) (map_behind x t (place_of y t))
-  map_spot x (Start y r) t =
+  pub map_point : (x : Option ℕ) (point : Point) (t : OpOf N T A) → point_place x point (map_tree f g h t) ≡ point_place x point t
+  map_point x (Before y) t = λ i. beside (map_has_id f g h y t i) (option_map (coming (Some y)) (map_place f g h y t i))
+  map_point x (After y) t =
+      (λ i. beside (map_has_id f g h y t i) (option_map (trailing x (map_tree f g h t)) (map_place f g h y t i)))
+      ∙ ap (beside (has_id y t)) (map_after x t (place_of y t))
+  map_point x (Start y r) t =
       (λ i. in_block (map_has_id f g h y t i) (map_has_block y r t i) (record { parent = y; region = r; before = passing x (map_first_at y r t i) (map_tree f g h t) }))
       ∙ ap (λ b. in_block (has_id y t) (is_some (ops_at y r t)) (record { parent = y; region = r; before = b })) (map_passing x (first_at y r t) t)
-  map_spot x (End y r) t = λ i. in_block (map_has_id f g h y t i) (map_has_block y r t i) (record { parent = y; region = r; before = None })
+  map_point x (End y r) t = λ i. in_block (map_has_id f g h y t i) (map_has_block y r t i) (record { parent = y; region = r; before = None })
 
-pub spot_means : (c : Things) (x : Option ℕ) (spot : Spot) (t : Op) → spot_place x spot (meaning c t) ≡ spot_place x spot t
-spot_means c x spot t = map_spot (name_term c) (type_term c) (attr_term c) x spot t
+pub point_means : (c : ContextModel) (x : Option ℕ) (point : Point) (t : Op) → point_place x point (meaning c t) ≡ point_place x point t
+point_means c x point t = map_point (name_term c) (type_term c) (attr_term c) x point t
 
--- the place in the module of a bench, by the store that its world shows
-pub spot_beside : (h : Held) (s : Stored) (x : Option ℕ) (spot : Spot) (r : Result Place Refusal) → s ≡ h.store → spot_place x spot s.module_of.tree ≡ r → spot_place x spot (module_held h).tree ≡ r
-spot_beside h s x spot r same e = spot_means h.ctx x spot h.store.module_of.tree ∙ (ap (λ (s : Stored). spot_place x spot s.module_of.tree) (sym same) ∙ e)
+-- an insertion point in the rewriter's module resolves as in the store of its IR state
+pub point_beside : (h : TransactionModel) (s : Stored) (x : Option ℕ) (point : Point) (r : Result Place Refusal) → s ≡ h.store → point_place x point s.module_of.tree ≡ r → point_place x point (module_held h).tree ≡ r
+point_beside h s x point r same e = point_means h.ctx x point h.store.module_of.tree ∙ (ap (λ (s : Stored). point_place x point s.module_of.tree) (sym same) ∙ e)
 
--- whether a region has a block, read off the node
+-- the node's arguments say whether a region has a block
 blocks_told : (r : ℕ) (rs : Regions) → is_some (option_and_then (λ a. a) (slice_get (regions_arguments rs) r)) ≡ is_some (option_and_then ops_in (region_at r rs))
 blocks_told r no_regions = refl
 blocks_told zero (region empty rs) = refl

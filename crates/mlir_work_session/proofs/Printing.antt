@@ -1,4 +1,4 @@
--- Scripts that only print.
+-- Proofs about scripts that only print.
 use Rattle.std.proofs.Common.{◌≡◌, ◌∙◌, ap, sym, subst, refl, ℕ, ◌+◌, ◌==◌, ◌≤◌, List, [], ◌∷◌, ◌++◌, length, arith, Bool, true, false, true≢false, not, ◌&&◌, ◌||◌, cond, nat_lt, inl, inr, append-nil, append_assoc, map, Option, Some, None, is_some, is_none, Result}
 use Rattle.std.specs.List.{list_any, list_all}
 use Rattle.std.proofs.lemmas.Bool.{eq-eqb, eqb-true, lt-ltb, ltb-false, ltb-true, and_parts, not-true}
@@ -9,25 +9,25 @@ use Rattle.ir_event.specs.trees.Meaning.{Operation}
 use Rattle.ir_event.specs.Modules.{Module}
 use Rattle.ir_event.specs.Listener.{Listener}
 use Rattle.ir_text.specs.Printing.{text_of}
-use Rattle.mlir_work_mixed.specs.transforms.rewriter.Commands as said
-use Rattle.mlir_work_mixed.specs.transforms.rewriter.Commands.{Command, Ask, Replied, TextRefusedAt}
-use Rattle.mlir_work_mixed.specs.transforms.rewriter.Machine as call
-use Rattle.mlir_work_mixed.specs.transforms.rewriter.Machine.{State, Done, Refused, Tree, Nothing as NoRows}
-use Rattle.mlir_work_mixed.specs.transforms.rewriter.Panels.{Shown, all_shown, has_kind, is_kind}
-use Rattle.mlir_work_script.specs.Commands.{Spoken, Nothing, Bad, Obey, Ordered, Booked, line_says}
+use Rattle.mlir_work_transforms.specs.rewriter.Commands as said
+use Rattle.mlir_work_transforms.specs.rewriter.Commands.{Command, Ask, Replied, TextRefusedAt}
+use Rattle.mlir_work_transforms.specs.rewriter.Machine as call
+use Rattle.mlir_work_transforms.specs.rewriter.Machine.{State, Done, Refused, Tree, Nothing as NoRows}
+use Rattle.mlir_work_transforms.specs.rewriter.Panels.{Shown, all_shown, has_kind, is_kind}
+use Rattle.mlir_work_script.specs.Commands.{Spoken, Nothing, Bad, Obey, Ordered, Registered, line_says}
 use Rattle.mlir_work_script_base.specs.Lines.{lines_of}
 use Rattle.mlir_work_script_base.specs.Writes.{Stream}
 use Rattle.mlir_work_script_base.specs.Limits.{most_script_bytes}
-use Rattle.mlir_work_session.specs.Machine.{Obeys, response_of}
-use Rattle.mlir_work_book.specs.Notices.{IsWithin, Plain, is_right_under}
-use Rattle.mlir_work_book.specs.Replies.{is_accepted}
-use Rattle.mlir_work_book.specs.Shelf.{Book}
-use Rattle.mlir_work_book.specs.Told.{reply_line}
+use Rattle.mlir_work_session.specs.Machine.{RunsCommand, response_of}
+use Rattle.mlir_work_registry.specs.Notices.{IsWithin, Plain, is_right_under}
+use Rattle.mlir_work_registry.specs.Replies.{is_accepted}
+use Rattle.mlir_work_registry.specs.Registry.{RegistryModel}
+use Rattle.mlir_work_registry.specs.Told.{reply_line}
 use Rattle.mlir_work_session.specs.Explained.{IsAbout}
-use Rattle.mlir_work_session.specs.Output.{Attaches, IsEnded, IsReplied, IsSession, Manner, Replies, Runs, Sitting, Way, asks, end_of, opening, says_nothing, shows_alone, worse}
+use Rattle.mlir_work_session.specs.Output.{Attaches, IsEnded, IsReplied, IsSession, SessionOptions, Replies, Runs, Sitting, SessionSetting, asks, end_of, opening, says_nothing, shows_alone, worse}
 use Rattle.mlir_work_session.specs.PrintsAlone.{IsPrinted, all_print, is_print, kinds_apart, line_prints, prints_alone}
 use Rattle.mlir_work_session.specs.Ran.{RanOut}
-use Rattle.mlir_work_book.specs.declared.reply.Reply.{Reply}
+use Rattle.mlir_work_registry.specs.declared.reply.Reply.{Reply}
 use Rattle.mlir_work_session.proofs.Panels.{kind_shown}
 use Rattle.mlir_work_session.proofs.Runs.{run_step}
 use Rattle.mlir_work_session.proofs.Sessions.{ran_weaker}
@@ -47,12 +47,12 @@ one_more m n k is = same (nat_lt (1 + m) k) (nat_lt m n) refl refl
     same false true e f = absurd (let a = ltb-false (1 + m) k e in let b = ltb-true m n f in omega (arith, a, b, is))
     same false false e f = refl
 
--- the place of the first that passes, or the length
+-- the index of the first element that satisfies `p`, or the length of the list if none does
 abbrev first_place : {X : Type 0} → (X → Bool) → List X → ℕ
 first_place p [] = 0
 first_place p (x ∷ xs) = cond (p x) 0 (1 + first_place p xs)
 
--- it is below the length where one passes
+-- the index is below the length iff some element satisfies `p`
 place_any : {X : Type 0} (p : X → Bool) (xs : List X) → nat_lt (first_place p xs) (length xs) ≡ list_any p xs
 place_any p [] = refl
 place_any p (x ∷ xs) = go (place_any p xs) (p x)
@@ -72,7 +72,7 @@ any_last k (x ∷ bs) b = rw (any_last k bs b) (or_assoc (x.kind == k) (list_any
     or_assoc true b c = refl
     or_assoc false b c = refl
 
--- whether no two of some analyses have one kind
+-- whether all analyses have different kinds
 abbrev are_apart : List Shown → Bool
 are_apart [] = true
 are_apart (b ∷ bs) = not (has_kind b.kind bs) && are_apart bs
@@ -85,7 +85,7 @@ apart_shown meaning (b ∷ bs) = rw (kind_shown meaning (meaning b).kind bs, apa
 abbrev begun : Shown → Shown
 begun b = record b { stale = false }
 
--- none of these has a kind of those
+-- whether no analysis of `bs` has the kind of one in `old`
 abbrev are_new : List Shown → List Shown → Bool
 are_new old bs = list_all (λ b. not (list_any (is_kind b.kind) old)) bs
 
@@ -96,7 +96,7 @@ swapped m n e = not_same (n == m) refl
     not_same true f = absurd (true≢false (sym (eq-eqb m n (sym (eqb-true n m f))) ∙ e))
     not_same false f = refl
 
--- those that are new and of another kind than b are new beside b
+-- analyses of other kinds than those of `old` and than `b` have other kinds than those of `old` and `b` together
 still_new : (old : List Shown) (b : Shown) (bs : List Shown) → are_new old bs ≡ true → list_any (is_kind b.kind) bs ≡ false → are_new (old ++ begun b ∷ []) bs ≡ true
 still_new old b [] n f = refl
 still_new old b (x ∷ bs) n f =
@@ -108,7 +108,7 @@ still_new old b (x ∷ bs) n f =
     neither true b e = absurd (true≢false e)
     neither false b e = (refl, e)
 
--- boxes of different kinds are all attached, where memory isn't refused
+-- analyses of different kinds can all be attached, unless memory runs out
 pub apart_attach : (bs old : List Shown) → are_new old bs ≡ true → are_apart bs ≡ true → Attaches bs old (old ++ map begun bs) true []
 apart_attach [] old n h = (append-nil old, refl, refl)
 apart_attach (b ∷ bs) old n h =
@@ -125,11 +125,11 @@ all_new (b ∷ bs) = all_new bs
 
 -- ---- lines
 
--- a command that asks for the module is the one that does
+-- the only command that prints the module is `print`
 the_print : (command : Command) → is_print command ≡ true → command ≡ said.Print
 the_print (said.Erase x) e = absurd (true≢false (sym e))
-the_print (said.Move x spot) e = absurd (true≢false (sym e))
-the_print (said.Insert spot text) e = absurd (true≢false (sym e))
+the_print (said.Move x point) e = absurd (true≢false (sym e))
+the_print (said.Insert point text) e = absurd (true≢false (sym e))
 the_print (said.SetOperand x k v) e = absurd (true≢false (sym e))
 the_print (said.Replace old new) e = absurd (true≢false (sym e))
 the_print (said.SetAttr x key text) e = absurd (true≢false (sym e))
@@ -146,60 +146,60 @@ the_print (said.Resync kind) e = absurd (true≢false (sym e))
 the_print (said.Report kind) e = absurd (true≢false (sym e))
 the_print said.Print e = refl
 
--- the module is shown, or memory is refused
-shown_text : (manner : Manner) (s : State) → Obeys manner s said.Print (Replied Done) (text_of s.held.tree) s
-shown_text manner s = record { asked = Ask call.Print; shows = Tree s.held.tree; asks = refl; follows = record { answer = inl refl; panel = refl }; text = refl }
+-- `print` shows the module, or is refused since memory ran out
+shown_text : (session_options : SessionOptions) (s : State) → RunsCommand session_options s said.Print (Replied Done) (text_of s.held.tree) s
+shown_text session_options s = record { asked = Ask call.Print; shows = Tree s.held.tree; asks = refl; follows = record { answer = inl refl; panel = refl }; text = refl }
 
-shown_none : (manner : Manner) (s : State) → Obeys manner s said.Print (Replied (Refused Memory)) [] s
-shown_none manner s = record { asked = Ask call.Print; shows = NoRows; asks = refl; follows = record { answer = inr (refl, refl); panel = refl }; text = refl }
+shown_none : (session_options : SessionOptions) (s : State) → RunsCommand session_options s said.Print (Replied (Refused Memory)) [] s
+shown_none session_options s = record { asked = Ask call.Print; shows = NoRows; asks = refl; follows = record { answer = inr (refl, refl); panel = refl }; text = refl }
 
-answered : (manner : Manner) (s : State) (reply : Reply) (shows : List ℕ) → IsPrinted s.held.tree reply shows → Obeys manner s said.Print (response_of reply) shows s
-answered manner s reply shows (inl p) = subst (λ (r : Reply). Obeys manner s said.Print (response_of r) shows s) (sym p.0) (subst (λ (o : List ℕ). Obeys manner s said.Print (Replied Done) o s) (sym p.1) (shown_text manner s))
-answered manner s reply shows (inr p) = subst (λ (r : Reply). Obeys manner s said.Print (response_of r) shows s) (sym p.0) (subst (λ (o : List ℕ). Obeys manner s said.Print (Replied (Refused Memory)) o s) (sym p.1) (shown_none manner s))
+answered : (session_options : SessionOptions) (s : State) (reply : Reply) (shows : List ℕ) → IsPrinted s.held.tree reply shows → RunsCommand session_options s said.Print (response_of reply) shows s
+answered session_options s reply shows (inl p) = subst (λ (r : Reply). RunsCommand session_options s said.Print (response_of r) shows s) (sym p.0) (subst (λ (o : List ℕ). RunsCommand session_options s said.Print (Replied Done) o s) (sym p.1) (shown_text session_options s))
+answered session_options s reply shows (inr p) = subst (λ (r : Reply). RunsCommand session_options s said.Print (response_of r) shows s) (sym p.0) (subst (λ (o : List ℕ). RunsCommand session_options s said.Print (Replied (Refused Memory)) o s) (sym p.1) (shown_none session_options s))
 
--- a line that asks for the module is answered with its text, or for want of memory
-printed : (way : Way) (s : Sitting) (spoken : Spoken) (reply : Reply) (shows : List ℕ) → prints_alone spoken ≡ true → says_nothing spoken ≡ false → IsPrinted s.state.held.tree reply shows → Replies way s spoken (Plain (response_of reply)) shows s
-printed way s Nothing reply shows e f p = absurd (true≢false f)
-printed way s (Ordered order) reply shows e f p = absurd (true≢false (sym e))
-printed way s (Booked order) reply shows e f p = absurd (true≢false (sym e))
-printed way s Bad reply shows e f p = absurd (true≢false (sym e))
-printed way s (Obey command) reply shows e f p = subst (λ (k : Command). Replies way s (Obey k) (Plain (response_of reply)) shows s) (sym (the_print command e)) (response_of reply, refl, answered way.manner s.state reply shows p, refl)
+-- a line that prints the module is answered with its text, or with `Memory`
+printed : (setting : SessionSetting) (s : Sitting) (spoken : Spoken) (reply : Reply) (shows : List ℕ) → prints_alone spoken ≡ true → says_nothing spoken ≡ false → IsPrinted s.state.held.tree reply shows → Replies setting s spoken (Plain (response_of reply)) shows s
+printed setting s Nothing reply shows e f p = absurd (true≢false f)
+printed setting s (Ordered session_command) reply shows e f p = absurd (true≢false (sym e))
+printed setting s (Registered session_command) reply shows e f p = absurd (true≢false (sym e))
+printed setting s Bad reply shows e f p = absurd (true≢false (sym e))
+printed setting s (Obey command) reply shows e f p = subst (λ (k : Command). Replies setting s (Obey k) (Plain (response_of reply)) shows s) (sym (the_print command e)) (response_of reply, refl, answered setting.session_options s.state reply shows p, refl)
 
--- what was refused is about nothing
+-- the refusal has no note
 untold : (explain : Bool) (m : Module) (t : Operation) (reply : Reply) (shows : List ℕ) → IsPrinted t reply shows → IsAbout explain (Plain (response_of reply)) (Obey said.Print) m []
 untold false m t reply shows p = refl
 untold true m t reply shows (inl p) = subst (λ (r : Reply). IsAbout true (Plain (response_of r)) (Obey said.Print) m []) (sym p.0) (inl refl)
 untold true m t reply shows (inr p) = subst (λ (r : Reply). IsAbout true (Plain (response_of r)) (Obey said.Print) m []) (sym p.0) (inl refl)
 
--- and has no listing
+-- the answer has no listing
 bare : (explain brief : Bool) (s : State) (n : ℕ) (reply : Reply) (shows : List ℕ) → IsPrinted s.held.tree reply shows → IsReplied explain (Obey said.Print) (not brief && false) s n None (Plain (response_of reply)) shows (reply_line n (response_of reply) ++ shows)
 bare explain true s n reply shows p = ([], [], untold explain s.held s.held.tree reply shows p, refl, λ i. sym (append-nil (reply_line n (response_of reply))) i ++ sym (append-nil shows) i)
 bare explain false s n reply shows p = ([], [], untold explain s.held s.held.tree reply shows p, refl, λ i. sym (append-nil (reply_line n (response_of reply))) i ++ sym (append-nil shows) i)
 
 unlisted : (explain brief : Bool) (s : State) (n : ℕ) (spoken : Spoken) (reply : Reply) (shows : List ℕ) → prints_alone spoken ≡ true → says_nothing spoken ≡ false → IsPrinted s.held.tree reply shows → IsReplied explain spoken (not brief && not (asks spoken)) s n None (Plain (response_of reply)) shows (reply_line n (response_of reply) ++ shows)
 unlisted explain brief s n Nothing reply shows e f p = absurd (true≢false f)
-unlisted explain brief s n (Ordered order) reply shows e f p = absurd (true≢false (sym e))
-unlisted explain brief s n (Booked order) reply shows e f p = absurd (true≢false (sym e))
+unlisted explain brief s n (Ordered session_command) reply shows e f p = absurd (true≢false (sym e))
+unlisted explain brief s n (Registered session_command) reply shows e f p = absurd (true≢false (sym e))
 unlisted explain brief s n Bad reply shows e f p = absurd (true≢false (sym e))
 unlisted explain brief s n (Obey command) reply shows e f p = subst (λ (k : Command). IsReplied explain (Obey k) (not brief && not (shows_alone k)) s n None (Plain (response_of reply)) shows (reply_line n (response_of reply) ++ shows)) (sym (the_print command e)) (bare explain brief s n reply shows p)
 
--- and no end
+-- the answer has no empty line at the end
 unended : (ends : Bool) (P : List ℕ → Type 0) (out : List ℕ) → ends ≡ false → P out → IsEnded ends P out
 unended ends P out e p = (out, p, sym (ap (λ (b : Bool). out ++ end_of b) e ∙ append-nil out))
 
--- the first line, and the others
+-- the lines of a script that only prints, split into the first line and the rest
 pub first_prints : (text line more : List ℕ) → lines_of text ≡ line ∷ lines_of more → all_print (lines_of text) ≡ (line_prints line && all_print (lines_of more))
 first_prints text line more e = ap all_print e
 
 pub more_print : (text line more : List ℕ) → lines_of text ≡ line ∷ lines_of more → all_print (lines_of text) ≡ true → (line_prints line ≡ true) × (all_print (lines_of more) ≡ true)
 more_print text line more e h = and_parts _ _ (sym (first_prints text line more e) ∙ h)
 
--- a line that asks for the module is replied to, and then what may follow
+-- the reply has no byte offset
 printed_bounded : (bytes : ℕ) (t : Operation) (reply : Reply) (shows : List ℕ) → IsPrinted t reply shows → IsWithin bytes (Plain (response_of reply))
 printed_bounded bytes t reply shows (inl h) = subst (λ (r : Reply). IsWithin bytes (Plain (response_of r))) (sym h.0) (λ why offset e. absurd (let f : Plain (Replied Done) ≡ Plain (TextRefusedAt why offset) = e in cc))
 printed_bounded bytes t reply shows (inr h) = subst (λ (r : Reply). IsWithin bytes (Plain (response_of r))) (sym h.0) (λ why offset e. absurd (let f : Plain (Replied (Refused Memory)) ≡ Plain (TextRefusedAt why offset) = e in cc))
 
--- and is right where it is accepted, in a strict run too
+-- an accepted reply is right, in a strict run too
 printed_right : (strict : Bool) (t : Operation) (reply : Reply) (shows : List ℕ) → IsPrinted t reply shows → is_right_under strict None (Plain (response_of reply)) shows ≡ is_accepted (response_of reply)
 printed_right false t reply shows p = refl
 printed_right true t reply shows (inl p) = subst (λ (r : Reply). is_right_under true None (Plain (response_of r)) shows ≡ is_accepted (response_of r)) (sym p.0) refl
@@ -209,20 +209,20 @@ none_is : (o : Option Refusal) → is_none o ≡ true → None ≡ o
 none_is None e = refl
 none_is (Some x) e = absurd (true≢false (sym e))
 
-pub print_step : (way : Way) → way.manner.ends ≡ false → (n : ℕ) (s : Sitting) (text line more : List ℕ) (reply : Reply) (shows : List ℕ) → lines_of text ≡ line ∷ lines_of more → line_prints line ≡ true → false ≡ says_nothing (line_says line) → IsPrinted s.state.held.tree reply shows →
-    (later : ℕ) (rest : List ℕ) → Runs way (n + 1) s (lines_of more) later rest → Runs way n s (lines_of text) (worse (is_accepted (response_of reply)) later) ((reply_line n (response_of reply) ++ shows) ++ rest)
-print_step way unend n s text line more reply shows e prints f p later rest h =
+pub print_step : (setting : SessionSetting) → setting.session_options.ends ≡ false → (n : ℕ) (s : Sitting) (text line more : List ℕ) (reply : Reply) (shows : List ℕ) → lines_of text ≡ line ∷ lines_of more → line_prints line ≡ true → false ≡ says_nothing (line_says line) → IsPrinted s.state.held.tree reply shows →
+    (later : ℕ) (rest : List ℕ) → Runs setting (n + 1) s (lines_of more) later rest → Runs setting n s (lines_of text) (worse (is_accepted (response_of reply)) later) ((reply_line n (response_of reply) ++ shows) ++ rest)
+print_step setting unend n s text line more reply shows e prints f p later rest h =
     let is = (and_parts _ _ prints).1 in
-    subst (λ (b : Bool). Runs way n s (lines_of text) (worse b later) ((reply_line n (response_of reply) ++ shows) ++ rest)) (printed_right way.manner.strict s.state.held.tree reply shows p)
-    (run_step way n s text line more None (line_says line) (Plain (response_of reply)) shows s (reply_line n (response_of reply) ++ shows) e (none_is _ (and_parts _ _ prints).0) refl f (printed way s (line_says line) reply shows is (sym f) p) (unended way.manner.ends (IsReplied way.manner.explain (line_says line) (not way.manner.brief && not (asks (line_says line))) s.state n None (Plain (response_of reply)) shows) (reply_line n (response_of reply) ++ shows) unend (unlisted way.manner.explain way.manner.brief s.state n (line_says line) reply shows is (sym f) p)) (printed_bounded way.manner.bytes s.state.held.tree reply shows p) later rest h)
+    subst (λ (b : Bool). Runs setting n s (lines_of text) (worse b later) ((reply_line n (response_of reply) ++ shows) ++ rest)) (printed_right setting.session_options.strict s.state.held.tree reply shows p)
+    (run_step setting n s text line more None (line_says line) (Plain (response_of reply)) shows s (reply_line n (response_of reply) ++ shows) e (none_is _ (and_parts _ _ prints).0) refl f (printed setting s (line_says line) reply shows is (sym f) p) (unended setting.session_options.ends (IsReplied setting.session_options.explain (line_says line) (not setting.session_options.brief && not (asks (line_says line))) s.state n None (Plain (response_of reply)) shows) (reply_line n (response_of reply) ++ shows) unend (unlisted setting.session_options.explain setting.session_options.brief s.state n (line_says line) reply shows is (sym f) p)) (printed_bounded setting.session_options.bytes s.state.held.tree reply shows p) later rest h)
 
 -- ---- sessions
 
--- what the lines may give is what a session may give whose boxes have different kinds
-print_ran : {E : Type 0} (way : Way) (start : Book) → way.manner.ends ≡ false → (boxes : List Shown) (m : Module) (script : List ℕ) (a b : Stream) (r : Result ℕ E) → length script ≤ most_script_bytes → are_apart boxes ≡ true →
-    RanOut (Runs way 1 (opening start (record { held = m; marks = []; panel = map begun boxes })) (lines_of script)) a b r → RanOut (IsSession way start boxes m script) a b r
-print_ran way start unend boxes m script a b r short apart ran =
-    ran_weaker (Runs way 1 (opening start (record { held = m; marks = []; panel = map begun boxes })) (lines_of script)) (IsSession way start boxes m script) a b r
+-- an output of the printed lines is an output of a session with listeners of different kinds
+print_ran : {E : Type 0} (setting : SessionSetting) (start : RegistryModel) → setting.session_options.ends ≡ false → (boxes : List Shown) (m : Module) (script : List ℕ) (a b : Stream) (r : Result ℕ E) → length script ≤ most_script_bytes → are_apart boxes ≡ true →
+    RanOut (Runs setting 1 (opening start (record { held = m; marks = []; panel = map begun boxes })) (lines_of script)) a b r → RanOut (IsSession setting start boxes m script) a b r
+print_ran setting start unend boxes m script a b r short apart ran =
+    ran_weaker (Runs setting 1 (opening start (record { held = m; marks = []; panel = map begun boxes })) (lines_of script)) (IsSession setting start boxes m script) a b r
     (λ st o h. inr (
       short,
       record {
@@ -238,6 +238,6 @@ print_ran way start unend boxes m script a b r short apart ran =
       },
     )) ran
 
-pub prints_ran : {B E : Type 0} (meaning : B → Listener) (way : Way) (start : Book) → way.manner.ends ≡ false → (bs : List B) (m : Module) (script : List ℕ) (a b : Stream) (r : Result ℕ E) → length script ≤ most_script_bytes → kinds_apart meaning bs ≡ true →
-    ((panel : List Shown) → RanOut (Runs way 1 (opening start (record { held = m; marks = []; panel = panel })) (lines_of script)) a b r) → RanOut (IsSession way start (all_shown meaning bs) m script) a b r
-prints_ran meaning way start unend bs m script a b r short apart ran = print_ran way start unend (all_shown meaning bs) m script a b r short (apart_shown meaning bs ∙ apart) (ran _)
+pub prints_ran : {B E : Type 0} (meaning : B → Listener) (setting : SessionSetting) (start : RegistryModel) → setting.session_options.ends ≡ false → (bs : List B) (m : Module) (script : List ℕ) (a b : Stream) (r : Result ℕ E) → length script ≤ most_script_bytes → kinds_apart meaning bs ≡ true →
+    ((panel : List Shown) → RanOut (Runs setting 1 (opening start (record { held = m; marks = []; panel = panel })) (lines_of script)) a b r) → RanOut (IsSession setting start (all_shown meaning bs) m script) a b r
+prints_ran meaning setting start unend bs m script a b r short apart ran = print_ran setting start unend (all_shown meaning bs) m script a b r short (apart_shown meaning bs ∙ apart) (ran _)

@@ -1,57 +1,57 @@
--- Runs of scripts, step by step.
+-- Proofs about runs of scripts, step by step.
 use Rattle.std.proofs.Common.{◌≡◌, ℕ, ◌+◌, ◌&&◌, List, [], ◌∷◌, ◌++◌, Bool, true, false, not, refl, sym, subst, ◌∙◌, length, ◌≤◌, ◌<◌, ◌==◌, arith, Option, Some, None, inl, Result, Ok, Err}
 use Rattle.std.proofs.lemmas.Bool.Decides.{nat_tests}
 use Rattle.ir_event.specs.types.declared.refusal.Refusal.{Refusal}
 use Rattle.ir_event.specs.types.declared.refusal.Refusal.TheVariants.{BadCommand, Memory}
-use Rattle.mlir_work_mixed.specs.transforms.rewriter.Commands.{Replied as Says}
-use Rattle.mlir_work_mixed.specs.transforms.rewriter.Machine.{Refused}
-use Rattle.mlir_work_script.specs.Commands.{Spoken, Nothing, Bad, Obey, Ordered, Booked, line_says}
+use Rattle.mlir_work_transforms.specs.rewriter.Commands.{Replied as Says}
+use Rattle.mlir_work_transforms.specs.rewriter.Machine.{Refused}
+use Rattle.mlir_work_script.specs.Commands.{Spoken, Nothing, Bad, Obey, Ordered, Registered, line_says}
 use Rattle.mlir_work_script.specs.Expecting.{line_expects}
 use Rattle.mlir_work_script_base.specs.Lines.{lines_of}
 use Rattle.mlir_work_script_base.specs.Writes.{Stream}
-use Rattle.mlir_work_book.specs.Notices.{IsWithin, Notice, Plain, is_right_under}
+use Rattle.mlir_work_registry.specs.Notices.{IsWithin, Notice, Plain, is_right_under}
 use Rattle.ir_event.specs.Modules.{Module}
 use Rattle.mlir_work_session.specs.Explained.{IsAbout, about_notice}
-use Rattle.mlir_work_session.specs.Output.{IsAnswered, IsEnded, IsToldOf, Line, Way, Replied, Replies, IsReplied, Runs, accepted_behind, end_of, number_behind, worse, says_nothing, asks, told_text}
+use Rattle.mlir_work_session.specs.Output.{IsAnswered, IsEnded, IsLineAnswered, Line, SessionSetting, Replied, Replies, IsReplied, Runs, accepted_after, end_of, number_after, worse, says_nothing, asks, told_text}
 use Rattle.mlir_work_session.specs.Sittings.{Sitting, own_of}
 use Rattle.mlir_work_session.specs.Ran.{RanOut}
 use Rattle.mlir_work_session.proofs.Listings.{some_listing_if}
-use Rattle.mlir_work_session.specs.Mixing.{mix_of}
+use Rattle.mlir_work_session.specs.RuleLists.{list_command_of}
 use Rattle.mlir_work_session.proofs.Mixes.{beside_bounded, some_beside as some_ordered}
-use Rattle.mlir_work_book.proofs.Bounds.{within_of}
+use Rattle.mlir_work_registry.proofs.Bounds.{within_of}
 use Rattle.mlir_work_session.proofs.Owning.{some_beside}
 
 pub worse_both : (a b : Bool) (later : ℕ) → worse a (worse b later) ≡ worse (a && b) later
 worse_both true b later = refl
 worse_both false b later = refl
 
--- a line that says nothing goes for nothing
-pub line_skipped : (Rest : ℕ → Sitting → ℕ → List ℕ → Type 0) (way : Way) (n : ℕ) (s : Sitting) (expected : Option Refusal) (spoken : Spoken) (status : ℕ) (out : List ℕ) → says_nothing spoken ≡ true → Rest n s status out → Line Rest way n s expected spoken status out
-line_skipped Rest way n s expected Nothing status out e h = h
-line_skipped Rest way n s expected Bad status out e h = absurd (let f : false ≡ true = e in cc)
-line_skipped Rest way n s expected (Obey command) status out e h = absurd (let f : false ≡ true = e in cc)
-line_skipped Rest way n s expected (Ordered order) status out e h = absurd (let f : false ≡ true = e in cc)
-line_skipped Rest way n s expected (Booked order) status out e h = absurd (let f : false ≡ true = e in cc)
+-- an empty line has no effect
+pub line_skipped : (Rest : ℕ → Sitting → ℕ → List ℕ → Type 0) (setting : SessionSetting) (n : ℕ) (s : Sitting) (expected : Option Refusal) (spoken : Spoken) (status : ℕ) (out : List ℕ) → says_nothing spoken ≡ true → Rest n s status out → Line Rest setting n s expected spoken status out
+line_skipped Rest setting n s expected Nothing status out e h = h
+line_skipped Rest setting n s expected Bad status out e h = absurd (let f : false ≡ true = e in cc)
+line_skipped Rest setting n s expected (Obey command) status out e h = absurd (let f : false ≡ true = e in cc)
+line_skipped Rest setting n s expected (Ordered session_command) status out e h = absurd (let f : false ≡ true = e in cc)
+line_skipped Rest setting n s expected (Registered session_command) status out e h = absurd (let f : false ≡ true = e in cc)
 
-pub run_skipped : (way : Way) (n : ℕ) (s : Sitting) (text line more : List ℕ) (later : ℕ) (rest : List ℕ) → lines_of text ≡ line ∷ lines_of more → says_nothing (line_says line) ≡ true → Runs way n s (lines_of more) later rest → Runs way n s (lines_of text) later rest
-run_skipped way n s text line more later rest e nothing h = rw e (line_skipped (λ m t st o. Runs way m t (lines_of more) st o) way n s (line_expects line) (line_says line) later rest nothing h)
+pub run_skipped : (setting : SessionSetting) (n : ℕ) (s : Sitting) (text line more : List ℕ) (later : ℕ) (rest : List ℕ) → lines_of text ≡ line ∷ lines_of more → says_nothing (line_says line) ≡ true → Runs setting n s (lines_of more) later rest → Runs setting n s (lines_of text) later rest
+run_skipped setting n s text line more later rest e nothing h = rw e (line_skipped (λ m t st o. Runs setting m t (lines_of more) st o) setting n s (line_expects line) (line_says line) later rest nothing h)
 
-pub line_replied : (Rest : ℕ → Sitting → ℕ → List ℕ → Type 0) (way : Way) (n : ℕ) (s : Sitting) (expected : Option Refusal) (spoken : Spoken) (status : ℕ) (out : List ℕ) → says_nothing spoken ≡ false → Replied Rest way n s expected spoken status out → Line Rest way n s expected spoken status out
-line_replied Rest way n s expected Nothing status out e h = absurd (let f : true ≡ false = e in cc)
-line_replied Rest way n s expected Bad status out e h = h
-line_replied Rest way n s expected (Obey command) status out e h = h
-line_replied Rest way n s expected (Ordered order) status out e h = h
-line_replied Rest way n s expected (Booked order) status out e h = h
+pub line_replied : (Rest : ℕ → Sitting → ℕ → List ℕ → Type 0) (setting : SessionSetting) (n : ℕ) (s : Sitting) (expected : Option Refusal) (spoken : Spoken) (status : ℕ) (out : List ℕ) → says_nothing spoken ≡ false → Replied Rest setting n s expected spoken status out → Line Rest setting n s expected spoken status out
+line_replied Rest setting n s expected Nothing status out e h = absurd (let f : true ≡ false = e in cc)
+line_replied Rest setting n s expected Bad status out e h = h
+line_replied Rest setting n s expected (Obey command) status out e h = h
+line_replied Rest setting n s expected (Ordered session_command) status out e h = h
+line_replied Rest setting n s expected (Registered session_command) status out e h = h
 
-pub runs_replied : (way : Way) (n : ℕ) (s : Sitting) (text : List ℕ) (line : List ℕ) (more : List ℕ) (status : ℕ) (out : List ℕ) → lines_of text ≡ line ∷ lines_of more → says_nothing (line_says line) ≡ false → Replied (λ m t st o. Runs way m t (lines_of more) st o) way n s (line_expects line) (line_says line) status out → Runs way n s (lines_of text) status out
-runs_replied way n s text line more status out e f h = rw e (line_replied (λ m t st o. Runs way m t (lines_of more) st o) way n s (line_expects line) (line_says line) status out f h)
+pub runs_replied : (setting : SessionSetting) (n : ℕ) (s : Sitting) (text : List ℕ) (line : List ℕ) (more : List ℕ) (status : ℕ) (out : List ℕ) → lines_of text ≡ line ∷ lines_of more → says_nothing (line_says line) ≡ false → Replied (λ m t st o. Runs setting m t (lines_of more) st o) setting n s (line_expects line) (line_says line) status out → Runs setting n s (lines_of text) status out
+runs_replied setting n s text line more status out e f h = rw e (line_replied (λ m t st o. Runs setting m t (lines_of more) st o) setting n s (line_expects line) (line_says line) status out f h)
 
--- a reply, and then what may follow, is what may be from here
-pub run_step : (way : Way) (n : ℕ) (s : Sitting) (text line more : List ℕ) (expected : Option Refusal) (spoken : Spoken) (reply : Notice) (shows : List ℕ) (t : Sitting) (told : List ℕ) →
-    lines_of text ≡ line ∷ lines_of more → expected ≡ line_expects line → spoken ≡ line_says line → false ≡ says_nothing spoken → Replies way s spoken reply shows t → IsEnded way.manner.ends (IsReplied way.manner.explain spoken (not way.manner.brief && not (asks spoken)) t.state n expected reply shows) told → IsWithin way.manner.bytes reply →
-    (later : ℕ) (rest : List ℕ) → Runs way (n + 1) t (lines_of more) later rest → Runs way n s (lines_of text) (worse (is_right_under way.manner.strict expected reply shows) later) (told ++ rest)
-run_step way n s text line more expected spoken reply shows t told e same is f r told_is full later rest h =
-    rw e (line_replied (λ m t st o. Runs way m t (lines_of more) st o) way n s (line_expects line) (line_says line) _ _ (rw (← is) (sym f)) (record {
+-- a reply to the first line, followed by a run of the rest, is a run
+pub run_step : (setting : SessionSetting) (n : ℕ) (s : Sitting) (text line more : List ℕ) (expected : Option Refusal) (spoken : Spoken) (reply : Notice) (shows : List ℕ) (t : Sitting) (told : List ℕ) →
+    lines_of text ≡ line ∷ lines_of more → expected ≡ line_expects line → spoken ≡ line_says line → false ≡ says_nothing spoken → Replies setting s spoken reply shows t → IsEnded setting.session_options.ends (IsReplied setting.session_options.explain spoken (not setting.session_options.brief && not (asks spoken)) t.state n expected reply shows) told → IsWithin setting.session_options.bytes reply →
+    (later : ℕ) (rest : List ℕ) → Runs setting (n + 1) t (lines_of more) later rest → Runs setting n s (lines_of text) (worse (is_right_under setting.session_options.strict expected reply shows) later) (told ++ rest)
+run_step setting n s text line more expected spoken reply shows t told e same is f r told_is full later rest h =
+    rw e (line_replied (λ m t st o. Runs setting m t (lines_of more) st o) setting n s (line_expects line) (line_says line) _ _ (rw (← is) (sym f)) (record {
       notice = reply;
       shows = shows;
       after = t;
@@ -66,28 +66,28 @@ run_step way n s text line more expected spoken reply shows t told e same is f r
       out_is = refl;
     }))
 
--- ---- what follows an answer
+-- ---- the lines after an answer
 
--- the status, where that of what follows is known
+-- the status of a run, from the outcome of the first line and the status of the rest
 abbrev pub status_before : Option Bool → ℕ → ℕ
 status_before None later = later
 status_before (Some accepted) later = worse accepted later
 
-pub worse_behind : (accepted : Bool) (told : Option Bool) (later : ℕ) → worse accepted (status_before told later) ≡ worse (accepted_behind accepted told) later
-worse_behind accepted None later = refl
-worse_behind accepted (Some more) later = worse_both accepted more later
+pub worse_after : (accepted : Bool) (told : Option Bool) (later : ℕ) → worse accepted (status_before told later) ≡ worse (accepted_after accepted told) later
+worse_after accepted None later = refl
+worse_after accepted (Some more) later = worse_both accepted more later
 
--- a line takes one number at most
-pub one_number : (n : ℕ) (told : Option Bool) → number_behind n told ≤ n + 1
+-- a line uses at most one number
+pub one_number : (n : ℕ) (told : Option Bool) → number_after n told ≤ n + 1
 one_number n None = omega arith
 one_number n (Some accepted) = omega arith
 
--- an answer, and then what may follow it, is what may be from here
-pub line_answered : (Rest : ℕ → Sitting → ℕ → List ℕ → Type 0) (way : Way) (n : ℕ) (s : Sitting) (expected : Option Refusal) (spoken : Spoken) (t : Sitting) (told : Option Bool) (out : List ℕ) → IsAnswered way n s expected spoken t told out →
-    (later : ℕ) (rest : List ℕ) → Rest (number_behind n told) t later rest → Line Rest way n s expected spoken (status_before told later) (out ++ rest)
-line_answered Rest way n s expected spoken t None out (nothing, same, none) later rest h = rw none (line_skipped Rest way n s expected spoken later rest nothing (subst (λ (x : Sitting). Rest n x later rest) same h))
-line_answered Rest way n s expected spoken t (Some accepted) out told later rest h =
-    line_replied Rest way n s expected spoken (worse accepted later) (out ++ rest) told.something (record {
+-- an answer to the first line, followed by a run of the rest, is a run
+pub line_answered : (Rest : ℕ → Sitting → ℕ → List ℕ → Type 0) (setting : SessionSetting) (n : ℕ) (s : Sitting) (expected : Option Refusal) (spoken : Spoken) (t : Sitting) (told : Option Bool) (out : List ℕ) → IsAnswered setting n s expected spoken t told out →
+    (later : ℕ) (rest : List ℕ) → Rest (number_after n told) t later rest → Line Rest setting n s expected spoken (status_before told later) (out ++ rest)
+line_answered Rest setting n s expected spoken t None out (nothing, same, none) later rest h = rw none (line_skipped Rest setting n s expected spoken later rest nothing (subst (λ (x : Sitting). Rest n x later rest) same h))
+line_answered Rest setting n s expected spoken t (Some accepted) out told later rest h =
+    line_replied Rest setting n s expected spoken (worse accepted later) (out ++ rest) told.something (record {
       notice = told.notice;
       shows = told.shows;
       after = t;
@@ -102,15 +102,15 @@ line_answered Rest way n s expected spoken t (Some accepted) out told later rest
       out_is = refl;
     })
 
-pub run_answered : (way : Way) (n : ℕ) (s : Sitting) (text line more : List ℕ) (t : Sitting) (told : Option Bool) (out : List ℕ) → lines_of text ≡ line ∷ lines_of more → IsAnswered way n s (line_expects line) (line_says line) t told out →
-    (later : ℕ) (rest : List ℕ) → Runs way (number_behind n told) t (lines_of more) later rest → Runs way n s (lines_of text) (status_before told later) (out ++ rest)
-run_answered way n s text line more t told out e answered later rest h = rw e (line_answered (λ m x st o. Runs way m x (lines_of more) st o) way n s (line_expects line) (line_says line) t told out answered later rest h)
+pub run_answered : (setting : SessionSetting) (n : ℕ) (s : Sitting) (text line more : List ℕ) (t : Sitting) (told : Option Bool) (out : List ℕ) → lines_of text ≡ line ∷ lines_of more → IsAnswered setting n s (line_expects line) (line_says line) t told out →
+    (later : ℕ) (rest : List ℕ) → Runs setting (number_after n told) t (lines_of more) later rest → Runs setting n s (lines_of text) (status_before told later) (out ++ rest)
+run_answered setting n s text line more t told out e answered later rest h = rw e (line_answered (λ m x st o. Runs setting m x (lines_of more) st o) setting n s (line_expects line) (line_says line) t told out answered later rest h)
 
--- a reply, what it shows, a listing and the end of the answer
-pub told_of : (way : Way) (n : ℕ) (s : Sitting) (expected : Option Refusal) (spoken line_spoken : Spoken) (reply : Notice) (shows : List ℕ) (t : Sitting) (text : List ℕ) (accepted : Bool) →
-    spoken ≡ line_spoken → false ≡ says_nothing spoken → Replies way s spoken reply shows t → IsReplied way.manner.explain spoken (not way.manner.brief && not (asks spoken)) t.state n expected reply shows text → IsWithin way.manner.bytes reply → accepted ≡ is_right_under way.manner.strict expected reply shows →
-    IsToldOf way n s expected line_spoken t accepted (text ++ end_of way.manner.ends)
-told_of way n s expected spoken line_spoken reply shows t text accepted is f r told full well =
+-- an answer consists of a reply, the bytes that it shows, a listing and the empty line
+pub told_of : (setting : SessionSetting) (n : ℕ) (s : Sitting) (expected : Option Refusal) (spoken line_spoken : Spoken) (reply : Notice) (shows : List ℕ) (t : Sitting) (text : List ℕ) (accepted : Bool) →
+    spoken ≡ line_spoken → false ≡ says_nothing spoken → Replies setting s spoken reply shows t → IsReplied setting.session_options.explain spoken (not setting.session_options.brief && not (asks spoken)) t.state n expected reply shows text → IsWithin setting.session_options.bytes reply → accepted ≡ is_right_under setting.session_options.strict expected reply shows →
+    IsLineAnswered setting n s expected line_spoken t accepted (text ++ end_of setting.session_options.ends)
+told_of setting n s expected spoken line_spoken reply shows t text accepted is f r told full well =
     rw (← is) (record {
       notice = reply;
       shows = shows;
@@ -121,19 +121,19 @@ told_of way n s expected spoken line_spoken reply shows t text accepted is f r t
       right_is = well;
     })
 
--- ---- there is an output
+-- ---- each script has an output
 
 some_about : (explain : Bool) (notice : Notice) (spoken : Spoken) (m : Module) → (about : List ℕ) × IsAbout explain notice spoken m about
 some_about false notice spoken m = ([], refl)
 some_about true notice spoken m = (about_notice notice spoken m, inl refl)
 
-some_replied : (Rest : ℕ → Sitting → ℕ → List ℕ → Type 0) (way : Way) (n : ℕ) (s : Sitting) (expected : Option Refusal) (spoken : Spoken) (reply : Notice) (shows : List ℕ) (t : Sitting) → Replies way s spoken reply shows t → IsWithin way.manner.bytes reply → ((m : ℕ) (t : Sitting) → (st : ℕ) × (o : List ℕ) × Rest m t st o) → (st : ℕ) × (o : List ℕ) × Replied Rest way n s expected spoken st o
-some_replied Rest way n s expected spoken reply shows t r full some =
-    let about = some_about way.manner.explain reply spoken t.state.held in
-    let more = some_listing_if (not way.manner.brief && not (asks spoken)) t.state in
+some_replied : (Rest : ℕ → Sitting → ℕ → List ℕ → Type 0) (setting : SessionSetting) (n : ℕ) (s : Sitting) (expected : Option Refusal) (spoken : Spoken) (reply : Notice) (shows : List ℕ) (t : Sitting) → Replies setting s spoken reply shows t → IsWithin setting.session_options.bytes reply → ((m : ℕ) (t : Sitting) → (st : ℕ) × (o : List ℕ) × Rest m t st o) → (st : ℕ) × (o : List ℕ) × Replied Rest setting n s expected spoken st o
+some_replied Rest setting n s expected spoken reply shows t r full some =
+    let about = some_about setting.session_options.explain reply spoken t.state.held in
+    let more = some_listing_if (not setting.session_options.brief && not (asks spoken)) t.state in
     let rest = some (n + 1) t in
-    let told = (told_text n expected reply about.0 ++ (shows ++ more.0)) ++ end_of way.manner.ends in (
-      worse (is_right_under way.manner.strict expected reply shows) rest.0,
+    let told = (told_text n expected reply about.0 ++ (shows ++ more.0)) ++ end_of setting.session_options.ends in (
+      worse (is_right_under setting.session_options.strict expected reply shows) rest.0,
       told ++ rest.1,
       record {
         notice = reply;
@@ -151,25 +151,25 @@ some_replied Rest way n s expected spoken reply shows t r full some =
       },
     )
 
-some_line : (Rest : ℕ → Sitting → ℕ → List ℕ → Type 0) (way : Way) (n : ℕ) (s : Sitting) (expected : Option Refusal) (spoken : Spoken) → ((m : ℕ) (t : Sitting) → (st : ℕ) × (o : List ℕ) × Rest m t st o) → (st : ℕ) × (o : List ℕ) × Line Rest way n s expected spoken st o
-some_line Rest way n s expected Nothing some = some n s
-some_line Rest way n s expected Bad some = some_replied Rest way n s expected Bad (Plain (Says (Refused BadCommand))) [] s (refl, refl, refl) (λ why offset e. absurd cc) some
-some_line Rest way n s expected (Obey command) some =
-    let a = some_beside way.manner (own_of command s.book) s.state command in
-    some_replied Rest way n s expected (Obey command) (Plain a.0) a.1 (record { state = a.2; book = s.book }) (a.0, refl, a.3, refl) (within_of way.manner.bytes a.0 (λ why offset e. absurd (a.4 why offset e))) some
-some_line Rest way n s expected (Ordered order) some =
-    let a = some_ordered way s.book (mix_of order s.book) s.state order in
-    some_replied Rest way n s expected (Ordered order) (Plain a.0) a.1 (record { state = a.2; book = s.book }) (a.0, refl, a.3, refl) (within_of way.manner.bytes a.0 (beside_bounded way s.book way.manner.bytes (mix_of order s.book) s.state order a.0 a.1 a.2 a.3)) some
-some_line Rest way n s expected (Booked order) some = some_replied Rest way n s expected (Booked order) (Plain (Says (Refused Memory))) [] s (inl (refl, refl, refl), refl) (λ why offset e. absurd cc) some
+some_line : (Rest : ℕ → Sitting → ℕ → List ℕ → Type 0) (setting : SessionSetting) (n : ℕ) (s : Sitting) (expected : Option Refusal) (spoken : Spoken) → ((m : ℕ) (t : Sitting) → (st : ℕ) × (o : List ℕ) × Rest m t st o) → (st : ℕ) × (o : List ℕ) × Line Rest setting n s expected spoken st o
+some_line Rest setting n s expected Nothing some = some n s
+some_line Rest setting n s expected Bad some = some_replied Rest setting n s expected Bad (Plain (Says (Refused BadCommand))) [] s (refl, refl, refl) (λ why offset e. absurd cc) some
+some_line Rest setting n s expected (Obey command) some =
+    let a = some_beside setting.session_options (own_of command s.registry) s.state command in
+    some_replied Rest setting n s expected (Obey command) (Plain a.0) a.1 (record { state = a.2; registry = s.registry }) (a.0, refl, a.3, refl) (within_of setting.session_options.bytes a.0 (λ why offset e. absurd (a.4 why offset e))) some
+some_line Rest setting n s expected (Ordered session_command) some =
+    let a = some_ordered setting s.registry (list_command_of session_command s.registry) s.state session_command in
+    some_replied Rest setting n s expected (Ordered session_command) (Plain a.0) a.1 (record { state = a.2; registry = s.registry }) (a.0, refl, a.3, refl) (within_of setting.session_options.bytes a.0 (beside_bounded setting s.registry setting.session_options.bytes (list_command_of session_command s.registry) s.state session_command a.0 a.1 a.2 a.3)) some
+some_line Rest setting n s expected (Registered session_command) some = some_replied Rest setting n s expected (Registered session_command) (Plain (Says (Refused Memory))) [] s (inl (refl, refl, refl), refl) (λ why offset e. absurd cc) some
 
--- from each state each script has an output, as each command has an answer
-pub some_runs : (way : Way) (lines : List (List ℕ)) (n : ℕ) (s : Sitting) → (st : ℕ) × (o : List ℕ) × Runs way n s lines st o
-some_runs way [] n s = (0, [], (refl, refl))
-some_runs way (line ∷ lines) n s = some_line (λ m t st o. Runs way m t lines st o) way n s (line_expects line) (line_says line) (λ m t. some_runs way lines m t)
+-- each script has an output from each state, since each command has an answer
+pub some_runs : (setting : SessionSetting) (lines : List (List ℕ)) (n : ℕ) (s : Sitting) → (st : ℕ) × (o : List ℕ) × Runs setting n s lines st o
+some_runs setting [] n s = (0, [], (refl, refl))
+some_runs setting (line ∷ lines) n s = some_line (λ m t st o. Runs setting m t lines st o) setting n s (line_expects line) (line_says line) (λ m t. some_runs setting lines m t)
 
-pub runs_end : (way : Way) (n : ℕ) (s : Sitting) (text : List ℕ) → length text ≤ 0 → Runs way n s (lines_of text) 0 []
-runs_end way n s [] h = (refl, refl)
-runs_end way n s (b ∷ bs) h = absurd (omega arith)
+pub runs_end : (setting : SessionSetting) (n : ℕ) (s : Sitting) (text : List ℕ) → length text ≤ 0 → Runs setting n s (lines_of text) 0 []
+runs_end setting n s [] h = (refl, refl)
+runs_end setting n s (b ∷ bs) h = absurd (omega arith)
 
 pub filled : (text : List ℕ) (r : Bool) → r ≡ (length text == 0) → r ≡ false → 0 < length text
 filled [] r e f = absurd (let h : true ≡ false = sym e ∙ f in cc)

@@ -1,19 +1,19 @@
--- Sessions: boxes are attached, and then a script is run.
+-- Proofs about sessions: listeners are attached, and then a script runs.
 use Rattle.std.proofs.Common.{◌≡◌, ◌≤◌, ◌<◌, ◌++◌, ◌↔◌, IsTrue, refl, ap, subst, ℕ, List, Bool, false, arith, Result, Ok, Err}
 use Rattle.ir_event.specs.Modules.{Module}
 use Rattle.mlir_work_script_base.specs.Lines.{lines_of}
 use Rattle.mlir_work_script_base.specs.Writes.{Grows, GrowsFront, Stream}
 use Rattle.mlir_work_script_base.specs.Limits.{most_script_bytes}
 use Rattle.mlir_work_script_base.proofs.Joins.{grows_join, front_join, front_more}
-use Rattle.mlir_work_mixed.specs.transforms.rewriter.Machine.{State}
-use Rattle.mlir_work_mixed.specs.transforms.rewriter.Panels.{Shown}
-use Rattle.mlir_work_book.specs.Shelf.{Book}
-use Rattle.mlir_work_session.specs.Output.{Begun, Runs, Session, Way, opening, worse}
+use Rattle.mlir_work_transforms.specs.rewriter.Machine.{State}
+use Rattle.mlir_work_transforms.specs.rewriter.Panels.{Shown}
+use Rattle.mlir_work_registry.specs.Registry.{RegistryModel}
+use Rattle.mlir_work_session.specs.Output.{Begun, Runs, Session, SessionSetting, opening, worse}
 use Rattle.mlir_work_session.specs.Ran.{RanOut}
 use Rattle.mlir_work_session.proofs.Runs.{some_runs}
 
-module _ (way : Way) (start : Book) (boxes : List Shown) (m : Module) (script : List ℕ) where
-  session_of : (s : State) (accepted : Bool) (front : List ℕ) (later : ℕ) (rest : List ℕ) → Begun way.manner.ends boxes m s accepted front → Runs way 1 (opening start s) (lines_of script) later rest → Session way start boxes m script (worse accepted later) (front ++ rest)
+module _ (setting : SessionSetting) (start : RegistryModel) (boxes : List Shown) (m : Module) (script : List ℕ) where
+  session_of : (s : State) (accepted : Bool) (front : List ℕ) (later : ℕ) (rest : List ℕ) → Begun setting.session_options.ends boxes m s accepted front → Runs setting 1 (opening start s) (lines_of script) later rest → Session setting start boxes m script (worse accepted later) (front ++ rest)
   session_of s accepted front later rest h k = record {
     panel = h.panel;
     accepted = accepted;
@@ -21,26 +21,26 @@ module _ (way : Way) (start : Book) (boxes : List Shown) (m : Module) (script : 
     later = later;
     rest = rest;
     attached = h.attached;
-    runs = subst (λ (x : State). Runs way 1 (opening start x) (lines_of script) later rest) h.state_is k;
+    runs = subst (λ (x : State). Runs setting 1 (opening start x) (lines_of script) later rest) h.state_is k;
     status_is = refl;
     out_is = ap (λ (xs : List ℕ). xs ++ rest) h.out_is;
   }
 
-  -- the boxes were attached, and then the script ran to its end
-  pub session_ran : (a b c : Stream) (s : State) (accepted : Bool) (front : List ℕ) (later : ℕ) (rest : List ℕ) → Begun way.manner.ends boxes m s accepted front → Grows a b front → Runs way 1 (opening start s) (lines_of script) later rest → Grows b c rest →
-      (out : List ℕ) × Session way start boxes m script (worse accepted later) out × Grows a c out
+  -- the listeners were attached and the script ran to its end
+  pub session_ran : (a b c : Stream) (s : State) (accepted : Bool) (front : List ℕ) (later : ℕ) (rest : List ℕ) → Begun setting.session_options.ends boxes m s accepted front → Grows a b front → Runs setting 1 (opening start s) (lines_of script) later rest → Grows b c rest →
+      (out : List ℕ) × Session setting start boxes m script (worse accepted later) out × Grows a c out
   session_ran a b c s accepted front later rest h wrote k more = (front ++ rest, session_of s accepted front later rest h k, grows_join a b c front rest wrote more)
 
-  -- or not
-  pub session_cut : (a b c : Stream) (s : State) (accepted : Bool) (front : List ℕ) (later : ℕ) (rest : List ℕ) → Begun way.manner.ends boxes m s accepted front → Grows a b front → Runs way 1 (opening start s) (lines_of script) later rest → GrowsFront b c rest →
-      (status : ℕ) × (out : List ℕ) × Session way start boxes m script status out × GrowsFront a c out
+  -- the listeners were attached and a write failed while the script ran
+  pub session_cut : (a b c : Stream) (s : State) (accepted : Bool) (front : List ℕ) (later : ℕ) (rest : List ℕ) → Begun setting.session_options.ends boxes m s accepted front → Grows a b front → Runs setting 1 (opening start s) (lines_of script) later rest → GrowsFront b c rest →
+      (status : ℕ) × (out : List ℕ) × Session setting start boxes m script status out × GrowsFront a c out
   session_cut a b c s accepted front later rest h wrote k more = (worse accepted later, front ++ rest, session_of s accepted front later rest h k, front_join a b c front rest wrote more)
 
-  -- or the boxes weren't all attached
-  pub session_begun : (a b : Stream) (s : State) (accepted : Bool) (front : List ℕ) → Begun way.manner.ends boxes m s accepted front → GrowsFront a b front →
-      (status : ℕ) × (out : List ℕ) × Session way start boxes m script status out × GrowsFront a b out
+  -- a write failed while the listeners were attached
+  pub session_begun : (a b : Stream) (s : State) (accepted : Bool) (front : List ℕ) → Begun setting.session_options.ends boxes m s accepted front → GrowsFront a b front →
+      (status : ℕ) × (out : List ℕ) × Session setting start boxes m script status out × GrowsFront a b out
   session_begun a b s accepted front h wrote =
-      let some = some_runs way (lines_of script) 1 (opening start s) in
+      let some = some_runs setting (lines_of script) 1 (opening start s) in
       (worse accepted some.0, front ++ some.1, session_of s accepted front some.0 some.1 h some.2, front_more a b front some.1 wrote)
 
 pub short : (n : ℕ) (long : Bool) → (IsTrue long ↔ (most_script_bytes < n)) → long ≡ false → n ≤ most_script_bytes

@@ -1,5 +1,5 @@
--- The output of a script, as a relation: memory may be refused at any command, and a listener may turn stale
--- where it is told of an edit. All else is determined.
+-- The output of a script, as a relation: any command may be refused because memory ran out, and a listener may become
+-- stale when it is notified of an edit. Everything else is determined.
 use Rattle.std.specs.Prelude.{◌≡◌, ℕ, ◌+◌, ◌<◌, ◌≤◌, List, [], ◌∷◌, ◌++◌, length, Bool, true, false, not, ◌&&◌, ◌⊎◌, Option, Some, None, is_none, if◌then◌else◌, codes}
 use Rattle.ir_event.specs.types.declared.refusal.Refusal.{Refusal}
 use Rattle.ir_event.specs.types.declared.refusal.Refusal.TheVariants.{BadCommand, KindTaken, Memory}
@@ -7,58 +7,58 @@ use Rattle.ir_event.specs.Modules.{Module}
 use Rattle.ir_event.specs.Rows.{RowTerm}
 use Rattle.ir_event.specs.trees.Meaning.{Operation}
 use Rattle.ir_text.specs.Printing.{text_of}
-use Rattle.mlir_work_mixed.specs.transforms.rewriter.Commands.{Command, Report, Print}
-use Rattle.mlir_work_mixed.specs.transforms.rewriter.Commands.{Replied as Says}
-use Rattle.mlir_work_mixed.specs.transforms.rewriter.Machine.{State, Refused}
-use Rattle.mlir_work_mixed.specs.transforms.rewriter.Panels.{Shown, Attached, has_kind}
-use Rattle.mlir_work_script.specs.Commands.{Spoken, Nothing, Bad, Obey, Ordered, Booked, line_says}
+use Rattle.mlir_work_transforms.specs.rewriter.Commands.{Command, Report, Print}
+use Rattle.mlir_work_transforms.specs.rewriter.Commands.{Replied as Says}
+use Rattle.mlir_work_transforms.specs.rewriter.Machine.{State, Refused}
+use Rattle.mlir_work_transforms.specs.rewriter.Panels.{Shown, Attached, has_kind}
+use Rattle.mlir_work_script.specs.Commands.{Spoken, Nothing, Bad, Obey, Ordered, Registered, line_says}
 use Rattle.mlir_work_script.specs.Expecting.{line_expects}
 use Rattle.mlir_work_script_base.specs.Limits.{most_script_bytes}
 use Rattle.mlir_work_script_base.specs.Lines.{lines_of}
-use Rattle.mlir_work_script.specs.Orders.{Order, PrintIds, ReportOf, Why}
+use Rattle.mlir_work_script.specs.SessionCommands.{SessionCommand, PrintIds, ReportOf, Why}
 use Rattle.mlir_work_script.specs.Replies.{refused_line, attach_refused_line, kind_line, stale_line, kind_memory_line, module_memory_line}
-use Rattle.mlir_work_book.specs.Notices.{IsWithin, Notice, Plain, is_right_under}
-use Rattle.mlir_work_book.specs.Shelf.{Book}
-use Rattle.mlir_work_book.specs.Shelves.{Shelves}
+use Rattle.mlir_work_registry.specs.Notices.{IsWithin, Notice, Plain, is_right_under}
+use Rattle.mlir_work_registry.specs.Registry.{RegistryModel}
+use Rattle.mlir_work_registry.specs.Registries.{Registries}
 use Rattle.mlir_work_session_base.specs.RowText.{rows_text}
 use Rattle.mlir_work_session.specs.Explained.{IsAbout}
-use Rattle.mlir_work_session.specs.Mixing.{FulfilsBeside, mix_of}
-use Rattle.mlir_work_session.specs.Sittings.{ByBench, ObeysBeside, own_of}
-pub use Rattle.mlir_work_book.specs.Notices.{is_right}
-pub use Rattle.mlir_work_book.specs.Explained.{told_text}
-pub use Rattle.mlir_work_book.specs.Told.{reply_text}
-pub use Rattle.mlir_work_session.specs.Machine.{Way, way_of}
+use Rattle.mlir_work_session.specs.RuleLists.{RunsListCommand, list_command_of}
+use Rattle.mlir_work_session.specs.Sittings.{ByBench, RunsPatternCommand, own_of}
+pub use Rattle.mlir_work_registry.specs.Notices.{is_right}
+pub use Rattle.mlir_work_registry.specs.Explained.{told_text}
+pub use Rattle.mlir_work_registry.specs.Told.{reply_text}
+pub use Rattle.mlir_work_session.specs.Machine.{SessionSetting, session_setting}
 pub use Rattle.mlir_work_session.specs.Sittings.{Sitting, opening}
-pub use Rattle.mlir_work_session.specs.declared.manner.Manner.{Manner}
+pub use Rattle.mlir_work_session.specs.declared.options.SessionOptions.{SessionOptions}
 
--- the status is 1 where something wasn't right
+-- the status is 1 if some line wasn't right
 abbrev pub worse : Bool → ℕ → ℕ
 worse accepted status = if accepted then status else 1
 
 -- ---- listings
 
--- the text of a module, or that there was no memory for it
+-- the text of a module, or the line that memory ran out
 abbrev pub IsModule : Operation → List ℕ → Type 0
 IsModule t out = (out ≡ text_of t) ⊎ (out ≡ module_memory_line)
 
--- rows under the line of their kind, or no memory for them
+-- report rows below the heading of their kind, or the line that memory ran out
 abbrev pub AreRows : ℕ → List RowTerm → List ℕ → Type 0
 AreRows kind rows out = (out ≡ kind_memory_line kind) ⊎ (out ≡ kind_line kind ++ rows_text rows)
 
--- of one that is stale, that it is; else its rows, or no memory for them
+-- the report of an analysis: a line that says that it is stale, its rows, or the line that memory ran out
 abbrev pub IsKind : Operation → Shown → List ℕ → Type 0
 IsKind t k out = ((k.stale ≡ true) × (out ≡ stale_line k.kind)) ⊎ ((k.stale ≡ false) × AreRows k.kind (k.analysis t) out)
 
--- and of each attached one, in order
+-- the reports of all attached analyses, in order
 abbrev pub AreKinds : Operation → List Shown → List ℕ → Type 0
 AreKinds t [] out = out ≡ []
 AreKinds t (k ∷ ks) out = (first : List ℕ) × (rest : List ℕ) × IsKind t k first × AreKinds t ks rest × (out ≡ first ++ rest)
 
--- the module and the analyses
+-- a listing: the module and the reports
 abbrev pub IsListing : State → List ℕ → Type 0
 IsListing s out = (first : List ℕ) × (rest : List ℕ) × IsModule s.held.tree first × AreKinds s.held.tree s.panel rest × (out ≡ first ++ rest)
 
--- a listing, where one is due
+-- a listing, if the line gets one
 abbrev pub IsListingIf : Bool → State → List ℕ → Type 0
 IsListingIf true s out = IsListing s out
 IsListingIf false s out = out ≡ []
@@ -69,17 +69,17 @@ abbrev pub says_nothing : Spoken → Bool
 says_nothing Nothing = true
 says_nothing Bad = false
 says_nothing (Obey command) = false
-says_nothing (Ordered order) = false
-says_nothing (Booked order) = false
+says_nothing (Ordered session_command) = false
+says_nothing (Registered session_command) = false
 
--- whether a command asks to be shown something, and so gets no listing
+-- whether a command only shows something, so that no listing follows
 abbrev pub shows_alone : Command → Bool
 shows_alone (Report kind) = true
 shows_alone Print = true
 shows_alone _ = false
 
--- and whether an order does; one about patterns leaves the module, and gets none either
-abbrev pub order_asks : Order → Bool
+-- the same for session commands; registry commands don't change the module and get no listing either
+abbrev pub order_asks : SessionCommand → Bool
 order_asks PrintIds = true
 order_asks (Why x name) = true
 order_asks (ReportOf kind subject) = true
@@ -89,113 +89,114 @@ abbrev pub asks : Spoken → Bool
 asks Nothing = false
 asks Bad = false
 asks (Obey command) = shows_alone command
-asks (Ordered order) = order_asks order
-asks (Booked order) = true
+asks (Ordered session_command) = order_asks session_command
+asks (Registered session_command) = true
 
--- what a line that isn't nothing is told
-abbrev pub Replies : Way → Sitting → Spoken → Notice → List ℕ → Sitting → Type 0
-Replies way s Nothing notice shows t = ⊥
-Replies way s Bad notice shows t = (notice ≡ Plain (Says (Refused BadCommand))) × (shows ≡ []) × (t ≡ s)
-Replies way s (Obey command) notice shows t =
-    ByBench (λ response u. ObeysBeside way.manner (own_of command s.book) s.state command response shows u) s notice t
-Replies way s (Ordered order) notice shows t =
-    ByBench (λ response u. FulfilsBeside way s.book (mix_of order s.book) s.state order response shows u) s notice t
-Replies way s (Booked order) notice shows t = Shelves order s.book notice shows t.book × (t.state ≡ s.state)
+-- the response to a line that isn't empty
+abbrev pub Replies : SessionSetting → Sitting → Spoken → Notice → List ℕ → Sitting → Type 0
+Replies setting s Nothing notice shows t = ⊥
+Replies setting s Bad notice shows t = (notice ≡ Plain (Says (Refused BadCommand))) × (shows ≡ []) × (t ≡ s)
+Replies setting s (Obey command) notice shows t =
+    ByBench (λ response u. RunsPatternCommand setting.session_options (own_of command s.registry) s.state command response shows u) s notice t
+Replies setting s (Ordered session_command) notice shows t =
+    ByBench (λ response u. RunsListCommand setting s.registry (list_command_of session_command s.registry) s.state session_command response shows u) s notice t
+Replies setting s (Registered session_command) notice shows t = Registries session_command s.registry notice shows t.registry × (t.state ≡ s.state)
 
--- a reply, with what a refusal is about where that is to be told, what it shows, and a listing where one is due
+-- the written answer: the numbered reply with its note, the bytes that it shows, and a listing if the line gets one
 abbrev pub IsReplied : Bool → Spoken → Bool → State → ℕ → Option Refusal → Notice → List ℕ → List ℕ → Type 0
 IsReplied explain spoken listed t n expected notice shows out =
     (about : List ℕ) × (more : List ℕ) × IsAbout explain notice spoken t.held about × IsListingIf listed t more
     × (out ≡ told_text n expected notice about ++ (shows ++ more))
 
--- the end of an answer: an empty line, where one is due
+-- the empty line after an answer, if `ends` is set
 abbrev pub end_of : Bool → List ℕ
 end_of true = codes "\n"
 end_of false = []
 
--- an answer with P, and its end
+-- an answer that satisfies `P`, followed by its empty line
 abbrev pub IsEnded : Bool → (List ℕ → Type 0) → List ℕ → Type 0
 IsEnded ends P out = (text : List ℕ) × P text × (out ≡ text ++ end_of ends)
 
--- a line is replied to, which expects this, and the rest follows
-pub record Replied (Rest : ℕ → Sitting → ℕ → List ℕ → Type 0) (way : Way) (n : ℕ) (s : Sitting) (expected : Option Refusal) (spoken : Spoken) (status : ℕ) (out : List ℕ) : Type 0 where
+-- a line is answered, and the other lines follow; `expected` is the refusal that the line expects
+pub record Replied (Rest : ℕ → Sitting → ℕ → List ℕ → Type 0) (setting : SessionSetting) (n : ℕ) (s : Sitting) (expected : Option Refusal) (spoken : Spoken) (status : ℕ) (out : List ℕ) : Type 0 where
   pub notice : Notice
   pub shows : List ℕ
   pub after : Sitting
   pub text : List ℕ
   pub later : ℕ
   pub rest : List ℕ
-  pub replies : Replies way s spoken notice shows after
-  pub replied : IsEnded way.manner.ends (IsReplied way.manner.explain spoken (not way.manner.brief && not (asks spoken)) after.state n expected notice shows) text
-  pub full : IsWithin way.manner.bytes notice
+  pub replies : Replies setting s spoken notice shows after
+  pub replied : IsEnded setting.session_options.ends (IsReplied setting.session_options.explain spoken (not setting.session_options.brief && not (asks spoken)) after.state n expected notice shows) text
+  pub full : IsWithin setting.session_options.bytes notice
   pub goes_on : Rest (n + 1) after later rest
-  pub status_is : status ≡ worse (is_right_under way.manner.strict expected notice shows) later
+  pub status_is : status ≡ worse (is_right_under setting.session_options.strict expected notice shows) later
   pub out_is : out ≡ text ++ rest
 
-abbrev pub Line : (ℕ → Sitting → ℕ → List ℕ → Type 0) → Way → ℕ → Sitting → Option Refusal → Spoken → ℕ → List ℕ → Type 0
-Line Rest way n s expected Nothing status out = Rest n s status out
-Line Rest way n s expected Bad status out = Replied Rest way n s expected Bad status out
-Line Rest way n s expected (Obey command) status out = Replied Rest way n s expected (Obey command) status out
-Line Rest way n s expected (Ordered order) status out = Replied Rest way n s expected (Ordered order) status out
-Line Rest way n s expected (Booked order) status out = Replied Rest way n s expected (Booked order) status out
+abbrev pub Line : (ℕ → Sitting → ℕ → List ℕ → Type 0) → SessionSetting → ℕ → Sitting → Option Refusal → Spoken → ℕ → List ℕ → Type 0
+Line Rest setting n s expected Nothing status out = Rest n s status out
+Line Rest setting n s expected Bad status out = Replied Rest setting n s expected Bad status out
+Line Rest setting n s expected (Obey command) status out = Replied Rest setting n s expected (Obey command) status out
+Line Rest setting n s expected (Ordered session_command) status out = Replied Rest setting n s expected (Ordered session_command) status out
+Line Rest setting n s expected (Registered session_command) status out = Replied Rest setting n s expected (Registered session_command) status out
 
--- from s, with n the next number, these lines may give this status and this output
-abbrev pub Runs : Way → ℕ → Sitting → List (List ℕ) → ℕ → List ℕ → Type 0
-Runs way n s [] status out = (status ≡ 0) × (out ≡ [])
-Runs way n s (line ∷ lines) status out = Line (λ m t st o. Runs way m t lines st o) way n s (line_expects line) (line_says line) status out
+-- from state `s`, with `n` as the next number, these lines may give this status and this output
+abbrev pub Runs : SessionSetting → ℕ → Sitting → List (List ℕ) → ℕ → List ℕ → Type 0
+Runs setting n s [] status out = (status ≡ 0) × (out ≡ [])
+Runs setting n s (line ∷ lines) status out = Line (λ m t st o. Runs setting m t lines st o) setting n s (line_expects line) (line_says line) status out
 
--- ---- one line
+-- ---- the answer to a line
 
--- a line with the number n is replied to: what came is right or not, this is written, and the state is then t
-pub record IsToldOf (way : Way) (n : ℕ) (s : Sitting) (expected : Option Refusal) (spoken : Spoken) (t : Sitting) (right : Bool) (out : List ℕ) : Type 0 where
+-- a line is answered under the number `n`: `right` says whether the outcome was right, `out` is written, and `t` is
+-- the next state
+pub record IsLineAnswered (setting : SessionSetting) (n : ℕ) (s : Sitting) (expected : Option Refusal) (spoken : Spoken) (t : Sitting) (right : Bool) (out : List ℕ) : Type 0 where
   pub notice : Notice
   pub shows : List ℕ
   pub something : says_nothing spoken ≡ false
-  pub replies : Replies way s spoken notice shows t
-  pub replied : IsEnded way.manner.ends (IsReplied way.manner.explain spoken (not way.manner.brief && not (asks spoken)) t.state n expected notice shows) out
-  pub full : IsWithin way.manner.bytes notice
-  pub right_is : right ≡ is_right_under way.manner.strict expected notice shows
+  pub replies : Replies setting s spoken notice shows t
+  pub replied : IsEnded setting.session_options.ends (IsReplied setting.session_options.explain spoken (not setting.session_options.brief && not (asks spoken)) t.state n expected notice shows) out
+  pub full : IsWithin setting.session_options.bytes notice
+  pub right_is : right ≡ is_right_under setting.session_options.strict expected notice shows
 
--- one step of the machine: a line says nothing, and nothing is written; or it is replied to, and what came is right or not
-abbrev pub IsAnswered : Way → ℕ → Sitting → Option Refusal → Spoken → Sitting → Option Bool → List ℕ → Type 0
-IsAnswered way n s expected spoken t None out = (says_nothing spoken ≡ true) × (t ≡ s) × (out ≡ [])
-IsAnswered way n s expected spoken t (Some right) out = IsToldOf way n s expected spoken t right out
+-- one step of the machine: an empty line writes nothing, and any other line is answered
+abbrev pub IsAnswered : SessionSetting → ℕ → Sitting → Option Refusal → Spoken → Sitting → Option Bool → List ℕ → Type 0
+IsAnswered setting n s expected spoken t None out = (says_nothing spoken ≡ true) × (t ≡ s) × (out ≡ [])
+IsAnswered setting n s expected spoken t (Some right) out = IsLineAnswered setting n s expected spoken t right out
 
--- the number of the next reply, behind what came of a line
-abbrev pub number_behind : ℕ → Option Bool → ℕ
-number_behind n None = n
-number_behind n (Some accepted) = n + 1
+-- the number of the next reply after a line
+abbrev pub number_after : ℕ → Option Bool → ℕ
+number_after n None = n
+number_after n (Some accepted) = n + 1
 
--- whether all was right, behind what came of a line
-abbrev pub accepted_behind : Bool → Option Bool → Bool
-accepted_behind accepted None = accepted
-accepted_behind accepted (Some more) = accepted && more
+-- whether all lines were right, after this line
+abbrev pub accepted_after : Bool → Option Bool → Bool
+accepted_after accepted None = accepted
+accepted_after accepted (Some more) = accepted && more
 
--- ---- boxes that are attached
+-- ---- attaching listeners
 
--- a box is added last, begun; or refused, since one of its kind is attached, or for want of memory
+-- a new listener is attached as the last one, or refused because its kind is attached already or memory ran out
 abbrev pub BoxTried : Shown → List Shown → List Shown → Option Refusal → Type 0
 BoxTried b old new None = (has_kind b.kind old ≡ false) × Attached b old new
 BoxTried b old new (Some KindTaken) = (has_kind b.kind old ≡ true) × (new ≡ old)
 BoxTried b old new (Some Memory) = (has_kind b.kind old ≡ false) × (new ≡ old)
 BoxTried b old new (Some _) = ⊥
 
--- the line of a box: only one that is refused has one
+-- the error line of a refused listener; an attached listener has none
 abbrev pub box_line : ℕ → Option Refusal → List ℕ
 box_line kind None = []
 box_line kind (Some refusal) = attach_refused_line kind refusal
 
--- boxes are attached in order: what the panel then is, whether all were accepted, and the lines
+-- listeners are attached in order: the resulting listeners, whether all were accepted, and the error lines
 abbrev pub Attaches : List Shown → List Shown → List Shown → Bool → List ℕ → Type 0
 Attaches [] old new accepted out = (new ≡ old) × (accepted ≡ true) × (out ≡ [])
 Attaches (b ∷ bs) old new accepted out =
-    (mid : List Shown) × (tried : Option Refusal) × (there : Bool) × (rest : List ℕ)
-    × BoxTried b old mid tried × Attaches bs mid new there rest × (accepted ≡ (is_none tried && there)) × (out ≡ box_line b.kind tried ++ rest)
+    (mid : List Shown) × (candidates : Option Refusal) × (there : Bool) × (rest : List ℕ)
+    × BoxTried b old mid candidates × Attaches bs mid new there rest × (accepted ≡ (is_none candidates && there)) × (out ≡ box_line b.kind candidates ++ rest)
 
--- ---- a module that was read
+-- ---- sessions on a parsed module
 
--- the answer to a module: boxes are attached to a panel that has none; whether all were accepted, the state with which
--- lines begin, and what is written
+-- the answer to a module: listeners are attached to an empty list; gives the state at which the script starts,
+-- whether all were accepted, and the bytes written
 pub record Begun (ends : Bool) (boxes : List Shown) (m : Module) (s : State) (accepted : Bool) (out : List ℕ) : Type 0 where
   pub panel : List Shown
   pub front : List ℕ
@@ -203,23 +204,23 @@ pub record Begun (ends : Bool) (boxes : List Shown) (m : Module) (s : State) (ac
   pub state_is : s ≡ record { held = m; marks = []; panel = panel }
   pub out_is : out ≡ front ++ end_of ends
 
--- boxes are attached to a panel that has none, and then the lines of a script are run, beside these patterns
-pub record Session (way : Way) (start : Book) (boxes : List Shown) (m : Module) (script : List ℕ) (status : ℕ) (out : List ℕ) : Type 0 where
+-- listeners are attached to an empty list, and then the lines of a script run with the user patterns of `start`
+pub record Session (setting : SessionSetting) (start : RegistryModel) (boxes : List Shown) (m : Module) (script : List ℕ) (status : ℕ) (out : List ℕ) : Type 0 where
   pub panel : List Shown
   pub accepted : Bool
   pub front : List ℕ
   pub later : ℕ
   pub rest : List ℕ
   pub attached : Attaches boxes [] panel accepted front
-  pub runs : Runs way 1 (opening start (record { held = m; marks = []; panel = panel })) (lines_of script) later rest
+  pub runs : Runs setting 1 (opening start (record { held = m; marks = []; panel = panel })) (lines_of script) later rest
   pub status_is : status ≡ worse accepted later
-  pub out_is : out ≡ (front ++ end_of way.manner.ends) ++ rest
+  pub out_is : out ≡ (front ++ end_of setting.session_options.ends) ++ rest
 
--- a script that is too long is one command that is none
+-- a script over the size limit is answered like one bad command
 abbrev pub IsBadScript : ℕ → List ℕ → Type 0
 IsBadScript status out = (status ≡ 1) × (out ≡ refused_line 1 BadCommand)
 
--- this status and these bytes are an output of a script over a module, with these patterns and boxes
-abbrev pub IsSession : Way → Book → List Shown → Module → List ℕ → ℕ → List ℕ → Type 0
-IsSession way start boxes m script status out =
-    ((most_script_bytes < length script) × IsBadScript status out) ⊎ ((length script ≤ most_script_bytes) × Session way start boxes m script status out)
+-- this status and these bytes are an output of a script on a module, with these user patterns and listeners
+abbrev pub IsSession : SessionSetting → RegistryModel → List Shown → Module → List ℕ → ℕ → List ℕ → Type 0
+IsSession setting start boxes m script status out =
+    ((most_script_bytes < length script) × IsBadScript status out) ⊎ ((length script ≤ most_script_bytes) × Session setting start boxes m script status out)

@@ -1,32 +1,32 @@
-//! Entries as a command names them: the text of an attribute is read, and a key is interned.
+//! Attribute keys and attribute texts of commands: parses an attribute text and interns a key.
 ghost use Rattle.std.specs.Prelude.{◌≡◌, ℕ, Err, IfOk, IfErr, IfSome};
 ghost use Rattle.ir_event.specs.types.Things.{IsName, IsAttr};
 ghost use Rattle.ir_event.specs.types.Terms.{name_term, attr_term};
 ghost use Rattle.ir_event.specs.types.declared.refusal.Refusal.{Refusal as Reason};
-ghost use Rattle.ir_text.specs.Public.{IsTold};
+ghost use Rattle.ir_text.specs.Public.{IsTextRefusal};
 ghost use Rattle.ir_text.specs.Public.{IsNoAttr};
 ghost use Rattle.ir_text.specs.Public.{SpellsAttr};
 ghost use Rattle.mlir_work_script_base.specs.Keys.{key_bytes};
-ghost use Rattle.mlir_work_mixed.specs.transforms.rewriter.Commands.{IsAttrRefusal};
+ghost use Rattle.mlir_work_transforms.specs.rewriter.Commands.{IsAttrRefusal};
 ghost use Rattle.mlir_work_session.specs.Texts.{Grown, NotRead};
 ghost use Rattle.mlir_work_session.specs.Machine.{response_of};
 
+use crate::parse_error::reply_unparsed;
 use crate::reply::Reply;
-use crate::unread::reply_unread;
 use ir_event::analysis::Analysis;
 use ir_event::types::ids::{AttrId, NameId};
 use ir_event::types::refusal::Refusal;
 use ir_text::reader::ReadError;
-use mlir_work_mixed::transforms::rewriter::Bench;
-use mlir_work_mixed::transforms::rewriter::laws::led_benches_are_kept;
 use mlir_work_script_base::keys::{Key, bytes_of};
+use mlir_work_transforms::rewriter::Bench;
+use mlir_work_transforms::rewriter::laws::led_benches_are_kept;
 use std::alloc::Global;
 
-/// The attribute that a text spells.
+/// Parses an attribute text.
 fn parse<L: Analysis>(bench: &mut Bench<L>, text: &[u8]) -> Result<AttrId, ReadError>
-    ensures attr { IfOk result (λ a. IsAttr bench.new.desk.ctx a × SpellsAttr bench.old.desk.ctx.opaque text.now (attr_term bench.new.desk.ctx a)) }
-    ensures refused { (r : Reason) (o : ℕ) → result ≡ Err (ReadError.Refused r o) → IsNoAttr (SpellsAttr bench.old.desk.ctx.opaque text.now) }
-    ensures told { IfErr result (λ e. IsTold text.now e) }
+    ensures attr { IfOk result (λ a. IsAttr bench.new.transaction.ctx a × SpellsAttr bench.old.transaction.ctx.opaque text.now (attr_term bench.new.transaction.ctx a)) }
+    ensures refused { (r : Reason) (o : ℕ) → result ≡ Err (ReadError.Refused r o) → IsNoAttr (SpellsAttr bench.old.transaction.ctx.opaque text.now) }
+    ensures told { IfErr result (λ e. IsTextRefusal text.now e) }
     ensures grown { Grown L.meaning bench.old bench.new }
 {
     led_benches_are_kept::<L>();
@@ -36,25 +36,25 @@ fn parse<L: Analysis>(bench: &mut Bench<L>, text: &[u8]) -> Result<AttrId, ReadE
     read
 }
 
-/// The attribute that a text of an input of so many bytes spells, or the reply where it isn't read.
+/// Parses an attribute text. Returns the reply to write if parsing fails; `bytes` is the length of the whole input.
 fn attribute_of<L: Analysis>(
     bytes: usize,
     bench: &mut Bench<L>,
     text: &[u8],
 ) -> Result<AttrId, Reply>
-    ensures attr { IfOk result (λ a. IsAttr bench.new.desk.ctx a × SpellsAttr bench.old.desk.ctx.opaque text.now (attr_term bench.new.desk.ctx a)) }
-    ensures unread { IfErr result (λ reply. NotRead bytes IsAttrRefusal (SpellsAttr bench.old.desk.ctx.opaque text.now) (response_of reply)) }
+    ensures attr { IfOk result (λ a. IsAttr bench.new.transaction.ctx a × SpellsAttr bench.old.transaction.ctx.opaque text.now (attr_term bench.new.transaction.ctx a)) }
+    ensures unparsed { IfErr result (λ reply. NotRead bytes IsAttrRefusal (SpellsAttr bench.old.transaction.ctx.opaque text.now) (response_of reply)) }
     ensures grown { Grown L.meaning bench.old bench.new }
 {
     match parse(bench, text) {
         Ok(attribute) => Ok(attribute),
-        Err(error) => Err(reply_unread(bytes, &error)),
+        Err(error) => Err(reply_unparsed(bytes, &error)),
     }
 }
 
-/// The number of a name, in a context that grows with it.
+/// Interns a name in the context and returns its number, or `None` if memory or the name table runs out.
 fn intern<L: Analysis>(bench: &mut Bench<L>, bytes: &[u8]) -> Option<NameId>
-    ensures name { IfSome result (λ k. IsName bench.new.desk.ctx k × (name_term bench.new.desk.ctx k ≡ bytes.now)) }
+    ensures name { IfSome result (λ k. IsName bench.new.transaction.ctx k × (name_term bench.new.transaction.ctx k ≡ bytes.now)) }
     ensures grown { Grown L.meaning bench.old bench.new }
 {
     led_benches_are_kept::<L>();
@@ -67,13 +67,13 @@ fn intern<L: Analysis>(bench: &mut Bench<L>, bytes: &[u8]) -> Option<NameId>
     }
 }
 
-/// The number of a key's name, or none where there is no room for it.
+/// Interns the name of a key and returns its number, or `None` if there is no room for the name.
 pub(crate) fn name_of<L: Analysis>(
     alloc: Global,
     bench: &mut Bench<L>,
     key: &Key<'_>,
 ) -> Option<NameId>
-    ensures name { IfSome result (λ k. IsName bench.new.desk.ctx k × (name_term bench.new.desk.ctx k ≡ key_bytes key.now)) }
+    ensures name { IfSome result (λ k. IsName bench.new.transaction.ctx k × (name_term bench.new.transaction.ctx k ≡ key_bytes key.now)) }
     ensures grown { Grown L.meaning bench.old bench.new }
 {
     led_benches_are_kept::<L>();
@@ -84,7 +84,8 @@ pub(crate) fn name_of<L: Analysis>(
     intern(bench, &bytes)
 }
 
-/// A key and the attribute that a text spells, or the reply where the text isn't read, or there is no room for the key.
+/// Interns a key and parses its attribute text. Returns the reply to write if the text is refused or there is no room
+/// for the key.
 pub(crate) fn entry_of<L: Analysis>(
     alloc: Global,
     bytes: usize,
@@ -92,9 +93,9 @@ pub(crate) fn entry_of<L: Analysis>(
     key: &Key<'_>,
     text: &[u8],
 ) -> Result<(NameId, AttrId), Reply>
-    ensures key { IfOk result (λ x. IsName bench.new.desk.ctx x.0 × (name_term bench.new.desk.ctx x.0 ≡ key_bytes key.now)) }
-    ensures attr { IfOk result (λ x. IsAttr bench.new.desk.ctx x.1 × SpellsAttr bench.old.desk.ctx.opaque text.now (attr_term bench.new.desk.ctx x.1)) }
-    ensures unread { IfErr result (λ reply. NotRead bytes IsAttrRefusal (SpellsAttr bench.old.desk.ctx.opaque text.now) (response_of reply)) }
+    ensures key { IfOk result (λ x. IsName bench.new.transaction.ctx x.0 × (name_term bench.new.transaction.ctx x.0 ≡ key_bytes key.now)) }
+    ensures attr { IfOk result (λ x. IsAttr bench.new.transaction.ctx x.1 × SpellsAttr bench.old.transaction.ctx.opaque text.now (attr_term bench.new.transaction.ctx x.1)) }
+    ensures unparsed { IfErr result (λ reply. NotRead bytes IsAttrRefusal (SpellsAttr bench.old.transaction.ctx.opaque text.now) (response_of reply)) }
     ensures grown { Grown L.meaning bench.old bench.new }
 {
     let attribute = match attribute_of(bytes, bench, text) {

@@ -1,40 +1,42 @@
-//! What a script gives over a module and its listeners is an output of the script: the reply to each
-//! command, what it shows, and the module and the rows of each listener after it.
+//! Runs scripts on a module and its listeners. The output has the reply to each command, the bytes that the command
+//! shows, and the module and each listener's report rows after it.
 #![tactic(auto)]
 
+pub mod attach;
 mod attributes;
-pub mod beside;
-pub mod boxes;
 pub mod commands;
 mod edits;
-mod explaining;
 pub mod listing;
-pub mod manner;
 mod marks;
-pub mod mixing;
+mod notes;
 pub mod opening;
 mod operations;
-pub mod orders;
+pub mod options;
+mod parse_error;
+pub mod pattern_commands;
 mod places;
 pub mod prints;
 mod replying;
+pub mod rule_lists;
 pub mod script;
 pub mod session;
+pub mod session_commands;
 pub mod shows;
 mod subjects;
 mod texts;
 mod tracing;
 mod transforming;
-mod unread;
 mod why;
 
 pub use ir_text::reader;
-pub use mlir_work_book::{book, notice, reply};
-pub use mlir_work_mixed::transforms::greedy;
-pub use mlir_work_mixed::transforms::rewriter::Bench;
-pub use mlir_work_script::{book_order, command, expect, order, outcome, replies};
-pub use mlir_work_script_base::{
-    cells, clauses, input, items, keys, kind, lines, numbers, rule_name, sink, source, spots,
-    subject, values, watched, words, writing,
+pub use mlir_work_registry::{registry, reply, response};
+pub use mlir_work_script::{
+    command, expected_refusal, outcome, registry_command, replies, session_command,
 };
-pub use mlir_work_session_base::supplied;
+pub use mlir_work_script_base::{
+    cells, clauses, input, insertion_points, items, keys, kind, lines, numbers, rule_name, sink,
+    source, subject, values, watched, words, writing,
+};
+pub use mlir_work_session_base::analysis_source;
+pub use mlir_work_transforms::greedy;
+pub use mlir_work_transforms::rewriter::Bench;

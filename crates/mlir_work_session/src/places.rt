@@ -1,18 +1,18 @@
-//! The place that a command names, in a store's module.
+//! Resolves the insertion point of a command to a place in the module.
 ghost use Rattle.std.specs.Prelude.{◌≡◌, Some, Option, is_some, option_map};
 ghost use Rattle.ir_event.specs.trees.Ids.{has_id};
 ghost use Rattle.ir_event.specs.trees.Places.{place_of};
 ghost use Rattle.ir_event.specs.tree_laws.Reads.{first_at, ops_at};
-ghost use Rattle.mlir_work_mixed.specs.transforms.rewriter.Spots.{passing, coming, behind, beside, in_block, spot_place};
-ghost use Rattle.mlir_work_script_base.specs.Spots.{spot_of};
+ghost use Rattle.mlir_work_transforms.specs.rewriter.Points.{passing, coming, trailing, beside, in_block, point_place};
+ghost use Rattle.mlir_work_script_base.specs.InsertionPoints.{insertion_point_of};
 
 use ir_event::store::store::Store;
 use ir_event::trees::place::Place;
 use ir_event::types::ids::OpId;
 use ir_event::types::refusal::Refusal;
-use mlir_work_script_base::spots::Spot;
+use mlir_work_script_base::insertion_points::InsertionPoint;
 
-/// What comes next, where the operation that is moved is passed over.
+/// Returns the next operation of a block, skipping the operation that is being moved.
 fn passing(store: &Store, moved: Option<OpId>, next: Option<OpId>) -> Option<OpId>
     ensures { result ≡ passing moved next store.now.module_of.tree }
 {
@@ -31,7 +31,7 @@ fn passing(store: &Store, moved: Option<OpId>, next: Option<OpId>) -> Option<OpI
     }
 }
 
-/// The place right before an operation.
+/// Returns the place directly before an operation.
 fn before(store: &Store, op: OpId) -> Result<Place, Refusal>
     ensures { result ≡ beside (has_id op store.now.module_of.tree) (option_map (coming (Some op)) (place_of op store.now.module_of.tree)) }
 {
@@ -48,9 +48,9 @@ fn before(store: &Store, op: OpId) -> Result<Place, Refusal>
     })
 }
 
-/// The place right behind an operation, where the one that is moved is passed over.
+/// Returns the place directly after an operation, skipping the operation that is being moved.
 fn after(store: &Store, moved: Option<OpId>, op: OpId) -> Result<Place, Refusal>
-    ensures { result ≡ beside (has_id op store.now.module_of.tree) (option_map (behind moved store.now.module_of.tree) (place_of op store.now.module_of.tree)) }
+    ensures { result ≡ beside (has_id op store.now.module_of.tree) (option_map (trailing moved store.now.module_of.tree) (place_of op store.now.module_of.tree)) }
 {
     if !store.in_tree(op) {
         return Err(Refusal::NoSuchOp);
@@ -65,7 +65,7 @@ fn after(store: &Store, moved: Option<OpId>, op: OpId) -> Result<Place, Refusal>
     })
 }
 
-/// Whether a region of an operation has a block.
+/// Returns whether a region of an operation has a block.
 fn has_block(store: &Store, op: OpId, region: u32) -> bool
     ensures { result ≡ is_some (ops_at op region store.now.module_of.tree) }
 {
@@ -78,7 +78,7 @@ fn has_block(store: &Store, op: OpId, region: u32) -> bool
     }
 }
 
-/// A place in the block of a region of an operation.
+/// Returns a place in the block of a region of an operation.
 fn inside(store: &Store, op: OpId, region: u32, before: Option<OpId>) -> Result<Place, Refusal>
     ensures { result ≡ in_block (has_id op store.now.module_of.tree) (is_some (ops_at op region store.now.module_of.tree)) (record { parent = op; region = region; before = before }) }
 {
@@ -95,20 +95,25 @@ fn inside(store: &Store, op: OpId, region: u32, before: Option<OpId>) -> Result<
     })
 }
 
-/// The place that a command names, for an operation that is moved or a new one.
+/// Returns the place that an insertion point names; `moved` is the operation that is being moved, or `None` for a new
+/// operation.
 ///
-/// Refusals: `NoSuchOp` where the operation that is named isn't in the module; `IsRoot` where there is nothing beside
-/// it; `NoSuchIndex` where it has no such block.
-pub(crate) fn place_for(store: &Store, moved: Option<OpId>, spot: &Spot) -> Result<Place, Refusal>
-    ensures { result ≡ spot_place moved (spot_of spot.now) store.now.module_of.tree }
+/// Errors: `NoSuchOp` if the named operation isn't in the module; `IsRoot` if it is the module's root, which has no
+/// siblings; `NoSuchIndex` if it has no block in that region.
+pub(crate) fn place_for(
+    store: &Store,
+    moved: Option<OpId>,
+    point: &InsertionPoint,
+) -> Result<Place, Refusal>
+    ensures { result ≡ point_place moved (insertion_point_of point.now) store.now.module_of.tree }
 {
-    match *spot {
-        Spot::Before(op) => before(store, op),
-        Spot::After(op) => after(store, moved, op),
-        Spot::Start(op, region) => {
+    match *point {
+        InsertionPoint::Before(op) => before(store, op),
+        InsertionPoint::After(op) => after(store, moved, op),
+        InsertionPoint::Start(op, region) => {
             let first = passing(store, moved, store.first(op, region));
             inside(store, op, region, first)
         }
-        Spot::End(op, region) => inside(store, op, region, None),
+        InsertionPoint::End(op, region) => inside(store, op, region, None),
     }
 }

@@ -1,44 +1,44 @@
-//! Scripts, over a module and its listeners.
+//! Runs scripts on a module and its listeners.
 ghost use Rattle.std.specs.Prelude.{◌≡◌, ◌+◌, ◌<◌, ◌^◌, false, ◌&&◌, not};
 ghost use Rattle.mlir_work_script.specs.Commands.{line_says, said_of, spoken_of};
 ghost use Rattle.mlir_work_script.specs.Expecting.{line_expects};
 ghost use Rattle.mlir_work_script_base.specs.Lines.{lines_of};
-ghost use Rattle.mlir_work_script.specs.Orders.{order_of};
-ghost use Rattle.mlir_work_script_base.specs.Writes.{Puts, PutsSome};
-ghost use Rattle.mlir_work_mixed.specs.transforms.rewriter.Benched.{IsKept, state_of};
-ghost use Rattle.mlir_work_book.specs.Notices.{IsWithin, notice_of};
+ghost use Rattle.mlir_work_script.specs.SessionCommands.{order_of};
+ghost use Rattle.mlir_work_script_base.specs.Writes.{Writes, PutsSome};
+ghost use Rattle.mlir_work_transforms.specs.rewriter.RewriterCalls.{AgreesOrStale, state_of};
+ghost use Rattle.mlir_work_registry.specs.Notices.{IsWithin, notice_of};
 ghost use Rattle.mlir_work_session.specs.Explained.{IsAbout, about_bytes};
-ghost use Rattle.mlir_work_book.specs.Shelf.{book_view};
-ghost use Rattle.mlir_work_session.specs.Machine.{way_of};
-ghost use Rattle.mlir_work_session.specs.Mixing.{FulfilsBeside, mix_of};
-ghost use Rattle.mlir_work_session.specs.Output.{IsAnswered, IsReplied, Replies, Runs, accepted_behind as still_accepted, asks as asks_to};
-ghost use Rattle.mlir_work_session.specs.Output.{end_of, number_behind as next_number, order_asks, says_nothing, shows_alone};
+ghost use Rattle.mlir_work_registry.specs.Registry.{registry_model};
+ghost use Rattle.mlir_work_session.specs.Machine.{session_setting};
+ghost use Rattle.mlir_work_session.specs.RuleLists.{RunsListCommand, list_command_of};
+ghost use Rattle.mlir_work_session.specs.Output.{IsAnswered, IsReplied, Replies, Runs, accepted_after as still_accepted, asks as asks_to};
+ghost use Rattle.mlir_work_session.specs.Output.{end_of, number_after as next_number, order_asks, says_nothing, shows_alone};
 ghost use Rattle.mlir_work_session.specs.Ran.{RanOut};
 ghost use Rattle.mlir_work_session.specs.Sittings.{ByBench, sitting_of};
 
-use crate::beside::tell_command;
-use crate::explaining::{About, explained};
-use crate::listing::put_listing;
-use crate::manner::Manner;
-use crate::mixing::fulfil_beside;
+use crate::listing::write_listing;
+use crate::notes::{Note, explained};
+use crate::options::SessionOptions;
+use crate::pattern_commands::answer_command;
 use crate::reply::Reply;
+use crate::rule_lists::run_list_command;
 use ir_event::analysis::Analysis;
 use ir_event::types::refusal::Refusal;
-use mlir_work_book::book::Book;
-use mlir_work_book::explained::put_told;
-use mlir_work_book::notice::{Notice, Noticed, is_right_under, replied};
-use mlir_work_book::orders::shelve;
-use mlir_work_mixed::transforms::rewriter::Bench;
+use mlir_work_registry::registry::PatternRegistry;
+use mlir_work_registry::registry_commands::run_registry_command;
+use mlir_work_registry::response::{Response, ShownResponse, is_right_under, replied};
+use mlir_work_registry::write_notes::write_response;
 use mlir_work_script::command::{Command, Line, read_line};
-use mlir_work_script::expect::expected_of;
-use mlir_work_script::order::Order;
+use mlir_work_script::expected_refusal::expected_of;
+use mlir_work_script::session_command::SessionCommand;
 use mlir_work_script_base::lines::split_line;
 use mlir_work_script_base::sink::Sink;
-use mlir_work_script_base::writing::{WriteFault, put};
-use mlir_work_session_base::supplied::Supplied;
+use mlir_work_script_base::writing::{WriteFault, write};
+use mlir_work_session_base::analysis_source::AnalysisSource;
+use mlir_work_transforms::rewriter::Bench;
 use std::alloc::Global;
 
-/// Whether a command asks to be shown something, and so gets no listing.
+/// Returns whether a command only shows something, so that no listing follows.
 fn shows_alone(command: &Command<'_>) -> bool
     ensures { result ≡ shows_alone (said_of command.now) }
 {
@@ -49,41 +49,41 @@ fn shows_alone(command: &Command<'_>) -> bool
     }
 }
 
-/// Whether an order asks to be shown something.
-fn order_asks(order: &Order<'_>) -> bool
-    ensures { result ≡ order_asks (order_of order.now) }
+/// Returns whether a session command only shows something.
+fn order_asks(session_command: &SessionCommand<'_>) -> bool
+    ensures { result ≡ order_asks (order_of session_command.now) }
 {
-    match order {
-        Order::PrintIds => true,
-        Order::Why { .. } => true,
-        Order::ReportOf { .. } => true,
+    match session_command {
+        SessionCommand::PrintIds => true,
+        SessionCommand::Why { .. } => true,
+        SessionCommand::ReportAbout { .. } => true,
         _ => false,
     }
 }
 
-/// Whether a line asks to be shown something.
+/// Returns whether a line only shows something.
 fn asks(line: &Line<'_>) -> bool
     ensures { result ≡ asks_to (spoken_of line.now) }
 {
     match line {
-        Line::Nothing => false,
-        Line::Bad => false,
-        Line::Obey(command) => shows_alone(command),
-        Line::Ordered(order) => order_asks(order),
-        Line::Booked(_) => true,
+        Line::Empty => false,
+        Line::BadCommand => false,
+        Line::Command(command) => shows_alone(command),
+        Line::Session(session_command) => order_asks(session_command),
+        Line::Registry(_) => true,
     }
 }
 
-/// Whether a line says nothing: it is empty, or a comment.
+/// Returns whether a line has no command: it is empty or a comment.
 pub fn is_nothing(line: &Line<'_>) -> bool
     ensures { result ≡ says_nothing (spoken_of line.now) }
 {
     match line {
-        Line::Nothing => true,
-        Line::Bad => false,
-        Line::Obey(_) => false,
-        Line::Ordered(_) => false,
-        Line::Booked(_) => false,
+        Line::Empty => true,
+        Line::BadCommand => false,
+        Line::Command(_) => false,
+        Line::Session(_) => false,
+        Line::Registry(_) => false,
     }
 }
 
@@ -99,140 +99,168 @@ pub(crate) fn both(a: bool, b: bool) -> bool
     a && b
 }
 
-/// What a line that is an order is told.
-fn tell_order<L: Supplied>(
+/// Runs the session command of a line, and returns the response with the bytes to show below it.
+fn answer_session_command<L: AnalysisSource>(
     alloc: Global,
-    manner: &Manner,
+    session_options: &SessionOptions,
     bench: &mut Bench<L>,
-    book: &Book,
-    order: &Order<'_>,
-) -> Noticed
-    requires { IsKept L.meaning bench.old }
-    ensures fulfils { ByBench (λ response u. FulfilsBeside (way_of L.supply manner.now) (book_view book.now) (mix_of (order_of order.now) (book_view book.now)) (state_of L.meaning bench.old) (order_of order.now) response result.shows.items u) (sitting_of L.meaning bench.old book.now) (notice_of result.notice) (sitting_of L.meaning bench.new book.now) }
-    ensures bounded { IsWithin manner.now.bytes (notice_of result.notice) }
-    ensures kept { IsKept L.meaning bench.new }
-    ensures mode { bench.new.desk.ctx.opaque ≡ bench.old.desk.ctx.opaque }
+    registry: &PatternRegistry,
+    session_command: &SessionCommand<'_>,
+) -> ShownResponse
+    requires { AgreesOrStale L.meaning bench.old }
+    ensures fulfils { ByBench (λ response u. RunsListCommand (session_setting L.supply session_options.now) (registry_model registry.now) (list_command_of (order_of session_command.now) (registry_model registry.now)) (state_of L.meaning bench.old) (order_of session_command.now) response result.shows.items u) (sitting_of L.meaning bench.old registry.now) (notice_of result.notice) (sitting_of L.meaning bench.new registry.now) }
+    ensures bounded { IsWithin session_options.now.bytes (notice_of result.notice) }
+    ensures kept { AgreesOrStale L.meaning bench.new }
+    ensures mode { bench.new.transaction.ctx.opaque ≡ bench.old.transaction.ctx.opaque }
 {
-    let answered = fulfil_beside(alloc, manner, bench, book, order);
-    Noticed {
-        notice: Notice::Plain(answered.reply),
+    let answered = run_list_command(alloc, session_options, bench, registry, session_command);
+    ShownResponse {
+        notice: Response::RewriterReply(answered.reply),
         shows: answered.shows,
     }
 }
 
-/// What a line that isn't nothing is told, in a script that is run so.
-pub fn answer<L: Supplied>(
+/// Answers a line that isn't empty. Returns the response with the bytes to show below it.
+pub fn answer<L: AnalysisSource>(
     alloc: Global,
-    manner: &Manner,
+    session_options: &SessionOptions,
     bench: &mut Bench<L>,
-    book: &mut Book,
+    registry: &mut PatternRegistry,
     line: &Line<'_>,
-) -> Noticed
-    requires kept { IsKept L.meaning bench.old }
-    requires mode { bench.old.desk.ctx.opaque ≡ manner.now.opaque }
+) -> ShownResponse
+    requires kept { AgreesOrStale L.meaning bench.old }
+    requires mode { bench.old.transaction.ctx.opaque ≡ session_options.now.opaque }
     requires something { says_nothing (spoken_of line.now) ≡ false }
-    ensures replies { Replies (way_of L.supply manner.now) (sitting_of L.meaning bench.old book.old) (spoken_of line.now) (notice_of result.notice) result.shows.items (sitting_of L.meaning bench.new book.new) }
-    ensures bounded { IsWithin manner.now.bytes (notice_of result.notice) }
-    ensures kept { IsKept L.meaning bench.new }
-    ensures mode { bench.new.desk.ctx.opaque ≡ bench.old.desk.ctx.opaque }
+    ensures replies { Replies (session_setting L.supply session_options.now) (sitting_of L.meaning bench.old registry.old) (spoken_of line.now) (notice_of result.notice) result.shows.items (sitting_of L.meaning bench.new registry.new) }
+    ensures bounded { IsWithin session_options.now.bytes (notice_of result.notice) }
+    ensures kept { AgreesOrStale L.meaning bench.new }
+    ensures mode { bench.new.transaction.ctx.opaque ≡ bench.old.transaction.ctx.opaque }
 {
     match line {
-        Line::Obey(command) => tell_command(alloc, manner, bench, book, command),
-        Line::Ordered(order) => tell_order(alloc, manner, bench, book, order),
-        Line::Booked(order) => shelve(alloc, manner.bytes, book, order),
-        Line::Nothing | Line::Bad => replied(alloc, Reply::Refused(Refusal::BadCommand)),
+        Line::Command(command) => answer_command(alloc, session_options, bench, registry, command),
+        Line::Session(session_command) => answer_session_command(
+            alloc,
+            session_options,
+            bench,
+            registry,
+            session_command,
+        ),
+        Line::Registry(session_command) => run_registry_command(
+            alloc,
+            session_options.bytes,
+            registry,
+            session_command,
+        ),
+        Line::Empty | Line::BadCommand => replied(alloc, Reply::Refused(Refusal::BadCommand)),
     }
 }
 
-/// What stands behind the refusal of a line over a bench, where refusals are explained.
+/// Returns the note to write after the response to a line. It is empty unless `explain` is set.
 fn about_line<L: Analysis>(
     alloc: Global,
     explain: bool,
     bench: &Bench<L>,
     line: &Line<'_>,
-    notice: &Notice,
-) -> About
+    notice: &Response,
+) -> Note
     ensures { IsAbout explain (notice_of notice.now) (spoken_of line.now) (state_of L.meaning bench.now).held (about_bytes result) }
 {
     explained(alloc, explain, bench.world(), line, notice)
 }
 
-/// Writes a reply, what it shows, and a listing where one is due.
-fn put_answer<L: Analysis, W: Sink>(
+/// Writes the numbered reply, the bytes that it shows, and a listing if the line gets one.
+fn write_answer<L: Analysis, W: Sink>(
     alloc: Global,
-    manner: &Manner,
+    session_options: &SessionOptions,
     bench: &Bench<L>,
     n: u64,
     expected: &Option<Refusal>,
     line: &Line<'_>,
-    answered: &Noticed,
+    answered: &ShownResponse,
     writer: &mut W,
 ) -> Result<(), WriteFault>
-    requires { IsKept L.meaning bench.now }
-    ensures { PutsSome (IsReplied manner.now.explain (spoken_of line.now) (not manner.now.brief && not (asks_to (spoken_of line.now))) (state_of L.meaning bench.now) n expected.now (notice_of answered.now.notice) answered.now.shows.items) (W.stream writer.old) (W.stream writer.new) result }
+    requires { AgreesOrStale L.meaning bench.now }
+    ensures { PutsSome (IsReplied session_options.now.explain (spoken_of line.now) (not session_options.now.brief && not (asks_to (spoken_of line.now))) (state_of L.meaning bench.now) n expected.now (notice_of answered.now.notice) answered.now.shows.items) (W.stream writer.old) (W.stream writer.new) result }
 {
-    let about = about_line(alloc, manner.explain, bench, line, &answered.notice);
-    match put_told(writer, n, expected, &answered.notice, about.bytes()) {
+    let about = about_line(
+        alloc,
+        session_options.explain,
+        bench,
+        line,
+        &answered.notice,
+    );
+    match write_response(writer, n, expected, &answered.notice, about.bytes()) {
         Ok(()) => {}
         Err(fault) => return Err(fault),
     }
-    match put(writer, &answered.shows) {
+    match write(writer, &answered.shows) {
         Ok(()) => {}
         Err(fault) => return Err(fault),
     }
-    if is_listed(manner.brief, line) {
-        return put_listing(alloc, bench, writer);
+    if is_listed(session_options.brief, line) {
+        return write_listing(alloc, bench, writer);
     }
     Ok(())
 }
 
-/// Ends an answer by an empty line, where one is due.
-pub(crate) fn put_end<W: Sink>(writer: &mut W, ends: bool) -> Result<(), WriteFault>
-    ensures { Puts (W.stream writer.old) (W.stream writer.new) (end_of ends) result }
+/// Writes the empty line after an answer, if `ends` is set.
+pub(crate) fn write_end<W: Sink>(writer: &mut W, ends: bool) -> Result<(), WriteFault>
+    ensures { Writes (W.stream writer.old) (W.stream writer.new) (end_of ends) result }
 {
     if ends {
-        return put(writer, b"\n");
+        return write(writer, b"\n");
     }
     Ok(())
 }
 
-/// Answers a line of a script over a module, listeners that each agree with it or are stale, and a book of patterns: `n` is the number of the
-/// next reply, and `line` has no line feed. Writes what is written for it, and says whether what came is right: the command
-/// was accepted, in a strict run by no pattern that no check proves, or refused as the line expects. Of a line that says
-/// nothing it says nothing, and nothing is written.
-pub fn answer_line<L: Supplied, W: Sink>(
+/// Answers one line of a script; `n` is the number of the next reply, and `line` has no line feed. Each listener must
+/// agree with the module or be stale. `registry` has the user patterns.
+///
+/// Writes the answer and returns whether the outcome was right: the command was accepted, or refused as the line
+/// expects. In a strict run, a rewrite by a pattern that no check proves isn't right. For an empty line it writes
+/// nothing and returns `None`.
+pub fn answer_line<L: AnalysisSource, W: Sink>(
     alloc: Global,
-    manner: &Manner,
+    session_options: &SessionOptions,
     bench: &mut Bench<L>,
-    book: &mut Book,
+    registry: &mut PatternRegistry,
     n: u64,
     line: &[u8],
     writer: &mut W,
 ) -> Result<Option<bool>, WriteFault>
-    requires kept { IsKept L.meaning bench.old }
-    requires mode { bench.old.desk.ctx.opaque ≡ manner.now.opaque }
-    ensures answered { RanOut (IsAnswered (way_of L.supply manner.now) n (sitting_of L.meaning bench.old book.old) (line_expects line.now) (line_says line.now) (sitting_of L.meaning bench.new book.new)) (W.stream writer.old) (W.stream writer.new) result }
-    ensures kept { IsKept L.meaning bench.new }
-    ensures mode { bench.new.desk.ctx.opaque ≡ bench.old.desk.ctx.opaque }
+    requires kept { AgreesOrStale L.meaning bench.old }
+    requires mode { bench.old.transaction.ctx.opaque ≡ session_options.now.opaque }
+    ensures answered { RanOut (IsAnswered (session_setting L.supply session_options.now) n (sitting_of L.meaning bench.old registry.old) (line_expects line.now) (line_says line.now) (sitting_of L.meaning bench.new registry.new)) (W.stream writer.old) (W.stream writer.new) result }
+    ensures kept { AgreesOrStale L.meaning bench.new }
+    ensures mode { bench.new.transaction.ctx.opaque ≡ bench.old.transaction.ctx.opaque }
 {
     let expected = expected_of(line);
     let line = read_line(line);
     if is_nothing(&line) {
         return Ok(None);
     }
-    let answered = answer(alloc, manner, bench, book, &line);
-    match put_answer(alloc, manner, bench, n, &expected, &line, &answered, writer) {
+    let answered = answer(alloc, session_options, bench, registry, &line);
+    match write_answer(
+        alloc,
+        session_options,
+        bench,
+        n,
+        &expected,
+        &line,
+        &answered,
+        writer,
+    ) {
         Ok(()) => {}
         Err(fault) => return Err(fault),
     }
-    match put_end(writer, manner.ends) {
-        Ok(()) => Ok(Some(is_right_under(manner.strict, &expected, &answered))),
+    match write_end(writer, session_options.ends) {
+        Ok(()) => Ok(Some(is_right_under(session_options.strict, &expected, &answered))),
         Err(fault) => Err(fault),
     }
 }
 
-/// The number of the next reply, behind what came of a line.
-pub fn number_behind(n: u64, told: Option<bool>) -> u64
+/// Returns the number of the next reply; `told` is the result of `answer_line` for the last line.
+pub fn next_number(n: u64, told: Option<bool>) -> u64
     requires { n + 1 < 2 ^ 64 }
     ensures { result ≡ next_number n told }
 {
@@ -242,8 +270,8 @@ pub fn number_behind(n: u64, told: Option<bool>) -> u64
     }
 }
 
-/// Whether all was right, behind what came of a line.
-pub fn accepted_behind(accepted: bool, told: Option<bool>) -> bool
+/// Returns whether all lines were right so far; `told` is the result of `answer_line` for the last line.
+pub fn accepted_so_far(accepted: bool, told: Option<bool>) -> bool
     ensures { result ≡ still_accepted accepted told }
 {
     match told {
@@ -252,20 +280,22 @@ pub fn accepted_behind(accepted: bool, told: Option<bool>) -> bool
     }
 }
 
-/// Runs a script over a module, listeners that each agree with it or are stale, and a book of patterns, and writes as it
-/// goes. The status is 1 where a command was refused of which that wasn't expected, or not as it was, or a check of a
-/// pattern found that it fails; in a strict run also where a command rewrites by a pattern that no check proves.
-pub fn run_script<L: Supplied, W: Sink>(
+/// Runs a script and writes its answers one by one. Each listener must agree with the module or be stale. `registry`
+/// has the user patterns.
+///
+/// Returns status 1 if a command was refused unexpectedly or for another reason than expected, or a pattern check
+/// failed. In a strict run, a rewrite by a pattern that no check proves also gives 1. Otherwise the status is 0.
+pub fn run_script<L: AnalysisSource, W: Sink>(
     alloc: Global,
-    manner: &Manner,
+    session_options: &SessionOptions,
     bench: &mut Bench<L>,
-    book: &mut Book,
+    registry: &mut PatternRegistry,
     script: &[u8],
     writer: &mut W,
 ) -> Result<u8, WriteFault>
-    requires kept { IsKept L.meaning bench.old }
-    requires mode { bench.old.desk.ctx.opaque ≡ manner.now.opaque }
-    ensures { RanOut (Runs (way_of L.supply manner.now) 1 (sitting_of L.meaning bench.old book.old) (lines_of script.now)) (W.stream writer.old) (W.stream writer.new) result }
+    requires kept { AgreesOrStale L.meaning bench.old }
+    requires mode { bench.old.transaction.ctx.opaque ≡ session_options.now.opaque }
+    ensures { RanOut (Runs (session_setting L.supply session_options.now) 1 (sitting_of L.meaning bench.old registry.old) (lines_of script.now)) (W.stream writer.old) (W.stream writer.new) result }
 {
     let mut text = script;
     let mut n = 1u64;
@@ -273,12 +303,12 @@ pub fn run_script<L: Supplied, W: Sink>(
     while !text.is_empty() {
         let (first, rest) = split_line(text);
         text = rest;
-        let told = match answer_line(alloc, manner, bench, book, n, first, writer) {
+        let told = match answer_line(alloc, session_options, bench, registry, n, first, writer) {
             Ok(told) => told,
             Err(fault) => return Err(fault),
         };
-        n = number_behind(n, told);
-        accepted = accepted_behind(accepted, told);
+        n = next_number(n, told);
+        accepted = accepted_so_far(accepted, told);
     }
     Ok(if accepted { 0 } else { 1 })
 }

@@ -1,14 +1,14 @@
-//! What commands show: the module, and the rows of a listener.
+//! The bytes that commands show below a reply: the module's text, or a listener's report rows.
 ghost use Rattle.std.specs.Prelude.{◌≡◌, ◌⊎◌, [], true, false, All, IfOk, IfErr};
-ghost use Rattle.ir_event.specs.Modules.{things_in, module_in};
+ghost use Rattle.ir_event.specs.Modules.{context_model, module_in};
 ghost use Rattle.ir_event.specs.Rows.{RowIsOf, rows_meaning};
 ghost use Rattle.ir_text.specs.Printing.{text_of};
-ghost use Rattle.mlir_work_mixed.specs.transforms.rewriter.Commands.{Report, Print};
-ghost use Rattle.mlir_work_mixed.specs.transforms.rewriter.Benched.{IsKept, state_of};
+ghost use Rattle.mlir_work_transforms.specs.rewriter.Commands.{Report, Print};
+ghost use Rattle.mlir_work_transforms.specs.rewriter.RewriterCalls.{AgreesOrStale, state_of};
 ghost use Rattle.mlir_work_session_base.specs.RowText.{rows_text};
-ghost use Rattle.mlir_work_session.specs.Machine.{Obeys, response_of};
-ghost use Rattle.mlir_work_session.specs.Output.{Manner};
-ghost use Rattle.mlir_work_book.specs.declared.reply.Reply.TheVariants.{Refused};
+ghost use Rattle.mlir_work_session.specs.Machine.{RunsCommand, response_of};
+ghost use Rattle.mlir_work_session.specs.Output.{SessionOptions};
+ghost use Rattle.mlir_work_registry.specs.declared.reply.Reply.TheVariants.{Refused};
 
 use crate::reply::Reply;
 use ir_event::analysis::Analysis;
@@ -16,27 +16,27 @@ use ir_event::row::{ReportFault, Row};
 use ir_event::types::refusal::Refusal;
 use ir_event::world::World;
 use ir_text::printer::print;
-use mlir_work_mixed::transforms::rewriter::Bench;
 use mlir_work_script_base::kind::Kind;
 use mlir_work_session_base::rows::text_of_rows;
+use mlir_work_transforms::rewriter::Bench;
 use std::alloc::Global;
 
-/// A reply, and the bytes that are shown below it.
+/// A reply and the bytes that are shown below it.
 #[derive(Drop)]
-pub struct Answered {
+pub struct ShownReply {
     pub reply: Reply,
     pub shows: Vec<u8>,
 }
 
-/// A refusal below which nothing is shown.
-fn refused(alloc: Global, refusal: Refusal) -> Answered
+/// Returns a refusal with nothing below it.
+fn refused(alloc: Global, refusal: Refusal) -> ShownReply
     ensures reply { result.reply ≡ Refused refusal }
     ensures shows { result.shows.items ≡ [] }
 {
-    plain(alloc, Reply::Refused(refusal))
+    reply_only(alloc, Reply::Refused(refusal))
 }
 
-/// The text of a world's module.
+/// Returns the text of the module.
 pub(crate) fn text_of_module(alloc: Global, world: &World) -> Result<Vec<u8>, Refusal>
     ensures { IfOk result (λ text. text.items ≡ text_of (module_in world.now).tree) }
 {
@@ -49,37 +49,37 @@ pub(crate) fn text_of_module(alloc: Global, world: &World) -> Result<Vec<u8>, Re
     }
 }
 
-pub(crate) fn show_module<L: Analysis>(alloc: Global, bench: &Bench<L>) -> Answered
-    ensures { (manner : Manner) → Obeys manner (state_of L.meaning bench.now) Print (response_of result.reply) result.shows.items (state_of L.meaning bench.now) }
+pub(crate) fn show_module<L: Analysis>(alloc: Global, bench: &Bench<L>) -> ShownReply
+    ensures { (session_options : SessionOptions) → RunsCommand session_options (state_of L.meaning bench.now) Print (response_of result.reply) result.shows.items (state_of L.meaning bench.now) }
 {
     let Ok(shows) = text_of_module(alloc, bench.world()) else {
         return refused(alloc, Refusal::Memory);
     };
-    Answered {
+    ShownReply {
         reply: Reply::Done,
         shows,
     }
 }
 
-/// The rows of a listener that agrees with a world or is stale.
+/// Returns the report rows of a listener. The listener must agree with the module or be stale.
 pub(crate) fn rows_of<L: Analysis>(listener: &L, world: &World) -> Result<Vec<Row>, ReportFault>
-    requires { (L.meaning listener.now).agrees (things_in world.now) (module_in world.now) ⊎ ((L.meaning listener.now).stale ≡ true) }
-    ensures rows { IfOk result (λ rows. rows_meaning (things_in world.now) rows.items ≡ (L.meaning listener.now).analysis (module_in world.now).tree) }
+    requires { (L.meaning listener.now).agrees (context_model world.now) (module_in world.now) ⊎ ((L.meaning listener.now).stale ≡ true) }
+    ensures rows { IfOk result (λ rows. rows_meaning (context_model world.now) rows.items ≡ (L.meaning listener.now).analysis (module_in world.now).tree) }
     ensures fresh { IfOk result (λ rows. (L.meaning listener.now).stale ≡ false) }
-    ensures known { IfOk result (λ rows. All (RowIsOf (things_in world.now)) rows.items) }
+    ensures known { IfOk result (λ rows. All (RowIsOf (context_model world.now)) rows.items) }
     ensures stale { IfErr result (λ e. e ≡ ReportFault.Stale → (L.meaning listener.now).stale ≡ true) }
     ensures memory { IfErr result (λ e. e ≡ ReportFault.Memory → (L.meaning listener.now).stale ≡ false) }
 {
     listener.report()
 }
 
-/// The text of a listener's rows.
+/// Returns the text of a listener's report rows.
 pub(crate) fn text_of_report<L: Analysis>(
     alloc: Global,
     listener: &L,
     world: &World,
 ) -> Result<Vec<u8>, ReportFault>
-    requires { (L.meaning listener.now).agrees (things_in world.now) (module_in world.now) ⊎ ((L.meaning listener.now).stale ≡ true) }
+    requires { (L.meaning listener.now).agrees (context_model world.now) (module_in world.now) ⊎ ((L.meaning listener.now).stale ≡ true) }
     ensures text { IfOk result (λ text. text.items ≡ rows_text ((L.meaning listener.now).analysis (module_in world.now).tree)) }
     ensures fresh { IfOk result (λ text. (L.meaning listener.now).stale ≡ false) }
     ensures stale { IfErr result (λ e. e ≡ ReportFault.Stale → (L.meaning listener.now).stale ≡ true) }
@@ -95,9 +95,9 @@ pub(crate) fn text_of_report<L: Analysis>(
     Ok(text)
 }
 
-pub(crate) fn show_rows<L: Analysis>(alloc: Global, bench: &Bench<L>, kind: Kind) -> Answered
-    requires { IsKept L.meaning bench.now }
-    ensures { (manner : Manner) → Obeys manner (state_of L.meaning bench.now) (Report kind) (response_of result.reply) result.shows.items (state_of L.meaning bench.now) }
+pub(crate) fn show_rows<L: Analysis>(alloc: Global, bench: &Bench<L>, kind: Kind) -> ShownReply
+    requires { AgreesOrStale L.meaning bench.now }
+    ensures { (session_options : SessionOptions) → RunsCommand session_options (state_of L.meaning bench.now) (Report kind) (response_of result.reply) result.shows.items (state_of L.meaning bench.now) }
 {
     let Some(listener) = bench.listener(kind) else {
         return refused(alloc, Refusal::NoSuchKind);
@@ -107,18 +107,18 @@ pub(crate) fn show_rows<L: Analysis>(alloc: Global, bench: &Bench<L>, kind: Kind
         Err(ReportFault::Stale) => return refused(alloc, Refusal::Stale),
         Err(ReportFault::Memory) => return refused(alloc, Refusal::Memory),
     };
-    Answered {
+    ShownReply {
         reply: Reply::Done,
         shows,
     }
 }
 
-/// A reply below which nothing is shown.
-pub(crate) fn plain(alloc: Global, reply: Reply) -> Answered
+/// Returns a reply with nothing below it.
+pub(crate) fn reply_only(alloc: Global, reply: Reply) -> ShownReply
     ensures reply { result.reply ≡ reply }
     ensures shows { result.shows.items ≡ [] }
 {
-    Answered {
+    ShownReply {
         reply,
         shows: Vec::new(alloc),
     }

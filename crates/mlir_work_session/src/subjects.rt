@@ -1,25 +1,25 @@
-//! The rows of a report that are about one operation or one value.
+//! The report rows about one operation or one value.
 ghost use Rattle.std.specs.Prelude.{◌≡◌, ◌⊎◌, true, false, IfOk, IfErr};
-ghost use Rattle.ir_event.specs.Modules.{things_in, module_in};
-ghost use Rattle.mlir_work_mixed.specs.transforms.rewriter.Benched.{IsKept, state_of};
-ghost use Rattle.mlir_work_script.specs.Orders.{ReportOf};
+ghost use Rattle.ir_event.specs.Modules.{context_model, module_in};
+ghost use Rattle.mlir_work_transforms.specs.rewriter.RewriterCalls.{AgreesOrStale, state_of};
+ghost use Rattle.mlir_work_script.specs.SessionCommands.{ReportOf};
 ghost use Rattle.mlir_work_session_base.specs.RowText.{rows_text};
 ghost use Rattle.mlir_work_session_base.specs.Subjects.{absent, is_there, rows_about};
-ghost use Rattle.mlir_work_session.specs.Machine.{Fulfils, Way, response_of};
+ghost use Rattle.mlir_work_session.specs.Machine.{RunsSessionCommand, SessionSetting, response_of};
 
 use crate::reply::Reply;
-use crate::shows::{Answered, plain, rows_of};
+use crate::shows::{ShownReply, reply_only, rows_of};
 use ir_event::analysis::Analysis;
 use ir_event::row::ReportFault;
 use ir_event::types::refusal::Refusal;
 use ir_event::world::World;
-use mlir_work_mixed::transforms::rewriter::Bench;
 use mlir_work_script_base::kind::Kind;
 use mlir_work_script_base::subject::Subject;
 use mlir_work_session_base::subjects::text_of_rows_about;
+use mlir_work_transforms::rewriter::Bench;
 use std::alloc::Global;
 
-/// Whether an operation or a value is in a world's module.
+/// Returns whether an operation or a value is in the module.
 fn is_there(world: &World, subject: &Subject) -> bool
     ensures { result ≡ is_there subject.now (module_in world.now).tree }
 {
@@ -29,7 +29,7 @@ fn is_there(world: &World, subject: &Subject) -> bool
     }
 }
 
-/// How one is refused that isn't there.
+/// Returns the refusal for a missing operation or value.
 fn absent(subject: &Subject) -> Refusal
     ensures { result ≡ absent subject.now }
 {
@@ -39,14 +39,14 @@ fn absent(subject: &Subject) -> Refusal
     }
 }
 
-/// The text of a listener's rows that are about an operation or a value.
+/// Returns the text of a listener's report rows about an operation or a value.
 fn text_about<L: Analysis>(
     alloc: Global,
     listener: &L,
     world: &World,
     subject: &Subject,
 ) -> Result<Vec<u8>, ReportFault>
-    requires { (L.meaning listener.now).agrees (things_in world.now) (module_in world.now) ⊎ ((L.meaning listener.now).stale ≡ true) }
+    requires { (L.meaning listener.now).agrees (context_model world.now) (module_in world.now) ⊎ ((L.meaning listener.now).stale ≡ true) }
     ensures text { IfOk result (λ text. text.items ≡ rows_text (rows_about subject.now ((L.meaning listener.now).analysis (module_in world.now).tree))) }
     ensures fresh { IfOk result (λ text. (L.meaning listener.now).stale ≡ false) }
     ensures stale { IfErr result (λ e. e ≡ ReportFault.Stale → (L.meaning listener.now).stale ≡ true) }
@@ -62,31 +62,31 @@ fn text_about<L: Analysis>(
     Ok(text)
 }
 
-/// Shows the rows of the listener of a kind that are about an operation or a value.
+/// Shows the report rows about an operation or a value, from the listener of a kind.
 ///
-/// Refusals: `NoSuchOp` or `NoSuchValue` where that isn't in the module, and then those of a report.
+/// Refusals: `NoSuchOp` or `NoSuchValue` if the operation or value isn't in the module, and the refusals of a report.
 pub(crate) fn show_about<L: Analysis>(
     alloc: Global,
     bench: &Bench<L>,
     kind: Kind,
     subject: &Subject,
-) -> Answered
-    requires { IsKept L.meaning bench.now }
-    ensures { (way : Way) → Fulfils way (state_of L.meaning bench.now) (ReportOf kind subject.now) (response_of result.reply) result.shows.items (state_of L.meaning bench.now) }
+) -> ShownReply
+    requires { AgreesOrStale L.meaning bench.now }
+    ensures { (setting : SessionSetting) → RunsSessionCommand setting (state_of L.meaning bench.now) (ReportOf kind subject.now) (response_of result.reply) result.shows.items (state_of L.meaning bench.now) }
 {
     let world = bench.world();
     if !is_there(world, subject) {
-        return plain(alloc, Reply::Refused(absent(subject)));
+        return reply_only(alloc, Reply::Refused(absent(subject)));
     }
     let Some(listener) = bench.listener(kind) else {
-        return plain(alloc, Reply::Refused(Refusal::NoSuchKind));
+        return reply_only(alloc, Reply::Refused(Refusal::NoSuchKind));
     };
     let shows = match text_about(alloc, listener, world, subject) {
         Ok(shows) => shows,
-        Err(ReportFault::Stale) => return plain(alloc, Reply::Refused(Refusal::Stale)),
-        Err(ReportFault::Memory) => return plain(alloc, Reply::Refused(Refusal::Memory)),
+        Err(ReportFault::Stale) => return reply_only(alloc, Reply::Refused(Refusal::Stale)),
+        Err(ReportFault::Memory) => return reply_only(alloc, Reply::Refused(Refusal::Memory)),
     };
-    Answered {
+    ShownReply {
         reply: Reply::Done,
         shows,
     }

@@ -1,67 +1,67 @@
-//! Commands whose text is read beside the module of a bench.
+//! Commands with an operation text or an attribute text.
 ghost use Rattle.std.specs.Prelude.{◌≡◌, []};
-ghost use Rattle.mlir_work_mixed.specs.transforms.rewriter.Commands.{Insert, SetAttr};
+ghost use Rattle.mlir_work_transforms.specs.rewriter.Commands.{Insert, SetAttr};
 ghost use Rattle.mlir_work_script_base.specs.Keys.{key_bytes};
-ghost use Rattle.mlir_work_script_base.specs.Spots.{spot_of};
-ghost use Rattle.mlir_work_mixed.specs.transforms.rewriter.Benched.{IsKept, state_of};
-ghost use Rattle.mlir_work_session.specs.Machine.{Obeys, response_of};
+ghost use Rattle.mlir_work_script_base.specs.InsertionPoints.{insertion_point_of};
+ghost use Rattle.mlir_work_transforms.specs.rewriter.RewriterCalls.{AgreesOrStale, state_of};
+ghost use Rattle.mlir_work_session.specs.Machine.{RunsCommand, response_of};
 
 use crate::attributes::entry_of;
-use crate::manner::Manner;
 use crate::operations::operation_of;
+use crate::options::SessionOptions;
 use crate::places::place_for;
 use crate::reply::Reply;
 use crate::replying::{reply_as, reply_to};
 use ir_event::analysis::Analysis;
 use ir_event::types::ids::OpId;
-use mlir_work_mixed::transforms::rewriter::Bench;
-use mlir_work_mixed::transforms::rewriter::laws::led_benches_are_kept;
+use mlir_work_script_base::insertion_points::InsertionPoint;
 use mlir_work_script_base::keys::Key;
-use mlir_work_script_base::spots::Spot;
+use mlir_work_transforms::rewriter::Bench;
+use mlir_work_transforms::rewriter::laws::led_benches_are_kept;
 use std::alloc::Global;
 
-/// Inserts the operation that a text spells at the place that is named.
+/// Parses an operation text and inserts the operation at an insertion point.
 pub(crate) fn insert<L: Analysis>(
-    manner: &Manner,
+    session_options: &SessionOptions,
     bench: &mut Bench<L>,
-    spot: &Spot,
+    point: &InsertionPoint,
     text: &[u8],
 ) -> Reply
-    requires kept { IsKept L.meaning bench.old }
-    requires mode { bench.old.desk.ctx.opaque ≡ manner.now.opaque }
-    ensures obeys { Obeys manner.now (state_of L.meaning bench.old) (Insert (spot_of spot.now) text.now) (response_of result) [] (state_of L.meaning bench.new) }
-    ensures kept { IsKept L.meaning bench.new }
-    ensures mode { bench.new.desk.ctx.opaque ≡ bench.old.desk.ctx.opaque }
+    requires kept { AgreesOrStale L.meaning bench.old }
+    requires mode { bench.old.transaction.ctx.opaque ≡ session_options.now.opaque }
+    ensures obeys { RunsCommand session_options.now (state_of L.meaning bench.old) (Insert (insertion_point_of point.now) text.now) (response_of result) [] (state_of L.meaning bench.new) }
+    ensures kept { AgreesOrStale L.meaning bench.new }
+    ensures mode { bench.new.transaction.ctx.opaque ≡ bench.old.transaction.ctx.opaque }
 {
     led_benches_are_kept::<L>();
-    let tree = match operation_of(manner.bytes, bench, text) {
+    let tree = match operation_of(session_options.bytes, bench, text) {
         Ok(tree) => tree,
         Err(reply) => return reply,
     };
-    let place = match place_for(&bench.world().store, None, spot) {
+    let place = match place_for(&bench.world().store, None, point) {
         Ok(place) => place,
         Err(refusal) => return Reply::Refused(refusal),
     };
     reply_as(bench.insert(place, &tree))
 }
 
-/// Sets an entry of an operation to the attribute that a text spells.
+/// Parses an attribute text and sets an attribute of an operation.
 pub(crate) fn set_attr<L: Analysis>(
     alloc: Global,
-    manner: &Manner,
+    session_options: &SessionOptions,
     bench: &mut Bench<L>,
     op: OpId,
     key: &Key<'_>,
     text: &[u8],
 ) -> Reply
-    requires kept { IsKept L.meaning bench.old }
-    requires mode { bench.old.desk.ctx.opaque ≡ manner.now.opaque }
-    ensures obeys { Obeys manner.now (state_of L.meaning bench.old) (SetAttr op (key_bytes key.now) text.now) (response_of result) [] (state_of L.meaning bench.new) }
-    ensures kept { IsKept L.meaning bench.new }
-    ensures mode { bench.new.desk.ctx.opaque ≡ bench.old.desk.ctx.opaque }
+    requires kept { AgreesOrStale L.meaning bench.old }
+    requires mode { bench.old.transaction.ctx.opaque ≡ session_options.now.opaque }
+    ensures obeys { RunsCommand session_options.now (state_of L.meaning bench.old) (SetAttr op (key_bytes key.now) text.now) (response_of result) [] (state_of L.meaning bench.new) }
+    ensures kept { AgreesOrStale L.meaning bench.new }
+    ensures mode { bench.new.transaction.ctx.opaque ≡ bench.old.transaction.ctx.opaque }
 {
     led_benches_are_kept::<L>();
-    let (key, attribute) = match entry_of(alloc, manner.bytes, bench, key, text) {
+    let (key, attribute) = match entry_of(alloc, session_options.bytes, bench, key, text) {
         Ok(entry) => entry,
         Err(reply) => return reply,
     };

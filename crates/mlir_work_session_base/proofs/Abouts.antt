@@ -1,9 +1,9 @@
--- Rows that are about something, one after the other.
+-- Proofs about the rows of a subject, one by one.
 use Rattle.std.proofs.Common.{◌≡◌, ◌∙◌, refl, sym, ap, ℕ, ◌+◌, ◌<◌, ◌≤◌, Bool, true, false, cond, List, [], ◌∷◌, ◌++◌, length, get_or, drop, map, append_assoc, append-nil, Option, Some, None, slice_get}
 use Rattle.std.specs.Prelude.{OnOk, Result, Ok, Err, option_map}
 use Rattle.std.proofs.lemmas.List.{at_drop_all}
 use Rattle.std.proofs.lemmas.Option.{slice_get-map}
-use Rattle.ir_event.specs.types.Things.{Things}
+use Rattle.ir_event.specs.types.Things.{ContextModel}
 use Rattle.ir_event.specs.declared.row.Cell.{Cell}
 use Rattle.ir_event.specs.declared.row.Row.{Row}
 use Rattle.ir_event.specs.Rows.{RowTerm, cell_meaning, row_meaning, rows_meaning}
@@ -12,8 +12,8 @@ use Rattle.mlir_work_script_base.specs.declared.subject.Subject.{Subject}
 use Rattle.mlir_work_session_base.specs.RowText.{row_text, rows_text}
 use Rattle.mlir_work_session_base.specs.Subjects.{is_about, names_there, place_about, rows_about}
 
--- the cell that a row is about, by the numbers
-pub about_cell : (d : Things) (s : Subject) (cells : List Cell) (place : ℕ) (o : Option Cell) → place ≡ place_about (map (cell_meaning d) cells) → slice_get cells place ≡ o → names_there s (option_map (cell_meaning d) o) ≡ is_about s (map (cell_meaning d) cells)
+-- the cell that names the subject of a row, by term numbers
+pub about_cell : (d : ContextModel) (s : Subject) (cells : List Cell) (place : ℕ) (o : Option Cell) → place ≡ place_about (map (cell_meaning d) cells) → slice_get cells place ≡ o → names_there s (option_map (cell_meaning d) o) ≡ is_about s (map (cell_meaning d) cells)
 about_cell d s cells place o at is =
     ap (λ z. names_there s (option_map (cell_meaning d) z)) (sym is)
     ∙ ap (names_there s) (sym (slice_get-map (cell_meaning d) cells place))
@@ -24,7 +24,7 @@ on_ok P Q (Ok a) f h = f h
 on_ok P Q (Err e) f h = tt
 
 module _ (s : Subject) (row : RowTerm) (out new : List ℕ) where
-  -- a row is written, or isn't
+  -- a row is written if it is about the subject
   pub row_shown : {A E : Type 0} (r : Result A E) → is_about s row ≡ true → OnOk r (new ≡ out ++ row_text row) → OnOk r (new ≡ out ++ rows_text (rows_about s (row ∷ [])))
   row_shown r about =
       on_ok (new ≡ out ++ row_text row) (new ≡ out ++ rows_text (rows_about s (row ∷ []))) r
@@ -33,7 +33,7 @@ module _ (s : Subject) (row : RowTerm) (out new : List ℕ) where
   pub row_hidden : is_about s row ≡ false → out ≡ out ++ rows_text (rows_about s (row ∷ []))
   row_hidden other = sym (append-nil out) ∙ ap (λ b. out ++ rows_text (cond b (row ∷ []) [])) (sym other)
 
-module _ (d : Things) (s : Subject) (rows : List Row) (i : ℕ) where
+module _ (d : ContextModel) (s : Subject) (rows : List Row) (i : ℕ) where
   abbrev text : List Row → List ℕ
   text rs = rows_text (rows_about s (rows_meaning d rs))
 

@@ -1,13 +1,13 @@
--- Rows that are written one after the other.
+-- Proofs about writing rows one by one.
 use Rattle.std.proofs.Common.{◌≡◌, ◌∙◌, sym, ap, ℕ, ◌+◌, ◌<◌, ◌≤◌, List, ◌++◌, length, get_or, drop, append_assoc, append-nil}
 use Rattle.std.proofs.lemmas.List.{at_drop_all}
-use Rattle.ir_event.specs.types.Things.{Things}
+use Rattle.ir_event.specs.types.Things.{ContextModel}
 use Rattle.ir_event.specs.declared.row.Row.{Row}
 use Rattle.ir_event.specs.Rows.{row_meaning, rows_meaning}
 use Rattle.mlir_work_session_base.specs.RowText.{row_text, rows_text}
 use Rattle.ir_event.proofs.of_trees.Steps.{next_left}
 
-module _ (d : Things) (rows : List Row) (i : ℕ) where
+module _ (d : ContextModel) (rows : List Row) (i : ℕ) where
   abbrev text : List Row → List ℕ
   text rs = rows_text (rows_meaning d rs)
 

@@ -1,4 +1,4 @@
--- The text of a module with the ids of its operations: each line ends with that of the operation of which it is a part.
+-- The text of a module with operation ids: each line ends with the id of the operation that it is a part of.
 use Rattle.std.specs.Prelude.{ℕ, List, [], ◌∷◌, ◌++◌, drop, codes}
 use Rattle.ir_event.specs.trees.Meaning.{Operation}
 use Rattle.ir_event.specs.trees.Tree.{OpOf, op, RegionsOf, no_regions, region}
@@ -7,19 +7,18 @@ use Rattle.ir_text.specs.Printing.{text_of}
 use Rattle.mlir_work_script_base.specs.Lines.{lines_of}
 use Rattle.mlir_work_script_base.specs.Values.{op_text}
 
--- a block without arguments has a line of its own in front of its operations where there are none: x is the operation
--- around it
+-- an empty block without arguments has a label line; `x` is the operation around it
 abbrev pub bare_label_ids : {N T A : Type 0} → ℕ → OpsOf N T A → List ℕ
 bare_label_ids x no_ops = x ∷ []
 bare_label_ids x (next o os) = []
 
--- and one with arguments has it always
+-- a block with arguments always has a label line
 abbrev pub label_ids : {N T A : Type 0} → ℕ → List T → OpsOf N T A → List ℕ
 label_ids x [] os = bare_label_ids x os
 label_ids x (t ∷ ts) os = x ∷ []
 
--- the operations of which the lines of a text are parts, in order: an operation begins a line, and so does the end of each
--- of its regions that has a block
+-- the operation of each line of a text in order: a line begins with an operation or with the end of one of its
+-- regions that has a block
 abbrev mutual
   pub line_ids : {N T A : Type 0} → OpOf N T A → List ℕ
   line_ids (op h rs) = h.id ∷ regions_line_ids h.id rs
@@ -36,7 +35,7 @@ abbrev mutual
   ops_line_ids no_ops = []
   ops_line_ids (next o os) = line_ids o ++ ops_line_ids os
 
--- the end of a line, by the ids of it and those behind it: ` // #3`, a comment
+-- the end of a line with the first of the remaining ids as a comment: ` // #3`
 abbrev pub line_end : List ℕ → List ℕ
 line_end [] = codes "\n"
 line_end (x ∷ xs) = codes " // " ++ (op_text x ++ codes "\n")

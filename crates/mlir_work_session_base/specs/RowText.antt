@@ -1,4 +1,4 @@
--- How the rows of a report are written.
+-- The text of report rows.
 use Rattle.std.specs.Prelude.{ℕ, ◌==◌, true, if◌then◌else◌, List, [], ◌∷◌, ◌++◌, map, codes}
 use Rattle.std.specs.Fmt.{decimal}
 use Rattle.ir_event.specs.types.Bits.{type_of, width_of}
@@ -23,7 +23,7 @@ tag_text n =
     else if n == 8 then codes "read"
     else codes "write"
 
--- a cell: `#3`, `%v2.0`, a number, `@f`, a symbol reference, a known value as its attribute, `V7`, a word
+-- a cell: `#3`, `%v2.0`, a number, `@f`, a symbol reference, a constant value as its attribute, `V7`, a word
 abbrev pub cell_text : CellTerm → List ℕ
 cell_text (Op x) = op_text x
 cell_text (Val v) = value_text v
@@ -34,11 +34,11 @@ cell_text (Bits kind value) = integer_text (type_of kind) (signed_of (width_of k
 cell_text (Rule r) = codes "V" ++ decimal r
 cell_text (Tag t) = tag_text t
 
--- a row: its cells with a space between, and a line feed
+-- a row: its cells separated by spaces, and a line feed
 abbrev pub row_text : RowTerm → List ℕ
 row_text row = parted (codes " ") true (map cell_text row) ++ codes "\n"
 
--- rows, one after the other
+-- rows one after another
 abbrev pub rows_text : List RowTerm → List ℕ
 rows_text [] = []
 rows_text (row ∷ rows) = row_text row ++ rows_text rows

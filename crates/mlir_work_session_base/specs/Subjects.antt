@@ -1,4 +1,4 @@
--- What of a report is about one operation or one value.
+-- The report rows about one operation or one value.
 use Rattle.std.specs.Prelude.{ℕ, List, [], ◌∷◌, ◌==◌, ◌||◌, Bool, false, filter, if◌then◌else◌, Option, Some, None}
 use Rattle.std.specs.Prelude.{slice_get}
 use Rattle.ir_event.specs.types.declared.refusal.Refusal.{Refusal}
@@ -15,14 +15,14 @@ use Rattle.ir_event.specs.declared.tag.Tag.TheVariants as word
 use Rattle.mlir_work_script_base.specs.declared.subject.Subject.{Subject}
 use Rattle.mlir_work_script_base.specs.declared.subject.Subject.TheVariants as subject
 
--- ---- what a row is about
+-- ---- the subject of a row
 
 -- whether a row with this word defines a symbol
 abbrev pub defines : ℕ → Bool
 defines t = (t == tag_number word.Def) || (t == tag_number word.Duplicate)
 
--- the place of the cell that a row is about: the last of a definition or a duplicate, the one behind the word of a
--- reference or a call, and else the first
+-- the index of the cell that names the subject of a row: the last cell of a definition or a duplicate, the cell after
+-- the word of a reference or a call, and the first cell otherwise
 abbrev pub place_about : RowTerm → ℕ
 place_about [] = 0
 place_about (Op x ∷ cells) = 0
@@ -34,7 +34,7 @@ place_about (Bits kind value ∷ cells) = 0
 place_about (Rule r ∷ cells) = 0
 place_about (Tag t ∷ cells) = if defines t then 3 else 1
 
--- whether a cell is an operation, or a value that belongs to it
+-- whether a cell is an operation or a value that belongs to it
 abbrev pub is_of_op : ℕ → CellTerm → Bool
 is_of_op x (Op y) = y == x
 is_of_op x (Val v) = (owner_of v).0 == x
@@ -45,7 +45,7 @@ is_of_op x (Bits kind value) = false
 is_of_op x (Rule r) = false
 is_of_op x (Tag t) = false
 
--- whether it is a value
+-- whether a cell is a value
 abbrev pub is_of_value : Value → CellTerm → Bool
 is_of_value v (Op y) = false
 is_of_value v (Val w) = same_value w v
@@ -64,21 +64,22 @@ abbrev pub names_there : Subject → Option CellTerm → Bool
 names_there s None = false
 names_there s (Some cell) = names s cell
 
--- whether a row is about an operation or a value: what is about a value is also about the operation that it belongs to
+-- whether a row is about an operation or a value; a row about a value is also about the operation that the value
+-- belongs to
 abbrev pub is_about : Subject → RowTerm → Bool
 is_about s row = names_there s (slice_get row (place_about row))
 
--- the rows that are, in order
+-- the rows about a subject, in order
 abbrev pub rows_about : Subject → List RowTerm → List RowTerm
 rows_about s rows = filter (is_about s) rows
 
--- ---- whether it is there
+-- ---- missing subjects
 
 abbrev pub is_there : Subject → Operation → Bool
 is_there (subject.Op x) t = has_id x t
 is_there (subject.Val v) t = has_value v t
 
--- how it is refused where it isn't
+-- the refusal for a missing subject
 abbrev pub absent : Subject → Refusal
 absent (subject.Op x) = NoSuchOp
 absent (subject.Val v) = NoSuchValue

@@ -1,4 +1,4 @@
-//! The text of a module with the ids of its operations.
+//! Writes the text of a module with the ids of its operations.
 ghost use Rattle.std.specs.Prelude.{◌≡◌, ◌++◌, ◌∷◌, [], drop, IfOk, IsTrue, OnOk};
 ghost use Rattle.ir_event.specs.trees.Meaning.{is_known, meaning};
 ghost use Rattle.ir_event.specs.trees.Tree.{ops_of};
@@ -15,7 +15,8 @@ use mlir_work_script_base::cells;
 use mlir_work_script_base::lines::split_line;
 use std::alloc::{AllocError, Global};
 
-/// Adds the operation of the line that a block without arguments has in front of its operations, where it has one.
+/// Pushes the id for the label line of a block without arguments. The text has such a line only if the block is
+/// empty.
 fn push_bare_label(out: &mut Vec<OpId>, around: OpId, ops: &[TreeOp]) -> Result<(), AllocError>
     ensures { OnOk result (out.new.items ≡ out.old.items ++ bare_label_ids around (ops_of ops.now)) }
 {
@@ -28,7 +29,7 @@ fn push_bare_label(out: &mut Vec<OpId>, around: OpId, ops: &[TreeOp]) -> Result<
     }
 }
 
-/// Adds the operation of the line that a block has in front of its operations, where it has one.
+/// Pushes the id for the label line of a block, if the text has one.
 fn push_label(
     out: &mut Vec<OpId>,
     around: OpId,
@@ -46,7 +47,7 @@ fn push_label(
     }
 }
 
-/// Adds the operations of the lines of an operation's text.
+/// Pushes an id for each line of an operation's text.
 #[cycle(lines)]
 fn push_lines(out: &mut Vec<OpId>, tree: &TreeOp) -> Result<(), AllocError>
     ensures { OnOk result (out.new.items ≡ out.old.items ++ line_ids tree.now) }
@@ -58,7 +59,7 @@ fn push_lines(out: &mut Vec<OpId>, tree: &TreeOp) -> Result<(), AllocError>
     Ok(())
 }
 
-/// Adds the operations of the lines of a region's text, which stands in an operation.
+/// Pushes an id for each line of the text of an operation's region.
 #[cycle(lines)]
 fn push_region_lines(
     out: &mut Vec<OpId>,
@@ -80,34 +81,34 @@ fn push_region_lines(
     }
 }
 
-/// Appends the end of a line, by the operations of it and of those behind it.
-fn put_line_end(out: &mut Vec<u8>, ids: &[OpId]) -> Result<(), AllocError>
+/// Appends the end of a line, with the first of the remaining ids as a comment.
+fn write_line_end(out: &mut Vec<u8>, ids: &[OpId]) -> Result<(), AllocError>
     ensures { OnOk result (out.new.items ≡ out.old.items ++ line_end ids.now) }
 {
     let [id, ..] = ids else {
         return out.extend_from_slice(b"\n");
     };
     out.extend_from_slice(b" // ")?;
-    put_op(out, *id)?;
+    write_op(out, *id)?;
     out.extend_from_slice(b"\n")
 }
 
-fn put_op(out: &mut Vec<u8>, op: OpId) -> Result<(), AllocError>
+fn write_op(out: &mut Vec<u8>, op: OpId) -> Result<(), AllocError>
     ensures { OnOk result (out.new.items ≡ out.old.items ++ op_text op) }
 {
-    cells::put_op_id(out, op).map_err(|_| AllocError)
+    cells::write_op_id(out, op).map_err(|_| AllocError)
 }
 
 /// Appends a line with its end.
-fn put_line(out: &mut Vec<u8>, line: &[u8], ids: &[OpId]) -> Result<(), AllocError>
+fn write_line(out: &mut Vec<u8>, line: &[u8], ids: &[OpId]) -> Result<(), AllocError>
     ensures { OnOk result (out.new.items ≡ out.old.items ++ (line.now ++ line_end ids.now)) }
 {
     out.extend_from_slice(line)?;
-    put_line_end(out, ids)
+    write_line_end(out, ids)
 }
 
-/// All but the first.
-fn behind_first(ids: &[OpId]) -> &[OpId]
+/// Returns the ids without the first.
+fn trailing_first(ids: &[OpId]) -> &[OpId]
     ensures { result.now ≡ drop 1 ids.now }
 {
     match ids {
@@ -117,32 +118,32 @@ fn behind_first(ids: &[OpId]) -> &[OpId]
 }
 
 /// Appends lines with the ids of their operations.
-fn put_lines(out: &mut Vec<u8>, text: &[u8], ids: &[OpId]) -> Result<(), AllocError>
+fn write_lines(out: &mut Vec<u8>, text: &[u8], ids: &[OpId]) -> Result<(), AllocError>
     ensures { OnOk result (out.new.items ≡ out.old.items ++ with_ids (lines_of text.now) ids.now) }
 {
     let mut rest = text;
     let mut left = ids;
     while !rest.is_empty() {
-        let (line, behind) = split_line(rest);
-        put_line(out, line, left)?;
-        rest = behind;
-        left = behind_first(left);
+        let (line, trailing) = split_line(rest);
+        write_line(out, line, left)?;
+        rest = trailing;
+        left = trailing_first(left);
     }
     Ok(())
 }
 
-/// The lines of a text, with the ids of their operations.
+/// Returns a text with the ids of its operations at the line ends.
 fn numbered(alloc: Global, text: &[u8], tree: &TreeOp) -> Result<Vec<u8>, AllocError>
     ensures { IfOk result (λ out. out.items ≡ with_ids (lines_of text.now) (line_ids tree.now)) }
 {
     let mut ids = Vec::new(alloc);
     push_lines(&mut ids, tree)?;
     let mut out = Vec::new(alloc);
-    put_lines(&mut out, text, &ids)?;
+    write_lines(&mut out, text, &ids)?;
     Ok(out)
 }
 
-/// The text of a tree, with the ids of its operations.
+/// Returns the text of a tree with the ids of its operations.
 pub fn text_with_ids(alloc: Global, ctx: &Context, tree: &TreeOp) -> Result<Vec<u8>, AllocError>
     requires { IsTrue (is_known ctx.now tree.now) }
     ensures { IfOk result (λ out. out.items ≡ ids_text (meaning ctx.now tree.now)) }

@@ -1,8 +1,8 @@
-//! What a session stands on: the text of rows, the text of a module with the ids of its operations, and listeners that
-//! are made by their kind.
+//! The parts of a session that know no script: the text of report rows (`rows`, `subjects`), the text of a module
+//! with operation ids (`ids`), and listeners that are created by kind (`analysis_source`).
 #![tactic(auto)]
 
+pub mod analysis_source;
 pub mod ids;
 pub mod rows;
 pub mod subjects;
-pub mod supplied;

@@ -1,4 +1,4 @@
-//! The text of a report's rows.
+//! Writes the text of report rows.
 ghost use Rattle.std.specs.Prelude.{◌≡◌, ◌<◌, ◌++◌, [], if◌then◌else◌, true, map, codes, OnOk, IfOk};
 ghost use Rattle.std.specs.Fmt.{decimal, signed_decimal};
 ghost use Rattle.std.specs.List.{All};
@@ -19,33 +19,33 @@ use ir_event::trees::value::Value;
 use ir_event::types::bits::{Bits, BitsKind};
 use ir_event::types::context::Context;
 use ir_event::types::ids::{NameId, OpId};
-use ir_text::attributes::put_attr;
-use ir_text::printer::put_symbol;
+use ir_text::attributes::print_attr;
+use ir_text::printer::print_symbol;
 use itoa::Buffer;
 use mlir_work_script_base::cells;
 use std::alloc::{AllocError, Global};
 
-fn put_number(out: &mut Vec<u8>, number: u32) -> Result<(), AllocError>
+fn write_number(out: &mut Vec<u8>, number: u32) -> Result<(), AllocError>
     ensures { OnOk result (out.new.items ≡ out.old.items ++ decimal number) }
 {
     let mut buffer = Buffer::new();
     out.extend_from_slice(buffer.format(number).as_bytes())
 }
 
-fn put_op(out: &mut Vec<u8>, op: OpId) -> Result<(), AllocError>
+fn write_op(out: &mut Vec<u8>, op: OpId) -> Result<(), AllocError>
     ensures { OnOk result (out.new.items ≡ out.old.items ++ op_text op) }
 {
-    cells::put_op_id(out, op).map_err(|_| AllocError)
+    cells::write_op_id(out, op).map_err(|_| AllocError)
 }
 
-fn put_value(out: &mut Vec<u8>, value: Value) -> Result<(), AllocError>
+fn write_value(out: &mut Vec<u8>, value: Value) -> Result<(), AllocError>
     ensures { OnOk result (out.new.items ≡ out.old.items ++ value_text value) }
 {
-    cells::put_value(out, value).map_err(|_| AllocError)
+    cells::write_value(out, value).map_err(|_| AllocError)
 }
 
-/// A number of a type, but for `i1` without the type.
-fn put_signed(out: &mut Vec<u8>, truth: bool, number: i128) -> Result<(), AllocError>
+/// Appends an integer without its type: a decimal number, or `true` or `false` for an `i1`.
+fn write_signed(out: &mut Vec<u8>, truth: bool, number: i128) -> Result<(), AllocError>
     ensures { OnOk result (out.new.items ≡ out.old.items ++ number_text truth number) }
 {
     if truth {
@@ -56,23 +56,23 @@ fn put_signed(out: &mut Vec<u8>, truth: bool, number: i128) -> Result<(), AllocE
     out.extend_from_slice(buffer.format(number).as_bytes())
 }
 
-/// A known value, as the attribute that it is.
-fn put_bits(out: &mut Vec<u8>, bits: &Bits) -> Result<(), AllocError>
+/// Appends a constant value as its attribute.
+fn write_bits(out: &mut Vec<u8>, bits: &Bits) -> Result<(), AllocError>
     ensures { OnOk result (out.new.items ≡ out.old.items ++ integer_text (type_of bits.now.kind) (signed_of (width_of bits.now.kind) bits.now.value)) }
 {
     let number = bits.number();
     match bits.kind {
         BitsKind::Index => {
-            put_signed(out, false, number)?;
+            write_signed(out, false, number)?;
             out.extend_from_slice(b" : index")
         }
         BitsKind::Int(width) => {
             if width == 1 {
-                return put_signed(out, true, number);
+                return write_signed(out, true, number);
             }
-            put_signed(out, false, number)?;
+            write_signed(out, false, number)?;
             out.extend_from_slice(b" : i")?;
-            put_number(out, width)
+            write_number(out, width)
         }
     }
 }
@@ -84,7 +84,7 @@ fn name_of(ctx: &Context, id: NameId) -> &[u8]
     ctx.name_bytes(id)
 }
 
-/// The word of a tag.
+/// Returns the word of a tag.
 fn tag_word(tag: u8) -> &'static [u8]
     requires { tag < 10 }
     ensures { result.now ≡ tag_text tag }
@@ -103,32 +103,32 @@ fn tag_word(tag: u8) -> &'static [u8]
     }
 }
 
-fn put_rule(out: &mut Vec<u8>, rule: u8) -> Result<(), AllocError>
+fn write_rule(out: &mut Vec<u8>, rule: u8) -> Result<(), AllocError>
     ensures { OnOk result (out.new.items ≡ out.old.items ++ (codes "V" ++ decimal rule)) }
 {
     out.push(b'V')?;
-    put_number(out, u32::from(rule))
+    write_number(out, u32::from(rule))
 }
 
 /// Appends a cell.
-fn put_cell(ctx: &Context, out: &mut Vec<u8>, cell: &Cell) -> Result<(), AllocError>
+fn write_cell(ctx: &Context, out: &mut Vec<u8>, cell: &Cell) -> Result<(), AllocError>
     requires { CellIsOf ctx.now cell.now }
     ensures { OnOk result (out.new.items ≡ out.old.items ++ cell_text (cell_meaning ctx.now cell.now)) }
 {
     match cell {
-        Cell::Op(op) => put_op(out, *op),
-        Cell::Val(value) => put_value(out, *value),
-        Cell::Num(number) => put_number(out, *number),
-        Cell::Name(name) => put_symbol(out, name_of(ctx, *name)),
-        Cell::Path(path) => put_attr(ctx, out, *path),
-        Cell::Bits(bits) => put_bits(out, bits),
-        Cell::Rule(rule) => put_rule(out, *rule),
+        Cell::Op(op) => write_op(out, *op),
+        Cell::Val(value) => write_value(out, *value),
+        Cell::Num(number) => write_number(out, *number),
+        Cell::Name(name) => print_symbol(out, name_of(ctx, *name)),
+        Cell::Path(path) => print_attr(ctx, out, *path),
+        Cell::Bits(bits) => write_bits(out, bits),
+        Cell::Rule(rule) => write_rule(out, *rule),
         Cell::Tag(tag) => out.extend_from_slice(tag_word(*tag)),
     }
 }
 
-/// A space, unless the first cell of a row follows.
-fn put_space(out: &mut Vec<u8>, first: bool) -> Result<(), AllocError>
+/// Appends a space, unless the next cell is the first of its row.
+fn write_space(out: &mut Vec<u8>, first: bool) -> Result<(), AllocError>
     ensures { OnOk result (out.new.items ≡ out.old.items ++ (if first then [] else codes " ")) }
 {
     if first {
@@ -137,47 +137,47 @@ fn put_space(out: &mut Vec<u8>, first: bool) -> Result<(), AllocError>
     out.extend_from_slice(b" ")
 }
 
-/// Appends cells with a space between.
-fn put_cells(ctx: &Context, out: &mut Vec<u8>, cells: &[Cell]) -> Result<(), AllocError>
+/// Appends cells separated by spaces.
+fn write_cells(ctx: &Context, out: &mut Vec<u8>, cells: &[Cell]) -> Result<(), AllocError>
     requires { All (CellIsOf ctx.now) cells.now }
     ensures { OnOk result (out.new.items ≡ out.old.items ++ parted (codes " ") true (map cell_text (map (cell_meaning ctx.now) cells.now))) }
 {
     let mut first = true;
     'cells: for cell in cells {
-        put_space(out, first)?;
+        write_space(out, first)?;
         first = false;
-        put_cell(ctx, out, cell)?;
+        write_cell(ctx, out, cell)?;
     }
     Ok(())
 }
 
 /// Appends a row.
-pub(crate) fn put_row(ctx: &Context, out: &mut Vec<u8>, row: &Row) -> Result<(), AllocError>
+pub(crate) fn write_row(ctx: &Context, out: &mut Vec<u8>, row: &Row) -> Result<(), AllocError>
     requires { RowIsOf ctx.now row.now }
     ensures { OnOk result (out.new.items ≡ out.old.items ++ row_text (row_meaning ctx.now row.now)) }
 {
-    put_cells(ctx, out, &row.cells)?;
+    write_cells(ctx, out, &row.cells)?;
     out.extend_from_slice(b"\n")
 }
 
 /// Appends rows.
-fn put_rows(ctx: &Context, out: &mut Vec<u8>, rows: &[Row]) -> Result<(), AllocError>
+fn write_rows(ctx: &Context, out: &mut Vec<u8>, rows: &[Row]) -> Result<(), AllocError>
     requires { All (RowIsOf ctx.now) rows.now }
     ensures { OnOk result (out.new.items ≡ out.old.items ++ rows_text (rows_meaning ctx.now rows.now)) }
 {
     'rows: for row in rows {
-        put_row(ctx, out, row)?;
+        write_row(ctx, out, row)?;
     }
     Ok(())
 }
 
-/// The text of rows.
+/// Returns the text of rows.
 pub fn text_of_rows(alloc: Global, ctx: &Context, rows: &[Row]) -> Result<Vec<u8>, AllocError>
     requires { All (RowIsOf ctx.now) rows.now }
     ensures { IfOk result (λ text. text.items ≡ rows_text (rows_meaning ctx.now rows.now)) }
 {
     let mut out = Vec::new(alloc);
-    match put_rows(ctx, &mut out, rows) {
+    match write_rows(ctx, &mut out, rows) {
         Ok(()) => Ok(out),
         Err(e) => Err(e),
     }

@@ -1,7 +1,7 @@
-//! The rows of a report that are about one operation or one value.
+//! Selects the report rows about one operation or one value.
 ghost use Rattle.std.specs.Prelude.{◌≡◌, ◌<◌, ◌++◌, [], ◌∷◌, if◌then◌else◌, map, OnOk, IfOk};
 ghost use Rattle.std.specs.List.{All};
-ghost use Rattle.ir_event.specs.types.Things.{Things};
+ghost use Rattle.ir_event.specs.types.Things.{ContextModel};
 ghost use Rattle.ir_event.specs.trees.Frames.{owner_of};
 ghost use Rattle.ir_event.specs.trees.Uses.{same_value};
 ghost use Rattle.ir_event.specs.Rows.{RowIsOf, cell_meaning, row_meaning, rows_meaning};
@@ -9,7 +9,7 @@ ghost use Rattle.mlir_work_session_base.specs.RowText.{row_text, rows_text};
 ghost use Rattle.mlir_work_session_base.specs.Subjects.{defines, is_about, is_of_op, is_of_value, names, place_about};
 ghost use Rattle.mlir_work_session_base.specs.Subjects.{rows_about};
 
-use crate::rows::put_row;
+use crate::rows::write_row;
 use ir_event::row::{Cell, Row};
 use ir_event::tag::Tag;
 use ir_event::trees::value::Value;
@@ -18,16 +18,16 @@ use ir_event::types::ids::OpId;
 use mlir_work_script_base::subject::Subject;
 use std::alloc::{AllocError, Global};
 
-/// Whether a row with this word defines a symbol.
+/// Returns whether a row with this word defines a symbol.
 fn defines(tag: u8) -> bool
     ensures { result ≡ defines tag }
 {
     tag == Tag::Def.number() || tag == Tag::Duplicate.number()
 }
 
-/// The place of the cell that a row of these is about.
+/// Returns the index of the cell that names the subject of a row.
 fn place_about(cells: &[Cell]) -> usize
-    ensures { (c : Things) → result ≡ place_about (map (cell_meaning c) cells.now) }
+    ensures { (c : ContextModel) → result ≡ place_about (map (cell_meaning c) cells.now) }
 {
     match cells {
         [Cell::Tag(tag), ..] => { if defines(*tag) { 3 } else { 1 } }
@@ -35,7 +35,7 @@ fn place_about(cells: &[Cell]) -> usize
     }
 }
 
-/// The operation that a value belongs to.
+/// Returns the operation that defines a value, or whose block has it as an argument.
 fn owner(value: Value) -> OpId
     ensures { result ≡ (owner_of value).0 }
 {
@@ -45,16 +45,16 @@ fn owner(value: Value) -> OpId
     }
 }
 
-/// Whether two values are one.
+/// Returns whether two values are the same.
 fn same(one: Value, other: Value) -> bool
     ensures { result ≡ same_value one other }
 {
     one == other
 }
 
-/// Whether a cell is an operation, or a value that belongs to it.
+/// Returns whether a cell is an operation or a value that belongs to it.
 fn is_of_op(op: OpId, cell: &Cell) -> bool
-    ensures { (c : Things) → result ≡ is_of_op op (cell_meaning c cell.now) }
+    ensures { (c : ContextModel) → result ≡ is_of_op op (cell_meaning c cell.now) }
 {
     match cell {
         Cell::Op(it) => *it == op,
@@ -63,9 +63,9 @@ fn is_of_op(op: OpId, cell: &Cell) -> bool
     }
 }
 
-/// Whether a cell is a value.
+/// Returns whether a cell is a value.
 fn is_of_value(value: Value, cell: &Cell) -> bool
-    ensures { (c : Things) → result ≡ is_of_value value (cell_meaning c cell.now) }
+    ensures { (c : ContextModel) → result ≡ is_of_value value (cell_meaning c cell.now) }
 {
     match cell {
         Cell::Val(it) => same(*it, value),
@@ -73,9 +73,9 @@ fn is_of_value(value: Value, cell: &Cell) -> bool
     }
 }
 
-/// Whether a cell names an operation or a value.
+/// Returns whether a cell names an operation or a value.
 fn names(subject: &Subject, cell: &Cell) -> bool
-    ensures { (c : Things) → result ≡ names subject.now (cell_meaning c cell.now) }
+    ensures { (c : ContextModel) → result ≡ names subject.now (cell_meaning c cell.now) }
 {
     match subject {
         Subject::Op(op) => is_of_op(*op, cell),
@@ -83,9 +83,9 @@ fn names(subject: &Subject, cell: &Cell) -> bool
     }
 }
 
-/// Whether a row of these cells is about an operation or a value.
+/// Returns whether a row with these cells is about an operation or a value.
 fn is_about(subject: &Subject, cells: &[Cell]) -> bool
-    ensures { (c : Things) → result ≡ is_about subject.now (map (cell_meaning c) cells.now) }
+    ensures { (c : ContextModel) → result ≡ is_about subject.now (map (cell_meaning c) cells.now) }
 {
     match cells.get(place_about(cells)) {
         None => false,
@@ -93,8 +93,8 @@ fn is_about(subject: &Subject, cells: &[Cell]) -> bool
     }
 }
 
-/// Appends a row, if it is about an operation or a value.
-fn put_row_about(
+/// Appends a row if it is about an operation or a value.
+fn write_row_about(
     ctx: &Context,
     out: &mut Vec<u8>,
     subject: &Subject,
@@ -104,13 +104,13 @@ fn put_row_about(
     ensures { OnOk result (out.new.items ≡ out.old.items ++ rows_text (rows_about subject.now (row_meaning ctx.now row.now ∷ []))) }
 {
     if is_about(subject, &row.cells) {
-        return put_row(ctx, out, row);
+        return write_row(ctx, out, row);
     }
     Ok(())
 }
 
-/// Appends the rows that are about an operation or a value.
-fn put_rows_about(
+/// Appends the rows about an operation or a value.
+fn write_rows_about(
     ctx: &Context,
     out: &mut Vec<u8>,
     subject: &Subject,
@@ -120,12 +120,12 @@ fn put_rows_about(
     ensures { OnOk result (out.new.items ≡ out.old.items ++ rows_text (rows_about subject.now (rows_meaning ctx.now rows.now))) }
 {
     'rows: for row in rows {
-        put_row_about(ctx, out, subject, row)?;
+        write_row_about(ctx, out, subject, row)?;
     }
     Ok(())
 }
 
-/// The text of the rows that are about an operation or a value.
+/// Returns the text of the rows about an operation or a value.
 pub fn text_of_rows_about(
     alloc: Global,
     ctx: &Context,
@@ -136,7 +136,7 @@ pub fn text_of_rows_about(
     ensures { IfOk result (λ text. text.items ≡ rows_text (rows_about subject.now (rows_meaning ctx.now rows.now))) }
 {
     let mut out = Vec::new(alloc);
-    match put_rows_about(ctx, &mut out, subject, rows) {
+    match write_rows_about(ctx, &mut out, subject, rows) {
         Ok(()) => Ok(out),
         Err(e) => Err(e),
     }

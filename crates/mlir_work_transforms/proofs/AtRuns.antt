@@ -6,7 +6,7 @@ use Rattle.ir_event.specs.trees.Ids.{has_id}
 use Rattle.ir_event.specs.Modules.{Module}
 use Rattle.conversion.specs.patterns.Rule.{Rule}
 use Rattle.conversion.specs.patterns.Rewrites.{Rewrite, none, refused, becomes}
-use Rattle.conversion.specs.patterns.Canonicalization.{or_else, first_rule, greedy_rules, converged, limited, stopped, ended, end_of, go_on, lowest}
+use Rattle.conversion.specs.patterns.Canonicalization.{or_else, first_rule, greedy_rules, converged, limited, stopped, ended, end_of, go_on, highest_priority}
 use Rattle.conversion_base.proofs.Collapsing.{none_there}
 use Rattle.greedy.specs.Outcomes.{Applied, Refuses, is_limit}
 use Rattle.greedy.proofs.Comings.{IsCount, count_no_limit, limited_by, not_stopped, rules_count, stopped_is}
@@ -15,24 +15,24 @@ use Rattle.mlir_work_transforms.specs.AtRuns.{IsReasonAt, StopAt}
 
 module _ (x : ℕ) where
   -- ---- one rewrite, or none
-  goes_on : (left done : ℕ) (m n : Module) → lowest m x ≡ becomes n → rewritten_at x (suc left) done m ≡ rewritten_at x left (done + 1) n
+  goes_on : (left done : ℕ) (m n : Module) → highest_priority m x ≡ becomes n → rewritten_at x (suc left) done m ≡ rewritten_at x left (done + 1) n
   unfolding rewritten_at
   goes_on left done m n e = ap (λ a. go_on a m done (rewritten_at x left (done + 1))) e
 
-  ends : (left done : ℕ) (m : Module) → lowest m x ≡ none → rewritten_at x left done m ≡ ended m done converged
+  ends : (left done : ℕ) (m : Module) → highest_priority m x ≡ none → rewritten_at x left done m ≡ ended m done converged
   unfolding rewritten_at
   ends zero done m e = ap (λ a. ended m done (end_of a)) e
   ends (suc left) done m e = ap (λ a. go_on a m done (rewritten_at x left (done + 1))) e
 
-  stops_for : (left done : ℕ) (m : Module) (e : Refusal) → lowest m x ≡ refused e → rewritten_at x (suc left) done m ≡ stopped e
+  stops_for : (left done : ℕ) (m : Module) (e : Refusal) → highest_priority m x ≡ refused e → rewritten_at x (suc left) done m ≡ stopped e
   unfolding rewritten_at
   stops_for left done m e h = ap (λ a. go_on a m done (rewritten_at x left (done + 1))) h
 
-  at_limit : (done : ℕ) (m : Module) → lowest m x ≢ none → rewritten_at x zero done m ≡ ended m done limited
+  at_limit : (done : ℕ) (m : Module) → highest_priority m x ≢ none → rewritten_at x zero done m ≡ ended m done limited
   unfolding rewritten_at
-  at_limit done m n = ap (ended m done) (limited_by (lowest m x) n)
+  at_limit done m n = ap (ended m done) (limited_by (highest_priority m x) n)
 
-  -- ---- a run that came of a module, so far
+  -- ---- a run so far
   pub at_start : (limit : ℕ) (m : Module) → rewritten_at x (limit - 0) 0 m ≡ rewritten_at x limit 0 m
   at_start limit m = let e : limit - 0 ≡ limit = omega arith in ap (λ k. rewritten_at x k 0 m) e
 
@@ -43,40 +43,40 @@ module _ (x : ℕ) where
     none_left : limit ≤ count → limit - count ≡ zero
     none_left l = omega (arith, l)
 
-    pub one_more : (n : Module) (b : Bool) → count < limit → b ≡ true → Applied (lowest m x) b m n → rewritten_at x (limit - (count + 1)) (count + 1) n ≡ rewritten_at x limit 0 old
-    one_more n b l t h = sym (goes_on (limit - (count + 1)) count m n (gave (lowest m x) refl h)) ∙ ap (λ k. rewritten_at x k count m) (sym (more_left l)) ∙ so_far
+    pub one_more : (n : Module) (b : Bool) → count < limit → b ≡ true → Applied (highest_priority m x) b m n → rewritten_at x (limit - (count + 1)) (count + 1) n ≡ rewritten_at x limit 0 old
+    one_more n b l t h = sym (goes_on (limit - (count + 1)) count m n (gave (highest_priority m x) refl h)) ∙ ap (λ k. rewritten_at x k count m) (sym (more_left l)) ∙ so_far
       where
-        gave : (a : Rewrite) → lowest m x ≡ a → Applied a b m n → lowest m x ≡ becomes n
+        gave : (a : Rewrite) → highest_priority m x ≡ a → Applied a b m n → highest_priority m x ≡ becomes n
         gave none e h = absurd (true≢false (sym t ∙ h.0))
         gave (refused e) f h = absurd h
         gave (becomes q) e h = e ∙ ap becomes (sym h.1)
 
-    pub converges : (n : Module) (b : Bool) → b ≡ false → Applied (lowest m x) b m n → rewritten_at x limit 0 old ≡ ended n count converged
-    converges n b f h = go (lowest m x) refl h
+    pub converges : (n : Module) (b : Bool) → b ≡ false → Applied (highest_priority m x) b m n → rewritten_at x limit 0 old ≡ ended n count converged
+    converges n b f h = go (highest_priority m x) refl h
       where
-        go : (a : Rewrite) → lowest m x ≡ a → Applied a b m n → rewritten_at x limit 0 old ≡ ended n count converged
+        go : (a : Rewrite) → highest_priority m x ≡ a → Applied a b m n → rewritten_at x limit 0 old ≡ ended n count converged
         go none e h = sym so_far ∙ ends (limit - count) count m e ∙ ap (λ p. ended p count converged) (sym h.1)
         go (refused g) e h = absurd h
         go (becomes q) e h = absurd (true≢false (sym h.0 ∙ f))
 
-    pub refuses : (full : Type 0) (e : Refusal) → count < limit → Refuses (lowest m x) full e → StopAt x limit old full e
+    pub refuses : (full : Type 0) (e : Refusal) → count < limit → Refuses (highest_priority m x) full e → StopAt x limit old full e
     refuses full e l (inl h) = inl h
     refuses full e l (inr (inl h)) = inr (inl (sym so_far ∙ ap (λ k. rewritten_at x k count m) (more_left l) ∙ stops_for (limit - (count + 1)) count m e h))
     refuses full e l (inr (inr h)) = inr (inr (h.0, h.1.1))
 
-    pub converged_there : lowest m x ≡ none → rewritten_at x limit 0 old ≡ ended m count converged
+    pub converged_there : highest_priority m x ≡ none → rewritten_at x limit 0 old ≡ ended m count converged
     converged_there n = sym so_far ∙ ends (limit - count) count m n
 
-    pub limited_there : limit ≤ count → lowest m x ≢ none → rewritten_at x limit 0 old ≡ ended m count limited
+    pub limited_there : limit ≤ count → highest_priority m x ≢ none → rewritten_at x limit 0 old ≡ ended m count limited
     limited_there l n = sym so_far ∙ ap (λ k. rewritten_at x k count m) (none_left l) ∙ at_limit count m n
 
-  -- ---- why a run is refused
+  -- ---- refusals of a run
   stop_count : (left done : ℕ) (m : Module) (e : Refusal) → rewritten_at x left done m ≡ stopped e → IsCount e
   unfolding rewritten_at
-  stop_count zero done m e h = absurd (not_stopped m done (end_of (lowest m x)) e h)
-  stop_count (suc left) done m e h = by (lowest m x) refl h (λ n. stop_count left (done + 1) n e)
+  stop_count zero done m e h = absurd (not_stopped m done (end_of (highest_priority m x)) e h)
+  stop_count (suc left) done m e h = by (highest_priority m x) refl h (λ n. stop_count left (done + 1) n e)
     where
-      by : (a : Rewrite) → lowest m x ≡ a → go_on a m done (rewritten_at x left (done + 1)) ≡ stopped e → ((n : Module) → rewritten_at x left (done + 1) n ≡ stopped e → IsCount e) → IsCount e
+      by : (a : Rewrite) → highest_priority m x ≡ a → go_on a m done (rewritten_at x left (done + 1)) ≡ stopped e → ((n : Module) → rewritten_at x left (done + 1) n ≡ stopped e → IsCount e) → IsCount e
       by none q h more = absurd (not_stopped m done converged e h)
       by (refused f) q h more = rules_count greedy_rules m x e (q ∙ ap refused (stopped_is f e h))
       by (becomes n) q h more = more n h
@@ -92,7 +92,7 @@ module _ (x : ℕ) where
     pub comes_from : (n : Module) → has_id x m.tree ≡ true → n ≡ m → canonicalization_at limit x m ≡ rewritten_at x limit 0 n
     comes_from n there same = from_there there ∙ ap (rewritten_at x limit 0) (sym same)
 
-    -- an operation that isn't there
+    -- a missing operation is refused with `NoSuchOp`
     pub absent_reason : (full : Type 0) → has_id x m.tree ≡ false → IsReasonAt limit x m full NoSuchOp
     absent_reason full gone = record {
       limited = (λ h. (let k : NoSuchOp ≡ BadLimit = h in absurd cc), λ f. absurd (true≢false (sym fits ∙ f)));
@@ -128,7 +128,7 @@ module _ (x : ℕ) where
   unfolding canonicalization_at
   no_limit limit m e = ap (λ b. cond b (canonical_at limit x m) (stopped BadLimit)) e
 
--- no rule applies where no operation is
+-- no rule matches at a missing operation
 pub none_at : (rs : List Rule) (m : Module) (x : ℕ) → has_id x m.tree ≡ false → first_rule rs m x ≡ none
 unfolding first_rule
 none_at [] m x e = refl

@@ -1,4 +1,4 @@
--- A conversion behind names that were interned is one of the bench before them.
+-- A conversion after its names were interned is a conversion of the rewriter before it.
 use Rattle.std.proofs.Common.{◌≡◌, refl, ap, sym, ◌∙◌, ◌⊎◌, subst, inl, inr, ℕ, List, [], ◌++◌, Result, Ok, Err, Option, Some, None}
 use Rattle.std.specs.Prelude.{IfErr, MatchResult, OnOk}
 use Rattle.ir_event.specs.types.Sound.{Holds}
@@ -7,8 +7,8 @@ use Rattle.ir_event.specs.types.declared.refusal.Refusal.TheVariants.{BadTarget,
 use Rattle.ir_event.specs.Listener.{Listener}
 use Rattle.ir_event.specs.Modules.{Module}
 use Rattle.conversion.proofs.of_rewriter.Together.{Ages}
-use Rattle.conversion.proofs.of_rewriter.Told.{heard_more}
-use Rattle.conversion.specs.rewriter.Benched.{Benched, Does, Led, state_of}
+use Rattle.conversion.proofs.of_rewriter.Told.{notified_more}
+use Rattle.conversion.specs.rewriter.RewriterCalls.{Benched, Does, Led, state_of}
 use Rattle.conversion.specs.rewriter.Held.{module_held}
 use Rattle.conversion.specs.rewriter.Moves.{Recorded}
 use Rattle.conversion.proofs.of_rewriter.Noted.{recorded_more}
@@ -17,16 +17,16 @@ use Rattle.conversion.specs.rewriter.Machine.{Change, Goes, IsFullSo, Nothing, R
 use Rattle.conversion.proofs.Replied.{converts_goes}
 use Rattle.conversion.specs.Benches.{seen}
 use Rattle.conversion.specs.Conversion.{Ended, converted, given_up, conversion_of}
-use Rattle.conversion.specs.Converting.{conversion_reply, conversion_to, converting, ended_as, ending, stay_to, stood_in}
-use Rattle.conversion.specs.Staying.{stay_of, stay_told}
-use Rattle.conversion.specs.declared.stay.Stay.{Stay}
-use Rattle.conversion_base.specs.declared.stood.Stood.{Stood}
+use Rattle.conversion.specs.Converting.{conversion_reply, conversion_to, converting, ended_as, ending, stay_to, applied_rules}
+use Rattle.conversion.specs.MatchFailures.{unlegalised_op, reported_failure}
+use Rattle.conversion.specs.declared.match_failure.MatchFailure.{MatchFailure}
+use Rattle.conversion_base.specs.declared.applied_rule.AppliedRule.{AppliedRule}
 use Rattle.conversion.specs.States.{State, Converts, Faults, IsFull, IsWant, Wants}
 use Rattle.conversion.specs.Targets.{Aim}
 use Rattle.conversion.specs.declared.fault.Fault.{Fault}
 use Rattle.mlir_work_transforms.specs.Interned.{Interned}
 
--- a want is a fault of any end
+-- a lack of room is an allowed fault of every conversion
 pub wants : (e : Ended) (refusal : Refusal) (s : State) → IsWant s.things refusal → Faults e (record { refusal = refusal; id = None }) s.things
 wants (converted m ks) refusal s w = (refl, w)
 wants (given_up f x) refusal s w = inr (refl, w)
@@ -35,7 +35,7 @@ converts_from : (e : Ended) (r : Result ℕ Fault) (a m b : State) → m.held �
 converts_from e (Ok n) a m b same c = c
 converts_from e (Err f) a m b same c = (c.0, c.1 ∙ same)
 
--- a conversion is refused with 31 only where that is due, or the context is full
+-- if a conversion is refused with 31, then the definition requires it or the context is full
 pub convert_full : (o : Option Aim) (s : Machine) (a b : State) (r : Result ℕ Fault) → Converts (conversion_to o s.held) r a b → IsFullSo (IsFull b.things) s (ending (conversion_to o)) (conversion_reply r)
 convert_full o s a b (Ok n) c is = absurd cc
 convert_full o s a b (Err f) c is = go (conversion_to o s.held) refl c.0
@@ -53,51 +53,51 @@ convert_full o s a b (Err f) c is = go (conversion_to o s.held) refl c.0
     go (given_up x y) so (inr w) = wanted w
 
 module _ {B : Type 0} (meaning : B → Listener) (o : Option Aim) (a m : Benched B) (interned : Interned meaning a m) where
-  held_same : module_held m.desk ≡ module_held a.desk
+  held_same : module_held m.transaction ≡ module_held a.transaction
   held_same = ap (λ (s : Machine). s.held) interned.same
 
-  -- the names had no room
-  pub refused_converts : (refusal : Refusal) → IsWant m.desk.ctx refusal → Converts (conversion_to o (module_held a.desk)) (Err (record { refusal = refusal; id = None })) (seen a) (seen m)
-  refused_converts refusal w = (wants (conversion_to o (module_held a.desk)) refusal (seen m) w, held_same)
+  -- there was no room for the names
+  pub refused_converts : (refusal : Refusal) → IsWant m.transaction.ctx refusal → Converts (conversion_to o (module_held a.transaction)) (Err (record { refusal = refusal; id = None })) (seen a) (seen m)
+  refused_converts refusal w = (wants (conversion_to o (module_held a.transaction)) refusal (seen m) w, held_same)
 
-  pub refused_does : (refusal : Refusal) → Ages meaning → IsWant m.desk.ctx refusal → Led meaning a m → Does meaning (Change (ending (conversion_to o))) (conversion_reply (Err (record { refusal = refusal; id = None }))) a m
+  pub refused_does : (refusal : Refusal) → Ages meaning → IsWant m.transaction.ctx refusal → Led meaning a m → Does meaning (Change (ending (conversion_to o))) (conversion_reply (Err (record { refusal = refusal; id = None }))) a m
   refused_does refusal ages w led = converts_goes meaning (conversion_to o) a m (ap (λ (s : Machine). s.marks) interned.same) ages (Err (record { refusal = refusal; id = None })) (refused_converts refusal w) led
 
-  -- a number names no rule
+  -- a number isn't a rule's
   abbrev unaimed : Fault
   unaimed = record { refusal = BadTarget; id = None }
 
-  pub unaimed_converts : None ≡ o → Converts (conversion_to o (module_held a.desk)) (Err unaimed) (seen a) (seen m)
-  unaimed_converts none = subst (λ (p : Option Aim). Converts (conversion_to p (module_held a.desk)) (Err unaimed) (seen a) (seen m)) none (inl (refl, refl), held_same)
+  pub unaimed_converts : None ≡ o → Converts (conversion_to o (module_held a.transaction)) (Err unaimed) (seen a) (seen m)
+  unaimed_converts none = subst (λ (p : Option Aim). Converts (conversion_to p (module_held a.transaction)) (Err unaimed) (seen a) (seen m)) none (inl (refl, refl), held_same)
 
   pub unaimed_does : Ages meaning → None ≡ o → Led meaning a m → Does meaning (Change (ending (conversion_to o))) (conversion_reply (Err unaimed)) a m
   unaimed_does ages none led = converts_goes meaning (conversion_to o) a m (ap (λ (s : Machine). s.marks) interned.same) ages (Err unaimed) (unaimed_converts none) led
 
-  pub then_led : (b : Benched B) → Holds a.desk.ctx → Led meaning m b → Led meaning a b
-  then_led b holds led = let one = interned.led holds in (one.1.0 ++ led.0, heard_more meaning one.1.0 led.0 a m b one.0 one.1.1 led.1)
+  pub then_led : (b : Benched B) → Holds a.transaction.ctx → Led meaning m b → Led meaning a b
+  then_led b holds led = let one = interned.led holds in (one.1.0 ++ led.0, notified_more meaning one.1.0 led.0 a m b one.0 one.1.1 led.1)
 
-  -- they had, and the bench was converted
+  -- the names were interned and the module was converted
   module _ (b : Benched B) (aim : Aim) (same : Some aim ≡ o) (r : Result ℕ Fault) where
-    pub then_converts : Converts (conversion_of aim (module_held m.desk)) r (seen m) (seen b) → Converts (conversion_to o (module_held a.desk)) r (seen a) (seen b)
+    pub then_converts : Converts (conversion_of aim (module_held m.transaction)) r (seen m) (seen b) → Converts (conversion_to o (module_held a.transaction)) r (seen a) (seen b)
     then_converts c =
-        converts_from (conversion_to o (module_held a.desk)) r (seen a) (seen m) (seen b) held_same
-        (subst (λ (n : Module). Converts (conversion_to o n) r (seen m) (seen b)) held_same (subst (λ (h : Option Aim). Converts (conversion_to h (module_held m.desk)) r (seen m) (seen b)) same c))
+        converts_from (conversion_to o (module_held a.transaction)) r (seen a) (seen m) (seen b) held_same
+        (subst (λ (n : Module). Converts (conversion_to o n) r (seen m) (seen b)) held_same (subst (λ (h : Option Aim). Converts (conversion_to h (module_held m.transaction)) r (seen m) (seen b)) same c))
 
     pub then_does : Does meaning (Change (converting aim)) (conversion_reply r) m b → Does meaning (Change (ending (conversion_to o))) (conversion_reply r) a b
     then_does d =
         subst (λ (s : Machine). Goes s (Change (ending (conversion_to o))) (conversion_reply r) Nothing (state_of meaning b)) interned.same
         (subst (λ (h : Option Aim). Goes (state_of meaning m) (Change (ending (conversion_to h))) (conversion_reply r) Nothing (state_of meaning b)) same d)
 
-    -- and what was told of it
-    pub then_told : (P : List Stood → Type 0) → OnOk r (P (stood_in (conversion_of aim (module_held m.desk)))) → OnOk r (P (stood_in (conversion_to o (module_held a.desk))))
+    -- the trace of the conversion
+    pub then_told : (P : List AppliedRule → Type 0) → OnOk r (P (applied_rules (conversion_of aim (module_held m.transaction)))) → OnOk r (P (applied_rules (conversion_to o (module_held a.transaction))))
     then_told P h =
-        subst (λ (n : Module). OnOk r (P (stood_in (conversion_to o n)))) held_same (subst (λ (q : Option Aim). OnOk r (P (stood_in (conversion_to q (module_held m.desk))))) same h)
+        subst (λ (n : Module). OnOk r (P (applied_rules (conversion_to o n)))) held_same (subst (λ (q : Option Aim). OnOk r (P (applied_rules (conversion_to q (module_held m.transaction))))) same h)
 
-    pub then_stays : (P : Option Stay → Type 0) → IfErr r (λ f. P (stay_told f.id (stay_of aim (module_held m.desk)))) → IfErr r (λ f. P (stay_told f.id (stay_to o (module_held a.desk))))
+    pub then_stays : (P : Option MatchFailure → Type 0) → IfErr r (λ f. P (reported_failure f.id (unlegalised_op aim (module_held m.transaction)))) → IfErr r (λ f. P (reported_failure f.id (stay_to o (module_held a.transaction))))
     then_stays P h =
-        subst (λ (n : Module). IfErr r (λ f. P (stay_told f.id (stay_to o n)))) held_same (subst (λ (q : Option Aim). IfErr r (λ f. P (stay_told f.id (stay_to q (module_held m.desk))))) same h)
+        subst (λ (n : Module). IfErr r (λ f. P (reported_failure f.id (stay_to o n)))) held_same (subst (λ (q : Option Aim). IfErr r (λ f. P (reported_failure f.id (stay_to q (module_held m.transaction))))) same h)
 
-  -- the journal
-  pub then_journal : {A : Type 0} (r : Result A Fault) (b : Benched B) → MatchResult r (λ _. Noted m.desk b.desk) (λ _. Recorded [] m.desk b.desk) → MatchResult r (λ _. Noted a.desk b.desk) (λ _. Recorded [] a.desk b.desk)
-  then_journal (Ok u) b n = ([] ++ n.0, recorded_more [] n.0 a.desk m.desk b.desk interned.left.marks interned.left n.1)
-  then_journal (Err f) b n = recorded_more [] [] a.desk m.desk b.desk interned.left.marks interned.left n
+  -- the journal after the conversion
+  pub then_journal : {A : Type 0} (r : Result A Fault) (b : Benched B) → MatchResult r (λ _. Noted m.transaction b.transaction) (λ _. Recorded [] m.transaction b.transaction) → MatchResult r (λ _. Noted a.transaction b.transaction) (λ _. Recorded [] a.transaction b.transaction)
+  then_journal (Ok u) b n = ([] ++ n.0, recorded_more [] n.0 a.transaction m.transaction b.transaction interned.left.marks interned.left n.1)
+  then_journal (Err f) b n = recorded_more [] [] a.transaction m.transaction b.transaction interned.left.marks interned.left n

@@ -11,3 +11,7 @@ pub mod Chosen
 pub mod Made
 pub use Rattle.conversion.proofs.of_rewriter
 pub use Rattle.greedy.proofs.Changing
+pub mod Joined
+pub mod Narrowed
+pub mod NamedPatterns
+pub mod Viewed

@@ -1,4 +1,4 @@
--- Rules by their numbers, one after another.
+-- Rules by their numbers, one by one.
 use Rattle.std.proofs.Common.{◌≡◌, refl, ap, sym, ◌∙◌, ℕ, ◌≤◌, ◌<◌, ◌-◌, List, [], ◌∷◌, ◌++◌, append-nil, append_assoc, length, take, drop, get_or, Option, Some, None, option_map, arith}
 use Rattle.std.specs.Prelude.{option_and_then}
 use Rattle.conversion.specs.Converting.{rules_of}
@@ -6,7 +6,7 @@ use Rattle.conversion.specs.Rule.{Rule}
 use Rattle.conversion.specs.RuleNames.{by_number}
 use Rattle.ir_event.proofs.of_types.Truths.{rest_at}
 
--- the front of a list, and what comes of its rest
+-- the rules found so far, followed by those of the remaining numbers
 abbrev pub joined : List Rule → Option (List Rule) → Option (List Rule)
 joined done rest = option_map (λ rs. done ++ rs) rest
 
@@ -21,7 +21,7 @@ pub one_joined : (done : List Rule) (r : Rule) (o : Option (List Rule)) → join
 one_joined done r None = refl
 one_joined done r (Some rs) = ap Some (sym (append_assoc done (r ∷ []) rs))
 
--- the first number names a rule
+-- the first number is a rule's
 pub rules_more : (all xs : List ℕ) (n d : ℕ) (r : Rule) (done more : List Rule) → 1 ≤ length xs → n ≡ get_or xs 0 d → joined done (rules_of xs) ≡ rules_of all → Some r ≡ by_number n → more ≡ done ++ r ∷ []
     → joined more (rules_of (take (length xs - 1) (drop 1 xs))) ≡ rules_of all
 rules_more all xs n d r done more l z h is e =
@@ -30,14 +30,14 @@ rules_more all xs n d r done more l z h is e =
     ∙ ap (λ o. joined done (option_and_then (λ r. option_map (λ rs. r ∷ rs) (rules_of rest)) o)) is
     ∙ sym (ap (λ ys. joined done (rules_of ys)) (rest_at xs n d l z)) ∙ h
 
--- it names none
+-- the first number isn't a rule's
 pub rules_stop : (all xs : List ℕ) (n d : ℕ) (done : List Rule) → 1 ≤ length xs → n ≡ get_or xs 0 d → joined done (rules_of xs) ≡ rules_of all → None ≡ by_number n → None ≡ rules_of all
 rules_stop all xs n d done l z h is =
     let rest = take (length xs - 1) (drop 1 xs) in
     ap (λ o. joined done (option_and_then (λ r. option_map (λ rs. r ∷ rs) (rules_of rest)) o)) is
     ∙ sym (ap (λ ys. joined done (rules_of ys)) (rest_at xs n d l z)) ∙ h
 
--- none is left
+-- no number is left
 pub rules_done : (all xs : List ℕ) (done : List Rule) → length xs < 1 → joined done (rules_of xs) ≡ rules_of all → Some done ≡ rules_of all
 rules_done all [] done l h = ap Some (sym (append-nil done)) ∙ h
 rules_done all (x ∷ xs) done l h = absurd (omega (arith, l))

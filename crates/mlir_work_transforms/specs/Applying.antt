@@ -1,4 +1,4 @@
--- Applying a rule, or a pattern of one's own, as a transformation.
+-- Applying a rule or a user pattern at an operation, as a transformation.
 use Rattle.std.specs.Prelude.{ℕ, Bool, true, false, Option, None, option_map, Result, Ok, Err, if◌then◌else◌}
 use Rattle.ir_event.specs.types.declared.refusal.Refusal.{Refusal}
 use Rattle.ir_event.specs.types.declared.refusal.Refusal.TheVariants.{NoSuchOp}
@@ -9,7 +9,7 @@ use Rattle.conversion.specs.rewriter.Machine.{Applied, DoneWith, Fault, Outcome,
 use Rattle.conversion.specs.patterns.Rewrites.{Rewrite, none, refused, becomes, rewrite_of}
 use Rattle.conversion.specs.patterns.RuleNames.{by_number, by_word}
 use Rattle.conversion.specs.patterns.Rule.{Rule}
-use Rattle.patterns_book.specs.Shapes.{Shape}
+use Rattle.user_patterns_data.specs.Shapes.{PatternModel}
 use Rattle.greedy.specs.own.Own.{own_rewrite}
 
 -- how often a rule was applied
@@ -17,37 +17,37 @@ abbrev pub applied_times : Bool → ℕ
 applied_times true = 1
 applied_times false = 0
 
--- what comes of a rewrite of a module
+-- the result of a rewrite of a module
 abbrev pub made_of : Rewrite → Module → Result (Outcome × Module) Fault
 made_of none m = Ok (Applied (applied_times false), m)
 made_of (becomes n) m = Ok (Applied (applied_times true), n)
 made_of (refused e) m = Err (record { refusal = e; op = None })
 
--- a rewrite at operation x of a module, which has to be there
+-- a rewrite at operation `x` of a module; a missing operation is refused with `NoSuchOp`
 abbrev pub applied_at : (Module → Rewrite) → ℕ → Module → Result (Outcome × Module) Fault
 applied_at w x m = if has_id x m.tree then made_of (w m) m else Err (record { refusal = NoSuchOp; op = None })
 
--- the transformation, which makes types and attributes
+-- the transformation; it may intern types and attributes
 abbrev pub rewriting_at : (Module → Rewrite) → ℕ → Transformation
 rewriting_at w x = record { transformed = applied_at w x; interns = true }
 
--- that of a rule, and that of a pattern of one's own
+-- the transformation of a rule, and that of a user pattern
 abbrev pub applying : Rule → ℕ → Transformation
 applying r x = rewriting_at (λ m. rewrite_of r m x) x
 
-abbrev pub applying_own : Shape → ℕ → Transformation
+abbrev pub applying_own : PatternModel → ℕ → Transformation
 applying_own p x = rewriting_at (λ m. own_rewrite p m x) x
 
--- the rule of a name
+-- the rule with this name
 abbrev pub rule_named : RuleName → Option Rule
 rule_named (Numbered n) = by_number n
 rule_named (Worded word) = by_word word
 
--- and the transformation of a command
+-- the transformation of a command
 abbrev pub application : RuleName → ℕ → Option Transformation
 application name x = option_map (λ r. applying r x) (rule_named name)
 
--- how applying a rule is replied to
+-- the reply to applying a rule
 abbrev pub applied_reply : Result Bool Refusal → Reply
 applied_reply (Ok done) = DoneWith (Applied (applied_times done))
 applied_reply (Err refusal) = Refused refusal

@@ -14,3 +14,6 @@ pub use Rattle.conversion.specs.declared.fault.Fault
 pub use Rattle.conversion.specs.patterns.Rule
 pub use Rattle.conversion.specs.rewriter
 pub use Rattle.greedy.specs as greedy
+pub mod RuleLists
+pub mod Unproved
+pub mod Views

@@ -1,8 +1,8 @@
-//! Converting the module of a bench.
+//! Converts the module.
 ghost use Rattle.std.specs.Prelude.{◌≡◌, [], true, IfErr, IfOk, MatchResult, OnOk};
-ghost use Rattle.ir_event.specs.types.Things.{Grows};
+ghost use Rattle.ir_event.specs.types.Things.{IsExtendedBy};
 ghost use Rattle.conversion.specs.rewriter.Machine.{Change};
-ghost use Rattle.conversion.specs.rewriter.Benched.{Does, Led};
+ghost use Rattle.conversion.specs.rewriter.RewriterCalls.{Does, Led};
 ghost use Rattle.conversion.specs.rewriter.Held.{module_held};
 ghost use Rattle.conversion.specs.rewriter.Moves.{Recorded};
 ghost use Rattle.conversion.specs.Runs.{Noted};
@@ -10,53 +10,53 @@ ghost use Rattle.mlir_work_script_base.specs.Clauses.{clauses_of, target_of as s
 ghost use Rattle.conversion.specs.Conversion.{has_no_cast};
 ghost use Rattle.conversion.specs.Benches.{seen};
 ghost use Rattle.conversion.specs.Converting.{command_aim, conversion, conversion_reply, conversion_to};
-ghost use Rattle.conversion.specs.Converting.{stay_to, stood_in};
-ghost use Rattle.conversion.specs.Staying.{stay_told};
+ghost use Rattle.conversion.specs.Converting.{stay_to, applied_rules};
+ghost use Rattle.conversion.specs.MatchFailures.{reported_failure};
 ghost use Rattle.conversion.specs.States.{Converts};
 ghost use Rattle.mlir_work_transforms.specs.ConvertText.{ToldFault, conversion_text, stay_below};
 
 use crate::convert_lines::{ConvertLines, line_of};
 use crate::target::target_of;
 use conversion::fault::Fault;
+use conversion::match_failure::MatchFailure;
 use conversion::rewriter::Bench;
 use conversion::rewriter::laws::led_benches_are_kept;
-use conversion::stay::Stay;
-use conversion::teller::{Silent, Teller};
+use conversion::tracer::{NoTracer, Tracer};
 use ir_event::analysis::Analysis;
 use ir_event::types::ids::OpId;
 use ir_event::types::refusal::Refusal;
 use mlir_work_script_base::clauses::Clauses;
 use std::alloc::{AllocError, Global};
 
-/// Converts the module of a bench (Dialect Conversion, "Modes of Conversion") for the target that clauses say, and
-/// tells of it. The names of its lists are interned first. The answer is how many rules stand; these are told. It is
-/// whole or not made at all; where an operation couldn't be legalised, it is told why.
+/// Converts the module (Dialect Conversion, "Modes of Conversion") to the target of the clauses, and reports each
+/// applied rule to the tracer. First interns the names of the clauses' lists. Returns the number of applied rules.
+/// Atomic: a refused call changes nothing. If an operation can't be legalized, the tracer gets the reason.
 ///
-/// Refusals: those of `conversion::convert::convert_told`; and `Full` or `Memory` where a name of a list has no room in
-/// the context, before the target is looked at.
-fn convert_told<L: Analysis, T: Teller>(
+/// Errors: those of `conversion::convert::convert_traced`; before them `Full` or `Memory` if there is no room for a
+/// listed name.
+fn convert_told<L: Analysis, T: Tracer>(
     alloc: Global,
     bench: &mut Bench<L>,
     full: bool,
     clauses: &Clauses<'_>,
-    teller: &mut T,
+    tracer: &mut T,
 ) -> Result<u32, Fault>
     ensures does { Does L.meaning (Change (conversion (said_target full (clauses_of clauses.now))))
         (conversion_reply result) bench.old bench.new }
     ensures converts { Converts
-        (conversion_to (command_aim (said_target full (clauses_of clauses.now))) (module_held bench.old.desk)) result
+        (conversion_to (command_aim (said_target full (clauses_of clauses.now))) (module_held bench.old.transaction)) result
         (seen bench.old) (seen bench.new) }
     ensures told { OnOk result (T.told
-        (stood_in (conversion_to (command_aim (said_target full (clauses_of clauses.now)))
-        (module_held bench.old.desk))) teller.old teller.new) }
+        (applied_rules (conversion_to (command_aim (said_target full (clauses_of clauses.now)))
+        (module_held bench.old.transaction))) tracer.old tracer.new) }
     ensures stays { IfErr result (λ f. T.stayed
-        (stay_told f.id (stay_to (command_aim (said_target full (clauses_of clauses.now)))
-        (module_held bench.old.desk))) teller.old teller.new) }
-    ensures none { OnOk result (has_no_cast (module_held bench.new.desk).tree ≡ true) }
-    ensures grows { Grows bench.old.desk.ctx bench.new.desk.ctx }
+        (reported_failure f.id (stay_to (command_aim (said_target full (clauses_of clauses.now)))
+        (module_held bench.old.transaction))) tracer.old tracer.new) }
+    ensures none { OnOk result (has_no_cast (module_held bench.new.transaction).tree ≡ true) }
+    ensures grows { IsExtendedBy bench.old.transaction.ctx bench.new.transaction.ctx }
     ensures led { Led L.meaning bench.old bench.new }
-    ensures journal { MatchResult result (λ _. Noted bench.old.desk bench.new.desk)
-        (λ _. Recorded [] bench.old.desk bench.new.desk) }
+    ensures journal { MatchResult result (λ _. Noted bench.old.transaction bench.new.transaction)
+        (λ _. Recorded [] bench.old.transaction bench.new.transaction) }
 {
     led_benches_are_kept::<L>();
     bench.is_formed();
@@ -72,14 +72,14 @@ fn convert_told<L: Analysis, T: Teller>(
             id: None,
         });
     };
-    conversion::convert::convert_told(alloc, bench, &target, teller)
+    conversion::convert::convert_traced(alloc, bench, &target, tracer)
 }
 
-/// Converts the module of a bench for the target that clauses say. The names of its lists are interned first. The
-/// answer is how many rules stand. It is whole or not made at all.
+/// Converts the module to the target of the clauses. First interns the names of the clauses' lists. Returns the
+/// number of applied rules. Atomic: a refused call changes nothing.
 ///
-/// Refusals: those of `conversion::convert::convert`; and `Full` or `Memory` where a name of a list has no room in the
-/// context, before the target is looked at.
+/// Errors: those of `conversion::convert::convert`; before them `Full` or `Memory` if there is no room for a listed
+/// name.
 pub fn convert<L: Analysis>(
     alloc: Global,
     bench: &mut Bench<L>,
@@ -89,46 +89,51 @@ pub fn convert<L: Analysis>(
     ensures does { Does L.meaning (Change (conversion (said_target full (clauses_of clauses.now))))
         (conversion_reply result) bench.old bench.new }
     ensures converts { Converts
-        (conversion_to (command_aim (said_target full (clauses_of clauses.now))) (module_held bench.old.desk)) result
+        (conversion_to (command_aim (said_target full (clauses_of clauses.now))) (module_held bench.old.transaction)) result
         (seen bench.old) (seen bench.new) }
-    ensures none { OnOk result (has_no_cast (module_held bench.new.desk).tree ≡ true) }
-    ensures grows { Grows bench.old.desk.ctx bench.new.desk.ctx }
+    ensures none { OnOk result (has_no_cast (module_held bench.new.transaction).tree ≡ true) }
+    ensures grows { IsExtendedBy bench.old.transaction.ctx bench.new.transaction.ctx }
     ensures led { Led L.meaning bench.old bench.new }
-    ensures journal { MatchResult result (λ _. Noted bench.old.desk bench.new.desk)
-        (λ _. Recorded [] bench.old.desk bench.new.desk) }
+    ensures journal { MatchResult result (λ _. Noted bench.old.transaction bench.new.transaction)
+        (λ _. Recorded [] bench.old.transaction bench.new.transaction) }
 {
-    convert_told(alloc, bench, full, clauses, &mut Silent)
+    convert_told(alloc, bench, full, clauses, &mut NoTracer)
 }
 
-/// A conversion that was told: how it ended, and the lines that stand below the reply.
+/// The result of a traced conversion, with the lines to show below the reply.
 #[derive(Drop)]
-pub struct Traced {
-    /// How many rules stand, or why it isn't made.
+pub struct TracedConversion {
+    /// The number of applied rules, or the fault that stopped the conversion.
     pub called: Result<u32, Fault>,
-    /// A line for each rule that stands, or one that says why an operation stays.
+    /// A line for each applied rule, or one line that says why an operation stays illegal.
     pub lines: Vec<u8>,
 }
 
-/// The line that stands below a fault, if it is for an operation, and that stays.
-fn line_below(alloc: Global, id: Option<OpId>, stay: Option<Stay>) -> Result<Vec<u8>, AllocError>
-    ensures { IfOk result (λ line. line.items ≡ stay_below id stay) }
+/// Returns the line below a fault: why the operation of the fault stays illegal. It is empty if the fault names no
+/// operation or no reason is known.
+fn line_below(
+    alloc: Global,
+    id: Option<OpId>,
+    failure: Option<MatchFailure>,
+) -> Result<Vec<u8>, AllocError>
+    ensures { IfOk result (λ line. line.items ≡ stay_below id failure) }
 {
     let Some(op) = id else {
         return Ok(Vec::new(alloc));
     };
-    let Some(stay) = stay else {
+    let Some(failure) = failure else {
         return Ok(Vec::new(alloc));
     };
-    line_of(alloc, op, stay)
+    line_of(alloc, op, failure)
 }
 
-/// How a conversion that is refused is told: with why an operation stays, if it is for one. Where there is no memory for
-/// that, the refusal is another.
-fn told_fault(alloc: Global, fault: Fault, stay: Option<Stay>) -> Traced
-    ensures { ToldFault fault stay result.called result.lines.items }
+/// Returns the result of a refused conversion, with the reason why an operation stays illegal. If memory runs out for
+/// the line, the fault becomes `Memory`.
+fn traced_fault(alloc: Global, fault: Fault, failure: Option<MatchFailure>) -> TracedConversion
+    ensures { ToldFault fault failure result.called result.lines.items }
 {
-    let Ok(line) = line_below(alloc, fault.id, stay) else {
-        return Traced {
+    let Ok(line) = line_below(alloc, fault.id, failure) else {
+        return TracedConversion {
             called: Err(Fault {
                 refusal: Refusal::Memory,
                 id: None,
@@ -136,51 +141,58 @@ fn told_fault(alloc: Global, fault: Fault, stay: Option<Stay>) -> Traced
             lines: Vec::new(alloc),
         };
     };
-    Traced {
+    TracedConversion {
         called: Err(fault),
         lines: line,
     }
 }
 
-/// How a conversion is told: with the lines of the rules that stand, or with why an operation stays.
-fn told(alloc: Global, text: Vec<u8>, stay: Option<Stay>, called: Result<u32, Fault>) -> Traced
+/// Returns the result of a traced conversion: the lines of the applied rules, or the reason why an operation stays
+/// illegal.
+fn traced_conversion(
+    alloc: Global,
+    text: Vec<u8>,
+    failure: Option<MatchFailure>,
+    called: Result<u32, Fault>,
+) -> TracedConversion
     ensures ok { OnOk called ((result.called ≡ called) × (result.lines.items ≡ text.items)) }
-    ensures fault { IfErr called (λ f. ToldFault f stay result.called result.lines.items) }
+    ensures fault { IfErr called (λ f. ToldFault f failure result.called result.lines.items) }
 {
     match called {
-        Ok(count) => Traced {
+        Ok(count) => TracedConversion {
             called: Ok(count),
             lines: text,
         },
-        Err(fault) => told_fault(alloc, fault, stay),
+        Err(fault) => traced_fault(alloc, fault, failure),
     }
 }
 
-/// Converts as `convert` does, and tells each rule that stands, or why an operation stays.
+/// Converts as `convert` does, and returns a line for each applied rule, or the reason why an operation stays
+/// illegal.
 ///
-/// Refusals: its own; and `Memory` where there is none for the lines, and then it isn't made either.
+/// Errors: those of `convert`; and `Memory` if there is no memory for the lines, and then the module isn't converted.
 pub fn convert_traced<L: Analysis>(
     alloc: Global,
     bench: &mut Bench<L>,
     full: bool,
     clauses: &Clauses<'_>,
-) -> Traced
+) -> TracedConversion
     ensures does { Does L.meaning (Change (conversion (said_target full (clauses_of clauses.now))))
         (conversion_reply result.called) bench.old bench.new }
     ensures converts { Converts
-        (conversion_to (command_aim (said_target full (clauses_of clauses.now))) (module_held bench.old.desk))
+        (conversion_to (command_aim (said_target full (clauses_of clauses.now))) (module_held bench.old.transaction))
         result.called (seen bench.old) (seen bench.new) }
     ensures lines { result.lines.items ≡ conversion_text (command_aim (said_target full (clauses_of clauses.now)))
-        (module_held bench.old.desk) (conversion_reply result.called) }
-    ensures none { OnOk result.called (has_no_cast (module_held bench.new.desk).tree ≡ true) }
-    ensures grows { Grows bench.old.desk.ctx bench.new.desk.ctx }
+        (module_held bench.old.transaction) (conversion_reply result.called) }
+    ensures none { OnOk result.called (has_no_cast (module_held bench.new.transaction).tree ≡ true) }
+    ensures grows { IsExtendedBy bench.old.transaction.ctx bench.new.transaction.ctx }
     ensures led { Led L.meaning bench.old bench.new }
-    ensures journal { MatchResult result.called (λ _. Noted bench.old.desk bench.new.desk)
-        (λ _. Recorded [] bench.old.desk bench.new.desk) }
+    ensures journal { MatchResult result.called (λ _. Noted bench.old.transaction bench.new.transaction)
+        (λ _. Recorded [] bench.old.transaction bench.new.transaction) }
 {
     led_benches_are_kept::<L>();
     let mut lines = ConvertLines::new(alloc);
     let called = convert_told(alloc, bench, full, clauses, &mut lines);
-    let ConvertLines { text, stay } = lines;
-    told(alloc, text, stay, called)
+    let ConvertLines { text, failure } = lines;
+    traced_conversion(alloc, text, failure, called)
 }

@@ -1,21 +1,32 @@
-//! The commands that transform the module of a bench, beside canonicalization: a sweep of the private symbols that
-//! nothing reaches, a conversion for the target that clauses say, a rule or a pattern of one's own applied at an
-//! operation, rewriting that tells each rewrite, and why rules don't apply at an operation.
+//! The commands that transform a module, apart from canonicalization (crate `greedy`).
+//!
+//! - `sweep` erases the private symbols that nothing reaches.
+//! - `convert` converts to the target of the clauses, and can trace each applied rule.
+//! - `apply` and `apply_pattern` apply one rule or user pattern at an operation; `at` canonicalizes one operation.
+//! - `rewrite` and `rule_list` parse lists of rules and user patterns; `trace` rewrites by them and traces each
+//!   rewrite.
+//! - `why` says why rules don't match at an operation; `unproved` lists the patterns that no check proves for a
+//!   module.
 #![tactic(auto)]
 
 pub mod apply;
+pub mod apply_pattern;
 pub mod at;
 pub mod convert;
 mod convert_lines;
 pub mod laws;
+pub mod named_patterns;
 mod names;
-pub mod own;
+mod narrow;
 pub mod rewrite;
+pub mod rule_items;
+pub mod rule_list;
 mod rules;
 pub mod sweep;
 mod target;
 pub mod trace;
 pub mod trace_lines;
+pub mod unproved;
 pub mod why;
 
 pub use conversion::{fault, rewriter};

@@ -1,4 +1,4 @@
-//! The rules that a command of rewriting names.
+//! Parses the rule list of a rewriting command.
 ghost use Rattle.std.specs.Prelude.{◌≡◌, true, is_some, IfErr, IfOk, IfSome, option_map};
 ghost use Rattle.ir_event.specs.types.declared.refusal.Refusal.TheVariants.{Memory as NoMemory};
 ghost use Rattle.conversion.specs.patterns.Rows.{AreCanonical};
@@ -12,7 +12,7 @@ use mlir_work_script_base::items::split_item;
 use mlir_work_script_base::rule_name::{RuleName, name_in};
 use std::alloc::Global;
 
-/// The rule of a name, if there is one that canonicalization tries.
+/// Returns the canonicalization rule with this name, or `None`.
 pub fn canonical_named(name: &RuleName<'_>) -> Option<Rule>
     ensures { result ≡ canonical_named (name_of name.now) }
 {
@@ -26,24 +26,24 @@ pub fn canonical_named(name: &RuleName<'_>) -> Option<Rule>
     }
 }
 
-/// Whether each item of a list names a rule that canonicalization tries.
+/// Returns whether each item of a list names a canonicalization rule.
 fn are_named(list: &[u8]) -> bool
     ensures { result ≡ is_some (rules_named (names_of list.now)) }
 {
     let mut rest = Some(list);
     'items: while let Some(items) = rest {
-        let (item, behind) = split_item(items);
+        let (item, trailing) = split_item(items);
         let Some(_) = canonical_named(&name_in(item)) else {
             return false;
         };
-        rest = behind;
+        rest = trailing;
     }
     true
 }
 
-/// The rules that a list names, in its order, if each item names one that canonicalization tries.
+/// Returns the rules of a list in their order, or `None` if an item doesn't name a canonicalization rule.
 ///
-/// Refusals: `Memory`, where each does.
+/// Errors: `Memory`, only if each item names a rule.
 pub fn rules_in(alloc: Global, list: &[u8]) -> Result<Option<Vec<Rule>>, Refusal>
     ensures rules { IfOk result (λ found. option_map (λ v. v.items) found ≡ rules_named (names_of list.now)) }
     ensures canonical { IfOk result (λ found. IfSome found (λ v. AreCanonical v.items)) }
@@ -56,7 +56,7 @@ pub fn rules_in(alloc: Global, list: &[u8]) -> Result<Option<Vec<Rule>>, Refusal
     let mut rules = Vec::new(alloc);
     let mut rest = Some(list);
     'items: while let Some(items) = rest {
-        let (item, behind) = split_item(items);
+        let (item, trailing) = split_item(items);
         let Some(rule) = canonical_named(&name_in(item)) else {
             return Ok(None);
         };
@@ -64,7 +64,7 @@ pub fn rules_in(alloc: Global, list: &[u8]) -> Result<Option<Vec<Rule>>, Refusal
             Ok(()) => {}
             Err(_) => return Err(Refusal::Memory),
         }
-        rest = behind;
+        rest = trailing;
     }
     Ok(Some(rules))
 }

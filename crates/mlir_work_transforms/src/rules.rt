@@ -1,4 +1,4 @@
-//! The rules of a command.
+//! Rules by their numbers.
 ghost use Rattle.std.specs.Prelude.{◌≡◌, IfOk, IfErr, option_map};
 ghost use Rattle.ir_event.specs.types.declared.refusal.Refusal.TheVariants.{Memory as NoMemory};
 ghost use Rattle.conversion.specs.Converting.{rules_of};
@@ -7,7 +7,7 @@ use conversion::rule::Rule;
 use ir_event::types::refusal::Refusal;
 use std::alloc::Global;
 
-/// The rules that numbers name, if each of them names one.
+/// Returns the rules with these numbers, or `None` if a number isn't a rule's.
 pub(crate) fn rules_of(alloc: Global, numbers: &[u32]) -> Result<Option<Vec<Rule>>, Refusal>
     ensures rules { IfOk result (λ found. option_map (λ v. v.items) found ≡ rules_of numbers.now) }
     ensures want { IfErr result (λ refusal. refusal ≡ NoMemory) }

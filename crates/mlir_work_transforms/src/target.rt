@@ -1,9 +1,9 @@
-//! The target of a command.
+//! Builds the conversion target of a command.
 ghost use Rattle.std.specs.Prelude.{◌≡◌, IfOk, IfErr, IfSome, option_map};
 ghost use Rattle.mlir_work_script_base.specs.Clauses.{clauses_of, target_of as said_target};
 ghost use Rattle.conversion.specs.Converting.{command_aim};
 ghost use Rattle.conversion.specs.States.{IsWant};
-ghost use Rattle.conversion.specs.Targets.{IsNamedIn, aim_of};
+ghost use Rattle.conversion.specs.Targets.{IsNamedIn, target_model};
 ghost use Rattle.mlir_work_transforms.specs.Interned.{Interned};
 
 use crate::names::{names_in, numbers_in};
@@ -15,22 +15,22 @@ use ir_event::types::refusal::Refusal;
 use mlir_work_script_base::clauses::Clauses;
 use std::alloc::Global;
 
-/// How deep rules may follow one another, where no clause says.
+/// The depth limit of a conversion whose clauses give none.
 const DEPTH: u32 = 16;
 
-/// The target that clauses say, if each of their numbers names a rule, in numbers of the context of a bench, which
-/// grows with the names of its lists.
+/// Returns the target of the clauses, or `None` if a rule number isn't a rule's. Interns the names of the clauses'
+/// lists in the context.
 pub(crate) fn target_of<L: Analysis>(
     alloc: Global,
     bench: &mut Bench<L>,
     full: bool,
     clauses: &Clauses<'_>,
 ) -> Result<Option<Target>, Refusal>
-    ensures names { IfOk result (λ target. IfSome target (IsNamedIn bench.new.desk.ctx)) }
+    ensures names { IfOk result (λ target. IfSome target (IsNamedIn bench.new.transaction.ctx)) }
     ensures aim { IfOk result
-        (λ target. option_map (aim_of bench.new.desk.ctx) target
+        (λ target. option_map (target_model bench.new.transaction.ctx) target
         ≡ command_aim (said_target full (clauses_of clauses.now))) }
-    ensures want { IfErr result (IsWant bench.new.desk.ctx) }
+    ensures want { IfErr result (IsWant bench.new.transaction.ctx) }
     ensures interned { Interned L.meaning bench.old bench.new }
 {
     let legal = match names_in(alloc, bench, clauses.legal) {

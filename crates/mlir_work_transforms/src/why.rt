@@ -1,4 +1,4 @@
-//! Why rules don't apply at an operation, told by a line for each.
+//! Says why rules don't match at an operation, one line a rule.
 ghost use Rattle.std.specs.Prelude.{◌≡◌, ◌++◌, IfOk, OnOk, codes};
 ghost use Rattle.ir_event.specs.Modules.{module_in};
 ghost use Rattle.conversion.specs.reasons.Reasons.{reason_of};
@@ -6,17 +6,17 @@ ghost use Rattle.mlir_work_script_base.specs.Values.{op_text};
 ghost use Rattle.mlir_work_transforms.specs.TraceText.{rule_text};
 ghost use Rattle.mlir_work_transforms.specs.WhyText.{told_rules, verdict, why_line, why_lines};
 
-use crate::trace_lines::{put_op, put_rule};
-use conversion::reasons::condition::Condition;
+use crate::trace_lines::{write_op, write_rule};
 use conversion::reasons::listed::rules_at;
-use conversion::reasons::reason::reason;
+use conversion::reasons::match_failure::failing_reason;
+use conversion::reasons::reason::Reason;
 use greedy::patterns::rule::Rule;
 use ir_event::types::ids::OpId;
 use ir_event::world::World;
 use std::alloc::{AllocError, Global};
 
-/// Appends what is said of a rule: that it applies, or the first of its conditions that doesn't hold.
-fn put_verdict(text: &mut Vec<u8>, failing: Option<Condition>) -> Result<(), AllocError>
+/// Appends the verdict on a rule: that it applies, or its first condition that doesn't hold.
+fn write_verdict(text: &mut Vec<u8>, failing: Option<Reason>) -> Result<(), AllocError>
     ensures { OnOk result (text.new.items ≡ text.old.items ++ verdict failing) }
 {
     match failing {
@@ -25,34 +25,34 @@ fn put_verdict(text: &mut Vec<u8>, failing: Option<Condition>) -> Result<(), All
     }
 }
 
-/// Appends the front of a line: of which rule at which operation it tells.
-fn put_asked(text: &mut Vec<u8>, op: OpId, rule: Rule) -> Result<(), AllocError>
+/// Appends the beginning of a line: the operation and the rule.
+fn write_asked(text: &mut Vec<u8>, op: OpId, rule: Rule) -> Result<(), AllocError>
     ensures { OnOk result (text.new.items ≡ text.old.items
         ++ (codes "why " ++ (op_text op ++ (codes " " ++ rule_text rule)))) }
 {
     text.extend_from_slice(b"why ")?;
-    put_op(text, op)?;
+    write_op(text, op)?;
     text.extend_from_slice(b" ")?;
-    put_rule(text, rule)
+    write_rule(text, rule)
 }
 
-/// Appends the line of a rule at an operation.
-fn put_why(
+/// Appends the line of a rule at an operation; `failing` is its first condition that doesn't hold.
+fn write_why(
     text: &mut Vec<u8>,
     op: OpId,
     rule: Rule,
-    failing: Option<Condition>,
+    failing: Option<Reason>,
 ) -> Result<(), AllocError>
     ensures { OnOk result (text.new.items ≡ text.old.items ++ why_line op rule failing) }
 {
-    put_asked(text, op, rule)?;
+    write_asked(text, op, rule)?;
     text.extend_from_slice(b" ")?;
-    put_verdict(text, failing)?;
+    write_verdict(text, failing)?;
     text.extend_from_slice(b"\n")
 }
 
 /// Appends the line of a rule at an operation of the module.
-fn put_reason(
+fn write_reason(
     alloc: Global,
     world: &World,
     text: &mut Vec<u8>,
@@ -62,28 +62,28 @@ fn put_reason(
     ensures { OnOk result (text.new.items ≡ text.old.items
         ++ why_line op rule (reason_of rule (module_in world.now) op)) }
 {
-    let failing = reason(alloc, world, rule, op)?;
-    put_why(text, op, rule, failing)
+    let failing = failing_reason(alloc, world, rule, op)?;
+    write_why(text, op, rule, failing)
 }
 
-/// The lines of some rules at an operation of the module.
+/// Returns the lines of these rules at an operation of the module.
 fn lines_of(alloc: Global, world: &World, op: OpId, rules: &[Rule]) -> Result<Vec<u8>, AllocError>
     ensures { IfOk result (λ text. text.items ≡ why_lines rules.now op (module_in world.now)) }
 {
     let mut text = Vec::new(alloc);
     let mut rest = rules;
     'rules: while let [rule, tail @ ..] = rest {
-        put_reason(alloc, world, &mut text, op, *rule)?;
+        write_reason(alloc, world, &mut text, op, *rule)?;
         rest = tail;
     }
     Ok(text)
 }
 
-/// Why a rule doesn't apply at an operation of the module, or that it does; of each of those that the table has for the
-/// operation's name, where no rule is said. In lines.
+/// Returns a line that says why a rule doesn't match at an operation of the module, or that it does. Without a rule,
+/// returns a line for each rule in the table for the operation's name.
 ///
-/// Errors: where memory is refused.
-pub fn why(
+/// Errors: memory runs out.
+pub fn match_failure(
     alloc: Global,
     world: &World,
     op: OpId,

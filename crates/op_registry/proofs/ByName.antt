@@ -1,11 +1,11 @@
--- What stands beside a word's bytes in a list of words is what stands at its number.
+-- The item with a word's name in a list of words is the item at the word's id.
 use Rattle.std.proofs.Common.{◌≡◌, ℕ, zero, suc, ◌+◌, ◌<◌, ◌≤◌, Bool, true, false, List, [], ◌∷◌, map, take, drop, slice_get, Some, None, sym, ap, refl, ◌∙◌, arith}
 use Rattle.std.specs.Prelude.{◌==◌, ◌-◌, ◌||◌, Option, if◌then◌else◌, is_some, unwrap_or}
 use Rattle.std.specs.List.{list_any}
 use Rattle.std.specs.Str.{bytes_eq}
 use Rattle.std.proofs.lemmas.Bool.Decides.{nat_tests}
 use Rattle.ir_types.specs.Words.{operations, keys, visibilities, words, is_listed}
-use Rattle.ir_types.specs.Things.{Things}
+use Rattle.ir_types.specs.Things.{ContextModel}
 use Rattle.ir_types.specs.Terms.{name_term}
 use Rattle.ir_types.specs.Sound.{IsSound}
 use Rattle.ir_types.proofs.WordNumbers.{word_test}
@@ -16,7 +16,7 @@ use Rattle.op_registry.specs.declared.property.PropertyKind.TheVariants.{Any}
 use Rattle.op_registry.specs.Properties.{kinds, kind_of}
 
 module _ {A : Type 0} (op : List ℕ) (n : ℕ) where
-  -- the tests for the names of a list are tests of the numbers from one on
+  -- the tests for the names of a list are tests of the ids from one on
   abbrev AreTests : ℕ → List (List ℕ × A) → Type 0
   AreTests start list = (i : ℕ) (w : List ℕ) → slice_get (map (λ row. row.0) list) i ≡ Some w → bytes_eq op w ≡ (n == start + i)
 
@@ -43,7 +43,7 @@ module _ {A : Type 0} (op : List ℕ) (n : ℕ) where
       let no_match : (n == start + 0) ≡ false = grind (arith, nat_tests) in
       rw (here, no_match) (beside_before more (start + 1) (omega arith) (tests_after start row more each))
 
--- the words from a number on, some of them
+-- some of the words from an id on
 front : {X : Type 0} (xs : List X) (m k : ℕ) (x : X) → slice_get (take m xs) k ≡ Some x → slice_get xs k ≡ Some x
 front [] zero k x e = absurd (cc)
 front [] (suc m) k x e = absurd (cc)
@@ -57,17 +57,17 @@ dropped [] (suc s) zero = refl
 dropped [] (suc s) (suc k) = refl
 dropped (y ∷ ys) (suc s) k = let e : suc s + k ≡ suc (s + k) = omega arith in dropped ys s k ∙ ap (slice_get (y ∷ ys)) (sym e)
 
--- the names of a list are words, from a number on
+-- the names of a list are words, from an id on
 abbrev pub AreWords : {A : Type 0} → ℕ → ℕ → List (List ℕ × A) → Type 0
 AreWords {A} start count list = map (λ (row : List ℕ × A). row.0) list ≡ take count (drop start words)
 
-tests : {A : Type 0} (c : Things) (n start count : ℕ) (list : List (List ℕ × A)) → IsSound c → AreWords start count list → AreTests (name_term c n) n start list
+tests : {A : Type 0} (c : ContextModel) (n start count : ℕ) (list : List (List ℕ × A)) → IsSound c → AreWords start count list → AreTests (name_term c n) n start list
 tests c n start count list sound are i w e = word_test c n (start + i) w sound (sym (dropped words start i) ∙ front (drop start words) count i w (ap (λ l. slice_get l i) (sym are) ∙ e))
 
-pub beside_word : {A : Type 0} (c : Things) (n start count : ℕ) (list : List (List ℕ × A)) → IsSound c → AreWords start count list → start ≤ n → beside (name_term c n) list ≡ slice_get (map (λ (row : List ℕ × A). row.1) list) (n - start)
+pub beside_word : {A : Type 0} (c : ContextModel) (n start count : ℕ) (list : List (List ℕ × A)) → IsSound c → AreWords start count list → start ≤ n → beside (name_term c n) list ≡ slice_get (map (λ (row : List ℕ × A). row.1) list) (n - start)
 beside_word c n start count list sound are h = beside_at (name_term c n) n list start (n - start) (omega arith) (tests c n start count list sound are)
 
-pub beside_earlier : {A : Type 0} (c : Things) (n start count : ℕ) (list : List (List ℕ × A)) → IsSound c → AreWords start count list → n < start → beside (name_term c n) list ≡ None
+pub beside_earlier : {A : Type 0} (c : ContextModel) (n start count : ℕ) (list : List (List ℕ × A)) → IsSound c → AreWords start count list → n < start → beside (name_term c n) list ≡ None
 beside_earlier c n start count list sound are h = beside_before (name_term c n) n list start h (tests c n start count list sound are)
 
 -- the rows
@@ -75,7 +75,7 @@ rows_are : AreWords 0 39 rows
 unfolding words operations keys visibilities rows
 rows_are = refl
 
-pub row_is : (c : Things) (n : ℕ) → IsSound c → row_of (name_term c n) ≡ slice_get (map (λ (row : List ℕ × Row). row.1) rows) n
+pub row_is : (c : ContextModel) (n : ℕ) → IsSound c → row_of (name_term c n) ≡ slice_get (map (λ (row : List ℕ × Row). row.1) rows) n
 unfolding row_of
 row_is c n sound =
     let e : n - 0 ≡ n = omega arith in
@@ -86,15 +86,15 @@ kinds_are : AreWords 39 12 kinds
 unfolding words operations keys visibilities kinds
 kinds_are = refl
 
-pub kind_is : (c : Things) (n : ℕ) → IsSound c → 39 ≤ n → kind_of (name_term c n) ≡ unwrap_or (slice_get (map (λ (row : List ℕ × PropertyKind). row.1) kinds) (n - 39)) Any
+pub kind_is : (c : ContextModel) (n : ℕ) → IsSound c → 39 ≤ n → kind_of (name_term c n) ≡ unwrap_or (slice_get (map (λ (row : List ℕ × PropertyKind). row.1) kinds) (n - 39)) Any
 unfolding kind_of
 kind_is c n sound h = ap (λ k. unwrap_or k Any) (beside_word c n 39 12 kinds sound kinds_are h)
 
-pub kind_of_operation : (c : Things) (n : ℕ) → IsSound c → n < 39 → kind_of (name_term c n) ≡ Any
+pub kind_of_operation : (c : ContextModel) (n : ℕ) → IsSound c → n < 39 → kind_of (name_term c n) ≡ Any
 unfolding kind_of
 kind_of_operation c n sound h = ap (λ k. unwrap_or k Any) (beside_earlier c n 39 12 kinds sound kinds_are h)
 
--- an operation is listed where it has a row
+-- an operation is registered exactly if it has a row
 found : {A B : Type 0} (op : List ℕ) (xs : List (List ℕ × A)) (ys : List (List ℕ × B)) → map (λ (row : List ℕ × A). row.0) xs ≡ map (λ (row : List ℕ × B). row.0) ys → list_any (λ (row : List ℕ × A). bytes_eq op row.0) xs ≡ is_some (beside op ys)
 found op [] [] e = refl
 found op [] (y ∷ ys) e = absurd (cc)

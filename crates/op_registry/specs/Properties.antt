@@ -1,4 +1,4 @@
--- What the attribute of a property must be, by the property's key.
+-- The constraint on the attribute of a property, by the property's key.
 use Rattle.std.specs.Prelude.{ℕ, List, [], ◌∷◌, codes, Bool, true, false, ◌==◌, ◌&&◌, ◌||◌, nat_le, is_some, unwrap_or, Option, Some, None}
 use Rattle.std.specs.Str.{bytes_eq}
 use Rattle.ir_types.specs.declared.node.Sign.TheVariants.{Signless}
@@ -25,11 +25,12 @@ kinds =
     ∷ (codes "nontemporal", kind.Any)
     ∷ []
 
--- that of a key; one that no row has may have any attribute
+-- the kind of a key; for a key of no row any attribute is allowed
 unfoldable pub kind_of : List ℕ → PropertyKind
 kind_of key = unwrap_or (beside key kinds) kind.Any
 
--- what an attribute of one form holds: an integer's type and bits, a string, a type, a symbol's parts, a dense array's type
+-- the content of an attribute of one form: an integer's type and bits, a string, a type, a symbol's components, a dense
+-- array's type
 abbrev pub integer_of : AttrTerm → Option (TypeTerm × ℕ)
 integer_of (IntegerOf ty bits) = Some (ty, bits)
 integer_of _ = None
@@ -54,7 +55,7 @@ abbrev pub is_overflow : AttrTerm → Bool
 is_overflow (term.Overflow nsw nuw) = true
 is_overflow _ = false
 
--- whether a type is the signless integer type of some bits, or a function type
+-- whether a type is the signless integer type of a width, or a function type
 abbrev pub is_signless : ℕ → TypeTerm → Bool
 is_signless width (Integer Signless w) = w == width
 is_signless width _ = false
@@ -88,6 +89,6 @@ is_of_kind kind.Visibility a = is_visibility (string_of a)
 is_of_kind kind.Symbol a = is_symbol_of_one_part a
 is_of_kind kind.Segments a = is_and (is_signless 32) (element_of a)
 
--- and whether it may be the property of a key
+-- whether an attribute is allowed as the property of a key
 unfoldable pub is_allowed : List ℕ → AttrTerm → Bool
 is_allowed key a = is_of_kind (kind_of key) a

@@ -1,4 +1,4 @@
--- What is known of an operation by its name's bytes.
+-- The row of an operation, by the bytes of its name.
 use Rattle.std.specs.Prelude.{ℕ, List, [], ◌∷◌, map, Bool, false, Option, Some, None, if◌then◌else◌}
 use Rattle.std.specs.Str.{bytes_eq}
 use Rattle.ir_types.specs.WordNames.{word_bytes}
@@ -13,12 +13,12 @@ use Rattle.op_registry.specs.declared.own.Own.{Own}
 use Rattle.op_registry.specs.declared.own.Own.TheVariants.{Unknown}
 use Rattle.op_registry.specs.Rows.{TypesRow, RegionRow, PropertyRow, Row, rows}
 
--- what stands beside some bytes in a list of names
+-- the item with this name in a list of names and items
 abbrev pub beside : {A : Type 0} → List ℕ → List (List ℕ × A) → Option A
 beside op [] = None
 beside op (row ∷ more) = if bytes_eq op row.0 then Some row.1 else beside op more
 
--- the row of an operation, where it is listed
+-- the row of an operation, if it is registered
 unfoldable pub row_of : List ℕ → Option Row
 row_of op = beside op rows
 
@@ -34,7 +34,7 @@ is_among SymbolTable traits = traits.symbol_table
 is_among Symbol traits = traits.symbol
 is_among Recursive traits = traits.recursive
 
--- whether an operation has a trait; one that isn't listed has none
+-- whether an operation has a trait; one that isn't registered has none
 abbrev pub trait_in : Trait → Option Row → Bool
 trait_in wanted None = false
 trait_in wanted (Some row) = is_among wanted row.traits
@@ -42,7 +42,7 @@ trait_in wanted (Some row) = is_among wanted row.traits
 abbrev pub has_trait : Trait → List ℕ → Bool
 has_trait wanted op = trait_in wanted (row_of op)
 
--- the effects that an operation has by itself; those of one that isn't listed are unknown
+-- the effects of an operation itself; unknown for one that isn't registered
 abbrev pub own_in : Option Row → Own
 own_in None = Unknown
 own_in (Some row) = row.effects
@@ -50,7 +50,7 @@ own_in (Some row) = row.effects
 abbrev pub own_of : List ℕ → Own
 own_of op = own_in (row_of op)
 
--- a definition of the code as a row
+-- an `OpDef` as a row
 
 abbrev pub types_row : Types → TypesRow
 types_row types = record { first = types.first.now; more = types.more }

@@ -1,4 +1,4 @@
--- The listed operations, each with its row.
+-- The registered operations, each with its row.
 use Rattle.std.specs.Prelude.{ℕ, List, [], ◌∷◌, codes, Bool, true, false, Option, Some, None}
 use Rattle.op_registry.specs.declared.definition.TypeRule.{TypeRule}
 use Rattle.op_registry.specs.declared.definition.TypeRule.TheVariants as type
@@ -7,22 +7,22 @@ use Rattle.op_registry.specs.declared.own.Own.{Own}
 use Rattle.op_registry.specs.declared.own.Own.TheVariants as own
 use Rattle.op_registry.specs.declared.own.EffectSet.{EffectSet}
 
--- what the types in a place must be: the first ones one by one, then any number of others, if there may be any
+-- the types of operands, of results or of arguments: fixed ones, then any number of others, if others are allowed
 pub record TypesRow : Type 0 where
   pub first : List TypeRule
   pub more : Option TypeRule
 
--- the arguments of a region's block, and whether the region may be without a block
+-- the arguments of a region's block, and whether the region may have no block
 pub record RegionRow : Type 0 where
   pub arguments : TypesRow
   pub may_be_empty : Bool
 
--- a property by the bytes of its key, and whether the operation must have it
+-- a property by the bytes of its key, and whether it is required
 pub record PropertyRow : Type 0 where
   pub key : List ℕ
   pub required : Bool
 
--- the row of an operation; its parents are the names of those in which a terminator may stand
+-- the row of an operation; `parents` are the names of the operations in which a terminator may be
 pub record Row : Type 0 where
   pub operands : TypesRow
   pub results : TypesRow
@@ -67,11 +67,11 @@ no_effect = record { allocate = false; free = false; read = false; write = false
 abbrev no_trait : Traits
 no_trait = record { terminator = false; isolated = false; symbol_table = false; symbol = false; recursive = false }
 
--- a row of operands and results alone, without effect
+-- a row with operands and results only, without effects
 abbrev pure : TypesRow → TypesRow → Row
 pure operands results = record { operands = operands; results = results; regions = []; properties = []; effects = own.Pure; traits = no_trait; parents = [] }
 
--- two numbers of one type, which is that of the result
+-- two operands and one result, all of the same number type
 abbrev arithmetic : Row
 arithmetic = pure (only (type.Number ∷ type.Number ∷ [])) (only (type.Number ∷ []))
 
@@ -79,11 +79,11 @@ arithmetic = pure (only (type.Number ∷ type.Number ∷ [])) (only (type.Number
 abbrev flagged : Row
 flagged = record arithmetic { properties = optional (codes "overflowFlags") ∷ [] }
 
--- an operation that ends the blocks of others
+-- an operation that terminates blocks
 abbrev ending : TypesRow → List (List ℕ) → Row
 ending operands parents = record (pure operands none) { traits = record no_trait { terminator = true }; parents = parents }
 
--- an operation that has the effects of the operations directly inside
+-- an operation with the effects of the operations directly inside it
 abbrev around : TypesRow → TypesRow → List RegionRow → Row
 around operands results regions = record (pure operands results) { regions = regions; effects = own.Recursive; traits = record no_trait { recursive = true } }
 

@@ -1,16 +1,16 @@
-//! What the table says of an operation.
+//! The rows of the operation table.
 ghost use Rattle.std.specs.Prelude.{◌≡◌};
 ghost use Rattle.op_registry.specs.Registry.{is_among};
 
 use crate::own::Own;
 use ir_types::word::Word;
 
-/// What the type of an operand, a result or an argument of a block must be.
+/// A constraint on the type of an operand, of a result or of a block argument.
 #[derive(Clone, Copy)]
 pub enum TypeRule {
     /// Any type.
     Any,
-    /// A signless integer type or index, the same wherever the row says so.
+    /// A signless integer type or index, the same at every occurrence in the row.
     Number,
     /// Another signless integer type or index.
     OtherNumber,
@@ -24,31 +24,30 @@ pub enum TypeRule {
     Memref,
     /// The element type of the memref.
     Element,
-    /// The type of the first operand that the row says may be of any type.
+    /// The type of the first operand whose constraint is `Any`.
     Same,
-    /// The type of the operand after the fixed ones that has this place among them: as many as
-    /// there are such operands.
+    /// The type of the variadic operand at the same index; there are as many items as variadic operands.
     Initial,
-    /// The type of the result in this place: as many as there are results.
+    /// The type of the result at the same index; there are as many items as results.
     Result,
-    /// The type of the input of the function type in this place: as many as there are inputs.
+    /// The type of the function type's input at the same index; there are as many items as inputs.
     Input,
 }
 
-/// The types in a place: the first ones one by one, then any number of others.
+/// The types of operands, of results or of arguments: fixed ones, then any number of others.
 #[derive(Clone, Copy)]
 pub struct Types {
     pub first: &'static [TypeRule],
-    /// What those after the first ones must be; `None` where there are none.
+    /// The constraint on the types after the fixed ones, or `None` if there must be none.
     pub more: Option<TypeRule>,
 }
 
 /// A region of an operation (Language Reference, "Regions").
 #[derive(Clone, Copy)]
 pub struct RegionRule {
-    /// The arguments of its block.
+    /// The arguments of the region's block.
     pub arguments: Types,
-    /// Whether it may be without a block.
+    /// Whether the region may have no block.
     pub may_be_empty: bool,
 }
 
@@ -56,22 +55,22 @@ pub struct RegionRule {
 #[derive(Clone, Copy)]
 pub struct Property {
     pub key: Word,
-    /// Whether the operation must have it.
+    /// Whether the property is required.
     pub required: bool,
 }
 
 /// A trait of an operation (Traits).
 #[derive(Clone, Copy)]
 pub enum Trait {
-    /// It ends a block ("Terminator").
+    /// The operation terminates a block ("Terminator").
     Terminator,
-    /// No value from outside is seen inside it ("IsolatedFromAbove").
+    /// No value from outside is visible inside the operation ("IsolatedFromAbove").
     Isolated,
-    /// Symbols are defined in it ("SymbolTable").
+    /// The operation has a symbol table ("SymbolTable").
     SymbolTable,
-    /// It defines a symbol (Symbols and Symbol Tables, "Symbol").
+    /// The operation defines a symbol (Symbols and Symbol Tables, "Symbol").
     Symbol,
-    /// Its effects are those of the operations directly inside it ("RecursiveMemoryEffects").
+    /// The effects are those of the operations directly inside it ("RecursiveMemoryEffects").
     Recursive,
 }
 
@@ -86,7 +85,7 @@ pub struct Traits {
 }
 
 impl Traits {
-    /// Whether a trait is among them.
+    /// Returns whether the operation has a trait.
     pub fn has(&self, wanted: Trait) -> bool
         ensures { result ≡ is_among wanted self.now }
     {
@@ -100,7 +99,7 @@ impl Traits {
     }
 }
 
-/// The row of a listed operation.
+/// The row of a registered operation.
 #[derive(Clone, Copy)]
 pub struct OpDef {
     pub operands: Types,
@@ -109,6 +108,6 @@ pub struct OpDef {
     pub properties: &'static [Property],
     pub effects: Own,
     pub traits: Traits,
-    /// The operations in which a terminator may stand.
+    /// The operations in which a terminator may be.
     pub parents: &'static [Word],
 }

@@ -1,4 +1,4 @@
-//! The rows beside the words of a context.
+//! Theorems that relate the rows to the words of a context.
 ghost use Rattle.std.specs.Prelude.{◌≡◌, ℕ, List, map, is_some};
 ghost use Rattle.ir_types.specs.Words.{operations, keys, is_listed};
 ghost use Rattle.op_registry.specs.Rows.{Row, rows};
@@ -6,12 +6,12 @@ ghost use Rattle.op_registry.specs.Registry.{row_of, keys_of};
 ghost use Rattle.op_registry.specs.Properties.{kinds};
 ghost use Rattle.op_registry.specs.declared.property.PropertyKind.{PropertyKind};
 
-/// The rows are those of the listed operations, with the keys of their properties.
+/// The rows are those of the registered operations, with the keys of their properties.
 pub fn rows_are_operations()
     ensures { map (λ (row : List ℕ × Row). (row.0, keys_of row.1)) rows ≡ operations }
 {}
 
-/// An operation is listed where it has a row.
+/// An operation is registered exactly if it has a row.
 pub fn listed_has_row()
     ensures { (op : List ℕ) → is_listed op ≡ is_some (row_of op) }
 {}

@@ -1,4 +1,4 @@
-//! The table of listed operations: for each name its row, looked up by the number of the name's word.
+//! The operation table: the row of each registered operation, looked up by the id of its name.
 #![tactic(auto)]
 
 pub mod definition;

@@ -1,4 +1,4 @@
-//! The memory effects that an operation has by itself.
+//! The memory effects of an operation itself.
 
 /// Kinds of memory effects (Rationale, "Side Effects & Speculation").
 #[derive(Clone, Copy, PartialEq, Eq)]
@@ -9,15 +9,15 @@ pub struct EffectSet {
     pub write: bool,
 }
 
-/// What an operation has by itself, as its name alone says.
+/// The effects of an operation itself, by its name.
 #[derive(Clone, Copy, PartialEq, Eq)]
 pub enum Own {
     /// No effect (Traits, "Pure").
     Pure,
     /// These effects.
     Only(EffectSet),
-    /// Those of the operations directly inside it (Traits, "RecursiveMemoryEffects").
+    /// The effects of the operations directly inside it (Traits, "RecursiveMemoryEffects").
     Recursive,
-    /// Nobody knows.
+    /// Unknown effects.
     Unknown,
 }

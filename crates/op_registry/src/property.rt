@@ -1,7 +1,7 @@
-//! What the attribute of a property must be.
+//! Constraints on the attributes of properties.
 ghost use Rattle.std.specs.Prelude.{◌≡◌, ℕ, List, is_some, Some, map, slice_get, unwrap_or, IfSome, true};
 ghost use Rattle.std.specs.Option.{option_map};
-ghost use Rattle.ir_types.specs.Things.{Things, IsAttr, IsType, AttrIsOf};
+ghost use Rattle.ir_types.specs.Things.{ContextModel, IsAttr, IsType, AttrIsOf};
 ghost use Rattle.ir_types.specs.Terms.{AttrTerm, TypeTerm, attr_from, attr_node_term, attr_term, name_term, type_at, type_from, type_term};
 ghost use Rattle.ir_types.specs.Readings.{is_bits_of};
 ghost use Rattle.ir_types.specs.Sound.{IsSound};
@@ -15,7 +15,7 @@ use ir_types::things::{attr_of, type_of};
 use ir_types::word::Word;
 use ir_types::words::OPERATIONS;
 
-/// What the attribute of a property must be.
+/// A constraint on the attribute of a property.
 #[derive(Clone, Copy)]
 pub enum PropertyKind {
     /// Any attribute.
@@ -32,13 +32,13 @@ pub enum PropertyKind {
     Text,
     /// The string `public`, `private` or `nested`.
     Visibility,
-    /// A symbol reference of one part.
+    /// A symbol reference with one component.
     Symbol,
     /// An `array<i32>`.
     Segments,
 }
 
-/// The kinds of the keys, from the first key's number on.
+/// The kinds of the keys, from the id of the first key on.
 static KINDS: [PropertyKind; 12] = [
     // sym_name, sym_visibility
     PropertyKind::Text,
@@ -59,9 +59,9 @@ static KINDS: [PropertyKind; 12] = [
     PropertyKind::Any,
 ];
 
-/// What the attribute of a key must be. Of a key that no row has it may be any.
+/// Returns the constraint on the attribute of a key. For a key of no row, any attribute is allowed.
 pub fn property_kind(key: NameId) -> PropertyKind
-    ensures { (c : Things) → IsSound c → result ≡ properties.kind_of (name_term c key) }
+    ensures { (c : ContextModel) → IsSound c → result ≡ properties.kind_of (name_term c key) }
 {
     let number = key.number();
     if number < OPERATIONS {
@@ -70,7 +70,7 @@ pub fn property_kind(key: NameId) -> PropertyKind
     kind_at((number - OPERATIONS) as usize)
 }
 
-/// The kind of the key at a place among the keys.
+/// Returns the kind of the key at an index among the keys.
 fn kind_at(place: usize) -> PropertyKind
     ensures { result ≡ unwrap_or (slice_get (map (λ (row : List ℕ × PropertyKind). row.1) kinds) place) PropertyKind.Any }
 {
@@ -87,7 +87,7 @@ fn entry(table: &[PropertyKind], place: usize) -> PropertyKind
     }
 }
 
-/// Whether an attribute may be the property of a key, as each operation's document says of its
+/// Returns whether an attribute is allowed as the property of a key, following the documentation of each operation's
 /// attributes.
 pub fn allows(ctx: &Context, key: NameId, attr: AttrId) -> bool
     requires { IsAttr ctx.now attr }
@@ -97,7 +97,7 @@ pub fn allows(ctx: &Context, key: NameId, attr: AttrId) -> bool
     is_of_kind(ctx, property_kind(key), attr_of(ctx, attr))
 }
 
-/// Whether an attribute is of a kind.
+/// Returns whether an attribute is of a kind.
 #[tactic(auto, unfolding(crate::specs::Properties::is_of_kind))]
 fn is_of_kind(ctx: &Context, kind: PropertyKind, node: &AttrNode) -> bool
     requires { AttrIsOf ctx.now node.now }
@@ -116,7 +116,7 @@ fn is_of_kind(ctx: &Context, kind: PropertyKind, node: &AttrNode) -> bool
     }
 }
 
-/// Whether an attribute is an integer.
+/// Returns whether an attribute is an integer.
 fn is_integer(node: &AttrNode) -> bool
     ensures { (names : List (List ℕ)) (types : List TypeTerm) (attrs : List AttrTerm) → result ≡ is_some (properties.integer_of (attr_from names types attrs node.now)) }
 {
@@ -126,7 +126,7 @@ fn is_integer(node: &AttrNode) -> bool
     }
 }
 
-/// Whether an attribute is a string.
+/// Returns whether an attribute is a string.
 fn is_string(node: &AttrNode) -> bool
     ensures { (names : List (List ℕ)) (types : List TypeTerm) (attrs : List AttrTerm) → result ≡ is_some (properties.string_of (attr_from names types attrs node.now)) }
 {
@@ -136,7 +136,7 @@ fn is_string(node: &AttrNode) -> bool
     }
 }
 
-/// Whether an attribute is the flags of an operation.
+/// Returns whether an attribute is the flags of an operation.
 fn is_overflow(node: &AttrNode) -> bool
     ensures { (names : List (List ℕ)) (types : List TypeTerm) (attrs : List AttrTerm) → result ≡ properties.is_overflow (attr_from names types attrs node.now) }
 {
@@ -146,7 +146,7 @@ fn is_overflow(node: &AttrNode) -> bool
     }
 }
 
-/// Whether an attribute is a symbol reference of one part.
+/// Returns whether an attribute is a symbol reference with one component.
 fn is_symbol_of_one_part(node: &AttrNode) -> bool
     ensures { (names : List (List ℕ)) (types : List TypeTerm) (attrs : List AttrTerm) → result ≡ properties.is_symbol_of_one_part (attr_from names types attrs node.now) }
 {
@@ -156,10 +156,10 @@ fn is_symbol_of_one_part(node: &AttrNode) -> bool
     }
 }
 
-/// The type and the bits of an integer.
+/// Returns the type and the bits of an integer, or `None` for any other attribute.
 fn integer_in(node: &AttrNode) -> Option<(TypeId, u128)>
     ensures integer { (names : List (List ℕ)) (types : List TypeTerm) (attrs : List AttrTerm) → option_map (λ i. (type_at types i.0, i.1)) result ≡ properties.integer_of (attr_from names types attrs node.now) }
-    ensures ty { (c : Things) → AttrIsOf c node.now → IfSome result (λ i. IsType c i.0) }
+    ensures ty { (c : ContextModel) → AttrIsOf c node.now → IfSome result (λ i. IsType c i.0) }
 {
     match node {
         AttrNode::Int { ty, value } => Some((*ty, *value)),
@@ -167,7 +167,7 @@ fn integer_in(node: &AttrNode) -> Option<(TypeId, u128)>
     }
 }
 
-/// Whether an attribute is the string `public`, `private` or `nested`.
+/// Returns whether an attribute is the string `public`, `private` or `nested`.
 fn is_visibility(ctx: &Context, node: &AttrNode) -> bool
     requires { AttrIsOf ctx.now node.now }
     ensures { result ≡ properties.is_visibility (properties.string_of (attr_node_term ctx.now node.now)) }
@@ -178,7 +178,7 @@ fn is_visibility(ctx: &Context, node: &AttrNode) -> bool
     }
 }
 
-/// Whether an attribute is a function type.
+/// Returns whether an attribute is a function type.
 fn is_function(ctx: &Context, node: &AttrNode) -> bool
     requires { AttrIsOf ctx.now node.now }
     ensures { result ≡ properties.is_and properties.is_function (properties.type_of (attr_node_term ctx.now node.now)) }
@@ -189,7 +189,7 @@ fn is_function(ctx: &Context, node: &AttrNode) -> bool
     }
 }
 
-/// Whether an attribute is an `array<i32>`.
+/// Returns whether an attribute is an `array<i32>`.
 fn is_segments(ctx: &Context, node: &AttrNode) -> bool
     requires { AttrIsOf ctx.now node.now }
     ensures { result ≡ properties.is_and (properties.is_signless 32) (properties.element_of (attr_node_term ctx.now node.now)) }
@@ -200,7 +200,7 @@ fn is_segments(ctx: &Context, node: &AttrNode) -> bool
     }
 }
 
-/// Whether an attribute is `0 : i64` to `9 : i64`.
+/// Returns whether an attribute is `0 : i64` to `9 : i64`.
 fn is_predicate(ctx: &Context, node: &AttrNode) -> bool
     requires { AttrIsOf ctx.now node.now }
     ensures { result ≡ properties.is_predicate (properties.integer_of (attr_node_term ctx.now node.now)) }
@@ -211,7 +211,7 @@ fn is_predicate(ctx: &Context, node: &AttrNode) -> bool
     }
 }
 
-/// Whether a name is that of a visibility.
+/// Returns whether a name is a visibility.
 fn names_visibility(ctx: &Context, name: NameId) -> bool
     ensures { result ≡ properties.is_visibility (Some (name_term ctx.now name)) }
 {
@@ -220,7 +220,7 @@ fn names_visibility(ctx: &Context, name: NameId) -> bool
         || ctx.is_word(name, Word::Nested)
 }
 
-/// Whether a type is the signless integer type of some bits.
+/// Returns whether a type is the signless integer type of this width.
 fn is_signless(node: &TypeNode, bits: u32) -> bool
     ensures { (known : List TypeTerm) → result ≡ properties.is_signless bits (type_from known node.now) }
 {
@@ -249,7 +249,8 @@ fn is_function_type(node: &TypeNode) -> bool
     }
 }
 
-/// The type and the bits of an integer attribute (Builtin Dialect, "IntegerAttr").
+/// Returns the type and the bits of an integer attribute, or `None` for any other attribute (Builtin Dialect,
+/// "IntegerAttr").
 pub fn integer_of(ctx: &Context, attr: AttrId) -> Option<(TypeId, u128)>
     requires { IsAttr ctx.now attr }
     ensures integer { option_map (λ i. (type_term ctx.now i.0, i.1)) result ≡ properties.integer_of (attr_term ctx.now attr) }

@@ -2,7 +2,7 @@
 ghost use Rattle.std.specs.Prelude.{◌≡◌, IfSome, List, ℕ, map};
 ghost use Rattle.std.specs.List.{All};
 ghost use Rattle.std.specs.Option.{option_map};
-ghost use Rattle.ir_types.specs.Things.{Things, IsType, AttrIsOf, TypeIsOf};
+ghost use Rattle.ir_types.specs.Things.{ContextModel, IsType, AttrIsOf, TypeIsOf};
 ghost use Rattle.ir_types.specs.Terms.{TypeTerm, AttrTerm, attr_from, type_at, type_from, type_term};
 ghost use Rattle.ir_types.specs.SameTypes as types;
 ghost use Rattle.op_registry.specs.Properties as properties;
@@ -19,10 +19,10 @@ pub struct Signature<'a> {
     pub outputs: &'a [TypeId],
 }
 
-/// The type that an attribute is.
+/// Returns the type of a type attribute, or `None` for any other attribute.
 pub fn type_in(node: &AttrNode) -> Option<TypeId>
     ensures ty { (names : List (List ℕ)) (types : List TypeTerm) (attrs : List AttrTerm) → option_map (λ t. type_at types t) result ≡ properties.type_of (attr_from names types attrs node.now) }
-    ensures known { (c : Things) → AttrIsOf c node.now → IfSome result (λ t. IsType c t) }
+    ensures known { (c : ContextModel) → AttrIsOf c node.now → IfSome result (λ t. IsType c t) }
 {
     match node {
         AttrNode::Int { .. } => None,
@@ -38,7 +38,7 @@ pub fn type_in(node: &AttrNode) -> Option<TypeId>
     }
 }
 
-/// The inputs and outputs of a function type.
+/// Returns the inputs and outputs of a function type, or `None` for any other type.
 pub fn signature_of(ctx: &Context, ty: TypeId) -> Option<Signature<'_>>
     requires { IsType ctx.now ty }
     ensures signature { option_map (λ s. (map (type_term ctx.now) s.inputs.now, map (type_term ctx.now) s.outputs.now)) result ≡ types.function_of (type_term ctx.now ty) }
@@ -48,11 +48,11 @@ pub fn signature_of(ctx: &Context, ty: TypeId) -> Option<Signature<'_>>
     signature_in(type_of(ctx, ty))
 }
 
-/// The inputs and outputs of a node that is a function type.
+/// Returns the inputs and outputs of a node that is a function type.
 fn signature_in(node: &TypeNode) -> Option<Signature<'_>>
     ensures signature { (known : List TypeTerm) → option_map (λ s. (map (type_at known) s.inputs.now, map (type_at known) s.outputs.now)) result ≡ types.function_of (type_from known node.now) }
-    ensures inputs { (c : Things) → TypeIsOf c node.now → IfSome result (λ s. All (λ t. IsType c t) s.inputs.now) }
-    ensures outputs { (c : Things) → TypeIsOf c node.now → IfSome result (λ s. All (λ t. IsType c t) s.outputs.now) }
+    ensures inputs { (c : ContextModel) → TypeIsOf c node.now → IfSome result (λ s. All (λ t. IsType c t) s.inputs.now) }
+    ensures outputs { (c : ContextModel) → TypeIsOf c node.now → IfSome result (λ s. All (λ t. IsType c t) s.outputs.now) }
 {
     match node {
         TypeNode::Int { .. } => None,

@@ -1,4 +1,4 @@
-//! The rows, in the order of the words' numbers.
+//! The rows, in the order of the words' ids.
 ghost use Rattle.std.specs.Prelude.{◌≡◌, ℕ, List, map};
 ghost use Rattle.op_registry.specs.Rows.{Row, rows};
 ghost use Rattle.op_registry.specs.Registry.{row_from};
@@ -14,7 +14,7 @@ const NONE: Types = Types {
     more: None,
 };
 
-/// Any number of any types.
+/// Any number of operands or results, of any types.
 const ANY: Types = Types {
     first: &[],
     more: Some(TypeRule::Any),
@@ -71,7 +71,7 @@ const BARE: OpDef = OpDef {
     parents: &[],
 };
 
-/// Two numbers of one type, which is that of the result.
+/// Two operands and one result, all of the same number type.
 const ARITHMETIC: OpDef = OpDef {
     operands: Types {
         first: &[TypeRule::Number, TypeRule::Number],
@@ -81,20 +81,20 @@ const ARITHMETIC: OpDef = OpDef {
     ..BARE
 };
 
-/// Two numbers of one type, which is that of the result, with overflow flags.
+/// Two operands and one result, all of the same number type, with overflow flags.
 const FLAGGED: OpDef = OpDef {
     properties: &[OVERFLOW],
     ..ARITHMETIC
 };
 
-/// An integer to one of another width.
+/// A cast from an integer type to one of another width.
 const RESIZE: OpDef = OpDef {
     operands: INTEGER,
     results: INTEGER,
     ..BARE
 };
 
-/// A number to one of another type.
+/// A cast from a number type to another.
 const INDEX_CAST: OpDef = OpDef {
     operands: NUMBER,
     results: Types {
@@ -104,7 +104,7 @@ const INDEX_CAST: OpDef = OpDef {
     ..BARE
 };
 
-/// An operation that ends the blocks of others.
+/// An operation that terminates blocks.
 const ENDING: OpDef = OpDef {
     operands: ANY,
     traits: Traits {
@@ -170,7 +170,7 @@ const NONTEMPORAL: Property = Property {
     required: false,
 };
 
-/// Each operation's row, at the number of its word.
+/// The row of each registered operation, at the id of its name.
 static ROWS: [OpDef; OPERATIONS as usize] = [
     // builtin.module
     OpDef {
@@ -427,7 +427,7 @@ static ROWS: [OpDef; OPERATIONS as usize] = [
     },
 ];
 
-/// The rows: each operation's stands at the number of its word.
+/// Returns the rows: the index of a row is the id of the operation's name.
 pub(crate) fn table() -> &'static [OpDef]
     ensures { map row_from result.now ≡ map (λ (row : List ℕ × Row). row.1) rows }
 {

@@ -1,4 +1,4 @@
--- The limits of a module, by what is read of a world.
+-- The limits of a module, as read from a world.
 use Rattle.std.proofs.Common.{◌≡◌, refl, ap, sym, ◌∙◌, ℕ, ◌+◌, ◌≤◌, ◌<◌, ◌-◌, ◌^◌, Bool, true, false, Some, None, arith, le-leb, length, min}
 use Rattle.std.specs.Prelude.{nat_le}
 use Rattle.std.proofs.lemmas.Bool.{leb-true, lt-leb}

@@ -1,8 +1,8 @@
--- What carrying out a plan comes to.
+-- The result of carrying out a plan.
 use Rattle.std.proofs.Common.{◌≡◌, refl, ap, sym, ◌∙◌, subst, ℕ, ◌+◌, ◌≤◌, List, [], Bool, true, false, Option, Some, None, inl, inr, leb-true}
 use Rattle.std.specs.Prelude.{length, nat_le, if◌then◌else◌}
 use Rattle.ir_event.specs.declared.event.Event.{Event}
-use Rattle.ir_event.specs.types.Things.{Things, Grows}
+use Rattle.ir_event.specs.types.Things.{ContextModel, IsExtendedBy}
 use Rattle.ir_event.specs.types.Sound.{Holds}
 use Rattle.ir_event.specs.types.declared.refusal.Refusal.{Refusal}
 use Rattle.ir_event.specs.types.declared.refusal.Refusal.TheVariants.{Full, IdsExhausted, Memory}
@@ -14,22 +14,22 @@ use Rattle.ir_event.specs.Listener.{Listener}
 use Rattle.ir_event.specs.Modules.{Module, module_in, module_meaning}
 use Rattle.ir_event.specs.declared.world.World.{World}
 use Rattle.patterns_lowering.specs.rewriter.Moves.{Grown, Recorded, all_noted}
-use Rattle.patterns_lowering.proofs.of_rewriter.Told.{heard_none, heard_more}
-use Rattle.patterns_lowering.specs.runs.Benched.{Benched, Journaled}
-use Rattle.patterns_lowering.specs.runs.Contents.{Edit, all_edited}
-use Rattle.patterns_lowering.specs.runs.Held.{Held, module_held}
-use Rattle.patterns_lowering.specs.runs.Runs.{Along}
-use Rattle.patterns_lowering.specs.runs.Lists.{IsWhy}
-use Rattle.patterns_lowering.proofs.of_runs.Journals.{recorded_none}
-use Rattle.patterns_facts.specs.base.Makes.{made_by}
-use Rattle.patterns_facts.specs.base.Rewrites.{becomes, refused, carried_out}
-use Rattle.patterns_lowering.specs.runs.Interning.{Added, IsNoRoom}
+use Rattle.patterns_lowering.proofs.of_rewriter.Told.{notified_none, notified_more}
+use Rattle.patterns_lowering.specs.RewriterCalls.{Benched, Journaled}
+use Rattle.patterns_lowering.specs.Contents.{Edit, all_edited}
+use Rattle.patterns_lowering.specs.Held.{TransactionModel, module_held}
+use Rattle.patterns_lowering.specs.Runs.{Along}
+use Rattle.patterns_lowering.specs.Lists.{IsWhy}
+use Rattle.patterns_lowering.proofs.Journals.{recorded_none}
+use Rattle.patterns_soundness.specs.base.Makes.{made_by}
+use Rattle.patterns_soundness.specs.base.Rewrites.{becomes, refused, carried_out}
+use Rattle.patterns_lowering.specs.Interning.{Added, IsCapacityRefusal}
 use Rattle.patterns.specs.Making.{made_makes}
 use Rattle.patterns.proofs.Counted.{made_counted}
 use Rattle.patterns.specs.Applied.{Applied, limit_reason}
-use Rattle.patterns.specs.Planned.{IsFree, IsStopped, MadeIsOf, planned_edits}
-use Rattle.patterns.specs.declared.plan.Planned.{Planned}
-use Rattle.patterns_edits.proofs.Free.{free_why}
+use Rattle.patterns.specs.Planned.{IsFree, ApplyFails, MadeIsOf, planned_edits}
+use Rattle.patterns.specs.declared.plan.PlacedPlan.{PlacedPlan}
+use Rattle.patterns_base.proofs.Free.{free_why}
 
 -- ---- limits
 
@@ -57,50 +57,50 @@ ids_left m k h = go (nat_le (op_count m.tree + k) most_ops) (nat_le (m.next + k)
     go true false is h = absurd cc
     go false b is h = absurd cc
 
--- ---- what stays
+-- ---- properties that stay
 
 module _ {B : Type 0} (meaning : B → Listener) where
   pub applied_none : (a : Benched B) → Applied meaning a a
-  applied_none a = record { grows = grows_refl a.desk.ctx; opens = refl; led = ([], heard_none meaning a) }
+  applied_none a = record { grows = grows_refl a.transaction.ctx; opens = refl; led = ([], notified_none meaning a) }
 
   pub applied_added : (a b : Benched B) → Added meaning a b → Applied meaning a b
   applied_added a b p = record { grows = p.grown.grows; opens = p.grown.marked; led = ([], p.untold) }
 
-  pub applied_along : (a b c : Benched B) → Holds b.desk.ctx → Added meaning a b → Along meaning b c → Applied meaning a c
+  pub applied_along : (a b c : Benched B) → Holds b.transaction.ctx → Added meaning a b → Along meaning b c → Applied meaning a c
   applied_along a b c holds p q =
       record {
-        grows = subst (λ (d : Things). Grows a.desk.ctx d) (sym q.ctx) p.grown.grows;
+        grows = subst (λ (d : ContextModel). IsExtendedBy a.transaction.ctx d) (sym q.ctx) p.grown.grows;
         opens = q.opens ∙ p.grown.marked;
-        led = (q.led.0, heard_more meaning [] q.led.0 a b c holds p.untold q.led.1);
+        led = (q.led.0, notified_more meaning [] q.led.0 a b c holds p.untold q.led.1);
       }
 
-  -- the journal behind a context that grew
-  recorded_grown : (es : List Event) (g h k : Held) → Grown g h → Recorded es h k → Recorded es g k
+  -- the journal after the context grew
+  recorded_grown : (es : List Event) (g h k : TransactionModel) → Grown g h → Recorded es h k → Recorded es g k
   recorded_grown es g h k grown r =
-      let marks : h.marks ≡ g.marks = ap (λ (k : Held). k.marks) grown.held in
-      let was : h.journal ≡ g.journal = ap (λ (k : Held). k.journal) grown.held in
+      let marks : h.marks ≡ g.marks = ap (λ (k : TransactionModel). k.marks) grown.held in
+      let was : h.journal ≡ g.journal = ap (λ (k : TransactionModel). k.journal) grown.held in
       record {
         marks = r.marks ∙ marks;
         journal = r.journal ∙ λ i. all_noted (marks i) (was i) es;
-        behind = λ some n le. r.behind (λ z. some (sym marks ∙ z)) n (subst (λ (xs : List Event). n ≤ length xs) (sym was) le) ∙ grown.behind n;
+        trailing = λ some n le. r.trailing (λ z. some (sym marks ∙ z)) n (subst (λ (xs : List Event). n ≤ length xs) (sym was) le) ∙ grown.trailing n;
       }
 
   pub journaled_none : (a : Benched B) → Journaled meaning a a
-  journaled_none a = ([], heard_none meaning a, recorded_none a.desk)
+  journaled_none a = ([], notified_none meaning a, recorded_none a.transaction)
 
-  pub journaled_along : (a b c : Benched B) → Holds b.desk.ctx → Added meaning a b → Journaled meaning b c → Journaled meaning a c
-  journaled_along a b c holds p q = (q.0, heard_more meaning [] q.0 a b c holds p.untold q.1, recorded_grown q.0 a.desk b.desk c.desk p.grown q.2)
+  pub journaled_along : (a b c : Benched B) → Holds b.transaction.ctx → Added meaning a b → Journaled meaning b c → Journaled meaning a c
+  journaled_along a b c holds p q = (q.0, notified_more meaning [] q.0 a b c holds p.untold q.1, recorded_grown q.0 a.transaction b.transaction c.transaction p.grown q.2)
 
-  -- nothing was noted where the context alone grew, and where edits were refused behind that
-  pub kept_added : (a b : Benched B) → Added meaning a b → Recorded [] a.desk b.desk
-  kept_added a b p = recorded_grown [] a.desk b.desk b.desk p.grown (recorded_none b.desk)
+  -- nothing was recorded if only the context grew, or if the edits after that were refused
+  pub kept_added : (a b : Benched B) → Added meaning a b → Recorded [] a.transaction b.transaction
+  kept_added a b p = recorded_grown [] a.transaction b.transaction b.transaction p.grown (recorded_none b.transaction)
 
-  pub kept_along : (a b c : Benched B) → Added meaning a b → Recorded [] b.desk c.desk → Recorded [] a.desk c.desk
-  kept_along a b c p r = recorded_grown [] a.desk b.desk c.desk p.grown r
+  pub kept_along : (a b c : Benched B) → Added meaning a b → Recorded [] b.transaction c.transaction → Recorded [] a.transaction c.transaction
+  kept_along a b c p r = recorded_grown [] a.transaction b.transaction c.transaction p.grown r
 
--- ---- a plan at operation x, where a world shows what a bench holds
+-- ---- a plan at operation x, if a world shows the module of a rewriter
 
-module _ (w : World) (h : Held) (ctx : w.ctx ≡ h.ctx) (store : w.store ≡ h.store) (x : ℕ) (p : Planned) (of : MadeIsOf h.ctx p.made) where
+module _ (w : World) (h : TransactionModel) (ctx : w.ctx ≡ h.ctx) (store : w.store ≡ h.store) (x : ℕ) (p : PlacedPlan) (of : MadeIsOf h.ctx p.made) where
   same_module : module_in w ≡ module_held h
   same_module i = module_meaning (ctx i) (store i).module_of
 
@@ -108,9 +108,9 @@ module _ (w : World) (h : Held) (ctx : w.ctx ≡ h.ctx) (store : w.store ≡ h.s
   es = planned_edits h.ctx (module_held h).next x p
 
   makes : made_by es ≡ made_makes p.made
-  makes = made_counted h.ctx (module_held h).next x p.front p.made of
+  makes = made_counted h.ctx (module_held h).next x p.point p.made of
 
-  pub was_limited : (k : ℕ) (r : Refusal) (reason : Option Refusal) → k ≡ made_makes p.made → reason ≡ limit_reason k (module_in w) → reason ≡ Some r → IsStopped es (module_held h) h.ctx r
+  pub was_limited : (k : ℕ) (r : Refusal) (reason : Option Refusal) → k ≡ made_makes p.made → reason ≡ limit_reason k (module_in w) → reason ≡ Some r → ApplyFails es (module_held h) h.ctx r
   was_limited k r reason count is due = inr (inl (limited es (module_held h) k r (makes ∙ sym count) (ap (limit_reason k) (sym same_module) ∙ sym is ∙ due)))
 
   module _ (k : ℕ) (reason : Option Refusal) (count : k ≡ made_makes p.made) (is : reason ≡ limit_reason k (module_in w)) (none : reason ≡ None) (n : ℕ) (next : n ≡ w.store.module_of.next) where
@@ -123,17 +123,17 @@ module _ (w : World) (h : Held) (ctx : w.ctx ≡ h.ctx) (store : w.store ≡ h.s
     pub has_ids : n + made_makes p.made ≤ most_next
     has_ids = subst (λ (z : ℕ × ℕ). z.0 + z.1 ≤ most_next) (λ i. (same_next i, count i)) (ids_left (module_held h) k no_reason)
 
-    pub was_carried : (g after : Held) (made : List Edit) → module_held g ≡ module_held h → made ≡ planned_edits h.ctx n x p → module_held after ≡ all_edited made (module_held g) → carried_out es (module_held h) ≡ becomes (module_held after)
+    pub was_carried : (g after : TransactionModel) (made : List Edit) → module_held g ≡ module_held h → made ≡ planned_edits h.ctx n x p → module_held after ≡ all_edited made (module_held g) → carried_out es (module_held h) ≡ becomes (module_held after)
     was_carried g after made same due e =
         unlimited es (module_held h) k (makes ∙ sym count) no_reason
         ∙ ap becomes (sym (e ∙ λ i. all_edited ((due ∙ ap (λ j. planned_edits h.ctx j x p) (sym same_next)) i) (same i)))
 
-    -- they are refused for want of memory alone
-    pub wanting : IsFree es (module_held h) → (g : Held) (made : List Edit) (e : Refusal) → module_held g ≡ module_held h → made ≡ planned_edits h.ctx n x p → IsWhy made (module_held g) e → e ≡ Memory
+    -- the edits are refused only if memory runs out
+    pub wanting : IsFree es (module_held h) → (g : TransactionModel) (made : List Edit) (e : Refusal) → module_held g ≡ module_held h → made ≡ planned_edits h.ctx n x p → IsWhy made (module_held g) e → e ≡ Memory
     wanting free g made e same due why =
         free_why es (module_held h) e (free (all_edited es (module_held h)) (unlimited es (module_held h) k (makes ∙ sym count) no_reason))
         (subst (λ (z : List Edit × Module). IsWhy z.0 z.1 e) (λ i. ((due ∙ ap (λ j. planned_edits h.ctx j x p) (sym same_next)) i, same i)) why)
 
-pub no_room : (edits : List Edit) (m : Module) (c : Things) (e : Refusal) → IsNoRoom c e → IsStopped edits m c e
+pub no_room : (edits : List Edit) (m : Module) (c : ContextModel) (e : Refusal) → IsCapacityRefusal c e → ApplyFails edits m c e
 no_room edits m c e (inl h) = inl h
 no_room edits m c e (inr h) = inr (inr h)

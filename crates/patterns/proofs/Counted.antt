@@ -1,21 +1,21 @@
--- How many operations are made by what rules make.
+-- The number of operations that the plans of rules make.
 use Rattle.std.proofs.Common.{◌≡◌, refl, ap, ℕ, ◌+◌, List, [], ◌∷◌}
-use Rattle.ir_event.specs.types.Things.{Things}
+use Rattle.ir_event.specs.types.Things.{ContextModel}
 use Rattle.ir_event.specs.trees.declared.place.Place.{Place}
-use Rattle.patterns_edits.specs.Lists.{edits_meaning}
-use Rattle.patterns_edits.specs.declared.edit.Edit.{Edit as Coded}
-use Rattle.patterns_edits.specs.declared.edit.Edit.TheVariants as coded
-use Rattle.patterns_plans.specs.reads.declared.plan.Plan.{Plan}
-use Rattle.patterns_plans.specs.reads.declared.plan.Plan.TheVariants as plan
-use Rattle.patterns_facts.specs.base.Makes.{made_by}
+use Rattle.patterns_base.specs.Lists.{edits_meaning}
+use Rattle.patterns_base.specs.declared.edit.Edit.{Edit as Coded}
+use Rattle.patterns_base.specs.declared.edit.Edit.TheVariants as coded
+use Rattle.patterns_plans.specs.reads.declared.plan.RewritePlan.{RewritePlan}
+use Rattle.patterns_plans.specs.reads.declared.plan.RewritePlan.TheVariants as plan
+use Rattle.patterns_soundness.specs.base.Makes.{made_by}
 use Rattle.patterns_plans.specs.reads.Plans.{plan_meaning}
 use Rattle.patterns_lowering.proofs.Counted.{lowering_made}
 use Rattle.patterns.specs.Making.{all_make, made_makes, plan_makes}
 use Rattle.patterns.specs.Planned.{MadeIsOf, made_edits}
-use Rattle.patterns.specs.declared.plan.Made.{Made}
-use Rattle.patterns.specs.declared.plan.Made.TheVariants as made
+use Rattle.patterns.specs.declared.plan.RulePlan.{RulePlan}
+use Rattle.patterns.specs.declared.plan.RulePlan.TheVariants as made
 
-edits_made : (c : Things) (es : List Coded) → made_by (edits_meaning c es) ≡ all_make es
+edits_made : (c : ContextModel) (es : List Coded) → made_by (edits_meaning c es) ≡ all_make es
 edits_made c [] = refl
 edits_made c (coded.Make place o ∷ es) = ap (λ n. 1 + n) (edits_made c es)
 edits_made c (coded.SetOperand x k v ∷ es) = ap (λ n. 0 + n) (edits_made c es)
@@ -24,17 +24,17 @@ edits_made c (coded.Move x place ∷ es) = ap (λ n. 0 + n) (edits_made c es)
 edits_made c (coded.Erase x ∷ es) = ap (λ n. 0 + n) (edits_made c es)
 edits_made c (coded.SetAttr x k a ∷ es) = ap (λ n. 0 + n) (edits_made c es)
 
-pub plan_made : (c : Things) (n x : ℕ) (front : Place) (p : Plan) → made_by (plan_meaning c n x front p) ≡ plan_makes p
+pub plan_made : (c : ContextModel) (n x : ℕ) (front : Place) (p : RewritePlan) → made_by (plan_meaning c n x front p) ≡ plan_makes p
 plan_made c n x front (plan.Edits es) = edits_made c es.items
 plan_made c n x front (plan.Constant ty bits) = refl
 plan_made c n x front (plan.Cast name ty v) = refl
-plan_made c n x front (plan.Combined name ty v bits) = refl
-plan_made c n x front (plan.Mirrored p a b) = refl
-plan_made c n x front (plan.Chosen p ty a b) = refl
+plan_made c n x front (plan.CombinedConstant name ty v bits) = refl
+plan_made c n x front (plan.SwapComparison p a b) = refl
+plan_made c n x front (plan.CompareAndSelect p ty a b) = refl
 plan_made c n x front (plan.Difference ty a b ones) = refl
 plan_made c n x front (plan.Remainder division ty a b) = refl
 
--- and so many that rules make
-pub made_counted : (c : Things) (n x : ℕ) (front : Place) (p : Made) → MadeIsOf c p → made_by (made_edits c n x front p) ≡ made_makes p
-made_counted c n x front (made.Plan p) of = plan_made c n x front p
+-- and that the plan of a rule makes
+pub made_counted : (c : ContextModel) (n x : ℕ) (front : Place) (p : RulePlan) → MadeIsOf c p → made_by (made_edits c n x front p) ≡ made_makes p
+made_counted c n x front (made.Rewrite p) of = plan_made c n x front p
 made_counted c n x front (made.Lowering p) of = lowering_made c n front p.value of

@@ -5,15 +5,15 @@ use Rattle.ir_event.specs.trees.Ids.{op_count}
 use Rattle.ir_event.specs.trees.Limits.{most_ops, most_next}
 use Rattle.ir_event.specs.Modules.{Module}
 use Rattle.ir_event.specs.types.declared.refusal.Refusal.TheVariants.{Full, IdsExhausted}
-use Rattle.patterns_lowering.specs.runs.Contents.{Edit, all_edited}
-use Rattle.patterns_facts.specs.base.Canonicalization.{first_rule, greedy_rules, or_else}
-use Rattle.patterns_facts.specs.base.Makes.{made_by}
-use Rattle.patterns_facts.specs.base.Rewrites.{Rewrite, none, refused, becomes, edits_of, rewrite_of, rewrite_by, carried_out}
-use Rattle.patterns_facts.specs.base.RuleNames.{is_canonical}
-use Rattle.patterns_facts.specs.base.declared.rule.Rule.{Rule}
+use Rattle.patterns_lowering.specs.Contents.{Edit, all_edited}
+use Rattle.patterns_soundness.specs.base.Canonicalization.{first_rule, greedy_rules, or_else}
+use Rattle.patterns_soundness.specs.base.Makes.{made_by}
+use Rattle.patterns_soundness.specs.base.Rewrites.{Rewrite, none, refused, becomes, edits_of, rewrite_of, rewrite_by, carried_out}
+use Rattle.patterns_soundness.specs.base.RuleNames.{is_canonical}
+use Rattle.patterns_soundness.specs.base.declared.rule.Rule.{Rule}
 use Rattle.patterns.specs.Firing.{firing, rewrite_if, rule_or}
 use Rattle.patterns.specs.Lowest.{greedy}
-use Rattle.patterns_facts.proofs.of_base.Facts.{rewrite_is}
+use Rattle.patterns_soundness.proofs.of_base.Facts.{rewrite_is}
 
 pub firing_more : (r : Rule) (rs : List Rule) (m : Module) (x : ℕ) → firing (r ∷ rs) m x ≡ rule_or (rewrite_of r m x) r (firing rs m x)
 unfolding firing
@@ -43,12 +43,12 @@ left_out r m x is e rs =
     ∙ ap (λ w. rule_or w r (firing (greedy rs) m x)) (rewrite_is r m x ∙ ap (λ p. rewrite_by p m) (sym e))
 
 pub taken : (r : Rule) (m : Module) (x : ℕ) (es : List Edit) → is_canonical r ≡ true → Some es ≡ edits_of r m x → (rs : List Rule) → firing (greedy (r ∷ rs)) m x ≡ Some r
-taken r m x es tries e rs =
+taken r m x es pattern_set e rs =
     let is : rewrite_of r m x ≡ carried_out es m = rewrite_is r m x ∙ ap (λ p. rewrite_by p m) (sym e) in
-    ap (λ z. firing z m x) (filtered r rs true tries) ∙ firing_more r (greedy rs) m x
+    ap (λ z. firing z m x) (filtered r rs true pattern_set) ∙ firing_more r (greedy rs) m x
     ∙ ap (λ w. rule_or w r (firing (greedy rs) m x)) is ∙ kept es m r (firing (greedy rs) m x)
 
--- where none applies at all
+-- no rule applies at all
 pub none_of : (rs : List Rule) (m : Module) (x : ℕ) → ((r : Rule) → None ≡ edits_of r m x) → firing rs m x ≡ None
 none_of [] m x h = firing_none m x
 none_of (r ∷ rs) m x h = firing_more r rs m x ∙ ap (λ w. rule_or w r (firing rs m x)) (rewrite_is r m x ∙ ap (λ p. rewrite_by p m) (sym (h r))) ∙ none_of rs m x h
@@ -59,7 +59,7 @@ none_lowest m x h = none_of greedy_rules m x h
 pub none_first : (m : Module) (x : ℕ) → firing (greedy []) m x ≡ None
 none_first m x = firing_none m x
 
--- what comes of the first that applies is what comes of them
+-- the rewrite of the first rule that applies is the rewrite by the list
 pub first_is : (rs : List Rule) (m : Module) (x : ℕ) → first_rule rs m x ≡ rewrite_if (firing rs m x) m x
 unfolding first_rule firing
 first_is [] m x = refl

@@ -1,7 +1,7 @@
--- What new operations stand for.
+-- The meaning of new operations.
 use Rattle.std.proofs.Common.{◌≡◌, refl, ap, sym, subst, ℕ, ◌&&◌, List, [], ◌∷◌, true, false, Option, Some, None, codes, lt-ltb}
 use Rattle.std.specs.Prelude.{if◌then◌else◌}
-use Rattle.ir_event.specs.types.Things.{Things}
+use Rattle.ir_event.specs.types.Things.{ContextModel}
 use Rattle.ir_event.specs.types.Terms.{TypeTerm, AttrTerm, IntegerOf, Overflow}
 use Rattle.ir_event.specs.types.Sound.{IsSound}
 use Rattle.ir_event.specs.types.declared.word.Word.TheVariants.{ArithConstant, ArithCmpi, ArithSelect, Value as ValueKey, OverflowFlags, Predicate}
@@ -15,13 +15,13 @@ use Rattle.patterns.specs.Interned.{IsNameOf, IsTypeOf, IsAttrOf, FlagsOf}
 use Rattle.patterns.specs.New.{new_op, new_constant, new_binary, new_comparison, new_choice, new_cast}
 use Rattle.patterns.proofs.Numbers.{word_is_name}
 
--- a new operation is sound in a context, holds none, and stands for one of contents
-pub record Stands (c : Things) (o : Op) (q : Operation) : Type 0 where
+-- a new operation is sound in a context, has nothing inside its blocks, and means an operation with terms
+pub record Stands (c : ContextModel) (o : Op) (q : Operation) : Type 0 where
   pub means : meaning c o ≡ q
   pub sound : IsSoundIn c o
   pub bare : hold_none (regions o) ≡ true
 
-module _ (c : Things) (name : ℕ) (bytes : List ℕ) (ty : ℕ) (term : TypeTerm) (operands : List Value) (n : IsNameOf c name bytes) (t : IsTypeOf c ty term) where
+module _ (c : ContextModel) (name : ℕ) (bytes : List ℕ) (ty : ℕ) (term : TypeTerm) (operands : List Value) (n : IsNameOf c name bytes) (t : IsTypeOf c ty term) where
   bare_stands : Stands c (new_op name operands ty None) (made bytes operands term [])
   bare_stands =
       record {
@@ -60,7 +60,7 @@ pub xori_unflagged : among flagged (codes "arith.xori") ≡ false
 unfolding flagged
 xori_unflagged = refl
 
-module _ (c : Things) (sound : IsSound c) where
+module _ (c : ContextModel) (sound : IsSound c) where
   pub comparison_stands : (truth : ℕ) → IsTypeOf c truth i1 → (a p : ℕ) → IsAttrOf c a (IntegerOf i64 p) → (v w : Value) → Stands c (new_comparison truth a v w) (comparison p v w)
   comparison_stands truth of a p asks v w = entry_stands c _ _ truth i1 (v ∷ w ∷ []) (word_is_name c ArithCmpi sound refl) of _ a _ _ (word_is_name c Predicate sound refl) asks
 

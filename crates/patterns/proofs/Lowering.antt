@@ -1,4 +1,4 @@
--- What comes of the lowest rule that applies.
+-- The rewrite of the highest-priority rule that applies.
 use Rattle.std.proofs.Common.{◌≡◌, refl, ap, sym, ◌∙◌, subst, ℕ, List, ◌∷◌, true, false, Option, Some, None, Result, Ok, Err, option_map}
 use Rattle.std.specs.Prelude.{IfOk, IfSome}
 use Rattle.ir_event.specs.trees.declared.place.Place.{Place}
@@ -7,48 +7,48 @@ use Rattle.ir_event.specs.trees.Meaning.{IsSoundIn, isolated_in}
 use Rattle.ir_event.specs.trees.WellFormed.{IsWellFormed}
 use Rattle.ir_event.specs.Modules.{Module, module_in}
 use Rattle.ir_event.specs.declared.world.World.{World}
-use Rattle.patterns_lowering.specs.runs.Held.{Held, module_held}
+use Rattle.patterns_lowering.specs.Held.{TransactionModel, module_held}
 use Rattle.patterns_plans.specs.Planned.{IsPlanAt}
 use Rattle.patterns_plans.specs.reads.Reads.{head_at}
-use Rattle.patterns_facts.specs.base.Looks.{Header}
-use Rattle.patterns_facts.specs.base.RuleNames.{is_canonical}
-use Rattle.patterns_facts.specs.base.Rules.{OnlyListed, rules_for}
-use Rattle.patterns_facts.specs.base.declared.rule.Rule.{Rule}
-use Rattle.patterns_facts.specs.Accepted.{AreAccepted}
-use Rattle.patterns_facts.specs.base.Canonicalization.{greedy_rules, lowest}
-use Rattle.patterns_facts.specs.base.Rewrites.{none, edits_of, rewrite_of, carried_out}
-use Rattle.patterns.specs.Applied.{Gave}
+use Rattle.patterns_soundness.specs.base.Looks.{Header}
+use Rattle.patterns_soundness.specs.base.RuleNames.{is_canonical}
+use Rattle.patterns_soundness.specs.base.Rules.{OnlyListed, rules_for}
+use Rattle.patterns_soundness.specs.base.declared.rule.Rule.{Rule}
+use Rattle.patterns_soundness.specs.Accepted.{AreAccepted}
+use Rattle.patterns_soundness.specs.base.Canonicalization.{greedy_rules, highest_priority}
+use Rattle.patterns_soundness.specs.base.Rewrites.{none, edits_of, rewrite_of, carried_out}
+use Rattle.patterns.specs.Applied.{RewriteOutcome}
 use Rattle.patterns.specs.Firing.{firing}
-use Rattle.patterns.specs.Lowest.{IsFirst, IsLeftOut, IsLowest, TriedFirst, greedy}
+use Rattle.patterns.specs.Lowest.{IsFirst, IsLeftOut, IsHighestPriority, FirstMatch, greedy}
 use Rattle.patterns.specs.Planned.{IsFree, MadeIsOf, made_edits, planned_edits}
-use Rattle.patterns.specs.declared.plan.Made.{Made}
-use Rattle.patterns.specs.declared.lowest.Found.{Found}
-use Rattle.patterns_facts.proofs.of_base.Suffices.{rises}
+use Rattle.patterns.specs.declared.plan.RulePlan.{RulePlan}
+use Rattle.patterns.specs.declared.apply_highest_priority.MatchedRule.{MatchedRule}
+use Rattle.patterns_soundness.proofs.of_base.Suffices.{rises}
 use Rattle.patterns.proofs.Acceptance.{accepted_of}
 use Rattle.patterns.proofs.Applying.{edits_due, rewrite_due, same_module}
 use Rattle.patterns.proofs.ByList.{named_suffice}
 use Rattle.patterns.proofs.Firsts.{left_out, none_then, past, some_then, taken}
 use Rattle.patterns.proofs.Planned.{found, none_rule}
 
-module _ (w : World) (x : ℕ) (front : Place) (r : Rule) (tries : is_canonical r ≡ true) where
-  tried : (p : Option Made) → option_map (made_edits w.ctx (module_in w).next x front) p ≡ edits_of r (module_in w) x → IfSome p (MadeIsOf w.ctx) → TriedFirst r w x front p
-  tried None e of = left_out r (module_in w) x tries e
-  tried (Some p) e of = (record { edits = e; of = of }, taken r (module_in w) x (made_edits w.ctx (module_in w).next x front p) tries e)
+module _ (w : World) (x : ℕ) (front : Place) (r : Rule) (pattern_set : is_canonical r ≡ true) where
+  tried : (p : Option RulePlan) → option_map (made_edits w.ctx (module_in w).next x front) p ≡ edits_of r (module_in w) x → IfSome p (MadeIsOf w.ctx) → FirstMatch r w x front p
+  tried None e of = left_out r (module_in w) x pattern_set e
+  tried (Some p) e of = (record { edits = e; of = of }, taken r (module_in w) x (made_edits w.ctx (module_in w).next x front p) pattern_set e)
 
-  pub tried_ok : {E : Type 0} (result : Result (Option Made) E) → IfOk result (λ p. option_map (made_edits w.ctx (module_in w).next x front) p ≡ edits_of r (module_in w) x) → IfOk result (λ p. IfSome p (MadeIsOf w.ctx)) → IfOk result (TriedFirst r w x front)
+  pub tried_ok : {E : Type 0} (result : Result (Option RulePlan) E) → IfOk result (λ p. option_map (made_edits w.ctx (module_in w).next x front) p ≡ edits_of r (module_in w) x) → IfOk result (λ p. IfSome p (MadeIsOf w.ctx)) → IfOk result (FirstMatch r w x front)
   tried_ok (Ok p) e of = tried p e of
   tried_ok (Err f) e of = tt
 
--- the first of some rules may be left out, so that it is the first of the others that applies
-pub first_others : (w : World) (x : ℕ) (front : Place) (r : Rule) (rs : List Rule) (f : Option (Rule × Made)) → IsLeftOut r w x → IsFirst rs w x front f → IsFirst (r ∷ rs) w x front f
+-- the first of some rules may be left out, so the first of the others that applies is the first of all
+pub first_others : (w : World) (x : ℕ) (front : Place) (r : Rule) (rs : List Rule) (f : Option (Rule × RulePlan)) → IsLeftOut r w x → IsFirst rs w x front f → IsFirst (r ∷ rs) w x front f
 first_others w x front r rs None out first = out rs ∙ first
 first_others w x front r rs (Some f) out first = (first.0, out rs ∙ first.1)
 
-pub first_others_ok : {E : Type 0} (w : World) (x : ℕ) (front : Place) (r : Rule) (rs : List Rule) (result : Result (Option (Rule × Made)) E) → IsLeftOut r w x → IfOk result (IsFirst rs w x front) → IfOk result (IsFirst (r ∷ rs) w x front)
+pub first_others_ok : {E : Type 0} (w : World) (x : ℕ) (front : Place) (r : Rule) (rs : List Rule) (result : Result (Option (Rule × RulePlan)) E) → IsLeftOut r w x → IfOk result (IsFirst rs w x front) → IfOk result (IsFirst (r ∷ rs) w x front)
 first_others_ok w x front r rs (Ok f) out first = first_others w x front r rs f out first
 first_others_ok w x front r rs (Err e) out first = tt
 
--- the row of an operation's name
+-- the table entry of the operation's name
 module _ (only : OnlyListed) (m : Module) (x : ℕ) (h : Header) (shown : Some h ≡ head_at x m.tree) (rules : List Rule) (row : rules ≡ rules_for h.name) where
   name_is : rules ≡ rules_for (head (found x m.tree h shown).here).name
   name_is = row ∙ ap (λ (k : Header). rules_for k.name) (found x m.tree h shown).same
@@ -59,33 +59,33 @@ module _ (only : OnlyListed) (m : Module) (x : ℕ) (h : Header) (shown : Some h
       ∙ ap (λ rs. firing rs m x) (rises (head (found x m.tree h shown).here).name)
       ∙ ap (λ rs. firing (greedy rs) m x) (sym name_is)
 
--- the first that applies of those that suffice is the lowest
+-- the first applicable rule of a sufficient list is the highest-priority rule
 module _ (w : World) (x : ℕ) (front : Place) (rules : List Rule) (suffices : firing greedy_rules (module_in w) x ≡ firing (greedy rules) (module_in w) x) where
-  pub none_first_lowest : (f : Option (Rule × Made)) → IsFirst rules w x front f → f ≡ None → IsLowest w x None
+  pub none_first_lowest : (f : Option (Rule × RulePlan)) → IsFirst rules w x front f → f ≡ None → IsHighestPriority w x None
   none_first_lowest f is e = suffices ∙ subst (IsFirst rules w x front) e is
 
-  pub first_lowest : (f : Option (Rule × Made)) (r : Rule) (p : Made) → IsFirst rules w x front f → f ≡ Some (r, p) → IsLowest w x (Some (record { rule = r; planned = record { front = front; made = p } }))
+  pub first_lowest : (f : Option (Rule × RulePlan)) (r : Rule) (p : RulePlan) → IsFirst rules w x front f → f ≡ Some (r, p) → IsHighestPriority w x (Some (record { rule = r; planned = record { point = front; made = p } }))
   first_lowest f r p is e = (let first = subst (IsFirst rules w x front) e is in (first.0, suffices ∙ first.1))
 
--- what a bench's world shows, and what the bench holds
-module _ (w : World) (b : Held) (ctx : w.ctx ≡ b.ctx) (store : w.store ≡ b.store) (x : ℕ) where
-  pub none_held : firing greedy_rules (module_in w) x ≡ None → Gave (lowest (module_held b) x) false (module_held b) (module_held b)
-  none_held e = subst (λ a. Gave a false (module_held b) (module_held b)) (sym (ap (λ m. lowest m x) (sym (same_module w b ctx store x)) ∙ none_then greedy_rules (module_in w) x e)) (refl, refl)
+-- the world of a rewriter and its transaction
+module _ (w : World) (b : TransactionModel) (ctx : w.ctx ≡ b.ctx) (store : w.store ≡ b.store) (x : ℕ) where
+  pub none_held : firing greedy_rules (module_in w) x ≡ None → RewriteOutcome (highest_priority (module_held b) x) false (module_held b) (module_held b)
+  none_held e = subst (λ a. RewriteOutcome a false (module_held b) (module_held b)) (sym (ap (λ m. highest_priority m x) (sym (same_module w b ctx store x)) ∙ none_then greedy_rules (module_in w) x e)) (refl, refl)
 
-  pub none_fired : firing greedy_rules (module_in w) x ≡ None → firing greedy_rules (module_held b) x ≡ None
-  none_fired e = subst (λ m. firing greedy_rules m x ≡ None) (same_module w b ctx store x) e
+  pub none_applied : firing greedy_rules (module_in w) x ≡ None → firing greedy_rules (module_held b) x ≡ None
+  none_applied e = subst (λ m. firing greedy_rules m x ≡ None) (same_module w b ctx store x) e
 
-  module _ (f : Found) (is : IsLowest w x (Some f)) where
+  module _ (f : MatchedRule) (is : IsHighestPriority w x (Some f)) where
     pub fits_held : MadeIsOf b.ctx f.planned.made
     fits_held = subst (λ c. MadeIsOf c f.planned.made) ctx is.0.of
 
-    pub rule_held : lowest (module_held b) x ≡ rewrite_of f.rule (module_held b) x
-    rule_held = subst (λ m. lowest m x ≡ rewrite_of f.rule m x) (same_module w b ctx store x) (some_then greedy_rules (module_in w) x f.rule is.1)
+    pub rule_held : highest_priority (module_held b) x ≡ rewrite_of f.rule (module_held b) x
+    rule_held = subst (λ m. highest_priority m x ≡ rewrite_of f.rule m x) (same_module w b ctx store x) (some_then greedy_rules (module_in w) x f.rule is.1)
 
-    pub fired_held : firing greedy_rules (module_held b) x ≡ Some f.rule
-    fired_held = subst (λ m. firing greedy_rules m x ≡ Some f.rule) (same_module w b ctx store x) is.1
+    pub applied_held : firing greedy_rules (module_held b) x ≡ Some f.rule
+    applied_held = subst (λ m. firing greedy_rules m x ≡ Some f.rule) (same_module w b ctx store x) is.1
 
-    pub lowest_due : lowest (module_held b) x ≡ carried_out (planned_edits b.ctx (module_held b).next x f.planned) (module_held b)
+    pub lowest_due : highest_priority (module_held b) x ≡ carried_out (planned_edits b.ctx (module_held b).next x f.planned) (module_held b)
     lowest_due = rule_held ∙ rewrite_due w b ctx store x (λ c n q. planned_edits c n x q) f.rule (Some f.planned) is.0.edits f.planned refl
 
     pub free_held : AreAccepted → IsSoundIn b.ctx b.store.module_of.tree → IsWellFormed (isolated_in b.ctx) b.store.module_of → IsFree (planned_edits b.ctx (module_held b).next x f.planned) (module_held b)
@@ -95,7 +95,7 @@ module _ (w : World) (b : Held) (ctx : w.ctx ≡ b.ctx) (store : w.store ≡ b.s
 
 -- rules that may be left out
 pub never : (w : World) (x : ℕ) (r : Rule) → is_canonical r ≡ true → IsPlanAt r w x None → IsLeftOut r w x
-never w x r tries is = left_out r (module_in w) x tries (none_rule r (module_in w) x is)
+never w x r pattern_set is = left_out r (module_in w) x pattern_set (none_rule r (module_in w) x is)
 
 pub untried : (w : World) (x : ℕ) (r : Rule) → is_canonical r ≡ false → IsLeftOut r w x
 untried w x r out = past r (module_in w) x out

@@ -1,4 +1,4 @@
--- What numbers stand for stays where a context grows; and why nothing more is interned.
+-- The meaning of interned numbers stays while a context grows; and why nothing more can be interned.
 use Rattle.std.proofs.Common.{◌≡◌, refl, ap, sym, ◌∙◌, subst, ℕ, ◌<◌, ◌≤◌, ◌&&◌, not, List, length, length-take, take, min, Bool, true, false, Option, Some, None, Result, Ok, Err, ◌⊎◌, inl, inr, arith}
 use Rattle.std.specs.Prelude.{slice_get, if◌then◌else◌, nat_le, nat_lt}
 use Rattle.std.specs.List.{list_any}
@@ -12,7 +12,7 @@ use Rattle.ir_event.specs.types.declared.node.AttrNode.TheVariants as attr
 use Rattle.ir_event.specs.types.declared.word.Word.{Word}
 use Rattle.ir_event.specs.types.declared.refusal.Refusal.{Refusal}
 use Rattle.ir_event.specs.types.declared.refusal.Refusal.TheVariants.{TooMany, TooDeep, BadValue, BadWidth, Memory, Full}
-use Rattle.ir_event.specs.types.Things.{Things, Grows}
+use Rattle.ir_event.specs.types.Things.{ContextModel, IsExtendedBy}
 use Rattle.ir_event.specs.types.Terms.{TypeTerm, Integer, Index, Function, Memref, OpaqueType, AttrTerm, IntegerOf, DenseArray, String, TypeOf, Flag, Array, Dictionary, Symbol, Overflow, OpaqueOf, name_term, type_term, attr_term, type_node_term, attr_node_term}
 use Rattle.ir_event.specs.types.Dictionaries.{kept}
 use Rattle.ir_event.specs.types.Same.{same_type, same_attr}
@@ -26,37 +26,37 @@ use Rattle.ir_event.proofs.of_types.Growth.{front_length}
 use Rattle.ir_event.proofs.of_types.Terms.{name_stays, type_stays, attr_stays}
 use Rattle.ir_event.proofs.of_types.WordNumbers.{word_count}
 use Rattle.ir_event.proofs.of_types.WordPlaces.{word_is}
-use Rattle.patterns_lowering.specs.runs.Interning.{IsNoRoom}
+use Rattle.patterns_lowering.specs.Interning.{IsCapacityRefusal}
 use Rattle.patterns.specs.Interned.{IsNameOf, IsTypeOf, IsAttrOf, IsPlain, FlagsOf}
 
 -- ---- numbers
 
-pub name_keeps : (c d : Things) (n : ℕ) (bytes : List ℕ) → Grows c d → IsNameOf c n bytes → IsNameOf d n bytes
+pub name_keeps : (c d : ContextModel) (n : ℕ) (bytes : List ℕ) → IsExtendedBy c d → IsNameOf c n bytes → IsNameOf d n bytes
 name_keeps c d n bytes g h = (omega (arith, h.0, front_length c.names d.names g.names), name_stays c d n g h.0 ∙ h.1)
 
-pub type_keeps : (c d : Things) (n : ℕ) (ty : TypeTerm) → Grows c d → IsTypeOf c n ty → IsTypeOf d n ty
+pub type_keeps : (c d : ContextModel) (n : ℕ) (ty : TypeTerm) → IsExtendedBy c d → IsTypeOf c n ty → IsTypeOf d n ty
 type_keeps c d n ty g h = (omega (arith, h.0, front_length c.types d.types g.types), type_stays c d n g h.0 ∙ h.1)
 
-pub attr_keeps : (c d : Things) (n : ℕ) (a : AttrTerm) → Holds c → Grows c d → IsAttrOf c n a → IsAttrOf d n a
+pub attr_keeps : (c d : ContextModel) (n : ℕ) (a : AttrTerm) → Holds c → IsExtendedBy c d → IsAttrOf c n a → IsAttrOf d n a
 attr_keeps c d n a holds g h = (omega (arith, h.0, front_length c.attrs d.attrs g.attrs), attr_stays c d n holds g h.0 ∙ h.1)
 
-pub flags_keep : (c d : Things) (name : List ℕ) (flags : Option ℕ) → Holds c → Grows c d → FlagsOf c name flags → FlagsOf d name flags
+pub flags_keep : (c d : ContextModel) (name : List ℕ) (flags : Option ℕ) → Holds c → IsExtendedBy c d → FlagsOf c name flags → FlagsOf d name flags
 flags_keep c d name None holds g h = h
 flags_keep c d name (Some a) holds g h = (h.0, attr_keeps c d a (Overflow false false) holds g h.1)
 
 -- a word's number
-pub word_is_name : (c : Things) (word : Word) → IsSound c → nat_lt (word_number word) 54 ≡ true → IsNameOf c (word_number word) (word_bytes word)
+pub word_is_name : (c : ContextModel) (word : Word) → IsSound c → nat_lt (word_number word) 54 ≡ true → IsNameOf c (word_number word) (word_bytes word)
 word_is_name c word sound low =
     let below : word_number word < 54 = ltb-true (word_number word) 54 low in
     let all : length (take 54 c.names) ≡ 54 = ap length sound.holds.words_first ∙ word_count in
     let some : length (take 54 c.names) ≡ min 54 (length c.names) = length-take 54 c.names in
     (omega (arith, below, all, some), (bytes_eq-Decides (name_term c (word_number word)) (word_bytes word)).0 (word_is c (word_number word) word sound ∙ (unsigned_Decides (word_number word) (word_number word)).1 refl))
 
--- the number that a call answers
-pub type_made : (node : TypeNode) (c d : Things) (t : ℕ) → Holds c → (t, d) ≡ with_type node c → IsTypeOf d t (type_node_term c node)
+-- the number that a call returns
+pub type_made : (node : TypeNode) (c d : ContextModel) (t : ℕ) → Holds c → (t, d) ≡ with_type node c → IsTypeOf d t (type_node_term c node)
 type_made node c d t holds e = (
-  slice_get_within d.types t node (ap (λ (z : ℕ × Things). slice_get z.1.types z.0) e ∙ type_stands node c),
-  ap (λ (z : ℕ × Things). type_term z.1 z.0) e ∙ new_type node c holds,
+  slice_get_within d.types t node (ap (λ (z : ℕ × ContextModel). slice_get z.1.types z.0) e ∙ type_stands node c),
+  ap (λ (z : ℕ × ContextModel). type_term z.1 z.0) e ∙ new_type node c holds,
 )
 
 kept_plain : (names : List (List ℕ)) (node : AttrNode) → IsPlain node → kept names node ≡ node
@@ -72,13 +72,13 @@ kept_plain names (attr.Dense elem values) plain = refl
 kept_plain names (attr.Overflow nsw nuw) plain = refl
 kept_plain names (attr.Opaque text ty) plain = refl
 
-pub attr_made : (node : AttrNode) (c d : Things) (a : ℕ) → Holds c → IsPlain node → (a, d) ≡ with_attr node c → IsAttrOf d a (attr_node_term c node)
+pub attr_made : (node : AttrNode) (c d : ContextModel) (a : ℕ) → Holds c → IsPlain node → (a, d) ≡ with_attr node c → IsAttrOf d a (attr_node_term c node)
 attr_made node c d a holds plain e = (
-  slice_get_within d.attrs a (kept c.names node) (ap (λ (z : ℕ × Things). slice_get z.1.attrs z.0) e ∙ attr_stands node c),
-  ap (λ (z : ℕ × Things). attr_term z.1 z.0) e ∙ new_attr node c holds ∙ ap (attr_node_term c) (kept_plain c.names node plain),
+  slice_get_within d.attrs a (kept c.names node) (ap (λ (z : ℕ × ContextModel). slice_get z.1.attrs z.0) e ∙ attr_stands node c),
+  ap (λ (z : ℕ × ContextModel). attr_term z.1 z.0) e ∙ new_attr node c holds ∙ ap (attr_node_term c) (kept_plain c.names node plain),
 )
 
--- ---- no room
+-- ---- the context is full
 
 either : (a b : Option Refusal) (r : Refusal) → first_reason a b ≡ Some r → (a ≡ Some r) ⊎ (b ≡ Some r)
 either None b r e = inr e
@@ -135,7 +135,7 @@ plain_reasons (attr.Dense elem values) plain = (refl, refl)
 plain_reasons (attr.Overflow nsw nuw) plain = (refl, refl)
 plain_reasons (attr.Opaque text ty) plain = (refl, refl)
 
-full_attr : (node : AttrNode) (c : Things) → IsPlain node → attr_reason node c ≡ Some TooMany → most_things ≤ length c.attrs
+full_attr : (node : AttrNode) (c : ContextModel) → IsPlain node → attr_reason node c ≡ Some TooMany → most_things ≤ length c.attrs
 full_attr node c plain e =
     let p = plain_reasons node plain in
     elim (either (attr_fault (attr_node_term c node)) _ TooMany e) [
@@ -149,7 +149,7 @@ full_attr node c plain e =
       ]
     ]
 
-full_type : (node : TypeNode) (c : Things) → type_reason node c ≡ Some TooMany → most_things ≤ length c.types
+full_type : (node : TypeNode) (c : ContextModel) → type_reason node c ≡ Some TooMany → most_things ≤ length c.types
 full_type node c e =
     elim (either (type_fault (type_node_term c node)) _ TooMany e) [
       | inl h ↦ absurd (elim (either (size_reason (type_node_term c node)) _ TooMany h) [ inl k ↦ fine_size (type_node_term c node) k | inr k ↦ not_deep _ k ])
@@ -161,8 +161,8 @@ refused_for None (Ok a) h e = absurd cc
 refused_for None (Err r) h e = (let n : r ≡ TooMany = cc in let m : Memory ≡ TooMany = sym h ∙ n in absurd cc)
 refused_for (Some r) result h e = (let n : Err r ≡ Err TooMany = sym h ∙ e in cc)
 
-pub no_room_attr : (node : AttrNode) (c d : Things) (result : Result ℕ Refusal) → IsPlain node → IsRefusedFor (attr_reason node c) result → result ≡ Err TooMany → d ≡ c → IsNoRoom d Full
-no_room_attr node c d result plain h e same = inr (refl, inr (subst (λ (z : Things). most_things ≤ length z.attrs) (sym same) (full_attr node c plain (refused_for (attr_reason node c) result h e))))
+pub no_room_attr : (node : AttrNode) (c d : ContextModel) (result : Result ℕ Refusal) → IsPlain node → IsRefusedFor (attr_reason node c) result → result ≡ Err TooMany → d ≡ c → IsCapacityRefusal d Full
+no_room_attr node c d result plain h e same = inr (refl, inr (subst (λ (z : ContextModel). most_things ≤ length z.attrs) (sym same) (full_attr node c plain (refused_for (attr_reason node c) result h e))))
 
-pub no_room_type : (node : TypeNode) (c d : Things) (result : Result ℕ Refusal) → IsRefusedFor (type_reason node c) result → result ≡ Err TooMany → d ≡ c → IsNoRoom d Full
-no_room_type node c d result h e same = inr (refl, inl (subst (λ (z : Things). most_things ≤ length z.types) (sym same) (full_type node c (refused_for (type_reason node c) result h e))))
+pub no_room_type : (node : TypeNode) (c d : ContextModel) (result : Result ℕ Refusal) → IsRefusedFor (type_reason node c) result → result ≡ Err TooMany → d ≡ c → IsCapacityRefusal d Full
+no_room_type node c d result h e same = inr (refl, inl (subst (λ (z : ContextModel). most_things ≤ length z.types) (sym same) (full_type node c (refused_for (type_reason node c) result h e))))

@@ -1,18 +1,18 @@
--- The rules that open branches and loops, by their names.
+-- The rules that inline branches and loops, by their names.
 use Rattle.std.proofs.Common.{◌≡◌, ap, sym, ◌∙◌, ℕ, List, Option, Some, None, option_map}
 use Rattle.ir_event.specs.trees.declared.place.Place.{Place}
 use Rattle.ir_event.specs.trees.Tree.{head}
 use Rattle.ir_event.specs.trees.Ids.{find}
 use Rattle.ir_event.specs.trees.Meaning.{Operation}
-use Rattle.patterns_lowering.specs.runs.Contents.{Edit}
-use Rattle.patterns_facts.specs.base.Keeps.{given}
+use Rattle.patterns_lowering.specs.Contents.{Edit}
+use Rattle.patterns_soundness.specs.base.Keeps.{given}
 use Rattle.patterns_plans.specs.reads.Reads.{head_at}
-use Rattle.patterns_facts.specs.base.Looks.{Header}
-use Rattle.patterns_facts.specs.base.Opening.{open_branch, open_loop, stop_loop}
-use Rattle.patterns_facts.specs.base.Rules.{rule}
-use Rattle.patterns_facts.specs.base.declared.rule.Rule.{Rule}
-use Rattle.patterns_facts.specs.base.declared.rule.Rule.TheVariants.{OpenBranch, OpenLoop, StopLoop}
-use Rattle.patterns_lowering.specs.region_rules.Rules.{open_branch_at, open_loop_at, stop_loop_at}
+use Rattle.patterns_soundness.specs.base.Looks.{Header}
+use Rattle.patterns_soundness.specs.base.Opening.{open_branch, open_loop, stop_loop}
+use Rattle.patterns_soundness.specs.base.Rules.{rule}
+use Rattle.patterns_soundness.specs.base.declared.rule.Rule.{Rule}
+use Rattle.patterns_soundness.specs.base.declared.rule.Rule.TheVariants.{OpenBranch, OpenLoop, StopLoop}
+use Rattle.patterns_lowering.specs.region_rules.RegionRules.{open_branch_at, open_loop_at, stop_loop_at}
 
 module _ (t : Operation) (n : ℕ) (front : Place) (x : ℕ) (o : Operation) (is : find x t ≡ Some o) (p : Option (List Edit)) (r : Rule) where
   pub when_open_branch : r ≡ OpenBranch → p ≡ open_branch_at x t front → p ≡ rule r t n front o
@@ -27,7 +27,7 @@ module _ (t : Operation) (n : ℕ) (front : Place) (x : ℕ) (o : Operation) (is
   unfolding rule
   when_stop_loop k e = e ∙ ap (λ z. given z (λ o. stop_loop t front o)) is ∙ ap (λ r. rule r t n front o) (sym k)
 
--- what is shown of an operation is its head
+-- what the store shows of an operation is its head
 pub head_is : (x : ℕ) (t : Operation) (h : Header) (o : Operation) → Some h ≡ head_at x t → find x t ≡ Some o → head o ≡ h
 head_is x t h o e f = (let shown : Some h ≡ Some (head o) = e ∙ ap (option_map (λ o. head o)) f in cc)
 

@@ -1,11 +1,11 @@
--- Which of some rules is the first that applies at an operation.
+-- The first of some rules that applies at an operation.
 use Rattle.std.specs.Prelude.{◌≡◌, ℕ, List, [], ◌∷◌, Option, Some, None}
 use Rattle.ir_event.specs.Modules.{Module}
-use Rattle.patterns_facts.specs.base.Canonicalization.{first_rule}
-use Rattle.patterns_facts.specs.base.Rewrites.{Rewrite, none, refused, becomes, rewrite_of}
-use Rattle.patterns_facts.specs.base.declared.rule.Rule.{Rule}
+use Rattle.patterns_soundness.specs.base.Canonicalization.{first_rule}
+use Rattle.patterns_soundness.specs.base.Rewrites.{Rewrite, none, refused, becomes, rewrite_of}
+use Rattle.patterns_soundness.specs.base.declared.rule.Rule.{Rule}
 
--- a rule, if something comes of it, or else another
+-- a rule if it makes a rewrite, or else another
 abbrev pub rule_or : Rewrite → Rule → Option Rule → Option Rule
 rule_or none r other = other
 rule_or (refused e) r other = Some r
@@ -16,11 +16,11 @@ unfoldable pub firing : List Rule → Module → ℕ → Option Rule
 firing [] m x = None
 firing (r ∷ rs) m x = rule_or (rewrite_of r m x) r (firing rs m x)
 
--- what comes of a rule at an operation, if there is one
+-- the rewrite of an optional rule at an operation
 abbrev pub rewrite_if : Option Rule → Module → ℕ → Rewrite
 rewrite_if None m x = none
 rewrite_if (Some r) m x = rewrite_of r m x
 
--- that what comes of the first that applies is what comes of them
+-- the rewrite of the first rule that applies is the rewrite by the list
 abbrev pub FiringIsFirst : Type 0
 FiringIsFirst = (rs : List Rule) (m : Module) (x : ℕ) → first_rule rs m x ≡ rewrite_if (firing rs m x) m x

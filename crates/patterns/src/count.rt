@@ -1,14 +1,14 @@
-//! How many operations rules make.
+//! Counts the operations that rules make.
 ghost use Rattle.std.specs.Prelude.{◌≡◌, ◌≤◌, length};
 ghost use Rattle.patterns.specs.Making.{all_make, edit_makes, made_makes, plan_makes};
 ghost use Rattle.patterns.specs.Planned.{IsOfSome};
 
-use crate::plan::Made;
+use crate::plan::RulePlan;
 use patterns_lowering::count::lowering_makes;
-use patterns_lowering::runs::edit::Edit;
-use patterns_plans::reads::plan::Plan;
+use patterns_lowering::edit::Edit;
+use patterns_plans::reads::plan::RewritePlan;
 
-/// How many operations an edit makes.
+/// Returns the number of operations that an edit makes.
 fn edit_makes(edit: &Edit) -> u64
     ensures count { result ≡ edit_makes edit.now }
     ensures few { result ≤ 1 }
@@ -19,7 +19,7 @@ fn edit_makes(edit: &Edit) -> u64
     }
 }
 
-/// How many operations edits make.
+/// Returns the number of operations that some edits make.
 fn all_make(edits: &[Edit]) -> u64
     ensures { result ≡ all_make edits.now }
 {
@@ -32,29 +32,29 @@ fn all_make(edits: &[Edit]) -> u64
     count
 }
 
-/// How many operations a plan makes.
-fn plan_makes(plan: &Plan) -> u64
+/// Returns the number of operations that a plan makes.
+fn plan_makes(plan: &RewritePlan) -> u64
     ensures { result ≡ plan_makes plan.now }
 {
     match plan {
-        Plan::Edits(edits) => all_make(edits),
-        Plan::Constant { .. } => 1,
-        Plan::Cast { .. } => 1,
-        Plan::Combined { .. } => 2,
-        Plan::Mirrored { .. } => 0,
-        Plan::Chosen { .. } => 2,
-        Plan::Difference { .. } => 5,
-        Plan::Remainder { .. } => 3,
+        RewritePlan::Edits(edits) => all_make(edits),
+        RewritePlan::Constant { .. } => 1,
+        RewritePlan::Cast { .. } => 1,
+        RewritePlan::CombinedConstant { .. } => 2,
+        RewritePlan::SwapComparison { .. } => 0,
+        RewritePlan::CompareAndSelect { .. } => 2,
+        RewritePlan::Difference { .. } => 5,
+        RewritePlan::Remainder { .. } => 3,
     }
 }
 
-/// How many operations a rule makes.
-pub(crate) fn made_makes(made: &Made) -> u64
+/// Returns the number of operations that the plan of a rule makes.
+pub(crate) fn made_makes(made: &RulePlan) -> u64
     requires { IsOfSome made.now }
     ensures { result ≡ made_makes made.now }
 {
     match made {
-        Made::Plan(plan) => plan_makes(plan),
-        Made::Lowering(lowering) => lowering_makes(&**lowering),
+        RulePlan::Rewrite(plan) => plan_makes(plan),
+        RulePlan::Lowering(lowering) => lowering_makes(&**lowering),
     }
 }

@@ -1,67 +1,67 @@
-//! The edits of plans, in numbers.
+//! The edits of plans, with interned numbers.
 ghost use Rattle.std.specs.Prelude.{◌≡◌, ◌+◌, ◌≤◌, ◌++◌, [], ◌∷◌, IfOk, OnOk};
 ghost use Rattle.ir_event.specs.trees.Limits.{most_next};
-ghost use Rattle.patterns_edits.specs.declared.edit.Edit.TheVariants.{Make as Made};
+ghost use Rattle.patterns_base.specs.declared.edit.Edit.TheVariants.{Make as Made};
 ghost use Rattle.patterns.specs.New.{new_constant, new_op};
 ghost use Rattle.patterns.specs.Numbered.{cast_edits, chosen_edits, combined_edits, constant_edits, difference_edits};
 ghost use Rattle.patterns.specs.Numbered.{first_result, giving, mirrored_edits, remainder_edits, result_at};
 
+use crate::insertion_point::InsertionPoint;
 use crate::operations::{flag_entry, new_op};
-use crate::site::Site;
 use ir_event::trees::value::Value;
 use ir_event::types::ids::{AttrId, NameId, OpId, TypeId};
 use ir_event::types::word::Word;
-use patterns_lowering::runs::edit::Edit;
+use patterns_lowering::edit::Edit;
 use std::alloc::{AllocError, Global};
 
-/// The result of the operation that is made first at a site.
-fn first_result(site: &Site) -> Value
+/// Returns the result of the first operation that is made at a site.
+fn first_result(site: &InsertionPoint) -> Value
     ensures { result ≡ first_result site.now }
 {
     Value::Result(site.next, 0)
 }
 
-/// That of the operation that is made as number `count` behind it.
-fn result_at(site: &Site, count: u32) -> Value
+/// Returns the result of the operation that is made `count` operations after the first one.
+fn result_at(site: &InsertionPoint, count: u32) -> Value
     requires { site.now.next + count ≤ most_next }
     ensures { result ≡ result_at site.now count }
 {
     Value::Result(OpId::new(site.next.number() + count), 0)
 }
 
-/// A new operation is put in front.
-fn put(
+/// Appends the insertion of a new operation at the site.
+fn push_insertion(
     alloc: Global,
     edits: &mut Vec<Edit>,
-    site: &Site,
+    site: &InsertionPoint,
     name: NameId,
     operands: &[Value],
     ty: TypeId,
     entry: &Option<(NameId, AttrId)>,
 ) -> Result<(), AllocError>
     ensures { OnOk result (edits.new.items ≡ edits.old.items
-        ++ Made site.now.front (new_op name operands.now ty entry.now) ∷ []) }
+        ++ Made site.now.point (new_op name operands.now ty entry.now) ∷ []) }
 {
     let op = new_op(alloc, name, operands, ty, entry)?;
     edits.push(Edit::Make {
-        place: site.front,
+        place: site.point,
         op,
     })?;
     Ok(())
 }
 
-/// A constant, of its attribute, is put in front.
-fn put_constant(
+/// Appends the insertion of a constant with an interned attribute.
+fn push_constant(
     alloc: Global,
     edits: &mut Vec<Edit>,
-    site: &Site,
+    site: &InsertionPoint,
     ty: TypeId,
     value: AttrId,
 ) -> Result<(), AllocError>
-    ensures { OnOk result (edits.new.items ≡ edits.old.items ++ Made site.now.front (new_constant ty value) ∷ []) }
+    ensures { OnOk result (edits.new.items ≡ edits.old.items ++ Made site.now.point (new_constant ty value) ∷ []) }
 {
     let entry = Some((Word::Value.id(), value));
-    put(
+    push_insertion(
         alloc,
         edits,
         site,
@@ -72,8 +72,8 @@ fn put_constant(
     )
 }
 
-/// A value is given for the result of the operation, which is erased.
-fn give(edits: &mut Vec<Edit>, site: &Site, value: Value) -> Result<(), AllocError>
+/// Appends the edits that replace the result of the site's operation with `value` and erase the operation.
+fn give(edits: &mut Vec<Edit>, site: &InsertionPoint, value: Value) -> Result<(), AllocError>
     ensures { OnOk result (edits.new.items ≡ edits.old.items ++ giving site.now value) }
 {
     edits.push(Edit::Replace {
@@ -84,10 +84,10 @@ fn give(edits: &mut Vec<Edit>, site: &Site, value: Value) -> Result<(), AllocErr
     Ok(())
 }
 
-/// Those of a new constant, of its attribute.
+/// Returns the edits of a plan that makes a constant, with an interned attribute.
 pub(crate) fn constant_edits(
     alloc: Global,
-    site: &Site,
+    site: &InsertionPoint,
     ty: TypeId,
     value: AttrId,
 ) -> Result<Vec<Edit>, AllocError>
@@ -95,15 +95,15 @@ pub(crate) fn constant_edits(
     ensures { IfOk result (λ es. es.items ≡ constant_edits site.now ty value) }
 {
     let mut edits = Vec::with_capacity(alloc, 3)?;
-    put_constant(alloc, &mut edits, site, ty, value)?;
+    push_constant(alloc, &mut edits, site, ty, value)?;
     give(&mut edits, site, first_result(site))?;
     Ok(edits)
 }
 
-/// Those of a new operation of one operand.
+/// Returns the edits of a plan that makes an operation with one operand.
 pub(crate) fn cast_edits(
     alloc: Global,
-    site: &Site,
+    site: &InsertionPoint,
     name: NameId,
     ty: TypeId,
     value: &Value,
@@ -112,15 +112,16 @@ pub(crate) fn cast_edits(
     ensures { IfOk result (λ es. es.items ≡ cast_edits site.now name ty value.now) }
 {
     let mut edits = Vec::with_capacity(alloc, 3)?;
-    put(alloc, &mut edits, site, name, &[*value], ty, &None)?;
+    push_insertion(alloc, &mut edits, site, name, &[*value], ty, &None)?;
     give(&mut edits, site, first_result(site))?;
     Ok(edits)
 }
 
-/// Those of a new constant, of its attribute, and an operation on a value and it.
+/// Returns the edits of a plan that makes a constant, with an interned attribute, and an operation on a value and that
+/// constant.
 pub(crate) fn combined_edits(
     alloc: Global,
-    site: &Site,
+    site: &InsertionPoint,
     name: NameId,
     ty: TypeId,
     operand: &Value,
@@ -133,16 +134,17 @@ pub(crate) fn combined_edits(
     let operands = [*operand, first_result(site)];
     let flags = flag_entry(flags);
     let mut edits = Vec::with_capacity(alloc, 4)?;
-    put_constant(alloc, &mut edits, site, ty, value)?;
-    put(alloc, &mut edits, site, name, &operands, ty, &flags)?;
+    push_constant(alloc, &mut edits, site, ty, value)?;
+    push_insertion(alloc, &mut edits, site, name, &operands, ty, &flags)?;
     give(&mut edits, site, result_at(site, 1))?;
     Ok(edits)
 }
 
-/// Those by which a comparison gets another predicate, of its attribute, and other operands.
+/// Returns the edits of a plan that changes the predicate, an interned attribute, and the operands of a comparison in
+/// place.
 pub(crate) fn mirrored_edits(
     alloc: Global,
-    site: &Site,
+    site: &InsertionPoint,
     predicate: AttrId,
     first: &Value,
     second: &Value,
@@ -168,10 +170,11 @@ pub(crate) fn mirrored_edits(
     Ok(edits)
 }
 
-/// Those of a new comparison, by its result's type and its predicate's attribute, and a choice by it.
+/// Returns the edits of a plan that makes a comparison, by its result type and its predicate's attribute, and a select
+/// on it.
 pub(crate) fn chosen_edits(
     alloc: Global,
-    site: &Site,
+    site: &InsertionPoint,
     truth: TypeId,
     predicate: AttrId,
     ty: TypeId,
@@ -187,16 +190,16 @@ pub(crate) fn chosen_edits(
     let comparison = Word::ArithCmpi.id();
     let choice = Word::ArithSelect.id();
     let mut edits = Vec::with_capacity(alloc, 4)?;
-    put(alloc, &mut edits, site, comparison, &compared, truth, &asks)?;
-    put(alloc, &mut edits, site, choice, &chosen, ty, &None)?;
+    push_insertion(alloc, &mut edits, site, comparison, &compared, truth, &asks)?;
+    push_insertion(alloc, &mut edits, site, choice, &chosen, ty, &None)?;
     give(&mut edits, site, result_at(site, 1))?;
     Ok(edits)
 }
 
-/// Those of the first value with the second one's complement, and 1 added.
+/// Returns the edits of a plan that adds the complement of the second value and 1 to the first value.
 pub(crate) fn difference_edits(
     alloc: Global,
-    site: &Site,
+    site: &InsertionPoint,
     ty: TypeId,
     first: &Value,
     second: &Value,
@@ -214,19 +217,19 @@ pub(crate) fn difference_edits(
     let xori = Word::ArithXori.id();
     let addi = Word::ArithAddi.id();
     let mut edits = Vec::with_capacity(alloc, 7)?;
-    put_constant(alloc, &mut edits, site, ty, ones)?;
-    put(alloc, &mut edits, site, xori, &complement, ty, &None)?;
-    put_constant(alloc, &mut edits, site, ty, one)?;
-    put(alloc, &mut edits, site, addi, &negative, ty, &flags)?;
-    put(alloc, &mut edits, site, addi, &sum, ty, &flags)?;
+    push_constant(alloc, &mut edits, site, ty, ones)?;
+    push_insertion(alloc, &mut edits, site, xori, &complement, ty, &None)?;
+    push_constant(alloc, &mut edits, site, ty, one)?;
+    push_insertion(alloc, &mut edits, site, addi, &negative, ty, &flags)?;
+    push_insertion(alloc, &mut edits, site, addi, &sum, ty, &flags)?;
     give(&mut edits, site, result_at(site, 4))?;
     Ok(edits)
 }
 
-/// Those of what is left of the first value behind a division by the second.
+/// Returns the edits of a plan that computes the remainder of the first value by the second.
 pub(crate) fn remainder_edits(
     alloc: Global,
-    site: &Site,
+    site: &InsertionPoint,
     division: NameId,
     ty: TypeId,
     first: &Value,
@@ -245,9 +248,9 @@ pub(crate) fn remainder_edits(
     let muli = Word::ArithMuli.id();
     let subi = Word::ArithSubi.id();
     let mut edits = Vec::with_capacity(alloc, 5)?;
-    put(alloc, &mut edits, site, division, &divided, ty, &flags)?;
-    put(alloc, &mut edits, site, muli, &product, ty, &set)?;
-    put(alloc, &mut edits, site, subi, &rest, ty, &set)?;
+    push_insertion(alloc, &mut edits, site, division, &divided, ty, &flags)?;
+    push_insertion(alloc, &mut edits, site, muli, &product, ty, &set)?;
+    push_insertion(alloc, &mut edits, site, subi, &rest, ty, &set)?;
     give(&mut edits, site, result_at(site, 2))?;
     Ok(edits)
 }

@@ -1,11 +1,11 @@
-//! What is interned for new operations.
+//! Interns the attributes and types of new operations.
 ghost use Rattle.std.specs.Prelude.{false, IfOk, IfErr};
 ghost use Rattle.ir_event.specs.types.Things.{IsName, IsType, TypeIsOf, AttrIsOf};
 ghost use Rattle.ir_event.specs.types.Terms.{Integer, IntegerOf, Overflow, attr_node_term, name_term, type_node_term};
 ghost use Rattle.ir_event.specs.types.Terms.{type_term};
 ghost use Rattle.ir_event.specs.types.declared.node.Sign.TheVariants.{Signless};
-ghost use Rattle.patterns_facts.specs.base.Made.{i64};
-ghost use Rattle.patterns_lowering.specs.runs.Interning.{Added, IsNoRoom};
+ghost use Rattle.patterns_soundness.specs.base.Made.{i64};
+ghost use Rattle.patterns_lowering.specs.Interning.{Added, IsCapacityRefusal};
 ghost use Rattle.patterns.specs.Interned.{FlagsOf, IsAttrOf, IsPlain, IsTypeOf};
 
 use crate::operations::is_flagged;
@@ -13,14 +13,14 @@ use ir_event::analysis::Analysis;
 use ir_event::types::ids::{AttrId, NameId, TypeId};
 use ir_event::types::node::{AttrNode, Sign, TypeNode};
 use ir_event::types::refusal::Refusal;
-use patterns_lowering::runs::Bench;
+use patterns_lowering::Bench;
 
-/// The number of an attribute that is no dictionary.
+/// Interns an attribute that isn't a dictionary.
 fn attr<L: Analysis>(bench: &mut Bench<L>, node: AttrNode) -> Result<AttrId, Refusal>
-    requires of { AttrIsOf bench.old.desk.ctx node }
+    requires of { AttrIsOf bench.old.transaction.ctx node }
     requires plain { IsPlain node }
-    ensures ok { IfOk result (λ a. IsAttrOf bench.new.desk.ctx a (attr_node_term bench.old.desk.ctx node)) }
-    ensures refused { IfErr result (λ e. IsNoRoom bench.new.desk.ctx e) }
+    ensures ok { IfOk result (λ a. IsAttrOf bench.new.transaction.ctx a (attr_node_term bench.old.transaction.ctx node)) }
+    ensures refused { IfErr result (λ e. IsCapacityRefusal bench.new.transaction.ctx e) }
     ensures added { Added L.meaning bench.old bench.new }
 {
     bench.is_formed();
@@ -33,10 +33,10 @@ fn attr<L: Analysis>(bench: &mut Bench<L>, node: AttrNode) -> Result<AttrId, Ref
     }
 }
 
-/// The number of a signless integer type.
+/// Interns a signless integer type.
 pub(crate) fn integer_type<L: Analysis>(bench: &mut Bench<L>, width: u32) -> Result<TypeId, Refusal>
-    ensures ok { IfOk result (λ t. IsTypeOf bench.new.desk.ctx t (Integer Signless width)) }
-    ensures refused { IfErr result (λ e. IsNoRoom bench.new.desk.ctx e) }
+    ensures ok { IfOk result (λ t. IsTypeOf bench.new.transaction.ctx t (Integer Signless width)) }
+    ensures refused { IfErr result (λ e. IsCapacityRefusal bench.new.transaction.ctx e) }
     ensures added { Added L.meaning bench.old bench.new }
 {
     bench.is_formed();
@@ -52,27 +52,27 @@ pub(crate) fn integer_type<L: Analysis>(bench: &mut Bench<L>, width: u32) -> Res
     }
 }
 
-/// The attribute of a constant's bits.
+/// Interns the value attribute of a constant, from its bits.
 pub(crate) fn value_attr<L: Analysis>(
     bench: &mut Bench<L>,
     ty: TypeId,
     value: u128,
 ) -> Result<AttrId, Refusal>
-    requires { IsType bench.old.desk.ctx ty }
-    ensures ok { IfOk result (λ a. IsAttrOf bench.new.desk.ctx a (IntegerOf (type_term bench.old.desk.ctx ty) value)) }
-    ensures refused { IfErr result (λ e. IsNoRoom bench.new.desk.ctx e) }
+    requires { IsType bench.old.transaction.ctx ty }
+    ensures ok { IfOk result (λ a. IsAttrOf bench.new.transaction.ctx a (IntegerOf (type_term bench.old.transaction.ctx ty) value)) }
+    ensures refused { IfErr result (λ e. IsCapacityRefusal bench.new.transaction.ctx e) }
     ensures added { Added L.meaning bench.old bench.new }
 {
     attr(bench, AttrNode::Int { ty, value })
 }
 
-/// The attribute of a comparison's predicate.
+/// Interns the predicate attribute of a comparison.
 pub(crate) fn predicate_attr<L: Analysis>(
     bench: &mut Bench<L>,
     predicate: u128,
 ) -> Result<AttrId, Refusal>
-    ensures ok { IfOk result (λ a. IsAttrOf bench.new.desk.ctx a (IntegerOf i64 predicate)) }
-    ensures refused { IfErr result (λ e. IsNoRoom bench.new.desk.ctx e) }
+    ensures ok { IfOk result (λ a. IsAttrOf bench.new.transaction.ctx a (IntegerOf i64 predicate)) }
+    ensures refused { IfErr result (λ e. IsCapacityRefusal bench.new.transaction.ctx e) }
     ensures added { Added L.meaning bench.old bench.new }
 {
     let ty = match integer_type(bench, 64) {
@@ -83,10 +83,10 @@ pub(crate) fn predicate_attr<L: Analysis>(
     value_attr(bench, ty, predicate)
 }
 
-/// The attribute of flags of which none are set.
+/// Interns the attribute of overflow flags without a set flag.
 pub(crate) fn flags_attr<L: Analysis>(bench: &mut Bench<L>) -> Result<AttrId, Refusal>
-    ensures ok { IfOk result (λ a. IsAttrOf bench.new.desk.ctx a (Overflow false false)) }
-    ensures refused { IfErr result (λ e. IsNoRoom bench.new.desk.ctx e) }
+    ensures ok { IfOk result (λ a. IsAttrOf bench.new.transaction.ctx a (Overflow false false)) }
+    ensures refused { IfErr result (λ e. IsCapacityRefusal bench.new.transaction.ctx e) }
     ensures added { Added L.meaning bench.old bench.new }
 {
     attr(
@@ -98,14 +98,15 @@ pub(crate) fn flags_attr<L: Analysis>(bench: &mut Bench<L>) -> Result<AttrId, Re
     )
 }
 
-/// The attribute of flags of which none are set, where operations of a name have flags.
+/// Interns the attribute of overflow flags without a set flag, if operations with this name have overflow flags.
+/// Otherwise returns `None`.
 pub(crate) fn flags_for<L: Analysis>(
     bench: &mut Bench<L>,
     name: NameId,
 ) -> Result<Option<AttrId>, Refusal>
-    requires { IsName bench.old.desk.ctx name }
-    ensures ok { IfOk result (λ flags. FlagsOf bench.new.desk.ctx (name_term bench.old.desk.ctx name) flags) }
-    ensures refused { IfErr result (λ e. IsNoRoom bench.new.desk.ctx e) }
+    requires { IsName bench.old.transaction.ctx name }
+    ensures ok { IfOk result (λ flags. FlagsOf bench.new.transaction.ctx (name_term bench.old.transaction.ctx name) flags) }
+    ensures refused { IfErr result (λ e. IsCapacityRefusal bench.new.transaction.ctx e) }
     ensures added { Added L.meaning bench.old bench.new }
 {
     if !is_flagged(&bench.world().ctx, name) {

@@ -1,22 +1,24 @@
-//! The rules, at an operation of a bench's module: the plan of one of them, carried out, or the lowest that applies.
+//! The rewrite rules at an operation of a rewriter's module: applying one rule, or the highest-priority rule that
+//! applies.
 #![tactic(auto)]
 
 pub mod apply;
-mod carry;
+pub mod apply_first;
+pub mod apply_highest_priority;
+mod apply_plan;
 mod count;
 mod edits;
-pub mod first;
+mod insertion_point;
 mod interned;
 pub mod laws;
-mod likely;
 pub mod limits;
-pub mod lowest;
 mod make;
 mod operations;
 mod plan;
 mod plans;
-pub mod rows;
-mod site;
+mod prefilter;
+pub mod rules_by_name;
 
-pub use patterns_facts::base::rule;
-pub use patterns_lowering::{rewriter, runs};
+pub use patterns_lowering as runs;
+pub use patterns_lowering::rewriter;
+pub use patterns_soundness::base::rule;

@@ -7,7 +7,7 @@ use ir_event::trees::limits::MOST_OPS;
 use ir_event::types::refusal::Refusal;
 use ir_event::world::World;
 
-/// Why a module can't have so many operations more: it would be too full, or ids wouldn't be enough.
+/// Returns the refusal if a module can't have `more` additional operations, because of their number or of their ids.
 pub fn limit_reason(world: &World, more: u64) -> Option<Refusal>
     ensures { result ≡ limit_reason more (module_in world.now) }
 {

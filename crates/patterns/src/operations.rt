@@ -1,4 +1,4 @@
-//! New operations.
+//! Builds new operations.
 ghost use Rattle.std.specs.Prelude.{◌≡◌, IfOk, option_map};
 ghost use Rattle.ir_event.specs.types.Terms.{name_term};
 ghost use Rattle.patterns_laws.specs.Words.{among, flagged};
@@ -11,7 +11,7 @@ use ir_event::types::ids::{AttrId, NameId, OpId, TypeId};
 use ir_event::types::word::Word;
 use std::alloc::{AllocError, Global};
 
-/// Whether operations of a name are made with overflow flags.
+/// Returns whether new operations with this name get overflow flags.
 #[tactic(auto, unfolding(patterns_laws::specs::Words::flagged))]
 pub(crate) fn is_flagged(ctx: &Context, name: NameId) -> bool
     ensures { result ≡ among flagged (name_term ctx.now name) }
@@ -21,7 +21,7 @@ pub(crate) fn is_flagged(ctx: &Context, name: NameId) -> bool
         || ctx.is_word(name, Word::ArithMuli)
 }
 
-/// The property of an operation's flags.
+/// Returns the property entry of overflow flags.
 pub(crate) fn flag_entry(flags: Option<AttrId>) -> Option<(NameId, AttrId)>
     ensures { result ≡ flag_entry flags }
 {
@@ -31,7 +31,7 @@ pub(crate) fn flag_entry(flags: Option<AttrId>) -> Option<(NameId, AttrId)>
     }
 }
 
-/// A dictionary of at most one entry.
+/// Returns a dictionary with at most one entry.
 fn entries(
     alloc: Global,
     entry: &Option<(NameId, AttrId)>,
@@ -46,7 +46,7 @@ fn entries(
     Ok(entries)
 }
 
-/// An operation of one result, with at most one property.
+/// Returns an operation with one result and at most one property.
 pub(crate) fn new_op(
     alloc: Global,
     name: NameId,

@@ -1,185 +1,187 @@
-//! The plan of a rule at an operation.
+//! Plans a rule at an operation.
 ghost use Rattle.std.specs.Prelude.{◌≡◌, false, true, IfOk, IfSome, Some, option_map};
 ghost use Rattle.ir_event.specs.Modules.{NodeIsOf, module_in};
 ghost use Rattle.ir_event.specs.trees.declared.place.Place.{Place as At};
-ghost use Rattle.patterns_facts.specs.base.Looks.{front_of};
-ghost use Rattle.patterns_facts.specs.base.Rewrites.{edits_of, suits};
-ghost use Rattle.patterns_facts.specs.base.RuleNames.{is_lowering};
-ghost use Rattle.patterns_facts.specs.base.declared.rule.Rule.TheVariants.{EraseDead};
+ghost use Rattle.patterns_soundness.specs.base.Looks.{front_of};
+ghost use Rattle.patterns_soundness.specs.base.Rewrites.{edits_of, eligible};
+ghost use Rattle.patterns_soundness.specs.base.RuleNames.{is_lowering};
+ghost use Rattle.patterns_soundness.specs.base.declared.rule.Rule.TheVariants.{EraseDead};
 ghost use Rattle.patterns_plans.specs.Planned.{IsDead};
-ghost use Rattle.patterns_lowering.specs.Planned.{IsCleanAt, IsLoweredAt};
+ghost use Rattle.patterns_lowering.specs.Planned.{IsVerifiedAt, IsLoweredAt};
 ghost use Rattle.patterns_plans.specs.reads.Plans.{PlanIsOf};
-ghost use Rattle.patterns_plans.specs.reads.Reads.{head_at, head_in};
+ghost use Rattle.patterns_plans.specs.reads.Reads.{head_at, header_of_node};
 ghost use Rattle.patterns.specs.Planned.{IsMadeFor, IsPlanFor, MadeIsOf, made_edits, planned_edits};
 
 use ir_event::store::node::Node;
 use ir_event::trees::place::Place;
 use ir_event::types::ids::OpId;
 use ir_event::world::World;
-use patterns_facts::base::rule::Rule;
 use patterns_lowering::plan::Lowering;
 use patterns_lowering::plans::plan_lowered;
 use patterns_lowering::region_rules::plans::{plan_open_branch, plan_open_loop, plan_stop_loop};
 use patterns_plans::dead::erase;
-use patterns_plans::planned::plan;
-use patterns_plans::reads::fitness::fitness_shown;
-use patterns_plans::reads::look::{front, shown};
-use patterns_plans::reads::plan::Plan;
+use patterns_plans::plan_rule::plan;
+use patterns_plans::reads::eligibility::eligibility_of;
+use patterns_plans::reads::nodes::{insertion_point_before, op_node};
+use patterns_plans::reads::plan::RewritePlan;
+use patterns_soundness::base::rule::Rule;
 use std::alloc::{AllocError, Global};
 
-/// What a rule makes of an operation, before anything is interned for it.
+/// The plan of a rule at an operation. Nothing is interned for it yet.
 #[derive(Drop)]
-pub enum Made {
-    /// Operations of the types that there are.
-    Plan(Plan),
-    /// Operations on i64 in place of one on index: it is large, and few rules make it.
+pub enum RulePlan {
+    /// The plan of a rule that doesn't lower.
+    Rewrite(RewritePlan),
+    /// The plan of a lowering rule. It is boxed because it is large and few rules make it.
     Lowering(Box<Lowering>),
 }
 
-/// What a rule makes of an operation, and the place in front of that.
+/// The plan of a rule, with the place before its operation.
 #[derive(Drop)]
-pub struct Planned {
-    pub front: Place,
-    pub made: Made,
+pub struct PlacedPlan {
+    pub point: Place,
+    pub made: RulePlan,
 }
 
-/// What a rule that doesn't lower makes of an operation of the module, of which this is shown, behind a place, if it
-/// applies. That the operation is clean, and stands there, is asked before.
+/// Plans a rule that doesn't lower, or returns `None` if it doesn't apply. `node` is what the store shows of the
+/// operation. The caller has checked that the operation is verified and comes after `point`.
 #[inline(always)]
 fn plan_of(
     alloc: Global,
     world: &World,
     rule: Rule,
-    front: &Place,
+    point: &Place,
     op: OpId,
     node: &Node<'_>,
-) -> Result<Option<Plan>, AllocError>
+) -> Result<Option<RewritePlan>, AllocError>
     requires rule { is_lowering rule ≡ false }
-    requires shown { Some (head_in world.now.ctx node.now) ≡ head_at op (module_in world.now).tree }
+    requires shown { Some (header_of_node world.now.ctx node.now) ≡ head_at op (module_in world.now).tree }
     requires of { NodeIsOf world.now.ctx node.now }
-    ensures edits { IfOk result (IsPlanFor rule world.now op front.now) }
+    ensures edits { IfOk result (IsPlanFor rule world.now op point.now) }
     ensures of { IfOk result (λ p. IfSome p (PlanIsOf world.now.ctx)) }
 {
     match rule {
-        Rule::OpenBranch => plan_open_branch(alloc, world, front, op),
-        Rule::OpenLoop => plan_open_loop(alloc, world, front, op),
-        Rule::StopLoop => plan_stop_loop(alloc, world, front, op),
+        Rule::OpenBranch => plan_open_branch(alloc, world, point, op),
+        Rule::OpenLoop => plan_open_loop(alloc, world, point, op),
+        Rule::StopLoop => plan_stop_loop(alloc, world, point, op),
         _ => plan(alloc, world, rule, op, node),
     }
 }
 
-/// What a rule that lowers makes of a clean operation, if it applies. It is large, and isn't moved where other rules
-/// are tried.
+/// Plans a lowering rule at a verified operation, or returns `None` if it doesn't apply. The function isn't inlined,
+/// since its result is large.
 #[inline(never)]
 fn made_lowered(
     alloc: Global,
     world: &World,
     rule: Rule,
     op: OpId,
-) -> Result<Option<Made>, AllocError>
+) -> Result<Option<RulePlan>, AllocError>
     requires rule { is_lowering rule ≡ true }
-    requires clean { IsCleanAt world.now op }
-    ensures edits { IfOk result (λ p. (front : At) → IsMadeFor rule world.now op front p) }
+    requires verified { IsVerifiedAt world.now op }
+    ensures edits { IfOk result (λ p. (point : At) → IsMadeFor rule world.now op point p) }
     ensures of { IfOk result (λ p. IfSome p (MadeIsOf world.now.ctx)) }
 {
     match plan_lowered(alloc, world, rule, op)? {
-        Some(lowering) => Ok(Some(Made::Lowering(Box::new(alloc, lowering)?))),
+        Some(lowering) => Ok(Some(RulePlan::Lowering(Box::new(alloc, lowering)?))),
         None => Ok(None),
     }
 }
 
-/// What a rule makes of an operation of the module, of which this is shown, behind a place, if it applies. That the
-/// operation suits the rule, which for one that lowers is that it is clean, and stands there, is asked before.
+/// Plans a rule, or returns `None` if it doesn't apply. `node` is what the store shows of the operation. The caller
+/// has checked that the operation is eligible for the rule and comes after `point`. An operation that is eligible for
+/// a lowering rule is verified.
 #[inline(always)]
 fn made_of(
     alloc: Global,
     world: &World,
     rule: Rule,
-    front: &Place,
+    point: &Place,
     op: OpId,
     node: &Node<'_>,
-) -> Result<Option<Made>, AllocError>
-    requires shown { Some (head_in world.now.ctx node.now) ≡ head_at op (module_in world.now).tree }
+) -> Result<Option<RulePlan>, AllocError>
+    requires shown { Some (header_of_node world.now.ctx node.now) ≡ head_at op (module_in world.now).tree }
     requires of { NodeIsOf world.now.ctx node.now }
-    requires clean { is_lowering rule ≡ true → IsCleanAt world.now op }
-    ensures edits { IfOk result (IsMadeFor rule world.now op front.now) }
+    requires verified { is_lowering rule ≡ true → IsVerifiedAt world.now op }
+    ensures edits { IfOk result (IsMadeFor rule world.now op point.now) }
     ensures of { IfOk result (λ p. IfSome p (MadeIsOf world.now.ctx)) }
 {
     if rule.is_lowering() {
         return made_lowered(alloc, world, rule, op);
     }
-    match plan_of(alloc, world, rule, front, op, node)? {
-        Some(plan) => Ok(Some(Made::Plan(plan))),
+    match plan_of(alloc, world, rule, point, op, node)? {
+        Some(plan) => Ok(Some(RulePlan::Rewrite(plan))),
         None => Ok(None),
     }
 }
 
-/// What a rule makes of an operation that suits it, of which this is shown, behind its place, if it applies.
+/// Plans a rule at an operation that is eligible for it, or returns `None` if the rule doesn't apply. `node` is what
+/// the store shows of the operation, and `point` is the place before it.
 #[inline(always)]
 pub(crate) fn made_at(
     alloc: Global,
     world: &World,
     rule: Rule,
-    front: &Place,
+    point: &Place,
     op: OpId,
     node: &Node<'_>,
-) -> Result<Option<Made>, AllocError>
-    requires shown { Some (head_in world.now.ctx node.now) ≡ head_at op (module_in world.now).tree }
+) -> Result<Option<RulePlan>, AllocError>
+    requires shown { Some (header_of_node world.now.ctx node.now) ≡ head_at op (module_in world.now).tree }
     requires of { NodeIsOf world.now.ctx node.now }
-    requires front { Some front.now ≡ front_of op (module_in world.now).tree }
-    requires suits { suits rule (module_in world.now).tree (record (head_in world.now.ctx node.now) { id = op })
+    requires point { Some point.now ≡ front_of op (module_in world.now).tree }
+    requires eligible { eligible rule (module_in world.now).tree (record (header_of_node world.now.ctx node.now) { id = op })
         ≡ true }
-    ensures edits { IfOk result (λ p. option_map (made_edits world.now.ctx (module_in world.now).next op front.now) p
+    ensures edits { IfOk result (λ p. option_map (made_edits world.now.ctx (module_in world.now).next op point.now) p
         ≡ edits_of rule (module_in world.now) op) }
     ensures of { IfOk result (λ p. IfSome p (MadeIsOf world.now.ctx)) }
 {
-    made_of(alloc, world, rule, front, op, node)
+    made_of(alloc, world, rule, point, op, node)
 }
 
-/// What is made of an operation in order that is dead, of which this is shown, behind its place: it is erased.
+/// Plans the erasure of a dead operation that is in order. `point` is the place before it.
 pub(crate) fn made_dead(
     alloc: Global,
     world: &World,
-    front: &Place,
+    point: &Place,
     op: OpId,
     node: &Node<'_>,
-) -> Result<Option<Made>, AllocError>
+) -> Result<Option<RulePlan>, AllocError>
     requires dead { IsDead world.now op }
-    requires shown { Some (head_in world.now.ctx node.now) ≡ head_at op (module_in world.now).tree }
-    requires front { Some front.now ≡ front_of op (module_in world.now).tree }
-    requires suits { suits EraseDead (module_in world.now).tree (record (head_in world.now.ctx node.now) { id = op })
+    requires shown { Some (header_of_node world.now.ctx node.now) ≡ head_at op (module_in world.now).tree }
+    requires point { Some point.now ≡ front_of op (module_in world.now).tree }
+    requires eligible { eligible EraseDead (module_in world.now).tree (record (header_of_node world.now.ctx node.now) { id = op })
         ≡ true }
-    ensures edits { IfOk result (λ p. option_map (made_edits world.now.ctx (module_in world.now).next op front.now) p
+    ensures edits { IfOk result (λ p. option_map (made_edits world.now.ctx (module_in world.now).next op point.now) p
         ≡ edits_of EraseDead (module_in world.now) op) }
     ensures of { IfOk result (λ p. IfSome p (MadeIsOf world.now.ctx)) }
 {
     let plan = erase(alloc, op)?;
-    Ok(Some(Made::Plan(plan)))
+    Ok(Some(RulePlan::Rewrite(plan)))
 }
 
-/// The plan of a rule at an operation, if it applies.
+/// Plans a rule at `op`, or returns `None` if the rule doesn't apply.
 pub(crate) fn find_plan(
     alloc: Global,
     world: &World,
     rule: Rule,
     op: OpId,
-) -> Result<Option<Planned>, AllocError>
+) -> Result<Option<PlacedPlan>, AllocError>
     ensures edits { IfOk result (λ p. option_map (planned_edits world.now.ctx (module_in world.now).next op) p
         ≡ edits_of rule (module_in world.now) op) }
     ensures of { IfOk result (λ p. IfSome p (λ p. MadeIsOf world.now.ctx p.made)) }
 {
-    let Some(node) = shown(world, op) else {
+    let Some(node) = op_node(world, op) else {
         return Ok(None);
     };
-    let Some(front) = front(world, op) else {
+    let Some(point) = insertion_point_before(world, op) else {
         return Ok(None);
     };
-    let fitness = fitness_shown(alloc, world, op, &node)?;
-    if !fitness.suits(rule) {
+    let eligibility = eligibility_of(alloc, world, op, &node)?;
+    if !eligibility.allows(rule) {
         return Ok(None);
     }
-    match made_at(alloc, world, rule, &front, op, &node)? {
-        Some(made) => Ok(Some(Planned { front, made })),
+    match made_at(alloc, world, rule, &point, op, &node)? {
+        Some(made) => Ok(Some(PlacedPlan { point, made })),
         None => Ok(None),
     }
 }

@@ -1,12 +1,12 @@
-//! The edits of each plan: what is new is interned, and then put in.
+//! Interns what each plan needs, and returns its edits.
 ghost use Rattle.std.specs.Prelude.{◌≡◌, ◌+◌, ◌≤◌, IfOk, IfErr};
 ghost use Rattle.ir_event.specs.types.Things.{IsName, IsType};
 ghost use Rattle.ir_event.specs.types.Terms.{name_term, type_term};
 ghost use Rattle.ir_event.specs.trees.Limits.{most_next};
-ghost use Rattle.patterns_facts.specs.base.Made.{cast};
-ghost use Rattle.patterns_facts.specs.base.Makes.{give_constant, give_new};
+ghost use Rattle.patterns_soundness.specs.base.Made.{cast};
+ghost use Rattle.patterns_soundness.specs.base.Makes.{give_constant, give_new};
 ghost use Rattle.patterns_plans.specs.reads.Plans.{choosing, combined, dividing_by, mirroring, subtracting};
-ghost use Rattle.patterns_lowering.specs.runs.Interning.{Added, IsNoRoom};
+ghost use Rattle.patterns_lowering.specs.Interning.{Added, IsCapacityRefusal};
 ghost use Rattle.patterns.specs.Interned.{DifferenceAttrs};
 ghost use Rattle.patterns.specs.Making.{StandsFor};
 
@@ -14,29 +14,29 @@ use crate::edits::{
     cast_edits, chosen_edits, combined_edits, constant_edits, difference_edits, mirrored_edits,
     remainder_edits,
 };
+use crate::insertion_point::InsertionPoint;
 use crate::interned::{flags_attr, flags_for, integer_type, predicate_attr, value_attr};
-use crate::site::Site;
 use ir_event::analysis::Analysis;
 use ir_event::trees::value::Value;
 use ir_event::types::ids::{AttrId, NameId, TypeId};
 use ir_event::types::refusal::Refusal;
-use patterns_lowering::runs::Bench;
-use patterns_lowering::runs::edit::Edit;
+use patterns_lowering::Bench;
+use patterns_lowering::edit::Edit;
 use std::alloc::Global;
 
-/// A new constant.
+/// Returns the edits that make a constant.
 pub(crate) fn constant<L: Analysis>(
     alloc: Global,
     bench: &mut Bench<L>,
-    site: &Site,
+    site: &InsertionPoint,
     ty: TypeId,
     bits: u128,
 ) -> Result<Vec<Edit>, Refusal>
-    requires of { IsType bench.old.desk.ctx ty }
+    requires of { IsType bench.old.transaction.ctx ty }
     requires room { site.now.next + 1 ≤ most_next }
-    ensures stands { IfOk result (λ es. StandsFor bench.new.desk.ctx es.items
-        (give_constant site.now.front site.now.next site.now.op (type_term bench.old.desk.ctx ty) bits)) }
-    ensures refused { IfErr result (λ e. IsNoRoom bench.new.desk.ctx e) }
+    ensures stands { IfOk result (λ es. StandsFor bench.new.transaction.ctx es.items
+        (give_constant site.now.point site.now.next site.now.op (type_term bench.old.transaction.ctx ty) bits)) }
+    ensures refused { IfErr result (λ e. IsCapacityRefusal bench.new.transaction.ctx e) }
     ensures added { Added L.meaning bench.old bench.new }
 {
     let value = match value_attr(bench, ty, bits) {
@@ -50,22 +50,22 @@ pub(crate) fn constant<L: Analysis>(
     }
 }
 
-/// A new operation of one operand.
+/// Returns the edits that make an operation with one operand.
 pub(crate) fn recast<L: Analysis>(
     alloc: Global,
     bench: &mut Bench<L>,
-    site: &Site,
+    site: &InsertionPoint,
     name: NameId,
     ty: TypeId,
     value: &Value,
 ) -> Result<Vec<Edit>, Refusal>
-    requires name { IsName bench.old.desk.ctx name }
-    requires ty { IsType bench.old.desk.ctx ty }
+    requires name { IsName bench.old.transaction.ctx name }
+    requires ty { IsType bench.old.transaction.ctx ty }
     requires room { site.now.next + 1 ≤ most_next }
-    ensures stands { IfOk result (λ es. StandsFor bench.new.desk.ctx es.items
-        (give_new site.now.front site.now.next site.now.op
-        (cast (name_term bench.old.desk.ctx name) (type_term bench.old.desk.ctx ty) value.now))) }
-    ensures refused { IfErr result (λ e. IsNoRoom bench.new.desk.ctx e) }
+    ensures stands { IfOk result (λ es. StandsFor bench.new.transaction.ctx es.items
+        (give_new site.now.point site.now.next site.now.op
+        (cast (name_term bench.old.transaction.ctx name) (type_term bench.old.transaction.ctx ty) value.now))) }
+    ensures refused { IfErr result (λ e. IsCapacityRefusal bench.new.transaction.ctx e) }
     ensures added { Added L.meaning bench.old bench.new }
 {
     bench.is_formed();
@@ -75,23 +75,23 @@ pub(crate) fn recast<L: Analysis>(
     }
 }
 
-/// A new constant, and an operation on a value and it.
+/// Returns the edits that make a constant and an operation on a value and that constant.
 pub(crate) fn combination<L: Analysis>(
     alloc: Global,
     bench: &mut Bench<L>,
-    site: &Site,
+    site: &InsertionPoint,
     name: NameId,
     ty: TypeId,
     operand: &Value,
     bits: u128,
 ) -> Result<Vec<Edit>, Refusal>
-    requires name { IsName bench.old.desk.ctx name }
-    requires ty { IsType bench.old.desk.ctx ty }
+    requires name { IsName bench.old.transaction.ctx name }
+    requires ty { IsType bench.old.transaction.ctx ty }
     requires room { site.now.next + 2 ≤ most_next }
-    ensures stands { IfOk result (λ es. StandsFor bench.new.desk.ctx es.items
-        (combined site.now.next site.now.op site.now.front (name_term bench.old.desk.ctx name)
-        (type_term bench.old.desk.ctx ty) operand.now bits)) }
-    ensures refused { IfErr result (λ e. IsNoRoom bench.new.desk.ctx e) }
+    ensures stands { IfOk result (λ es. StandsFor bench.new.transaction.ctx es.items
+        (combined site.now.next site.now.op site.now.point (name_term bench.old.transaction.ctx name)
+        (type_term bench.old.transaction.ctx ty) operand.now bits)) }
+    ensures refused { IfErr result (λ e. IsCapacityRefusal bench.new.transaction.ctx e) }
     ensures added { Added L.meaning bench.old bench.new }
 {
     let value = match value_attr(bench, ty, bits) {
@@ -110,18 +110,18 @@ pub(crate) fn combination<L: Analysis>(
     }
 }
 
-/// Another predicate and other operands, in place.
+/// Returns the edits that change the predicate and the operands of a comparison in place.
 pub(crate) fn mirrored<L: Analysis>(
     alloc: Global,
     bench: &mut Bench<L>,
-    site: &Site,
+    site: &InsertionPoint,
     predicate: u128,
     first: &Value,
     second: &Value,
 ) -> Result<Vec<Edit>, Refusal>
-    ensures stands { IfOk result (λ es. StandsFor bench.new.desk.ctx es.items
+    ensures stands { IfOk result (λ es. StandsFor bench.new.transaction.ctx es.items
         (mirroring site.now.op predicate first.now second.now)) }
-    ensures refused { IfErr result (λ e. IsNoRoom bench.new.desk.ctx e) }
+    ensures refused { IfErr result (λ e. IsCapacityRefusal bench.new.transaction.ctx e) }
     ensures added { Added L.meaning bench.old bench.new }
 {
     let predicate = match predicate_attr(bench, predicate) {
@@ -135,22 +135,22 @@ pub(crate) fn mirrored<L: Analysis>(
     }
 }
 
-/// A new comparison, and a choice by it.
+/// Returns the edits that make a comparison and a select on it.
 pub(crate) fn choice<L: Analysis>(
     alloc: Global,
     bench: &mut Bench<L>,
-    site: &Site,
+    site: &InsertionPoint,
     predicate: u128,
     ty: TypeId,
     first: &Value,
     second: &Value,
 ) -> Result<Vec<Edit>, Refusal>
-    requires ty { IsType bench.old.desk.ctx ty }
+    requires ty { IsType bench.old.transaction.ctx ty }
     requires room { site.now.next + 2 ≤ most_next }
-    ensures stands { IfOk result (λ es. StandsFor bench.new.desk.ctx es.items
-        (choosing site.now.next site.now.op site.now.front predicate
-        (type_term bench.old.desk.ctx ty) first.now second.now)) }
-    ensures refused { IfErr result (λ e. IsNoRoom bench.new.desk.ctx e) }
+    ensures stands { IfOk result (λ es. StandsFor bench.new.transaction.ctx es.items
+        (choosing site.now.next site.now.op site.now.point predicate
+        (type_term bench.old.transaction.ctx ty) first.now second.now)) }
+    ensures refused { IfErr result (λ e. IsCapacityRefusal bench.new.transaction.ctx e) }
     ensures added { Added L.meaning bench.old bench.new }
 {
     let predicate = match predicate_attr(bench, predicate) {
@@ -169,15 +169,15 @@ pub(crate) fn choice<L: Analysis>(
     }
 }
 
-/// The attributes of two constants of one type, and of flags of which none are set.
+/// Interns the attributes of two constants of one type, and of overflow flags without a set flag.
 fn difference_attrs<L: Analysis>(
     bench: &mut Bench<L>,
     ty: TypeId,
     ones: u128,
 ) -> Result<(AttrId, AttrId, AttrId), Refusal>
-    requires ty { IsType bench.old.desk.ctx ty }
-    ensures ok { IfOk result (λ a. DifferenceAttrs bench.new.desk.ctx (type_term bench.old.desk.ctx ty) ones a) }
-    ensures refused { IfErr result (λ e. IsNoRoom bench.new.desk.ctx e) }
+    requires ty { IsType bench.old.transaction.ctx ty }
+    ensures ok { IfOk result (λ a. DifferenceAttrs bench.new.transaction.ctx (type_term bench.old.transaction.ctx ty) ones a) }
+    ensures refused { IfErr result (λ e. IsCapacityRefusal bench.new.transaction.ctx e) }
     ensures added { Added L.meaning bench.old bench.new }
 {
     let ones = match value_attr(bench, ty, ones) {
@@ -197,22 +197,22 @@ fn difference_attrs<L: Analysis>(
     Ok((ones, one, flags))
 }
 
-/// The first value with the second one's complement, and 1 added.
+/// Returns the edits that add the complement of the second value and 1 to the first value.
 pub(crate) fn difference<L: Analysis>(
     alloc: Global,
     bench: &mut Bench<L>,
-    site: &Site,
+    site: &InsertionPoint,
     ty: TypeId,
     first: &Value,
     second: &Value,
     ones: u128,
 ) -> Result<Vec<Edit>, Refusal>
-    requires ty { IsType bench.old.desk.ctx ty }
+    requires ty { IsType bench.old.transaction.ctx ty }
     requires room { site.now.next + 5 ≤ most_next }
-    ensures stands { IfOk result (λ es. StandsFor bench.new.desk.ctx es.items
-        (subtracting site.now.next site.now.op site.now.front
-        (type_term bench.old.desk.ctx ty) first.now second.now ones)) }
-    ensures refused { IfErr result (λ e. IsNoRoom bench.new.desk.ctx e) }
+    ensures stands { IfOk result (λ es. StandsFor bench.new.transaction.ctx es.items
+        (subtracting site.now.next site.now.op site.now.point
+        (type_term bench.old.transaction.ctx ty) first.now second.now ones)) }
+    ensures refused { IfErr result (λ e. IsCapacityRefusal bench.new.transaction.ctx e) }
     ensures added { Added L.meaning bench.old bench.new }
 {
     let (ones, one, flags) = match difference_attrs(bench, ty, ones) {
@@ -226,23 +226,23 @@ pub(crate) fn difference<L: Analysis>(
     }
 }
 
-/// What is left of the first value behind a division by the second.
+/// Returns the edits that compute the remainder of the first value by the second.
 pub(crate) fn remainder<L: Analysis>(
     alloc: Global,
     bench: &mut Bench<L>,
-    site: &Site,
+    site: &InsertionPoint,
     division: NameId,
     ty: TypeId,
     first: &Value,
     second: &Value,
 ) -> Result<Vec<Edit>, Refusal>
-    requires name { IsName bench.old.desk.ctx division }
-    requires ty { IsType bench.old.desk.ctx ty }
+    requires name { IsName bench.old.transaction.ctx division }
+    requires ty { IsType bench.old.transaction.ctx ty }
     requires room { site.now.next + 3 ≤ most_next }
-    ensures stands { IfOk result (λ es. StandsFor bench.new.desk.ctx es.items
-        (dividing_by site.now.next site.now.op site.now.front (name_term bench.old.desk.ctx division)
-        (type_term bench.old.desk.ctx ty) first.now second.now)) }
-    ensures refused { IfErr result (λ e. IsNoRoom bench.new.desk.ctx e) }
+    ensures stands { IfOk result (λ es. StandsFor bench.new.transaction.ctx es.items
+        (dividing_by site.now.next site.now.op site.now.point (name_term bench.old.transaction.ctx division)
+        (type_term bench.old.transaction.ctx ty) first.now second.now)) }
+    ensures refused { IfErr result (λ e. IsCapacityRefusal bench.new.transaction.ctx e) }
     ensures added { Added L.meaning bench.old bench.new }
 {
     let flags = match flags_for(bench, division) {

@@ -1,4 +1,4 @@
--- Where the table has no rule for a name, the rule doesn't apply.
+-- If the table doesn't list a rule for a name, the rule doesn't apply.
 use Rattle.std.proofs.Common.{◌≡◌, ℕ, List, [], ◌∷◌, Bool, true, false, Some, None, refl, sym, ap, ◌∙◌, subst, arith}
 use Rattle.std.specs.Prelude.{Option, codes, ◌&&◌, not, if◌then◌else◌}
 use Rattle.std.specs.List.{list_all}
@@ -26,9 +26,9 @@ use Rattle.effects.specs.declared.kinds.EffectKinds.{EffectKinds}
 use Rattle.effects.specs.Effects.{effects_by, regions_effects}
 use Rattle.effects.specs.Dead.{is_unused, is_kept}
 use Rattle.effects.specs.Dead as dead
-use Rattle.patterns_laws.specs.Words.{named, among, swapping, ignoring_zero, ignoring_one, cancelling, keeping, remainders, regrouping, extensions, index_casts, index_users, arithmetic, asking, dividing}
+use Rattle.patterns_laws.specs.Words.{named, among, commutative, with_zero_as_right_identity, with_one_as_right_identity, self_inverse, idempotent, remainders, associative, extensions, index_casts, index_users, arithmetic, predicate_of_min_max, division_of_remainder}
 use Rattle.patterns_laws.specs.Keeps.{given, Each}
-use Rattle.patterns_base.specs.Looks.{Header, One, Two, Three, when, may_go, one, two, three, one_from, two_from, three_from}
+use Rattle.patterns_base.specs.Looks.{Header, One, Two, Three, when, is_erasable, one, two, three, one_from, two_from, three_from}
 use Rattle.patterns_base.specs.Rules.{table, rules_for, has_rule, rule, OnlyListed}
 use Rattle.patterns_base.specs.Folding.{folded_to, erase_dead, fold_to_constant, swap_constant, drop_zero, drop_one, drop_all_ones, cancel_itself, keep_itself, zero_remainder, regroup_constants, add_negative, compare_itself, mirror_comparison, compare_zero, choose_same, choose_known, choose_truth, choose_opposite, expand_min_max, expand_difference, expand_remainder}
 use Rattle.patterns_base.specs.Casting.{extend_extension, cut_cast, cast_back}
@@ -43,7 +43,7 @@ never e = absurd (grind arith)
 
 -- ---- names among words
 
--- what is said of each word is said of a name among them
+-- a property of each word holds of a name among them
 pub of_among : (P : List ℕ → Type 0) (ws : List (List ℕ)) (name : List ℕ) → Each P ws → among ws name ≡ true → P name
 of_among P [] name each h = absurd (grind arith)
 of_among P (w ∷ ws) name each h = by (bytes_eq name w) refl (λ more. of_among P ws name each.1 more)
@@ -52,7 +52,7 @@ of_among P (w ∷ ws) name each h = by (bytes_eq name w) refl (λ more. of_among
     by true e more = subst P (sym (name_is name w e)) each.0
     by false e more = more (grind arith)
 
--- a name without a rule isn't among words that have it, nor the one word that has
+-- a name without a rule isn't among words that have the rule, and isn't a word that has it
 elsewhere : (r : Rule) (ws : List (List ℕ)) (name : List ℕ) → Each (λ w. has_rule r w ≡ true) ws → has_rule r name ≡ false → among ws name ≡ false
 elsewhere r ws name each lacks = by (among ws name) refl
   where
@@ -67,7 +67,7 @@ another r w name has lacks = by (bytes_eq name w) refl
     by true e = sym has ∙ ap (has_rule r) (sym (name_is name w e)) ∙ lacks
     by false e = refl
 
--- nothing stands beside it
+-- the table has no entry for the name
 nothing_beside : {A : Type 0} (r : Rule) (rows : List (List ℕ × A)) (name : List ℕ) → Each (λ (row : List ℕ × A). has_rule r row.0 ≡ true) rows → has_rule r name ≡ false → beside name rows ≡ None
 nothing_beside r [] name each lacks = refl
 nothing_beside r (row ∷ more) name each lacks = by (bytes_eq name row.0) refl (nothing_beside r more name each.1 lacks)
@@ -113,7 +113,7 @@ three_none name (a ∷ b ∷ c ∷ []) (ty ∷ []) f h = h (record { name = name
 three_none name (a ∷ b ∷ c ∷ []) (ty ∷ u ∷ us) f h = refl
 three_none name (a ∷ b ∷ c ∷ d ∷ vs) ts f h = refl
 
--- an operation of two operands whose name is not among words, or another than a word
+-- an operation with two operands whose name isn't among words, or isn't a given word
 two_among : {X : Type 0} (ws : List (List ℕ)) (h : Header) (c : Two → Bool) (f : Two → Option X) → among ws h.name ≡ false → given (two h) (λ p. when (among ws p.name && c p) (f p)) ≡ None
 two_among ws h c f e = two_none h.name h.operands h.results (λ p. when (among ws p.name && c p) (f p)) (λ p s. stopped_first (among ws p.name) (c p) (f p) (ap (among ws) s ∙ e))
 
@@ -132,32 +132,32 @@ one_among ws h f e = one_none h.name h.operands h.results (λ p. when (among ws 
 two_beside : {A X : Type 0} (rows : List (List ℕ × A)) (h : Header) (f : Two → A → Option X) → beside h.name rows ≡ None → given (two h) (λ p. given (beside p.name rows) (f p)) ≡ None
 two_beside rows h f e = two_none h.name h.operands h.results (λ p. given (beside p.name rows) (f p)) (λ p s. ap (λ z. given z (f p)) (ap (λ name. beside name rows) s ∙ e))
 
-at_swap_constant : Each (λ w. has_rule SwapConstant w ≡ true) swapping
-unfolding rules_for table swapping
+at_swap_constant : Each (λ w. has_rule SwapConstant w ≡ true) commutative
+unfolding rules_for table commutative
 at_swap_constant = (refl, (refl, (refl, (refl, (refl, (refl, (refl, (refl, (refl, tt)))))))))
 
-at_drop_zero : Each (λ w. has_rule DropZero w ≡ true) ignoring_zero
-unfolding rules_for table ignoring_zero
+at_drop_zero : Each (λ w. has_rule DropZero w ≡ true) with_zero_as_right_identity
+unfolding rules_for table with_zero_as_right_identity
 at_drop_zero = (refl, (refl, (refl, (refl, (refl, (refl, (refl, tt)))))))
 
-at_drop_one : Each (λ w. has_rule DropOne w ≡ true) ignoring_one
-unfolding rules_for table ignoring_one
+at_drop_one : Each (λ w. has_rule DropOne w ≡ true) with_one_as_right_identity
+unfolding rules_for table with_one_as_right_identity
 at_drop_one = (refl, (refl, (refl, tt)))
 
-at_cancel_itself : Each (λ w. has_rule CancelItself w ≡ true) cancelling
-unfolding rules_for table cancelling
+at_cancel_itself : Each (λ w. has_rule CancelItself w ≡ true) self_inverse
+unfolding rules_for table self_inverse
 at_cancel_itself = (refl, (refl, tt))
 
-at_keep_itself : Each (λ w. has_rule KeepItself w ≡ true) keeping
-unfolding rules_for table keeping
+at_keep_itself : Each (λ w. has_rule KeepItself w ≡ true) idempotent
+unfolding rules_for table idempotent
 at_keep_itself = (refl, (refl, (refl, (refl, (refl, (refl, tt))))))
 
 at_zero_remainder : Each (λ w. has_rule ZeroRemainder w ≡ true) remainders
 unfolding rules_for table remainders
 at_zero_remainder = (refl, (refl, tt))
 
-at_regroup_constants : Each (λ w. has_rule RegroupConstants w ≡ true) regrouping
-unfolding rules_for table regrouping
+at_regroup_constants : Each (λ w. has_rule RegroupConstants w ≡ true) associative
+unfolding rules_for table associative
 at_regroup_constants = (refl, (refl, (refl, (refl, (refl, tt)))))
 
 at_extend_extension : Each (λ w. has_rule ExtendExtension w ≡ true) extensions
@@ -172,12 +172,12 @@ at_lower_index : Each (λ w. has_rule LowerIndex w ≡ true) index_users
 unfolding rules_for table index_users arithmetic
 at_lower_index = (refl, (refl, (refl, (refl, (refl, (refl, (refl, (refl, (refl, (refl, (refl, (refl, (refl, (refl, (refl, (refl, (refl, (refl, (refl, (refl, tt))))))))))))))))))))
 
-at_expand_min_max : Each (λ (row : List ℕ × ℕ). has_rule ExpandMinMax row.0 ≡ true) asking
-unfolding rules_for table asking
+at_expand_min_max : Each (λ (row : List ℕ × ℕ). has_rule ExpandMinMax row.0 ≡ true) predicate_of_min_max
+unfolding rules_for table predicate_of_min_max
 at_expand_min_max = (refl, (refl, (refl, (refl, tt))))
 
-at_expand_remainder : Each (λ (row : List ℕ × List ℕ). has_rule ExpandRemainder row.0 ≡ true) dividing
-unfolding rules_for table dividing
+at_expand_remainder : Each (λ (row : List ℕ × List ℕ). has_rule ExpandRemainder row.0 ≡ true) division_of_remainder
+unfolding rules_for table division_of_remainder
 at_expand_remainder = (refl, (refl, tt))
 
 at_cast_back_unrealized : has_rule CastBack (codes "builtin.unrealized_conversion_cast") ≡ true
@@ -252,7 +252,7 @@ two_ways : {X : Type 0} (b c : Bool) (x y : Option X) → b ≡ false → c ≡ 
 two_ways true c x y h k = absurd (grind arith)
 two_ways false c x y h k = stopped c y k
 
--- ---- what doesn't fold
+-- ---- operations that don't fold
 tail_of : {X : Type 0} → List X → List X
 tail_of [] = []
 tail_of (x ∷ xs) = xs
@@ -271,7 +271,7 @@ unfolded name p xs [] e = refl
 unfolded name p xs (ty ∷ []) e = rw (e) (choose (list_all (is_property name) p) None None refl refl)
 unfolded name p xs (ty ∷ u ∷ us) e = refl
 
--- ---- what has effects, or stays whatever it does
+-- ---- operations that have effects, or stay whatever they do
 abbrev Goes : List ℕ → Type 0
 Goes name = has_rule EraseDead name ≡ false → (k : EffectKinds) → (not (is_kept name) && dead.may_go (effects_by (own_of name) k)) ≡ false
 
@@ -294,8 +294,8 @@ unlisted name e lacks k = rw (e) (and_right _ false refl)
 goes_of : (name : List ℕ) → Goes name
 goes_of name = beside_or Goes rows name at_erase_dead (unlisted name)
 
-goes_not : (t o : Operation) → has_rule EraseDead (head o).name ≡ false → may_go t o ≡ false
-unfolding may_go
+goes_not : (t o : Operation) → has_rule EraseDead (head o).name ≡ false → is_erasable t o ≡ false
+unfolding is_erasable
 goes_not t (op h rs) lacks = and_right (is_unused h.id t) _ (goes_of h.name lacks (regions_effects own_of rs))
 
 stopped_or : {X : Type 0} (b c : Bool) (r : Option X) → (b ≡ false → r ≡ None) → when (not b && c) r ≡ None
@@ -312,25 +312,25 @@ module _ (t : Operation) (n : ℕ) (front : Place) (o : Operation) where
   Without r = has_rule r h.name ≡ false
 
   none_swap_constant : Without SwapConstant → swap_constant t n front o ≡ None
-  none_swap_constant lacks = two_among swapping h _ _ (elsewhere SwapConstant swapping h.name at_swap_constant lacks)
+  none_swap_constant lacks = two_among commutative h _ _ (elsewhere SwapConstant commutative h.name at_swap_constant lacks)
 
   none_drop_zero : Without DropZero → drop_zero t n front o ≡ None
-  none_drop_zero lacks = two_among ignoring_zero h _ _ (elsewhere DropZero ignoring_zero h.name at_drop_zero lacks)
+  none_drop_zero lacks = two_among with_zero_as_right_identity h _ _ (elsewhere DropZero with_zero_as_right_identity h.name at_drop_zero lacks)
 
   none_drop_one : Without DropOne → drop_one t n front o ≡ None
-  none_drop_one lacks = two_among ignoring_one h _ _ (elsewhere DropOne ignoring_one h.name at_drop_one lacks)
+  none_drop_one lacks = two_among with_one_as_right_identity h _ _ (elsewhere DropOne with_one_as_right_identity h.name at_drop_one lacks)
 
   none_cancel_itself : Without CancelItself → cancel_itself t n front o ≡ None
-  none_cancel_itself lacks = two_among cancelling h _ _ (elsewhere CancelItself cancelling h.name at_cancel_itself lacks)
+  none_cancel_itself lacks = two_among self_inverse h _ _ (elsewhere CancelItself self_inverse h.name at_cancel_itself lacks)
 
   none_keep_itself : Without KeepItself → keep_itself t n front o ≡ None
-  none_keep_itself lacks = two_among keeping h _ _ (elsewhere KeepItself keeping h.name at_keep_itself lacks)
+  none_keep_itself lacks = two_among idempotent h _ _ (elsewhere KeepItself idempotent h.name at_keep_itself lacks)
 
   none_zero_remainder : Without ZeroRemainder → zero_remainder t n front o ≡ None
   none_zero_remainder lacks = two_among remainders h _ _ (elsewhere ZeroRemainder remainders h.name at_zero_remainder lacks)
 
   none_regroup_constants : Without RegroupConstants → regroup_constants t n front o ≡ None
-  none_regroup_constants lacks = two_none h.name h.operands h.results _ (λ p s. stopped (among regrouping p.name) _ (ap (among regrouping) s ∙ elsewhere RegroupConstants regrouping h.name at_regroup_constants lacks))
+  none_regroup_constants lacks = two_none h.name h.operands h.results _ (λ p s. stopped (among associative p.name) _ (ap (among associative) s ∙ elsewhere RegroupConstants associative h.name at_regroup_constants lacks))
 
   none_drop_all_ones : Without DropAllOnes → drop_all_ones t n front o ≡ None
   none_drop_all_ones lacks = two_none h.name h.operands h.results _ (λ p s. stopped_first (named (codes "arith.andi") p.name) _ _ (ap (named (codes "arith.andi")) s ∙ another DropAllOnes (codes "arith.andi") h.name at_drop_all_ones lacks))
@@ -383,10 +383,10 @@ module _ (t : Operation) (n : ℕ) (front : Place) (o : Operation) where
   none_stop_loop lacks = stopped (named (codes "scf.while") h.name) _ (another StopLoop (codes "scf.while") h.name at_stop_loop lacks)
 
   none_expand_min_max : Without ExpandMinMax → expand_min_max t n front o ≡ None
-  none_expand_min_max lacks = two_beside asking h _ (nothing_beside ExpandMinMax asking h.name at_expand_min_max lacks)
+  none_expand_min_max lacks = two_beside predicate_of_min_max h _ (nothing_beside ExpandMinMax predicate_of_min_max h.name at_expand_min_max lacks)
 
   none_expand_remainder : Without ExpandRemainder → expand_remainder t n front o ≡ None
-  none_expand_remainder lacks = two_beside dividing h _ (nothing_beside ExpandRemainder dividing h.name at_expand_remainder lacks)
+  none_expand_remainder lacks = two_beside division_of_remainder h _ (nothing_beside ExpandRemainder division_of_remainder h.name at_expand_remainder lacks)
 
   none_lower_index : Without LowerIndex → lower_index t n front o ≡ None
   none_lower_index lacks = stopped_first (among index_users h.name) _ _ (elsewhere LowerIndex index_users h.name at_lower_index lacks)
@@ -398,7 +398,7 @@ module _ (t : Operation) (n : ℕ) (front : Place) (o : Operation) where
   none_lower_choice lacks = stopped_first (named (codes "scf.if") h.name) _ _ (another LowerChoice (codes "scf.if") h.name at_lower_choice lacks)
 
   none_erase_dead : Without EraseDead → erase_dead t n front o ≡ None
-  none_erase_dead lacks = stopped (may_go t o) _ (goes_not t o lacks)
+  none_erase_dead lacks = stopped (is_erasable t o) _ (goes_not t o lacks)
 
   nothing_to : (ts : List TypeTerm) (x : Option Known) → x ≡ None → folded_to t n front o ts x ≡ None
   nothing_to [] x e = refl
@@ -410,7 +410,7 @@ module _ (t : Operation) (n : ℕ) (front : Place) (o : Operation) where
   none_fold_to_constant lacks = stopped_or (named (codes "arith.constant") h.name) _ _
       (λ e. nothing_to h.results _ (unfolded h.name h.properties _ h.results (first_is h.name e (nothing_beside FoldToConstant (tail_of rules) h.name at_fold_to_constant lacks))))
 
--- where a rule isn't listed, it doesn't apply
+-- a rule that isn't listed doesn't apply
 pub only_listed : OnlyListed
 unfolding rule
 only_listed EraseDead = none_erase_dead

@@ -1,4 +1,4 @@
--- What is asked of trees in many places.
+-- Properties of trees that many proofs need.
 use Rattle.rewriter_machine.specs.events.Modules.{Module}
 use Rattle.ir_tree.specs.Ids.{find}
 use Rattle.ir_tree.specs.Tree.{head}
@@ -7,10 +7,10 @@ use Rattle.ir_tree.specs.declared.value.Value.{Value}
 use Rattle.ir_types.proofs.SameTerms.{type_refl}
 use Rattle.ir_types.specs.SameTypes.{same_type}
 use Rattle.ir_types.specs.Terms.{Function, Index, Integer, Memref, OpaqueType, TypeTerm}
-use Rattle.patterns_base.specs.Looks.{Header, breaks_none, front_of, has_own_properties, is_clean, is_in_order, is_index, when}
+use Rattle.patterns_base.specs.Looks.{Header, breaks_none, front_of, has_own_properties, is_verified, is_in_order, is_index, when}
 use Rattle.patterns_base.specs.Lowering.{bridges, crossed, marked}
 use Rattle.patterns_base.specs.Makes.{made_by}
-use Rattle.patterns_base.specs.Rewrites.{edits_of, rewrite_by, rewrite_of, suits}
+use Rattle.patterns_base.specs.Rewrites.{edits_of, rewrite_by, rewrite_of, eligible}
 use Rattle.patterns_base.specs.RuleNames.{is_erasing, is_lowering}
 use Rattle.patterns_base.specs.Rules.{rule}
 use Rattle.patterns_base.specs.declared.rule.Rule.{Rule}
@@ -28,51 +28,51 @@ pub rewrite_is : (r : Rule) (m : Module) (x : ℕ) → rewrite_of r m x ≡ rewr
 unfolding rewrite_of
 rewrite_is r m x = refl
 
-pub edits_are : (r : Rule) (m : Module) (x : ℕ) → edits_of r m x ≡ given (find x m.tree) (λ o. given (front_of x m.tree) (λ front. when (suits r m.tree (head o)) (rule r m.tree m.next front o)))
+pub edits_are : (r : Rule) (m : Module) (x : ℕ) → edits_of r m x ≡ given (find x m.tree) (λ o. given (front_of x m.tree) (λ front. when (eligible r m.tree (head o)) (rule r m.tree m.next front o)))
 unfolding edits_of
 edits_are r m x = refl
 
--- what suits a rule
+-- an operation that is eligible for a rule
 breaks_nothing : (o : Option (List ℕ)) → breaks_none o ≡ true → o ≡ Some []
 breaks_nothing None e = absurd cc
 breaks_nothing (Some []) e = refl
 breaks_nothing (Some (r ∷ rs)) e = absurd cc
 
-pub clean_in_order : (t : Operation) (h : Header) → is_clean t h ≡ true → is_in_order t h ≡ true
-unfolding is_clean is_in_order
-clean_in_order t h e =
+pub verified_in_order : (t : Operation) (h : Header) → is_verified t h ≡ true → is_in_order t h ≡ true
+unfolding is_verified is_in_order
+verified_in_order t h e =
     let w = both (breaks_none (broken_at h.id t)) (has_own_properties h) e in
     λ i. breaks_none (none_told h.id t (breaks_nothing (broken_at h.id t) w.0) i) && w.1 i
 
 module _ (r : Rule) (t : Operation) (h : Header) where
-  pub suits_is : suits r t h ≡ (if is_erasing r then is_in_order t h else is_clean t h)
-  unfolding suits
-  suits_is = refl
+  pub eligible_is : eligible r t h ≡ (if is_erasing r then is_in_order t h else is_verified t h)
+  unfolding eligible
+  eligible_is = refl
 
-  pub erasing_suits : is_erasing r ≡ true → suits r t h ≡ is_in_order t h
-  erasing_suits e = suits_is ∙ ap (λ b. if b then is_in_order t h else is_clean t h) e
+  pub erasing_eligible : is_erasing r ≡ true → eligible r t h ≡ is_in_order t h
+  erasing_eligible e = eligible_is ∙ ap (λ b. if b then is_in_order t h else is_verified t h) e
 
-  pub others_suit : is_erasing r ≡ false → suits r t h ≡ is_clean t h
-  others_suit e = suits_is ∙ ap (λ b. if b then is_in_order t h else is_clean t h) e
+  pub others_suit : is_erasing r ≡ false → eligible r t h ≡ is_verified t h
+  others_suit e = eligible_is ∙ ap (λ b. if b then is_in_order t h else is_verified t h) e
 
-  pub clean_suits : is_clean t h ≡ true → suits r t h ≡ true
-  clean_suits e = suits_is ∙ go (is_erasing r)
+  pub verified_eligible : is_verified t h ≡ true → eligible r t h ≡ true
+  verified_eligible e = eligible_is ∙ go (is_erasing r)
     where
-      go : (b : Bool) → (if b then is_in_order t h else is_clean t h) ≡ true
-      go true = clean_in_order t h e
+      go : (b : Bool) → (if b then is_in_order t h else is_verified t h) ≡ true
+      go true = verified_in_order t h e
       go false = e
 
-  pub suited_in_order : suits r t h ≡ true → is_in_order t h ≡ true
-  suited_in_order e = go (is_erasing r) (sym suits_is ∙ e)
+  pub suited_in_order : eligible r t h ≡ true → is_in_order t h ≡ true
+  suited_in_order e = go (is_erasing r) (sym eligible_is ∙ e)
     where
-      go : (b : Bool) → (if b then is_in_order t h else is_clean t h) ≡ true → is_in_order t h ≡ true
+      go : (b : Bool) → (if b then is_in_order t h else is_verified t h) ≡ true → is_in_order t h ≡ true
       go true e = e
-      go false e = clean_in_order t h e
+      go false e = verified_in_order t h e
 
-  pub unsuited : is_in_order t h ≡ false → suits r t h ≡ false
-  unsuited e = go (suits r t h) refl
+  pub unsuited : is_in_order t h ≡ false → eligible r t h ≡ false
+  unsuited e = go (eligible r t h) refl
     where
-      go : (b : Bool) → suits r t h ≡ b → suits r t h ≡ false
+      go : (b : Bool) → eligible r t h ≡ b → eligible r t h ≡ false
       go true k = (let no : true ≡ false = sym (suited_in_order k) ∙ e in absurd cc)
       go false k = k
 

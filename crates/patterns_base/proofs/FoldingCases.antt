@@ -1,4 +1,5 @@
--- The rules on values and what they are computed from at operations of small modules, as a reference program apart from this project answers.
+-- The rules on values at operations of small modules; a reference program outside this project computed the expected
+-- results.
 use Rattle.std.proofs.Common.{◌≡◌, List, [], ◌∷◌, true, false, Some, refl}
 use Rattle.std.specs.Prelude.{codes, map}
 use Rattle.ir_types.specs.declared.refusal.Refusal.TheVariants.{IdsExhausted}
@@ -20,10 +21,10 @@ use Rattle.patterns_base.specs.declared.rule.Rule.TheVariants.{ZeroRemainder, Re
 use Rattle.patterns_base.specs.declared.rule.Rule.TheVariants.{CompareItself, MirrorComparison, CompareZero}
 use Rattle.patterns_base.specs.declared.rule.Rule.TheVariants.{ChooseSame, ChooseKnown, ChooseTruth, ChooseOpposite}
 use Rattle.patterns_base.specs.declared.rule.Rule.TheVariants.{ExpandMinMax, ExpandDifference, ExpandRemainder}
-use Rattle.patterns_base.specs.Looks.{is_clean, is_in_order, may_go, known}
+use Rattle.patterns_base.specs.Looks.{is_verified, is_in_order, is_erasable, known}
 use Rattle.patterns_base.specs.Casting.{resizing}
 use Rattle.patterns_base.specs.Rules.{rule}
-use Rattle.patterns_base.specs.Rewrites.{none, refused, becomes, edits_of, rewrite_of, suits}
+use Rattle.patterns_base.specs.Rewrites.{none, refused, becomes, edits_of, rewrite_of, eligible}
 use Rattle.patterns_base.proofs.Small.{i8, i32, Case, at_rule, answer, holding, source, number, user, plain, kept, compared, whole}
 
 abbrev erase_dead_dead : Case
@@ -621,7 +622,7 @@ cases =
     ∷ erase_dead_root ∷ erase_dead_not_there ∷ erase_dead_past_the_last_id ∷ cancel_itself_last_id ∷ cancel_itself_past_the_last_id
     ∷ expand_min_max_second_past_the_last_id ∷ []
 
--- each is what the definitions say (to find one that is not, shorten the list)
+-- each result is that of the definitions (to find one that isn't, shorten the list)
 pub answered : map answer cases ≡ map (λ c. c.after) cases
-unfolding rewrite_of edits_of rule is_clean is_in_order suits may_go known resizing registry.row_of rows.rows words.operations words.is_inherent words.is_listed words.is_table words.is_isolated properties.is_allowed properties.is_of_kind properties.kind_of properties.kinds folds.fold_of folds.rule_of folds.rules folds.predicates arithmetic.absorbs arithmetic.sum_of arithmetic.difference_of arithmetic.product_of arithmetic.signed_quotient_of arithmetic.signed_remainder_of arithmetic.quotient_of arithmetic.remainder_of readings.signed_of readings.wrapped named.swapping named.ignoring_zero named.ignoring_one named.cancelling named.keeping named.remainders named.regrouping named.extensions named.index_casts named.arithmetic named.index_users named.flagged named.asking named.dividing
+unfolding rewrite_of edits_of rule is_verified is_in_order eligible is_erasable known resizing registry.row_of rows.rows words.operations words.is_inherent words.is_listed words.is_table words.is_isolated properties.is_allowed properties.is_of_kind properties.kind_of properties.kinds folds.fold_of folds.rule_of folds.rules folds.predicates arithmetic.absorbs arithmetic.sum_of arithmetic.difference_of arithmetic.product_of arithmetic.signed_quotient_of arithmetic.signed_remainder_of arithmetic.quotient_of arithmetic.remainder_of readings.signed_of readings.wrapped named.commutative named.with_zero_as_right_identity named.with_one_as_right_identity named.self_inverse named.idempotent named.remainders named.associative named.extensions named.index_casts named.arithmetic named.index_users named.flagged named.predicate_of_min_max named.division_of_remainder
 answered = refl

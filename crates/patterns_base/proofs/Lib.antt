@@ -9,3 +9,17 @@ pub mod FoldingCases
 pub mod RegionsCases
 pub mod LoweringCases
 pub mod CanonicalCases
+pub mod EditFacts
+pub mod Front
+pub mod Given
+pub mod Inner
+pub mod Placed
+pub mod Made
+pub mod Erasing
+pub mod Headed
+pub mod Give
+pub mod Moved
+pub mod Body
+pub mod Free
+pub mod Plans
+pub use Rattle.rewriter_machine.proofs.Answers

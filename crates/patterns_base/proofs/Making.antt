@@ -1,4 +1,4 @@
--- Rules that conversion may try make an operation where they apply.
+-- Rules that a conversion may try make an operation if they apply.
 use Rattle.std.proofs.Common.{◌≡◌, ℕ, ◌+◌, ◌≤◌, List, [], ◌∷◌, ◌++◌, Bool, true, false, Some, None, refl, subst, arith}
 use Rattle.std.specs.Prelude.{Option}
 use Rattle.ir_types.specs.Terms.{TypeTerm}
@@ -11,7 +11,7 @@ use Rattle.patterns_laws.specs.integers.Folds.{Known}
 use Rattle.rewriter_machine.specs.Contents.{Edit}
 use Rattle.rewriter_machine.specs.Edits.{Make}
 use Rattle.patterns_laws.specs.Keeps.{given}
-use Rattle.patterns_laws.specs.Words.{asking, dividing}
+use Rattle.patterns_laws.specs.Words.{predicate_of_min_max, division_of_remainder}
 use Rattle.patterns_base.specs.declared.rule.Rule.TheVariants.{FoldToConstant, ExpandMinMax, ExpandDifference}
 use Rattle.patterns_base.specs.declared.rule.Rule.TheVariants.{ExpandRemainder, LowerIndex, LowerLoop, LowerChoice}
 use Rattle.patterns_base.specs.Looks.{Ended, when, two, body}
@@ -25,7 +25,7 @@ use Rattle.patterns_base.specs.Rewrites.{ConvertingRulesMake}
 record Making (es : List Edit) : Type 0 where
   some : 1 ≤ made_by es
 
--- edits make one where there are some
+-- the edits make an operation, if there are any
 record MakesSome (r : Option (List Edit)) : Type 0 where
   each : (es : List Edit) → r ≡ Some es → 1 ≤ made_by es
 
@@ -42,8 +42,8 @@ pub joined : (es fs : List Edit) → made_by (es ++ fs) ≡ made_by es + made_by
 joined [] fs = (let e : made_by ([] ++ fs) ≡ made_by fs = refl in omega (arith, e))
 joined (e ∷ es) fs = omega (arith, joined es fs)
 
-behind : (es fs : List Edit) → Making fs → Making (es ++ fs)
-behind es fs h = record { some = omega (arith, joined es fs, h.some) }
+trailing : (es fs : List Edit) → Making fs → Making (es ++ fs)
+trailing es fs h = record { some = omega (arith, joined es fs, h.some) }
 
 in_front : (es fs : List Edit) → Making es → Making (es ++ fs)
 in_front es fs h = record { some = omega (arith, joined es fs, h.some) }
@@ -67,22 +67,22 @@ module _ (t : Operation) (n : ℕ) (front : Place) (o : Operation) where
   makes_fold_to_constant = tested _ _ (folding_makes t n front o _ _)
 
   makes_expand_min_max : MakesSome (expand_min_max t n front o)
-  makes_expand_min_max = of_some (two (head o)) _ (λ p. of_some (beside p.name asking) _ (λ asks. there _ (first _ _ _)))
+  makes_expand_min_max = of_some (two (head o)) _ (λ p. of_some (beside p.name predicate_of_min_max) _ (λ asks. there _ (first _ _ _)))
 
   makes_expand_difference : MakesSome (expand_difference t n front o)
   makes_expand_difference = of_some (two (head o)) _ (λ p. tested _ _ (there _ (first _ _ _)))
 
   makes_expand_remainder : MakesSome (expand_remainder t n front o)
-  makes_expand_remainder = of_some (two (head o)) _ (λ p. of_some (beside p.name dividing) _ (λ division. there _ (first _ _ _)))
+  makes_expand_remainder = of_some (two (head o)) _ (λ p. of_some (beside p.name division_of_remainder) _ (λ division. there _ (first _ _ _)))
 
   lowered : Making (make_lowered t n front o)
   lowered = first _ _ _
 
   makes_lower_index : MakesSome (lower_index t n front o)
-  makes_lower_index = tested _ _ (there _ (in_front _ _ (behind _ (make_lowered t n front o) lowered)))
+  makes_lower_index = tested _ _ (there _ (in_front _ _ (trailing _ (make_lowered t n front o) lowered)))
 
   loop_makes : (args : List TypeTerm) (e : Ended) → Making (lowered_loop t n front o args e)
-  loop_makes args e = in_front _ _ (in_front _ _ (in_front _ _ (in_front _ _ (in_front _ _ (in_front _ _ (behind _ (make_lowered t n front o) lowered))))))
+  loop_makes args e = in_front _ _ (in_front _ _ (in_front _ _ (in_front _ _ (in_front _ _ (in_front _ _ (trailing _ (make_lowered t n front o) lowered))))))
 
   makes_lower_loop : MakesSome (lower_loop t n front o)
   makes_lower_loop = tested _ _ (of_some (arguments_at 0 o) _ (λ args. of_some (body t o 0) _ (λ e. there _ (loop_makes args e))))

@@ -1,4 +1,5 @@
--- The rules on casts, branches and loops at operations of small modules, as a reference program apart from this project answers.
+-- The rules on casts, branches and loops at operations of small modules; a reference program outside this project
+-- computed the expected results.
 use Rattle.std.proofs.Common.{◌≡◌, List, [], ◌∷◌, refl}
 use Rattle.std.specs.Prelude.{codes, map}
 use Rattle.ir_types.specs.Terms.{Index}
@@ -15,10 +16,10 @@ use Rattle.patterns_laws.specs.Made.{i1, i64}
 use Rattle.patterns_laws.specs.Words as named
 use Rattle.patterns_base.specs.declared.rule.Rule.TheVariants.{ExtendExtension, CutCast, CastBack, OpenBranch}
 use Rattle.patterns_base.specs.declared.rule.Rule.TheVariants.{OpenLoop, StopLoop}
-use Rattle.patterns_base.specs.Looks.{is_clean, is_in_order, may_go, known}
+use Rattle.patterns_base.specs.Looks.{is_verified, is_in_order, is_erasable, known}
 use Rattle.patterns_base.specs.Casting.{resizing}
 use Rattle.patterns_base.specs.Rules.{rule}
-use Rattle.patterns_base.specs.Rewrites.{none, becomes, edits_of, rewrite_of, suits}
+use Rattle.patterns_base.specs.Rewrites.{none, becomes, edits_of, rewrite_of, eligible}
 use Rattle.patterns_base.proofs.Small.{i8, i16, i32, i63, i65, Case, at_rule, answer, body, holding, source, number, user, bridged, plain, whole}
 
 abbrev extend_extension_signed_of_unsigned : Case
@@ -353,7 +354,7 @@ cases =
     ∷ open_loop_never ∷ open_loop_once ∷ open_loop_once_hands_on_argument ∷ open_loop_twice ∷ open_loop_step_below_zero
     ∷ stop_loop_false ∷ stop_loop_true ∷ []
 
--- each is what the definitions say (to find one that is not, shorten the list)
+-- each result is that of the definitions (to find one that isn't, shorten the list)
 pub answered : map answer cases ≡ map (λ c. c.after) cases
-unfolding rewrite_of edits_of rule is_clean is_in_order suits may_go known resizing registry.row_of rows.rows words.operations words.is_inherent words.is_listed words.is_table words.is_isolated properties.is_allowed properties.is_of_kind properties.kind_of properties.kinds folds.fold_of folds.rule_of folds.rules folds.predicates arithmetic.absorbs arithmetic.sum_of arithmetic.difference_of arithmetic.product_of arithmetic.signed_quotient_of arithmetic.signed_remainder_of arithmetic.quotient_of arithmetic.remainder_of readings.signed_of readings.wrapped named.swapping named.ignoring_zero named.ignoring_one named.cancelling named.keeping named.remainders named.regrouping named.extensions named.index_casts named.arithmetic named.index_users named.flagged named.asking named.dividing
+unfolding rewrite_of edits_of rule is_verified is_in_order eligible is_erasable known resizing registry.row_of rows.rows words.operations words.is_inherent words.is_listed words.is_table words.is_isolated properties.is_allowed properties.is_of_kind properties.kind_of properties.kinds folds.fold_of folds.rule_of folds.rules folds.predicates arithmetic.absorbs arithmetic.sum_of arithmetic.difference_of arithmetic.product_of arithmetic.signed_quotient_of arithmetic.signed_remainder_of arithmetic.quotient_of arithmetic.remainder_of readings.signed_of readings.wrapped named.commutative named.with_zero_as_right_identity named.with_one_as_right_identity named.self_inverse named.idempotent named.remainders named.associative named.extensions named.index_casts named.arithmetic named.index_users named.flagged named.predicate_of_min_max named.division_of_remainder
 answered = refl

@@ -1,4 +1,4 @@
--- Rules are told apart by their numbers and by their words, and each is one of all.
+-- Rules have different numbers and different words, and each rule is in the list of all rules.
 use Rattle.std.proofs.Common.{◌≡◌, true, Some, refl, sym, ap, ◌∙◌, arith}
 use Rattle.std.proofs.lemmas.Option.{same_Some}
 use Rattle.std.specs.List.{list_any}
@@ -17,18 +17,18 @@ unfolding all_rules
 by_its_word EraseDead = refl
 by_its_word _ = refl
 
--- equal numbers are numbers of one rule
+-- two rules with the same number are equal
 pub one_number : (r s : Rule) → number_of r ≡ number_of s → r ≡ s
 one_number r s e = same_Some r s (sym (by_its_number r) ∙ ap by_number e ∙ by_its_number s)
 
--- whether two rules are one is decided
+-- the equality test of rules is right
 pub same_is_one : (r s : Rule) → same_rule r s ≡ true → r ≡ s
 same_is_one r s e = one_number r s (grind (arith, nat_tests, e))
 
 pub one_is_same : (r s : Rule) → r ≡ s → same_rule r s ≡ true
 one_is_same r s e = grind (arith, nat_tests, ap number_of e)
 
--- each is one of all
+-- each rule is in the list of all rules
 pub among_all : (r : Rule) → list_any (same_rule r) all_rules ≡ true
 unfolding all_rules
 among_all EraseDead = refl

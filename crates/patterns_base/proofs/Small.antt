@@ -1,4 +1,4 @@
--- Small modules, to be looked at by computation.
+-- Small modules for proofs by computation.
 use Rattle.std.specs.Prelude.{ℕ, List, [], ◌∷◌, codes}
 use Rattle.ir_types.specs.declared.node.Sign.TheVariants.{Signless}
 use Rattle.ir_types.specs.Terms.{TypeTerm, Integer, AttrTerm}
@@ -33,15 +33,15 @@ i128 = Integer Signless 128
 abbrev pub whole : ℕ → List ℕ → List Value → List TypeTerm → Entries → Entries → RegionsOf (List ℕ) TypeTerm AttrTerm → Operation
 whole id name operands results properties attributes rs = op (record { id = id; name = name; operands = operands; results = results; properties = properties; attributes = attributes }) rs
 
--- one with properties alone
+-- an operation with only properties
 abbrev pub kept : ℕ → List ℕ → List Value → List TypeTerm → Entries → Operation
 kept id name operands results properties = whole id name operands results properties [] no_regions
 
--- one without properties, attributes and regions
+-- an operation without properties, attributes and regions
 abbrev pub plain : ℕ → List ℕ → List Value → List TypeTerm → Operation
 plain id name operands results = kept id name operands results []
 
--- a value of which nothing is known
+-- an operation that defines an unknown value
 abbrev pub source : ℕ → TypeTerm → Operation
 source id ty = plain id (codes "t.source") [] (ty ∷ [])
 
@@ -74,7 +74,7 @@ body args os = block args (in_order os)
 abbrev pub holding : ℕ → List Operation → Module
 holding free os = record { tree = whole 0 (codes "builtin.module") [] [] [] [] (region (body [] os) no_regions); next = free }
 
--- a rule at an operation of a module, and what is to come of it
+-- a rule at an operation of a module, with the expected result
 pub record Case : Type 0 where
   pub rule : Rule
   pub at : ℕ
@@ -84,6 +84,6 @@ pub record Case : Type 0 where
 abbrev pub at_rule : Rule → ℕ → Module → Rewrite → Case
 at_rule r x before after = record { rule = r; at = x; before = before; after = after }
 
--- what comes of it by the definitions
+-- the result by the definitions
 abbrev pub answer : Case → Rewrite
 answer c = rewrite_of c.rule c.before c.at

@@ -1,4 +1,4 @@
--- The table has all rules that may apply at operations of a name, in rising order.
+-- The table has all rules that may apply at operations of a name, by ascending number.
 use Rattle.std.proofs.Common.{◌≡◌, ℕ, List, [], ◌∷◌, Bool, true, false, Some, None, refl, ap, ◌∙◌}
 use Rattle.std.specs.Prelude.{Option, if◌then◌else◌}
 use Rattle.std.specs.List.{filter}
@@ -12,7 +12,7 @@ use Rattle.patterns_base.specs.declared.rule.Rule.{Rule}
 use Rattle.patterns_base.specs.RuleNames.{all_rules}
 use Rattle.patterns_base.specs.Looks.{when, front_of}
 use Rattle.patterns_base.specs.Rules.{table, rules_for, has_rule, rule}
-use Rattle.patterns_base.specs.Rewrites.{none, rewrite_by, edits_of, rewrite_of, suits}
+use Rattle.patterns_base.specs.Rewrites.{none, rewrite_by, edits_of, rewrite_of, eligible}
 use Rattle.patterns_base.specs.Canonicalization.{or_else, first_rule, greedy_rules, greedy_rules_for, TableSuffices}
 use Rattle.patterns_base.proofs.Dispatch.{beside_or, only_listed}
 
@@ -27,14 +27,14 @@ none_in_front (Some y) b f h = by (b y)
 no_edits : (r : Rule) (m : Module) (x : ℕ) (o : Operation) → find x m.tree ≡ Some o → has_rule r (head o).name ≡ false → edits_of r m x ≡ None
 unfolding edits_of
 no_edits r m x o e lacks =
-    ap (λ z. given z (λ o. given (front_of x m.tree) (λ front. when (suits r m.tree (head o)) (rule r m.tree m.next front o)))) e
-    ∙ none_in_front (front_of x m.tree) (λ front. suits r m.tree (head o)) (λ front. rule r m.tree m.next front o) (λ front. only_listed r m.tree m.next front o lacks)
+    ap (λ z. given z (λ o. given (front_of x m.tree) (λ front. when (eligible r m.tree (head o)) (rule r m.tree m.next front o)))) e
+    ∙ none_in_front (front_of x m.tree) (λ front. eligible r m.tree (head o)) (λ front. rule r m.tree m.next front o) (λ front. only_listed r m.tree m.next front o lacks)
 
 no_rewrite : (r : Rule) (m : Module) (x : ℕ) (o : Operation) → find x m.tree ≡ Some o → has_rule r (head o).name ≡ false → rewrite_of r m x ≡ none
 unfolding rewrite_of
 no_rewrite r m x o e lacks = ap (λ es. rewrite_by es m) (no_edits r m x o e lacks)
 
--- rules that the table doesn't have may be left out
+-- rules that the table doesn't list may be left out
 left_out : (rs : List Rule) (m : Module) (x : ℕ) (o : Operation) → find x m.tree ≡ Some o → first_rule rs m x ≡ first_rule (filter (λ r. has_rule r (head o).name) rs) m x
 unfolding first_rule
 left_out [] m x o e = refl
@@ -45,7 +45,7 @@ left_out (r ∷ rs) m x o e = by (has_rule r (head o).name) refl (left_out rs m 
     by true f rest = ap (or_else (rewrite_of r m x)) rest
     by false f rest = ap (λ z. or_else z (first_rule rs m x)) (no_rewrite r m x o e f) ∙ rest
 
--- each row rises
+-- the rules of each entry are in ascending order
 abbrev pub Rises : List ℕ → Type 0
 Rises name = filter (λ r. has_rule r name) greedy_rules ≡ greedy_rules_for name
 

@@ -1,5 +1,5 @@
--- Greedy canonicalization (`applyPatternsGreedily`): the first operation in pre-order at which a rule applies, with
--- the lowest such rule, again and again, up to a limit.
+-- Greedy canonicalization (`applyPatternsGreedily`). Each step takes the first operation in pre-order at which a rule
+-- applies and applies the highest-priority rule there, up to a limit of rewrites.
 use Rattle.std.specs.Prelude.{◌≡◌, ℕ, zero, suc, ◌+◌, ◌&&◌, nat_le, List, [], ◌∷◌, if◌then◌else◌, Some}
 use Rattle.std.specs.List.{filter}
 use Rattle.ir_types.specs.declared.refusal.Refusal.{Refusal}
@@ -13,7 +13,7 @@ use Rattle.patterns_base.specs.RuleNames.{all_rules, is_canonical}
 use Rattle.patterns_base.specs.Rules.{rules_for}
 use Rattle.patterns_base.specs.Rewrites.{Rewrite, none, refused, becomes, rewrite_of}
 
--- the first of two that there is
+-- the first of two rewrites, or the second if the first is none
 abbrev pub or_else : Rewrite → Rewrite → Rewrite
 or_else none b = b
 or_else (refused e) b = refused e
@@ -28,14 +28,14 @@ first_rule (r ∷ rs) m x = or_else (rewrite_of r m x) (first_rule rs m x)
 abbrev pub greedy_rules : List Rule
 greedy_rules = filter is_canonical all_rules
 
--- the lowest of them at an operation
-abbrev pub lowest : Module → ℕ → Rewrite
-lowest m x = first_rule greedy_rules m x
+-- the rewrite of the highest-priority rule at an operation
+abbrev pub highest_priority : Module → ℕ → Rewrite
+highest_priority m x = first_rule greedy_rules m x
 
--- the first of some operations at which one applies
+-- the rewrite at the first of some operations at which a rule applies
 unfoldable pub first_among : List ℕ → Module → Rewrite
 first_among [] m = none
-first_among (x ∷ xs) m = or_else (lowest m x) (first_among xs m)
+first_among (x ∷ xs) m = or_else (highest_priority m x) (first_among xs m)
 
 -- the next rewrite of a module
 abbrev pub next_rewrite : Module → Rewrite
@@ -46,42 +46,42 @@ pub data End : Type 0 where
   converged : End
   limited : End
 
--- a refusal, or the module after so many rewrites
+-- a refusal, or the module after a number of rewrites
 pub data Canonical : Type 0 where
   stopped : Refusal → Canonical
   ended : Module → ℕ → End → Canonical
 
--- how it ends at the limit, by the next rewrite
+-- how a run ends at the limit, by the next rewrite
 abbrev pub end_of : Rewrite → End
 end_of none = converged
 end_of (refused e) = limited
 end_of (becomes m) = limited
 
--- how it goes on after the next rewrite of a module that came of so many
+-- how a run continues after the next rewrite of a module, which a number of rewrites made
 abbrev pub go_on : Rewrite → Module → ℕ → (Module → Canonical) → Canonical
 go_on none m done more = ended m done converged
 go_on (refused e) m done more = stopped e
 go_on (becomes n) m done more = more n
 
--- at most so many rewrites of a module that came of others
+-- at most a number of rewrites, after others were made
 unfoldable pub canonical_from : ℕ → ℕ → Module → Canonical
 canonical_from zero done m = ended m done (end_of (next_rewrite m))
 canonical_from (suc left) done m = go_on (next_rewrite m) m done (canonical_from left (done + 1))
 
--- the limits that may be asked for
+-- the largest limit that is allowed
 unfoldable pub most_rewrites : ℕ
 most_rewrites = 1000000
 
--- at most so many rewrites of a module
+-- at most a number of rewrites of a module
 unfoldable pub canonicalization_of : ℕ → Module → Canonical
 canonicalization_of limit m =
     if nat_le 1 limit && nat_le limit most_rewrites then canonical_from limit 0 m else stopped BadLimit
 
--- those of the table for a name
+-- the canonicalization rules that the table lists for a name
 abbrev pub greedy_rules_for : List ℕ → List Rule
 greedy_rules_for name = filter is_canonical (rules_for name)
 
--- that no others need be tried
+-- no other rules need to be tried
 abbrev pub TableSuffices : Type 0
 TableSuffices = (m : Module) (x : ℕ) (o : Operation) → find x m.tree ≡ Some o
-    → lowest m x ≡ first_rule (greedy_rules_for (head o).name) m x
+    → highest_priority m x ≡ first_rule (greedy_rules_for (head o).name) m x

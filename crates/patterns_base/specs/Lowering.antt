@@ -1,5 +1,5 @@
--- Lowering: operations on index become operations on i64, with unrealized casts around them (as a type converter's
--- materializations). In brackets stands where MLIR has the rule.
+-- Lowering: operations on index become operations on i64, with unrealized casts around them (like the materializations
+-- of a type converter). The names in brackets are MLIR's.
 use Rattle.std.specs.Prelude.{ℕ, ◌+◌, List, [], ◌∷◌, ◌++◌, codes, map, length, reverse, Bool, true, false, ◌&&◌, ◌||◌}
 use Rattle.std.specs.Prelude.{Option, Some, None}
 use Rattle.std.specs.List.{list_any, range_with_len}
@@ -18,25 +18,25 @@ use Rattle.patterns_laws.specs.Words.{named, among, index_users}
 use Rattle.patterns_base.specs.Looks.{Header, Ended, when, is_index, is_index_value, body}
 use Rattle.patterns_base.specs.Makes.{results_from, arguments_from, replacing, replaced, moving, erasing}
 
--- casts to a type, at a place, of those values that are marked
+-- casts of the marked values to a type, at a place
 abbrev pub bridges : TypeTerm → Place → List Bool → List Value → List Edit
 bridges ty place (true ∷ ms) (v ∷ vs) = Make place (bridge ty v) ∷ bridges ty place ms vs
 bridges ty place (false ∷ ms) (v ∷ vs) = bridges ty place ms vs
 bridges ty place _ _ = []
 
--- the values with those casts, whose ids begin with n, in their place
+-- the values, with the marked ones replaced by their casts, whose ids begin with n
 abbrev pub crossed : ℕ → List Bool → List Value → List Value
 crossed n (true ∷ ms) (v ∷ vs) = Result n 0 ∷ crossed (n + 1) ms vs
 crossed n (false ∷ ms) (v ∷ vs) = v ∷ crossed n ms vs
 crossed n _ _ = []
 
--- how many are marked
+-- the number of marked values
 abbrev pub marked : List Bool → ℕ
 marked [] = 0
 marked (true ∷ ms) = marked ms + 1
 marked (false ∷ ms) = marked ms
 
--- the values that are marked are set as operands, from number k on, to casts whose ids begin with n
+-- the operands from number k on: each marked one is set to its cast, whose ids begin with n
 abbrev pub crossing : ℕ → ℕ → ℕ → List Bool → List Edit
 crossing x k n [] = []
 crossing x k n (true ∷ ms) = SetOperand x k (Result n 0) ∷ crossing x (k + 1) (n + 1) ms
@@ -50,12 +50,12 @@ indices tys = map is_index tys
 abbrev pub any : List Bool → Bool
 any ms = list_any (λ b. b) ms
 
--- an attribute with i64 for index: a constant's value is one of i64, others stay
+-- an attribute with i64 for index: a constant of type index becomes one of type i64, and others stay
 abbrev pub lowered_attr : AttrTerm → AttrTerm
 lowered_attr (IntegerOf ty bits) = IntegerOf (lowered_type ty) bits
 lowered_attr a = a
 
--- a header with i64 for index, with operands, and its dictionaries kept
+-- a header with i64 for index and the given operands; its dictionaries are kept
 abbrev pub lowered_header : Header → List Value → Header
 lowered_header h operands = record {
   id = h.id;
@@ -66,17 +66,17 @@ lowered_header h operands = record {
   attributes = h.attributes;
 }
 
--- a region with i64 for index, whose block holds no operations yet
+-- a region with i64 for index and an empty block
 abbrev pub lowered_region : RegionOf (List ℕ) TypeTerm AttrTerm → RegionOf (List ℕ) TypeTerm AttrTerm
 lowered_region empty = empty
 lowered_region (block args os) = block (map lowered_type args) no_ops
 
--- the like of several
+-- the same for several regions
 abbrev pub lowered_regions : RegionsOf (List ℕ) TypeTerm AttrTerm → RegionsOf (List ℕ) TypeTerm AttrTerm
 lowered_regions no_regions = no_regions
 lowered_regions (region g rs) = region (lowered_region g) (lowered_regions rs)
 
--- an operation with i64 for index, with operands, whose blocks hold no operations yet
+-- an operation with i64 for index, the given operands and empty blocks
 abbrev pub lowered_op : Operation → List Value → Operation
 lowered_op o operands = op (lowered_header (head o) operands) (lowered_regions (regions o))
 
@@ -84,74 +84,74 @@ lowered_op o operands = op (lowered_header (head o) operands) (lowered_regions (
 abbrev pub end_of : ℕ → ℕ → Place
 end_of x r = record { parent = x; region = r; before = None }
 
--- the place in front of operation y in that block
+-- the place before operation y in that block
 abbrev pub before_in : ℕ → ℕ → ℕ → Place
 before_in x r y = record { parent = x; region = r; before = Some y }
 
--- the place in front of operation y, which stands at a place
+-- the place before operation y, which has this place
 abbrev pub beside : Place → ℕ → Place
-beside front y = record { parent = front.parent; region = front.region; before = Some y }
+beside point y = record { parent = point.parent; region = point.region; before = Some y }
 
--- operations come into block r of operation y, each in front of the one named before it, the first of them before z
+-- operations move into block r of operation y, each before the one moved last, the first of them before z
 abbrev pub gathering : ℕ → ℕ → ℕ → List ℕ → List Edit
 gathering y r z [] = []
 gathering y r z (x ∷ xs) = Move x (before_in y r z) ∷ gathering y r x xs
 
--- all operations of a block, the last of them too, come into block r of operation y, which stands at a place: first, in
--- order, in front of y, and then, the last of them first, into the block. So each one sees its operands and is seen by
--- its users wherever it stands meanwhile, as it wouldn't be where they came from the one block into the other
+-- all operations of a block, including the last, move into block r of operation y. First they move before y, in order.
+-- Then they move into the block, the last one first. At each step the operands of every operation dominate it, which a
+-- direct move from block to block wouldn't ensure
 abbrev pub brought : Place → ℕ → ℕ → List ℕ → ℕ → List Edit
-brought front y r ops last = moving (beside front y) ops
-    ++ Move last (beside front y) ∷ Move last (end_of y r) ∷ gathering y r last (reverse ops)
+brought point y r ops last = moving (beside point y) ops
+    ++ Move last (beside point y) ∷ Move last (end_of y r) ∷ gathering y r last (reverse ops)
 
-module _ (t : Operation) (n : ℕ) (front : Place) (o : Operation) where
+module _ (t : Operation) (n : ℕ) (point : Place) (o : Operation) where
   abbrev h : Header
   h = head o
 
   abbrev x : ℕ
   x = h.id
 
-  -- which operands are of index
+  -- which operands have type index
   abbrev pub index_operands : List Bool
   index_operands = map (is_index_value t) h.operands
 
-  -- which results are
+  -- which results have type index
   abbrev pub index_results : List Bool
   index_results = indices h.results
 
-  -- x's results are replaced by those of operation y, through casts whose ids begin with c, and x is erased
+  -- the results of operation y, through casts whose ids begin with c, replace the results of x, and x is erased
   abbrev pub give_lowered : ℕ → ℕ → List Edit
   give_lowered y c =
       let results = results_from y 0 h.results in
-      bridges Index front index_results results
+      bridges Index point index_results results
       ++ replacing (results_from x 0 h.results) (crossed c index_results results) ++ Erase x ∷ []
 
-  -- the id of the operation on i64: its operands' casts have the first ones, and it the next
+  -- the id of the i64 operation: the casts of its operands have the ids before it
   abbrev pub lowered_id : ℕ
   lowered_id = n + marked index_operands
 
-  -- that operation, in front of x
+  -- that operation, inserted before x
   abbrev pub make_lowered : List Edit
-  make_lowered = Make front (lowered_op o (crossed n index_operands h.operands)) ∷ []
+  make_lowered = Make point (lowered_op o (crossed n index_operands h.operands)) ∷ []
 
-  -- `lower-index`: an operation of arith on index, then one on i64
+  -- `lower-index`: an `arith` operation on index becomes one on i64
   abbrev pub lower_index : Option (List Edit)
   lower_index = when (among index_users h.name && (any index_operands || any index_results))
-      (Some (bridges i64 front index_operands h.operands ++ make_lowered ++ give_lowered lowered_id (lowered_id + 1)))
+      (Some (bridges i64 point index_operands h.operands ++ make_lowered ++ give_lowered lowered_id (lowered_id + 1)))
 
-  -- the operations of block r of x become those of block r of operation y, and what the last of them hands on goes
-  -- through casts whose ids begin with c; values of x were replaced there by others
+  -- casts in block r of operation y, whose ids begin with c, for the operands of the last operation of block r of x;
+  -- values of x were replaced there
   abbrev pub take_over : ℕ → ℕ → ℕ → Ended → List Value → List Value → List Edit
   take_over y r c e olds news =
       bridges i64 (before_in y r e.last.id) index_results (map (replaced olds news) e.last.operands)
       ++ crossing e.last.id 0 c index_results
 
-  -- all operations of block r, the last of them too, brought there
+  -- all operations of block r, including the last, move there
   abbrev pub move_over : ℕ → ℕ → Ended → List Edit
-  move_over y r e = brought front y r e.before e.last.id
+  move_over y r e = brought point y r e.before e.last.id
 
-  -- a loop: casts of its operands, placeholders for its arguments, the loop, casts of its arguments, casts of what it
-  -- hands on, casts of its results
+  -- a loop: casts of its operands, placeholders for its block arguments, the new loop, casts of the new arguments,
+  -- casts of the terminator's operands, casts of the results
   abbrev pub lowered_loop : List TypeTerm → Ended → List Edit
   lowered_loop args e =
       let holders_id = lowered_id in
@@ -164,8 +164,8 @@ module _ (t : Operation) (n : ℕ) (front : Place) (o : Operation) where
       let olds = arguments_from x 0 args in
       let arguments = arguments_from y 0 args in
       let news = crossed arguments_id (indices args) arguments in
-      bridges i64 front index_operands h.operands
-      ++ map (λ ty. Make front (placeholder ty)) args
+      bridges i64 point index_operands h.operands
+      ++ map (λ ty. Make point (placeholder ty)) args
       ++ replacing olds holders
       ++ make_lowered
       ++ bridges Index (end_of y 0) (indices args) arguments
@@ -175,12 +175,12 @@ module _ (t : Operation) (n : ℕ) (front : Place) (o : Operation) where
       ++ take_over y 0 yields_id e olds news
       ++ give_lowered y results_id
 
-  -- `lower-loop`: a loop over index, then one over i64 (`ConvertForOpTypes`)
+  -- `lower-loop`: a loop over index becomes one over i64 (`ConvertForOpTypes`)
   abbrev pub lower_loop : Option (List Edit)
   lower_loop = when (named (codes "scf.for") h.name && any index_operands)
       (given (arguments_at 0 o) (λ args. given (body t o 0) (λ e. Some (lowered_loop args e))))
 
-  -- an if: the new one, casts of what its blocks hand on, casts of its results
+  -- an `scf.if`: the new one, casts of the terminators' operands, casts of the results
   abbrev pub lowered_if : Ended → Ended → List Edit
   lowered_if e f =
       let first_id = lowered_id + 1 in
@@ -191,7 +191,7 @@ module _ (t : Operation) (n : ℕ) (front : Place) (o : Operation) where
       ++ move_over lowered_id 1 f ++ take_over lowered_id 1 second_id f [] []
       ++ give_lowered lowered_id results_id
 
-  -- `lower-choice`: an if that gives an index, then one that gives an i64 (`ConvertIfOpTypes`)
+  -- `lower-choice`: an `scf.if` with index results becomes one with i64 results (`ConvertIfOpTypes`)
   abbrev pub lower_choice : Option (List Edit)
   lower_choice = when (named (codes "scf.if") h.name && any index_results)
       (given (body t o 0) (λ e. given (body t o 1) (λ f. Some (lowered_if e f))))

@@ -12,7 +12,7 @@ use Rattle.patterns_base.specs.declared.rule.Rule.TheVariants.{ExtendExtension, 
 use Rattle.patterns_base.specs.declared.rule.Rule.TheVariants.{OpenLoop, StopLoop, ExpandMinMax, ExpandDifference}
 use Rattle.patterns_base.specs.declared.rule.Rule.TheVariants.{ExpandRemainder, LowerIndex, LowerLoop, LowerChoice}
 
--- the number of a rule
+-- the number of each rule
 abbrev pub number_of : Rule → ℕ
 number_of EraseDead = 1
 number_of FoldToConstant = 2
@@ -45,7 +45,7 @@ number_of LowerIndex = 28
 number_of LowerLoop = 29
 number_of LowerChoice = 30
 
--- and its word
+-- the word of each rule
 abbrev pub word_of : Rule → List ℕ
 word_of EraseDead = codes "erase-dead"
 word_of FoldToConstant = codes "fold-to-constant"
@@ -78,7 +78,7 @@ word_of LowerIndex = codes "lower-index"
 word_of LowerLoop = codes "lower-loop"
 word_of LowerChoice = codes "lower-choice"
 
--- all rules, by rising numbers
+-- all rules, by ascending number
 unfoldable pub all_rules : List Rule
 all_rules =
     EraseDead ∷ FoldToConstant ∷ SwapConstant ∷ DropZero ∷ DropOne ∷ DropAllOnes
@@ -88,41 +88,41 @@ all_rules =
     ∷ ExpandMinMax ∷ ExpandDifference ∷ ExpandRemainder ∷ LowerIndex ∷ LowerLoop ∷ LowerChoice
     ∷ []
 
--- whether two rules are one
+-- whether two rules are equal
 abbrev pub same_rule : Rule → Rule → Bool
 same_rule r s = eqb (number_of r) (number_of s)
 
--- the rule of a number, and that of a word
+-- the rule with a number, and the rule with a word
 abbrev pub by_number : ℕ → Option Rule
 by_number n = find (λ r. eqb (number_of r) n) all_rules
 
 abbrev pub by_word : List ℕ → Option Rule
 by_word word = find (λ r. bytes_eq (word_of r) word) all_rules
 
--- whether a rule erases an operation, whatever it computes
+-- whether a rule erases an operation, whatever the operation computes
 abbrev pub is_erasing : Rule → Bool
 is_erasing EraseDead = true
 is_erasing _ = false
 
--- whether a rule says an operation of arith by others of arith
+-- whether a rule expands an `arith` operation into other `arith` operations
 abbrev pub is_expanding : Rule → Bool
 is_expanding ExpandMinMax = true
 is_expanding ExpandDifference = true
 is_expanding ExpandRemainder = true
 is_expanding _ = false
 
--- whether it takes index to i64
+-- whether a rule lowers index to i64
 abbrev pub is_lowering : Rule → Bool
 is_lowering LowerIndex = true
 is_lowering LowerLoop = true
 is_lowering LowerChoice = true
 is_lowering _ = false
 
--- whether canonicalization tries it: one that neither expands nor lowers
+-- whether canonicalization tries a rule: one that neither expands nor lowers
 abbrev pub is_canonical : Rule → Bool
 is_canonical r = not (is_expanding r) && not (is_lowering r)
 
--- whether conversion may try it: folding, expanding and lowering
+-- whether a conversion may try a rule: folding, expanding and lowering
 abbrev pub is_converting : Rule → Bool
 is_converting FoldToConstant = true
 is_converting r = is_expanding r || is_lowering r

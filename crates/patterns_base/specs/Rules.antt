@@ -1,4 +1,4 @@
--- What each rule makes, and which of them there are for the operations of a name.
+-- The edits of each rule, and the table of the rules for each operation name.
 use Rattle.std.specs.Prelude.{◌≡◌, false, ℕ, List, [], ◌∷◌, codes, Bool, unwrap_or, Option, None}
 use Rattle.std.specs.List.{list_any}
 use Rattle.ir_tree.specs.declared.place.Place.{Place}
@@ -25,8 +25,7 @@ use Rattle.patterns_base.specs.Casting.{extend_extension, cut_cast, cast_back}
 use Rattle.patterns_base.specs.Opening.{open_branch, open_loop, stop_loop}
 use Rattle.patterns_base.specs.Lowering.{lower_index, lower_loop, lower_choice}
 
--- the rules that there may be at operations of a name, rising: each listed operation's in a row, in the order of the
--- operations' words
+-- the rules for each listed operation name, by ascending number; the entries are in the order of the operations' words
 unfoldable pub table : List (List ℕ × List Rule)
 table =
     (codes "builtin.module", [])
@@ -88,49 +87,49 @@ table =
     ∷ (codes "memref.store", [])
     ∷ []
 
--- those for a name; none for one that isn't listed
+-- the rules for a name; none for a name that isn't listed
 unfoldable pub rules_for : List ℕ → List Rule
 rules_for name = unwrap_or (beside name table) []
 
--- whether rule r is among them
+-- whether rule r is among the rules for a name
 abbrev pub has_rule : Rule → List ℕ → Bool
 has_rule r name = list_any (same_rule r) (rules_for name)
 
--- the edits of rule r at an operation that is clean, in a tree whose next free id is n, where a place is in front of
--- it; none where the rule doesn't apply
+-- the edits of rule r at a verified operation, in a tree whose next free id is n; the place is before the operation;
+-- none if the rule doesn't apply
 unfoldable pub rule : Rule → Operation → ℕ → Place → Operation → Option (List Edit)
-rule EraseDead t n front o = erase_dead t n front o
-rule FoldToConstant t n front o = fold_to_constant t n front o
-rule SwapConstant t n front o = swap_constant t n front o
-rule DropZero t n front o = drop_zero t n front o
-rule DropOne t n front o = drop_one t n front o
-rule DropAllOnes t n front o = drop_all_ones t n front o
-rule CancelItself t n front o = cancel_itself t n front o
-rule KeepItself t n front o = keep_itself t n front o
-rule ZeroRemainder t n front o = zero_remainder t n front o
-rule RegroupConstants t n front o = regroup_constants t n front o
-rule AddNegative t n front o = add_negative t n front o
-rule CompareItself t n front o = compare_itself t n front o
-rule MirrorComparison t n front o = mirror_comparison t n front o
-rule CompareZero t n front o = compare_zero t n front o
-rule ChooseSame t n front o = choose_same t n front o
-rule ChooseKnown t n front o = choose_known t n front o
-rule ChooseTruth t n front o = choose_truth t n front o
-rule ChooseOpposite t n front o = choose_opposite t n front o
-rule ExtendExtension t n front o = extend_extension t n front o
-rule CutCast t n front o = cut_cast t n front o
-rule CastBack t n front o = cast_back t n front o
-rule OpenBranch t n front o = open_branch t front o
-rule OpenLoop t n front o = open_loop t front o
-rule StopLoop t n front o = stop_loop t front o
-rule ExpandMinMax t n front o = expand_min_max t n front o
-rule ExpandDifference t n front o = expand_difference t n front o
-rule ExpandRemainder t n front o = expand_remainder t n front o
-rule LowerIndex t n front o = lower_index t n front o
-rule LowerLoop t n front o = lower_loop t n front o
-rule LowerChoice t n front o = lower_choice t n front o
+rule EraseDead t n point o = erase_dead t n point o
+rule FoldToConstant t n point o = fold_to_constant t n point o
+rule SwapConstant t n point o = swap_constant t n point o
+rule DropZero t n point o = drop_zero t n point o
+rule DropOne t n point o = drop_one t n point o
+rule DropAllOnes t n point o = drop_all_ones t n point o
+rule CancelItself t n point o = cancel_itself t n point o
+rule KeepItself t n point o = keep_itself t n point o
+rule ZeroRemainder t n point o = zero_remainder t n point o
+rule RegroupConstants t n point o = regroup_constants t n point o
+rule AddNegative t n point o = add_negative t n point o
+rule CompareItself t n point o = compare_itself t n point o
+rule MirrorComparison t n point o = mirror_comparison t n point o
+rule CompareZero t n point o = compare_zero t n point o
+rule ChooseSame t n point o = choose_same t n point o
+rule ChooseKnown t n point o = choose_known t n point o
+rule ChooseTruth t n point o = choose_truth t n point o
+rule ChooseOpposite t n point o = choose_opposite t n point o
+rule ExtendExtension t n point o = extend_extension t n point o
+rule CutCast t n point o = cut_cast t n point o
+rule CastBack t n point o = cast_back t n point o
+rule OpenBranch t n point o = open_branch t point o
+rule OpenLoop t n point o = open_loop t point o
+rule StopLoop t n point o = stop_loop t point o
+rule ExpandMinMax t n point o = expand_min_max t n point o
+rule ExpandDifference t n point o = expand_difference t n point o
+rule ExpandRemainder t n point o = expand_remainder t n point o
+rule LowerIndex t n point o = lower_index t n point o
+rule LowerLoop t n point o = lower_loop t n point o
+rule LowerChoice t n point o = lower_choice t n point o
 
--- at an operation of a name that the table doesn't have with a rule, the rule doesn't apply
+-- a rule that the table doesn't list for a name doesn't apply at operations with that name
 abbrev pub OnlyListed : Type 0
-OnlyListed = (r : Rule) (t : Operation) (n : ℕ) (front : Place) (o : Operation) → has_rule r (head o).name ≡ false
-    → rule r t n front o ≡ None
+OnlyListed = (r : Rule) (t : Operation) (n : ℕ) (point : Place) (o : Operation) → has_rule r (head o).name ≡ false
+    → rule r t n point o ≡ None

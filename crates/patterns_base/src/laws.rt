@@ -1,4 +1,4 @@
-//! Laws of the rules' definitions.
+//! Theorems about the definitions of the rules. Each is a function that does nothing; its contract states the theorem.
 ghost use Rattle.std.specs.Prelude.{◌≡◌, Some};
 ghost use Rattle.patterns_base.specs.declared.rule.Rule.{Rule};
 ghost use Rattle.patterns_base.specs.RuleNames.{by_number, by_word, number_of, word_of};
@@ -6,20 +6,20 @@ ghost use Rattle.patterns_base.specs.Rules.{OnlyListed};
 ghost use Rattle.patterns_base.specs.Rewrites.{ConvertingRulesMake};
 ghost use Rattle.patterns_base.specs.Canonicalization.{TableSuffices};
 
-/// Each rule has a number and a word of its own.
-pub fn rules_are_told_apart()
+/// Two different rules have different numbers and different words.
+pub fn rules_are_distinct()
     ensures numbers { (r : Rule) → by_number (number_of r) ≡ Some r }
     ensures words { (r : Rule) → by_word (word_of r) ≡ Some r }
 {}
 
-/// Only rules that the table has for its name apply at an operation, and the first of these that does is the lowest of
-/// all that do.
+/// Only rules that the table lists for its name apply at an operation. The first listed rule that applies is the
+/// highest-priority rule of all that apply.
 pub fn only_listed_rules_apply()
     ensures applies { OnlyListed }
     ensures lowest { TableSuffices }
 {}
 
-/// Where a rule applies that conversion may try, it makes an operation.
+/// If a rule that a conversion may try applies, it makes an operation.
 pub fn converting_rules_make()
     ensures { ConvertingRulesMake }
 {}

@@ -1,74 +1,74 @@
-//! The rewrite rules by their names.
+//! The rewrite rules and their names.
 ghost use Rattle.std.specs.Prelude.{◌≡◌};
 ghost use Rattle.patterns_base.specs.RuleNames.{all_rules, by_number, by_word, number_of, same_rule, word_of};
 ghost use Rattle.patterns_base.specs.RuleNames.{is_canonical, is_converting, is_erasing, is_expanding, is_lowering};
 
-/// A rewrite rule. Scripts name it by its number or its word; what it makes is its definition in `specs/Rules.antt`.
+/// A rewrite rule. Scripts name a rule by its number or its word. `specs/Rules.antt` defines the edits of each rule.
 #[derive(Clone, Copy, PartialEq, Eq)]
 pub enum Rule {
-    /// A dead operation goes.
+    /// Erases a dead operation.
     EraseDead = 1,
-    /// What folds over its constant operands becomes the constant.
+    /// Replaces an operation that folds over its constant operands by the constant.
     FoldToConstant = 2,
-    /// A constant goes second.
+    /// Moves a constant to the second operand of a commutative operation.
     SwapConstant = 3,
-    /// A second operand 0 that changes nothing goes.
+    /// Replaces an operation by its first operand, if the second operand is 0 and changes nothing.
     DropZero = 4,
-    /// A second operand 1 that changes nothing goes.
+    /// Replaces an operation by its first operand, if the second operand is 1 and changes nothing.
     DropOne = 5,
-    /// A second operand with all bits set that changes nothing goes.
+    /// Replaces an operation by its first operand, if the second operand has all bits set and changes nothing.
     DropAllOnes = 6,
-    /// A value less itself is 0.
+    /// Replaces the difference or exclusive or of a value and itself by 0.
     CancelItself = 7,
-    /// A value and itself are the value.
+    /// Replaces an idempotent operation on a value and itself by the value.
     KeepItself = 8,
-    /// A remainder by 1 is 0.
+    /// Replaces a remainder by 1 with 0.
     ZeroRemainder = 9,
-    /// Two constants, one behind the other, become one.
+    /// Combines the constants of two nested operations into one constant.
     RegroupConstants = 10,
-    /// A difference with a constant becomes a sum with its negative.
+    /// Replaces a difference with a constant by a sum with the negated constant.
     AddNegative = 11,
-    /// A comparison of a value with itself is known.
+    /// Replaces a comparison of a value with itself by its result.
     CompareItself = 12,
-    /// The constant of a comparison goes second, and the predicate is mirrored.
+    /// Moves the constant of a comparison to the second operand, and mirrors the predicate.
     MirrorComparison = 13,
-    /// Nothing is below 0 without a sign.
+    /// Replaces an unsigned comparison with 0 whose result is known by that result.
     CompareZero = 14,
-    /// A choice between a value and itself is the value.
+    /// Replaces a select between a value and itself by the value.
     ChooseSame = 15,
-    /// A choice by a constant is what is chosen.
+    /// Replaces a select with a constant condition by the selected value.
     ChooseKnown = 16,
-    /// A choice between true and false is the condition.
+    /// Replaces a select between true and false by its condition.
     ChooseTruth = 17,
-    /// A choice by the opposite of a condition is one by the condition, the other way round.
+    /// Replaces a select on a negated condition by a select on the condition with swapped values.
     ChooseOpposite = 18,
-    /// An extension of an extension is one extension.
+    /// Combines two extensions into one.
     ExtendExtension = 19,
-    /// A cut of a cut is one cut, and one of an extension back to its type is what was extended.
+    /// Combines two truncations into one. Replaces a truncation of an extension back to its source type by the source.
     CutCast = 20,
-    /// A cast back is what was cast.
+    /// Replaces a cast back to the original type by the original value.
     CastBack = 21,
-    /// A branch that is known stands open.
+    /// Inlines the chosen block of a branch with a constant condition.
     OpenBranch = 22,
-    /// A loop that is gone through once stands open, and one that is never gone through goes.
+    /// Inlines the block of a loop that runs once. Erases a loop that never runs.
     OpenLoop = 23,
-    /// A loop whose condition is false stands open as far as the condition.
+    /// Inlines the first block of a while loop whose condition is false.
     StopLoop = 24,
-    /// The greater or the lesser of two values becomes a comparison and a choice.
+    /// Replaces a minimum or maximum by a comparison and a select.
     ExpandMinMax = 25,
-    /// A difference becomes a sum with the complement and 1.
+    /// Replaces a difference by a sum with the complement and 1.
     ExpandDifference = 26,
-    /// A remainder becomes a difference with a product of the quotient.
+    /// Replaces a remainder by a difference with the product of the quotient.
     ExpandRemainder = 27,
-    /// An operation of arith on index becomes one on i64.
+    /// Lowers an `arith` operation on index to i64.
     LowerIndex = 28,
-    /// A loop over index becomes one over i64.
+    /// Lowers a loop over index to i64.
     LowerLoop = 29,
-    /// A choice that gives an index becomes one that gives an i64.
+    /// Lowers a choice with index results to i64.
     LowerChoice = 30,
 }
 
-/// The rules, by rising numbers.
+/// The rules, by ascending number.
 static RULES: [Rule; 30] = [
     Rule::EraseDead,
     Rule::FoldToConstant,
@@ -102,7 +102,7 @@ static RULES: [Rule; 30] = [
     Rule::LowerChoice,
 ];
 
-/// All rules, by rising numbers.
+/// Returns all rules, by ascending number.
 pub fn all_rules() -> &'static [Rule]
     ensures { result.now ≡ all_rules }
 {
@@ -110,14 +110,14 @@ pub fn all_rules() -> &'static [Rule]
 }
 
 impl Rule {
-    /// The number of the rule.
+    /// Returns the number of the rule.
     pub fn number(self) -> u8
         ensures { result ≡ number_of self }
     {
         self as u8
     }
 
-    /// The word of the rule.
+    /// Returns the word of the rule.
     pub fn word(self) -> &'static str
         ensures { result.now ≡ word_of self }
     {
@@ -155,28 +155,28 @@ impl Rule {
         }
     }
 
-    /// Whether it is `other`.
+    /// Returns whether the rule is `other`.
     pub fn is(self, other: Rule) -> bool
         ensures { result ≡ same_rule self other }
     {
         self.number() == other.number()
     }
 
-    /// Whether it erases an operation, whatever that computes.
+    /// Returns whether the rule erases an operation, whatever the operation computes.
     pub fn is_erasing(self) -> bool
         ensures { result ≡ is_erasing self }
     {
         matches!(self, Rule::EraseDead)
     }
 
-    /// Whether canonicalization tries it.
+    /// Returns whether canonicalization tries the rule.
     pub fn is_canonical(self) -> bool
         ensures { result ≡ is_canonical self }
     {
         !self.is_expanding() && !self.is_lowering()
     }
 
-    /// Whether it says an operation of arith by others of arith.
+    /// Returns whether the rule expands an `arith` operation into other `arith` operations.
     pub fn is_expanding(self) -> bool
         ensures { result ≡ is_expanding self }
     {
@@ -186,21 +186,21 @@ impl Rule {
         )
     }
 
-    /// Whether it takes index to i64.
+    /// Returns whether the rule lowers index to i64.
     pub fn is_lowering(self) -> bool
         ensures { result ≡ is_lowering self }
     {
         matches!(self, Rule::LowerIndex | Rule::LowerLoop | Rule::LowerChoice)
     }
 
-    /// Whether conversion may try it.
+    /// Returns whether a conversion may try the rule.
     pub fn is_converting(self) -> bool
         ensures { result ≡ is_converting self }
     {
         matches!(self, Rule::FoldToConstant) || self.is_expanding() || self.is_lowering()
     }
 
-    /// The rule of a number, if there is one.
+    /// Returns the rule with a number, or `None` if no rule has it.
     pub fn by_number(number: u32) -> Option<Rule>
         ensures { result ≡ by_number number }
     {
@@ -208,7 +208,7 @@ impl Rule {
         rules.find(|rule| u32::from(rule.number()) == number)
     }
 
-    /// The rule of a word, if there is one.
+    /// Returns the rule with a word, or `None` if no rule has it.
     pub fn by_word(word: &[u8]) -> Option<Rule>
         ensures { result ≡ by_word word.now }
     {

@@ -1,4 +1,4 @@
--- The rules on comparisons and choices.
+-- The rules on comparisons and selects.
 use Rattle.std.proofs.Common.{◌≡◌, ℕ, zero, suc, [], ◌∷◌, true, Some, refl, sym, ap, ◌∙◌, subst, arith, lit<}
 use Rattle.std.specs.Prelude.{codes, slice_get, nat_le, ◌&&◌, bit_xor}
 use Rattle.std.specs.List.{list_all}
@@ -18,7 +18,7 @@ use Rattle.dialects_int.specs.Folds.{Known, rule_of, rules, is_property, predica
 use Rattle.dialects_int.proofs.KnownOperands.{compare_folds, select_folds}
 use Rattle.dialects_int.proofs.CastLaws.{mirror, with_itself, below_zero, not_below_zero, same_choice, own_choice, other_choice}
 use Rattle.patterns_laws.specs.Made.{Entries, i1, predicate_entry, given_by}
-use Rattle.patterns_laws.specs.Keeps.{truth_kind, holds_of_itself, mirrored, ComparingItself, Mirroring, NotBelowZero, ChoosingOne, ChoosingByConstant, ChoosingTruth, ChoosingByOpposite}
+use Rattle.patterns_laws.specs.Keeps.{truth_kind, is_true_when_equal, swapped_predicate, ComparingItself, Mirroring, NotBelowZero, ChoosingOne, ChoosingByConstant, ChoosingTruth, ChoosingByOpposite}
 use Rattle.patterns_laws.proofs.KnownFolds.{below, kind_back, fine_of, pair_gave, constant_gives, given_some, by_exclusive_or}
 use Rattle.std.proofs.lemmas.Option.{same_Some}
 
@@ -30,23 +30,23 @@ by_select : rule_of (codes "arith.select") ≡ Some rule.Select
 unfolding rule_of rules
 by_select = refl
 
--- the predicate of a number, where there is one
+-- the predicate with a number, if there is one
 asked_at : (n : ℕ) → asked (property_of (codes "predicate") (predicate_entry n)) ≡ slice_get predicates n
 asked_at n = refl
 
--- what a comparison gives: nothing, where its number is none
+-- the result of a comparison: none, if no predicate has its number
 pub compare_gives : (n : ℕ) (p : Predicate) (k : BitsKind) (a b : ℕ) → list_all (is_property (codes "arith.cmpi")) (predicate_entry n) ≡ true → slice_get predicates n ≡ Some p
     → given_by (codes "arith.cmpi") (predicate_entry n) i1 ((k, a) ∷ (k, b) ∷ []) ≡ Some (truth_kind, truth (comparison_of (width_of k) p a b))
 compare_gives n p k a b fine e =
     compare_folds (codes "arith.cmpi") p (predicate_entry n) i1 (record { by = by_compare; fine = fine; kind = refl }) k a b (asked_at n ∙ e)
 
--- what a predicate's number asks, and what its mirrored one does
+-- the predicate of a number, and that of its mirrored predicate
 pub record Asks (n : ℕ) : Type 0 where
   pub what : Predicate
   pub there : slice_get predicates n ≡ Some what
-  pub turned : slice_get predicates (mirrored n) ≡ Some (law.mirrored what)
-  pub fine : list_all (is_property (codes "arith.cmpi")) (predicate_entry (mirrored n)) ≡ true
-  pub itself : holds_of_itself n ≡ truth (law.holds_of_itself what)
+  pub turned : slice_get predicates (swapped_predicate n) ≡ Some (law.mirrored what)
+  pub fine : list_all (is_property (codes "arith.cmpi")) (predicate_entry (swapped_predicate n)) ≡ true
+  pub itself : is_true_when_equal n ≡ truth (law.holds_of_itself what)
 
 number_fine : (n : ℕ) → list_all (is_property (codes "arith.cmpi")) (predicate_entry n) ≡ (nat_le n 9 && true)
 unfolding is_inherent operations is_allowed is_of_kind property_kind.kind_of kinds
@@ -79,14 +79,14 @@ fine_at k n a b v h = fine_of (codes "arith.cmpi") (predicate_entry n) (Some (k,
 pub itself_compared : ComparingItself
 itself_compared k n a v h =
     let g = asked_of k n a a v h in
-    constant_gives truth_kind (holds_of_itself n)
+    constant_gives truth_kind (is_true_when_equal n)
     ∙ ap (λ m. Some (truth_kind, m)) (g.itself ∙ ap truth (sym (with_itself g.what (width_of k) a)))
     ∙ sym (compare_gives n g.what k a a (fine_at k n a a v h) g.there) ∙ h
 
 pub comparison_mirrored : Mirroring
 comparison_mirrored k n a b v h =
     let g = asked_of k n a b v h in
-    compare_gives (mirrored n) (law.mirrored g.what) k b a g.fine g.turned
+    compare_gives (swapped_predicate n) (law.mirrored g.what) k b a g.fine g.turned
     ∙ ap (λ t. Some (truth_kind, truth t)) (sym (mirror g.what (width_of k) a b))
     ∙ sym (compare_gives n g.what k a b (fine_at k n a b v h) g.there) ∙ h
 
@@ -102,7 +102,7 @@ all_at_least k a v h =
     constant_gives truth_kind 1 ∙ ap (λ t. Some (truth_kind, truth t)) (sym (not_below_zero (width_of k) a))
     ∙ sym (compare_gives 9 asks.UnsignedGreaterOrEqual k a 0 (fine_at k 9 a 0 v h) refl) ∙ h
 
--- ---- choices
+-- ---- selects
 pub select_gives : (p : Entries) (k : BitsKind) (c a b : ℕ) → list_all (is_property (codes "arith.select")) p ≡ true → given_by (codes "arith.select") p (type_of k) ((truth_kind, c) ∷ (k, a) ∷ (k, b) ∷ []) ≡ Some (k, choice_of c a b)
 select_gives p k c a b fine = select_folds (codes "arith.select") p (type_of k) k (record { by = by_select; fine = fine; kind = kind_back k }) c a b
 

@@ -1,4 +1,4 @@
--- The rules that compute with new constants, and that put operations in place of one.
+-- The rules that compute with new constants, and that replace one operation by several.
 use Rattle.std.proofs.Common.{◌≡◌, ℕ, ◌+◌, ◌*◌, ◌/◌, ◌<◌, ◌≤◌, ◌^◌, ◌%◌, List, [], ◌∷◌, Bool, true, false, Some, None, refl, sym, ap, ◌∙◌, subst, arith}
 use Rattle.std.specs.Prelude.{codes, if◌then◌else◌, bit_xor, bit_and, bit_or, ◌==◌, int_div}
 use Rattle.std.specs.List.{list_all}
@@ -20,14 +20,14 @@ use Rattle.dialects_int.specs.Folds.{rule_of, rules, is_property}
 use Rattle.dialects_int.proofs.PairLaws.{brackets}
 use Rattle.dialects_int.proofs.CastLaws.{less_constant, less_by_complement, rest_of_quotient}
 use Rattle.dialects_int.proofs.Remainders.{rest_of_signed_quotient}
-use Rattle.patterns_laws.specs.Words.{regrouping, flagged, dividing}
+use Rattle.patterns_laws.specs.Words.{associative, flagged, division_of_remainder}
 use Rattle.patterns_laws.specs.Made.{constant, flags, given_by, gives}
 use Rattle.patterns_laws.specs.Keeps.{Each, given, Regrouping, AddingTheNegative, AddingTheComplement, Dividing}
 use Rattle.patterns_laws.proofs.KnownFolds.{some_bits, below, pair_gives, pair_gave, constant_gives, given_some, given_at, by_exclusive_or}
 use Rattle.patterns_laws.proofs.PairRules.{one_below}
 use Rattle.std.proofs.lemmas.Option.{same_Some}
 
--- results of these are values again
+-- results of these operations are values of the width
 pub regrouped_below : (o : Arithmetic) (w a b v : ℕ) → associates o ≡ true → a < 2 ^ w → b < 2 ^ w → value_of o w a b ≡ Some v → v < 2 ^ w
 unfolding sum_of product_of
 regrouped_below op.Add w a b v s ha hb e = subst (λ n. n < 2 ^ w) (same_Some ((a + b) % 2 ^ w) v e) (mod_below (a + b) (2 ^ w) (pow_pos w))
@@ -46,7 +46,7 @@ regrouped_total op.ExclusiveOr w a b s = (bit_xor a b, refl)
 regrouped_total _ w a b s = absurd (grind arith)
 
 -- ---- `regroup-constants`
-regrouped : (name : List ℕ) (o : Arithmetic) → rule_of name ≡ Some (rule.Pair o) → associates o ≡ true → list_all (is_property name) (flags name) ≡ true → Regrouping name
+regrouped : (name : List ℕ) (o : Arithmetic) → rule_of name ≡ Some (rule.Binary o) → associates o ≡ true → list_all (is_property name) (flags name) ≡ true → Regrouping name
 regrouped name o r s fine k p q a c d v ha hc hd h =
     let w : ℕ = width_of k in
     let la : a < 2 ^ w = below k a ha in
@@ -66,8 +66,8 @@ regrouped name o r s fine k p q a c d v ha hc hd h =
     (given_at (gives (constant (type_of k) cd.0) []) (k, cd.0) (λ e. given_by name (flags name) (type_of k) ((k, a) ∷ e ∷ [])) (Some v)
     (constant_gives k cd.0) (pair_gives name o (flags name) k a cd.0 f.number r fine la lcd same ∙ ap Some f.whole))
 
-pub all_regrouped : Each Regrouping regrouping
-unfolding rule_of rules regrouping flagged is_inherent operations is_allowed is_of_kind property_kind.kind_of kinds
+pub all_regrouped : Each Regrouping associative
+unfolding rule_of rules associative flagged is_inherent operations is_allowed is_of_kind property_kind.kind_of kinds
 all_regrouped = (
   regrouped (codes "arith.addi") op.Add refl refl refl,
   (
@@ -83,15 +83,15 @@ all_regrouped = (
 )
 
 -- ---- `add-negative`, `expand-difference`, `expand-remainder`
-by_add : rule_of (codes "arith.addi") ≡ Some (rule.Pair op.Add)
+by_add : rule_of (codes "arith.addi") ≡ Some (rule.Binary op.Add)
 unfolding rule_of rules
 by_add = refl
 
-by_subtract : rule_of (codes "arith.subi") ≡ Some (rule.Pair op.Subtract)
+by_subtract : rule_of (codes "arith.subi") ≡ Some (rule.Binary op.Subtract)
 unfolding rule_of rules
 by_subtract = refl
 
-by_multiply : rule_of (codes "arith.muli") ≡ Some (rule.Pair op.Multiply)
+by_multiply : rule_of (codes "arith.muli") ≡ Some (rule.Binary op.Multiply)
 unfolding rule_of rules
 by_multiply = refl
 
@@ -153,7 +153,7 @@ complement_added k p a b v ha hb h =
     (given_at (given_by (codes "arith.addi") (flags (codes "arith.addi")) (type_of k) ((k, x) ∷ (k, 1) ∷ [])) (k, n) _ (Some v) (sum_gives k x 1 lx (one_below w some))
     (sum_gives k a n la (sum_below w x 1) ∙ ap Some (ap (λ m. (k, m)) (sym (less_by_complement w a b lb) ∙ same_Some (difference_of w a b) g.number g.is) ∙ g.whole)))))
 
--- a remainder has a quotient, which is a value again
+-- a remainder has a quotient that is a value of the width
 abbrev Quotient : Arithmetic → Arithmetic → Type 0
 Quotient r d = (w a b n : ℕ) → 1 ≤ w → a < 2 ^ w → b < 2 ^ w → value_of r w a b ≡ Some n → (q : ℕ) × (value_of d w a b ≡ Some q) × (q < 2 ^ w) × (n ≡ difference_of w a (product_of w q b))
 
@@ -180,7 +180,7 @@ signed_quotient_there w a b n some la lb h = by (divides_signed w a b) refl
         let there : (if divides_signed w a b then Some (wrapped w (int_div (signed_of w a) (signed_of w b))) else None) ≡ Some q = rw (e) refl in
         (q, there, bits_below w (int_div (signed_of w a) (signed_of w b)), same_Some n (difference_of w a (product_of w q b)) (sym h ∙ rest_of_signed_quotient w a b q some la lb there))
 
-divided : (rem div : List ℕ) (r d : Arithmetic) → rule_of rem ≡ Some (rule.Pair r) → rule_of div ≡ Some (rule.Pair d) → list_all (is_property div) (flags div) ≡ true
+divided : (rem div : List ℕ) (r d : Arithmetic) → rule_of rem ≡ Some (rule.Binary r) → rule_of div ≡ Some (rule.Binary d) → list_all (is_property div) (flags div) ≡ true
     → Quotient r d → Dividing (rem, div)
 divided rem div r d by_r by_d fine law k p a b v ha hb h =
     let w : ℕ = width_of k in
@@ -193,8 +193,8 @@ divided rem div r d by_r by_d fine law k p a b v ha hb h =
     (given_at (given_by (codes "arith.muli") (flags (codes "arith.muli")) (type_of k) ((k, l.0) ∷ (k, b) ∷ [])) (k, m) _ (Some v) (pair_gives (codes "arith.muli") op.Multiply (flags (codes "arith.muli")) k l.0 b m by_multiply multiply_fine l.2 lb refl)
     (pair_gives (codes "arith.subi") op.Subtract (flags (codes "arith.subi")) k a m (difference_of w a m) by_subtract subtract_fine la (product_below w l.0 b) refl ∙ ap Some (ap (λ n. (k, n)) (sym l.3) ∙ g.whole)))
 
-pub all_divided : Each Dividing dividing
-unfolding rule_of rules dividing flagged
+pub all_divided : Each Dividing division_of_remainder
+unfolding rule_of rules division_of_remainder flagged
 all_divided = (
   divided (codes "arith.remsi") (codes "arith.divsi") op.RemainderSigned op.DivideSigned refl refl refl signed_quotient_there,
   (divided (codes "arith.remui") (codes "arith.divui") op.RemainderUnsigned op.DivideUnsigned refl refl refl quotient_there, tt),

@@ -1,4 +1,4 @@
--- Folds on values of kinds: what they give, and of what they are defined.
+-- Folds over values of known kinds: their results, and when they are defined.
 use Rattle.std.proofs.Common.{◌≡◌, ℕ, ◌<◌, ◌≤◌, ◌^◌, List, [], ◌∷◌, true, Some, None, refl, sym, ap, ◌∙◌, arith}
 use Rattle.std.specs.Prelude.{Option, codes}
 use Rattle.std.specs.List.{list_all}
@@ -34,18 +34,18 @@ kind_back kind.Index = refl
 value_there : (ty : TypeTerm) (n : ℕ) → property_of (codes "value") (value_entry ty n) ≡ Some (ty, n)
 value_there ty n = refl
 
--- a fold is defined only where the properties are right
+-- a fold is defined only if the properties are right
 pub fine_of : (name : List ℕ) (p : Entries) (operands : List (Option Known)) (ty : TypeTerm) (v : Known) → fold_of name p operands (ty ∷ []) ≡ Some v → list_all (is_property name) p ≡ true
 unfolding fold_of
 fine_of name p operands ty v = grind (arith)
 
--- what two values give, by the arithmetic
-pub pair_gives : (name : List ℕ) (o : Arithmetic) (p : Entries) (k : BitsKind) (a b n : ℕ) → rule_of name ≡ Some (rule.Pair o) → list_all (is_property name) p ≡ true → a < 2 ^ width_of k → b < 2 ^ width_of k → value_of o (width_of k) a b ≡ Some n
+-- the result of arithmetic on two values
+pub pair_gives : (name : List ℕ) (o : Arithmetic) (p : Entries) (k : BitsKind) (a b n : ℕ) → rule_of name ≡ Some (rule.Binary o) → list_all (is_property name) p ≡ true → a < 2 ^ width_of k → b < 2 ^ width_of k → value_of o (width_of k) a b ≡ Some n
     → given_by name p (type_of k) ((k, a) ∷ (k, b) ∷ []) ≡ Some (k, n)
 pair_gives name o p k a b n r fine ha hb e =
     pair_folds name o p (type_of k) k (record { by = r; fine = fine; kind = kind_back k }) a b ha hb ∙ ap (option_map (λ v. (k, v))) e
 
--- what they were given by
+-- the operands of a result
 pub record PairGave (o : Arithmetic) (name : List ℕ) (p : Entries) (k : BitsKind) (a b : ℕ) (v : Known) : Type 0 where
   pub number : ℕ
   pub is : value_of o (width_of k) a b ≡ Some number
@@ -56,7 +56,7 @@ pub mapped_some : (k : BitsKind) (x : Option ℕ) (v : Known) → option_map (λ
 mapped_some k None v h = absurd (grind arith)
 mapped_some k (Some n) v h = (n, refl, grind arith)
 
-pub pair_gave : (name : List ℕ) (o : Arithmetic) (p : Entries) (k : BitsKind) (a b : ℕ) (v : Known) → rule_of name ≡ Some (rule.Pair o) → a < 2 ^ width_of k → b < 2 ^ width_of k
+pub pair_gave : (name : List ℕ) (o : Arithmetic) (p : Entries) (k : BitsKind) (a b : ℕ) (v : Known) → rule_of name ≡ Some (rule.Binary o) → a < 2 ^ width_of k → b < 2 ^ width_of k
     → given_by name p (type_of k) ((k, a) ∷ (k, b) ∷ []) ≡ Some v → PairGave o name p k a b v
 pair_gave name o p k a b v r ha hb h =
     let fine : list_all (is_property name) p ≡ true = fine_of name p (Some (k, a) ∷ Some (k, b) ∷ []) (type_of k) v h in
@@ -64,7 +64,7 @@ pair_gave name o p k a b v r ha hb h =
     mapped_some k (value_of o (width_of k) a b) v (sym (pair_folds name o p (type_of k) k (record { by = r; fine = fine; kind = kind_back k }) a b ha hb) ∙ h) in
     record { number = by.0; is = by.1; whole = by.2; fine = fine }
 
--- ---- results of results
+-- ---- results of nested operations
 pub given_some : {X Y : Type 0} (x : Option X) (f : X → Option Y) (v : Y) → given x f ≡ Some v → (y : X) × (x ≡ Some y) × (f y ≡ Some v)
 given_some None f v h = absurd (grind arith)
 given_some (Some y) f v h = (y, refl, h)
@@ -72,7 +72,7 @@ given_some (Some y) f v h = (y, refl, h)
 pub given_at : {X Y : Type 0} (x : Option X) (y : X) (f : X → Option Y) (r : Option Y) → x ≡ Some y → f y ≡ r → given x f ≡ r
 given_at x y f r e h = ap (λ z. given z f) e ∙ h
 
-pub by_exclusive_or : rule_of (codes "arith.xori") ≡ Some (rule.Pair op.ExclusiveOr)
+pub by_exclusive_or : rule_of (codes "arith.xori") ≡ Some (rule.Binary op.ExclusiveOr)
 unfolding rule_of rules
 by_exclusive_or = refl
 

@@ -1,4 +1,4 @@
--- The rule that has i64 for index, what folds over known operands, and extremes by a comparison and a choice.
+-- The rule that replaces index by i64, folds over known operands, and minima and maxima by a comparison and a select.
 use Rattle.std.proofs.Common.{◌≡◌, ℕ, ◌<◌, ◌≤◌, ◌^◌, List, [], ◌∷◌, Bool, true, false, map, Some, None, refl, sym, ap, ◌∙◌, subst, arith}
 use Rattle.std.specs.Prelude.{Option, codes, if◌then◌else◌, slice_get}
 use Rattle.std.specs.List.{list_all}
@@ -22,7 +22,7 @@ use Rattle.dialects_int.specs.Arithmetic.{value_of, comparison_of, truth, choice
 use Rattle.dialects_int.specs.Folds.{Known, rule_of, rules, is_property, fold_of, predicates, kind_of, with, fold_by}
 use Rattle.dialects_int.proofs.KnowingMore.{knowing_more}
 use Rattle.dialects_int.proofs.CastLaws.{signed_maximum_chosen, signed_minimum_chosen, maximum_chosen, minimum_chosen}
-use Rattle.patterns_laws.specs.Words.{arithmetic, asking}
+use Rattle.patterns_laws.specs.Words.{arithmetic, predicate_of_min_max}
 use Rattle.patterns_laws.specs.Made.{Entries, i1, constant, predicate_entry, given_by, gives}
 use Rattle.patterns_laws.specs.Keeps.{Each, truth_kind, Folding, Choosing, lowered, LoweringTwo, LoweringComparison, LoweringChoice, LoweringConstant}
 use Rattle.patterns_laws.proofs.KnownFolds.{some_bits, below, fine_of, mapped_some, pair_gives, pair_gave, constant_gives, given_at}
@@ -30,7 +30,7 @@ use Rattle.patterns_laws.proofs.Chosen.{asks_of, compare_gives, select_gives, se
 use Rattle.std.proofs.lemmas.Option.{same_Some}
 
 -- ---- `expand-min-max`
-chosen : (name : List ℕ) (o : Arithmetic) (n : ℕ) (p : Predicate) → rule_of name ≡ Some (rule.Pair o) → list_all (is_property (codes "arith.cmpi")) (predicate_entry n) ≡ true → slice_get predicates n ≡ Some p
+chosen : (name : List ℕ) (o : Arithmetic) (n : ℕ) (p : Predicate) → rule_of name ≡ Some (rule.Binary o) → list_all (is_property (codes "arith.cmpi")) (predicate_entry n) ≡ true → slice_get predicates n ≡ Some p
     → ((w a b : ℕ) → 1 ≤ w → a < 2 ^ w → b < 2 ^ w → value_of o w a b ≡ Some (choice_of (truth (comparison_of w p a b)) a b)) → Choosing (name, n)
 chosen name o n p r fine there law k q a b v ha hb h =
     let w : ℕ = width_of k in
@@ -40,8 +40,8 @@ chosen name o n p r fine there law k q a b v ha hb h =
     (compare_gives n p k a b fine there)
     (select_gives [] k c a b refl ∙ ap Some (ap (λ m. (k, m)) (same_Some (choice_of c a b) g.number (sym (law w a b (some_bits k a ha) (below k a ha) (below k b hb)) ∙ g.is)) ∙ g.whole))
 
-pub all_chosen : Each Choosing asking
-unfolding rule_of rules asking predicates is_inherent operations is_allowed is_of_kind property_kind.kind_of kinds
+pub all_chosen : Each Choosing predicate_of_min_max
+unfolding rule_of rules predicate_of_min_max predicates is_inherent operations is_allowed is_of_kind property_kind.kind_of kinds
 all_chosen = (
   chosen (codes "arith.maxsi") op.MaximumSigned 4 asks.SignedGreater refl refl refl (λ w a b s la lb. ap Some (signed_maximum_chosen w a b s la lb)),
   (
@@ -83,7 +83,7 @@ folded name p ty some values c v more e h =
     subst (λ t. gives (constant t c.1) [] ≡ Some v) back (constant_gives c.0 c.1 ∙ same)
 
 -- ---- `lower-index`
-lowered_two : (name : List ℕ) (o : Arithmetic) → rule_of name ≡ Some (rule.Pair o) → LoweringTwo name
+lowered_two : (name : List ℕ) (o : Arithmetic) → rule_of name ≡ Some (rule.Binary o) → LoweringTwo name
 lowered_two name o r p a b v ha hb h =
     let g = pair_gave name o p kind.Index a b v r (below kind.Index a ha) (below kind.Index b hb) h in
     pair_gives name o p (kind.Int 64) a b g.number r g.fine (below kind.Index a ha) (below kind.Index b hb) g.is ∙ ap (λ z. Some (lowered z)) g.whole

@@ -20,8 +20,8 @@ use Rattle.patterns_laws.specs.Keeps.{Each, given, Extending, CuttingTwice, Cutt
 use Rattle.patterns_laws.proofs.KnownFolds.{some_bits, below, kind_back, fine_of, mapped_some, given_some}
 use Rattle.std.proofs.lemmas.Option.{same_Some}
 
--- what a cast between integers gives, and what it was given by
-resize_gives : (name : List ℕ) (c : Cast) (p : Entries) (v w a n : ℕ) → rule_of name ≡ Some (rule.Resize c) → list_all (is_property name) p ≡ true → cast_of c v w a ≡ Some n
+-- the result of a cast between integers, and its operand
+resize_gives : (name : List ℕ) (c : Cast) (p : Entries) (v w a n : ℕ) → rule_of name ≡ Some (rule.IntegerCast c) → list_all (is_property name) p ≡ true → cast_of c v w a ≡ Some n
     → given_by name p (type_of (kind.Int w)) ((kind.Int v, a) ∷ []) ≡ Some (kind.Int w, n)
 resize_gives name c p v w a n r fine e =
     resize_folds name c p (type_of (kind.Int w)) w (record { by = r; fine = fine; kind = refl }) v a ∙ ap (option_map (λ bits. (kind.Int w, bits))) e
@@ -32,7 +32,7 @@ record Resized (c : Cast) (name : List ℕ) (p : Entries) (v w a : ℕ) (z : Kno
   whole : (kind.Int w, number) ≡ z
   fine : list_all (is_property name) p ≡ true
 
-resize_gave : (name : List ℕ) (c : Cast) (p : Entries) (v w a : ℕ) (z : Known) → rule_of name ≡ Some (rule.Resize c) → given_by name p (type_of (kind.Int w)) ((kind.Int v, a) ∷ []) ≡ Some z → Resized c name p v w a z
+resize_gave : (name : List ℕ) (c : Cast) (p : Entries) (v w a : ℕ) (z : Known) → rule_of name ≡ Some (rule.IntegerCast c) → given_by name p (type_of (kind.Int w)) ((kind.Int v, a) ∷ []) ≡ Some z → Resized c name p v w a z
 resize_gave name c p v w a z r h =
     let fine : list_all (is_property name) p ≡ true = fine_of name p (Some (kind.Int v, a) ∷ []) (type_of (kind.Int w)) z h in
     let by : (n : ℕ) × (cast_of c v w a ≡ Some n) × ((kind.Int w, n) ≡ z) =
@@ -47,7 +47,7 @@ record ResizedTwice (c d : Cast) (u v w a : ℕ) (z : Known) : Type 0 where
   outer : cast_of d v w middle ≡ Some number
   whole : (kind.Int w, number) ≡ z
 
-resized_twice : (inner outer : List ℕ) (c d : Cast) (p q : Entries) (u v w a : ℕ) (z : Known) → rule_of inner ≡ Some (rule.Resize c) → rule_of outer ≡ Some (rule.Resize d)
+resized_twice : (inner outer : List ℕ) (c d : Cast) (p q : Entries) (u v w a : ℕ) (z : Known) → rule_of inner ≡ Some (rule.IntegerCast c) → rule_of outer ≡ Some (rule.IntegerCast d)
     → given (given_by inner p (type_of (kind.Int v)) ((kind.Int u, a) ∷ [])) (λ y. given_by outer q (type_of (kind.Int w)) (y ∷ [])) ≡ Some z → ResizedTwice c d u v w a z
 resized_twice inner outer c d p q u v w a z rc rd h =
     let both = given_some (given_by inner p (type_of (kind.Int v)) ((kind.Int u, a) ∷ [])) (λ y. given_by outer q (type_of (kind.Int w)) (y ∷ [])) z h in
@@ -55,20 +55,20 @@ resized_twice inner outer c d p q u v w a z rc rd h =
     let f = resize_gave outer d q v w g.number z rd (subst (λ y. given_by outer q (type_of (kind.Int w)) (y ∷ []) ≡ Some z) (sym g.whole) both.2) in
     record { middle = g.number; number = f.number; inner = g.is; outer = f.is; whole = f.whole }
 
-by_extsi : rule_of (codes "arith.extsi") ≡ Some (rule.Resize cast.ExtendSigned)
+by_extsi : rule_of (codes "arith.extsi") ≡ Some (rule.IntegerCast cast.ExtendSigned)
 unfolding rule_of rules
 by_extsi = refl
 
-by_extui : rule_of (codes "arith.extui") ≡ Some (rule.Resize cast.ExtendUnsigned)
+by_extui : rule_of (codes "arith.extui") ≡ Some (rule.IntegerCast cast.ExtendUnsigned)
 unfolding rule_of rules
 by_extui = refl
 
-by_trunci : rule_of (codes "arith.trunci") ≡ Some (rule.Resize cast.Truncate)
+by_trunci : rule_of (codes "arith.trunci") ≡ Some (rule.IntegerCast cast.Truncate)
 unfolding rule_of rules
 by_trunci = refl
 
 -- ---- `extend-extension`
-recast : (inner outer new : List ℕ) (c d e : Cast) → rule_of inner ≡ Some (rule.Resize c) → rule_of outer ≡ Some (rule.Resize d) → rule_of new ≡ Some (rule.Resize e)
+recast : (inner outer new : List ℕ) (c d e : Cast) → rule_of inner ≡ Some (rule.IntegerCast c) → rule_of outer ≡ Some (rule.IntegerCast d) → rule_of new ≡ Some (rule.IntegerCast e)
     → ((u v w a m n : ℕ) → u < v → v < w → 1 ≤ u → a < 2 ^ u → cast_of c u v a ≡ Some m → cast_of d v w m ≡ Some n → cast_of e u w a ≡ Some n) → Extending inner outer new
 recast inner outer new c d e rc rd re law u v w p q a z uv vw ha h =
     let g = resized_twice inner outer c d p q u v w a z rc rd h in
@@ -96,7 +96,7 @@ cut_twice u v w p q a z h =
     let g = resized_twice (codes "arith.trunci") (codes "arith.trunci") cast.Truncate cast.Truncate p q u v w a z by_trunci by_trunci h in
     resize_gives (codes "arith.trunci") cast.Truncate [] u w a g.number by_trunci refl (sym (truncated_twice u v w a g.middle (cut_less v w g.middle g.number g.outer) g.inner) ∙ g.outer) ∙ ap Some g.whole
 
-cut_back : (name : List ℕ) (c : Cast) → rule_of name ≡ Some (rule.Resize c) → ((u v a m n : ℕ) → u < v → 1 ≤ u → a < 2 ^ u → cast_of c u v a ≡ Some m → truncated v u m ≡ Some n → n ≡ a) → CuttingBack name
+cut_back : (name : List ℕ) (c : Cast) → rule_of name ≡ Some (rule.IntegerCast c) → ((u v a m n : ℕ) → u < v → 1 ≤ u → a < 2 ^ u → cast_of c u v a ≡ Some m → truncated v u m ≡ Some n → n ≡ a) → CuttingBack name
 cut_back name c r law u v p q a z uv ha h =
     let g = resized_twice name (codes "arith.trunci") c cast.Truncate p q u v u a z r by_trunci h in
     ap (λ n. (kind.Int u, n)) (sym (law u v a g.middle g.number uv (some_bits (kind.Int u) a ha) (below (kind.Int u) a ha) g.inner g.outer)) ∙ g.whole

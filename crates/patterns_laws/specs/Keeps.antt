@@ -1,5 +1,5 @@
--- That rules keep values: what each says of folds. For all values of the operands for which the old operations fold,
--- the new ones give the same value.
+-- The rules keep values: what each rule states about folds. For all operand values for which the old operations fold,
+-- the new ones fold to the same value.
 use Rattle.std.specs.Prelude.{◌≡◌, ℕ, ◌<◌, ◌≤◌, List, [], ◌∷◌, codes, map, eqb, IsTrue, if◌then◌else◌, slice_index_or}
 use Rattle.std.specs.Prelude.{Option, Some, None}
 use Rattle.std.specs.List.{list_any}
@@ -19,59 +19,59 @@ IsOf k a = IsTrue (is_bits k a)
 abbrev pub truth_kind : BitsKind
 truth_kind = kind.Int 1
 
--- what is said of a value, where there is one
+-- a function of an optional value, if the value exists
 abbrev pub given : {X Y : Type 0} → Option X → (X → Option Y) → Option Y
 given None f = None
 given (Some x) f = f x
 
--- what a comparison of a value and itself gives, by its predicate's number
-abbrev pub holds_of_itself : ℕ → ℕ
-holds_of_itself p = if list_any (eqb p) (0 ∷ 3 ∷ 5 ∷ 7 ∷ 9 ∷ []) then 1 else 0
+-- the result of a comparison of a value and itself, by the number of its predicate
+abbrev pub is_true_when_equal : ℕ → ℕ
+is_true_when_equal p = if list_any (eqb p) (0 ∷ 3 ∷ 5 ∷ 7 ∷ 9 ∷ []) then 1 else 0
 
--- the predicate that asks the same of swapped operands
-abbrev pub mirrored : ℕ → ℕ
-mirrored p = slice_index_or (0 ∷ 1 ∷ 4 ∷ 5 ∷ 2 ∷ 3 ∷ 8 ∷ 9 ∷ 6 ∷ 7 ∷ []) p p
+-- the predicate that gives the same result for swapped operands
+abbrev pub swapped_predicate : ℕ → ℕ
+swapped_predicate p = slice_index_or (0 ∷ 1 ∷ 4 ∷ 5 ∷ 2 ∷ 3 ∷ 8 ∷ 9 ∷ 6 ∷ 7 ∷ []) p p
 
--- something said of each of a list
+-- a property of each element of a list
 abbrev pub Each : {X : Type 0} → (X → Type 0) → List X → Type 0
 Each P [] = Unit {0}
 Each P (x ∷ xs) = P x × Each P xs
 
--- `fold-to-constant`: what an operation folds to over those operands that are known, the others being whatever they are
+-- `fold-to-constant`: the constant to which an operation folds over its known operands, for any values of the others
 abbrev pub Folding : Type 0
 Folding = (name : List ℕ) (p : Entries) (ty : TypeTerm) (some : List (Option Known)) (values : List Known) (c v : Known)
     → KnowsMore some (map Some values) → fold_of name p some (ty ∷ []) ≡ Some c → given_by name p ty values ≡ Some v
     → gives (constant ty c.1) [] ≡ Some v
 
--- something said of two values of a kind, of properties, and of what the old operations give
+-- a property of two values of a kind, of properties, and of the result of the old operations
 abbrev OfTwo : (BitsKind → Entries → ℕ → ℕ → Known → Type 0) → Type 0
 OfTwo P = (k : BitsKind) (p : Entries) (a b : ℕ) (v : Known) → IsOf k a → IsOf k b → P k p a b v
 
--- the like of one value
+-- the same for one value
 abbrev OfOne : (BitsKind → Entries → ℕ → Known → Type 0) → Type 0
 OfOne P = (k : BitsKind) (p : Entries) (a : ℕ) (v : Known) → IsOf k a → P k p a v
 
--- `swap-constant`: with its operands swapped an operation gives the same
+-- `swap-constant`: an operation with swapped operands gives the same result
 abbrev pub Swapping : List ℕ → Type 0
 Swapping name = OfTwo (λ k p a b v. given_by name p (type_of k) ((k, a) ∷ (k, b) ∷ []) ≡ Some v
     → given_by name p (type_of k) ((k, b) ∷ (k, a) ∷ []) ≡ Some v)
 
--- `drop-zero` and `drop-one`: with a second operand n, which is 0 or 1, an operation gives its first
+-- `drop-zero` and `drop-one`: an operation with a second operand n, 0 or 1, gives its first operand
 abbrev pub Ignoring : ℕ → List ℕ → Type 0
 Ignoring n name = OfOne (λ k p a v. given_by name p (type_of k) ((k, a) ∷ (k, n) ∷ []) ≡ Some v → (k, a) ≡ v)
 
--- `drop-all-ones`: with all ones a conjunction gives its first operand
+-- `drop-all-ones`: a conjunction with all ones gives its first operand
 abbrev pub IgnoringOnes : Type 0
 IgnoringOnes =
     OfOne (λ k p a v. given_by (codes "arith.andi") p (type_of k) ((k, a) ∷ (k, all_ones (width_of k)) ∷ []) ≡ Some v
     → (k, a) ≡ v)
 
--- `cancel-itself`: of a value and itself an operation gives 0
+-- `cancel-itself`: an operation on a value and itself gives 0
 abbrev pub Cancelling : List ℕ → Type 0
 Cancelling name = OfOne (λ k p a v. given_by name p (type_of k) ((k, a) ∷ (k, a) ∷ []) ≡ Some v
     → gives (constant (type_of k) 0) [] ≡ Some v)
 
--- `keep-itself`: of a value and itself an operation gives the value
+-- `keep-itself`: an operation on a value and itself gives the value
 abbrev pub KeepingItself : List ℕ → Type 0
 KeepingItself name = OfOne (λ k p a v. given_by name p (type_of k) ((k, a) ∷ (k, a) ∷ []) ≡ Some v → (k, a) ≡ v)
 
@@ -95,46 +95,46 @@ AddingTheNegative = OfTwo (λ k p a c v. given_by (codes "arith.subi") p (type_o
     → given (gives (constant (type_of k) (difference_of (width_of k) 0 c)) [])
     (λ e. given_by (codes "arith.addi") (flags (codes "arith.addi")) (type_of k) ((k, a) ∷ e ∷ [])) ≡ Some v)
 
--- `compare-itself`: a comparison of a value and itself is known by its predicate
+-- `compare-itself`: the predicate determines the result of a comparison of a value and itself
 abbrev pub ComparingItself : Type 0
 ComparingItself = (k : BitsKind) (n a : ℕ) (v : Known)
     → given_by (codes "arith.cmpi") (predicate_entry n) i1 ((k, a) ∷ (k, a) ∷ []) ≡ Some v
-    → gives (constant i1 (holds_of_itself n)) [] ≡ Some v
+    → gives (constant i1 (is_true_when_equal n)) [] ≡ Some v
 
--- `mirror-comparison`: a comparison of swapped operands by the mirrored predicate gives the same
+-- `mirror-comparison`: a comparison of swapped operands with the mirrored predicate gives the same result
 abbrev pub Mirroring : Type 0
 Mirroring = (k : BitsKind) (n a b : ℕ) (v : Known)
     → given_by (codes "arith.cmpi") (predicate_entry n) i1 ((k, a) ∷ (k, b) ∷ []) ≡ Some v
-    → given_by (codes "arith.cmpi") (predicate_entry (mirrored n)) i1 ((k, b) ∷ (k, a) ∷ []) ≡ Some v
+    → given_by (codes "arith.cmpi") (predicate_entry (swapped_predicate n)) i1 ((k, b) ∷ (k, a) ∷ []) ≡ Some v
 
--- `compare-zero`: a comparison with 0 by predicate n gives c
+-- `compare-zero`: a comparison with 0, with predicate n, gives c
 abbrev pub NotBelowZero : ℕ → ℕ → Type 0
 NotBelowZero n c = (k : BitsKind) (a : ℕ) (v : Known)
     → given_by (codes "arith.cmpi") (predicate_entry n) i1 ((k, a) ∷ (k, 0) ∷ []) ≡ Some v
     → gives (constant i1 c) [] ≡ Some v
 
--- something said of a choice between two values of a kind, by a truth value
+-- a property of a select between two values of a kind, with a truth value as condition
 abbrev OfChoice : (BitsKind → Entries → ℕ → ℕ → ℕ → Known → Type 0) → Type 0
 OfChoice P = (k : BitsKind) (p : Entries) (c a b : ℕ) (v : Known) → IsOf truth_kind c → P k p c a b v
 
--- `choose-same`: a choice between a value and itself is the value
+-- `choose-same`: a select between a value and itself is the value
 abbrev pub ChoosingOne : Type 0
 ChoosingOne = OfChoice (λ k p c a b v.
     given_by (codes "arith.select") p (type_of k) ((truth_kind, c) ∷ (k, a) ∷ (k, a) ∷ []) ≡ Some v → (k, a) ≡ v)
 
--- `choose-known`: a choice by a constant is the one that it chooses
+-- `choose-known`: a select with a constant condition is the selected value
 abbrev pub ChoosingByConstant : Type 0
 ChoosingByConstant = OfChoice (λ k p c a b v.
     given_by (codes "arith.select") p (type_of k) ((truth_kind, c) ∷ (k, a) ∷ (k, b) ∷ []) ≡ Some v
     → (k, choice_of c a b) ≡ v)
 
--- `choose-truth`: a choice between true and false is its condition
+-- `choose-truth`: a select between true and false is its condition
 abbrev pub ChoosingTruth : Type 0
 ChoosingTruth = (p : Entries) (c : ℕ) (v : Known) → IsOf truth_kind c
     → given_by (codes "arith.select") p i1 ((truth_kind, c) ∷ (truth_kind, 1) ∷ (truth_kind, 0) ∷ []) ≡ Some v
     → (truth_kind, c) ≡ v
 
--- `choose-opposite`: a choice by the opposite of a condition is that by the condition, between the same values swapped
+-- `choose-opposite`: a select on a negated condition is the select on the condition with swapped values
 abbrev pub ChoosingByOpposite : Type 0
 ChoosingByOpposite = (k : BitsKind) (p q : Entries) (c a b : ℕ) (v : Known) → IsOf truth_kind c
     → given (given_by (codes "arith.xori") p i1 ((truth_kind, c) ∷ (truth_kind, 1) ∷ []))
@@ -146,29 +146,29 @@ abbrev twice : List ℕ → List ℕ → Entries → Entries → BitsKind → Bi
 twice inner outer p q i j k a =
     given (given_by inner p (type_of j) ((i, a) ∷ [])) (λ y. given_by outer q (type_of k) (y ∷ []))
 
--- `extend-extension`: an extension of an extension is one
+-- `extend-extension`: an extension of an extension is one extension
 abbrev pub Extending : List ℕ → List ℕ → List ℕ → Type 0
 Extending inner outer new = (u v w : ℕ) (p q : Entries) (a : ℕ) (z : Known) → u < v → v < w → IsOf (kind.Int u) a
     → twice inner outer p q (kind.Int u) (kind.Int v) (kind.Int w) a ≡ Some z
     → given_by new [] (type_of (kind.Int w)) ((kind.Int u, a) ∷ []) ≡ Some z
 
--- `cut-cast`: a cut of a cut is one
+-- `cut-cast`: a truncation of a truncation is one truncation
 abbrev pub CuttingTwice : Type 0
 CuttingTwice = (u v w : ℕ) (p q : Entries) (a : ℕ) (z : Known)
     → twice (codes "arith.trunci") (codes "arith.trunci") p q (kind.Int u) (kind.Int v) (kind.Int w) a ≡ Some z
     → given_by (codes "arith.trunci") [] (type_of (kind.Int w)) ((kind.Int u, a) ∷ []) ≡ Some z
 
--- `cut-cast`: an extension that is cut back to its width is what was extended
+-- `cut-cast`: a truncation of an extension back to the source width is the source
 abbrev pub CuttingBack : List ℕ → Type 0
 CuttingBack name = (u v : ℕ) (p q : Entries) (a : ℕ) (z : Known) → u < v → IsOf (kind.Int u) a
     → twice name (codes "arith.trunci") p q (kind.Int u) (kind.Int v) (kind.Int u) a ≡ Some z → (kind.Int u, a) ≡ z
 
--- `cast-back`: a cast to as many bits or more, and back, is what was cast
+-- `cast-back`: a cast to at least as many bits, and back, is the source
 abbrev pub ComingBack : List ℕ → Type 0
 ComingBack name = (j k : BitsKind) (p q : Entries) (a : ℕ) (z : Known) → width_of j ≤ width_of k → IsOf j a
     → twice name name p q j k j a ≡ Some z → (j, a) ≡ z
 
--- `expand-min-max`: the greater or the lesser by a comparison and a choice
+-- `expand-min-max`: a minimum or maximum is a comparison and a select
 abbrev pub Choosing : List ℕ × ℕ → Type 0
 Choosing e = OfTwo (λ k p a b v. given_by e.0 p (type_of k) ((k, a) ∷ (k, b) ∷ []) ≡ Some v
     → given (given_by (codes "arith.cmpi") (predicate_entry e.1) i1 ((k, a) ∷ (k, b) ∷ []))
@@ -190,12 +190,12 @@ Dividing e = OfTwo (λ k p a b v. given_by e.0 p (type_of k) ((k, a) ∷ (k, b) 
     (λ q. given (given_by (codes "arith.muli") (flags (codes "arith.muli")) (type_of k) (q ∷ (k, b) ∷ []))
     (λ m. given_by (codes "arith.subi") (flags (codes "arith.subi")) (type_of k) ((k, a) ∷ m ∷ []))) ≡ Some v)
 
--- `lower-index`: a value of index as one of i64, by the same number; other values stay
+-- `lower-index`: a value of index as the i64 value with the same number; other values stay
 abbrev pub lowered : Known → Known
 lowered (kind.Index, a) = (kind.Int 64, a)
 lowered (kind.Int w, a) = (kind.Int w, a)
 
--- i64 in place of index; other types stay
+-- i64 for index; other types stay
 abbrev pub lowered_type : TypeTerm → TypeTerm
 lowered_type Index = i64
 lowered_type ty = ty
@@ -213,7 +213,7 @@ LoweringComparison = (n a b : ℕ) (v : Known)
     → given_by (codes "arith.cmpi") (predicate_entry n) i1
     (lowered (kind.Index, a) ∷ lowered (kind.Index, b) ∷ []) ≡ Some v
 
--- a choice between two values of index
+-- a select between two values of index
 abbrev pub LoweringChoice : Type 0
 LoweringChoice = (p : Entries) (c a b : ℕ) (v : Known)
     → given_by (codes "arith.select") p Index ((truth_kind, c) ∷ (kind.Index, a) ∷ (kind.Index, b) ∷ []) ≡ Some v

@@ -1,4 +1,4 @@
--- The operations that rules make, and what operations give for values of their operands.
+-- The operations that rules make, and the results of operations for values of their operands.
 use Rattle.std.specs.Prelude.{ℕ, List, [], ◌∷◌, codes, false, map, Option, Some, if◌then◌else◌}
 use Rattle.ir_types.specs.declared.node.Sign.TheVariants.{Signless}
 use Rattle.ir_types.specs.Terms.{TypeTerm, Integer, AttrTerm, IntegerOf, Overflow}
@@ -12,7 +12,7 @@ use Rattle.patterns_laws.specs.Words.{among, flagged}
 abbrev pub i1 : TypeTerm
 i1 = Integer Signless 1
 
--- the type of predicates, and of what stands for index where that is lowered
+-- the type of predicates, and the type that replaces index in lowerings
 abbrev pub i64 : TypeTerm
 i64 = Integer Signless 64
 
@@ -20,7 +20,7 @@ i64 = Integer Signless 64
 abbrev pub Entries : Type 0
 Entries = List (List ℕ × AttrTerm)
 
--- an operation of one result, without regions and attributes; its id is given to it when it is put in
+-- an operation with one result and without regions and attributes; it gets its id when it is inserted
 abbrev pub made : List ℕ → List Value → TypeTerm → Entries → Operation
 made name operands ty properties =
     op
@@ -34,7 +34,7 @@ made name operands ty properties =
     })
     no_regions
 
--- a constant's property: its bits
+-- the property of a constant: its bits
 abbrev pub value_entry : TypeTerm → ℕ → Entries
 value_entry ty bits = (codes "value", IntegerOf ty bits) ∷ []
 
@@ -42,7 +42,7 @@ value_entry ty bits = (codes "value", IntegerOf ty bits) ∷ []
 abbrev pub constant : TypeTerm → ℕ → Operation
 constant ty bits = made (codes "arith.constant") [] ty (value_entry ty bits)
 
--- the flags with which an operation is made: none are set, where it has some
+-- the overflow flags of a new operation: none is set, if it has flags
 abbrev pub flags : List ℕ → Entries
 flags name = if among flagged name then (codes "overflowFlags", Overflow false false) ∷ [] else []
 
@@ -50,7 +50,7 @@ flags name = if among flagged name then (codes "overflowFlags", Overflow false f
 abbrev pub binary : List ℕ → TypeTerm → Value → Value → Operation
 binary name ty a b = made name (a ∷ b ∷ []) ty (flags name)
 
--- a comparison's property: its predicate's number
+-- the property of a comparison: the number of its predicate
 abbrev pub predicate_entry : ℕ → Entries
 predicate_entry p = (codes "predicate", IntegerOf i64 p) ∷ []
 
@@ -58,7 +58,7 @@ predicate_entry p = (codes "predicate", IntegerOf i64 p) ∷ []
 abbrev pub comparison : ℕ → Value → Value → Operation
 comparison p a b = made (codes "arith.cmpi") (a ∷ b ∷ []) i1 (predicate_entry p)
 
--- a choice by a truth value
+-- a select by a truth value
 abbrev pub choice : TypeTerm → Value → Value → Value → Operation
 choice ty c a b = made (codes "arith.select") (c ∷ a ∷ b ∷ []) ty []
 
@@ -66,18 +66,18 @@ choice ty c a b = made (codes "arith.select") (c ∷ a ∷ b ∷ []) ty []
 abbrev pub cast : List ℕ → TypeTerm → Value → Operation
 cast name ty v = made name (v ∷ []) ty []
 
--- a cast that is to go again when the casts around it are there
+-- an unrealized cast, which is erased again when the casts around it exist
 abbrev pub bridge : TypeTerm → Value → Operation
 bridge ty v = cast (codes "builtin.unrealized_conversion_cast") ty v
 
--- a cast out of nothing, which stands for a value as long as there is none
+-- a cast without operands, the placeholder of a value that doesn't exist yet
 abbrev pub placeholder : TypeTerm → Operation
 placeholder ty = made (codes "builtin.unrealized_conversion_cast") [] ty []
 
--- what an operation of a name, with properties and a result of a type, gives for values of its operands
+-- the result of an operation with a name, properties and a result type, for values of its operands
 abbrev pub given_by : List ℕ → Entries → TypeTerm → List Known → Option Known
 given_by name properties ty values = fold_of name properties (map Some values) (ty ∷ [])
 
--- what an operation gives for them
+-- the result of an operation for values of its operands
 abbrev pub gives : Operation → List Known → Option Known
 gives o values = fold_of (head o).name (head o).properties (map Some values) (head o).results

@@ -1,4 +1,4 @@
--- The operations of which rules speak, by their names.
+-- The operation names that the rules refer to.
 use Rattle.std.specs.Prelude.{ℕ, List, [], ◌∷◌, codes, Bool}
 use Rattle.std.specs.List.{list_any}
 use Rattle.std.specs.Str.{bytes_eq}
@@ -11,38 +11,38 @@ named word name = bytes_eq name word
 abbrev pub among : List (List ℕ) → List ℕ → Bool
 among words name = list_any (bytes_eq name) words
 
--- of which a constant is made the second operand
-unfoldable pub swapping : List (List ℕ)
-swapping =
+-- operations whose constant operand becomes the second one
+unfoldable pub commutative : List (List ℕ)
+commutative =
     codes "arith.addi" ∷ codes "arith.muli" ∷ codes "arith.andi" ∷ codes "arith.ori" ∷ codes "arith.xori"
     ∷ codes "arith.maxsi" ∷ codes "arith.maxui" ∷ codes "arith.minsi" ∷ codes "arith.minui" ∷ []
 
--- to which 0 as second operand does nothing
-unfoldable pub ignoring_zero : List (List ℕ)
-ignoring_zero =
+-- operations for which a second operand 0 changes nothing
+unfoldable pub with_zero_as_right_identity : List (List ℕ)
+with_zero_as_right_identity =
     codes "arith.addi" ∷ codes "arith.subi" ∷ codes "arith.ori" ∷ codes "arith.xori"
     ∷ codes "arith.shli" ∷ codes "arith.shrsi" ∷ codes "arith.shrui" ∷ []
 
--- to which 1 as second operand does nothing
-unfoldable pub ignoring_one : List (List ℕ)
-ignoring_one = codes "arith.muli" ∷ codes "arith.divsi" ∷ codes "arith.divui" ∷ []
+-- operations for which a second operand 1 changes nothing
+unfoldable pub with_one_as_right_identity : List (List ℕ)
+with_one_as_right_identity = codes "arith.muli" ∷ codes "arith.divsi" ∷ codes "arith.divui" ∷ []
 
--- which give 0 for a value and itself
-unfoldable pub cancelling : List (List ℕ)
-cancelling = codes "arith.subi" ∷ codes "arith.xori" ∷ []
+-- operations that give 0 for a value and itself
+unfoldable pub self_inverse : List (List ℕ)
+self_inverse = codes "arith.subi" ∷ codes "arith.xori" ∷ []
 
--- which give the value for a value and itself
-unfoldable pub keeping : List (List ℕ)
-keeping = codes "arith.andi" ∷ codes "arith.ori" ∷ codes "arith.maxsi" ∷ codes "arith.maxui" ∷ codes "arith.minsi"
+-- operations that give the value for a value and itself
+unfoldable pub idempotent : List (List ℕ)
+idempotent = codes "arith.andi" ∷ codes "arith.ori" ∷ codes "arith.maxsi" ∷ codes "arith.maxui" ∷ codes "arith.minsi"
     ∷ codes "arith.minui" ∷ []
 
 -- remainders
 unfoldable pub remainders : List (List ℕ)
 remainders = codes "arith.remsi" ∷ codes "arith.remui" ∷ []
 
--- which may be bracketed in either way
-unfoldable pub regrouping : List (List ℕ)
-regrouping = codes "arith.addi" ∷ codes "arith.muli" ∷ codes "arith.andi" ∷ codes "arith.ori" ∷ codes "arith.xori" ∷ []
+-- associative operations
+unfoldable pub associative : List (List ℕ)
+associative = codes "arith.addi" ∷ codes "arith.muli" ∷ codes "arith.andi" ∷ codes "arith.ori" ∷ codes "arith.xori" ∷ []
 
 -- extensions
 unfoldable pub extensions : List (List ℕ)
@@ -52,7 +52,7 @@ extensions = codes "arith.extsi" ∷ codes "arith.extui" ∷ []
 unfoldable pub index_casts : List (List ℕ)
 index_casts = codes "arith.index_cast" ∷ codes "arith.index_castui" ∷ []
 
--- on two numbers of one type, which is that of the result
+-- operations on two numbers of one type, which is also the type of the result
 unfoldable pub arithmetic : List (List ℕ)
 arithmetic =
     codes "arith.addi" ∷ codes "arith.subi" ∷ codes "arith.muli" ∷ codes "arith.shli"
@@ -60,18 +60,18 @@ arithmetic =
     ∷ codes "arith.andi" ∷ codes "arith.ori" ∷ codes "arith.xori" ∷ codes "arith.shrsi" ∷ codes "arith.shrui"
     ∷ codes "arith.maxsi" ∷ codes "arith.maxui" ∷ codes "arith.minsi" ∷ codes "arith.minui" ∷ []
 
--- which may have an operand or result of index, beside the casts
+-- operations, except casts, that may have an operand or result of type index
 unfoldable pub index_users : List (List ℕ)
 index_users = codes "arith.constant" ∷ codes "arith.cmpi" ∷ codes "arith.select" ∷ arithmetic
 
--- which are made with overflow flags
+-- operations that get overflow flags when a rule makes them
 unfoldable pub flagged : List (List ℕ)
 flagged = codes "arith.addi" ∷ codes "arith.subi" ∷ codes "arith.muli" ∷ []
 
--- the greater and the lesser of two values, each with the number of the predicate that asks for it
-unfoldable pub asking : List (List ℕ × ℕ)
-asking = (codes "arith.maxsi", 4) ∷ (codes "arith.maxui", 8) ∷ (codes "arith.minsi", 2) ∷ (codes "arith.minui", 6) ∷ []
+-- minima and maxima, each with the number of the predicate that compares its operands
+unfoldable pub predicate_of_min_max : List (List ℕ × ℕ)
+predicate_of_min_max = (codes "arith.maxsi", 4) ∷ (codes "arith.maxui", 8) ∷ (codes "arith.minsi", 2) ∷ (codes "arith.minui", 6) ∷ []
 
 -- remainders, each with its division
-unfoldable pub dividing : List (List ℕ × List ℕ)
-dividing = (codes "arith.remsi", codes "arith.divsi") ∷ (codes "arith.remui", codes "arith.divui") ∷ []
+unfoldable pub division_of_remainder : List (List ℕ × List ℕ)
+division_of_remainder = (codes "arith.remsi", codes "arith.divsi") ∷ (codes "arith.remui", codes "arith.divui") ∷ []

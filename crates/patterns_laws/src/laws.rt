@@ -1,9 +1,9 @@
-//! That rewrite rules keep values: for all values of the operands for which the old operations fold, the new ones give
-//! the same value, at every width. Each law is a function that does nothing: its contract is the law, and its name is
-//! the rule's word. In brackets stands where MLIR has the rule.
+//! The rewrite rules keep values: for all operand values for which the old operations fold, the new ones fold to the
+//! same value, at every width. Each theorem is a function that does nothing; its contract states the theorem, and its
+//! name is the rule's word. The names in brackets are MLIR's.
 ghost use Rattle.std.specs.Prelude.{codes};
-ghost use Rattle.patterns_laws.specs.Words.{swapping, ignoring_zero, ignoring_one, cancelling, keeping, remainders};
-ghost use Rattle.patterns_laws.specs.Words.{regrouping, index_casts, arithmetic, asking, dividing};
+ghost use Rattle.patterns_laws.specs.Words.{commutative, with_zero_as_right_identity, with_one_as_right_identity, self_inverse, idempotent, remainders};
+ghost use Rattle.patterns_laws.specs.Words.{associative, index_casts, arithmetic, predicate_of_min_max, division_of_remainder};
 ghost use Rattle.patterns_laws.specs.Keeps.{Each, Folding, Swapping, Ignoring, IgnoringOnes, Cancelling};
 ghost use Rattle.patterns_laws.specs.Keeps.{KeepingItself, LeavingNothing, Regrouping, AddingTheNegative};
 ghost use Rattle.patterns_laws.specs.Keeps.{ComparingItself, Mirroring, NotBelowZero, ChoosingOne};
@@ -17,19 +17,19 @@ pub fn fold_to_constant()
     ensures { Folding }
 {}
 
-/// A constant first operand of a commutative operation goes second (`OpTrait::IsCommutative`).
+/// A constant first operand of a commutative operation moves to the second operand (`OpTrait::IsCommutative`).
 pub fn swap_constant()
-    ensures { Each Swapping swapping }
+    ensures { Each Swapping commutative }
 {}
 
-/// A second operand 0 that changes nothing: `addi(a, 0)` is a (`AddIOp::fold` and its like).
+/// A second operand 0 changes nothing: `addi(a, 0)` is a (`AddIOp::fold` and similar).
 pub fn drop_zero()
-    ensures { Each (Ignoring 0) ignoring_zero }
+    ensures { Each (Ignoring 0) with_zero_as_right_identity }
 {}
 
-/// A second operand 1 that changes nothing: `muli(a, 1)` is a (`MulIOp::fold`, `DivSIOp::fold`, `DivUIOp::fold`).
+/// A second operand 1 changes nothing: `muli(a, 1)` is a (`MulIOp::fold`, `DivSIOp::fold`, `DivUIOp::fold`).
 pub fn drop_one()
-    ensures { Each (Ignoring 1) ignoring_one }
+    ensures { Each (Ignoring 1) with_one_as_right_identity }
 {}
 
 /// `andi(a, -1)` is a (`AndIOp::fold`).
@@ -39,12 +39,12 @@ pub fn drop_all_ones()
 
 /// `subi(a, a)` and `xori(a, a)` are 0 (`SubIOp::fold`, `XOrIOp::fold`).
 pub fn cancel_itself()
-    ensures { Each Cancelling cancelling }
+    ensures { Each Cancelling self_inverse }
 {}
 
-/// `andi(a, a)`, `maxsi(a, a)` and their like are a (`OpTrait::IsIdempotent`, `MaxSIOp::fold` and its like).
+/// `andi(a, a)`, `maxsi(a, a)` and similar operations are a (`OpTrait::IsIdempotent`, `MaxSIOp::fold` and similar).
 pub fn keep_itself()
-    ensures { Each KeepingItself keeping }
+    ensures { Each KeepingItself idempotent }
 {}
 
 /// `remsi(a, 1)` and `remui(a, 1)` are 0 (`RemSIOp::fold`, `RemUIOp::fold`).
@@ -52,10 +52,10 @@ pub fn zero_remainder()
     ensures { Each LeavingNothing remainders }
 {}
 
-/// `addi(addi(a, c), d)` is `addi(a, c + d)`, and so for other associative operations (`AddIAddConstant`,
+/// `addi(addi(a, c), d)` is `addi(a, c + d)`; the same holds for other associative operations (`AddIAddConstant`,
 /// `MulIMulIConstant`).
 pub fn regroup_constants()
-    ensures { Each Regrouping regrouping }
+    ensures { Each Regrouping associative }
 {}
 
 /// `subi(a, c)` is `addi(a, -c)`.
@@ -63,17 +63,17 @@ pub fn add_negative()
     ensures { AddingTheNegative }
 {}
 
-/// `cmpi(a, a)` is true or false by its predicate (`CmpIOp::fold`).
+/// `cmpi(a, a)` is true or false, depending on its predicate (`CmpIOp::fold`).
 pub fn compare_itself()
     ensures { ComparingItself }
 {}
 
-/// A constant first operand of `cmpi` goes second, and the predicate is mirrored (`CmpIOp::fold`).
+/// A constant first operand of `cmpi` moves to the second operand, and the predicate is mirrored (`CmpIOp::fold`).
 pub fn mirror_comparison()
     ensures { Mirroring }
 {}
 
-/// Nothing is below 0 without a sign: `cmpi ult, a, 0` is false, `cmpi uge, a, 0` is true.
+/// No unsigned value is less than 0: `cmpi ult, a, 0` is false, `cmpi uge, a, 0` is true.
 pub fn compare_zero()
     ensures below { NotBelowZero 6 0 }
     ensures at_least { NotBelowZero 9 1 }
@@ -84,7 +84,7 @@ pub fn choose_same()
     ensures { ChoosingOne }
 {}
 
-/// `select` with a constant condition is the chosen operand (`SelectOp::fold`).
+/// `select` with a constant condition is the selected operand (`SelectOp::fold`).
 pub fn choose_known()
     ensures { ChoosingByConstant }
 {}
@@ -106,22 +106,23 @@ pub fn extend_extension()
     ensures signed_of_unsigned { Extending (codes "arith.extui") (codes "arith.extsi") (codes "arith.extui") }
 {}
 
-/// A cut of a cut is one cut, and a cut of an extension back to its width is what was extended (`TruncIOp::fold`).
+/// A truncation of a truncation is one truncation. A truncation of an extension back to the source width is the source
+/// (`TruncIOp::fold`).
 pub fn cut_cast()
     ensures twice { CuttingTwice }
     ensures signed { CuttingBack (codes "arith.extsi") }
     ensures unsigned { CuttingBack (codes "arith.extui") }
 {}
 
-/// A cast to index or from it, and back over at least as many bits, is the operand (`IndexCastOfIndexCast`,
-/// `IndexCastUIOfIndexCastUI`).
+/// A cast to or from index, and back, is the operand if the type in the middle has at least as many bits
+/// (`IndexCastOfIndexCast`, `IndexCastUIOfIndexCastUI`).
 pub fn cast_back()
     ensures { Each ComingBack index_casts }
 {}
 
-/// The greater and the lesser by a comparison and a choice (`MaxMinIOpConverter` of `arith-expand`).
+/// A minimum or maximum is a comparison and a select (`MaxMinIOpConverter` of `arith-expand`).
 pub fn expand_min_max()
-    ensures { Each Choosing asking }
+    ensures { Each Choosing predicate_of_min_max }
 {}
 
 /// `subi(a, b)` is `addi(a, addi(xori(b, -1), 1))`.
@@ -129,12 +130,12 @@ pub fn expand_difference()
     ensures { AddingTheComplement }
 {}
 
-/// `remsi(a, b)` is `subi(a, muli(divsi(a, b), b))`, and so without a sign.
+/// `remsi(a, b)` is `subi(a, muli(divsi(a, b), b))`; the same holds for the unsigned remainder.
 pub fn expand_remainder()
-    ensures { Each Dividing dividing }
+    ensures { Each Dividing division_of_remainder }
 {}
 
-/// An operation on index gives as one on i64 what it gave, casts between index and i64 keeping the number.
+/// An operation on index gives the same number on i64. Casts between index and i64 keep the number.
 pub fn lower_index()
     ensures two { Each LoweringTwo arithmetic }
     ensures comparison { LoweringComparison }

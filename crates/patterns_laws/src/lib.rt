@@ -1,4 +1,4 @@
-//! The laws of the rewrite rules that speak of values: each new operation gives what the old one gave.
+//! The theorems that the rewrite rules on values keep the values of the operations that they replace.
 #![tactic(auto)]
 
 pub mod laws;

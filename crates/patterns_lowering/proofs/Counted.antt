@@ -1,29 +1,29 @@
--- How many operations are made by the edits of lowerings.
+-- The number of operations that the edits of lowerings make.
 use Rattle.std.proofs.Common.{◌≡◌, refl, ap, sym, ◌∙◌, ℕ, ◌+◌, ◌*◌, List, [], ◌∷◌, ◌++◌, length, map, reverse, Bool, true, false, arith}
 use Rattle.std.specs.List.{range_with_len}
 use Rattle.std.proofs.lemmas.List.{length-map}
-use Rattle.ir_event.specs.types.Things.{Things}
+use Rattle.ir_event.specs.types.Things.{ContextModel}
 use Rattle.ir_event.specs.types.Terms.{TypeTerm, Index, type_term}
 use Rattle.ir_event.specs.trees.declared.value.Value.{Value}
 use Rattle.ir_event.specs.trees.declared.value.Value.TheVariants.{Result}
 use Rattle.ir_event.specs.trees.declared.place.Place.{Place}
 use Rattle.ir_event.specs.trees.Tree.{Op, op, head}
 use Rattle.ir_event.specs.trees.Meaning.{Operation, meaning}
-use Rattle.patterns_edits.specs.Contents.{Edit}
-use Rattle.patterns_edits.specs.Edits.{Make, Erase, Move}
-use Rattle.patterns_yields.specs.base.Made.{i64, placeholder}
-use Rattle.patterns_yields.specs.base.Makes.{results_from, arguments_from, replacing, replaced, moving, erasing, made_by}
-use Rattle.patterns_yields.specs.base.Lowering.{before_in, beside, bridges, brought, crossed, crossing, end_of, gathering, marked}
-use Rattle.patterns_lowering.specs.declared.plan.Taken.{Taken}
+use Rattle.patterns_base.specs.Contents.{Edit}
+use Rattle.patterns_base.specs.Edits.{Make, Erase, Move}
+use Rattle.patterns_soundness.specs.base.Made.{i64, placeholder}
+use Rattle.patterns_soundness.specs.base.Makes.{results_from, arguments_from, replacing, replaced, moving, erasing, made_by}
+use Rattle.patterns_soundness.specs.base.Lowering.{before_in, beside, bridges, brought, crossed, crossing, end_of, gathering, marked}
+use Rattle.patterns_lowering.specs.declared.plan.MovedOps.{MovedOps}
 use Rattle.patterns_lowering.specs.declared.plan.Indexed.{Indexed}
 use Rattle.patterns_lowering.specs.declared.plan.Lowering.{Lowering}
 use Rattle.patterns_lowering.specs.declared.plan.Lowering.TheVariants as plan
 use Rattle.patterns_lowering.specs.Meanings.{results_given, operation_made, operation_id, operation_lowered, moved_over, handed_on, loop_lowered, choice_lowered, lowering_meaning}
 use Rattle.patterns_lowering.specs.Plans.{IsIndexed, LoweringIsOf, lowering_makes}
-use Rattle.patterns_yields.proofs.of_base.Facts.{bridges_make}
-use Rattle.patterns_yields.proofs.of_base.Making.{joined}
+use Rattle.patterns_soundness.proofs.of_base.Facts.{bridges_make}
+use Rattle.patterns_soundness.proofs.of_base.Making.{joined}
 
--- two lists that make so many
+-- the number for two joined lists
 both_make : (es fs : List Edit) (m n : ℕ) → made_by es ≡ m → made_by fs ≡ n → made_by (es ++ fs) ≡ m + n
 both_make es fs m n h k = joined es fs ∙ (λ i. h i + k i)
 
@@ -75,7 +75,7 @@ module _ (n : ℕ) (front : Place) (operands results : List Bool) (o : Operation
   handed_makes y r c last vs h =
       both_make (bridges i64 (before_in y r last) results vs) (crossing last 0 c results) _ _ (bridges_make i64 (before_in y r last) results vs h) (crossing_makes last 0 c results) ∙ omega arith
 
-  moved_makes : (y r : ℕ) (b : Taken) → made_by (moved_over n front operands results o y r b) ≡ 0
+  moved_makes : (y r : ℕ) (b : MovedOps) → made_by (moved_over n front operands results o y r b) ≡ 0
   moved_makes y r b =
       let e = gathering_makes y r b.last (reverse b.before.items) in
       both_make (moving (beside front y) b.before.items) (Move b.last (beside front y) ∷ Move b.last (end_of y r) ∷ gathering y r b.last (reverse b.before.items)) 0 0 (moving_makes (beside front y) b.before.items) (omega (arith, e))
@@ -88,7 +88,7 @@ module _ (n : ℕ) (front : Place) (operands results : List Bool) (o : Operation
       both_make (b ++ m) (results_given n front operands results o y (y + 1)) _ _
       (both_make b m _ 1 (bridges_make i64 front operands (head o).operands h) refl) (given_makes y (y + 1))
 
-  choice_makes : (b d : Taken) → length results ≡ length b.handed.items → length results ≡ length d.handed.items → made_by (choice_lowered n front operands results o b d) ≡ 1 + 3 * marked results
+  choice_makes : (b d : MovedOps) → length results ≡ length b.handed.items → length results ≡ length d.handed.items → made_by (choice_lowered n front operands results o b d) ≡ 1 + 3 * marked results
   choice_makes b d h k =
       let y = operation_id n front operands results o in
       let first = y + 1 in
@@ -109,7 +109,7 @@ module _ (n : ℕ) (front : Place) (operands results : List Bool) (o : Operation
       (given_makes y last)
       ∙ omega arith
 
-  loop_makes : (args : List TypeTerm) (marks : List Bool) (b : Taken) → length operands ≡ length (head o).operands → length marks ≡ length args → length results ≡ length b.handed.items
+  loop_makes : (args : List TypeTerm) (marks : List Bool) (b : MovedOps) → length operands ≡ length (head o).operands → length marks ≡ length args → length results ≡ length b.handed.items
       → made_by (loop_lowered n front operands results o args marks b) ≡ marked operands + 1 + marked results + length args + marked marks + marked results
   loop_makes args marks b h k l =
       let id = operation_id n front operands results o in
@@ -149,18 +149,18 @@ module _ (n : ℕ) (front : Place) (operands results : List Bool) (o : Operation
       (given_makes y results_id)
       ∙ omega arith
 
--- the lengths of what an operation stands for
-results_many : (c : Things) (o : Op) → length (head (meaning c o)).results ≡ length (head o).results
+-- the number of results and operands of an operation, with terms
+results_many : (c : ContextModel) (o : Op) → length (head (meaning c o)).results ≡ length (head o).results
 results_many c (op h rs) = length-map h.results (type_term c)
 
-operands_many : (c : Things) (o : Op) → length (head (meaning c o)).operands ≡ length (head o).operands
+operands_many : (c : ContextModel) (o : Op) → length (head (meaning c o)).operands ≡ length (head o).operands
 operands_many c (op h rs) = refl
 
-marks_many : (c : Things) (i : Indexed) → IsIndexed c i → length i.index_results.items ≡ length (head i.op).results
+marks_many : (c : ContextModel) (i : Indexed) → IsIndexed c i → length i.index_results.items ≡ length (head i.op).results
 marks_many c i p = ap length p.results ∙ length-map (map (type_term c) (head i.op).results) _ ∙ length-map (head i.op).results (type_term c)
 
--- the operations that a plan makes, by its edits
-pub lowering_made : (c : Things) (n : ℕ) (front : Place) (p : Lowering) → LoweringIsOf c p → made_by (lowering_meaning c n front p) ≡ lowering_makes p
+-- the number of operations that a plan makes, by its edits
+pub lowering_made : (c : ContextModel) (n : ℕ) (front : Place) (p : Lowering) → LoweringIsOf c p → made_by (lowering_meaning c n front p) ≡ lowering_makes p
 lowering_made c n front (plan.Operation i) h =
     operation_makes n front i.index_operands.items i.index_results.items (meaning c i.op) (marks_many c i h ∙ sym (results_many c i.op)) (h.operands ∙ sym (operands_many c i.op))
 lowering_made c n front (plan.Loop l) h =

@@ -1,4 +1,4 @@
--- What is interned for lowerings.
+-- Interning for lowerings.
 use Rattle.std.proofs.Common.{◌≡◌, refl, ap, sym, ◌∙◌, subst, ℕ, ◌≤◌, ◌<◌, List, [], ◌∷◌, ◌++◌, append_assoc, append-nil, length, length-append, Bool, true, not, ◌&&◌, cond, Option, Some, None, Result, Err, ◌⊎◌, inl, inr, arith}
 use Rattle.std.specs.Prelude.{nat_le}
 use Rattle.std.specs.List.{list_any}
@@ -8,7 +8,7 @@ use Rattle.ir_event.specs.types.declared.node.TypeNode.{TypeNode}
 use Rattle.ir_event.specs.types.declared.node.AttrNode.TheVariants.{Int}
 use Rattle.ir_event.specs.types.declared.refusal.Refusal.{Refusal}
 use Rattle.ir_event.specs.types.declared.refusal.Refusal.TheVariants.{Memory, TooMany}
-use Rattle.ir_event.specs.types.Things.{Things, IsType, IsAttr, IsFront, Grows}
+use Rattle.ir_event.specs.types.Things.{ContextModel, IsType, IsAttr, IsFront, IsExtendedBy}
 use Rattle.ir_event.specs.types.Sound.{Holds}
 use Rattle.ir_event.specs.types.Terms.{TypeTerm, Integer, Index, Function, Memref, OpaqueType, AttrTerm, IntegerOf, String, TypeOf, Flag, Array, Dictionary, Symbol, DenseArray, Overflow, OpaqueOf, type_term, type_node_term, attr_term, attr_node_term}
 use Rattle.ir_event.specs.types.Dictionaries.{kept}
@@ -24,50 +24,50 @@ use Rattle.ir_event.specs.trees.Passing.{entry_passes}
 use Rattle.ir_event.proofs.of_tree_laws.Listed.{bool_cases}
 use Rattle.ir_event.specs.declared.event.Event.{Event}
 use Rattle.ir_event.specs.Listener.{Listener}
-use Rattle.patterns_runs.specs.rewriter.Benched.{Benched, Heard}
-use Rattle.patterns_runs.specs.rewriter.Held.{Held}
-use Rattle.patterns_runs.specs.rewriter.Moves.{Grown}
-use Rattle.patterns_runs.proofs.of_rewriter.Told.{heard_grown}
-use Rattle.patterns_yields.specs.base.Made.{i64}
-use Rattle.patterns_yields.specs.base.Lowering.{lowered_attr}
-use Rattle.patterns_runs.specs.Interning.{Added, IsNoRoom}
+use Rattle.patterns_lowering.specs.rewriter.RewriterCalls.{Benched, Notified}
+use Rattle.patterns_lowering.specs.rewriter.Held.{TransactionModel}
+use Rattle.patterns_lowering.specs.rewriter.Moves.{Grown}
+use Rattle.patterns_lowering.proofs.of_rewriter.Told.{notified_grown}
+use Rattle.patterns_soundness.specs.base.Made.{i64}
+use Rattle.patterns_soundness.specs.base.Lowering.{lowered_attr}
+use Rattle.patterns_lowering.specs.Interning.{Added, IsCapacityRefusal}
 use Rattle.patterns_lowering.specs.Refused.{as_full}
 use Rattle.patterns_lowering.specs.Lowered.{IsLowered, AreLowered, AreKnown, AreTypes, IsLowering, index_bits}
 use Rattle.ir_event.proofs.of_trees.Meanings.{longer}
 
--- ---- benches
+-- ---- rewriters
 
-grown_on : (g h k : Held) → Grown g h → Grown h k → Grown g k
+grown_on : (g h k : TransactionModel) → Grown g h → Grown h k → Grown g k
 grown_on g h k p q = record {
   grows = grows_trans g.ctx h.ctx k.ctx p.grows q.grows;
   held = q.held ∙ (λ i. record { ctx = k.ctx; store = (p.held i).store; journal = (p.held i).journal; marks = (p.held i).marks });
   same = q.same ∙ p.same;
   marked = q.marked ∙ p.marked;
-  behind = λ n. q.behind n ∙ p.behind n;
+  trailing = λ n. q.trailing n ∙ p.trailing n;
 }
 
 module _ {B : Type 0} (meaning : B → Listener) where
-  pub interned_none : ((z : Benched B) → Heard meaning [] z z) → (a : Benched B) → Added meaning a a
-  interned_none none a = record { grown = record { grows = grows_refl a.desk.ctx; held = refl; same = refl; marked = refl; behind = λ n. refl }; untold = none a }
+  pub interned_none : ((z : Benched B) → Notified meaning [] z z) → (a : Benched B) → Added meaning a a
+  interned_none none a = record { grown = record { grows = grows_refl a.transaction.ctx; held = refl; same = refl; marked = refl; trailing = λ n. refl }; untold = none a }
 
   abbrev pub Composes : Type 0
-  Composes = (es fs : List Event) (a b c : Benched B) → Holds b.desk.ctx → Holds c.desk.ctx → Heard meaning es a b → Heard meaning fs b c → Heard meaning (es ++ fs) a c
+  Composes = (es fs : List Event) (a b c : Benched B) → Holds b.transaction.ctx → Holds c.transaction.ctx → Notified meaning es a b → Notified meaning fs b c → Notified meaning (es ++ fs) a c
 
-  pub interned_on : Composes → (a b c : Benched B) → Holds b.desk.ctx → Holds c.desk.ctx → Added meaning a b → Added meaning b c → Added meaning a c
-  interned_on more a b c h k p q = record { grown = grown_on a.desk b.desk c.desk p.grown q.grown; untold = more [] [] a b c h k p.untold q.untold }
+  pub interned_on : Composes → (a b c : Benched B) → Holds b.transaction.ctx → Holds c.transaction.ctx → Added meaning a b → Added meaning b c → Added meaning a c
+  interned_on more a b c h k p q = record { grown = grown_on a.transaction b.transaction c.transaction p.grown q.grown; untold = more [] [] a b c h k p.untold q.untold }
 
-  -- something is interned
-  pub interned_one : (a b : Benched B) → Holds a.desk.ctx → Holds b.desk.ctx → Grown a.desk b.desk → b.listeners ≡ a.listeners → Added meaning a b
+  -- interning something
+  pub interned_one : (a b : Benched B) → Holds a.transaction.ctx → Holds b.transaction.ctx → Grown a.transaction b.transaction → b.listeners ≡ a.listeners → Added meaning a b
   interned_one a b before after grown same = record {
     grown = grown;
-    untold = subst (λ (xs : List B). Heard meaning [] a (record { desk = b.desk; listeners = xs })) (sym same) (heard_grown meaning a.desk b.desk a.listeners before after grown);
+    untold = subst (λ (xs : List B). Notified meaning [] a (record { transaction = b.transaction; listeners = xs })) (sym same) (notified_grown meaning a.transaction b.transaction a.listeners before after grown);
   }
 
 -- ---- types
 
-pub type_interned : (c d : Things) (node : TypeNode) (id : ℕ) → Holds c → (id, d) ≡ with_type node c → IsType d id × (type_term d id ≡ type_node_term c node)
+pub type_interned : (c d : ContextModel) (node : TypeNode) (id : ℕ) → Holds c → (id, d) ≡ with_type node c → IsType d id × (type_term d id ≡ type_node_term c node)
 type_interned c d node id h e =
-    subst (λ (p : ℕ × Things). IsType p.1 p.0 × (type_term p.1 p.0 ≡ type_node_term c node)) (sym e)
+    subst (λ (p : ℕ × ContextModel). IsType p.1 p.0 × (type_term p.1 p.0 ≡ type_node_term c node)) (sym e)
     (slice_get_within ((with_type node c).1).types (with_type node c).0 node (type_stands node c), new_type node c h)
 
 full_wanting : {A : Type 0} (is : A → Bool) (xs : List A) (e : Refusal) → IsRefusedFor {A = ℕ} (full_reason is xs) (Err e) → (e ≡ Memory) ⊎ ((e ≡ TooMany) × (most_things ≤ length xs))
@@ -77,17 +77,17 @@ full_wanting is xs e r = elim (bool_cases (not (list_any is xs) && nat_le most_t
   | inr h ↦ inl (subst (λ (b : Bool). IsRefusedFor {A = ℕ} (cond b (Some TooMany) None) (Err e)) h r)
 ]
 
--- why a type without a fault isn't interned
-pub type_wanting : (c : Things) (node : TypeNode) (e : Refusal) → type_fault (type_node_term c node) ≡ None → IsRefusedFor {A = ℕ} (type_reason node c) (Err e) → IsNoRoom c (as_full e)
+-- why a valid type isn't interned
+pub type_wanting : (c : ContextModel) (node : TypeNode) (e : Refusal) → type_fault (type_node_term c node) ≡ None → IsRefusedFor {A = ℕ} (type_reason node c) (Err e) → IsCapacityRefusal c (as_full e)
 type_wanting c node e fine r = elim (full_wanting (same_type node) c.types e (subst (λ o. IsRefusedFor {A = ℕ} (first_reason o (full_reason (same_type node) c.types)) (Err e)) fine r)) [
   | inl h ↦ inl (ap as_full h)
   | inr h ↦ inr (ap as_full h.0, inl h.1)
 ]
 
-pub type_known : (c d : Things) (n : ℕ) → Grows c d → IsType c n → IsType d n
+pub type_known : (c d : ContextModel) (n : ℕ) → IsExtendedBy c d → IsType c n → IsType d n
 type_known c d n g k = longer c.types d.types n g.types k
 
-pub types_stay : (c d : Things) (wide index : ℕ) → Grows c d → AreTypes c wide index → AreTypes d wide index
+pub types_stay : (c d : ContextModel) (wide index : ℕ) → IsExtendedBy c d → AreTypes c wide index → AreTypes d wide index
 types_stay c d wide index g t = record {
   wide_known = type_known c d wide g t.wide_known;
   wide_is = type_stays c d wide g t.wide_known ∙ t.wide_is;
@@ -97,18 +97,18 @@ types_stay c d wide index g t = record {
 
 -- ---- attributes
 
--- an integer attribute is kept as it is
+-- an integer attribute is stored unchanged
 int_kept : (names : List (List ℕ)) (ty bits : ℕ) → kept names (Int ty bits) ≡ Int ty bits
 unfolding kept
 int_kept names ty bits = refl
 
-pub attr_interned : (c d : Things) (ty bits id : ℕ) → Holds c → (id, d) ≡ with_attr (Int ty bits) c → IsAttr d id × (attr_term d id ≡ IntegerOf (type_term c ty) bits)
+pub attr_interned : (c d : ContextModel) (ty bits id : ℕ) → Holds c → (id, d) ≡ with_attr (Int ty bits) c → IsAttr d id × (attr_term d id ≡ IntegerOf (type_term c ty) bits)
 attr_interned c d ty bits id h e =
-    subst (λ (p : ℕ × Things). IsAttr p.1 p.0 × (attr_term p.1 p.0 ≡ IntegerOf (type_term c ty) bits)) (sym e)
+    subst (λ (p : ℕ × ContextModel). IsAttr p.1 p.0 × (attr_term p.1 p.0 ≡ IntegerOf (type_term c ty) bits)) (sym e)
     (slice_get_within ((with_attr (Int ty bits) c).1).attrs (with_attr (Int ty bits) c).0 (kept c.names (Int ty bits)) (attr_stands (Int ty bits) c), new_attr (Int ty bits) c h ∙ ap (attr_node_term c) (int_kept c.names ty bits))
 
--- why one without a fault isn't
-pub attr_wanting : (c : Things) (ty bits : ℕ) (e : Refusal) → attr_fault (IntegerOf (type_term c ty) bits) ≡ None → IsRefusedFor {A = ℕ} (attr_reason (Int ty bits) c) (Err e) → IsNoRoom c (as_full e)
+-- why a valid attribute isn't interned
+pub attr_wanting : (c : ContextModel) (ty bits : ℕ) (e : Refusal) → attr_fault (IntegerOf (type_term c ty) bits) ≡ None → IsRefusedFor {A = ℕ} (attr_reason (Int ty bits) c) (Err e) → IsCapacityRefusal c (as_full e)
 attr_wanting c ty bits e fine r = elim (full_wanting (same_attr (kept c.names (Int ty bits))) c.attrs e (alone (full_reason (same_attr (kept c.names (Int ty bits))) c.attrs) (subst (λ o. IsRefusedFor {A = ℕ} (first_reason o (first_reason None (first_reason (full_reason (same_attr (kept c.names (Int ty bits))) c.attrs) None))) (Err e)) fine r))) [
   | inl h ↦ inl (ap as_full h)
   | inr h ↦ inr (ap as_full h.0, inr h.1)
@@ -118,7 +118,7 @@ attr_wanting c ty bits e fine r = elim (full_wanting (same_attr (kept c.names (I
     alone None r = r
     alone (Some q) r = r
 
--- the bits of an integer of index are those of one of i64
+-- an integer of type index and its i64 integer have the same bits
 bits_of_index : (a : AttrTerm) (bits : ℕ) → index_bits a ≡ Some bits → a ≡ IntegerOf Index bits
 bits_of_index (IntegerOf Index n) bits e = (let one : n ≡ bits = cc in ap (IntegerOf Index) one)
 bits_of_index (IntegerOf (Integer s w) n) bits e = absurd cc
@@ -154,19 +154,19 @@ attr_stays_so (OpaqueOf s t) e = refl
 pub attr_lowered : (a : AttrTerm) (ty : TypeTerm) (bits : ℕ) → index_bits a ≡ Some bits → ty ≡ i64 → IntegerOf ty bits ≡ lowered_attr a
 attr_lowered a ty bits e k = ap (λ t. IntegerOf t bits) k ∙ sym (ap lowered_attr (bits_of_index a bits e))
 
-pub attr_fine : (c : Things) (a ty bits : ℕ) → Holds c → IsAttr c a → index_bits (attr_term c a) ≡ Some bits → type_term c ty ≡ i64 → attr_fault (IntegerOf (type_term c ty) bits) ≡ None
+pub attr_fine : (c : ContextModel) (a ty bits : ℕ) → Holds c → IsAttr c a → index_bits (attr_term c a) ≡ Some bits → type_term c ty ≡ i64 → attr_fault (IntegerOf (type_term c ty) bits) ≡ None
 attr_fine c a ty bits h k e t = ap (λ u. attr_fault (IntegerOf u bits)) t ∙ sym (ap attr_fault (bits_of_index (attr_term c a) bits e)) ∙ h.attrs_fine a k
 
--- the same, where the attribute is read in a world of the bench
-pub attr_kept : (c w : Things) (a : ℕ) (o : Option ℕ) → w ≡ c → o ≡ index_bits (attr_term w a) → o ≡ None → attr_term c a ≡ lowered_attr (attr_term c a)
-attr_kept c w a o e k n = attr_stays_so (attr_term c a) (sym (ap (λ (d : Things). index_bits (attr_term d a)) e) ∙ sym k ∙ n)
+-- the same for an attribute that is read in a world of the rewriter
+pub attr_kept : (c w : ContextModel) (a : ℕ) (o : Option ℕ) → w ≡ c → o ≡ index_bits (attr_term w a) → o ≡ None → attr_term c a ≡ lowered_attr (attr_term c a)
+attr_kept c w a o e k n = attr_stays_so (attr_term c a) (sym (ap (λ (d : ContextModel). index_bits (attr_term d a)) e) ∙ sym k ∙ n)
 
-pub attr_read : (c w : Things) (a : ℕ) (o : Option ℕ) (bits : ℕ) → w ≡ c → o ≡ index_bits (attr_term w a) → o ≡ Some bits → index_bits (attr_term c a) ≡ Some bits
-attr_read c w a o bits e k n = sym (ap (λ (d : Things). index_bits (attr_term d a)) e) ∙ sym k ∙ n
+pub attr_read : (c w : ContextModel) (a : ℕ) (o : Option ℕ) (bits : ℕ) → w ≡ c → o ≡ index_bits (attr_term w a) → o ≡ Some bits → index_bits (attr_term c a) ≡ Some bits
+attr_read c w a o bits e k n = sym (ap (λ (d : ContextModel). index_bits (attr_term d a)) e) ∙ sym k ∙ n
 
 -- ---- entries
 
-module _ (c d : Things) (holds : Holds c) (g : Grows c d) where
+module _ (c d : ContextModel) (holds : Holds c) (g : IsExtendedBy c d) where
   known_stays : (es : List (ℕ × ℕ)) → AreKnown c es → AreKnown d es
   known_stays [] e = refl
   known_stays (k ∷ es) e =
@@ -217,11 +217,11 @@ module _ (c d : Things) (holds : Holds c) (g : Grows c d) where
         are = lowered_more l.done made k (k.0, a) (lowered_stays l.done made l.known l.are) (record { key = refl; known = h; is = e ∙ sym (ap lowered_attr (attr_stays c d k.1 holds g (ltb-true k.1 (length c.attrs) own.1))) });
       }
 
-pub lowering_begun : (c : Things) (all : List (ℕ × ℕ)) → AreKnown c all → IsLowering c all all []
+pub lowering_begun : (c : ContextModel) (all : List (ℕ × ℕ)) → AreKnown c all → IsLowering c all all []
 lowering_begun c all k = record { done = []; parts = refl; known = refl; left = k; are = tt }
 
-pub lowering_done : (c : Things) (all made : List (ℕ × ℕ)) → IsLowering c all [] made → AreLowered c all made
+pub lowering_done : (c : ContextModel) (all made : List (ℕ × ℕ)) → IsLowering c all [] made → AreLowered c all made
 lowering_done c all made l = subst (λ es. AreLowered c es made) (sym (append-nil l.done) ∙ l.parts) l.are
 
-pub entry_known : (c : Things) (all rest made : List (ℕ × ℕ)) (k : ℕ × ℕ) → IsLowering c all (k ∷ rest) made → IsAttr c k.1
+pub entry_known : (c : ContextModel) (all rest made : List (ℕ × ℕ)) (k : ℕ × ℕ) → IsLowering c all (k ∷ rest) made → IsAttr c k.1
 entry_known c all rest made k l = ltb-true k.1 (length c.attrs) (and_parts (is_name c k.0) (is_attr c k.1) (and_parts (entry_passes (is_name c) (is_attr c) k) _ l.left).0).1

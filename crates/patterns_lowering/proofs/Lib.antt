@@ -16,5 +16,7 @@ pub mod Shown
 pub mod Ruled
 pub mod Named
 pub mod Asked
-pub use Rattle.patterns_runs.proofs as of_runs
-pub use Rattle.patterns_runs.proofs.of_rewriter
+pub mod Journals
+pub mod Carrying
+pub mod Free
+pub use Rattle.rewriter.proofs as of_rewriter

@@ -1,8 +1,8 @@
--- What the edits of loops and choices stand for.
+-- The meaning of the edits of loops and choices.
 use Rattle.std.proofs.Common.{◌≡◌, refl, ap, sym, ◌∙◌, ℕ, ◌+◌, List, [], ◌∷◌, ◌++◌, length, map, reverse, Bool, true, false, append_assoc, arith}
 use Rattle.std.specs.List.{range_with_len}
 use Rattle.std.proofs.lemmas.List.{length-map}
-use Rattle.ir_event.specs.types.Things.{Things}
+use Rattle.ir_event.specs.types.Things.{ContextModel}
 use Rattle.ir_event.specs.types.Sound.{IsSound}
 use Rattle.ir_event.specs.types.Terms.{TypeTerm, Index, type_term}
 use Rattle.ir_event.specs.types.declared.word.Word.TheVariants.{BuiltinUnrealizedConversionCast}
@@ -12,28 +12,28 @@ use Rattle.ir_event.specs.trees.declared.value.Value.TheVariants.{Result, Arg}
 use Rattle.ir_event.specs.trees.declared.place.Place.{Place}
 use Rattle.ir_event.specs.trees.Tree.{Op, op, no_regions, head}
 use Rattle.ir_event.specs.trees.Meaning.{meaning}
-use Rattle.patterns_edits.specs.Contents.{Edit}
-use Rattle.patterns_edits.specs.Edits as edit
-use Rattle.patterns_edits.specs.declared.edit.Edit.TheVariants as coded
-use Rattle.patterns_edits.specs.Lists.{edits_meaning}
-use Rattle.patterns_yields.specs.base.Made.{i64, placeholder}
-use Rattle.patterns_yields.specs.base.Makes.{arguments_from, replacing, replaced, moving, erasing}
-use Rattle.patterns_yields.specs.base.Lowering.{before_in, beside, bridges, brought, crossed, crossing, end_of, gathering, lowered_op, marked}
-use Rattle.patterns_regions.specs.Opened.{put_for}
-use Rattle.patterns_lowering.specs.declared.plan.Taken.{Taken}
+use Rattle.patterns_base.specs.Contents.{Edit}
+use Rattle.patterns_base.specs.Edits as edit
+use Rattle.patterns_base.specs.declared.edit.Edit.TheVariants as coded
+use Rattle.patterns_base.specs.Lists.{edits_meaning}
+use Rattle.patterns_soundness.specs.base.Made.{i64, placeholder}
+use Rattle.patterns_soundness.specs.base.Makes.{arguments_from, replacing, replaced, moving, erasing}
+use Rattle.patterns_soundness.specs.base.Lowering.{before_in, beside, bridges, brought, crossed, crossing, end_of, gathering, lowered_op, marked}
+use Rattle.patterns_plans.specs.Opened.{put_for}
+use Rattle.patterns_lowering.specs.declared.plan.MovedOps.{MovedOps}
 use Rattle.patterns_lowering.specs.declared.plan.IndexedLoop.{IndexedLoop}
 use Rattle.patterns_lowering.specs.declared.plan.IndexedChoice.{IndexedChoice}
 use Rattle.patterns_lowering.specs.declared.plan.Lowering.TheVariants as plan
 use Rattle.patterns_lowering.specs.Lowered.{AreLowered, AreTypes}
-use Rattle.patterns_lowering.specs.Numbers.{bridge_edits, replace_edits, op_lowered, give_edits, numbers_from, first_results, holder_edits, move_edits, erase_edits, gather_edits, over_edits, crossing_edits, handed_edits, loop_ids, front_edits, inside_edits, behind_edits, loop_edits, side_edits, choice_edits}
+use Rattle.patterns_lowering.specs.Numbers.{bridge_edits, replace_edits, op_lowered, give_edits, numbers_from, first_results, holder_edits, move_edits, erase_edits, gather_edits, over_edits, crossing_edits, handed_edits, loop_ids, front_edits, inside_edits, after_edits, loop_edits, side_edits, choice_edits}
 use Rattle.patterns_lowering.specs.Meanings.{results_given, loop_lowered, choice_lowered, lowering_meaning}
 use Rattle.patterns_lowering.proofs.Meant.{bridges_meant, replaces_meant, op_meant, give_meant}
 use Rattle.patterns_lowering.proofs.Counted.{arguments_length}
-use Rattle.patterns_yields.proofs.of_base.Facts.{crossed_length}
-use Rattle.patterns_edits.proofs.Facts.{edits_more}
-use Rattle.patterns_regions.proofs.Openings.{moves_meant}
+use Rattle.patterns_soundness.proofs.of_base.Facts.{crossed_length}
+use Rattle.patterns_base.proofs.EditFacts.{edits_more}
+use Rattle.patterns_plans.proofs.Openings.{moves_meant}
 
-module _ (c : Things) where
+module _ (c : ContextModel) where
   holders_meant : (sound : IsSound c) (place : Place) (tys : List ℕ) → edits_meaning c (holder_edits place tys) ≡ map (λ ty. edit.Make place (placeholder ty)) (map (type_term c) tys)
   holders_meant sound place [] = refl
   holders_meant sound place (ty ∷ tys) =
@@ -44,7 +44,7 @@ module _ (c : Things) where
   gathers_meant y r z [] = refl
   gathers_meant y r z (x ∷ xs) = ap (λ l. edit.Move x (before_in y r z) ∷ l) (gathers_meant y r x xs)
 
-  over_meant : (front : Place) (y r : ℕ) (b : Taken) → edits_meaning c (over_edits front y r b) ≡ brought front y r b.before.items b.last
+  over_meant : (front : Place) (y r : ℕ) (b : MovedOps) → edits_meaning c (over_edits front y r b) ≡ brought front y r b.before.items b.last
   over_meant front y r b =
       edits_more c (move_edits (beside front y) b.before.items) (coded.Move b.last (beside front y) ∷ coded.Move b.last (end_of y r) ∷ gather_edits y r b.last (reverse b.before.items))
       ∙ (λ i. (moves_meant c) (beside front y) b.before.items i ++ edit.Move b.last (beside front y) ∷ edit.Move b.last (end_of y r) ∷ gathers_meant y r b.last (reverse b.before.items) i)
@@ -79,8 +79,8 @@ arguments_alike x k [] (j ∷ js) h = absurd (omega (arith, h))
 arguments_alike x k (i ∷ is) [] h = absurd (omega (arith, h))
 arguments_alike x k (i ∷ is) (j ∷ js) h = ap (λ l. Arg x 0 k ∷ l) (arguments_alike x (k + 1) is js (omega (arith, h)))
 
--- a loop's edits, by how many arguments there are
-module _ (n : ℕ) (front : Place) (operands results : List Bool) (o : Op) (c : Things) (marks : List Bool) (b : Taken) where
+-- the edits of a loop, by the number of arguments
+module _ (n : ℕ) (front : Place) (operands results : List Bool) (o : Op) (c : ContextModel) (marks : List Bool) (b : MovedOps) where
   abbrev pub by_count : ℕ → (ℕ → ℕ → List Value) → List Edit → List Value → List Edit
   by_count count from holders_made handed_values =
       let id = n + marked operands in
@@ -104,7 +104,7 @@ module _ (n : ℕ) (front : Place) (operands results : List Bool) (o : Op) (c : 
       ++ (bridges i64 (before_in y 0 b.last) results (map (replaced olds news) handed_values) ++ crossing b.last 0 yields_id results)
       ++ results_given n front operands results (meaning c o) y results_id
 
-count_stands : (n : ℕ) (front : Place) (operands results : List Bool) (o : Op) (c : Things) (marks : List Bool) (b : Taken) (args : List TypeTerm)
+count_stands : (n : ℕ) (front : Place) (operands results : List Bool) (o : Op) (c : ContextModel) (marks : List Bool) (b : MovedOps) (args : List TypeTerm)
     → by_count n front operands results o c marks b (length args) (λ x k. arguments_from x k args) (map (λ ty. edit.Make front (placeholder ty)) args) b.handed.items
     ≡ loop_lowered n front operands results (meaning c o) args marks b
 count_stands n front operands results (op h rs) c marks b args = refl
@@ -113,14 +113,14 @@ count_stands n front operands results (op h rs) c marks b args = refl
 regrouped : {X : Type 0} (p q r m s t u v w g : List X) → (p ++ q ++ r ++ m) ++ (s ++ t ++ u ++ v) ++ (w ++ g) ≡ p ++ q ++ r ++ m ++ s ++ t ++ u ++ v ++ w ++ g
 regrouped p q r m s t u v w g = simp append_assoc
 
-four_meant : (c : Things) (p q r s : List _) → edits_meaning c (p ++ q ++ r ++ s) ≡ edits_meaning c p ++ edits_meaning c q ++ edits_meaning c r ++ edits_meaning c s
+four_meant : (c : ContextModel) (p q r s : List _) → edits_meaning c (p ++ q ++ r ++ s) ≡ edits_meaning c p ++ edits_meaning c q ++ edits_meaning c r ++ edits_meaning c s
 four_meant c p q r s =
     edits_more c (p ++ q ++ r) s ∙ ap (λ l. l ++ edits_meaning c s) (edits_more c (p ++ q) r ∙ ap (λ l. l ++ edits_meaning c r) (edits_more c p q))
 
 put_is : (x : ℕ) (args : List ℕ) (news : List Value) → length news ≡ length args → (vs : List Value) → map (put_for x news) vs ≡ map (replaced (arguments_from x 0 args) news) vs
 put_is x args news h vs = ap (λ olds. map (replaced olds news) vs) (arguments_alike x 0 news args h)
 
-module _ (c : Things) (wide index : ℕ) (fs : List (ℕ × ℕ)) (n : ℕ) (front : Place) (sound : IsSound c) (types : AreTypes c wide index) where
+module _ (c : ContextModel) (wide index : ℕ) (fs : List (ℕ × ℕ)) (n : ℕ) (front : Place) (sound : IsSound c) (types : AreTypes c wide index) where
   module _ (l : IndexedLoop) (ps : AreLowered c (head l.of.op).properties fs) (many : length l.index_arguments.items ≡ length l.arguments.items) where
     abbrev operands : List Bool
     operands = l.of.index_operands.items
@@ -150,10 +150,10 @@ module _ (c : Things) (wide index : ℕ) (fs : List (ℕ × ℕ)) (n : ℕ) (fro
         ++ replaces_meant c holders news i
         ++ erases_meant c ids i)
 
-    behind_meant : (y k r : ℕ) (vs : List Value)
+    after_meant : (y k r : ℕ) (vs : List Value)
         → edits_meaning c (handed_edits wide (before_in y 0 l.body.last) k l.body.last results vs ++ give_edits index front results l.of.op y r)
         ≡ (bridges i64 (before_in y 0 l.body.last) results vs ++ crossing l.body.last 0 k results) ++ results_given n front operands results (meaning c l.of.op) y r
-    behind_meant y k r vs =
+    after_meant y k r vs =
         edits_more c (handed_edits wide (before_in y 0 l.body.last) k l.body.last results vs) (give_edits index front results l.of.op y r)
         ∙ (λ i. handed_meant c sound wide (before_in y 0 l.body.last) k l.body.last results vs types.wide_is i
         ++ give_meant c index front n operands results l.of.op y r sound types.index_is i)
@@ -161,7 +161,7 @@ module _ (c : Things) (wide index : ℕ) (fs : List (ℕ × ℕ)) (n : ℕ) (fro
     abbrev counted : ℕ → (ℕ → ℕ → List Value) → List Edit → List Value → List Edit
     counted = by_count n front operands results l.of.op c l.index_arguments.items l.body
 
-    -- all its edits, by the ids of what stands for its arguments
+    -- all its edits, by the ids of the placeholders
     abbrev ranged : List ℕ → List Edit
     ranged holder_ids =
         let args = l.arguments.items in
@@ -188,10 +188,10 @@ module _ (c : Things) (wide index : ℕ) (fs : List (ℕ × ℕ)) (n : ℕ) (fro
         let many_news = crossed_length ids.arguments l.index_arguments.items arguments (many ∙ sym (arguments_length ids.op 0 args)) ∙ arguments_length ids.op 0 args in
         let a = front_edits c wide fs n front holders l in
         let b = inside_edits index front ids.op holder_ids holders arguments news l in
-        let d = behind_edits wide index front ids news l in
+        let d = after_edits wide index front ids news l in
         edits_more c (a ++ b) d
         ∙ (λ i. edits_more c a b i ++ edits_meaning c d)
-        ∙ (λ i. front_meant holders i ++ inside_meant ids.op holder_ids holders arguments news i ++ behind_meant ids.op ids.handed ids.results (put_is x args news many_news l.body.handed.items i) i)
+        ∙ (λ i. front_meant holders i ++ inside_meant ids.op holder_ids holders arguments news i ++ after_meant ids.op ids.handed ids.results (put_is x args news many_news l.body.handed.items i) i)
         ∙ regrouped (bridges i64 front operands (head l.of.op).operands) (map (λ (ty : TypeTerm). edit.Make front (placeholder ty)) (map (type_term c) args)) (replacing (arguments_from x 0 args) holders)
         (edit.Make front (lowered_op (meaning c l.of.op) (crossed n operands (head l.of.op).operands)) ∷ [])
         (bridges Index (end_of ids.op 0) l.index_arguments.items arguments) (brought front ids.op 0 l.body.before.items l.body.last) (replacing holders news) (erasing holder_ids)
@@ -212,7 +212,7 @@ module _ (c : Things) (wide index : ℕ) (fs : List (ℕ × ℕ)) (n : ℕ) (fro
     abbrev results_of : List Bool
     results_of = d.of.index_results.items
 
-    side_meant : (y r k : ℕ) (b : Taken) → edits_meaning c (side_edits wide front y r k results_of b)
+    side_meant : (y r k : ℕ) (b : MovedOps) → edits_meaning c (side_edits wide front y r k results_of b)
         ≡ brought front y r b.before.items b.last ++ (bridges i64 (before_in y r b.last) results_of b.handed.items ++ crossing b.last 0 k results_of)
     side_meant y r k b =
         edits_more c (over_edits front y r b) (handed_edits wide (before_in y r b.last) k b.last results_of b.handed.items)

@@ -1,6 +1,6 @@
--- What edits in the numbers of a context stand for.
+-- The meaning of edits with interned numbers.
 use Rattle.std.proofs.Common.{◌≡◌, refl, ap, sym, ◌∙◌, ℕ, ◌+◌, List, [], ◌∷◌, ◌++◌, map, Bool, true, false}
-use Rattle.ir_event.specs.types.Things.{Things}
+use Rattle.ir_event.specs.types.Things.{ContextModel}
 use Rattle.ir_event.specs.types.Sound.{IsSound}
 use Rattle.ir_event.specs.types.Terms.{TypeTerm, Index, AttrTerm, name_term, type_term, attr_term}
 use Rattle.ir_event.specs.types.declared.word.Word.TheVariants.{BuiltinUnrealizedConversionCast}
@@ -11,19 +11,19 @@ use Rattle.ir_event.specs.trees.declared.place.Place.{Place}
 use Rattle.ir_event.specs.trees.Tree.{Op, op, no_regions, head}
 use Rattle.ir_event.specs.trees.Maps.{map_entry}
 use Rattle.ir_event.specs.trees.Meaning.{meaning}
-use Rattle.patterns_edits.specs.Edits as edit
-use Rattle.patterns_edits.specs.declared.edit.Edit.TheVariants as coded
-use Rattle.patterns_edits.specs.Lists.{edits_meaning}
-use Rattle.patterns_yields.specs.base.Made.{i64}
-use Rattle.patterns_yields.specs.base.Makes.{results_from, replacing}
-use Rattle.patterns_yields.specs.base.Lowering.{bridges, crossed, marked, lowered_attr, lowered_op}
+use Rattle.patterns_base.specs.Edits as edit
+use Rattle.patterns_base.specs.declared.edit.Edit.TheVariants as coded
+use Rattle.patterns_base.specs.Lists.{edits_meaning}
+use Rattle.patterns_soundness.specs.base.Made.{i64}
+use Rattle.patterns_soundness.specs.base.Makes.{results_from, replacing}
+use Rattle.patterns_soundness.specs.base.Lowering.{bridges, crossed, marked, lowered_attr, lowered_op}
 use Rattle.patterns_lowering.specs.Lowered.{AreLowered, AreTypes}
 use Rattle.patterns_lowering.specs.Numbers.{bridge_edits, replace_edits, op_lowered, give_edits, operation_edits}
 use Rattle.patterns_lowering.specs.Meanings.{results_given, operation_lowered}
 use Rattle.patterns_lowering.proofs.Typed.{types_meant, regions_meant}
-use Rattle.patterns_edits.proofs.Facts.{edits_more}
+use Rattle.patterns_base.proofs.EditFacts.{edits_more}
 
-module _ (c : Things) (sound : IsSound c) where
+module _ (c : ContextModel) (sound : IsSound c) where
   pub bridges_meant : (ty : ℕ) (u : TypeTerm) (place : Place) (ms : List Bool) (vs : List Value) → type_term c ty ≡ u → edits_meaning c (bridge_edits ty place ms vs) ≡ bridges u place ms vs
   bridges_meant ty u place [] vs e = refl
   bridges_meant ty u place (true ∷ ms) [] e = refl
@@ -33,13 +33,13 @@ module _ (c : Things) (sound : IsSound c) where
       λ i. edit.Make place (op (record { id = 0; name = word_named c BuiltinUnrealizedConversionCast sound i; operands = v ∷ []; results = e i ∷ []; properties = []; attributes = [] }) no_regions)
       ∷ bridges_meant ty u place ms vs e i
 
-pub replaces_meant : (c : Things) (vs ws : List Value) → edits_meaning c (replace_edits vs ws) ≡ replacing vs ws
+pub replaces_meant : (c : ContextModel) (vs ws : List Value) → edits_meaning c (replace_edits vs ws) ≡ replacing vs ws
 replaces_meant c [] ws = refl
 replaces_meant c (v ∷ vs) [] = refl
 replaces_meant c (v ∷ vs) (w ∷ ws) = ap (λ l. edit.Replace v w ∷ l) (replaces_meant c vs ws)
 
 -- entries with i64 for index
-pub entries_meant : (c : Things) (es fs : List (ℕ × ℕ)) → AreLowered c es fs
+pub entries_meant : (c : ContextModel) (es fs : List (ℕ × ℕ)) → AreLowered c es fs
     → map (map_entry (name_term c) (attr_term c)) fs ≡ map (λ (e : List ℕ × AttrTerm). (e.0, lowered_attr e.1)) (map (map_entry (name_term c) (attr_term c)) es)
 entries_meant c [] [] h = refl
 entries_meant c [] (f ∷ fs) h = absurd h
@@ -47,7 +47,7 @@ entries_meant c (e ∷ es) [] h = absurd h
 entries_meant c (e ∷ es) (f ∷ fs) h = λ i. (name_term c (h.0.key i), h.0.is i) ∷ entries_meant c es fs h.1 i
 
 -- the operation on i64
-pub op_meant : (c : Things) (wide : ℕ) (fs : List (ℕ × ℕ)) (vs : List Value) (o : Op) → type_term c wide ≡ i64 → AreLowered c (head o).properties fs
+pub op_meant : (c : ContextModel) (wide : ℕ) (fs : List (ℕ × ℕ)) (vs : List Value) (o : Op) → type_term c wide ≡ i64 → AreLowered c (head o).properties fs
     → meaning c (op_lowered c wide fs vs o) ≡ lowered_op (meaning c o) vs
 op_meant c wide fs vs (op h rs) e ps =
     λ i. op
@@ -61,12 +61,12 @@ op_meant c wide fs vs (op h rs) e ps =
     })
     (regions_meant c wide e rs i)
 
--- results by their number alone
+-- results depend only on their number
 results_mapped : {X Y : Type 0} (f : X → Y) (x k : ℕ) (is : List X) → results_from x k (map f is) ≡ results_from x k is
 results_mapped f x k [] = refl
 results_mapped f x k (i ∷ is) = ap (λ l. Result x k ∷ l) (results_mapped f x (k + 1) is)
 
-pub give_meant : (c : Things) (index : ℕ) (front : Place) (n : ℕ) (operands results : List Bool) (o : Op) (y k : ℕ) → IsSound c → type_term c index ≡ Index
+pub give_meant : (c : ContextModel) (index : ℕ) (front : Place) (n : ℕ) (operands results : List Bool) (o : Op) (y k : ℕ) → IsSound c → type_term c index ≡ Index
     → edits_meaning c (give_edits index front results o y k) ≡ results_given n front operands results (meaning c o) y k
 give_meant c index front n operands results (op h rs) y k sound is =
     let vs = results_from y 0 h.results in
@@ -76,7 +76,7 @@ give_meant c index front n operands results (op h rs) y k sound is =
     ∙ (λ i. bridges_meant c sound index Index front results vs is i ++ replaces_meant c ws (crossed k results vs) i ++ edit.Erase h.id ∷ [])
     ∙ (λ i. let us = sym (results_mapped (type_term c) y 0 h.results) i in bridges Index front results us ++ replacing (sym (results_mapped (type_term c) h.id 0 h.results) i) (crossed k results us) ++ edit.Erase h.id ∷ [])
 
-pub operation_meant : (c : Things) (wide index : ℕ) (fs : List (ℕ × ℕ)) (n : ℕ) (front : Place) (operands results : List Bool) (o : Op)
+pub operation_meant : (c : ContextModel) (wide index : ℕ) (fs : List (ℕ × ℕ)) (n : ℕ) (front : Place) (operands results : List Bool) (o : Op)
     → IsSound c → AreTypes c wide index → AreLowered c (head o).properties fs
     → edits_meaning c (operation_edits c wide index fs n front operands results o) ≡ operation_lowered n front operands results (meaning c o)
 operation_meant c wide index fs n front operands results o sound types ps =

@@ -1,11 +1,11 @@
--- The rules that lower, by their names.
+-- The lowering rules, by their names.
 use Rattle.std.proofs.Common.{◌≡◌, ap, sym, ℕ}
 use Rattle.ir_event.specs.trees.declared.place.Place.{Place}
 use Rattle.ir_event.specs.trees.Meaning.{Operation}
-use Rattle.patterns_yields.specs.base.Lowering.{lower_index, lower_loop, lower_choice}
-use Rattle.patterns_yields.specs.base.Rules.{rule}
-use Rattle.patterns_yields.specs.base.declared.rule.Rule.{Rule}
-use Rattle.patterns_yields.specs.base.declared.rule.Rule.TheVariants.{LowerIndex, LowerLoop, LowerChoice}
+use Rattle.patterns_soundness.specs.base.Lowering.{lower_index, lower_loop, lower_choice}
+use Rattle.patterns_soundness.specs.base.Rules.{rule}
+use Rattle.patterns_soundness.specs.base.declared.rule.Rule.{Rule}
+use Rattle.patterns_soundness.specs.base.declared.rule.Rule.TheVariants.{LowerIndex, LowerLoop, LowerChoice}
 
 pub at_lower_index : (r : Rule) → r ≡ LowerIndex → (t : Operation) (n : ℕ) (front : Place) (o : Operation) → lower_index t n front o ≡ rule r t n front o
 unfolding rule

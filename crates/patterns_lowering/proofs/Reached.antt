@@ -11,9 +11,9 @@ use Rattle.ir_event.proofs.of_tree_laws.Contents.{map_type_of_value}
 use Rattle.ir_event.specs.declared.world.World.{World}
 use Rattle.ir_event.specs.Modules.{module_in}
 use Rattle.ir_event.proofs.Typed.{value_known}
-use Rattle.patterns_yields.specs.base.Looks.{is_index, is_index_value}
+use Rattle.patterns_soundness.specs.base.Looks.{is_index, is_index_value}
 
--- whether a value is of index
+-- whether a value has type index
 in_contents : (w : World) (v : Value) (r : Option ℕ) → r ≡ type_of_value v w.store.module_of.tree → option_eq same_type (option_map (type_term w.ctx) r) (Some Index) ≡ is_index_value (module_in w).tree v
 in_contents w v r e = ap (λ q. option_eq same_type q (Some Index)) (ap (option_map (type_term w.ctx)) e ∙ sym (map_type_of_value (name_term w.ctx) (type_term w.ctx) (attr_term w.ctx) v w.store.module_of.tree))
 

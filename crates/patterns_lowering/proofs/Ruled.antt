@@ -1,9 +1,9 @@
--- What the rules that lower come to at an operation that a node shows.
+-- The results of the lowering rules at an operation that the store shows.
 use Rattle.std.proofs.Common.{◌≡◌, refl, ap, sym, ◌∙◌, subst, ℕ, ◌+◌, ◌≤◌, List, [], ◌∷◌, ◌++◌, length, map, Bool, true, false, ◌&&◌, ◌||◌, Option, Some, None, arith}
 use Rattle.std.specs.Prelude.{codes, option_map, option_and_then, slice_get}
 use Rattle.std.specs.List.{list_all, range_with_len}
 use Rattle.std.proofs.lemmas.List.{length-map}
-use Rattle.ir_event.specs.types.Things.{Things}
+use Rattle.ir_event.specs.types.Things.{ContextModel}
 use Rattle.ir_event.specs.types.Terms.{TypeTerm, Index, name_term, type_term, attr_term}
 use Rattle.ir_event.specs.trees.declared.value.Value.{Value}
 use Rattle.ir_event.specs.trees.declared.value.Value.TheVariants.{Result}
@@ -16,32 +16,32 @@ use Rattle.ir_event.specs.store.Nodes.{Node, node_of}
 use Rattle.ir_event.specs.declared.world.World.{World}
 use Rattle.ir_event.specs.Modules.{module_in, node_meaning}
 use Rattle.ir_event.proofs.Nodes.{node_shown}
-use Rattle.patterns_edits.specs.Contents.{Edit}
-use Rattle.patterns_edits.specs.Edits.{Make}
-use Rattle.patterns_yields.specs.base.Keeps.{given}
-use Rattle.patterns_yields.specs.base.Made.{i64, placeholder}
-use Rattle.patterns_yields.specs.base.Words.{among, index_users, named}
-use Rattle.patterns_yields.specs.base.Looks.{Ended, body, is_index_value, when}
-use Rattle.patterns_yields.specs.base.Makes.{arguments_from, replacing, replaced, erasing}
-use Rattle.patterns_yields.specs.base.Lowering.{any, bridges, brought, crossed, crossing, marked, indices, lowered_loop, lowered_if, end_of, before_in, lower_index, lower_loop, lower_choice}
-use Rattle.patterns_regions.specs.Blocks.{Shows, body_at}
-use Rattle.patterns_regions.proofs.Viewed.{block_types}
-use Rattle.patterns_yields.specs.Yields.{IsCleanOf}
-use Rattle.patterns_yields.proofs.Yielding.{loops_hand_on_all, choices_hand_on_all, choices_ask_truth}
+use Rattle.patterns_base.specs.Contents.{Edit}
+use Rattle.patterns_base.specs.Edits.{Make}
+use Rattle.patterns_soundness.specs.base.Keeps.{given}
+use Rattle.patterns_soundness.specs.base.Made.{i64, placeholder}
+use Rattle.patterns_soundness.specs.base.Words.{among, index_users, named}
+use Rattle.patterns_soundness.specs.base.Looks.{Ended, body, is_index_value, when}
+use Rattle.patterns_soundness.specs.base.Makes.{arguments_from, replacing, replaced, erasing}
+use Rattle.patterns_soundness.specs.base.Lowering.{any, bridges, brought, crossed, crossing, marked, indices, lowered_loop, lowered_if, end_of, before_in, lower_index, lower_loop, lower_choice}
+use Rattle.patterns_plans.specs.Blocks.{Shows, body_at}
+use Rattle.patterns_plans.proofs.Viewed.{block_types}
+use Rattle.patterns_soundness.specs.Yields.{IsVerifiedOf}
+use Rattle.patterns_soundness.proofs.Yielding.{loops_hand_on_all, choices_hand_on_all, choices_ask_truth}
 use Rattle.patterns_lowering.specs.declared.plan.Indexed.{Indexed}
-use Rattle.patterns_lowering.specs.declared.plan.Taken.{Taken}
+use Rattle.patterns_lowering.specs.declared.plan.MovedOps.{MovedOps}
 use Rattle.patterns_lowering.specs.declared.plan.IndexedLoop.{IndexedLoop}
 use Rattle.patterns_lowering.specs.declared.plan.IndexedChoice.{IndexedChoice}
 use Rattle.patterns_lowering.specs.declared.plan.Lowering.{Lowering}
 use Rattle.patterns_lowering.specs.declared.plan.Lowering.TheVariants as plan
 use Rattle.patterns_lowering.specs.Bare.{bare}
 use Rattle.patterns_lowering.specs.Meanings.{results_given, operation_lowered, loop_lowered, choice_lowered, lowering_meaning}
-use Rattle.patterns_lowering.specs.Planned.{AreTaken, IsCleanAt, IsLoweredBy, IsReadIn, IsReadOf, IsTaken, Making}
+use Rattle.patterns_lowering.specs.Planned.{AreTaken, IsVerifiedAt, IsLoweredBy, IsReadIn, IsReadOf, IsTaken, Making}
 use Rattle.patterns_lowering.specs.Plans.{IsIndexed, IsIndexedChoice, IsIndexedLoop}
 use Rattle.patterns_lowering.proofs.Read.{bare_mapped, op_bare, lower_index_read}
 use Rattle.patterns_lowering.proofs.Shown.{Raw, bare_head, distinct_in, indexed_at, meant_there, none_there, raw, there_meant, types_few_at, types_known_at}
 use Rattle.ir_event.proofs.Steps.{meaning_operands}
-use Rattle.patterns_regions.proofs.Ruled.{when_none}
+use Rattle.patterns_plans.proofs.Ruled.{when_none}
 
 -- ---- tests
 
@@ -55,10 +55,10 @@ when_second false b r e = refl
 when_both : {X : Type 0} (a b : Bool) (r : Option X) → a ≡ true → b ≡ true → r ≡ when (a && b) r
 when_both a b r e f = sym (λ i. when (e i && f i) r)
 
--- ---- the rules, by what is read
+-- ---- the rules, from what is read
 
 module _ (t : Operation) (n : ℕ) (front : Place) where
-  -- a loop's edits, by what is read of its block, and the operation that is made
+  -- the edits of a loop, from what is read of its block, and the new operation
   abbrev loop_by : Operation → List TypeTerm → List ℕ → ℕ → List Value → Operation → List Edit
   loop_by o args before last handed made =
       let operands = map (is_index_value t) (head o).operands in
@@ -84,7 +84,7 @@ module _ (t : Operation) (n : ℕ) (front : Place) where
       ++ (bridges i64 (before_in y 0 last) results (map (replaced olds news) handed) ++ crossing last 0 yields_id results)
       ++ results_given n front operands results o y results_id
 
-  loop_is : (o : Operation) (args : List TypeTerm) (e : Ended) (b : Taken) → IsTaken e b
+  loop_is : (o : Operation) (args : List TypeTerm) (e : Ended) (b : MovedOps) → IsTaken e b
       → loop_lowered n front (map (is_index_value t) (head o).operands) (indices (head o).results) (bare o) args (indices args) b ≡ lowered_loop t n front o args e
   loop_is (op h rs) args e b k =
       λ i. loop_by (op h rs) args (k.before i) (k.last i) (k.handed i) (op_bare (op h rs) (crossed n (map (is_index_value t) h.operands) h.operands) i)
@@ -108,35 +108,35 @@ module _ (t : Operation) (n : ℕ) (front : Place) where
   unreplaced [] = refl
   unreplaced (v ∷ vs) = ap (λ l. v ∷ l) (unreplaced vs)
 
-  choice_is : (o : Operation) (e f : Ended) (b d : Taken) → IsTaken e b → IsTaken f d
+  choice_is : (o : Operation) (e f : Ended) (b d : MovedOps) → IsTaken e b → IsTaken f d
       → choice_lowered n front (map (is_index_value t) (head o).operands) (indices (head o).results) (bare o) b d ≡ lowered_if t n front o e f
   choice_is (op h rs) e f b d k l =
       λ i. choice_by (op h rs) (k.before i) (k.last i) ((k.handed ∙ unreplaced e.last.operands) i) (l.before i) (l.last i) ((l.handed ∙ unreplaced f.last.operands) i)
       (op_bare (op h rs) (crossed n (map (is_index_value t) h.operands) h.operands) i)
 
--- what is taken of a block that there may be
+-- what is read of an optional block
 none_of : (o : Option Ended) → AreTaken o None → None ≡ o
 none_of None h = refl
 none_of (Some e) h = absurd h
 
-record TakenOf (o : Option Ended) (b : Taken) : Type 0 where
+record TakenOf (o : Option Ended) (b : MovedOps) : Type 0 where
   ended : Ended
   is : o ≡ Some ended
   taken : IsTaken ended b
 
-some_of : (o : Option Ended) (b : Taken) → AreTaken o (Some b) → TakenOf o b
+some_of : (o : Option Ended) (b : MovedOps) → AreTaken o (Some b) → TakenOf o b
 some_of None b h = absurd h
 some_of (Some e) b h = record { ended = e; is = refl; taken = h }
 
--- ---- at an operation that a node shows
+-- ---- at an operation that the store shows
 
-meant_name : (c : Things) (o : Op) → (head (meaning c o)).name ≡ name_term c (node_of o).head.name
+meant_name : (c : ContextModel) (o : Op) → (head (meaning c o)).name ≡ name_term c (node_of o).head.name
 meant_name c (op h rs) = refl
 
-meant_results : (c : Things) (o : Op) → (head (meaning c o)).results ≡ map (type_term c) (head o).results
+meant_results : (c : ContextModel) (o : Op) → (head (meaning c o)).results ≡ map (type_term c) (head o).results
 meant_results c (op h rs) = refl
 
--- no operation
+-- the operation isn't in the module
 pub not_there : (makes : Making) (w : World) (x : ℕ) → None ≡ option_map node_of (find x w.store.module_of.tree) → IsLoweredBy makes w x None
 not_there makes w x e o f = absurd (none_there w x o e f)
 
@@ -150,14 +150,14 @@ module _ (w : World) (x : ℕ) (n : Node) (shown : Some n ≡ option_map node_of
   abbrev m : Operation
   m = meaning w.ctx s.here
 
-  -- what holds at the operation that is there
+  -- a property of the operation that is in the module
   at : (makes : Making) (p : Option Lowering) → ((k : ℕ) (front : Place) → option_map (lowering_meaning w.ctx k front) p ≡ makes t k front m) → IsLoweredBy makes w x p
   at makes p h o f k front = h k front ∙ ap (makes t k front) (sym (meant_there w x s.here o s.found f))
 
   named_as : (head m).name ≡ name_term w.ctx n.head.name
   named_as = meant_name w.ctx s.here ∙ ap (λ (z : Node). name_term w.ctx z.head.name) (sym s.node)
 
-  -- a name with which there is no rule
+  -- a name that the rule doesn't apply to
   pub not_lower_index : (b : Bool) → b ≡ among index_users (name_term w.ctx n.head.name) → b ≡ false → IsLoweredBy lower_index w x None
   not_lower_index b e f = at lower_index None (λ k front. when_first _ _ _ (ap (among index_users) named_as ∙ sym e ∙ f))
 
@@ -180,7 +180,7 @@ module _ (w : World) (x : ℕ) (n : Node) (shown : Some n ≡ option_map node_of
     op_is : meaning w.ctx i.op ≡ bare m
     op_is = ap (meaning w.ctx) r.op ∙ bare_mapped (name_term w.ctx) (type_term w.ctx) (attr_term w.ctx) s.here
 
-    -- nothing of index
+    -- no operand or result has type index
     pub unmarked_lower_index : (b : Bool) → b ≡ any i.index_operands.items || any i.index_results.items → b ≡ false → IsLoweredBy lower_index w x None
     unmarked_lower_index b e f = at lower_index None (λ k front. when_second _ _ _ ((λ z. any (sym operands_are z) || any (sym results_are z)) ∙ sym e ∙ f))
 
@@ -190,7 +190,7 @@ module _ (w : World) (x : ℕ) (n : Node) (shown : Some n ≡ option_map node_of
     pub unmarked_lower_choice : (b : Bool) → b ≡ any i.index_results.items → b ≡ false → IsLoweredBy lower_choice w x None
     unmarked_lower_choice b e f = at lower_choice None (λ k front. when_second _ _ _ (ap any (sym results_are) ∙ sym e ∙ f))
 
-    -- an operation of arith
+    -- an `arith` operation
     pub is_lower_index : (b d : Bool) → b ≡ among index_users (name_term w.ctx n.head.name) → b ≡ true → d ≡ any i.index_operands.items || any i.index_results.items → d ≡ true → IsLoweredBy lower_index w x (Some (plan.Operation i))
     is_lower_index b d e f g h =
         at lower_index (Some (plan.Operation i))
@@ -225,11 +225,11 @@ module _ (w : World) (x : ℕ) (n : Node) (shown : Some n ≡ option_map node_of
     pub indexed : IsIndexed w.ctx i
     indexed = indexed_at w x s.here i s.found r
 
-  clean_of : IsCleanAt w x → (word : List ℕ) (b : Bool) → b ≡ named word (name_term w.ctx n.head.name) → b ≡ true → IsCleanOf t m x word
-  clean_of clean word b e f = record { distinct = distinct_in w; found = there_meant w x s.here s.found; clean = clean m (there_meant w x s.here s.found); name = ap (named word) named_as ∙ sym e ∙ f }
+  verified_of : IsVerifiedAt w x → (word : List ℕ) (b : Bool) → b ≡ named word (name_term w.ctx n.head.name) → b ≡ true → IsVerifiedOf t m x word
+  verified_of verified word b e f = record { distinct = distinct_in w; found = there_meant w x s.here s.found; verified = verified m (there_meant w x s.here s.found); name = ap (named word) named_as ∙ sym e ∙ f }
 
-  -- what is taken of a block of it
-  taken_here : (i : Indexed) (was : IsReadOf w x i) (q : ℕ) (b : Taken) → AreTaken (body_at x q t) (Some b) → TakenOf (body t m q) b
+  -- what is read of one of its blocks
+  taken_here : (i : Indexed) (was : IsReadOf w x i) (q : ℕ) (b : MovedOps) → AreTaken (body_at x q t) (Some b) → TakenOf (body t m q) b
   taken_here i was q b h = some_of (body t m q) b (subst (λ o. AreTaken o (Some b)) (body_here i was q) h)
 
   module _ (l : IndexedLoop) (was : IsReadOf w x l.of) (b : Bool) (e : b ≡ named (codes "scf.for") (name_term w.ctx n.head.name)) (f : b ≡ true)
@@ -250,13 +250,13 @@ module _ (w : World) (x : ℕ) (n : Node) (shown : Some n ≡ option_map node_of
         ∙ ap (λ a. given a (λ args. given (body t m 0) (λ e. Some (lowered_loop t k front m args e)))) args_are
         ∙ when_both _ _ _ (ap (named (codes "scf.for")) named_as ∙ sym e ∙ f) (ap any (sym (operands_are l.of was)) ∙ sym g ∙ h))
 
-    pub indexed_lower_loop : IsCleanAt w x → IsIndexedLoop w.ctx l
-    indexed_lower_loop clean = record {
+    pub indexed_lower_loop : IsVerifiedAt w x → IsIndexedLoop w.ctx l
+    indexed_lower_loop verified = record {
       of = indexed l.of was;
       known = ap (list_all (is_type w.ctx)) arguments ∙ types_known_at w x n s 0 types block;
       few = subst (λ (k : ℕ). k ≤ 256) (ap length (sym arguments)) (types_few_at w x n s 0 types block);
       arguments = marks ∙ ap (λ l. indices (map (type_term w.ctx) l)) (sym arguments);
-      handed = ap length last.taken.handed ∙ loops_hand_on_all t m x last.ended (clean_of clean (codes "scf.for") b e f) last.is ∙ sym (op_results l.of was);
+      handed = ap length last.taken.handed ∙ loops_hand_on_all t m x last.ended (verified_of verified (codes "scf.for") b e f) last.is ∙ sym (op_results l.of was);
     }
 
   -- ---- a choice
@@ -291,9 +291,9 @@ module _ (w : World) (x : ℕ) (n : Node) (shown : Some n ≡ option_map node_of
         ∙ ap (λ q. given q (λ e. given (body t m 1) (λ f. Some (lowered_if t k front m e f)))) (sym one.is)
         ∙ when_both _ _ _ (ap (named (codes "scf.if")) named_as ∙ sym e ∙ f) (ap any (sym (results_are l.of was)) ∙ sym g ∙ h))
 
-    pub indexed_lower_choice : IsCleanAt w x → IsIndexedChoice w.ctx l
-    indexed_lower_choice clean =
-        let c = clean_of clean (codes "scf.if") b e f in
+    pub indexed_lower_choice : IsVerifiedAt w x → IsIndexedChoice w.ctx l
+    indexed_lower_choice verified =
+        let c = verified_of verified (codes "scf.if") b e f in
         record {
           of = indexed l.of was;
           operands = ap marked (operands_are l.of was ∙ choices_ask_truth t m x c);

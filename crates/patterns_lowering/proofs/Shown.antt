@@ -1,10 +1,10 @@
--- What is read of an operation that a node shows.
+-- What is read of an operation that the store shows.
 use Rattle.std.proofs.Common.{◌≡◌, refl, ap, sym, ◌∙◌, subst, ℕ, zero, suc, ◌≤◌, List, length, map, Bool, true, ◌&&◌, Option, Some, None, arith}
 use Rattle.std.specs.Prelude.{option_map, option_and_then, slice_get, nat_le}
 use Rattle.std.specs.List.{list_all}
 use Rattle.std.proofs.lemmas.Bool.{leb-true, and_parts, and_from}
 use Rattle.std.proofs.lemmas.List.{length-map}
-use Rattle.ir_event.specs.types.Things.{Things}
+use Rattle.ir_event.specs.types.Things.{ContextModel}
 use Rattle.ir_event.specs.types.Terms.{name_term, type_term, attr_term}
 use Rattle.ir_event.specs.trees.Tree.{Op, op, RegionsOf, no_regions, region, empty, block, head, regions, region_count, regions_of}
 use Rattle.ir_event.specs.trees.Ids.{HasDistinctIds, find}
@@ -19,15 +19,15 @@ use Rattle.ir_event.specs.declared.world.World.{World}
 use Rattle.ir_event.specs.Modules.{module_in}
 use Rattle.ir_event.proofs.Sounds.{every_found, found_sound}
 use Rattle.ir_event.proofs.Steps.{formed_meaning}
-use Rattle.patterns_yields.specs.base.Looks.{is_index_value}
-use Rattle.patterns_yields.specs.base.Lowering.{indices}
+use Rattle.patterns_soundness.specs.base.Looks.{is_index_value}
+use Rattle.patterns_soundness.specs.base.Lowering.{indices}
 use Rattle.patterns_lowering.specs.declared.plan.Indexed.{Indexed}
 use Rattle.patterns_lowering.specs.Bare.{bare, bare_regions, bare_read, region_with}
 use Rattle.patterns_lowering.specs.Planned.{IsReadIn, IsReadOf}
 use Rattle.patterns_lowering.specs.Plans.{IsIndexed}
 use Rattle.std.proofs.lemmas.Option.{same_Some}
 
--- the operation that a node shows
+-- the operation that the store shows
 pub record Raw (w : World) (x : ℕ) (n : Node) : Type 0 where
   pub here : Op
   pub found : find x w.store.module_of.tree ≡ Some here
@@ -40,7 +40,7 @@ raw w x n e = go (find x w.store.module_of.tree) refl e
     go None f e = absurd cc
     go (Some o) f e = (let one : n ≡ node_of o = cc in record { here = o; found = f; node = one })
 
--- what is there in contents
+-- the operation with terms
 pub none_there : (w : World) (x : ℕ) (o : Operation) → None ≡ option_map node_of (find x w.store.module_of.tree) → find x (module_in w).tree ≡ Some o → ⊥
 none_there w x o e f = go (find x w.store.module_of.tree) e (sym (map_find (name_term w.ctx) (type_term w.ctx) (attr_term w.ctx) x w.store.module_of.tree) ∙ f)
   where
@@ -59,7 +59,7 @@ there_meant w x r e = map_find (name_term w.ctx) (type_term w.ctx) (attr_term w.
 pub distinct_in : (w : World) → HasDistinctIds (module_in w).tree
 distinct_in w = (formed_meaning w.ctx w.store.module_of w.formed).distinct
 
--- what an operation of the module has is of the context, and within its limits
+-- an operation of the module has interned numbers and is within its limits
 pub sound_at : (w : World) (x : ℕ) (o : Op) → find x w.store.module_of.tree ≡ Some o → IsSoundIn w.ctx o
 sound_at w x o e = found_sound w.ctx x w.store.module_of.tree o w.sound e
 
@@ -71,15 +71,15 @@ fits_at w x o e =
     let t = w.store.module_of.tree in
     own_fits o (every_found op_fits x t o (and_parts (nat_le (op_count t) most_ops) (every op_fits t) w.formed.formed.counts).1 e)
 
--- the types of its results and of its blocks' arguments
-pub results_known : (c : Things) (o : Op) → IsSoundIn c o → list_all (is_type c) (head o).results ≡ true
+-- the types of its results and of its block arguments
+pub results_known : (c : ContextModel) (o : Op) → IsSoundIn c o → list_all (is_type c) (head o).results ≡ true
 results_known c (op h rs) s =
     let own = and_parts (op_passes (is_name c) (is_type c) (is_attr c) (op h rs)) (regions_every (op_passes (is_name c) (is_type c) (is_attr c)) rs) s.known in
     let parts = and_parts (head_passes (is_name c) (is_type c) (is_attr c) h) (all_arguments_pass (list_all (is_type c)) rs) own.0 in
     let name = and_parts (is_name c h.name) _ parts.0 in
     (and_parts (list_all (is_type c) h.results) _ name.1).0
 
-pub arguments_known : (c : Things) (o : Op) → IsSoundIn c o → all_arguments_pass (list_all (is_type c)) (regions o) ≡ true
+pub arguments_known : (c : ContextModel) (o : Op) → IsSoundIn c o → all_arguments_pass (list_all (is_type c)) (regions o) ≡ true
 arguments_known c (op h rs) s =
     let own = and_parts (op_passes (is_name c) (is_type c) (is_attr c) (op h rs)) (regions_every (op_passes (is_name c) (is_type c) (is_attr c)) rs) s.known in
     (and_parts (head_passes (is_name c) (is_type c) (is_attr c) h) (all_arguments_pass (list_all (is_type c)) rs) own.0).1
@@ -110,7 +110,7 @@ module _ (w : World) (x : ℕ) (n : Node) (s : Raw w x n) (r : ℕ) (types : Lis
   pub types_few_at : length types ≤ 256
   types_few_at = leb-true (length types) 256 (passed_at items_fit (regions s.here) r types (arguments_few s.here (fits_at w x s.here s.found)) types_at)
 
--- an operation without those in its blocks
+-- an operation without the operations inside its blocks
 with_arguments : (rs : RegionsOf ℕ ℕ ℕ) → regions_of (map region_with (regions_arguments rs)) ≡ bare_regions rs
 with_arguments no_regions = refl
 with_arguments (region empty rs) = ap (region empty) (with_arguments rs)
@@ -134,7 +134,7 @@ shown_results w x n s = ap (λ (m : Node). m.head.results) s.node ∙ ap (λ h. 
 pub shown_known : (w : World) (x : ℕ) (n : Node) → Some n ≡ option_map node_of (find x w.store.module_of.tree) → list_all (is_type w.ctx) n.head.results ≡ true
 shown_known w x n e = let s = raw w x n e in subst (λ l. list_all (is_type w.ctx) l ≡ true) (sym (shown_results w x n s)) (results_known w.ctx s.here (sound_at w x s.here s.found))
 
--- what was read
+-- the operation that was read
 pub was_read : (w : World) (x : ℕ) (n : Node) → Some n ≡ option_map node_of (find x w.store.module_of.tree) → (i : Indexed) → i.op ≡ bare_read x n
     → i.index_operands.items ≡ map (is_index_value (module_in w).tree) n.head.operands → i.index_results.items ≡ indices (map (type_term w.ctx) n.head.results) → IsReadOf w x i
 was_read w x n e i p q r o f =
@@ -147,7 +147,7 @@ was_read w x n e i p q r o f =
       results = r ∙ ap (λ l. indices (map (type_term w.ctx) l)) (shown_results w x n s);
     })
 
--- is of the context, and within the limits
+-- it has interned numbers and is within the limits
 bare_every : (p : Op → Bool) (rs : RegionsOf ℕ ℕ ℕ) → regions_every p (bare_regions rs) ≡ true
 bare_every p no_regions = refl
 bare_every p (region empty rs) = bare_every p rs
@@ -162,7 +162,7 @@ bare_count : (rs : RegionsOf ℕ ℕ ℕ) → region_count (bare_regions rs) ≡
 bare_count no_regions = refl
 bare_count (region g rs) = (let e = bare_count rs in omega (arith, e))
 
-bare_sound : (c : Things) (o : Op) → IsSoundIn c o → IsSoundIn c (bare o)
+bare_sound : (c : ContextModel) (o : Op) → IsSoundIn c o → IsSoundIn c (bare o)
 bare_sound c (op h rs) s =
     let p = op_passes (is_name c) (is_type c) (is_attr c) in
     let q = dictionaries_rise (key_before_in c) in

@@ -1,13 +1,13 @@
--- Whether the edits of plans make what is counted.
+-- The edits of plans make the counted number of operations.
 use Rattle.std.specs.Prelude.{◌≡◌, ℕ}
-use Rattle.ir_event.specs.types.Things.{Things}
+use Rattle.ir_event.specs.types.Things.{ContextModel}
 use Rattle.ir_event.specs.trees.declared.place.Place.{Place}
-use Rattle.patterns_yields.specs.base.Makes.{made_by}
+use Rattle.patterns_soundness.specs.base.Makes.{made_by}
 use Rattle.patterns_lowering.specs.declared.plan.Lowering.{Lowering}
 use Rattle.patterns_lowering.specs.Meanings.{lowering_meaning}
 use Rattle.patterns_lowering.specs.Plans.{LoweringIsOf, lowering_makes}
 
--- the edits of a plan of a context make as many operations as is counted, whatever id is free and wherever they go
+-- the edits of a plan make the counted number of operations, whatever the next id and the place are
 abbrev pub CountsAreMade : Type 0
-CountsAreMade = (c : Things) (n : ℕ) (front : Place) (p : Lowering) → LoweringIsOf c p
-    → made_by (lowering_meaning c n front p) ≡ lowering_makes p
+CountsAreMade = (c : ContextModel) (n : ℕ) (point : Place) (p : Lowering) → LoweringIsOf c p
+    → made_by (lowering_meaning c n point p) ≡ lowering_makes p

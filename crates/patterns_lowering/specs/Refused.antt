@@ -1,4 +1,4 @@
--- What a refusal of the context is called: it is full.
+-- The refusal of a full context.
 use Rattle.ir_event.specs.types.declared.refusal.Refusal.{Refusal}
 use Rattle.ir_event.specs.types.declared.refusal.Refusal.TheVariants.{Memory, Full}
 

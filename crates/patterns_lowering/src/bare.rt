@@ -1,4 +1,4 @@
-//! Operations are read without the operations in their blocks.
+//! Reads operations without the operations inside their blocks.
 ghost use Rattle.std.specs.Prelude.{◌≡◌, ◌≤◌, IfOk, length, map, option_map};
 ghost use Rattle.ir_event.specs.trees.Limits.{most_regions};
 ghost use Rattle.ir_event.specs.trees.View.{region_view};
@@ -9,7 +9,7 @@ use ir_event::trees::tree::{TreeOp, TreeRegion};
 use ir_event::types::ids::{OpId, TypeId};
 use std::alloc::{AllocError, Global};
 
-/// A region whose block has these arguments, if there is one.
+/// Returns a region whose block has these arguments, or a region without a block for `None`.
 fn bare_region(alloc: Global, arguments: Option<&[TypeId]>) -> Result<TreeRegion, AllocError>
     ensures { IfOk result (λ r. region_view r ≡ region_with (option_map (λ a. a.now) arguments.entry)) }
 {
@@ -22,7 +22,7 @@ fn bare_region(alloc: Global, arguments: Option<&[TypeId]>) -> Result<TreeRegion
     }
 }
 
-/// The regions of a node.
+/// Returns the regions of a node, without operations.
 fn bare_regions(alloc: Global, node: &Node<'_>) -> Result<Vec<TreeRegion>, AllocError>
     requires { length node.now.arguments ≤ most_regions }
     ensures { IfOk result (λ rs. map region_view rs.items ≡ map region_with node.now.arguments) }
@@ -36,7 +36,7 @@ fn bare_regions(alloc: Global, node: &Node<'_>) -> Result<Vec<TreeRegion>, Alloc
     Ok(regions)
 }
 
-/// The operation of which a node is read.
+/// Returns the operation of a node, without the operations inside its blocks.
 pub(crate) fn bare(alloc: Global, op: OpId, node: &Node<'_>) -> Result<TreeOp, AllocError>
     requires { length node.now.arguments ≤ most_regions }
     ensures { IfOk result (λ o. o ≡ bare_read op node.now) }

@@ -1,11 +1,11 @@
-//! How many operations lowerings make.
+//! Counts the operations that lowerings make.
 ghost use Rattle.std.specs.Prelude.{◌≡◌};
 ghost use Rattle.patterns_lowering.specs.Plans.{IsOfSome, lowering_makes};
 
 use crate::marks::marked;
 use crate::plan::Lowering;
 
-/// How many operations a plan makes.
+/// Returns the number of operations that a plan makes.
 pub fn lowering_makes(plan: &Lowering) -> u64
     requires { IsOfSome plan.now }
     ensures { result ≡ lowering_makes plan.now }

@@ -1,16 +1,16 @@
-//! What stands for the arguments of a loop while its operations are moved: casts out of nothing.
+//! Placeholders for the arguments of a loop while its operations are moved: casts without operands.
 ghost use Rattle.std.specs.Prelude.{◌≡◌, ◌≤◌, ◌+◌, IfOk, OnOk, ◌++◌, ◌∷◌, [], length};
 ghost use Rattle.ir_event.specs.trees.Limits.{most_next};
 ghost use Rattle.patterns_lowering.specs.Numbers.{erase_edits, first_results, holder_edits, numbers_from};
 
-use crate::lists::{cast, put};
+use crate::lists::{cast, push_edit};
 use ir_event::trees::place::Place;
 use ir_event::trees::value::Value;
 use ir_event::types::ids::{OpId, TypeId};
-use patterns_edits::edit::Edit;
+use patterns_base::edit::Edit;
 use std::alloc::{AllocError, Global};
 
-/// Ids from one on, as many as there are types.
+/// Returns consecutive ids from `first` on, one for each type.
 pub(crate) fn ids_from(alloc: Global, first: u32, types: &[TypeId]) -> Result<Vec<OpId>, AllocError>
     requires { first + length types.now ≤ most_next }
     ensures { IfOk result (λ xs. xs.items ≡ numbers_from first types.now) }
@@ -26,7 +26,7 @@ pub(crate) fn ids_from(alloc: Global, first: u32, types: &[TypeId]) -> Result<Ve
     Ok(ids)
 }
 
-/// The first results of some operations.
+/// Returns the first results of some operations.
 pub(crate) fn first_results(alloc: Global, ops: &[OpId]) -> Result<Vec<Value>, AllocError>
     ensures { IfOk result (λ vs. vs.items ≡ first_results ops.now) }
 {
@@ -39,7 +39,7 @@ pub(crate) fn first_results(alloc: Global, ops: &[OpId]) -> Result<Vec<Value>, A
     Ok(values)
 }
 
-/// A cast out of nothing to a type, at a place.
+/// Appends the insertion of a cast without operands to a type.
 fn push_holder(
     alloc: Global,
     edits: &mut Vec<Edit>,
@@ -49,10 +49,10 @@ fn push_holder(
     ensures { OnOk result (edits.new.items ≡ edits.old.items ++ holder_edits place.now (ty ∷ [])) }
 {
     let op = cast(alloc, ty, Vec::new(alloc))?;
-    put(edits, Edit::Make { place: *place, op })
+    push_edit(edits, Edit::Make { place: *place, op })
 }
 
-/// Casts out of nothing to some types, at a place.
+/// Appends the insertion of a cast without operands to each type.
 pub(crate) fn push_holders(
     alloc: Global,
     edits: &mut Vec<Edit>,
@@ -69,13 +69,13 @@ pub(crate) fn push_holders(
     Ok(())
 }
 
-/// Operations are erased.
+/// Appends the erasure of some operations.
 pub(crate) fn push_erased(edits: &mut Vec<Edit>, ops: &[OpId]) -> Result<(), AllocError>
     ensures { OnOk result (edits.new.items ≡ edits.old.items ++ erase_edits ops.now) }
 {
     let mut rest = ops;
     'ops: while let [op, tail @ ..] = rest {
-        put(edits, Edit::Erase { op: *op })?;
+        push_edit(edits, Edit::Erase { op: *op })?;
         rest = tail;
     }
     Ok(())

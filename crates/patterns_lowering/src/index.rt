@@ -1,12 +1,12 @@
-//! Which types, and which values of a module, are of index.
+//! Finds the types and the values of a module that are of type index.
 ghost use Rattle.std.specs.Prelude.{◌≡◌, IfOk, true, map};
 ghost use Rattle.std.specs.List.{list_all};
 ghost use Rattle.ir_event.specs.types.Things.{IsType};
 ghost use Rattle.ir_event.specs.types.Terms.{type_term};
 ghost use Rattle.ir_event.specs.trees.Meaning.{is_type};
 ghost use Rattle.ir_event.specs.Modules.{module_in};
-ghost use Rattle.patterns_yields.specs.base.Looks.{is_index, is_index_value};
-ghost use Rattle.patterns_yields.specs.base.Lowering.{indices};
+ghost use Rattle.patterns_soundness.specs.base.Looks.{is_index, is_index_value};
+ghost use Rattle.patterns_soundness.specs.base.Lowering.{indices};
 
 use ir_event::trees::value::Value;
 use ir_event::types::context::Context;
@@ -15,7 +15,7 @@ use ir_event::world::World;
 use ir_verify_base::types;
 use std::alloc::{AllocError, Global};
 
-/// Whether a type is index.
+/// Returns whether a type is index.
 #[tactic(auto, using(crate::proofs::Typed::index_is))]
 pub(crate) fn is_index(ctx: &Context, ty: TypeId) -> bool
     requires { IsType ctx.now ty }
@@ -24,7 +24,7 @@ pub(crate) fn is_index(ctx: &Context, ty: TypeId) -> bool
     types::is_index(ctx, ty)
 }
 
-/// Whether a value of the module is of index.
+/// Returns whether a value of the module has type index.
 fn is_index_value(world: &World, value: &Value) -> bool
     ensures { result ≡ is_index_value (module_in world.now).tree value.now }
 {
@@ -34,7 +34,7 @@ fn is_index_value(world: &World, value: &Value) -> bool
     is_index(&world.ctx, ty)
 }
 
-/// Which types are index.
+/// Returns for each type whether it is index.
 pub(crate) fn indices(
     alloc: Global,
     ctx: &Context,
@@ -52,7 +52,7 @@ pub(crate) fn indices(
     Ok(marks)
 }
 
-/// Which values of the module are of index.
+/// Returns for each value of the module whether it has type index.
 pub(crate) fn index_values(
     alloc: Global,
     world: &World,

@@ -1,16 +1,18 @@
-//! What lowerings need is interned: i64, index, and integers of i64 for those of index.
+//! Interns what lowerings need: i64, index, and an i64 integer for each index integer.
 ghost use Rattle.std.specs.Prelude.{◌≡◌, IfOk, IfErr, OnOk, None, ℕ, List, [], ◌∷◌, ◌++◌};
 ghost use Rattle.ir_event.specs.types.Things.{IsType, IsAttr, TypeIsOf};
 ghost use Rattle.ir_event.specs.types.Terms.{attr_term, type_term, type_node_term};
 ghost use Rattle.ir_event.specs.types.Reasons.{type_fault};
 ghost use Rattle.ir_event.specs.trees.Meaning.{IsSoundIn};
 ghost use Rattle.ir_event.specs.trees.Tree.{head};
-ghost use Rattle.patterns_yields.specs.base.Made.{i64};
-ghost use Rattle.patterns_yields.specs.base.Lowering.{lowered_attr};
-ghost use Rattle.patterns_runs.specs.Interning.{Added, IsNoRoom};
+ghost use Rattle.patterns_soundness.specs.base.Made.{i64};
+ghost use Rattle.patterns_soundness.specs.base.Lowering.{lowered_attr};
+ghost use Rattle.patterns_lowering.specs.Interning.{Added, IsCapacityRefusal};
 ghost use Rattle.patterns_lowering.specs.Refused.{as_full};
 ghost use Rattle.patterns_lowering.specs.Lowered.{AreKnown, AreLowered, AreTypes, IsLowering, index_bits};
 
+use crate::Bench;
+use crate::bench_laws::led_benches_are_kept;
 use crate::index::is_index;
 use crate::numbers::Numbers;
 use ir_event::analysis::Analysis;
@@ -20,11 +22,9 @@ use ir_event::types::ids::{AttrId, NameId, TypeId};
 use ir_event::types::node::{AttrNode, Sign, TypeNode};
 use ir_event::types::refusal::Refusal;
 use ir_event::types::things::attr_of;
-use patterns_runs::Bench;
-use patterns_runs::laws::led_benches_are_kept;
 use std::alloc::{AllocError, Global};
 
-/// A refusal of the context: it is full, or memory was refused.
+/// Converts a refusal of the context to `Full` or `Memory`.
 fn as_full(refusal: Refusal) -> Refusal
     ensures { result ≡ as_full refusal }
 {
@@ -34,13 +34,13 @@ fn as_full(refusal: Refusal) -> Refusal
     }
 }
 
-/// The number of a type that has no fault.
+/// Interns a valid type.
 fn interned_type<L: Analysis>(bench: &mut Bench<L>, node: TypeNode) -> Result<TypeId, Refusal>
-    requires of { TypeIsOf bench.old.desk.ctx node }
-    requires fine { type_fault (type_node_term bench.old.desk.ctx node) ≡ None }
-    ensures known { IfOk result (λ id. IsType bench.new.desk.ctx id) }
-    ensures is { IfOk result (λ id. type_term bench.new.desk.ctx id ≡ type_node_term bench.old.desk.ctx node) }
-    ensures refused { IfErr result (λ e. IsNoRoom bench.new.desk.ctx e) }
+    requires of { TypeIsOf bench.old.transaction.ctx node }
+    requires fine { type_fault (type_node_term bench.old.transaction.ctx node) ≡ None }
+    ensures known { IfOk result (λ id. IsType bench.new.transaction.ctx id) }
+    ensures is { IfOk result (λ id. type_term bench.new.transaction.ctx id ≡ type_node_term bench.old.transaction.ctx node) }
+    ensures refused { IfErr result (λ e. IsCapacityRefusal bench.new.transaction.ctx e) }
     ensures interned { Added L.meaning bench.old bench.new }
 {
     bench.is_formed();
@@ -52,7 +52,7 @@ fn interned_type<L: Analysis>(bench: &mut Bench<L>, node: TypeNode) -> Result<Ty
     }
 }
 
-/// The bits of an integer of index.
+/// Returns the bits of an integer attribute of type index, or `None` for another attribute.
 fn index_bits(ctx: &Context, attr: AttrId) -> Option<u128>
     requires { IsAttr ctx.now attr }
     ensures { result ≡ index_bits (attr_term ctx.now attr) }
@@ -68,19 +68,19 @@ fn index_bits(ctx: &Context, attr: AttrId) -> Option<u128>
     }
 }
 
-/// An attribute, or the integer of i64 for one of index.
+/// Returns the i64 integer for an integer of type index, and any other attribute unchanged.
 fn lowered_attr<L: Analysis>(
     bench: &mut Bench<L>,
     wide: TypeId,
     attr: AttrId,
 ) -> Result<AttrId, Refusal>
-    requires wide_known { IsType bench.old.desk.ctx wide }
-    requires wide_is { type_term bench.old.desk.ctx wide ≡ i64 }
-    requires known { IsAttr bench.old.desk.ctx attr }
-    ensures known { IfOk result (λ id. IsAttr bench.new.desk.ctx id) }
-    ensures is { IfOk result (λ id. attr_term bench.new.desk.ctx id
-        ≡ lowered_attr (attr_term bench.old.desk.ctx attr)) }
-    ensures refused { IfErr result (λ e. IsNoRoom bench.new.desk.ctx e) }
+    requires wide_known { IsType bench.old.transaction.ctx wide }
+    requires wide_is { type_term bench.old.transaction.ctx wide ≡ i64 }
+    requires known { IsAttr bench.old.transaction.ctx attr }
+    ensures known { IfOk result (λ id. IsAttr bench.new.transaction.ctx id) }
+    ensures is { IfOk result (λ id. attr_term bench.new.transaction.ctx id
+        ≡ lowered_attr (attr_term bench.old.transaction.ctx attr)) }
+    ensures refused { IfErr result (λ e. IsCapacityRefusal bench.new.transaction.ctx e) }
     ensures interned { Added L.meaning bench.old bench.new }
 {
     led_benches_are_kept::<L>();
@@ -96,8 +96,8 @@ fn lowered_attr<L: Analysis>(
     }
 }
 
-/// One entry more.
-fn put_entry(
+/// Appends an entry to a dictionary.
+fn push_entry(
     entries: &mut Vec<(NameId, AttrId)>,
     key: NameId,
     attr: AttrId,
@@ -108,20 +108,20 @@ fn put_entry(
     Ok(())
 }
 
-/// One entry is lowered.
+/// Appends one entry, lowered to i64.
 fn lowered_entry<L: Analysis>(
     bench: &mut Bench<L>,
     lowered: &mut Vec<(NameId, AttrId)>,
     wide: TypeId,
     entry: (NameId, AttrId),
 ) -> Result<(), Refusal>
-    requires wide_known { IsType bench.old.desk.ctx wide }
-    requires wide_is { type_term bench.old.desk.ctx wide ≡ i64 }
-    requires known { IsAttr bench.old.desk.ctx entry.1 }
+    requires wide_known { IsType bench.old.transaction.ctx wide }
+    requires wide_is { type_term bench.old.transaction.ctx wide ≡ i64 }
+    requires known { IsAttr bench.old.transaction.ctx entry.1 }
     ensures lowered { OnOk result ((all rest : List (ℕ × ℕ))
-        → IsLowering bench.old.desk.ctx all (entry ∷ rest) lowered.old.items
-        → IsLowering bench.new.desk.ctx all rest lowered.new.items) }
-    ensures refused { IfErr result (λ e. IsNoRoom bench.new.desk.ctx e) }
+        → IsLowering bench.old.transaction.ctx all (entry ∷ rest) lowered.old.items
+        → IsLowering bench.new.transaction.ctx all rest lowered.new.items) }
+    ensures refused { IfErr result (λ e. IsCapacityRefusal bench.new.transaction.ctx e) }
     ensures interned { Added L.meaning bench.old bench.new }
 {
     bench.is_formed();
@@ -130,24 +130,24 @@ fn lowered_entry<L: Analysis>(
         Ok(attr) => attr,
         Err(refusal) => return Err(refusal),
     };
-    match put_entry(lowered, key, attr) {
+    match push_entry(lowered, key, attr) {
         Ok(()) => Ok(()),
         Err(_) => Err(Refusal::Memory),
     }
 }
 
-/// The entries of a dictionary, with integers of i64 for those of index.
+/// Returns the entries of a dictionary, with an i64 integer for each index integer.
 fn lowered_entries<L: Analysis>(
     alloc: Global,
     bench: &mut Bench<L>,
     wide: TypeId,
     entries: &[(NameId, AttrId)],
 ) -> Result<Vec<(NameId, AttrId)>, Refusal>
-    requires wide_known { IsType bench.old.desk.ctx wide }
-    requires wide_is { type_term bench.old.desk.ctx wide ≡ i64 }
-    requires known { AreKnown bench.old.desk.ctx entries.now }
-    ensures lowered { IfOk result (λ es. AreLowered bench.new.desk.ctx entries.now es.items) }
-    ensures refused { IfErr result (λ e. IsNoRoom bench.new.desk.ctx e) }
+    requires wide_known { IsType bench.old.transaction.ctx wide }
+    requires wide_is { type_term bench.old.transaction.ctx wide ≡ i64 }
+    requires known { AreKnown bench.old.transaction.ctx entries.now }
+    ensures lowered { IfOk result (λ es. AreLowered bench.new.transaction.ctx entries.now es.items) }
+    ensures refused { IfErr result (λ e. IsCapacityRefusal bench.new.transaction.ctx e) }
     ensures interned { Added L.meaning bench.old bench.new }
 {
     led_benches_are_kept::<L>();
@@ -165,10 +165,10 @@ fn lowered_entries<L: Analysis>(
     Ok(lowered)
 }
 
-/// The numbers of i64 and of index.
+/// Interns i64 and index.
 fn interned_types<L: Analysis>(bench: &mut Bench<L>) -> Result<(TypeId, TypeId), Refusal>
-    ensures types { IfOk result (λ p. AreTypes bench.new.desk.ctx p.0 p.1) }
-    ensures refused { IfErr result (λ e. IsNoRoom bench.new.desk.ctx e) }
+    ensures types { IfOk result (λ p. AreTypes bench.new.transaction.ctx p.0 p.1) }
+    ensures refused { IfErr result (λ e. IsCapacityRefusal bench.new.transaction.ctx e) }
     ensures interned { Added L.meaning bench.old bench.new }
 {
     led_benches_are_kept::<L>();
@@ -193,18 +193,18 @@ fn interned_types<L: Analysis>(bench: &mut Bench<L>) -> Result<(TypeId, TypeId),
     }
 }
 
-/// What lowering an operation needs is interned.
+/// Interns what lowering an operation needs.
 ///
-/// Refusals: `Full` where the context is full; `Memory`.
+/// Errors: `Full` if the context is full; `Memory`.
 pub(crate) fn interned<L: Analysis>(
     alloc: Global,
     bench: &mut Bench<L>,
     op: &TreeOp,
 ) -> Result<Numbers, Refusal>
-    requires { IsSoundIn bench.old.desk.ctx op.now }
-    ensures types { IfOk result (λ n. AreTypes bench.new.desk.ctx n.wide n.index) }
-    ensures properties { IfOk result (λ n. AreLowered bench.new.desk.ctx (head op.now).properties n.properties.items) }
-    ensures refused { IfErr result (λ e. IsNoRoom bench.new.desk.ctx e) }
+    requires { IsSoundIn bench.old.transaction.ctx op.now }
+    ensures types { IfOk result (λ n. AreTypes bench.new.transaction.ctx n.wide n.index) }
+    ensures properties { IfOk result (λ n. AreLowered bench.new.transaction.ctx (head op.now).properties n.properties.items) }
+    ensures refused { IfErr result (λ e. IsCapacityRefusal bench.new.transaction.ctx e) }
     ensures interned { Added L.meaning bench.old bench.new }
 {
     led_benches_are_kept::<L>();

@@ -1,6 +1,8 @@
-//! Operations on index become operations on i64, with casts around them.
+//! Lowers operations on index to i64, with casts around them. The module `apply_edits` carries out a list of edits on
+//! a rewriter: all of them, or none.
 #![tactic(auto)]
 
+pub mod apply_edits;
 mod bare;
 mod choices;
 pub mod count;
@@ -20,10 +22,12 @@ mod over;
 pub mod plan;
 pub mod plans;
 mod reading;
+mod single;
 mod users;
 
-pub use patterns_regions as region_rules;
-pub use patterns_regions::reads;
-pub use patterns_runs as runs;
-pub use patterns_runs::rewriter;
-pub use patterns_yields::base::rule;
+pub use patterns_base::edit;
+pub use patterns_plans as region_rules;
+pub use patterns_plans::reads;
+pub use patterns_soundness::base::rule;
+pub use rewriter;
+pub use rewriter::{Bench, laws as bench_laws};

@@ -2,8 +2,8 @@
 ghost use Rattle.std.specs.Prelude.{◌≡◌, ◌≤◌, ◌+◌, IfOk, OnOk, List, ◌∷◌, [], ◌++◌, length, map, Bool};
 ghost use Rattle.ir_event.specs.trees.declared.value.Value.{Value as TreeValue};
 ghost use Rattle.ir_event.specs.trees.Limits.{most_next};
-ghost use Rattle.patterns_yields.specs.base.Makes.{results_from};
-ghost use Rattle.patterns_yields.specs.base.Lowering.{crossed, marked};
+ghost use Rattle.patterns_soundness.specs.base.Makes.{results_from};
+ghost use Rattle.patterns_soundness.specs.base.Lowering.{crossed, marked};
 ghost use Rattle.patterns_lowering.specs.Numbers.{bridge_edits, cast_op, replace_edits};
 
 use ir_event::trees::place::Place;
@@ -11,18 +11,18 @@ use ir_event::trees::tree::TreeOp;
 use ir_event::trees::value::Value;
 use ir_event::types::ids::{OpId, TypeId};
 use ir_event::types::word::Word;
-use patterns_edits::edit::Edit;
+use patterns_base::edit::Edit;
 use std::alloc::{AllocError, Global};
 
-/// One edit more.
-pub(crate) fn put(edits: &mut Vec<Edit>, edit: Edit) -> Result<(), AllocError>
+/// Appends an edit.
+pub(crate) fn push_edit(edits: &mut Vec<Edit>, edit: Edit) -> Result<(), AllocError>
     ensures { OnOk result (edits.new.items ≡ edits.old.items ++ edit ∷ []) }
 {
     edits.push(edit)?;
     Ok(())
 }
 
-/// A cast of some values to a type.
+/// Returns a cast of some values to a type.
 pub(crate) fn cast(alloc: Global, ty: TypeId, operands: Vec<Value>) -> Result<TreeOp, AllocError>
     ensures { IfOk result (λ o. o ≡ cast_op ty operands.items) }
 {
@@ -39,7 +39,7 @@ pub(crate) fn cast(alloc: Global, ty: TypeId, operands: Vec<Value>) -> Result<Tr
     })
 }
 
-/// A cast of a value to a type is made at a place, if the value is marked.
+/// Appends the insertion of a cast of a value to a type, if the value is marked.
 fn push_bridge(
     alloc: Global,
     edits: &mut Vec<Edit>,
@@ -58,10 +58,10 @@ fn push_bridge(
     let mut operands = Vec::new(alloc);
     operands.push(value)?;
     let op = cast(alloc, ty, operands)?;
-    put(edits, Edit::Make { place: *place, op })
+    push_edit(edits, Edit::Make { place: *place, op })
 }
 
-/// Casts to a type are made, at a place, of those values that are marked.
+/// Appends the insertion of casts of the marked values to a type.
 pub(crate) fn push_bridges(
     alloc: Global,
     edits: &mut Vec<Edit>,
@@ -85,7 +85,7 @@ pub(crate) fn push_bridges(
     Ok(())
 }
 
-/// Values are replaced by others, one by one.
+/// Appends the replacement of values by others, one by one.
 pub(crate) fn push_replaced(
     edits: &mut Vec<Edit>,
     olds: &[Value],
@@ -99,7 +99,7 @@ pub(crate) fn push_replaced(
         let [new, tail @ ..] = right else {
             return Ok(());
         };
-        put(
+        push_edit(
             edits,
             Edit::Replace {
                 old: *old,
@@ -112,7 +112,7 @@ pub(crate) fn push_replaced(
     Ok(())
 }
 
-/// A value, or the cast with the next id, if it is marked. The next id behind it.
+/// Appends a value, or the cast with id `next` if the value is marked. Returns the next id after that.
 fn cross(values: &mut Vec<Value>, next: u32, mark: bool, value: Value) -> Result<u32, AllocError>
     requires { next + marked (mark ∷ []) ≤ most_next }
     ensures values { IfOk result (λ n. (ms : List Bool) (vs : List TreeValue)
@@ -127,7 +127,7 @@ fn cross(values: &mut Vec<Value>, next: u32, mark: bool, value: Value) -> Result
     Ok(next + 1)
 }
 
-/// Values, with the casts of those that are marked in their place, whose ids begin with one.
+/// Returns the values, with the marked ones replaced by their casts, whose ids begin with `first`.
 pub(crate) fn crossed(
     alloc: Global,
     first: u32,
@@ -152,7 +152,7 @@ pub(crate) fn crossed(
     Ok(casts)
 }
 
-/// The results of an operation, as many as there are types.
+/// Returns the results of an operation, one for each type.
 pub(crate) fn results_of(
     alloc: Global,
     op: OpId,

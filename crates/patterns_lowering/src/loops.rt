@@ -2,11 +2,11 @@
 ghost use Rattle.std.specs.Prelude.{◌≡◌, ◌≤◌, ◌+◌, IfOk, OnOk, ◌++◌, length, map};
 ghost use Rattle.ir_event.specs.trees.Limits.{most_next};
 ghost use Rattle.ir_event.specs.trees.Tree.{head};
-ghost use Rattle.patterns_yields.specs.base.Lowering.{marked};
+ghost use Rattle.patterns_soundness.specs.base.Lowering.{marked};
 ghost use Rattle.patterns_lowering.specs.declared.plan.Lowering.TheVariants.{Loop};
 ghost use Rattle.patterns_lowering.specs.Numbers.{give_edits, handed_edits, held_edits, inside_edits};
 ghost use Rattle.patterns_lowering.specs.Numbers.{loop_edits, loop_ids};
-ghost use Rattle.patterns_regions.specs.Opened.{put_for};
+ghost use Rattle.patterns_plans.specs.Opened.{put_for};
 ghost use Rattle.patterns_lowering.specs.Plans.{IsIndexedLoop, lowering_makes};
 
 use crate::give::push_given;
@@ -21,25 +21,25 @@ use ir_event::trees::place::Place;
 use ir_event::trees::value::Value;
 use ir_event::types::context::Context;
 use ir_event::types::ids::{OpId, TypeId};
-use patterns_edits::edit::Edit;
+use patterns_base::edit::Edit;
 use std::alloc::{AllocError, Global};
 
-/// The ids of what a loop becomes.
+/// The ids of the operations that replace a loop.
 #[derive(Clone, Copy)]
 pub(crate) struct LoopIds {
-    /// The first of what stands for the loop's arguments.
+    /// The first placeholder of the loop's arguments.
     pub(crate) holders: u32,
-    /// The loop.
+    /// The new loop.
     pub(crate) op: u32,
-    /// The first cast of its arguments.
+    /// The first cast of the new loop's arguments.
     pub(crate) arguments: u32,
-    /// The first cast of what its block hands on.
+    /// The first cast of the terminator's operands.
     pub(crate) handed: u32,
-    /// The first cast of its results.
+    /// The first cast of the loop's results.
     pub(crate) results: u32,
 }
 
-/// The ids of what a loop becomes, from one on.
+/// Returns the ids of the operations that replace a loop, from the id `next` on.
 fn loop_ids(ctx: &Context, next: u32, of: &IndexedLoop) -> LoopIds
     requires of { IsIndexedLoop ctx.now of.now }
     requires room { next + lowering_makes (Loop of.now) ≤ most_next }
@@ -59,59 +59,58 @@ fn loop_ids(ctx: &Context, next: u32, of: &IndexedLoop) -> LoopIds
     }
 }
 
-/// What a loop's block has: its operation, what stands for its arguments meanwhile, by the operations and their values,
-/// its arguments, and their casts.
+/// The new loop with the placeholders of its arguments, its new arguments and their casts.
 #[derive(Drop)]
 pub(crate) struct LoopParts {
-    /// The loop.
+    /// The new loop.
     pub(crate) op: OpId,
-    /// The operations that stand for arguments.
+    /// The placeholder operations.
     pub(crate) ids: Vec<OpId>,
-    /// Their results.
+    /// The results of the placeholders.
     pub(crate) holders: Vec<Value>,
-    /// The arguments of its block.
+    /// The block arguments of the new loop.
     pub(crate) arguments: Vec<Value>,
-    /// These, or their casts.
+    /// The values that replace the placeholders: the new arguments or their casts.
     pub(crate) news: Vec<Value>,
 }
 
-/// What comes in front of a loop on i64: casts of its operands, and what stands for its arguments.
+/// Appends the edits before the new loop: casts of the operands, and placeholders that replace the old arguments.
 fn push_held(
     alloc: Global,
     edits: &mut Vec<Edit>,
     wide: TypeId,
-    front: &Place,
+    point: &Place,
     holders: &[Value],
     of: &IndexedLoop,
 ) -> Result<(), AllocError>
     requires { length of.now.arguments.items ≤ 256 }
-    ensures { OnOk result (edits.new.items ≡ edits.old.items ++ held_edits wide front.now holders.now of.now) }
+    ensures { OnOk result (edits.new.items ≡ edits.old.items ++ held_edits wide point.now holders.now of.now) }
 {
     push_bridges(
         alloc,
         edits,
         wide,
-        front,
+        point,
         &of.of.index_operands,
         &of.of.op.operands,
     )?;
-    push_holders(alloc, edits, front, &of.arguments)?;
+    push_holders(alloc, edits, point, &of.arguments)?;
     let olds = arguments_of(alloc, of.of.op.id, &of.arguments)?;
     push_replaced(edits, &olds, holders)
 }
 
-/// What comes in its block: casts of its arguments, the operations, which are given these, and what stood for them
-/// goes.
+/// Appends the edits in the block of the new loop: casts of the new arguments, the moved operations, and the
+/// replacement and erasure of the placeholders.
 fn push_inside(
     alloc: Global,
     edits: &mut Vec<Edit>,
     index: TypeId,
-    front: &Place,
+    point: &Place,
     parts: &LoopParts,
     of: &IndexedLoop,
 ) -> Result<(), AllocError>
     ensures { OnOk result (edits.new.items ≡ edits.old.items
-        ++ inside_edits index front.now parts.now.op parts.now.ids.items parts.now.holders.items
+        ++ inside_edits index point.now parts.now.op parts.now.ids.items parts.now.holders.items
         parts.now.arguments.items parts.now.news.items of.now) }
 {
     let end = Place {
@@ -127,13 +126,14 @@ fn push_inside(
         &of.index_arguments,
         &parts.arguments,
     )?;
-    push_over(edits, front, parts.op, 0, &of.body)?;
+    push_over(edits, point, parts.op, 0, &of.body)?;
     push_replaced(edits, &parts.holders, &parts.news)?;
     push_erased(edits, &parts.ids)
 }
 
-/// What the block hands on goes through casts, and so do the results, which are given.
-fn push_behind(
+/// Appends the edits after that: casts of the terminator's operands, and casts of the results, which replace the old
+/// results.
+fn push_after(
     alloc: Global,
     edits: &mut Vec<Edit>,
     handed: &Casts,
@@ -157,19 +157,19 @@ fn push_behind(
     push_given(alloc, edits, given, marks, &of.of.op, parts.op)
 }
 
-/// The edits by which a loop is lowered, for what was interned.
+/// Returns the edits that lower a loop, with the interned numbers that they need.
 pub(crate) fn loop_edits(
     alloc: Global,
     ctx: &Context,
     numbers: Numbers,
     next: u32,
-    front: &Place,
+    point: &Place,
     of: &IndexedLoop,
 ) -> Result<Vec<Edit>, AllocError>
     requires of { IsIndexedLoop ctx.now of.now }
     requires room { next + lowering_makes (Loop of.now) ≤ most_next }
     ensures { IfOk result (λ es. es.items
-        ≡ loop_edits ctx.now numbers.wide numbers.index numbers.properties.items next front.now of.now) }
+        ≡ loop_edits ctx.now numbers.wide numbers.index numbers.properties.items next point.now of.now) }
 {
     let Numbers {
         wide,
@@ -189,13 +189,13 @@ pub(crate) fn loop_edits(
         arguments,
         news,
     };
-    let casts = casts_at(wide, front, next);
+    let casts = casts_at(wide, point, next);
     let handed = casts_at(wide, &before(op, 0, of.body.last), ids.handed);
-    let given = casts_at(index, front, ids.results);
+    let given = casts_at(index, point, ids.results);
     let mut edits = Vec::new(alloc);
-    push_held(alloc, &mut edits, wide, front, &parts.holders, of)?;
+    push_held(alloc, &mut edits, wide, point, &parts.holders, of)?;
     push_made(alloc, ctx, &mut edits, &casts, properties, &of.of)?;
-    push_inside(alloc, &mut edits, index, front, &parts, of)?;
-    push_behind(alloc, &mut edits, &handed, &given, &parts, of)?;
+    push_inside(alloc, &mut edits, index, point, &parts, of)?;
+    push_after(alloc, &mut edits, &handed, &given, &parts, of)?;
     Ok(edits)
 }

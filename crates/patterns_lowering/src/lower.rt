@@ -1,4 +1,4 @@
-//! Operations are copied, without the operations in their blocks, with i64 for index.
+//! Copies operations without the operations inside their blocks, with i64 for index.
 ghost use Rattle.std.specs.Prelude.{◌≡◌, IfOk, true, map};
 ghost use Rattle.std.specs.List.{list_all};
 ghost use Rattle.ir_event.specs.types.Things.{IsType};
@@ -15,7 +15,7 @@ use ir_event::types::context::Context;
 use ir_event::types::ids::{AttrId, NameId, TypeId};
 use std::alloc::{AllocError, Global};
 
-/// A type, or another one for index.
+/// Returns `wide` for index, and any other type unchanged.
 fn lowered_type(ctx: &Context, wide: TypeId, ty: TypeId) -> TypeId
     requires { IsType ctx.now ty }
     ensures { result ≡ type_lowered ctx.now wide ty }
@@ -23,7 +23,7 @@ fn lowered_type(ctx: &Context, wide: TypeId, ty: TypeId) -> TypeId
     if is_index(ctx, ty) { wide } else { ty }
 }
 
-/// The like of several types.
+/// Returns the types, with `wide` for index.
 fn lowered_types(
     alloc: Global,
     ctx: &Context,
@@ -42,7 +42,7 @@ fn lowered_types(
     Ok(lowered)
 }
 
-/// A region with another type for index, whose block holds no operations.
+/// Returns a region with an empty block and with `wide` for index.
 fn lowered_region(
     alloc: Global,
     ctx: &Context,
@@ -61,7 +61,7 @@ fn lowered_region(
     }
 }
 
-/// The like of several regions.
+/// Returns the regions with empty blocks and with `wide` for index.
 fn lowered_regions(
     alloc: Global,
     ctx: &Context,
@@ -79,7 +79,7 @@ fn lowered_regions(
     Ok(lowered)
 }
 
-/// An operation with these properties and operands, and another type for index.
+/// Returns an operation with the given properties and operands, and with `wide` for index.
 pub(crate) fn lowered(
     alloc: Global,
     ctx: &Context,

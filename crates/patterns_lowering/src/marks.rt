@@ -1,8 +1,8 @@
-//! Marks: which of some values, or types, are of index.
+//! Marks: which of some values or types are of type index.
 ghost use Rattle.std.specs.Prelude.{◌≡◌, ◌≤◌, length};
-ghost use Rattle.patterns_yields.specs.base.Lowering.{any, marked};
+ghost use Rattle.patterns_soundness.specs.base.Lowering.{any, marked};
 
-/// Whether one is marked.
+/// Returns whether any mark is set.
 pub(crate) fn any(marks: &[bool]) -> bool
     ensures { result ≡ any marks.now }
 {
@@ -16,7 +16,7 @@ pub(crate) fn any(marks: &[bool]) -> bool
     false
 }
 
-/// How many are marked.
+/// Returns the number of set marks.
 pub(crate) fn marked(marks: &[bool]) -> u32
     requires { length marks.now ≤ 256 }
     ensures count { result ≡ marked marks.now }

@@ -2,13 +2,13 @@
 ghost use Rattle.std.specs.Prelude.{◌≡◌, ◌≤◌, ◌+◌, IfOk, OnOk, ◌++◌, ◌∷◌, []};
 ghost use Rattle.ir_event.specs.trees.Limits.{most_next};
 ghost use Rattle.ir_event.specs.trees.Tree.{head};
-ghost use Rattle.patterns_yields.specs.base.Lowering.{crossed, marked};
-ghost use Rattle.patterns_edits.specs.declared.edit.Edit.TheVariants.{Make};
+ghost use Rattle.patterns_soundness.specs.base.Lowering.{crossed, marked};
+ghost use Rattle.patterns_base.specs.declared.edit.Edit.TheVariants.{Make};
 ghost use Rattle.patterns_lowering.specs.Numbers.{op_lowered, operation_edits};
 ghost use Rattle.patterns_lowering.specs.Plans.{IsIndexed};
 
 use crate::give::push_given;
-use crate::lists::{crossed, push_bridges, put};
+use crate::lists::{crossed, push_bridges, push_edit};
 use crate::lower::lowered;
 use crate::marks::marked;
 use crate::numbers::{Casts, Numbers, casts_at};
@@ -16,10 +16,10 @@ use crate::plan::Indexed;
 use ir_event::trees::place::Place;
 use ir_event::types::context::Context;
 use ir_event::types::ids::{AttrId, NameId, OpId};
-use patterns_edits::edit::Edit;
+use patterns_base::edit::Edit;
 use std::alloc::{AllocError, Global};
 
-/// The operation on i64 is made at a place, behind casts of its operands.
+/// Appends casts of the operands and the operation on i64 after them.
 pub(crate) fn push_made(
     alloc: Global,
     ctx: &Context,
@@ -36,7 +36,7 @@ pub(crate) fn push_made(
 {
     let operands = crossed(alloc, casts.first, &of.index_operands, &of.op.operands)?;
     let op = lowered(alloc, ctx, casts.ty, properties, operands, &of.op)?;
-    put(
+    push_edit(
         edits,
         Edit::Make {
             place: casts.place,
@@ -45,19 +45,19 @@ pub(crate) fn push_made(
     )
 }
 
-/// The edits by which an operation of arith is lowered, for what was interned.
+/// Returns the edits that lower an `arith` operation, with the interned numbers that they need.
 pub(crate) fn operation_edits(
     alloc: Global,
     ctx: &Context,
     numbers: Numbers,
     next: u32,
-    front: &Place,
+    point: &Place,
     of: &Indexed,
 ) -> Result<Vec<Edit>, AllocError>
     requires of { IsIndexed ctx.now of.now }
     requires room { next + marked of.now.index_operands.items + 1 + marked of.now.index_results.items ≤ most_next }
     ensures { IfOk result (λ es. es.items
-        ≡ operation_edits ctx.now numbers.wide numbers.index numbers.properties.items next front.now
+        ≡ operation_edits ctx.now numbers.wide numbers.index numbers.properties.items next point.now
         of.now.index_operands.items of.now.index_results.items of.now.op) }
 {
     let Numbers {
@@ -66,18 +66,18 @@ pub(crate) fn operation_edits(
         properties,
     } = numbers;
     let mut edits = Vec::new(alloc);
-    let casts = casts_at(wide, front, next);
+    let casts = casts_at(wide, point, next);
     push_bridges(
         alloc,
         &mut edits,
         wide,
-        front,
+        point,
         &of.index_operands,
         &of.op.operands,
     )?;
     push_made(alloc, ctx, &mut edits, &casts, properties, of)?;
     let id = next + marked(&of.index_operands);
-    let given = casts_at(index, front, id + 1);
+    let given = casts_at(index, point, id + 1);
     push_given(
         alloc,
         &mut edits,

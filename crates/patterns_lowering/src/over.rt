@@ -1,28 +1,28 @@
-//! The operations of a block are taken over by another one, where what the last of them hands on goes through casts.
+//! Moves the operations of a block to another operation, and routes the terminator's operands through casts.
 ghost use Rattle.std.specs.Prelude.{◌≡◌, ◌≤◌, ◌+◌, IfOk, OnOk, List, ◌++◌, ◌∷◌, [], length, map, reverse, Bool};
 ghost use Rattle.ir_event.specs.trees.Limits.{most_next};
-ghost use Rattle.patterns_yields.specs.base.Makes.{arguments_from};
-ghost use Rattle.patterns_yields.specs.base.Lowering.{marked};
-ghost use Rattle.patterns_regions.specs.Opened.{put_for};
+ghost use Rattle.patterns_soundness.specs.base.Makes.{arguments_from};
+ghost use Rattle.patterns_soundness.specs.base.Lowering.{marked};
+ghost use Rattle.patterns_plans.specs.Opened.{put_for};
 ghost use Rattle.patterns_lowering.specs.Numbers.{crossing_edits, gather_edits, handed_edits, move_edits, over_edits};
 
-use crate::lists::{push_bridges, put};
+use crate::lists::{push_bridges, push_edit};
 use crate::numbers::Casts;
-use crate::plan::Taken;
+use crate::plan::MovedOps;
 use ir_event::trees::place::Place;
 use ir_event::trees::value::Value;
 use ir_event::types::ids::{OpId, TypeId};
-use patterns_edits::edit::Edit;
-use patterns_regions::opened::put_for;
+use patterns_base::edit::Edit;
+use patterns_plans::inlined::substitution;
 use std::alloc::{AllocError, Global};
 
-/// Operations are moved to a place.
+/// Appends the moves of some operations to a place.
 fn push_moved(edits: &mut Vec<Edit>, place: &Place, ops: &[OpId]) -> Result<(), AllocError>
     ensures { OnOk result (edits.new.items ≡ edits.old.items ++ move_edits place.now ops.now) }
 {
     let mut rest = ops;
     'ops: while let [op, tail @ ..] = rest {
-        put(
+        push_edit(
             edits,
             Edit::Move {
                 op: *op,
@@ -34,14 +34,14 @@ fn push_moved(edits: &mut Vec<Edit>, place: &Place, ops: &[OpId]) -> Result<(), 
     Ok(())
 }
 
-/// The operations of a block but its last one come into the block of a region of an operation, each in front of the one
-/// behind it.
+/// Appends the moves of a block's operations, except the last, into a region of `op`, from the last to the first. Each
+/// one moves before the one moved last.
 #[tactic(auto, using(crate::proofs::Gathered::gathered_more, crate::proofs::Gathered::gathered_all))]
 fn push_gathered(
     edits: &mut Vec<Edit>,
     op: OpId,
     region: u32,
-    block: &Taken,
+    block: &MovedOps,
 ) -> Result<(), AllocError>
     ensures { OnOk result (edits.new.items ≡ edits.old.items
         ++ gather_edits op region block.now.last (reverse block.now.before.items)) }
@@ -51,7 +51,7 @@ fn push_gathered(
     'ops: while left > 0 {
         left -= 1;
         let moved = block.before[left];
-        put(
+        push_edit(
             edits,
             Edit::Move {
                 op: moved,
@@ -67,31 +67,31 @@ fn push_gathered(
     Ok(())
 }
 
-/// The operations of a block come in front of an operation, which stands at a place, and from there into the block of a
-/// region of it: so each sees its operands, and is seen by its users, wherever it stands meanwhile.
+/// Appends the moves of a block's operations before operation `op`, and from there into a block of it. So at each step
+/// the operands of every operation dominate it.
 pub(crate) fn push_over(
     edits: &mut Vec<Edit>,
-    front: &Place,
+    point: &Place,
     op: OpId,
     region: u32,
-    block: &Taken,
+    block: &MovedOps,
 ) -> Result<(), AllocError>
-    ensures { OnOk result (edits.new.items ≡ edits.old.items ++ over_edits front.now op region block.now) }
+    ensures { OnOk result (edits.new.items ≡ edits.old.items ++ over_edits point.now op region block.now) }
 {
     let beside = Place {
-        parent: front.parent,
-        region: front.region,
+        parent: point.parent,
+        region: point.region,
         before: Some(op),
     };
     push_moved(edits, &beside, &block.before)?;
-    put(
+    push_edit(
         edits,
         Edit::Move {
             op: block.last,
             place: beside,
         },
     )?;
-    put(
+    push_edit(
         edits,
         Edit::Move {
             op: block.last,
@@ -105,7 +105,7 @@ pub(crate) fn push_over(
     push_gathered(edits, op, region, block)
 }
 
-/// A cast is set as an operand, if that is marked. The next cast's id.
+/// Appends an edit that sets an operand to a cast, if the operand is marked. Returns the id of the next cast.
 fn push_cross(
     edits: &mut Vec<Edit>,
     op: OpId,
@@ -122,7 +122,7 @@ fn push_cross(
     if !mark {
         return Ok(next);
     }
-    put(
+    push_edit(
         edits,
         Edit::SetOperand {
             op,
@@ -133,7 +133,7 @@ fn push_cross(
     Ok(next + 1)
 }
 
-/// Casts, whose ids begin with one, are set as those operands that are marked.
+/// Appends the edits that set each marked operand to its cast. The ids of the casts begin with `first`.
 fn push_crossing(
     edits: &mut Vec<Edit>,
     op: OpId,
@@ -155,7 +155,7 @@ fn push_crossing(
     Ok(())
 }
 
-/// What the last operation of a block hands on there goes through casts, where it is marked.
+/// Appends casts of the marked operands of a block's last operation, and the edits that set these operands.
 pub(crate) fn push_handed(
     alloc: Global,
     edits: &mut Vec<Edit>,
@@ -173,7 +173,7 @@ pub(crate) fn push_handed(
     push_crossing(edits, last, casts.first, marks)
 }
 
-/// The arguments of the block of an operation's region 0, as many as there are types.
+/// Returns the arguments of the block of region 0, one for each type.
 pub(crate) fn arguments_of(
     alloc: Global,
     op: OpId,
@@ -193,7 +193,7 @@ pub(crate) fn arguments_of(
     Ok(values)
 }
 
-/// What values are where the arguments of an operation's block 0 are replaced by others.
+/// Returns the values after the arguments of block 0 of `op` are replaced by `news`.
 pub(crate) fn all_put(
     alloc: Global,
     op: OpId,
@@ -205,7 +205,7 @@ pub(crate) fn all_put(
     let mut kept = Vec::new(alloc);
     let mut rest = values;
     'values: while let [value, tail @ ..] = rest {
-        kept.push(put_for(op, news, value))?;
+        kept.push(substitution(op, news, value))?;
         rest = tail;
     }
     Ok(kept)

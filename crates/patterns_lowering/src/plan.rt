@@ -1,9 +1,9 @@
-//! What the rules that lower make of an operation, before anything is interned for it.
+//! The plans of the lowering rules. Nothing is interned for them yet.
 use ir_event::trees::tree::TreeOp;
 use ir_event::trees::value::Value;
 use ir_event::types::ids::{OpId, TypeId};
 
-/// An operation whose blocks hold none, and which of its operands and results are of index.
+/// An operation without the operations inside its blocks, and which of its operands and results are of type index.
 #[derive(Drop)]
 pub struct Indexed {
     pub op: TreeOp,
@@ -11,41 +11,41 @@ pub struct Indexed {
     pub index_results: Vec<bool>,
 }
 
-/// The operations of a block that are taken over by another block.
+/// The operations of a block that move to another block.
 #[derive(Drop)]
-pub struct Taken {
-    /// Those before the last, in order.
+pub struct MovedOps {
+    /// The operations before the last, in order.
     pub before: Vec<OpId>,
-    /// The last.
+    /// The last operation.
     pub last: OpId,
-    /// What the last hands on.
+    /// The operands of the last operation.
     pub handed: Vec<Value>,
 }
 
-/// A loop, the arguments of its block and which of them are of index, and what is in the block.
+/// A loop, its block arguments, which of those are of type index, and the operations of its block.
 #[derive(Drop)]
 pub struct IndexedLoop {
     pub of: Indexed,
     pub arguments: Vec<TypeId>,
     pub index_arguments: Vec<bool>,
-    pub body: Taken,
+    pub body: MovedOps,
 }
 
-/// A choice between two blocks, and what is in each.
+/// A choice between two blocks, and the operations of each block.
 #[derive(Drop)]
 pub struct IndexedChoice {
     pub of: Indexed,
-    pub first: Taken,
-    pub second: Taken,
+    pub first: MovedOps,
+    pub second: MovedOps,
 }
 
-/// What becomes of an operation on index.
+/// The plan that lowers an operation on index.
 #[derive(Drop)]
 pub enum Lowering {
-    /// The operation on i64, with casts around it.
+    /// An operation on i64, with casts around it.
     Operation(Indexed),
-    /// The loop over i64, with casts around it and in its block.
+    /// A loop over i64, with casts around it and in its block.
     Loop(IndexedLoop),
-    /// The choice of i64, with casts in its blocks and behind it.
+    /// A choice with i64 results, with casts in its blocks and after it.
     Choice(IndexedChoice),
 }

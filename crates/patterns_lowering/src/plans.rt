@@ -1,8 +1,8 @@
-//! What the rules that lower make of operations on index.
+//! The plan of each lowering rule.
 ghost use Rattle.std.specs.Prelude.{◌≡◌, ◌||◌, true, IfOk, IfSome};
-ghost use Rattle.patterns_yields.specs.base.Lowering.{any, lower_index, lower_loop, lower_choice};
-ghost use Rattle.patterns_yields.specs.base.RuleNames.{is_lowering};
-ghost use Rattle.patterns_lowering.specs.Planned.{IsCleanAt, IsLoweredAt, IsLoweredBy};
+ghost use Rattle.patterns_soundness.specs.base.Lowering.{any, lower_index, lower_loop, lower_choice};
+ghost use Rattle.patterns_soundness.specs.base.RuleNames.{is_lowering};
+ghost use Rattle.patterns_lowering.specs.Planned.{IsVerifiedAt, IsLoweredAt, IsLoweredBy};
 ghost use Rattle.patterns_lowering.specs.Plans.{LoweringIsOf};
 
 use crate::index::indices;
@@ -13,17 +13,17 @@ use crate::users::is_user;
 use ir_event::types::ids::OpId;
 use ir_event::types::word::Word;
 use ir_event::world::World;
-use patterns_yields::base::rule::Rule;
+use patterns_soundness::base::rule::Rule;
 use std::alloc::{AllocError, Global};
 
-/// Whether one of two lists is marked.
+/// Returns whether any mark of either list is set.
 fn is_either(some: &[bool], others: &[bool]) -> bool
     ensures { result ≡ (any some.now || any others.now) }
 {
     any(some) || any(others)
 }
 
-/// An operation of arith on index: one on i64.
+/// Plans the lowering of an `arith` operation on index, or returns `None` if the rule doesn't apply.
 pub(crate) fn plan_lower_index(
     alloc: Global,
     world: &World,
@@ -45,13 +45,13 @@ pub(crate) fn plan_lower_index(
     Ok(Some(Lowering::Operation(of)))
 }
 
-/// A loop over index: one over i64.
+/// Plans the lowering of a loop over index, or returns `None` if the rule doesn't apply.
 pub(crate) fn plan_lower_loop(
     alloc: Global,
     world: &World,
     op: OpId,
 ) -> Result<Option<Lowering>, AllocError>
-    requires { IsCleanAt world.now op }
+    requires { IsVerifiedAt world.now op }
     ensures edits { IfOk result (IsLoweredBy lower_loop world.now op) }
     ensures of { IfOk result (λ p. IfSome p (LoweringIsOf world.now.ctx)) }
 {
@@ -81,13 +81,13 @@ pub(crate) fn plan_lower_loop(
     })))
 }
 
-/// A choice that gives an index: one that gives an i64.
+/// Plans the lowering of a choice with index results, or returns `None` if the rule doesn't apply.
 pub(crate) fn plan_lower_choice(
     alloc: Global,
     world: &World,
     op: OpId,
 ) -> Result<Option<Lowering>, AllocError>
-    requires { IsCleanAt world.now op }
+    requires { IsVerifiedAt world.now op }
     ensures edits { IfOk result (IsLoweredBy lower_choice world.now op) }
     ensures of { IfOk result (λ p. IfSome p (LoweringIsOf world.now.ctx)) }
 {
@@ -110,8 +110,8 @@ pub(crate) fn plan_lower_choice(
     Ok(Some(Lowering::Choice(IndexedChoice { of, first, second })))
 }
 
-/// What a rule that lowers makes of a clean operation of the module, if it applies. That the operation is clean, and
-/// stands at a place, is asked before.
+/// Plans a lowering rule at a verified operation of the module, or returns `None` if the rule doesn't apply. The
+/// caller has checked that the operation is verified and has a place.
 pub fn plan_lowered(
     alloc: Global,
     world: &World,
@@ -119,7 +119,7 @@ pub fn plan_lowered(
     op: OpId,
 ) -> Result<Option<Lowering>, AllocError>
     requires rule { is_lowering rule ≡ true }
-    requires clean { IsCleanAt world.now op }
+    requires verified { IsVerifiedAt world.now op }
     ensures edits { IfOk result (IsLoweredAt rule world.now op) }
     ensures of { IfOk result (λ p. IfSome p (LoweringIsOf world.now.ctx)) }
 {

@@ -1,14 +1,14 @@
-//! The operations that may be on index.
+//! The operations that may have operands or results of type index.
 ghost use Rattle.std.specs.Prelude.{◌≡◌, map};
 ghost use Rattle.ir_event.specs.types.Terms.{name_term};
 ghost use Rattle.ir_event.specs.types.WordNames.{word_bytes};
-ghost use Rattle.patterns_yields.specs.base.Words.{among, index_users};
+ghost use Rattle.patterns_soundness.specs.base.Words.{among, index_users};
 
 use ir_event::types::context::Context;
 use ir_event::types::ids::NameId;
 use ir_event::types::word::Word;
 
-/// Their words.
+/// The words of these operations.
 static USERS: [Word; 20] = [
     Word::ArithConstant,
     Word::ArithCmpi,
@@ -32,14 +32,14 @@ static USERS: [Word; 20] = [
     Word::ArithMinui,
 ];
 
-/// The words of operations that may have an operand or result of index, beside the casts.
+/// Returns the words of the operations, except casts, that may have an operand or result of type index.
 fn users() -> &'static [Word]
     ensures { map (λ w. word_bytes w) result.now ≡ index_users }
 {
     &USERS
 }
 
-/// Whether a name is one of those of some words.
+/// Returns whether an operation name is one of some words.
 fn is_among(ctx: &Context, name: NameId, words: &[Word]) -> bool
     ensures { result ≡ among (map (λ w. word_bytes w) words.now) (name_term ctx.now name) }
 {
@@ -53,7 +53,7 @@ fn is_among(ctx: &Context, name: NameId, words: &[Word]) -> bool
     false
 }
 
-/// Whether an operation of a name may have an operand or result of index, and isn't a cast.
+/// Returns whether operations with this name may have an operand or result of type index, and aren't casts.
 pub(crate) fn is_user(ctx: &Context, name: NameId) -> bool
     ensures { result ≡ among index_users (name_term ctx.now name) }
 {

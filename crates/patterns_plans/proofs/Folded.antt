@@ -1,19 +1,19 @@
--- Folding over what is known of operands.
+-- Folding over the known bits of operands.
 use Rattle.std.proofs.Common.{◌≡◌, refl, ap, sym, ◌∙◌, Bool, true, false, ◌&&◌, ◌||◌, not, List, [], ◌∷◌, ◌++◌, append-nil, append_assoc, map, Option, Some, None, option_map}
 use Rattle.std.specs.Prelude.{is_some}
 use Rattle.std.specs.List.{list_all}
 use Rattle.ir_event.specs.trees.declared.value.Value.{Value}
 use Rattle.ir_event.specs.trees.Meaning.{Operation}
 use Rattle.dialects_int.specs.Folds.{Known}
-use Rattle.patterns_reads.proofs.Cleaned.{known_not}
-use Rattle.patterns_reads.specs.Looks.{is_constant, is_known, known, when}
+use Rattle.patterns_matchers.proofs.Cleaned.{known_not}
+use Rattle.patterns_matchers.specs.Looks.{is_constant, is_known, known, when}
 use Rattle.patterns_plans.specs.Numbers.{is_readable, known_each, readable}
 
--- a value that is no constant
+-- a value that isn't a constant
 pub not_constant : (t : Operation) (v : Value) (b : Bool) → b ≡ is_constant t v → b ≡ false → Some None ≡ readable t v
 not_constant t v b e f = ap Some (known_not t v b e f) ∙ sym (ap (λ c. when (not c || is_known t v) (Some (known t v))) (sym e ∙ f))
 
--- one of which something is known, and a constant of which nothing is
+-- a value with known bits, and a constant without known bits
 pub readable_known : (t : Operation) (v : Value) (k : Known) → Some k ≡ known t v → Some (Some k) ≡ readable t v
 readable_known t v k e = go (is_constant t v)
   where
@@ -33,18 +33,18 @@ none_read : (b : Bool) (q : Option Known) → None ≡ when b (Some q) → b ≡
 none_read true q e = absurd cc
 none_read false q e = refl
 
--- two that are readable, and two of which the first or the second isn't
+-- two readable values, and two values with one that isn't readable
 pub two_read : (t : Operation) (a b : Value) (k q : Option Known) → Some k ≡ readable t a → Some q ≡ readable t b → Some (k ∷ q ∷ []) ≡ known_each t (a ∷ b ∷ [])
 two_read t a b k q e f =
     let one = one_read (is_readable t a) k (known t a) e in
     let two = one_read (is_readable t b) q (known t b) f in
     λ i. when (sym one.0 i && (sym two.0 i && true)) (Some (one.1 i ∷ two.1 i ∷ []))
 
-pub first_unread : (t : Operation) (a b : Value) → None ≡ readable t a → None ≡ known_each t (a ∷ b ∷ [])
-first_unread t a b e = sym (ap (λ c. when (c && (is_readable t b && true)) (Some (known t a ∷ known t b ∷ []))) (none_read (is_readable t a) (known t a) e))
+pub first_unparsed : (t : Operation) (a b : Value) → None ≡ readable t a → None ≡ known_each t (a ∷ b ∷ [])
+first_unparsed t a b e = sym (ap (λ c. when (c && (is_readable t b && true)) (Some (known t a ∷ known t b ∷ []))) (none_read (is_readable t a) (known t a) e))
 
-pub second_unread : (t : Operation) (a b : Value) → None ≡ readable t b → None ≡ known_each t (a ∷ b ∷ [])
-second_unread t a b e = no (is_readable t a) ∙ sym (ap (λ c. when (is_readable t a && (c && true)) (Some (known t a ∷ known t b ∷ []))) (none_read (is_readable t b) (known t b) e))
+pub second_unparsed : (t : Operation) (a b : Value) → None ≡ readable t b → None ≡ known_each t (a ∷ b ∷ [])
+second_unparsed t a b e = no (is_readable t a) ∙ sym (ap (λ c. when (is_readable t a && (c && true)) (Some (known t a ∷ known t b ∷ []))) (none_read (is_readable t b) (known t b) e))
   where
     no : (c : Bool) → None ≡ when (c && false) (Some (known t a ∷ known t b ∷ []))
     no true = refl

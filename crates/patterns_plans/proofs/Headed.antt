@@ -1,4 +1,4 @@
--- The rules that are planned by what is shown of an operation look at its head alone.
+-- The rules that are planned from what the store shows of an operation read only its head.
 use Rattle.std.proofs.Common.{◌≡◌, ap, sym, ◌∙◌, ℕ, Bool, true, false, [], ◌∷◌, Option, Some, None, option_map}
 use Rattle.ir_event.specs.trees.declared.place.Place.{Place}
 use Rattle.ir_event.specs.trees.Tree.{op, no_regions, head}
@@ -9,22 +9,22 @@ use Rattle.ir_event.specs.store.Nodes.{Node}
 use Rattle.ir_event.specs.declared.world.World.{World}
 use Rattle.ir_event.specs.Modules.{module_in}
 use Rattle.effects.specs.Dead.{dead_at, dead_in, is_dead}
-use Rattle.patterns_edits.specs.Edits.{Erase}
-use Rattle.patterns_reads.specs.Folding.{fold_to_constant, swap_constant, drop_zero, drop_one, drop_all_ones, cancel_itself, keep_itself, zero_remainder, regroup_constants, add_negative, compare_itself, mirror_comparison, compare_zero, choose_same, choose_known, choose_truth, choose_opposite, expand_min_max, expand_difference, expand_remainder}
-use Rattle.patterns_reads.specs.Casting.{extend_extension, cut_cast, cast_back}
-use Rattle.patterns_reads.specs.Looks.{Header, may_go, when}
-use Rattle.patterns_reads.specs.Reads.{head_at, head_in}
-use Rattle.patterns_reads.specs.Rule.{Rule}
-use Rattle.patterns_reads.specs.Rule.TheVariants.{EraseDead, FoldToConstant, SwapConstant, DropZero, DropOne, DropAllOnes, CancelItself, KeepItself}
-use Rattle.patterns_reads.specs.Rule.TheVariants.{ZeroRemainder, RegroupConstants, AddNegative, CompareItself, MirrorComparison, CompareZero, ChooseSame}
-use Rattle.patterns_reads.specs.Rule.TheVariants.{ChooseKnown, ChooseTruth, ChooseOpposite, ExtendExtension, CutCast, CastBack, ExpandMinMax}
-use Rattle.patterns_reads.specs.Rule.TheVariants.{ExpandDifference, ExpandRemainder}
-use Rattle.patterns_reads.specs.Rules.{rule}
-use Rattle.patterns_reads.specs.declared.plan.Plan.{Plan}
+use Rattle.patterns_base.specs.Edits.{Erase}
+use Rattle.patterns_matchers.specs.Folding.{fold_to_constant, swap_constant, drop_zero, drop_one, drop_all_ones, cancel_itself, keep_itself, zero_remainder, regroup_constants, add_negative, compare_itself, mirror_comparison, compare_zero, choose_same, choose_known, choose_truth, choose_opposite, expand_min_max, expand_difference, expand_remainder}
+use Rattle.patterns_matchers.specs.Casting.{extend_extension, cut_cast, cast_back}
+use Rattle.patterns_matchers.specs.Looks.{Header, is_erasable, when}
+use Rattle.patterns_matchers.specs.Reads.{head_at, header_of_node}
+use Rattle.patterns_matchers.specs.Rule.{Rule}
+use Rattle.patterns_matchers.specs.Rule.TheVariants.{EraseDead, FoldToConstant, SwapConstant, DropZero, DropOne, DropAllOnes, CancelItself, KeepItself}
+use Rattle.patterns_matchers.specs.Rule.TheVariants.{ZeroRemainder, RegroupConstants, AddNegative, CompareItself, MirrorComparison, CompareZero, ChooseSame}
+use Rattle.patterns_matchers.specs.Rule.TheVariants.{ChooseKnown, ChooseTruth, ChooseOpposite, ExtendExtension, CutCast, CastBack, ExpandMinMax}
+use Rattle.patterns_matchers.specs.Rule.TheVariants.{ExpandDifference, ExpandRemainder}
+use Rattle.patterns_matchers.specs.Rules.{rule}
+use Rattle.patterns_matchers.specs.declared.plan.RewritePlan.{RewritePlan}
 use Rattle.patterns_plans.specs.Planned.{Making, IsPlanned, IsPlanAt}
 use Rattle.ir_event.proofs.Facts.{found_id}
 
--- what is shown of x, with its id, is its head
+-- what the store shows of x, with its id, is its head
 same_head : (x : ℕ) (t : Operation) (h : Header) (o : Operation) → Some h ≡ head_at x t → find x t ≡ Some o → record h { id = x } ≡ head o
 same_head x t h o e f =
     let w = found_stands x t o f in
@@ -33,16 +33,16 @@ same_head x t h o e f =
     let id : x ≡ (head o).id = sym w.2 ∙ ap (λ (z : Operation). (head z).id) w.3 in
     λ i. record (one i) { id = id i }
 
--- a rule makes those edits, and looks at the head of an operation alone
+-- a rule makes these edits, and reads only the head of an operation
 abbrev LooksAtHead : Making → Rule → Type 0
 LooksAtHead makes r = (t : Operation) (n : ℕ) (front : Place) (h : Header) (o : Operation) → h ≡ head o → makes t n front (op h no_regions) ≡ rule r t n front o
 
--- what is planned by a head is planned of the operation
-pub planned_at : (makes : Making) (s : Rule) → LooksAtHead makes s → (r : Rule) → r ≡ s → (w : World) (x : ℕ) (node : Node) (p : Option Plan)
-    → Some (head_in w.ctx node) ≡ head_at x (module_in w).tree → IsPlanned makes w x node p → IsPlanAt r w x p
+-- a plan for the head is a plan for the operation
+pub planned_at : (makes : Making) (s : Rule) → LooksAtHead makes s → (r : Rule) → r ≡ s → (w : World) (x : ℕ) (node : Node) (p : Option RewritePlan)
+    → Some (header_of_node w.ctx node) ≡ head_at x (module_in w).tree → IsPlanned makes w x node p → IsPlanAt r w x p
 planned_at makes s looks r is w x node p e planned o f n front =
     planned n front
-    ∙ looks (module_in w).tree n front (record (head_in w.ctx node) { id = x }) o (same_head x (module_in w).tree (head_in w.ctx node) o e f)
+    ∙ looks (module_in w).tree n front (record (header_of_node w.ctx node) { id = x }) o (same_head x (module_in w).tree (header_of_node w.ctx node) o e f)
     ∙ ap (λ r. rule r (module_in w).tree n front o) (sym is)
 
 pub at_fold_to_constant : LooksAtHead fold_to_constant FoldToConstant
@@ -141,9 +141,9 @@ dead_is : (x : ℕ) (t o : Operation) (b : Bool) → b ≡ dead_at x t → find 
 dead_is x t o b e f = e ∙ ap (dead_in t) f
 
 pub none_dead : (x : ℕ) (t o : Operation) (b : Bool) → b ≡ dead_at x t → b ≡ false → find x t ≡ Some o → (n : ℕ) (front : Place) → None ≡ rule EraseDead t n front o
-unfolding rule may_go
+unfolding rule is_erasable
 none_dead x t o b e k f n front = sym (ap (λ c. when c (Some (Erase (head o).id ∷ []))) (sym (dead_is x t o b e f) ∙ k))
 
 pub one_dead : (x : ℕ) (t o : Operation) (b : Bool) → b ≡ dead_at x t → b ≡ true → find x t ≡ Some o → (n : ℕ) (front : Place) → Some (Erase x ∷ []) ≡ rule EraseDead t n front o
-unfolding rule may_go
+unfolding rule is_erasable
 one_dead x t o b e k f n front = sym (ap (λ c. when c (Some (Erase (head o).id ∷ []))) (sym (dead_is x t o b e f) ∙ k) ∙ ap (λ y. Some (Erase y ∷ [])) (found_id x t o f))

@@ -3,3 +3,12 @@ pub mod Headed
 pub mod Recasts
 pub mod Never
 pub mod Unfolded
+pub mod Walking
+pub mod Bodies
+pub mod Viewed
+pub mod Replacing
+pub mod Openings
+pub mod Ruled
+pub mod Needed
+pub mod Slices
+pub mod Held

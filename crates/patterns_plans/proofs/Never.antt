@@ -1,4 +1,4 @@
--- Rules that don't apply where a cheap test fails.
+-- Rules that don't apply if a cheap test fails.
 use Rattle.std.proofs.Common.{◌≡◌, refl, ap, sym, ◌∙◌, ℕ, Bool, true, false, ◌&&◌, List, [], ◌∷◌, Option, Some, None}
 use Rattle.ir_event.specs.types.Terms.{TypeTerm}
 use Rattle.std.specs.Prelude.{codes, is_some}
@@ -8,14 +8,14 @@ use Rattle.ir_event.specs.trees.Tree.{head}
 use Rattle.ir_event.specs.trees.Uses.{same_value}
 use Rattle.ir_event.specs.trees.Meaning.{Operation}
 use Rattle.dialects_int.specs.Folds.{Known}
-use Rattle.patterns_reads.proofs.Cleaned.{known_not}
-use Rattle.patterns_reads.specs.Casting.{resizing, extend_extension, cut_cast}
-use Rattle.patterns_reads.specs.Contents.{Edit}
-use Rattle.patterns_reads.specs.Folding.{swap_constant, drop_zero, drop_one, drop_all_ones, cancel_itself, keep_itself, zero_remainder, regroup_constants, add_negative, compare_itself, mirror_comparison, compare_zero, choose_same, choose_known, choose_truth, choose_opposite}
-use Rattle.patterns_reads.specs.Keeps.{given}
-use Rattle.patterns_reads.specs.Looks.{Header, One, Two, Three, giver, is_clean, is_constant, known, one, passes, predicate, source, source_among, two, two_from, three, when}
-use Rattle.patterns_reads.specs.Words.{among, extensions, named}
-use Rattle.patterns_plans.specs.May.{of_one, of_pair, of_three, is_called, chooses_by_opposite, cuts_cast, extends_extension, first_is_constant, second_is_constant, chooses_by_constant, chooses_constant, has_twins, chooses_twins}
+use Rattle.patterns_matchers.proofs.Cleaned.{known_not}
+use Rattle.patterns_matchers.specs.Casting.{resizing, extend_extension, cut_cast}
+use Rattle.patterns_matchers.specs.Contents.{Edit}
+use Rattle.patterns_matchers.specs.Folding.{swap_constant, drop_zero, drop_one, drop_all_ones, cancel_itself, keep_itself, zero_remainder, regroup_constants, add_negative, compare_itself, mirror_comparison, compare_zero, choose_same, choose_known, choose_truth, choose_opposite}
+use Rattle.patterns_matchers.specs.Keeps.{given}
+use Rattle.patterns_matchers.specs.Looks.{Header, One, Two, Three, defining_op, is_verified, is_constant, known, one, passes, predicate, source, source_among, two, two_from, three, when}
+use Rattle.patterns_matchers.specs.Words.{among, extensions, named}
+use Rattle.patterns_plans.specs.May.{of_one, of_pair, of_three, is_called, chooses_by_opposite, cuts_cast, extends_extension, first_is_constant, second_is_constant, chooses_by_constant, chooses_constant, has_duplicates, chooses_duplicates}
 
 never : {X : Type 0} (a : Bool) (r : Option X) → None ≡ when (a && false) r
 never true r = refl
@@ -29,7 +29,7 @@ no_case : {X Y : Type 0} (o : Option X) → None ≡ given {X = X} {Y = Y} o (λ
 no_case None = refl
 no_case (Some x) = refl
 
--- an operation of two operands and one result, by a test of the operands
+-- an operation with two operands and one result, by a test of the operands
 abbrev of_two : (Value → Value → Bool) → Option Two → Bool
 of_two f None = false
 of_two f (Some p) = f p.first p.second
@@ -46,7 +46,7 @@ of_operands f h e = go h.operands h.results e
     go (a ∷ b ∷ c ∷ vs) tys e = refl
 
 module _ (t : Operation) where
-  -- what isn't a constant's result isn't known
+  -- a value that isn't the result of a constant isn't known
   unknown : (v : Value) → is_constant t v ≡ false → None ≡ known t v
   unknown v e = known_not t v (is_constant t v) refl e
 
@@ -81,17 +81,17 @@ module _ (t : Operation) where
   second_chosen a b f g r None e = refl
   second_chosen a b f g r (Some p) e = nothing (a p) ∙ ap (when (a p)) (never (b p) (r p)) ∙ ap (λ k. when (a p) (when (b p && (passes f k && g p)) (r p))) (unknown p.second e)
 
-twins_pass : (a : Two → Bool) (r : Two → Option (List Edit)) (q : Option Two) → of_two same_value q ≡ false → None ≡ given q (λ p. when (a p && same_value p.first p.second) (r p))
-twins_pass a r None e = refl
-twins_pass a r (Some p) e = never (a p) (r p) ∙ ap (λ b. when (a p && b) (r p)) (sym e)
+duplicates_pass : (a : Two → Bool) (r : Two → Option (List Edit)) (q : Option Two) → of_two same_value q ≡ false → None ≡ given q (λ p. when (a p && same_value p.first p.second) (r p))
+duplicates_pass a r None e = refl
+duplicates_pass a r (Some p) e = never (a p) (r p) ∙ ap (λ b. when (a p && b) (r p)) (sym e)
 
-twins_compared : (a : Two → Bool) (o : Option ℕ) (r : Two → ℕ → Option (List Edit)) (q : Option Two) → of_two same_value q ≡ false → None ≡ given q (λ p. when (a p) (given o (λ asks. when (same_value p.first p.second) (r p asks))))
-twins_compared a o r None e = refl
-twins_compared a o r (Some p) e = nothing (a p) ∙ ap (when (a p)) (no_case o) ∙ ap (λ b. when (a p) (given o (λ asks. when b (r p asks)))) (sym e)
+duplicates_compared : (a : Two → Bool) (o : Option ℕ) (r : Two → ℕ → Option (List Edit)) (q : Option Two) → of_two same_value q ≡ false → None ≡ given q (λ p. when (a p) (given o (λ asks. when (same_value p.first p.second) (r p asks))))
+duplicates_compared a o r None e = refl
+duplicates_compared a o r (Some p) e = nothing (a p) ∙ ap (when (a p)) (no_case o) ∙ ap (λ b. when (a p) (given o (λ asks. when b (r p asks)))) (sym e)
 
-twins_chosen : (a : Three → Bool) (r : Three → Option (List Edit)) (q : Option Three) → of_three (λ p. same_value p.second p.third) q ≡ false → None ≡ given q (λ p. when (a p) (when (same_value p.second p.third) (r p)))
-twins_chosen a r None e = refl
-twins_chosen a r (Some p) e = nothing (a p) ∙ ap (λ b. when (a p) (when b (r p))) (sym e)
+duplicates_chosen : (a : Three → Bool) (r : Three → Option (List Edit)) (q : Option Three) → of_three (λ p. same_value p.second p.third) q ≡ false → None ≡ given q (λ p. when (a p) (when (same_value p.second p.third) (r p)))
+duplicates_chosen a r None e = refl
+duplicates_chosen a r (Some p) e = nothing (a p) ∙ ap (λ b. when (a p) (when b (r p))) (sym e)
 
 -- each rule
 module _ (t : Operation) (n : ℕ) (front : Place) (o : Operation) where
@@ -128,38 +128,38 @@ module _ (t : Operation) (n : ℕ) (front : Place) (o : Operation) where
   pub never_choose_truth : chooses_constant t (head o) ≡ false → None ≡ choose_truth t n front o
   never_choose_truth e = second_chosen t _ _ _ _ _ (three (head o)) e
 
-  pub never_cancel_itself : has_twins (head o) ≡ false → None ≡ cancel_itself t n front o
-  never_cancel_itself e = twins_pass _ _ (two (head o)) (of_operands same_value (head o) e)
+  pub never_cancel_itself : has_duplicates (head o) ≡ false → None ≡ cancel_itself t n front o
+  never_cancel_itself e = duplicates_pass _ _ (two (head o)) (of_operands same_value (head o) e)
 
-  pub never_keep_itself : has_twins (head o) ≡ false → None ≡ keep_itself t n front o
-  never_keep_itself e = twins_pass _ _ (two (head o)) (of_operands same_value (head o) e)
+  pub never_keep_itself : has_duplicates (head o) ≡ false → None ≡ keep_itself t n front o
+  never_keep_itself e = duplicates_pass _ _ (two (head o)) (of_operands same_value (head o) e)
 
-  pub never_compare_itself : has_twins (head o) ≡ false → None ≡ compare_itself t n front o
-  never_compare_itself e = twins_compared _ (predicate (head o)) _ (two (head o)) (of_operands same_value (head o) e)
+  pub never_compare_itself : has_duplicates (head o) ≡ false → None ≡ compare_itself t n front o
+  never_compare_itself e = duplicates_compared _ (predicate (head o)) _ (two (head o)) (of_operands same_value (head o) e)
 
-  pub never_choose_same : chooses_twins (head o) ≡ false → None ≡ choose_same t n front o
-  never_choose_same e = twins_chosen _ _ (three (head o)) e
+  pub never_choose_same : chooses_duplicates (head o) ≡ false → None ≡ choose_same t n front o
+  never_choose_same e = duplicates_chosen _ _ (three (head o)) e
 
--- by what gives an operand
-never_among : (t : Operation) (names : List (List ℕ)) (v : Value) → is_called (among names) (giver t v) ≡ false → None ≡ source_among t names v
-never_among t names v e = go (giver t v) e
+-- by the defining operation of an operand
+never_among : (t : Operation) (names : List (List ℕ)) (v : Value) → is_called (among names) (defining_op t v) ≡ false → None ≡ source_among t names v
+never_among t names v e = go (defining_op t v) e
   where
-    go : (g : Option Header) → is_called (among names) g ≡ false → None ≡ given g (λ h. when (among names h.name && is_clean t h) (Some h))
+    go : (g : Option Header) → is_called (among names) g ≡ false → None ≡ given g (λ h. when (among names h.name && is_verified t h) (Some h))
     go None e = refl
-    go (Some h) e = sym (ap (λ b. when (b && is_clean t h) (Some h)) e)
+    go (Some h) e = sym (ap (λ b. when (b && is_verified t h) (Some h)) e)
 
-never_named : (t : Operation) (name : List ℕ) (v : Value) → is_called (named name) (giver t v) ≡ false → None ≡ source t name v
-never_named t name v e = go (giver t v) e
+never_named : (t : Operation) (name : List ℕ) (v : Value) → is_called (named name) (defining_op t v) ≡ false → None ≡ source t name v
+never_named t name v e = go (defining_op t v) e
   where
-    go : (g : Option Header) → is_called (named name) g ≡ false → None ≡ given g (λ h. when (named name h.name && is_clean t h) (Some h))
+    go : (g : Option Header) → is_called (named name) g ≡ false → None ≡ given g (λ h. when (named name h.name && is_verified t h) (Some h))
     go None e = refl
-    go (Some h) e = sym (ap (λ b. when (b && is_clean t h) (Some h)) e)
+    go (Some h) e = sym (ap (λ b. when (b && is_verified t h) (Some h)) e)
 
-cast_of : (t : Operation) (names : List (List ℕ)) (a : One → Bool) (f : One → Header → Option (List Edit)) (q : Option One) → of_one (λ p. is_called (among names) (giver t p.first)) q ≡ false → None ≡ given q (λ p. when (a p) (given (source_among t names p.first) (f p)))
+cast_of : (t : Operation) (names : List (List ℕ)) (a : One → Bool) (f : One → Header → Option (List Edit)) (q : Option One) → of_one (λ p. is_called (among names) (defining_op t p.first)) q ≡ false → None ≡ given q (λ p. when (a p) (given (source_among t names p.first) (f p)))
 cast_of t names a f None e = refl
 cast_of t names a f (Some p) e = nothing (a p) ∙ ap (λ s. when (a p) (given s (f p))) (never_among t names p.first e)
 
-choice_by : (t : Operation) (name : List ℕ) (a : Three → Bool) (f : Three → Header → Option (List Edit)) (q : Option Three) → of_three (λ p. is_called (named name) (giver t p.first)) q ≡ false → None ≡ given q (λ p. when (a p) (given (source t name p.first) (f p)))
+choice_by : (t : Operation) (name : List ℕ) (a : Three → Bool) (f : Three → Header → Option (List Edit)) (q : Option Three) → of_three (λ p. is_called (named name) (defining_op t p.first)) q ≡ false → None ≡ given q (λ p. when (a p) (given (source t name p.first) (f p)))
 choice_by t name a f None e = refl
 choice_by t name a f (Some p) e = nothing (a p) ∙ ap (λ s. when (a p) (given s (f p))) (never_named t name p.first e)
 

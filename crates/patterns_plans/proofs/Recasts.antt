@@ -4,15 +4,15 @@ use Rattle.std.specs.Prelude.{codes}
 use Rattle.ir_event.specs.trees.declared.place.Place.{Place}
 use Rattle.ir_event.specs.trees.Tree.{head}
 use Rattle.ir_event.specs.trees.Meaning.{Operation}
-use Rattle.patterns_reads.specs.Casting.{cast_back, unrealized, through_index, back_from}
-use Rattle.patterns_reads.specs.Contents.{Edit}
-use Rattle.patterns_reads.specs.Keeps.{given}
-use Rattle.patterns_reads.specs.Makes.{give}
-use Rattle.patterns_reads.specs.Looks.{Header, One, is_of_type, one, source, when}
-use Rattle.patterns_reads.specs.Words.{among, named, index_casts}
+use Rattle.patterns_matchers.specs.Casting.{cast_back, unrealized, through_index, back_from}
+use Rattle.patterns_matchers.specs.Contents.{Edit}
+use Rattle.patterns_matchers.specs.Keeps.{given}
+use Rattle.patterns_matchers.specs.Makes.{give}
+use Rattle.patterns_matchers.specs.Looks.{Header, One, is_of_type, one, source, when}
+use Rattle.patterns_matchers.specs.Words.{among, named, index_casts}
 
 module _ (t : Operation) (n : ℕ) (front : Place) (o : Operation) (p : One) where
-  -- where what gives the operand has not one operand and one result
+  -- the defining operation of the operand doesn't have one operand and one result
   none_back : (s : Option Header) (h : Header) (f : One → Option (List Edit)) → s ≡ source t p.name p.first → s ≡ Some h → None ≡ one h → None ≡ given (source t p.name p.first) (λ y. given (one y) f)
   none_back s h f e i k = ap (λ q. given q f) k ∙ ap (λ z. given z (λ y. given (one y) f)) (sym i ∙ e)
 

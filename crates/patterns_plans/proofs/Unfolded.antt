@@ -1,4 +1,5 @@
--- An operation isn't folded that reads no constant, nor one that reads a value which is none, but for a few names.
+-- An operation doesn't fold without constant operands. With a few exceptions it doesn't fold if an operand isn't a
+-- constant.
 use Rattle.std.proofs.Common.{◌≡◌, refl, ap, sym, ◌∙◌, ℕ, Bool, true, false, ◌&&◌, ◌||◌, not, List, [], ◌∷◌, map, Option, Some, None, if◌then◌else◌}
 use Rattle.std.specs.Prelude.{codes, is_some}
 use Rattle.std.specs.List.{list_all, list_any}
@@ -20,15 +21,15 @@ use Rattle.dialects_int.specs.declared.operations.Arithmetic.{Arithmetic}
 use Rattle.dialects_int.specs.declared.operations.Arithmetic.TheVariants as op
 use Rattle.dialects_int.specs.declared.operations.Predicate.{Predicate}
 use Rattle.dialects_int.specs.declared.operations.Rule.{Rule}
-use Rattle.dialects_int.specs.declared.operations.Rule.TheVariants.{Constant, Pair, Compare, Select, Resize, IndexCast}
+use Rattle.dialects_int.specs.declared.operations.Rule.TheVariants.{Constant, Binary, Compare, Select, IntegerCast, IndexCast}
 use Rattle.dialects_int.specs.Folds.{Known, alone, asked, bits_at, both, compared, fold_by, fold_of, is_property, kind_of, or_else, pair_fold, pair_value, property_of, rule_of, rules, same_kind, with}
-use Rattle.patterns_reads.proofs.Cleaned.{known_not}
-use Rattle.patterns_reads.specs.Folding.{folded_to, may_read, fold_to_constant}
-use Rattle.patterns_reads.specs.Looks.{is_constant, known, when}
-use Rattle.patterns_reads.specs.Words.{among, named}
+use Rattle.patterns_matchers.proofs.Cleaned.{known_not}
+use Rattle.patterns_matchers.specs.Folding.{folded_to, may_read, fold_to_constant}
+use Rattle.patterns_matchers.specs.Looks.{is_constant, known, when}
+use Rattle.patterns_matchers.specs.Words.{among, named}
 use Rattle.patterns_plans.specs.May.{may_fold, partial, reads_constant, reads_constants}
 
--- the operations that fold, other than constants, fold to nothing over nothing that is known
+-- operations that fold, except constants, don't fold if no operand is known
 other : Rule → Bool
 other Constant = false
 other _ = true
@@ -43,27 +44,27 @@ all_beside name (row ∷ rows) a r e = go (bytes_eq name row.0) (other row.1) re
     go true true i k f later = let one : row.1 ≡ r = cc in ap other (sym one) ∙ i
     go false true i k f later = later k r f
 
--- what stands beside a name that isn't the first
-behind : List (List ℕ × Rule) → List (List ℕ × Rule)
-behind [] = []
-behind (row ∷ rows) = rows
+-- the entries after the first
+trailing : List (List ℕ × Rule) → List (List ℕ × Rule)
+trailing [] = []
+trailing (row ∷ rows) = rows
 
 begins : (name : List ℕ) (rows : List (List ℕ × Rule)) (word : List ℕ) (c r : Rule) (more : List (List ℕ × Rule)) → rows ≡ (word, c) ∷ more → bytes_eq name word ≡ false → beside name rows ≡ Some r → beside name more ≡ Some r
 begins name rows word c r more e f h = sym (ap (beside name) e ∙ ap (λ b. if b then Some c else beside name more) f) ∙ h
 
-rest_is : rules ≡ (codes "arith.constant", Constant) ∷ behind rules
-unfolding rules behind
+rest_is : rules ≡ (codes "arith.constant", Constant) ∷ trailing rules
+unfolding rules trailing
 rest_is = refl
 
-rest_other : list_all (λ (row : List ℕ × Rule). other row.1) (behind rules) ≡ true
-unfolding rules behind other
+rest_other : list_all (λ (row : List ℕ × Rule). other row.1) (trailing rules) ≡ true
+unfolding rules trailing other
 rest_other = refl
 
 others : (name : List ℕ) (r : Rule) → named (codes "arith.constant") name ≡ false → rule_of name ≡ Some r → other r ≡ true
 unfolding rule_of
-others name r e f = all_beside name (behind rules) rest_other r (begins name rules (codes "arith.constant") Constant r (behind rules) rest_is e f)
+others name r e f = all_beside name (trailing rules) rest_other r (begins name rules (codes "arith.constant") Constant r (trailing rules) rest_is e f)
 
--- nothing known
+-- no operand is known
 abbrev nones : List Value → List (Option Known)
 nones vs = map (λ v. None) vs
 
@@ -75,10 +76,10 @@ no_comparison p false = refl
 none_folded : (r : Rule) (props : List (List ℕ × AttrTerm)) (k : BitsKind) (vs : List Value) → other r ≡ true → fold_by r props k (nones vs) ≡ None
 unfolding other
 none_folded Constant props k vs e = absurd cc
-none_folded (Pair o) props k [] e = refl
-none_folded (Pair o) props k (a ∷ []) e = refl
-none_folded (Pair o) props k (a ∷ b ∷ []) e = refl
-none_folded (Pair o) props k (a ∷ b ∷ c ∷ vs) e = refl
+none_folded (Binary o) props k [] e = refl
+none_folded (Binary o) props k (a ∷ []) e = refl
+none_folded (Binary o) props k (a ∷ b ∷ []) e = refl
+none_folded (Binary o) props k (a ∷ b ∷ c ∷ vs) e = refl
 none_folded Compare props k [] e = refl
 none_folded Compare props k (a ∷ []) e = refl
 none_folded Compare props k (a ∷ b ∷ []) e = no_comparison (asked (property_of (codes "predicate") props)) (same_kind k (kind.Int 1))
@@ -88,9 +89,9 @@ none_folded Select props k (a ∷ []) e = refl
 none_folded Select props k (a ∷ b ∷ []) e = refl
 none_folded Select props k (a ∷ b ∷ c ∷ []) e = refl
 none_folded Select props k (a ∷ b ∷ c ∷ d ∷ vs) e = refl
-none_folded (Resize c) props k [] e = refl
-none_folded (Resize c) props k (a ∷ []) e = refl
-none_folded (Resize c) props k (a ∷ b ∷ vs) e = refl
+none_folded (IntegerCast c) props k [] e = refl
+none_folded (IntegerCast c) props k (a ∷ []) e = refl
+none_folded (IntegerCast c) props k (a ∷ b ∷ vs) e = refl
 none_folded (IndexCast c) props k [] e = refl
 none_folded (IndexCast c) props k (a ∷ []) e = refl
 none_folded (IndexCast c) props k (a ∷ b ∷ vs) e = refl
@@ -118,7 +119,7 @@ none_known t (v ∷ vs) e = go (is_constant t v) refl e (none_known t vs)
     go true i f later = absurd cc
     go false i f later = λ j. sym (known_not t v false (sym i) refl) j ∷ later f j
 
--- what is folded of an operation over operands that are known so, nothing
+-- an operation over operands with these known bits doesn't fold
 abbrev Unfolded : Operation → List (Option Known) → Type 0
 Unfolded o ks = named (codes "arith.constant") (head o).name ≡ false → fold_of (head o).name (head o).properties ks (head o).results ≡ None
 
@@ -137,12 +138,12 @@ never_over t n front o e = go (named (codes "arith.constant") (head o).name) ref
         never (head o).results (list_all (may_read t n front o) (head o).operands)
         ∙ ap (λ k. when (list_all (may_read t n front o) (head o).operands) (folded_to t n front o (head o).results k)) (sym (e i))
 
-never_unread : (t : Operation) (n : ℕ) (front : Place) (o : Operation) → reads_constant t (head o) ≡ false → None ≡ fold_to_constant t n front o
-never_unread t n front o e = never_over t n front o (λ i.
+never_unparsed : (t : Operation) (n : ℕ) (front : Place) (o : Operation) → reads_constant t (head o) ≡ false → None ≡ fold_to_constant t n front o
+never_unparsed t n front o e = never_over t n front o (λ i.
     ap (λ ks. fold_of (head o).name (head o).properties ks (head o).results) (none_known t (head o).operands e)
     ∙ no_fold (head o).name (head o).properties (head o).operands (head o).results i)
 
--- the operations that aren't partial fold to nothing where one operand isn't known
+-- operations that aren't partial don't fold if one operand isn't known
 lone : Arithmetic → Bool
 lone op.Multiply = true
 lone op.And = true
@@ -197,7 +198,7 @@ not_both (Some q) true (Some a) None e = refl
 not_both (Some q) true (Some a) (Some b) e = absurd cc
 
 whole : Rule → Bool
-whole (Pair o) = not (lone o)
+whole (Binary o) = not (lone o)
 whole Select = false
 whole _ = true
 
@@ -205,22 +206,22 @@ partly_folded : (r : Rule) (props : List (List ℕ × AttrTerm)) (k : BitsKind) 
 unfolding whole
 partly_folded Constant props k [] e f = absurd cc
 partly_folded Constant props k (x ∷ ks) e f = refl
-partly_folded (Pair o) props k ks e f = no_pair o (not-true (lone o) e) k ks f
+partly_folded (Binary o) props k ks e f = no_pair o (not-true (lone o) e) k ks f
 partly_folded Compare props k [] e f = refl
 partly_folded Compare props k (x ∷ []) e f = refl
 partly_folded Compare props k (x ∷ y ∷ []) e f = not_both (asked (property_of (codes "predicate") props)) (same_kind k (kind.Int 1)) x y f
 partly_folded Compare props k (x ∷ y ∷ z ∷ ks) e f = refl
 partly_folded Select props k ks e f = absurd cc
-partly_folded (Resize c) props k [] e f = refl
-partly_folded (Resize c) props k (None ∷ []) e f = refl
-partly_folded (Resize c) props k (Some a ∷ []) e f = absurd cc
-partly_folded (Resize c) props k (x ∷ y ∷ ks) e f = refl
+partly_folded (IntegerCast c) props k [] e f = refl
+partly_folded (IntegerCast c) props k (None ∷ []) e f = refl
+partly_folded (IntegerCast c) props k (Some a ∷ []) e f = absurd cc
+partly_folded (IntegerCast c) props k (x ∷ y ∷ ks) e f = refl
 partly_folded (IndexCast c) props k [] e f = refl
 partly_folded (IndexCast c) props k (None ∷ []) e f = refl
 partly_folded (IndexCast c) props k (Some a ∷ []) e f = absurd cc
 partly_folded (IndexCast c) props k (x ∷ y ∷ ks) e f = refl
 
--- each rule of a name that isn't partial is whole
+-- each folding rule of a name that isn't partial is total
 firm : List ℕ × Rule → Bool
 firm row = whole row.1 || among partial row.0
 
@@ -283,5 +284,5 @@ pub never_fold_to_constant : (t : Operation) (n : ℕ) (front : Place) (o : Oper
 never_fold_to_constant t n front o e = go (among partial (head o).name) refl e
   where
     go : (b : Bool) → among partial (head o).name ≡ b → (if b then reads_constant t (head o) else reads_constants t (head o)) ≡ false → None ≡ fold_to_constant t n front o
-    go true i f = never_unread t n front o f
+    go true i f = never_unparsed t n front o f
     go false i f = never_partly t n front o i f

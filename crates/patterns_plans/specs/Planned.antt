@@ -1,6 +1,6 @@
--- What it is to plan a rule at an operation of which something is shown.
+-- Correct plans of a rule at an operation that the store shows.
 use Rattle.std.specs.Prelude.{◌≡◌, ℕ, List, Bool, true, false, ◌||◌, Option, Some, option_map, IfSome}
-use Rattle.ir_event.specs.types.Things.{Things}
+use Rattle.ir_event.specs.types.Things.{ContextModel}
 use Rattle.ir_event.specs.trees.declared.place.Place.{Place}
 use Rattle.ir_event.specs.trees.Ids.{find}
 use Rattle.ir_event.specs.trees.Meaning.{Operation}
@@ -8,46 +8,45 @@ use Rattle.ir_event.specs.store.Nodes.{Node}
 use Rattle.ir_event.specs.declared.world.World.{World}
 use Rattle.ir_event.specs.Modules.{module_in}
 use Rattle.effects.specs.Dead.{dead_at}
-use Rattle.patterns_reads.specs.Contents.{Edit}
-use Rattle.patterns_reads.specs.Plans.{plan_meaning, PlanIsOf}
-use Rattle.patterns_reads.specs.Reads.{bare_in}
-use Rattle.patterns_reads.specs.Rule.{Rule}
-use Rattle.patterns_reads.specs.Rule.TheVariants.{OpenBranch, OpenLoop, StopLoop}
-use Rattle.patterns_reads.specs.RuleNames.{is_lowering}
-use Rattle.patterns_reads.specs.Rules.{rule}
-use Rattle.patterns_reads.specs.declared.plan.Plan.{Plan}
+use Rattle.patterns_matchers.specs.Contents.{Edit}
+use Rattle.patterns_matchers.specs.Plans.{plan_meaning, PlanIsOf}
+use Rattle.patterns_matchers.specs.Reads.{bare_in}
+use Rattle.patterns_matchers.specs.Rule.{Rule}
+use Rattle.patterns_matchers.specs.Rule.TheVariants.{OpenBranch, OpenLoop, StopLoop}
+use Rattle.patterns_matchers.specs.RuleNames.{is_lowering}
+use Rattle.patterns_matchers.specs.Rules.{rule}
+use Rattle.patterns_matchers.specs.declared.plan.RewritePlan.{RewritePlan}
 
--- what a rule makes: its edits at an operation of a tree, where an id is the next free one and a place is in front of
--- the operation, if it applies
+-- a rule: its edits at an operation of a tree, for a next free id and the place before the operation, if it applies
 abbrev pub Making : Type 0
 Making = Operation → ℕ → Place → Operation → Option (List Edit)
 
--- a plan, or none, is what a rule makes of operation x of a world's module, of which this node is shown, whatever id is
--- free and wherever x stands
-abbrev pub IsPlanned : Making → World → ℕ → Node → Option Plan → Type 0
-IsPlanned makes w x node p = (n : ℕ) (front : Place)
-    → option_map (plan_meaning w.ctx n x front) p ≡ makes (module_in w).tree n front (bare_in w.ctx x node)
+-- a plan, or none, is that of a rule at operation x of a world's module, which this node shows, for any next id and
+-- any place of x
+abbrev pub IsPlanned : Making → World → ℕ → Node → Option RewritePlan → Type 0
+IsPlanned makes w x node p = (n : ℕ) (point : Place)
+    → option_map (plan_meaning w.ctx n x point) p ≡ makes (module_in w).tree n point (bare_in w.ctx x node)
 
--- a plan, or none, is what rule r makes of operation x, if x is there, whatever id is free and wherever x stands
-abbrev pub IsPlanAt : Rule → World → ℕ → Option Plan → Type 0
-IsPlanAt r w x p = (o : Operation) → find x (module_in w).tree ≡ Some o → (n : ℕ) (front : Place)
-    → option_map (plan_meaning w.ctx n x front) p ≡ rule r (module_in w).tree n front o
+-- a plan, or none, is that of rule r at operation x, if x is in the module, for any next id and any place of x
+abbrev pub IsPlanAt : Rule → World → ℕ → Option RewritePlan → Type 0
+IsPlanAt r w x p = (o : Operation) → find x (module_in w).tree ≡ Some o → (n : ℕ) (point : Place)
+    → option_map (plan_meaning w.ctx n x point) p ≡ rule r (module_in w).tree n point o
 
--- operation x is in a world's module, and dead
+-- operation x is in a world's module and is dead
 abbrev pub IsDead : World → ℕ → Type 0
 IsDead w x = dead_at x (module_in w).tree ≡ true
 
--- whether a rule opens a branch or a loop, so that operations inside it move
+-- whether a rule inlines a block of a branch or loop
 abbrev pub is_opening : Rule → Bool
 is_opening OpenBranch = true
 is_opening OpenLoop = true
 is_opening StopLoop = true
 is_opening _ = false
 
--- a rule is planned by what is shown of its operation: it neither moves what is inside, nor lowers
+-- a rule that is planned from what the store shows of its operation: it neither inlines a block nor lowers
 abbrev pub IsPlannedRule : Rule → Type 0
 IsPlannedRule r = (is_opening r || is_lowering r) ≡ false
 
--- if there is a plan, its numbers are of a context
-abbrev pub FitsIn : Things → Option Plan → Type 0
+-- the numbers of a plan, if there is one, are interned in a context
+abbrev pub FitsIn : ContextModel → Option RewritePlan → Type 0
 FitsIn c p = IfSome p (PlanIsOf c)

@@ -1,48 +1,48 @@
-//! Rules that make a constant and an operation with it.
+//! Plans of the rules that make a constant and an operation on it.
 ghost use Rattle.std.specs.Prelude.{◌≡◌, IfOk, ℕ};
 ghost use Rattle.ir_event.specs.Modules.{NodeIsOf};
-ghost use Rattle.patterns_reads.specs.Folding.{regroup_constants, add_negative};
+ghost use Rattle.patterns_matchers.specs.Folding.{regroup_constants, add_negative};
 ghost use Rattle.patterns_plans.specs.Planned.{FitsIn, IsPlanned};
 
 use dialects_int::fold::fold;
 use ir_event::store::node::Node;
 use ir_event::types::word::Word;
 use ir_event::world::World;
-use patterns_reads::known::known;
-use patterns_reads::plan::Plan;
-use patterns_reads::shapes::two_of;
-use patterns_reads::sources::source_like;
-use patterns_reads::types::{negated, type_width};
-use patterns_reads::words::{is_regrouping, word_name};
+use patterns_matchers::constants::constant_value;
+use patterns_matchers::defining_ops::defining_op_named;
+use patterns_matchers::op_names::{is_associative, word_name};
+use patterns_matchers::plan::RewritePlan;
+use patterns_matchers::shapes::binary_op;
+use patterns_matchers::types::{negated_bits, type_width};
 use std::alloc::{AllocError, Global};
 
-/// A value with a constant, and the result with another: the value with the two.
+/// Plans `regroup-constants`: a value with two constants, one after another, becomes the value with one constant.
 #[inline(never)]
 pub(crate) fn plan_regroup_constants(
     alloc: Global,
     world: &World,
     node: &Node<'_>,
-) -> Result<Option<Plan>, AllocError>
+) -> Result<Option<RewritePlan>, AllocError>
     requires of { NodeIsOf world.now.ctx node.now }
     ensures edits { (x : ℕ) → IfOk result (IsPlanned regroup_constants world.now x node.now) }
     ensures fit { IfOk result (FitsIn world.now.ctx) }
 {
-    let Some(p) = two_of(node) else {
+    let Some(p) = binary_op(node) else {
         return Ok(None);
     };
-    if !is_regrouping(&world.ctx, p.name) {
+    if !is_associative(&world.ctx, p.name) {
         return Ok(None);
     }
-    let Some(outer) = known(alloc, world, &p.second)? else {
+    let Some(outer) = constant_value(alloc, world, &p.second)? else {
         return Ok(None);
     };
-    let Some(inside) = source_like(alloc, world, p.name, &p.first)? else {
+    let Some(inside) = defining_op_named(alloc, world, p.name, &p.first)? else {
         return Ok(None);
     };
-    let Some(q) = two_of(&inside) else {
+    let Some(q) = binary_op(&inside) else {
         return Ok(None);
     };
-    let Some(inner) = known(alloc, world, &q.second)? else {
+    let Some(inner) = constant_value(alloc, world, &q.second)? else {
         return Ok(None);
     };
     match fold(
@@ -52,7 +52,7 @@ pub(crate) fn plan_regroup_constants(
         &[Some(inner), Some(outer)],
         &[p.ty],
     ) {
-        Some(bits) => Ok(Some(Plan::Combined {
+        Some(bits) => Ok(Some(RewritePlan::CombinedConstant {
             name: p.name,
             ty: p.ty,
             value: q.first,
@@ -62,30 +62,30 @@ pub(crate) fn plan_regroup_constants(
     }
 }
 
-/// A value less a constant: the value with the opposite constant.
+/// Plans `add-negative`: a value minus a constant becomes the value plus the negated constant.
 #[inline(never)]
 pub(crate) fn plan_add_negative(
     alloc: Global,
     world: &World,
     node: &Node<'_>,
-) -> Result<Option<Plan>, AllocError>
+) -> Result<Option<RewritePlan>, AllocError>
     requires of { NodeIsOf world.now.ctx node.now }
     ensures edits { (x : ℕ) → IfOk result (IsPlanned add_negative world.now x node.now) }
     ensures fit { IfOk result (FitsIn world.now.ctx) }
 {
-    let Some(p) = two_of(node) else {
+    let Some(p) = binary_op(node) else {
         return Ok(None);
     };
     if !world.ctx.is_word(p.name, Word::ArithSubi) {
         return Ok(None);
     }
-    let Some(bits) = known(alloc, world, &p.second)? else {
+    let Some(bits) = constant_value(alloc, world, &p.second)? else {
         return Ok(None);
     };
-    Ok(Some(Plan::Combined {
+    Ok(Some(RewritePlan::CombinedConstant {
         name: word_name(&world.ctx, Word::ArithAddi),
         ty: p.ty,
         value: p.first,
-        bits: negated(type_width(&world.ctx, p.ty), bits.value),
+        bits: negated_bits(type_width(&world.ctx, p.ty), bits.value),
     }))
 }

@@ -1,10 +1,10 @@
-//! Rules that give a constant for an operation's result.
+//! Plans of the rules that replace an operation's result by a constant.
 ghost use Rattle.std.specs.Prelude.{◌≡◌, IfOk, Some, ℕ, [], ◌∷◌, codes, false, map, option_map};
 ghost use Rattle.ir_event.specs.types.Terms.{name_term};
 ghost use Rattle.ir_event.specs.Modules.{NodeIsOf, module_in};
 ghost use Rattle.dialects_int.specs.Folds.{known_of};
-ghost use Rattle.patterns_reads.specs.Folding.{fold_to_constant, cancel_itself, zero_remainder, compare_itself};
-ghost use Rattle.patterns_reads.specs.Folding.{compare_zero};
+ghost use Rattle.patterns_matchers.specs.Folding.{fold_to_constant, cancel_itself, zero_remainder, compare_itself};
+ghost use Rattle.patterns_matchers.specs.Folding.{compare_zero};
 ghost use Rattle.patterns_laws.specs.Words.{named};
 ghost use Rattle.patterns_plans.specs.Numbers.{known_each, readable};
 ghost use Rattle.patterns_plans.specs.Planned.{FitsIn, IsPlanned};
@@ -16,19 +16,20 @@ use ir_event::trees::value::Value;
 use ir_event::types::bits::Bits;
 use ir_event::types::word::Word;
 use ir_event::world::World;
-use patterns_reads::known::{is_number, known};
-use patterns_reads::look::is_constant;
-use patterns_reads::plan::Plan;
-use patterns_reads::predicates::{holds_of_itself, predicate};
-use patterns_reads::shapes::two_of;
-use patterns_reads::words::{is_cancelling, is_remainder};
+use patterns_matchers::constants::{constant_value, is_number};
+use patterns_matchers::nodes::is_constant;
+use patterns_matchers::op_names::{is_remainder, is_self_inverse};
+use patterns_matchers::plan::RewritePlan;
+use patterns_matchers::predicates::{is_true_when_equal, predicate};
+use patterns_matchers::shapes::binary_op;
 use std::alloc::{AllocError, Global};
 
-/// What is known of a value, if it is no constant, or a clean one.
+/// Returns the known bits of `value`, or `Some(None)` if it isn't a constant. Returns `None` if it is a constant that
+/// isn't verified.
 fn readable(alloc: Global, world: &World, value: &Value) -> Result<Option<Option<Bits>>, AllocError>
     ensures { IfOk result (λ r. option_map known_of r ≡ readable (module_in world.now).tree value.now) }
 {
-    if let Some(bits) = known(alloc, world, value)? {
+    if let Some(bits) = constant_value(alloc, world, value)? {
         return Ok(Some(Some(bits)));
     }
     if is_constant(world, value) {
@@ -37,7 +38,7 @@ fn readable(alloc: Global, world: &World, value: &Value) -> Result<Option<Option
     Ok(Some(None))
 }
 
-/// What is known of each of some values, if each is no constant, or a clean one.
+/// Returns the known bits of each value, as `readable` does, or `None` if a value is a constant that isn't verified.
 fn known_each(
     alloc: Global,
     world: &World,
@@ -58,8 +59,9 @@ fn known_each(
     Ok(Some(known))
 }
 
-/// The constant that an operation that is none folds to, where this is known of its operands.
-fn folded(world: &World, node: &Node<'_>, operands: &[Option<Bits>]) -> Option<Plan>
+/// Returns the plan of the constant to which an operation folds, by the known bits of its operands. The operation
+/// isn't a constant itself.
+fn folded(world: &World, node: &Node<'_>, operands: &[Option<Bits>]) -> Option<RewritePlan>
     requires of { NodeIsOf world.now.ctx node.now }
     requires named { named (codes "arith.constant") (name_term world.now.ctx node.now.head.name) ≡ false }
     requires known { Some (map known_of operands.now) ≡ known_each (module_in world.now).tree node.now.head.operands }
@@ -76,7 +78,7 @@ fn folded(world: &World, node: &Node<'_>, operands: &[Option<Bits>]) -> Option<P
         operands,
         node.results(),
     ) {
-        Some(bits) => Some(Plan::Constant {
+        Some(bits) => Some(RewritePlan::Constant {
             ty: *ty,
             bits: bits.value,
         }),
@@ -84,8 +86,13 @@ fn folded(world: &World, node: &Node<'_>, operands: &[Option<Bits>]) -> Option<P
     }
 }
 
-/// The constant that an operation that is none folds to over its constant operands, however many it has.
-fn fold_each(alloc: Global, world: &World, node: &Node<'_>) -> Result<Option<Plan>, AllocError>
+/// Returns the plan of the constant to which an operation with any number of operands folds. The operation isn't a
+/// constant itself.
+fn fold_each(
+    alloc: Global,
+    world: &World,
+    node: &Node<'_>,
+) -> Result<Option<RewritePlan>, AllocError>
     requires of { NodeIsOf world.now.ctx node.now }
     requires named { named (codes "arith.constant") (name_term world.now.ctx node.now.head.name) ≡ false }
     ensures edits { (x : ℕ) → IfOk result (IsPlanned fold_to_constant world.now x node.now) }
@@ -97,14 +104,14 @@ fn fold_each(alloc: Global, world: &World, node: &Node<'_>) -> Result<Option<Pla
     Ok(folded(world, node, &operands))
 }
 
-/// The like of two operands, which takes no memory.
+/// Returns the same for two operands, without allocating memory.
 fn fold_two(
     alloc: Global,
     world: &World,
     node: &Node<'_>,
     first: &Value,
     second: &Value,
-) -> Result<Option<Plan>, AllocError>
+) -> Result<Option<RewritePlan>, AllocError>
     requires of { NodeIsOf world.now.ctx node.now }
     requires named { named (codes "arith.constant") (name_term world.now.ctx node.now.head.name) ≡ false }
     requires operands { node.now.head.operands ≡ first.now ∷ second.now ∷ [] }
@@ -120,13 +127,14 @@ fn fold_two(
     Ok(folded(world, node, &[one, other]))
 }
 
-/// No constant, and folds over its constant operands: the constant.
+/// Plans `fold-to-constant`: an operation that isn't a constant and folds over its constant operands becomes the
+/// constant.
 #[inline(never)]
 pub(crate) fn plan_fold_to_constant(
     alloc: Global,
     world: &World,
     node: &Node<'_>,
-) -> Result<Option<Plan>, AllocError>
+) -> Result<Option<RewritePlan>, AllocError>
     requires of { NodeIsOf world.now.ctx node.now }
     ensures edits { (x : ℕ) → IfOk result (IsPlanned fold_to_constant world.now x node.now) }
     ensures fit { IfOk result (FitsIn world.now.ctx) }
@@ -140,37 +148,37 @@ pub(crate) fn plan_fold_to_constant(
     }
 }
 
-/// A value and itself: 0.
+/// Plans `cancel-itself`: an operation on a value and itself becomes 0.
 #[inline(never)]
-pub(crate) fn plan_cancel_itself(world: &World, node: &Node<'_>) -> Option<Plan>
+pub(crate) fn plan_cancel_itself(world: &World, node: &Node<'_>) -> Option<RewritePlan>
     requires of { NodeIsOf world.now.ctx node.now }
     ensures edits { (x : ℕ) → IsPlanned cancel_itself world.now x node.now result }
     ensures fit { FitsIn world.now.ctx result }
 {
-    let Some(p) = two_of(node) else {
+    let Some(p) = binary_op(node) else {
         return None;
     };
-    if !is_cancelling(&world.ctx, p.name) {
+    if !is_self_inverse(&world.ctx, p.name) {
         return None;
     }
     if !is_same(&p.first, &p.second) {
         return None;
     }
-    Some(Plan::Constant { ty: p.ty, bits: 0 })
+    Some(RewritePlan::Constant { ty: p.ty, bits: 0 })
 }
 
-/// A remainder by 1: 0.
+/// Plans `zero-remainder`: a remainder by 1 becomes 0.
 #[inline(never)]
 pub(crate) fn plan_zero_remainder(
     alloc: Global,
     world: &World,
     node: &Node<'_>,
-) -> Result<Option<Plan>, AllocError>
+) -> Result<Option<RewritePlan>, AllocError>
     requires of { NodeIsOf world.now.ctx node.now }
     ensures edits { (x : ℕ) → IfOk result (IsPlanned zero_remainder world.now x node.now) }
     ensures fit { IfOk result (FitsIn world.now.ctx) }
 {
-    let Some(p) = two_of(node) else {
+    let Some(p) = binary_op(node) else {
         return Ok(None);
     };
     if !is_remainder(&world.ctx, p.name) {
@@ -179,17 +187,17 @@ pub(crate) fn plan_zero_remainder(
     if !is_number(alloc, world, 1, &p.second)? {
         return Ok(None);
     }
-    Ok(Some(Plan::Constant { ty: p.ty, bits: 0 }))
+    Ok(Some(RewritePlan::Constant { ty: p.ty, bits: 0 }))
 }
 
-/// A comparison of a value and itself: true or false.
+/// Plans `compare-itself`: a comparison of a value and itself becomes true or false.
 #[inline(never)]
-pub(crate) fn plan_compare_itself(world: &World, node: &Node<'_>) -> Option<Plan>
+pub(crate) fn plan_compare_itself(world: &World, node: &Node<'_>) -> Option<RewritePlan>
     requires of { NodeIsOf world.now.ctx node.now }
     ensures edits { (x : ℕ) → IsPlanned compare_itself world.now x node.now result }
     ensures fit { FitsIn world.now.ctx result }
 {
-    let Some(p) = two_of(node) else {
+    let Some(p) = binary_op(node) else {
         return None;
     };
     if !world.ctx.is_word(p.name, Word::ArithCmpi) {
@@ -201,24 +209,24 @@ pub(crate) fn plan_compare_itself(world: &World, node: &Node<'_>) -> Option<Plan
     if !is_same(&p.first, &p.second) {
         return None;
     }
-    Some(Plan::Constant {
+    Some(RewritePlan::Constant {
         ty: p.ty,
-        bits: holds_of_itself(asks),
+        bits: is_true_when_equal(asks),
     })
 }
 
-/// A comparison with 0, which nothing is below: true or false.
+/// Plans `compare-zero`: an unsigned comparison with 0 that is always true or always false becomes that truth value.
 #[inline(never)]
 pub(crate) fn plan_compare_zero(
     alloc: Global,
     world: &World,
     node: &Node<'_>,
-) -> Result<Option<Plan>, AllocError>
+) -> Result<Option<RewritePlan>, AllocError>
     requires of { NodeIsOf world.now.ctx node.now }
     ensures edits { (x : ℕ) → IfOk result (IsPlanned compare_zero world.now x node.now) }
     ensures fit { IfOk result (FitsIn world.now.ctx) }
 {
-    let Some(p) = two_of(node) else {
+    let Some(p) = binary_op(node) else {
         return Ok(None);
     };
     if !world.ctx.is_word(p.name, Word::ArithCmpi) {
@@ -231,10 +239,10 @@ pub(crate) fn plan_compare_zero(
         return Ok(None);
     }
     if asks == 6 {
-        return Ok(Some(Plan::Constant { ty: p.ty, bits: 0 }));
+        return Ok(Some(RewritePlan::Constant { ty: p.ty, bits: 0 }));
     }
     if asks == 9 {
-        return Ok(Some(Plan::Constant { ty: p.ty, bits: 1 }));
+        return Ok(Some(RewritePlan::Constant { ty: p.ty, bits: 1 }));
     }
     Ok(None)
 }

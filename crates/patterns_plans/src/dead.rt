@@ -1,20 +1,20 @@
-//! The rule on dead operations.
+//! Plans the rule on dead operations.
 ghost use Rattle.std.specs.Prelude.{◌≡◌, IfOk, None, ℕ, [], ◌∷◌, false, true};
-ghost use Rattle.ir_event.specs.types.Things.{Things};
+ghost use Rattle.ir_event.specs.types.Things.{ContextModel};
 ghost use Rattle.ir_event.specs.trees.declared.place.Place.{Place as At};
-ghost use Rattle.patterns_edits.specs.Edits.{Erase};
-ghost use Rattle.patterns_reads.specs.Plans.{PlanIsOf, plan_meaning};
-ghost use Rattle.patterns_reads.specs.Rule.TheVariants.{EraseDead};
+ghost use Rattle.patterns_base.specs.Edits.{Erase};
+ghost use Rattle.patterns_matchers.specs.Plans.{PlanIsOf, plan_meaning};
+ghost use Rattle.patterns_matchers.specs.Rule.TheVariants.{EraseDead};
 ghost use Rattle.patterns_plans.specs.Planned.{FitsIn, IsDead, IsPlanAt};
 
 use effects::dead_op::dead_op;
 use ir_event::types::ids::OpId;
 use ir_event::world::World;
-use patterns_edits::edit::Edit;
-use patterns_reads::plan::Plan;
+use patterns_base::edit::Edit;
+use patterns_matchers::plan::RewritePlan;
 use std::alloc::{AllocError, Global};
 
-/// Whether an operation is dead. The rule applies at no other one.
+/// Returns whether an operation is dead. The rule applies only at dead operations.
 pub fn is_dead(world: &World, op: OpId) -> bool
     ensures dead { result ≡ true → IsDead world.now op }
     ensures left_out { result ≡ false → IsPlanAt EraseDead world.now op None }
@@ -22,23 +22,23 @@ pub fn is_dead(world: &World, op: OpId) -> bool
     dead_op(world, op)
 }
 
-/// An operation is erased.
-pub fn erase(alloc: Global, op: OpId) -> Result<Plan, AllocError>
-    ensures edits { IfOk result (λ p. (c : Things) (n : ℕ) (front : At) → plan_meaning c n op front p ≡ Erase op ∷ []) }
-    ensures fit { IfOk result (λ p. (c : Things) → PlanIsOf c p) }
+/// Returns the plan that erases an operation.
+pub fn erase(alloc: Global, op: OpId) -> Result<RewritePlan, AllocError>
+    ensures edits { IfOk result (λ p. (c : ContextModel) (n : ℕ) (point : At) → plan_meaning c n op point p ≡ Erase op ∷ []) }
+    ensures fit { IfOk result (λ p. (c : ContextModel) → PlanIsOf c p) }
 {
     let mut edits = Vec::with_capacity(alloc, 1)?;
     edits.push(Edit::Erase { op })?;
-    Ok(Plan::Edits(edits))
+    Ok(RewritePlan::Edits(edits))
 }
 
-/// A dead operation: erased.
+/// Plans `erase-dead`: a dead operation is erased.
 #[inline(never)]
 pub(crate) fn plan_erase_dead(
     alloc: Global,
     world: &World,
     op: OpId,
-) -> Result<Option<Plan>, AllocError>
+) -> Result<Option<RewritePlan>, AllocError>
     ensures edits { IfOk result (IsPlanAt EraseDead world.now op) }
     ensures fit { IfOk result (FitsIn world.now.ctx) }
 {

@@ -1,37 +1,37 @@
-//! Rules that change operands in place.
+//! Plans of the rules that change operands in place.
 ghost use Rattle.std.specs.Prelude.{◌≡◌, IfOk, ℕ};
 ghost use Rattle.ir_event.specs.Modules.{NodeIsOf};
-ghost use Rattle.patterns_reads.specs.Folding.{swap_constant, mirror_comparison, choose_opposite};
+ghost use Rattle.patterns_matchers.specs.Folding.{swap_constant, mirror_comparison, choose_opposite};
 ghost use Rattle.patterns_plans.specs.Planned.{FitsIn, IsPlanned};
 
 use ir_event::store::node::Node;
 use ir_event::types::ids::OpId;
 use ir_event::types::word::Word;
 use ir_event::world::World;
-use patterns_edits::edit::Edit;
-use patterns_reads::known::{is_known, is_number, source};
-use patterns_reads::look::is_constant;
-use patterns_reads::plan::Plan;
-use patterns_reads::predicates::{mirrored, predicate};
-use patterns_reads::shapes::{three_of, two_of};
-use patterns_reads::words::is_swapping;
+use patterns_base::edit::Edit;
+use patterns_matchers::constants::{is_known, is_number, named_defining_op};
+use patterns_matchers::nodes::is_constant;
+use patterns_matchers::op_names::is_commutative;
+use patterns_matchers::plan::RewritePlan;
+use patterns_matchers::predicates::{predicate, swapped_predicate};
+use patterns_matchers::shapes::{binary_op, ternary_op};
 use std::alloc::{AllocError, Global};
 
-/// A constant first and none second: swapped.
+/// Plans `swap-constant`: the operands are swapped if the first is a constant and the second isn't.
 #[inline(never)]
 pub(crate) fn plan_swap_constant(
     alloc: Global,
     world: &World,
     op: OpId,
     node: &Node<'_>,
-) -> Result<Option<Plan>, AllocError>
+) -> Result<Option<RewritePlan>, AllocError>
     ensures edits { IfOk result (IsPlanned swap_constant world.now op node.now) }
     ensures fit { IfOk result (FitsIn world.now.ctx) }
 {
-    let Some(p) = two_of(node) else {
+    let Some(p) = binary_op(node) else {
         return Ok(None);
     };
-    if !is_swapping(&world.ctx, p.name) {
+    if !is_commutative(&world.ctx, p.name) {
         return Ok(None);
     }
     if !is_known(alloc, world, &p.first)? {
@@ -51,21 +51,22 @@ pub(crate) fn plan_swap_constant(
         operand: 1,
         value: p.first,
     })?;
-    Ok(Some(Plan::Edits(edits)))
+    Ok(Some(RewritePlan::Edits(edits)))
 }
 
-/// A comparison of a constant first and none second: swapped and mirrored.
+/// Plans `mirror-comparison`: the operands of a comparison are swapped, and its predicate is mirrored, if the first is
+/// a constant and the second isn't.
 #[inline(never)]
 pub(crate) fn plan_mirror_comparison(
     alloc: Global,
     world: &World,
     node: &Node<'_>,
-) -> Result<Option<Plan>, AllocError>
+) -> Result<Option<RewritePlan>, AllocError>
     requires of { NodeIsOf world.now.ctx node.now }
     ensures edits { (x : ℕ) → IfOk result (IsPlanned mirror_comparison world.now x node.now) }
     ensures fit { IfOk result (FitsIn world.now.ctx) }
 {
-    let Some(p) = two_of(node) else {
+    let Some(p) = binary_op(node) else {
         return Ok(None);
     };
     if !world.ctx.is_word(p.name, Word::ArithCmpi) {
@@ -80,34 +81,34 @@ pub(crate) fn plan_mirror_comparison(
     if is_constant(world, &p.second) {
         return Ok(None);
     }
-    Ok(Some(Plan::Mirrored {
-        predicate: mirrored(asks),
+    Ok(Some(RewritePlan::SwapComparison {
+        predicate: swapped_predicate(asks),
         first: p.second,
         second: p.first,
     }))
 }
 
-/// A choice by the opposite of a condition: by the condition, with both swapped.
+/// Plans `choose-opposite`: a select on a negated condition becomes one on the condition, with both values swapped.
 #[inline(never)]
 pub(crate) fn plan_choose_opposite(
     alloc: Global,
     world: &World,
     op: OpId,
     node: &Node<'_>,
-) -> Result<Option<Plan>, AllocError>
+) -> Result<Option<RewritePlan>, AllocError>
     ensures edits { IfOk result (IsPlanned choose_opposite world.now op node.now) }
     ensures fit { IfOk result (FitsIn world.now.ctx) }
 {
-    let Some(p) = three_of(node) else {
+    let Some(p) = ternary_op(node) else {
         return Ok(None);
     };
     if !world.ctx.is_word(p.name, Word::ArithSelect) {
         return Ok(None);
     }
-    let Some(opposite) = source(alloc, world, Word::ArithXori, &p.first)? else {
+    let Some(opposite) = named_defining_op(alloc, world, Word::ArithXori, &p.first)? else {
         return Ok(None);
     };
-    let Some(q) = two_of(&opposite) else {
+    let Some(q) = binary_op(&opposite) else {
         return Ok(None);
     };
     if !is_number(alloc, world, 1, &q.second)? {
@@ -129,5 +130,5 @@ pub(crate) fn plan_choose_opposite(
         operand: 2,
         value: p.second,
     })?;
-    Ok(Some(Plan::Edits(edits)))
+    Ok(Some(RewritePlan::Edits(edits)))
 }

@@ -1,4 +1,4 @@
--- Plans that there are, and the edits of rules; and what is shown of an operation.
+-- Plans of rules and whether they exist; and the operation that the store shows.
 use Rattle.std.proofs.Common.{◌≡◌, ◌∙◌, ap, sym, refl, ℕ, List, Bool, true, false, Option, Some, None}
 use Rattle.std.specs.Prelude.{is_some, option_map}
 use Rattle.std.proofs.lemmas.Option.{none-some, same_Some}
@@ -14,21 +14,21 @@ use Rattle.patterns_base.specs.Opening.{open_branch, open_loop, stop_loop}
 use Rattle.patterns_base.specs.Rules.{rule}
 use Rattle.patterns_base.specs.declared.rule.Rule.{Rule}
 use Rattle.patterns_base.specs.declared.rule.Rule.TheVariants.{OpenBranch, OpenLoop, StopLoop}
-use Rattle.patterns_reads.specs.Reads.{head_at}
-use Rattle.patterns_regions.specs.Rules.{open_branch_at, open_loop_at, stop_loop_at}
-use Rattle.patterns_reasons.specs.declared.condition.Condition.TheVariants.{HasEffects, NoInnerOperation, Used}
-use Rattle.patterns_reasons.specs.Conditions.{first_failing}
+use Rattle.patterns_matchers.specs.Reads.{head_at}
+use Rattle.patterns_plans.specs.RegionRules.{open_branch_at, open_loop_at, stop_loop_at}
+use Rattle.patterns_reasons.specs.declared.reason.Reason.TheVariants.{HasEffects, NoDefiningOp, Used}
+use Rattle.patterns_reasons.specs.Conditions.{first_failed_condition}
 use Rattle.patterns_reasons.specs.Tests.{erase_dead, index_tests, unrealized_tests}
 
 mapped_some : {X Y : Type 0} (f : X → Y) (p : Option X) → is_some p ≡ is_some (option_map f p)
 mapped_some f None = refl
 mapped_some f (Some x) = refl
 
--- whether there is a plan is whether a rule makes something, where the plan is what it makes
+-- a plan exists exactly if the rule makes edits, if the plan is that of the rule
 pub planned_some : {X Y : Type 0} (f : X → Y) (p : Option X) (b : Bool) (q : Option Y) → b ≡ is_some p → option_map f p ≡ q → b ≡ is_some q
 planned_some f p b q e h = e ∙ mapped_some f p ∙ ap is_some h
 
--- the rules that open branches and loops, by their names
+-- the rules on branches and loops, by their names
 module _ (t : Operation) (n : ℕ) (front : Place) (x : ℕ) (r : Rule) (b : Bool) (o : Operation) (is : find x t ≡ Some o) where
   pub branch_made : r ≡ OpenBranch → b ≡ is_some (open_branch_at x t front) → b ≡ is_some (rule r t n front o)
   unfolding rule
@@ -42,7 +42,7 @@ module _ (t : Operation) (n : ℕ) (front : Place) (x : ℕ) (r : Rule) (b : Boo
   unfolding rule
   stop_made k e = e ∙ ap (λ z. is_some (given z (λ o. stop_loop t front o))) is ∙ ap (λ r. is_some (rule r t n front o)) (sym k)
 
--- ---- the operation of which something is shown
+-- ---- the operation that the store shows
 pub shown_of : (x : ℕ) (t : Operation) (h : Header) → Some h ≡ head_at x t → (o : Operation) × (find x t ≡ Some o) × (head o ≡ h) × (h.id ≡ x)
 shown_of x t h e = go (find x t) refl
   where
@@ -56,24 +56,24 @@ shown_of x t h e = go (find x t) refl
 pub unused_shown : (x : ℕ) (t : Operation) (h : Header) (b c : Bool) → Some h ≡ head_at x t → b ≡ is_unused x t → b ≡ c → is_unused h.id t ≡ c
 unused_shown x t h b c e u is = ap (λ y. is_unused y t) (shown_of x t h e).3 ∙ sym u ∙ is
 
--- ---- of dead operations
+-- ---- dead operations
 module _ (t : Operation) (h : Header) where
-  pub used_told : (a : Bool) → is_unused h.id t ≡ false → Some Used ≡ first_failing (erase_dead t h a)
+  pub used_told : (a : Bool) → is_unused h.id t ≡ false → Some Used ≡ first_failed_condition (erase_dead t h a)
   used_told a u = rw u refl
 
-  pub effects_told : (a : Bool) → is_unused h.id t ≡ true → a ≡ false → Some HasEffects ≡ first_failing (erase_dead t h a)
+  pub effects_told : (a : Bool) → is_unused h.id t ≡ true → a ≡ false → Some HasEffects ≡ first_failed_condition (erase_dead t h a)
   effects_told a u f = rw (u, f) refl
 
-  pub dead_told : (a : Bool) → is_unused h.id t ≡ true → a ≡ true → None ≡ first_failing (erase_dead t h a)
+  pub dead_told : (a : Bool) → is_unused h.id t ≡ true → a ≡ true → None ≡ first_failed_condition (erase_dead t h a)
   dead_told a u f = rw (u, f) refl
 
--- ---- of casts of what is no cast
+-- ---- casts whose operand isn't a cast's result
 module _ (t : Operation) (p : One) (s : Option Header) (h : Header) (e : s ≡ source t p.name p.first) (is : s ≡ Some h) (none : None ≡ one h) where
   none_inside : given (source t p.name p.first) one ≡ None
   none_inside = ap (λ q. given q one) (sym e ∙ is) ∙ sym none
 
-  pub no_index_cast : Some NoInnerOperation ≡ first_failing (index_tests t p)
+  pub no_index_cast : Some NoDefiningOp ≡ first_failed_condition (index_tests t p)
   no_index_cast = rw none_inside refl
 
-  pub no_unrealized_cast : (b : Bool) → b ≡ is_of_type t p.ty p.first → b ≡ false → Some NoInnerOperation ≡ first_failing (unrealized_tests t p)
+  pub no_unrealized_cast : (b : Bool) → b ≡ is_of_type t p.ty p.first → b ≡ false → Some NoDefiningOp ≡ first_failed_condition (unrealized_tests t p)
   no_unrealized_cast b i f = rw (none_inside, sym i ∙ f) refl

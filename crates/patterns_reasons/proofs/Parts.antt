@@ -1,4 +1,4 @@
--- Tests in a row, and something that is made where all of them pass.
+-- A sequence of tests, and a result that exists if all of them pass.
 use Rattle.std.proofs.Common.{◌≡◌, refl, Bool, true, false, Option, Some, None}
 use Rattle.std.specs.Prelude.{◌&&◌, ◌||◌, not, is_some, if◌then◌else◌}
 use Rattle.patterns_base.specs.Keeps.{given}
@@ -19,7 +19,7 @@ folds_or b true = refl
 folds_or true false = refl
 folds_or false false = refl
 
--- ---- of what may be there
+-- ---- optional values
 
 module _ {X Y : Type 0} (f : X → Option Y) where
   pub of_one : (a : X → Bool) (o : Option X) → ((p : X) → a p && true ≡ is_some (f p)) → has a o && true ≡ is_some (given o f)
@@ -39,7 +39,7 @@ module _ {X Y : Type 0} (f : X → Option Y) where
   of_five a b c d e None h = refl
   of_five a b c d e (Some p) h = h p
 
--- ---- tests of what is there
+-- ---- tests of values
 
 module _ {Y : Type 0} where
   pub in_turn : (a b : Bool) (y : Y) → a && (b && true) ≡ is_some (when (a && b) (Some y))
@@ -54,7 +54,7 @@ module _ {Y : Type 0} where
   nested true b y = some_when b y
   nested false b y = refl
 
-  -- a number that is known
+  -- a known number
   known_and : (k : Option Known) (f : Known → Bool) (y : Y) → is_some k && (passes f k && true) ≡ is_some (when (passes f k) (Some y))
   known_and None f y = refl
   known_and (Some k) f y = some_when (f k) y
@@ -71,7 +71,7 @@ module _ {Y : Type 0} where
   when_something true k e = something k e
   when_something false k e = refl
 
-  -- a choice between two numbers
+  -- a select between two known numbers
   truth_known : (z : Bool) (k : Option Known) (f : Known → Bool) (y : Y) → is_some k && (passes f k && (z && true)) ≡ is_some (when (passes f k && z) (Some y))
   truth_known z None f y = refl
   truth_known z (Some k) f y = in_turn (f k) z y
@@ -117,7 +117,7 @@ module _ {Y : Type 0} where
       with_zero a k f g None q e = refl
       with_zero a k f g (Some p) q e = zero_asked (a p) (k p) f g q (e p)
 
-  -- ---- what gives an operand
+  -- ---- defining operations of operands
 
   module _ {H Q : Type 0} (w : H → Option Q) where
     inner_there : (b : Q → Bool) (e : Q → Y) (o : Option Q) → is_some o && (has b o && true) ≡ is_some (given o (λ q. when (b q) (Some (e q))))
@@ -220,7 +220,7 @@ module _ {Y : Type 0} where
       of_regrouping a s d f None = refl
       of_regrouping a s d f (Some p) = regrouped (a p) (f p) (d p) (s p)
 
-  -- ---- conditions of which the last says all that is left
+  -- ---- conditions whose last one covers the rest of the rule
 
   pub dead : (a b : Bool) (y : Y) → a && (is_some (when (a && b) (Some y)) && true) ≡ is_some (when (a && b) (Some y))
   dead true b y = and_true (is_some (when b (Some y)))

@@ -1,39 +1,39 @@
--- Each rule applies exactly where all that it asks holds.
+-- Each rule applies exactly if all its conditions hold.
 use Rattle.std.proofs.Common.{◌≡◌, refl, ap, sym, ◌∙◌, ℕ, List, [], ◌∷◌, Bool, true, false, Option, Some, None, map}
 use Rattle.std.specs.Prelude.{◌&&◌, ◌||◌, is_some, codes, not, if◌then◌else◌}
 use Rattle.std.specs.List.{list_all, list_any}
-use Rattle.patterns_reads.specs.Contents.{Edit}
+use Rattle.patterns_matchers.specs.Contents.{Edit}
 use Rattle.ir_event.specs.trees.declared.place.Place.{Place}
 use Rattle.ir_event.specs.trees.declared.value.Value.{Value}
 use Rattle.ir_event.specs.trees.Meaning.{Operation}
 use Rattle.ir_event.specs.trees.Tree.{head}
 use Rattle.patterns_base.specs.Keeps.{given}
-use Rattle.patterns_base.specs.Looks.{may_go, known, is_known, when, one, two, three, predicate, source, source_among, is_index, is_index_value, is_constant, body, Two, One}
+use Rattle.patterns_base.specs.Looks.{is_erasable, known, is_known, when, one, two, three, predicate, source, source_among, is_index, is_index_value, is_constant, body, Two, One}
 use Rattle.op_registry.specs.Registry.{beside}
 use Rattle.patterns_base.specs.Casting.{resizing, unrealized, through_index}
-use Rattle.patterns_base.specs.Words.{among, swapping, asking, dividing, extensions, index_casts, named}
+use Rattle.patterns_base.specs.Words.{among, commutative, predicate_of_min_max, division_of_remainder, extensions, index_casts, named}
 use Rattle.patterns_base.specs.Lowering.{any}
 use Rattle.patterns_base.specs.Opening.{by_condition, by_bounds, loop_from, Loop}
 use Rattle.patterns_base.specs.Rules.{rule}
 use Rattle.patterns_base.specs.declared.rule.Rule.{Rule}
 use Rattle.patterns_base.specs.declared.rule.Rule.TheVariants as rules
-use Rattle.patterns_reasons.specs.declared.condition.Condition.TheVariants.{OtherOperation}
+use Rattle.patterns_reasons.specs.declared.reason.Reason.TheVariants.{WrongOperation}
 use Rattle.patterns_reasons.specs.Conditions.{all_hold, asks, has}
 use Rattle.patterns_reasons.specs.Tests.{tests, cast_tests, unrealized_tests, index_tests, is_readable, is_single, first_of, are_bounds_known, is_never}
 use Rattle.patterns_reasons.proofs.Parts as parts
 
--- whether one is marked of those that are mapped
+-- a mapped list has a set mark exactly if an element passes the test
 any_mapped : {X : Type 0} (f : X → Bool) (xs : List X) → any (map f xs) ≡ list_any f xs
 any_mapped f [] = refl
 any_mapped f (x ∷ xs) = ap (λ b. f x || b) (any_mapped f xs)
 
 module _ (t : Operation) (n : ℕ) (front : Place) (o : Operation) where
-  -- all that rule r asks holds exactly where it makes something
+  -- all conditions of rule r hold exactly if the rule makes edits
   abbrev pub Passes : Rule → Type 0
   Passes r = all_hold (tests r t o (is_some (rule r t n front o))) ≡ is_some (rule r t n front o)
 
   erase_dead : Passes rules.EraseDead
-  unfolding rule may_go
+  unfolding rule is_erasable
   erase_dead = parts.dead _ _ _
 
   fold_to_constant : Passes rules.FoldToConstant
@@ -42,7 +42,7 @@ module _ (t : Operation) (n : ℕ) (front : Place) (o : Operation) where
 
   swap_constant : Passes rules.SwapConstant
   unfolding rule
-  swap_constant = parts.of_three _ _ _ _ (two (head o)) (λ p. parts.three_in_turn {Y = List Edit} (among swapping p.name) (is_known t p.first) (not (is_constant t p.second)) _)
+  swap_constant = parts.of_three _ _ _ _ (two (head o)) (λ p. parts.three_in_turn {Y = List Edit} (among commutative p.name) (is_known t p.first) (not (is_constant t p.second)) _)
 
   drop_zero : Passes rules.DropZero
   unfolding rule
@@ -110,7 +110,7 @@ module _ (t : Operation) (n : ℕ) (front : Place) (o : Operation) where
 
   expand_min_max : Passes rules.ExpandMinMax
   unfolding rule
-  expand_min_max = parts.of_one _ _ (two (head o)) (λ p. parts.something (beside p.name asking) _)
+  expand_min_max = parts.of_one _ _ (two (head o)) (λ p. parts.something (beside p.name predicate_of_min_max) _)
 
   expand_difference : Passes rules.ExpandDifference
   unfolding rule
@@ -118,7 +118,7 @@ module _ (t : Operation) (n : ℕ) (front : Place) (o : Operation) where
 
   expand_remainder : Passes rules.ExpandRemainder
   unfolding rule
-  expand_remainder = parts.of_one _ _ (two (head o)) (λ p. parts.something (beside p.name dividing) _)
+  expand_remainder = parts.of_one _ _ (two (head o)) (λ p. parts.something (beside p.name division_of_remainder) _)
 
   lower_index : Passes rules.LowerIndex
   unfolding rule
@@ -128,7 +128,7 @@ module _ (t : Operation) (n : ℕ) (front : Place) (o : Operation) where
   unfolding rule
   stop_loop = parts.stops _ (body t o 0) _
 
-  -- ---- rules that need a look into what is there
+  -- ---- rules whose conditions need a case analysis
 
   regroup_constants : Passes rules.RegroupConstants
   unfolding rule
@@ -138,7 +138,7 @@ module _ (t : Operation) (n : ℕ) (front : Place) (o : Operation) where
   unfolding rule
   cast_back = casts (one (head o))
     where
-      inside : (b : Bool) (p : One) → all_hold (if b then unrealized_tests t p else (asks OtherOperation (among index_casts p.name) ∷ index_tests t p))
+      inside : (b : Bool) (p : One) → all_hold (if b then unrealized_tests t p else (asks WrongOperation (among index_casts p.name) ∷ index_tests t p))
           ≡ is_some (if b then unrealized t n front o p else when (among index_casts p.name) (through_index t n front o p))
       inside true p = parts.unrealized one _ _ _ _ (source t p.name p.first)
       inside false p = parts.through one _ _ _ _ (source t p.name p.first)
@@ -180,7 +180,7 @@ module _ (t : Operation) (n : ℕ) (front : Place) (o : Operation) where
   unfolding rule
   lower_choice = rw (← any_mapped is_index (head o).results) (parts.lowers {Y = List Edit} (named (codes "scf.if") (head o).name) (any (map is_index (head o).results)) _)
 
-  -- all of them
+  -- all rules
   pub passes : (r : Rule) → Passes r
   passes rules.EraseDead = erase_dead
   passes rules.FoldToConstant = fold_to_constant

@@ -1,26 +1,26 @@
--- Conditions of rules, and the first of some that doesn't hold.
+-- Conditions of rules, and the first one that doesn't hold.
 use Rattle.std.specs.Prelude.{ℕ, List, [], ◌∷◌, codes, Bool, true, false, ◌&&◌, if◌then◌else◌, Option, Some, None}
-use Rattle.patterns_reasons.specs.declared.condition.Condition.{Condition}
-use Rattle.patterns_reasons.specs.declared.condition.Condition.TheVariants.{Root, NotClean, OtherOperation, Used}
-use Rattle.patterns_reasons.specs.declared.condition.Condition.TheVariants.{HasEffects, ConstantNotClean}
-use Rattle.patterns_reasons.specs.declared.condition.Condition.TheVariants.{OperandNotConstant, DoesNotFold}
-use Rattle.patterns_reasons.specs.declared.condition.Condition.TheVariants.{FirstNotConstant, SecondConstant}
-use Rattle.patterns_reasons.specs.declared.condition.Condition.TheVariants.{SecondNotConstant, SecondNotZero}
-use Rattle.patterns_reasons.specs.declared.condition.Condition.TheVariants.{SecondNotOne, SecondNotAllOnes, ThirdNotZero}
-use Rattle.patterns_reasons.specs.declared.condition.Condition.TheVariants.{OperandsDiffer, OtherPredicate, OtherType}
-use Rattle.patterns_reasons.specs.declared.condition.Condition.TheVariants.{NoInnerOperation, InnerNotConstant}
-use Rattle.patterns_reasons.specs.declared.condition.Condition.TheVariants.{InnerNotOne, FewerBits, BoundNotConstant}
-use Rattle.patterns_reasons.specs.declared.condition.Condition.TheVariants.{GoesOn, ConditionNotFalse, BlockNotClean}
-use Rattle.patterns_reasons.specs.declared.condition.Condition.TheVariants.{NoIndex}
+use Rattle.patterns_reasons.specs.declared.reason.Reason.{Reason}
+use Rattle.patterns_reasons.specs.declared.reason.Reason.TheVariants.{IsRoot, NotVerified, WrongOperation, Used}
+use Rattle.patterns_reasons.specs.declared.reason.Reason.TheVariants.{HasEffects, ConstantNotVerified}
+use Rattle.patterns_reasons.specs.declared.reason.Reason.TheVariants.{OperandNotConstant, DoesNotFold}
+use Rattle.patterns_reasons.specs.declared.reason.Reason.TheVariants.{FirstNotConstant, SecondConstant}
+use Rattle.patterns_reasons.specs.declared.reason.Reason.TheVariants.{SecondNotConstant, SecondNotZero}
+use Rattle.patterns_reasons.specs.declared.reason.Reason.TheVariants.{SecondNotOne, SecondNotAllOnes, ThirdNotZero}
+use Rattle.patterns_reasons.specs.declared.reason.Reason.TheVariants.{OperandsDiffer, OtherPredicate, OtherType}
+use Rattle.patterns_reasons.specs.declared.reason.Reason.TheVariants.{NoDefiningOp, InnerNotConstant}
+use Rattle.patterns_reasons.specs.declared.reason.Reason.TheVariants.{InnerNotOne, FewerBits, BoundNotConstant}
+use Rattle.patterns_reasons.specs.declared.reason.Reason.TheVariants.{RunsAgain, ConditionNotFalse, BlockNotVerified}
+use Rattle.patterns_reasons.specs.declared.reason.Reason.TheVariants.{NoIndex}
 
 -- the word of a condition that doesn't hold
-abbrev pub word_of : Condition → List ℕ
-word_of Root = codes "root"
-word_of NotClean = codes "not-clean"
-word_of OtherOperation = codes "other-operation"
+abbrev pub word_of : Reason → List ℕ
+word_of IsRoot = codes "root"
+word_of NotVerified = codes "not-clean"
+word_of WrongOperation = codes "other-operation"
 word_of Used = codes "used"
 word_of HasEffects = codes "has-effects"
-word_of ConstantNotClean = codes "constant-not-clean"
+word_of ConstantNotVerified = codes "constant-not-clean"
 word_of OperandNotConstant = codes "operand-not-constant"
 word_of DoesNotFold = codes "does-not-fold"
 word_of FirstNotConstant = codes "first-not-constant"
@@ -33,40 +33,40 @@ word_of ThirdNotZero = codes "third-not-zero"
 word_of OperandsDiffer = codes "operands-differ"
 word_of OtherPredicate = codes "other-predicate"
 word_of OtherType = codes "other-type"
-word_of NoInnerOperation = codes "no-inner-operation"
+word_of NoDefiningOp = codes "no-inner-operation"
 word_of InnerNotConstant = codes "inner-not-constant"
 word_of InnerNotOne = codes "inner-not-one"
 word_of FewerBits = codes "fewer-bits"
 word_of BoundNotConstant = codes "bound-not-constant"
-word_of GoesOn = codes "goes-on"
+word_of RunsAgain = codes "goes-on"
 word_of ConditionNotFalse = codes "condition-not-false"
-word_of BlockNotClean = codes "block-not-clean"
+word_of BlockNotVerified = codes "block-not-clean"
 word_of NoIndex = codes "no-index"
 
--- a condition, by the word of it where it doesn't hold, and whether it holds
+-- a condition: the reason if it doesn't hold, and whether it holds
 pub record Test : Type 0 where
-  pub condition : Condition
+  pub condition : Reason
   pub holds : Bool
 
-abbrev pub asks : Condition → Bool → Test
+abbrev pub asks : Reason → Bool → Test
 asks c b = record { condition = c; holds = b }
 
--- a condition, if it doesn't hold, or else what others say
-abbrev pub unless_holds : Bool → Condition → Option Condition → Option Condition
+-- the reason of a condition, if it doesn't hold, or else another
+abbrev pub unless_holds : Bool → Reason → Option Reason → Option Reason
 unless_holds true c others = others
 unless_holds false c others = Some c
 
--- the first of some that doesn't hold
-abbrev pub first_failing : List Test → Option Condition
-first_failing [] = None
-first_failing (t ∷ ts) = unless_holds t.holds t.condition (first_failing ts)
+-- the first condition of a list that doesn't hold
+abbrev pub first_failed_condition : List Test → Option Reason
+first_failed_condition [] = None
+first_failed_condition (t ∷ ts) = unless_holds t.holds t.condition (first_failed_condition ts)
 
--- whether all of some hold
+-- whether all conditions of a list hold
 abbrev pub all_hold : List Test → Bool
 all_hold [] = true
 all_hold (t ∷ ts) = t.holds && all_hold ts
 
--- whether there is something, and it passes a test
+-- whether an optional value exists and passes a test
 abbrev pub has : {X : Type 0} → (X → Bool) → Option X → Bool
 has f None = false
 has f (Some x) = f x

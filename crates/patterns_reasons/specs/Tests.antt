@@ -1,5 +1,5 @@
--- What each rule asks of an operation that isn't the root and suits it, in order. Where a rule asks two things by one
--- test, the wider one stands first.
+-- The conditions of each rule at an eligible operation that isn't the root, in order. If a rule checks two conditions
+-- with one test, the weaker condition comes first.
 use Rattle.std.specs.Prelude.{ℕ, List, [], ◌∷◌, codes, Bool, true, false, not, ◌&&◌, ◌||◌, eqb, nat_le, is_some}
 use Rattle.std.specs.Prelude.{int_lt, if◌then◌else◌, Option, Some, None}
 use Rattle.std.specs.List.{list_all, list_any}
@@ -12,8 +12,8 @@ use Rattle.ir_event.specs.trees.Uses.{same_value}
 use Rattle.op_registry.specs.Registry.{beside}
 use Rattle.effects.specs.Dead.{is_unused}
 use Rattle.patterns_base.specs.Made.{i1}
-use Rattle.patterns_base.specs.Words.{named, among, swapping, ignoring_zero, ignoring_one, cancelling, keeping, remainders}
-use Rattle.patterns_base.specs.Words.{regrouping, asking, dividing, extensions, index_casts}
+use Rattle.patterns_base.specs.Words.{named, among, commutative, with_zero_as_right_identity, with_one_as_right_identity, self_inverse, idempotent, remainders}
+use Rattle.patterns_base.specs.Words.{associative, predicate_of_min_max, division_of_remainder, extensions, index_casts}
 use Rattle.patterns_base.specs.Keeps.{given}
 use Rattle.patterns_base.specs.Looks.{Header, One, Two, Three, one, two, three, predicate, source, source_among, body}
 use Rattle.patterns_base.specs.Looks.{is_constant, known, is_known, is_number, passes, is_of_type, is_index, is_index_value}
@@ -22,74 +22,74 @@ use Rattle.patterns_base.specs.Casting.{resizing}
 use Rattle.patterns_base.specs.Opening.{Loop, loop_from, reading}
 use Rattle.patterns_base.specs.declared.rule.Rule.{Rule}
 use Rattle.patterns_base.specs.declared.rule.Rule.TheVariants as rule
-use Rattle.patterns_reasons.specs.declared.condition.Condition.TheVariants.{OtherOperation, Used, HasEffects}
-use Rattle.patterns_reasons.specs.declared.condition.Condition.TheVariants.{ConstantNotClean, OperandNotConstant}
-use Rattle.patterns_reasons.specs.declared.condition.Condition.TheVariants.{DoesNotFold, FirstNotConstant}
-use Rattle.patterns_reasons.specs.declared.condition.Condition.TheVariants.{SecondConstant, SecondNotConstant}
-use Rattle.patterns_reasons.specs.declared.condition.Condition.TheVariants.{SecondNotZero, SecondNotOne}
-use Rattle.patterns_reasons.specs.declared.condition.Condition.TheVariants.{SecondNotAllOnes, ThirdNotZero}
-use Rattle.patterns_reasons.specs.declared.condition.Condition.TheVariants.{OperandsDiffer, OtherPredicate, OtherType}
-use Rattle.patterns_reasons.specs.declared.condition.Condition.TheVariants.{NoInnerOperation, InnerNotConstant}
-use Rattle.patterns_reasons.specs.declared.condition.Condition.TheVariants.{InnerNotOne, FewerBits, BoundNotConstant}
-use Rattle.patterns_reasons.specs.declared.condition.Condition.TheVariants.{GoesOn, ConditionNotFalse, BlockNotClean}
-use Rattle.patterns_reasons.specs.declared.condition.Condition.TheVariants.{NoIndex}
+use Rattle.patterns_reasons.specs.declared.reason.Reason.TheVariants.{WrongOperation, Used, HasEffects}
+use Rattle.patterns_reasons.specs.declared.reason.Reason.TheVariants.{ConstantNotVerified, OperandNotConstant}
+use Rattle.patterns_reasons.specs.declared.reason.Reason.TheVariants.{DoesNotFold, FirstNotConstant}
+use Rattle.patterns_reasons.specs.declared.reason.Reason.TheVariants.{SecondConstant, SecondNotConstant}
+use Rattle.patterns_reasons.specs.declared.reason.Reason.TheVariants.{SecondNotZero, SecondNotOne}
+use Rattle.patterns_reasons.specs.declared.reason.Reason.TheVariants.{SecondNotAllOnes, ThirdNotZero}
+use Rattle.patterns_reasons.specs.declared.reason.Reason.TheVariants.{OperandsDiffer, OtherPredicate, OtherType}
+use Rattle.patterns_reasons.specs.declared.reason.Reason.TheVariants.{NoDefiningOp, InnerNotConstant}
+use Rattle.patterns_reasons.specs.declared.reason.Reason.TheVariants.{InnerNotOne, FewerBits, BoundNotConstant}
+use Rattle.patterns_reasons.specs.declared.reason.Reason.TheVariants.{RunsAgain, ConditionNotFalse, BlockNotVerified}
+use Rattle.patterns_reasons.specs.declared.reason.Reason.TheVariants.{NoIndex}
 use Rattle.patterns_reasons.specs.Conditions.{Test, asks, has}
 
--- whether a value is no constant, or known; a constant that isn't clean is neither
+-- whether a value isn't a constant, or is known; a constant that isn't verified is neither
 abbrev pub is_readable : Operation → Value → Bool
 is_readable t v = not (is_constant t v) || is_known t v
 
--- whether a list is of one item
+-- whether a list has exactly one item
 abbrev pub is_single : {X : Type 0} → List X → Bool
 is_single (x ∷ []) = true
 is_single _ = false
 
--- the first item of one
+-- the item of a list with exactly one item
 abbrev pub first_of : {X : Type 0} → List X → Option X
 first_of [] = None
 first_of (x ∷ xs) = Some x
 
--- whether a value is below another, read by their signs, where both are known
+-- whether one value is less than another, as signed numbers, if both are known
 abbrev pub is_below : Operation → Value → Value → Option Bool
 is_below t lower upper =
     given (known t lower) (λ low. given (known t upper) (λ high. Some (int_lt (reading low) (reading high))))
 
--- whether a loop's bounds are known, and its step where the lower one is below the upper one
+-- whether the bounds of a loop are known, and its step too if the lower bound is less than the upper bound
 abbrev pub are_bounds_known : Operation → Loop → Bool
 are_bounds_known t l = has (λ below. not below || is_known t l.step) (is_below t l.lower l.upper)
 
--- whether it is never gone through
+-- whether a loop never runs
 abbrev pub is_never : Operation → Loop → Bool
 is_never t l = has not (is_below t l.lower l.upper)
 
--- the cast of the same name that gives a cast's operand
+-- the cast of the same name that defines the operand of a cast
 abbrev cast_alike : Operation → One → Option One
 cast_alike t p = given (source t p.name p.first) one
 
--- of an unrealized cast: it may be to the type that there is
+-- the conditions at an unrealized cast, which may be a cast to its operand's type
 abbrev pub unrealized_tests : Operation → One → List Test
 unrealized_tests t p =
-    asks NoInnerOperation (is_of_type t p.ty p.first || is_some (cast_alike t p))
+    asks NoDefiningOp (is_of_type t p.ty p.first || is_some (cast_alike t p))
     ∷ asks OtherType (is_of_type t p.ty p.first || has (λ q. is_of_type t p.ty q.first) (cast_alike t p))
     ∷ []
 
--- of a cast between an integer and index
+-- the conditions at a cast between an integer and index
 abbrev pub index_tests : Operation → One → List Test
 index_tests t p =
-    asks NoInnerOperation (is_some (cast_alike t p))
+    asks NoDefiningOp (is_some (cast_alike t p))
     ∷ asks FewerBits (has (λ q. nat_le (type_width p.ty) (type_width q.ty)) (cast_alike t p))
     ∷ asks OtherType (has (λ q. is_of_type t p.ty q.first) (cast_alike t p))
     ∷ []
 
--- of either
+-- the conditions at either kind of cast
 abbrev pub cast_tests : Operation → Option One → List Test
-cast_tests t None = asks OtherOperation false ∷ []
+cast_tests t None = asks WrongOperation false ∷ []
 cast_tests t (Some p) =
     if named (codes "builtin.unrealized_conversion_cast") p.name then unrealized_tests t p
-    else (asks OtherOperation (among index_casts p.name) ∷ index_tests t p)
+    else (asks WrongOperation (among index_casts p.name) ∷ index_tests t p)
 
--- in a tree, of an operation's header; `applies` is whether the rule applies there, which stands last where the condition
--- says all that is left
+-- the conditions by the header of an operation. `applies` says whether the rule applies there; it comes last, as a
+-- condition that covers the rest of the rule
 module _ (t : Operation) (h : Header) where
   abbrev one_has : (One → Bool) → Bool
   one_has f = has f (one h)
@@ -100,18 +100,18 @@ module _ (t : Operation) (h : Header) where
   abbrev three_has : (Three → Bool) → Bool
   three_has f = has f (three h)
 
-  -- an operation of two operands among some
+  -- an operation with two operands and one of some names
   abbrev is_two_of : List (List ℕ) → Test
-  is_two_of names = asks OtherOperation (two_has (λ p. among names p.name))
+  is_two_of names = asks WrongOperation (two_has (λ p. among names p.name))
 
   -- a comparison
   abbrev is_comparison : Test
   is_comparison =
-      asks OtherOperation (two_has (λ p. named (codes "arith.cmpi") p.name) && is_some (predicate h))
+      asks WrongOperation (two_has (λ p. named (codes "arith.cmpi") p.name) && is_some (predicate h))
 
-  -- a choice
+  -- a select
   abbrev is_choice : Test
-  is_choice = asks OtherOperation (three_has (λ p. named (codes "arith.select") p.name))
+  is_choice = asks WrongOperation (three_has (λ p. named (codes "arith.select") p.name))
 
   abbrev first_known : Test
   first_known = asks FirstNotConstant (two_has (λ p. is_known t p.first))
@@ -136,52 +136,52 @@ module _ (t : Operation) (h : Header) where
 
   abbrev pub fold_to_constant : Bool → List Test
   fold_to_constant applies =
-      asks OtherOperation (not (named (codes "arith.constant") h.name))
-      ∷ asks ConstantNotClean (list_all (is_readable t) h.operands)
+      asks WrongOperation (not (named (codes "arith.constant") h.name))
+      ∷ asks ConstantNotVerified (list_all (is_readable t) h.operands)
       ∷ asks OperandNotConstant (applies || list_all (is_known t) h.operands)
       ∷ asks DoesNotFold applies
       ∷ []
 
   abbrev pub swap_constant : List Test
-  swap_constant = is_two_of swapping ∷ first_known ∷ second_no_constant ∷ []
+  swap_constant = is_two_of commutative ∷ first_known ∷ second_no_constant ∷ []
 
   abbrev pub drop_zero : List Test
-  drop_zero = is_two_of ignoring_zero ∷ second_known ∷ second_zero ∷ []
+  drop_zero = is_two_of with_zero_as_right_identity ∷ second_known ∷ second_zero ∷ []
 
   abbrev pub drop_one : List Test
-  drop_one = is_two_of ignoring_one ∷ second_known ∷ second_one ∷ []
+  drop_one = is_two_of with_one_as_right_identity ∷ second_known ∷ second_one ∷ []
 
   abbrev pub drop_all_ones : List Test
   drop_all_ones =
-      asks OtherOperation (two_has (λ p. named (codes "arith.andi") p.name))
+      asks WrongOperation (two_has (λ p. named (codes "arith.andi") p.name))
       ∷ second_known
       ∷ asks SecondNotAllOnes (two_has (λ p. passes (is_all_ones p.ty) (known t p.second)))
       ∷ []
 
   abbrev pub cancel_itself : List Test
-  cancel_itself = is_two_of cancelling ∷ same_operands ∷ []
+  cancel_itself = is_two_of self_inverse ∷ same_operands ∷ []
 
   abbrev pub keep_itself : List Test
-  keep_itself = is_two_of keeping ∷ same_operands ∷ []
+  keep_itself = is_two_of idempotent ∷ same_operands ∷ []
 
   abbrev pub zero_remainder : List Test
   zero_remainder = is_two_of remainders ∷ second_known ∷ second_one ∷ []
 
-  -- the operation of the same name that gives the first operand
+  -- the operation of the same name that defines the first operand
   abbrev inner : Two → Option Two
   inner p = given (source t p.name p.first) two
 
   abbrev pub regroup_constants : Bool → List Test
   regroup_constants applies =
-      is_two_of regrouping
+      is_two_of associative
       ∷ second_known
-      ∷ asks NoInnerOperation (two_has (λ p. is_some (inner p)))
+      ∷ asks NoDefiningOp (two_has (λ p. is_some (inner p)))
       ∷ asks InnerNotConstant (two_has (λ p. has (λ q. is_known t q.second) (inner p)))
       ∷ asks DoesNotFold applies
       ∷ []
 
   abbrev pub add_negative : List Test
-  add_negative = asks OtherOperation (two_has (λ p. named (codes "arith.subi") p.name)) ∷ second_known ∷ []
+  add_negative = asks WrongOperation (two_has (λ p. named (codes "arith.subi") p.name)) ∷ second_known ∷ []
 
   abbrev pub compare_itself : List Test
   compare_itself = is_comparison ∷ same_operands ∷ []
@@ -212,32 +212,32 @@ module _ (t : Operation) (h : Header) where
       ∷ asks ThirdNotZero (three_has (λ p. is_number t 0 p.third))
       ∷ []
 
-  -- the `arith.xori` that gives the condition
+  -- the `arith.xori` that defines the condition
   abbrev opposite : Three → Option Two
   opposite p = given (source t (codes "arith.xori") p.first) two
 
   abbrev pub choose_opposite : List Test
   choose_opposite =
       is_choice
-      ∷ asks NoInnerOperation (three_has (λ p. is_some (opposite p)))
+      ∷ asks NoDefiningOp (three_has (λ p. is_some (opposite p)))
       ∷ asks InnerNotOne (three_has (λ p. has (λ q. is_number t 1 q.second) (opposite p)))
       ∷ []
 
-  -- the cast of some names that gives the operand
+  -- the cast with one of some names that defines the operand
   abbrev cast_among : List (List ℕ) → One → Option One
   cast_among names p = given (source_among t names p.first) one
 
   abbrev pub extend_extension : List Test
   extend_extension =
-      asks OtherOperation (one_has (λ p. among extensions p.name))
-      ∷ asks NoInnerOperation (one_has (λ p. has
+      asks WrongOperation (one_has (λ p. among extensions p.name))
+      ∷ asks NoDefiningOp (one_has (λ p. has
       (λ q. named p.name q.name || named (codes "arith.extsi") p.name) (cast_among extensions p)))
       ∷ []
 
   abbrev pub cut_cast : List Test
   cut_cast =
-      asks OtherOperation (one_has (λ p. named (codes "arith.trunci") p.name))
-      ∷ asks NoInnerOperation (one_has (λ p. is_some (cast_among resizing p)))
+      asks WrongOperation (one_has (λ p. named (codes "arith.trunci") p.name))
+      ∷ asks NoDefiningOp (one_has (λ p. is_some (cast_among resizing p)))
       ∷ asks OtherType (one_has (λ p. has
       (λ q. named (codes "arith.trunci") q.name || is_of_type t p.ty q.first) (cast_among resizing p)))
       ∷ []
@@ -247,54 +247,54 @@ module _ (t : Operation) (h : Header) where
 
   abbrev pub open_branch : Bool → List Test
   open_branch applies =
-      asks OtherOperation (named (codes "scf.if") h.name && is_single h.operands)
+      asks WrongOperation (named (codes "scf.if") h.name && is_single h.operands)
       ∷ asks FirstNotConstant (has (is_known t) (first_of h.operands))
-      ∷ asks BlockNotClean applies
+      ∷ asks BlockNotVerified applies
       ∷ []
 
   abbrev pub expand_min_max : List Test
-  expand_min_max = asks OtherOperation (two_has (λ p. is_some (beside p.name asking))) ∷ []
+  expand_min_max = asks WrongOperation (two_has (λ p. is_some (beside p.name predicate_of_min_max))) ∷ []
 
   abbrev pub expand_difference : List Test
-  expand_difference = asks OtherOperation (two_has (λ p. named (codes "arith.subi") p.name)) ∷ []
+  expand_difference = asks WrongOperation (two_has (λ p. named (codes "arith.subi") p.name)) ∷ []
 
   abbrev pub expand_remainder : List Test
-  expand_remainder = asks OtherOperation (two_has (λ p. is_some (beside p.name dividing))) ∷ []
+  expand_remainder = asks WrongOperation (two_has (λ p. is_some (beside p.name division_of_remainder))) ∷ []
 
   abbrev pub lower_index : Bool → List Test
   lower_index applies = asks NoIndex applies ∷ []
 
   abbrev pub lower_loop : Bool → List Test
   lower_loop applies =
-      asks OtherOperation (named (codes "scf.for") h.name)
+      asks WrongOperation (named (codes "scf.for") h.name)
       ∷ asks NoIndex (list_any (is_index_value t) h.operands)
-      ∷ asks BlockNotClean applies
+      ∷ asks BlockNotVerified applies
       ∷ []
 
   abbrev pub lower_choice : Bool → List Test
   lower_choice applies =
-      asks OtherOperation (named (codes "scf.if") h.name)
+      asks WrongOperation (named (codes "scf.if") h.name)
       ∷ asks NoIndex (list_any is_index h.results)
-      ∷ asks BlockNotClean applies
+      ∷ asks BlockNotVerified applies
       ∷ []
 
--- the like of an operation, whose first block is looked at
+-- the same for an operation whose first block is read
 abbrev pub open_loop : Operation → Operation → Bool → List Test
 open_loop t o applies =
-    asks OtherOperation (named (codes "scf.for") (head o).name && is_some (loop_from (head o).operands))
+    asks WrongOperation (named (codes "scf.for") (head o).name && is_some (loop_from (head o).operands))
     ∷ asks BoundNotConstant (has (are_bounds_known t) (loop_from (head o).operands))
-    ∷ asks BlockNotClean (has (is_never t) (loop_from (head o).operands) || is_some (body t o 0))
-    ∷ asks GoesOn applies
+    ∷ asks BlockNotVerified (has (is_never t) (loop_from (head o).operands) || is_some (body t o 0))
+    ∷ asks RunsAgain applies
     ∷ []
 
 abbrev pub stop_loop : Operation → Operation → Bool → List Test
 stop_loop t o applies =
-    asks OtherOperation (named (codes "scf.while") (head o).name)
-    ∷ asks BlockNotClean (is_some (body t o 0))
+    asks WrongOperation (named (codes "scf.while") (head o).name)
+    ∷ asks BlockNotVerified (is_some (body t o 0))
     ∷ asks ConditionNotFalse applies
     ∷ []
 
--- what a rule asks by an operation's header, where it applies there or not
+-- the conditions of a rule by the header of an operation, given whether the rule applies
 abbrev pub header_tests : Rule → Operation → Header → Bool → List Test
 header_tests rule.EraseDead t h applies = erase_dead t h applies
 header_tests rule.FoldToConstant t h applies = fold_to_constant t h applies
@@ -327,7 +327,7 @@ header_tests rule.LowerChoice t h applies = lower_choice t h applies
 header_tests rule.OpenLoop t h applies = []
 header_tests rule.StopLoop t h applies = []
 
--- two rules ask about the operation's block
+-- two rules have a condition on the operation's block
 abbrev pub asks_block : Rule → Bool
 asks_block rule.OpenLoop = true
 asks_block rule.StopLoop = true
@@ -338,6 +338,6 @@ block_tests rule.OpenLoop t o applies = open_loop t o applies
 block_tests rule.StopLoop t o applies = stop_loop t o applies
 block_tests _ t o applies = []
 
--- what a rule asks of an operation of a tree
+-- the conditions of a rule at an operation of a tree
 abbrev pub tests : Rule → Operation → Operation → Bool → List Test
 tests r t o applies = if asks_block r then block_tests r t o applies else header_tests r t (head o) applies

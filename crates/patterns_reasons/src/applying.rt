@@ -1,11 +1,11 @@
-//! Whether a rule applies at an operation that isn't the root and suits it.
+//! Checks whether a rule applies at an eligible operation that isn't the root.
 ghost use Rattle.std.specs.Prelude.{◌≡◌, IfOk, Some, false, true, is_some};
 ghost use Rattle.ir_event.specs.Modules.{NodeIsOf, module_in};
 ghost use Rattle.patterns_base.specs.RuleNames.{is_lowering};
-ghost use Rattle.patterns_base.specs.Rewrites.{suits};
-ghost use Rattle.patterns_lowering.specs.Planned.{IsCleanAt};
-ghost use Rattle.patterns_reads.specs.Reads.{head_at, head_in};
-ghost use Rattle.patterns_regions.specs.Rules.{open_branch_at, open_loop_at, stop_loop_at};
+ghost use Rattle.patterns_base.specs.Rewrites.{eligible};
+ghost use Rattle.patterns_lowering.specs.Planned.{IsVerifiedAt};
+ghost use Rattle.patterns_matchers.specs.Reads.{head_at, header_of_node};
+ghost use Rattle.patterns_plans.specs.RegionRules.{open_branch_at, open_loop_at, stop_loop_at};
 ghost use Rattle.patterns_reasons.specs.Reasons.{Makes};
 
 use ir_event::store::node::Node;
@@ -14,89 +14,91 @@ use ir_event::types::ids::OpId;
 use ir_event::world::World;
 use patterns_base::rule::Rule;
 use patterns_lowering::plans::plan_lowered;
-use patterns_plans::planned::plan;
-use patterns_regions::plans::{plan_open_branch, plan_open_loop, plan_stop_loop};
+use patterns_plans::plan_rule::plan;
+use patterns_plans::plans::{plan_open_branch, plan_open_loop, plan_stop_loop};
 use std::alloc::{AllocError, Global};
 
-/// Whether a branch is opened, behind a place.
-fn opens_branch(alloc: Global, world: &World, front: &Place, op: OpId) -> Result<bool, AllocError>
-    ensures { IfOk result (λ b. b ≡ is_some (open_branch_at op (module_in world.now).tree front.now)) }
+/// Returns whether `open-branch` applies at `op`, which comes after `point`.
+fn opens_branch(alloc: Global, world: &World, point: &Place, op: OpId) -> Result<bool, AllocError>
+    ensures { IfOk result (λ b. b ≡ is_some (open_branch_at op (module_in world.now).tree point.now)) }
 {
-    let plan = plan_open_branch(alloc, world, front, op)?;
+    let plan = plan_open_branch(alloc, world, point, op)?;
     Ok(plan.is_some())
 }
 
-/// Whether a loop is opened, behind a place.
-fn opens_loop(alloc: Global, world: &World, front: &Place, op: OpId) -> Result<bool, AllocError>
-    ensures { IfOk result (λ b. b ≡ is_some (open_loop_at op (module_in world.now).tree front.now)) }
+/// Returns whether `open-loop` applies at `op`, which comes after `point`.
+fn opens_loop(alloc: Global, world: &World, point: &Place, op: OpId) -> Result<bool, AllocError>
+    ensures { IfOk result (λ b. b ≡ is_some (open_loop_at op (module_in world.now).tree point.now)) }
 {
-    let plan = plan_open_loop(alloc, world, front, op)?;
+    let plan = plan_open_loop(alloc, world, point, op)?;
     Ok(plan.is_some())
 }
 
-/// Whether a loop is stopped, behind a place.
-fn stops_loop(alloc: Global, world: &World, front: &Place, op: OpId) -> Result<bool, AllocError>
-    ensures { IfOk result (λ b. b ≡ is_some (stop_loop_at op (module_in world.now).tree front.now)) }
+/// Returns whether `stop-loop` applies at `op`, which comes after `point`.
+fn stops_loop(alloc: Global, world: &World, point: &Place, op: OpId) -> Result<bool, AllocError>
+    ensures { IfOk result (λ b. b ≡ is_some (stop_loop_at op (module_in world.now).tree point.now)) }
 {
-    let plan = plan_stop_loop(alloc, world, front, op)?;
+    let plan = plan_stop_loop(alloc, world, point, op)?;
     Ok(plan.is_some())
 }
 
-/// Whether a rule that doesn't lower has a plan at an operation, of which this is shown, behind a place.
+/// Returns whether a rule that doesn't lower has a plan at an operation. `node` is what the store shows of it, and
+/// `point` is the place before it.
 fn is_planned(
     alloc: Global,
     world: &World,
     rule: Rule,
-    front: &Place,
+    point: &Place,
     op: OpId,
     node: &Node<'_>,
 ) -> Result<bool, AllocError>
     requires rule { is_lowering rule ≡ false }
-    requires shown { Some (head_in world.now.ctx node.now) ≡ head_at op (module_in world.now).tree }
+    requires shown { Some (header_of_node world.now.ctx node.now) ≡ head_at op (module_in world.now).tree }
     requires of { NodeIsOf world.now.ctx node.now }
-    ensures { IfOk result (λ b. Makes rule (module_in world.now) op front.now b) }
+    ensures { IfOk result (λ b. Makes rule (module_in world.now) op point.now b) }
 {
     match rule {
-        Rule::OpenBranch => opens_branch(alloc, world, front, op),
-        Rule::OpenLoop => opens_loop(alloc, world, front, op),
-        Rule::StopLoop => stops_loop(alloc, world, front, op),
+        Rule::OpenBranch => opens_branch(alloc, world, point, op),
+        Rule::OpenLoop => opens_loop(alloc, world, point, op),
+        Rule::StopLoop => stops_loop(alloc, world, point, op),
         _ => Ok(plan(alloc, world, rule, op, node)?.is_some()),
     }
 }
 
-/// Whether a rule that lowers has a plan at a clean operation, behind a place.
+/// Returns whether a lowering rule has a plan at a verified operation. `point` is the place before it.
 fn lowers(
     alloc: Global,
     world: &World,
     rule: Rule,
-    front: &Place,
+    point: &Place,
     op: OpId,
 ) -> Result<bool, AllocError>
     requires rule { is_lowering rule ≡ true }
-    requires clean { IsCleanAt world.now op }
-    ensures { IfOk result (λ b. Makes rule (module_in world.now) op front.now b) }
+    requires verified { IsVerifiedAt world.now op }
+    ensures { IfOk result (λ b. Makes rule (module_in world.now) op point.now b) }
 {
     let plan = plan_lowered(alloc, world, rule, op)?;
     Ok(plan.is_some())
 }
 
-/// Whether a rule has a plan at an operation that suits it, of which this is shown, behind a place.
+/// Returns whether a rule has a plan at an eligible operation. `node` is what the store shows of it, and `point` is
+/// the place before it.
 pub(crate) fn makes(
     alloc: Global,
     world: &World,
     rule: Rule,
-    front: &Place,
+    point: &Place,
     op: OpId,
     node: &Node<'_>,
 ) -> Result<bool, AllocError>
-    requires shown { Some (head_in world.now.ctx node.now) ≡ head_at op (module_in world.now).tree }
+    requires shown { Some (header_of_node world.now.ctx node.now) ≡ head_at op (module_in world.now).tree }
     requires of { NodeIsOf world.now.ctx node.now }
-    requires suits { suits rule (module_in world.now).tree (record (head_in world.now.ctx node.now) { id = op })
+    requires eligible { eligible rule (module_in world.now).tree (record (header_of_node world.now.ctx node.now) { id = op })
         ≡ true }
-    ensures { IfOk result (λ b. Makes rule (module_in world.now) op front.now b) }
+    ensures { IfOk result (λ b. Makes rule (module_in world.now) op point.now b) }
 {
     if rule.is_lowering() {
-        return lowers(alloc, world, rule, front, op);
+        return lowers(alloc, world, rule, point, op);
     }
-    is_planned(alloc, world, rule, front, op, node)
+    is_planned(alloc, world, rule, point, op, node)
 }

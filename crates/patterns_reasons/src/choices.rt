@@ -1,32 +1,32 @@
-//! Conditions of rules on choices.
+//! The conditions of the rules on selects.
 ghost use Rattle.std.specs.Prelude.{◌≡◌, IfOk};
 ghost use Rattle.ir_event.specs.Modules.{NodeIsOf, module_in};
-ghost use Rattle.patterns_reads.specs.Reads.{head_in};
-ghost use Rattle.patterns_reasons.specs.Conditions.{first_failing};
+ghost use Rattle.patterns_matchers.specs.Reads.{header_of_node};
+ghost use Rattle.patterns_reasons.specs.Conditions.{first_failed_condition};
 ghost use Rattle.patterns_reasons.specs.Tests.{choose_known, choose_opposite, choose_same, choose_truth};
 
-use crate::condition::Condition;
+use crate::reason::Reason;
 use ir_event::store::node::Node;
 use ir_event::trees::uses::is_same;
 use ir_event::types::word::Word;
 use ir_event::world::World;
-use patterns_reads::known::{is_known, is_number, known, source};
-use patterns_reads::shapes::{three_of, two_of};
-use patterns_reads::types::is_boolean;
+use patterns_matchers::constants::{constant_value, is_known, is_number, named_defining_op};
+use patterns_matchers::shapes::{binary_op, ternary_op};
+use patterns_matchers::types::is_boolean;
 use std::alloc::{AllocError, Global};
 
-pub(crate) fn choose_same(world: &World, node: &Node<'_>) -> Option<Condition>
-    ensures { result ≡ first_failing
-        (choose_same (module_in world.now).tree (head_in world.now.ctx node.now)) }
+pub(crate) fn choose_same(world: &World, node: &Node<'_>) -> Option<Reason>
+    ensures { result ≡ first_failed_condition
+        (choose_same (module_in world.now).tree (header_of_node world.now.ctx node.now)) }
 {
-    let Some(p) = three_of(node) else {
-        return Some(Condition::OtherOperation);
+    let Some(p) = ternary_op(node) else {
+        return Some(Reason::WrongOperation);
     };
     if !world.ctx.is_word(p.name, Word::ArithSelect) {
-        return Some(Condition::OtherOperation);
+        return Some(Reason::WrongOperation);
     }
     if !is_same(&p.second, &p.third) {
-        return Some(Condition::OperandsDiffer);
+        return Some(Reason::OperandsDiffer);
     }
     None
 }
@@ -35,18 +35,18 @@ pub(crate) fn choose_known(
     alloc: Global,
     world: &World,
     node: &Node<'_>,
-) -> Result<Option<Condition>, AllocError>
-    ensures { IfOk result (λ c. c ≡ first_failing
-        (choose_known (module_in world.now).tree (head_in world.now.ctx node.now))) }
+) -> Result<Option<Reason>, AllocError>
+    ensures { IfOk result (λ c. c ≡ first_failed_condition
+        (choose_known (module_in world.now).tree (header_of_node world.now.ctx node.now))) }
 {
-    let Some(p) = three_of(node) else {
-        return Ok(Some(Condition::OtherOperation));
+    let Some(p) = ternary_op(node) else {
+        return Ok(Some(Reason::WrongOperation));
     };
     if !world.ctx.is_word(p.name, Word::ArithSelect) {
-        return Ok(Some(Condition::OtherOperation));
+        return Ok(Some(Reason::WrongOperation));
     }
     if !is_known(alloc, world, &p.first)? {
-        return Ok(Some(Condition::FirstNotConstant));
+        return Ok(Some(Reason::FirstNotConstant));
     }
     Ok(None)
 }
@@ -55,28 +55,28 @@ pub(crate) fn choose_truth(
     alloc: Global,
     world: &World,
     node: &Node<'_>,
-) -> Result<Option<Condition>, AllocError>
+) -> Result<Option<Reason>, AllocError>
     requires of { NodeIsOf world.now.ctx node.now }
-    ensures { IfOk result (λ c. c ≡ first_failing
-        (choose_truth (module_in world.now).tree (head_in world.now.ctx node.now))) }
+    ensures { IfOk result (λ c. c ≡ first_failed_condition
+        (choose_truth (module_in world.now).tree (header_of_node world.now.ctx node.now))) }
 {
-    let Some(p) = three_of(node) else {
-        return Ok(Some(Condition::OtherOperation));
+    let Some(p) = ternary_op(node) else {
+        return Ok(Some(Reason::WrongOperation));
     };
     if !world.ctx.is_word(p.name, Word::ArithSelect) {
-        return Ok(Some(Condition::OtherOperation));
+        return Ok(Some(Reason::WrongOperation));
     }
     if !is_boolean(&world.ctx, p.ty) {
-        return Ok(Some(Condition::OtherType));
+        return Ok(Some(Reason::OtherType));
     }
-    let Some(bits) = known(alloc, world, &p.second)? else {
-        return Ok(Some(Condition::SecondNotConstant));
+    let Some(bits) = constant_value(alloc, world, &p.second)? else {
+        return Ok(Some(Reason::SecondNotConstant));
     };
     if bits.value != 1 {
-        return Ok(Some(Condition::SecondNotOne));
+        return Ok(Some(Reason::SecondNotOne));
     }
     if !is_number(alloc, world, 0, &p.third)? {
-        return Ok(Some(Condition::ThirdNotZero));
+        return Ok(Some(Reason::ThirdNotZero));
     }
     Ok(None)
 }
@@ -85,24 +85,24 @@ pub(crate) fn choose_opposite(
     alloc: Global,
     world: &World,
     node: &Node<'_>,
-) -> Result<Option<Condition>, AllocError>
-    ensures { IfOk result (λ c. c ≡ first_failing
-        (choose_opposite (module_in world.now).tree (head_in world.now.ctx node.now))) }
+) -> Result<Option<Reason>, AllocError>
+    ensures { IfOk result (λ c. c ≡ first_failed_condition
+        (choose_opposite (module_in world.now).tree (header_of_node world.now.ctx node.now))) }
 {
-    let Some(p) = three_of(node) else {
-        return Ok(Some(Condition::OtherOperation));
+    let Some(p) = ternary_op(node) else {
+        return Ok(Some(Reason::WrongOperation));
     };
     if !world.ctx.is_word(p.name, Word::ArithSelect) {
-        return Ok(Some(Condition::OtherOperation));
+        return Ok(Some(Reason::WrongOperation));
     }
-    let Some(opposite) = source(alloc, world, Word::ArithXori, &p.first)? else {
-        return Ok(Some(Condition::NoInnerOperation));
+    let Some(opposite) = named_defining_op(alloc, world, Word::ArithXori, &p.first)? else {
+        return Ok(Some(Reason::NoDefiningOp));
     };
-    let Some(q) = two_of(&opposite) else {
-        return Ok(Some(Condition::NoInnerOperation));
+    let Some(q) = binary_op(&opposite) else {
+        return Ok(Some(Reason::NoDefiningOp));
     };
     if !is_number(alloc, world, 1, &q.second)? {
-        return Ok(Some(Condition::InnerNotOne));
+        return Ok(Some(Reason::InnerNotOne));
     }
     Ok(None)
 }

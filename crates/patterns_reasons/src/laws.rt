@@ -1,8 +1,9 @@
-//! What is told of rules that don't apply. The law is a function that does nothing: its contract is the law.
-ghost use Rattle.patterns_reasons.specs.Reasons.{ToldConditionsFail, ToldWhereRulesApply};
+//! Theorems about the reasons why a rule doesn't apply. Each is a function that does nothing; its contract states the
+//! theorem.
+ghost use Rattle.patterns_reasons.specs.Reasons.{ReportedReasonsHold, NoReasonWhereRulesApply};
 
-/// No condition is told of a rule exactly where it applies, and one that is told is asked by the rule and doesn't hold.
-pub fn told_conditions_fail()
-    ensures applies { ToldWhereRulesApply }
-    ensures fails { ToldConditionsFail }
+/// There is no reason exactly if the rule applies. A reported reason is a condition of the rule that doesn't hold.
+pub fn reported_reasons_hold()
+    ensures applies { NoReasonWhereRulesApply }
+    ensures fails { ReportedReasonsHold }
 {}

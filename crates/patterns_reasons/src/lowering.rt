@@ -1,15 +1,15 @@
-//! Conditions of rules that lower operations on index.
+//! The conditions of the rules that lower index to i64.
 ghost use Rattle.std.specs.Prelude.{◌≡◌, map};
 ghost use Rattle.std.specs.List.{All, list_any};
 ghost use Rattle.ir_event.specs.types.Things.{IsType};
 ghost use Rattle.ir_event.specs.types.Terms.{type_term};
 ghost use Rattle.ir_event.specs.Modules.{NodeIsOf, module_in};
 ghost use Rattle.patterns_base.specs.Looks.{is_index, is_index_value};
-ghost use Rattle.patterns_reads.specs.Reads.{head_in};
-ghost use Rattle.patterns_reasons.specs.Conditions.{first_failing};
+ghost use Rattle.patterns_matchers.specs.Reads.{header_of_node};
+ghost use Rattle.patterns_reasons.specs.Conditions.{first_failed_condition};
 ghost use Rattle.patterns_reasons.specs.Tests.{lower_choice, lower_index, lower_loop};
 
-use crate::condition::Condition;
+use crate::reason::Reason;
 use ir_event::store::node::Node;
 use ir_event::trees::value::Value;
 use ir_event::types::context::Context;
@@ -18,7 +18,7 @@ use ir_event::types::word::Word;
 use ir_event::world::World;
 use ir_verify_base::types;
 
-/// Whether a type is `index`.
+/// Returns whether a type is `index`.
 #[tactic(auto, using(patterns_lowering::proofs::Typed::index_is))]
 fn is_index(ctx: &Context, ty: TypeId) -> bool
     requires { IsType ctx.now ty }
@@ -27,7 +27,7 @@ fn is_index(ctx: &Context, ty: TypeId) -> bool
     types::is_index(ctx, ty)
 }
 
-/// Whether one of some types is `index`.
+/// Returns whether any of some types is `index`.
 fn any_index(ctx: &Context, types: &[TypeId]) -> bool
     requires { All (IsType ctx.now) types.now }
     ensures { result ≡ list_any is_index (map (type_term ctx.now) types.now) }
@@ -42,7 +42,7 @@ fn any_index(ctx: &Context, types: &[TypeId]) -> bool
     false
 }
 
-/// Whether a value of the module is of type `index`.
+/// Returns whether a value of the module has type `index`.
 fn is_index_value(world: &World, value: &Value) -> bool
     ensures { result ≡ is_index_value (module_in world.now).tree value.now }
 {
@@ -52,7 +52,7 @@ fn is_index_value(world: &World, value: &Value) -> bool
     }
 }
 
-/// Whether one of some values of the module is of type `index`.
+/// Returns whether any of some values of the module has type `index`.
 fn any_index_value(world: &World, values: &[Value]) -> bool
     ensures { result ≡ list_any (is_index_value (module_in world.now).tree) values.now }
 {
@@ -66,46 +66,42 @@ fn any_index_value(world: &World, values: &[Value]) -> bool
     false
 }
 
-pub(crate) fn lower_index(world: &World, node: &Node<'_>, applies: bool) -> Option<Condition>
-    ensures { result ≡ first_failing
-        (lower_index (module_in world.now).tree (head_in world.now.ctx node.now) applies) }
+pub(crate) fn lower_index(world: &World, node: &Node<'_>, applies: bool) -> Option<Reason>
+    ensures { result ≡ first_failed_condition
+        (lower_index (module_in world.now).tree (header_of_node world.now.ctx node.now) applies) }
 {
-    if applies {
-        None
-    } else {
-        Some(Condition::NoIndex)
-    }
+    if applies { None } else { Some(Reason::NoIndex) }
 }
 
-pub(crate) fn lower_loop(world: &World, node: &Node<'_>, applies: bool) -> Option<Condition>
-    ensures { result ≡ first_failing
-        (lower_loop (module_in world.now).tree (head_in world.now.ctx node.now) applies) }
+pub(crate) fn lower_loop(world: &World, node: &Node<'_>, applies: bool) -> Option<Reason>
+    ensures { result ≡ first_failed_condition
+        (lower_loop (module_in world.now).tree (header_of_node world.now.ctx node.now) applies) }
 {
     if !world.ctx.is_word(node.name(), Word::ScfFor) {
-        return Some(Condition::OtherOperation);
+        return Some(Reason::WrongOperation);
     }
     if !any_index_value(world, node.operands()) {
-        return Some(Condition::NoIndex);
+        return Some(Reason::NoIndex);
     }
     if !applies {
-        return Some(Condition::BlockNotClean);
+        return Some(Reason::BlockNotVerified);
     }
     None
 }
 
-pub(crate) fn lower_choice(world: &World, node: &Node<'_>, applies: bool) -> Option<Condition>
+pub(crate) fn lower_choice(world: &World, node: &Node<'_>, applies: bool) -> Option<Reason>
     requires of { NodeIsOf world.now.ctx node.now }
-    ensures { result ≡ first_failing
-        (lower_choice (module_in world.now).tree (head_in world.now.ctx node.now) applies) }
+    ensures { result ≡ first_failed_condition
+        (lower_choice (module_in world.now).tree (header_of_node world.now.ctx node.now) applies) }
 {
     if !world.ctx.is_word(node.name(), Word::ScfIf) {
-        return Some(Condition::OtherOperation);
+        return Some(Reason::WrongOperation);
     }
     if !any_index(&world.ctx, node.results()) {
-        return Some(Condition::NoIndex);
+        return Some(Reason::NoIndex);
     }
     if !applies {
-        return Some(Condition::BlockNotClean);
+        return Some(Reason::BlockNotVerified);
     }
     None
 }

@@ -1,46 +1,47 @@
-//! Conditions of rules on operations of two operands.
+//! The conditions of the rules on operations with two operands.
 ghost use Rattle.std.specs.Prelude.{◌≡◌, [], ◌∷◌, IfOk, true, false, ◌||◌, eqb};
 ghost use Rattle.ir_event.specs.Modules.{NodeIsOf, module_in};
 ghost use Rattle.patterns_base.specs.Looks.{is_known, is_number};
-ghost use Rattle.patterns_reads.specs.Reads.{head_in};
-ghost use Rattle.patterns_reasons.specs.Conditions.{asks, first_failing};
-ghost use Rattle.patterns_reasons.specs.declared.condition.Condition.TheVariants.{SecondNotConstant};
+ghost use Rattle.patterns_matchers.specs.Reads.{header_of_node};
+ghost use Rattle.patterns_reasons.specs.Conditions.{asks, first_failed_condition};
+ghost use Rattle.patterns_reasons.specs.declared.reason.Reason.TheVariants.{SecondNotConstant};
 ghost use Rattle.patterns_reasons.specs.Tests.{add_negative, cancel_itself, compare_itself, compare_zero, drop_all_ones};
 ghost use Rattle.patterns_reasons.specs.Tests.{drop_one, drop_zero, expand_difference, expand_min_max};
 ghost use Rattle.patterns_reasons.specs.Tests.{expand_remainder, keep_itself, mirror_comparison, swap_constant};
 ghost use Rattle.patterns_reasons.specs.Tests.{zero_remainder};
 
-use crate::condition::Condition;
+use crate::reason::Reason;
 use ir_event::store::node::Node;
 use ir_event::trees::uses::is_same;
 use ir_event::trees::value::Value;
 use ir_event::types::word::Word;
 use ir_event::world::World;
-use patterns_reads::known::{is_known, known};
-use patterns_reads::look::is_constant;
-use patterns_reads::predicates::predicate;
-use patterns_reads::shapes::two_of;
-use patterns_reads::types::all_ones;
-use patterns_reads::words::{
-    asking, division, ignores_one, ignores_zero, is_cancelling, is_keeping, is_remainder,
-    is_swapping,
+use patterns_matchers::constants::{constant_value, is_known};
+use patterns_matchers::nodes::is_constant;
+use patterns_matchers::op_names::{
+    division_of_remainder, has_one_as_right_identity, has_zero_as_right_identity, is_commutative,
+    is_idempotent, is_remainder, is_self_inverse, predicate_of_min_max,
 };
+use patterns_matchers::predicates::predicate;
+use patterns_matchers::shapes::binary_op;
+use patterns_matchers::types::all_ones;
 use std::alloc::{AllocError, Global};
 
-/// A second operand has to be known, and to be a number.
+/// Returns the failed condition if `value`, the second operand, isn't a known constant or isn't `number`. Returns
+/// `None` if both conditions hold.
 fn second_is(
     alloc: Global,
     world: &World,
     value: &Value,
     number: u128,
-    other: Condition,
-) -> Result<Option<Condition>, AllocError>
-    ensures { IfOk result (λ c. c ≡ first_failing
+    other: Reason,
+) -> Result<Option<Reason>, AllocError>
+    ensures { IfOk result (λ c. c ≡ first_failed_condition
         (asks SecondNotConstant (is_known (module_in world.now).tree value.now)
         ∷ asks other (is_number (module_in world.now).tree number value.now) ∷ [])) }
 {
-    match known(alloc, world, value)? {
-        None => Ok(Some(Condition::SecondNotConstant)),
+    match constant_value(alloc, world, value)? {
+        None => Ok(Some(Reason::SecondNotConstant)),
         Some(bits) => {
             if bits.value == number {
                 Ok(None)
@@ -55,21 +56,21 @@ pub(crate) fn swap_constant(
     alloc: Global,
     world: &World,
     node: &Node<'_>,
-) -> Result<Option<Condition>, AllocError>
-    ensures { IfOk result (λ c. c ≡ first_failing
-        (swap_constant (module_in world.now).tree (head_in world.now.ctx node.now))) }
+) -> Result<Option<Reason>, AllocError>
+    ensures { IfOk result (λ c. c ≡ first_failed_condition
+        (swap_constant (module_in world.now).tree (header_of_node world.now.ctx node.now))) }
 {
-    let Some(p) = two_of(node) else {
-        return Ok(Some(Condition::OtherOperation));
+    let Some(p) = binary_op(node) else {
+        return Ok(Some(Reason::WrongOperation));
     };
-    if !is_swapping(&world.ctx, p.name) {
-        return Ok(Some(Condition::OtherOperation));
+    if !is_commutative(&world.ctx, p.name) {
+        return Ok(Some(Reason::WrongOperation));
     }
     if !is_known(alloc, world, &p.first)? {
-        return Ok(Some(Condition::FirstNotConstant));
+        return Ok(Some(Reason::FirstNotConstant));
     }
     if is_constant(world, &p.second) {
-        return Ok(Some(Condition::SecondConstant));
+        return Ok(Some(Reason::SecondConstant));
     }
     Ok(None)
 }
@@ -78,88 +79,88 @@ pub(crate) fn drop_zero(
     alloc: Global,
     world: &World,
     node: &Node<'_>,
-) -> Result<Option<Condition>, AllocError>
-    ensures { IfOk result (λ c. c ≡ first_failing
-        (drop_zero (module_in world.now).tree (head_in world.now.ctx node.now))) }
+) -> Result<Option<Reason>, AllocError>
+    ensures { IfOk result (λ c. c ≡ first_failed_condition
+        (drop_zero (module_in world.now).tree (header_of_node world.now.ctx node.now))) }
 {
-    let Some(p) = two_of(node) else {
-        return Ok(Some(Condition::OtherOperation));
+    let Some(p) = binary_op(node) else {
+        return Ok(Some(Reason::WrongOperation));
     };
-    if !ignores_zero(&world.ctx, p.name) {
-        return Ok(Some(Condition::OtherOperation));
+    if !has_zero_as_right_identity(&world.ctx, p.name) {
+        return Ok(Some(Reason::WrongOperation));
     }
-    second_is(alloc, world, &p.second, 0, Condition::SecondNotZero)
+    second_is(alloc, world, &p.second, 0, Reason::SecondNotZero)
 }
 
 pub(crate) fn drop_one(
     alloc: Global,
     world: &World,
     node: &Node<'_>,
-) -> Result<Option<Condition>, AllocError>
-    ensures { IfOk result (λ c. c ≡ first_failing
-        (drop_one (module_in world.now).tree (head_in world.now.ctx node.now))) }
+) -> Result<Option<Reason>, AllocError>
+    ensures { IfOk result (λ c. c ≡ first_failed_condition
+        (drop_one (module_in world.now).tree (header_of_node world.now.ctx node.now))) }
 {
-    let Some(p) = two_of(node) else {
-        return Ok(Some(Condition::OtherOperation));
+    let Some(p) = binary_op(node) else {
+        return Ok(Some(Reason::WrongOperation));
     };
-    if !ignores_one(&world.ctx, p.name) {
-        return Ok(Some(Condition::OtherOperation));
+    if !has_one_as_right_identity(&world.ctx, p.name) {
+        return Ok(Some(Reason::WrongOperation));
     }
-    second_is(alloc, world, &p.second, 1, Condition::SecondNotOne)
+    second_is(alloc, world, &p.second, 1, Reason::SecondNotOne)
 }
 
 pub(crate) fn drop_all_ones(
     alloc: Global,
     world: &World,
     node: &Node<'_>,
-) -> Result<Option<Condition>, AllocError>
+) -> Result<Option<Reason>, AllocError>
     requires of { NodeIsOf world.now.ctx node.now }
-    ensures { IfOk result (λ c. c ≡ first_failing
-        (drop_all_ones (module_in world.now).tree (head_in world.now.ctx node.now))) }
+    ensures { IfOk result (λ c. c ≡ first_failed_condition
+        (drop_all_ones (module_in world.now).tree (header_of_node world.now.ctx node.now))) }
 {
-    let Some(p) = two_of(node) else {
-        return Ok(Some(Condition::OtherOperation));
+    let Some(p) = binary_op(node) else {
+        return Ok(Some(Reason::WrongOperation));
     };
     if !world.ctx.is_word(p.name, Word::ArithAndi) {
-        return Ok(Some(Condition::OtherOperation));
+        return Ok(Some(Reason::WrongOperation));
     }
-    let Some(bits) = known(alloc, world, &p.second)? else {
-        return Ok(Some(Condition::SecondNotConstant));
+    let Some(bits) = constant_value(alloc, world, &p.second)? else {
+        return Ok(Some(Reason::SecondNotConstant));
     };
     if bits.value != all_ones(&world.ctx, p.ty) {
-        return Ok(Some(Condition::SecondNotAllOnes));
+        return Ok(Some(Reason::SecondNotAllOnes));
     }
     Ok(None)
 }
 
-pub(crate) fn cancel_itself(world: &World, node: &Node<'_>) -> Option<Condition>
-    ensures { result ≡ first_failing
-        (cancel_itself (module_in world.now).tree (head_in world.now.ctx node.now)) }
+pub(crate) fn cancel_itself(world: &World, node: &Node<'_>) -> Option<Reason>
+    ensures { result ≡ first_failed_condition
+        (cancel_itself (module_in world.now).tree (header_of_node world.now.ctx node.now)) }
 {
-    let Some(p) = two_of(node) else {
-        return Some(Condition::OtherOperation);
+    let Some(p) = binary_op(node) else {
+        return Some(Reason::WrongOperation);
     };
-    if !is_cancelling(&world.ctx, p.name) {
-        return Some(Condition::OtherOperation);
+    if !is_self_inverse(&world.ctx, p.name) {
+        return Some(Reason::WrongOperation);
     }
     if !is_same(&p.first, &p.second) {
-        return Some(Condition::OperandsDiffer);
+        return Some(Reason::OperandsDiffer);
     }
     None
 }
 
-pub(crate) fn keep_itself(world: &World, node: &Node<'_>) -> Option<Condition>
-    ensures { result ≡ first_failing
-        (keep_itself (module_in world.now).tree (head_in world.now.ctx node.now)) }
+pub(crate) fn keep_itself(world: &World, node: &Node<'_>) -> Option<Reason>
+    ensures { result ≡ first_failed_condition
+        (keep_itself (module_in world.now).tree (header_of_node world.now.ctx node.now)) }
 {
-    let Some(p) = two_of(node) else {
-        return Some(Condition::OtherOperation);
+    let Some(p) = binary_op(node) else {
+        return Some(Reason::WrongOperation);
     };
-    if !is_keeping(&world.ctx, p.name) {
-        return Some(Condition::OtherOperation);
+    if !is_idempotent(&world.ctx, p.name) {
+        return Some(Reason::WrongOperation);
     }
     if !is_same(&p.first, &p.second) {
-        return Some(Condition::OperandsDiffer);
+        return Some(Reason::OperandsDiffer);
     }
     None
 }
@@ -168,55 +169,55 @@ pub(crate) fn zero_remainder(
     alloc: Global,
     world: &World,
     node: &Node<'_>,
-) -> Result<Option<Condition>, AllocError>
-    ensures { IfOk result (λ c. c ≡ first_failing
-        (zero_remainder (module_in world.now).tree (head_in world.now.ctx node.now))) }
+) -> Result<Option<Reason>, AllocError>
+    ensures { IfOk result (λ c. c ≡ first_failed_condition
+        (zero_remainder (module_in world.now).tree (header_of_node world.now.ctx node.now))) }
 {
-    let Some(p) = two_of(node) else {
-        return Ok(Some(Condition::OtherOperation));
+    let Some(p) = binary_op(node) else {
+        return Ok(Some(Reason::WrongOperation));
     };
     if !is_remainder(&world.ctx, p.name) {
-        return Ok(Some(Condition::OtherOperation));
+        return Ok(Some(Reason::WrongOperation));
     }
-    second_is(alloc, world, &p.second, 1, Condition::SecondNotOne)
+    second_is(alloc, world, &p.second, 1, Reason::SecondNotOne)
 }
 
 pub(crate) fn add_negative(
     alloc: Global,
     world: &World,
     node: &Node<'_>,
-) -> Result<Option<Condition>, AllocError>
-    ensures { IfOk result (λ c. c ≡ first_failing
-        (add_negative (module_in world.now).tree (head_in world.now.ctx node.now))) }
+) -> Result<Option<Reason>, AllocError>
+    ensures { IfOk result (λ c. c ≡ first_failed_condition
+        (add_negative (module_in world.now).tree (header_of_node world.now.ctx node.now))) }
 {
-    let Some(p) = two_of(node) else {
-        return Ok(Some(Condition::OtherOperation));
+    let Some(p) = binary_op(node) else {
+        return Ok(Some(Reason::WrongOperation));
     };
     if !world.ctx.is_word(p.name, Word::ArithSubi) {
-        return Ok(Some(Condition::OtherOperation));
+        return Ok(Some(Reason::WrongOperation));
     }
     if !is_known(alloc, world, &p.second)? {
-        return Ok(Some(Condition::SecondNotConstant));
+        return Ok(Some(Reason::SecondNotConstant));
     }
     Ok(None)
 }
 
-pub(crate) fn compare_itself(world: &World, node: &Node<'_>) -> Option<Condition>
+pub(crate) fn compare_itself(world: &World, node: &Node<'_>) -> Option<Reason>
     requires of { NodeIsOf world.now.ctx node.now }
-    ensures { result ≡ first_failing
-        (compare_itself (module_in world.now).tree (head_in world.now.ctx node.now)) }
+    ensures { result ≡ first_failed_condition
+        (compare_itself (module_in world.now).tree (header_of_node world.now.ctx node.now)) }
 {
-    let Some(p) = two_of(node) else {
-        return Some(Condition::OtherOperation);
+    let Some(p) = binary_op(node) else {
+        return Some(Reason::WrongOperation);
     };
     if !world.ctx.is_word(p.name, Word::ArithCmpi) {
-        return Some(Condition::OtherOperation);
+        return Some(Reason::WrongOperation);
     }
     let Some(_) = predicate(&world.ctx, node) else {
-        return Some(Condition::OtherOperation);
+        return Some(Reason::WrongOperation);
     };
     if !is_same(&p.first, &p.second) {
-        return Some(Condition::OperandsDiffer);
+        return Some(Reason::OperandsDiffer);
     }
     None
 }
@@ -225,30 +226,30 @@ pub(crate) fn mirror_comparison(
     alloc: Global,
     world: &World,
     node: &Node<'_>,
-) -> Result<Option<Condition>, AllocError>
+) -> Result<Option<Reason>, AllocError>
     requires of { NodeIsOf world.now.ctx node.now }
-    ensures { IfOk result (λ c. c ≡ first_failing
-        (mirror_comparison (module_in world.now).tree (head_in world.now.ctx node.now))) }
+    ensures { IfOk result (λ c. c ≡ first_failed_condition
+        (mirror_comparison (module_in world.now).tree (header_of_node world.now.ctx node.now))) }
 {
-    let Some(p) = two_of(node) else {
-        return Ok(Some(Condition::OtherOperation));
+    let Some(p) = binary_op(node) else {
+        return Ok(Some(Reason::WrongOperation));
     };
     if !world.ctx.is_word(p.name, Word::ArithCmpi) {
-        return Ok(Some(Condition::OtherOperation));
+        return Ok(Some(Reason::WrongOperation));
     }
     let Some(_) = predicate(&world.ctx, node) else {
-        return Ok(Some(Condition::OtherOperation));
+        return Ok(Some(Reason::WrongOperation));
     };
     if !is_known(alloc, world, &p.first)? {
-        return Ok(Some(Condition::FirstNotConstant));
+        return Ok(Some(Reason::FirstNotConstant));
     }
     if is_constant(world, &p.second) {
-        return Ok(Some(Condition::SecondConstant));
+        return Ok(Some(Reason::SecondConstant));
     }
     Ok(None)
 }
 
-/// Whether a comparison's predicate is one of which nothing below 0 is asked.
+/// Returns whether a predicate is one that `compare-zero` knows: unsigned less than, or unsigned greater or equal.
 fn asks_of_zero(asks: u128) -> bool
     ensures { result ≡ (eqb asks 6 || eqb asks 9) }
 {
@@ -259,67 +260,67 @@ pub(crate) fn compare_zero(
     alloc: Global,
     world: &World,
     node: &Node<'_>,
-) -> Result<Option<Condition>, AllocError>
+) -> Result<Option<Reason>, AllocError>
     requires of { NodeIsOf world.now.ctx node.now }
-    ensures { IfOk result (λ c. c ≡ first_failing
-        (compare_zero (module_in world.now).tree (head_in world.now.ctx node.now))) }
+    ensures { IfOk result (λ c. c ≡ first_failed_condition
+        (compare_zero (module_in world.now).tree (header_of_node world.now.ctx node.now))) }
 {
-    let Some(p) = two_of(node) else {
-        return Ok(Some(Condition::OtherOperation));
+    let Some(p) = binary_op(node) else {
+        return Ok(Some(Reason::WrongOperation));
     };
     if !world.ctx.is_word(p.name, Word::ArithCmpi) {
-        return Ok(Some(Condition::OtherOperation));
+        return Ok(Some(Reason::WrongOperation));
     }
     let Some(asks) = predicate(&world.ctx, node) else {
-        return Ok(Some(Condition::OtherOperation));
+        return Ok(Some(Reason::WrongOperation));
     };
-    let Some(bits) = known(alloc, world, &p.second)? else {
-        return Ok(Some(Condition::SecondNotConstant));
+    let Some(bits) = constant_value(alloc, world, &p.second)? else {
+        return Ok(Some(Reason::SecondNotConstant));
     };
     if bits.value != 0 {
-        return Ok(Some(Condition::SecondNotZero));
+        return Ok(Some(Reason::SecondNotZero));
     }
     if !asks_of_zero(asks) {
-        return Ok(Some(Condition::OtherPredicate));
+        return Ok(Some(Reason::OtherPredicate));
     }
     Ok(None)
 }
 
-pub(crate) fn expand_min_max(world: &World, node: &Node<'_>) -> Option<Condition>
-    ensures { result ≡ first_failing
-        (expand_min_max (module_in world.now).tree (head_in world.now.ctx node.now)) }
+pub(crate) fn expand_min_max(world: &World, node: &Node<'_>) -> Option<Reason>
+    ensures { result ≡ first_failed_condition
+        (expand_min_max (module_in world.now).tree (header_of_node world.now.ctx node.now)) }
 {
-    let Some(p) = two_of(node) else {
-        return Some(Condition::OtherOperation);
+    let Some(p) = binary_op(node) else {
+        return Some(Reason::WrongOperation);
     };
-    let Some(_) = asking(&world.ctx, p.name) else {
-        return Some(Condition::OtherOperation);
+    let Some(_) = predicate_of_min_max(&world.ctx, p.name) else {
+        return Some(Reason::WrongOperation);
     };
     None
 }
 
-pub(crate) fn expand_difference(world: &World, node: &Node<'_>) -> Option<Condition>
-    ensures { result ≡ first_failing
-        (expand_difference (module_in world.now).tree (head_in world.now.ctx node.now)) }
+pub(crate) fn expand_difference(world: &World, node: &Node<'_>) -> Option<Reason>
+    ensures { result ≡ first_failed_condition
+        (expand_difference (module_in world.now).tree (header_of_node world.now.ctx node.now)) }
 {
-    let Some(p) = two_of(node) else {
-        return Some(Condition::OtherOperation);
+    let Some(p) = binary_op(node) else {
+        return Some(Reason::WrongOperation);
     };
     if !world.ctx.is_word(p.name, Word::ArithSubi) {
-        return Some(Condition::OtherOperation);
+        return Some(Reason::WrongOperation);
     }
     None
 }
 
-pub(crate) fn expand_remainder(world: &World, node: &Node<'_>) -> Option<Condition>
-    ensures { result ≡ first_failing
-        (expand_remainder (module_in world.now).tree (head_in world.now.ctx node.now)) }
+pub(crate) fn expand_remainder(world: &World, node: &Node<'_>) -> Option<Reason>
+    ensures { result ≡ first_failed_condition
+        (expand_remainder (module_in world.now).tree (header_of_node world.now.ctx node.now)) }
 {
-    let Some(p) = two_of(node) else {
-        return Some(Condition::OtherOperation);
+    let Some(p) = binary_op(node) else {
+        return Some(Reason::WrongOperation);
     };
-    let Some(_) = division(&world.ctx, p.name) else {
-        return Some(Condition::OtherOperation);
+    let Some(_) = division_of_remainder(&world.ctx, p.name) else {
+        return Some(Reason::WrongOperation);
     };
     None
 }

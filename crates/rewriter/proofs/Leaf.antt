@@ -1,4 +1,4 @@
--- An operation that may be taken may be erased: nothing is inside it, and no value of it is used.
+-- An operation that can be taken out can be erased: it has no operations inside it and no uses.
 use Rattle.std.proofs.Common.{◌≡◌, refl, ap, sym, ◌∙◌, ℕ, true, false, true≢false, ◌||◌, not, eqb, eq-eqb, [], ◌∷◌, Some, None}
 use Rattle.std.specs.List.{list_any}
 use Rattle.std.proofs.lemmas.Bool.{ne_eqb}
@@ -20,7 +20,7 @@ use Rattle.ir_event.proofs.of_tree_laws.Readings.{stands_every}
 use Rattle.ir_event.proofs.of_tree_laws.Reasoned.{NoTakeReason, no_take_reason, none_ids}
 use Rattle.ir_event.proofs.of_tree_laws.Reverted.{passed}
 use Rattle.ir_event.proofs.of_tree_laws.Without.{member_left, same_head}
-use Rattle.rewriter_desk.specs.Edits.{erase_reason}
+use Rattle.rewriter.specs.Edits.{erase_reason}
 
 module _ {N T A : Type 0} (x : ℕ) (t : OpOf N T A) (d : HasDistinctIds t) (free : take_reason x t ≡ None) where
   abbrev why : NoTakeReason x t
@@ -41,7 +41,7 @@ module _ {N T A : Type 0} (x : ℕ) (t : OpOf N T A) (d : HasDistinctIds t) (fre
       ∙ ap (λ l. (head here).id ∷ l) (none_ids (regions here) (ap holds_none (sym found) ∙ why.empty))
       ∙ ap (λ z. z ∷ []) there.2
 
-  -- what uses no value of it uses none from within it
+  -- an operation that doesn't use its values uses no value from within it
   leaves_all : (h : HeadOf N T A) → leaves x h ≡ true → leaves_within (Some here) h ≡ true
   leaves_all h l = each_all (λ v. not (is_within (owner_of v).0 (Some here))) h.operands (λ v n.
       let y = (owner_of v).0 in

@@ -14,4 +14,11 @@ pub mod Undo
 pub mod Listening
 pub mod Rolled
 pub mod Parts
-pub mod Contexts
+pub mod ContextLaws
+pub mod Following
+pub mod Made
+pub mod MarkLaws
+pub mod Outcomes
+pub mod Released
+pub mod Beside
+pub use Rattle.rewriter_machine.proofs.Numbers

@@ -1,20 +1,20 @@
--- Open marks, as a desk has them and as the machine does.
+-- Open marks of a transaction, and open marks of the machine.
 use Rattle.std.proofs.Common.{◌≡◌, ◌≢◌, ◌∙◌, sym, ap, subst, refl, ℕ, suc, ◌+◌, List, [], ◌∷◌, ◌++◌, length, take, drop, Bool, true, false, cond, IsTrue, arith}
 use Rattle.std.specs.Prelude.{reverse, map, filter}
 use Rattle.std.proofs.lemmas.List.{reverse-append, drop-take}
 use Rattle.ir_event.specs.declared.event.Event.{Event}
-use Rattle.rewriter_desk.specs.Contents.{Edit}
-use Rattle.rewriter_desk.specs.Machine.{OpenMark, counted_marks, grows_under}
-use Rattle.rewriter_desk.specs.declared.mark.Mark.{Mark}
-use Rattle.rewriter_desk.specs.Held.{Held, open_mark, open_marks}
-use Rattle.rewriter_desk.specs.Marked.{counted_among}
+use Rattle.rewriter.specs.Contents.{Edit}
+use Rattle.rewriter.specs.Machine.{OpenMark, counted_marks, grows_under}
+use Rattle.rewriter.specs.declared.mark.JournalMark.{JournalMark}
+use Rattle.rewriter.specs.Held.{TransactionModel, open_mark, open_marks}
+use Rattle.rewriter.specs.Marked.{counted_among}
 
--- where no mark is open, the machine has none
-pub open_none : (h : Held) → h.marks ≡ [] → open_marks h ≡ []
+-- if no mark is open, the machine has no mark
+pub open_none : (h : TransactionModel) → h.marks ≡ [] → open_marks h ≡ []
 open_none h e = ap (λ ks. reverse (map (open_mark h) ks)) e
 
--- a list that isn't anything but empty
-pub unmarked : (ks : List Mark) → (ks ≢ [] → IsTrue false) → ks ≡ []
+-- a list that can't be nonempty is empty
+pub unmarked : (ks : List JournalMark) → (ks ≢ [] → IsTrue false) → ks ≡ []
 unmarked [] h = refl
 unmarked (k ∷ ks) h = absurd (let never : IsTrue false = h (λ e. let f : k ∷ ks ≡ [] = e in cc) in cc)
 
@@ -22,11 +22,11 @@ one_more : (k : OpenMark) (xs : List OpenMark) (e : Edit) → IsTrue (grows_unde
 one_more k [] e = refl
 one_more k (x ∷ xs) e = refl
 
--- and where one is, an edit takes memory
-pub grows_marked : (h : Held) (e : Edit) → h.marks ≢ [] → IsTrue (grows_under (open_marks h) e)
+-- if a mark is open, an edit needs memory
+pub grows_marked : (h : TransactionModel) (e : Edit) → h.marks ≢ [] → IsTrue (grows_under (open_marks h) e)
 grows_marked h e some = go h.marks some
   where
-    go : (ks : List Mark) → ks ≢ [] → IsTrue (grows_under (reverse (map (open_mark h) ks)) e)
+    go : (ks : List JournalMark) → ks ≢ [] → IsTrue (grows_under (reverse (map (open_mark h) ks)) e)
     go [] none = absurd (none refl)
     go (k ∷ ks) n = subst (λ (l : List OpenMark). IsTrue (grows_under l e)) (sym (reverse-append (open_mark h k ∷ []) (map (open_mark h) ks))) (one_more (open_mark h k) (reverse (map (open_mark h) ks)) e)
 
@@ -51,11 +51,11 @@ counted_back (x ∷ xs) =
     swap : (a b c : ℕ) → a ≡ b → c ≡ counted_marks (x ∷ []) + b → a + counted_marks (x ∷ []) ≡ c
     swap a b c e f = omega (arith, e, f)
 
--- the marks that count are as many
-pub counted_open : (h : Held) → counted_marks (open_marks h) ≡ counted_among h.marks
+-- the transaction and the machine count the same marks
+pub counted_open : (h : TransactionModel) → counted_marks (open_marks h) ≡ counted_among h.marks
 counted_open h = counted_back (map (open_mark h) h.marks) ∙ go h.marks
   where
-    go : (ks : List Mark) → counted_marks (map (open_mark h) ks) ≡ counted_among ks
+    go : (ks : List JournalMark) → counted_marks (map (open_mark h) ks) ≡ counted_among ks
     go [] = refl
     go (k ∷ ks) = each k.counted (go ks)
       where
@@ -64,8 +64,8 @@ counted_open h = counted_back (map (open_mark h) h.marks) ∙ go h.marks
         each true e = ap suc e
         each false e = e
 
--- the last of some marks is one
-pub last_same : (ks js : List Mark) (k j : Mark) → ks ++ k ∷ [] ≡ js ++ j ∷ [] → k ≡ j
+-- the last of some marks is one of them
+pub last_same : (ks js : List JournalMark) (k j : JournalMark) → ks ++ k ∷ [] ≡ js ++ j ∷ [] → k ≡ j
 last_same [] [] k j e = cc
 last_same [] (i ∷ []) k j e = absurd cc
 last_same [] (i ∷ (l ∷ js)) k j e = absurd cc
@@ -76,8 +76,8 @@ last_same (i ∷ ks) (l ∷ js) k j e = last_same ks js k j (let f : ks ++ k ∷
 pub drop_taken : (n : ℕ) (es : List Event) → drop n (take n es) ≡ []
 drop_taken n es = ap (λ m. drop n (take m es)) (let e : n ≡ n + 0 = omega arith in e) ∙ drop-take n 0 es
 
--- and so are those before it
-pub front_same : (ks js : List Mark) (k j : Mark) → ks ++ k ∷ [] ≡ js ++ j ∷ [] → ks ≡ js
+-- the marks before the newest are equal too
+pub front_same : (ks js : List JournalMark) (k j : JournalMark) → ks ++ k ∷ [] ≡ js ++ j ∷ [] → ks ≡ js
 front_same [] [] k j e = refl
 front_same [] (i ∷ []) k j e = absurd cc
 front_same [] (i ∷ (l ∷ js)) k j e = absurd cc

@@ -7,12 +7,12 @@ use Rattle.std.proofs.lemmas.List.{length-map, map-append, take-map, drop-map}
 use Rattle.std.proofs.lemmas.Bool.{ltb-true, lt-ltb}
 use Rattle.std.proofs.lemmas.List.Folds.{find_at}
 use Rattle.std.proofs.lemmas.Option.{none-some, slice_get_within}
-use Rattle.ir_event.specs.types.Things.{Things}
+use Rattle.ir_event.specs.types.Things.{ContextModel}
 use Rattle.ir_event.specs.declared.event.Event.{Event}
 use Rattle.ir_event.specs.Modules.{Module, Node}
 use Rattle.ir_event.specs.Listener.{Listener}
-use Rattle.ir_event.specs.Panels.{AllTold, AllFollowed, AttachedLast, IsListener, is_kind as has_this_kind, has_kind as panel_has, Detached, BegunAgain}
-use Rattle.rewriter_desk.specs.Panels.{Shown, IsSame, Ages, shown, all_shown, is_kind, has_kind, Attached as AttachedShown, Detached as DetachedShown, BegunAgain as BegunShown}
+use Rattle.ir_event.specs.Panels.{AllNotified, AllFollowed, AttachedLast, IsListener, is_kind as has_this_kind, has_kind as panel_has, Detached, BegunAgain}
+use Rattle.rewriter.specs.Panels.{Shown, IsSame, Ages, shown, all_shown, is_kind, has_kind, Attached as AttachedShown, Detached as DetachedShown, BegunAgain as BegunShown}
 
 pub within_some : {X : Type 0} (xs : List X) (i : ℕ) → i < length xs → None ≡ slice_get xs i → ⊥
 within_some [] i lt e = omega (arith, lt)
@@ -22,7 +22,7 @@ within_some (x ∷ xs) (suc i) lt e = within_some xs i (omega (arith, lt)) e
 pub same_self : (a : Shown) → IsSame a a
 same_self a = record { kind = refl; analysis = λ t. refl }
 
--- analyses stay what they are
+-- unchanged listeners count as aged (`Ages`)
 pub all_stay : (ks : List Shown) → AllZip Ages ks ks
 all_stay [] = tt
 all_stay (k ∷ ks) = (record { same = same_self k; stale = λ h. h }, all_stay ks)
@@ -32,25 +32,25 @@ module _ {B : Type 0} (meaning : B → Listener) where
   found_shown kind [] = refl
   found_shown kind (b ∷ bs) = rw (found_shown kind bs) refl
 
-  -- where the listener of a kind stands, among what is shown
+  -- the position of the listener of a kind in the list of shown listeners
   pub position_shown : (kind : ℕ) (bs : List B) → position (is_kind kind) (all_shown meaning bs) ≡ position (has_this_kind meaning kind) bs
   position_shown kind bs = rw (found_shown kind bs, length-map) refl
 
   pub kind_shown : (kind : ℕ) (bs : List B) → has_kind kind (all_shown meaning bs) ≡ panel_has meaning kind bs
   kind_shown kind bs = ap is_some (position_shown kind bs)
 
-  -- the listener of a kind, among what is shown
+  -- the listener of a kind, in the list of shown listeners
   pub find_shown : (kind : ℕ) (bs : List B) → find (is_kind kind) (all_shown meaning bs) ≡ option_map (λ b. shown (meaning b)) (find (has_this_kind meaning kind) bs)
   find_shown kind [] = refl
   find_shown kind (b ∷ bs) = let ih = find_shown kind bs in elim (has_this_kind meaning kind b) as (λ t. cond t (Some (shown (meaning b))) (find (is_kind kind) (all_shown meaning bs)) ≡ option_map (λ b. shown (meaning b)) (cond t (Some b) (find (has_this_kind meaning kind) bs))) [ true ↦ refl | false ↦ ih ]
 
-  -- what is found has what each has
+  -- a found listener has every property that all have
   pub find_has : (P : B → Type 0) (p : B → Bool) (bs : List B) (x : B) → All P bs → find p bs ≡ Some x → P x
   find_has P p [] x h e = absurd (let n : None ≡ Some x = e in cc)
   find_has P p (b ∷ bs) x h e = let Q : (t : Bool) → cond t (Some b) (find p bs) ≡ Some x → P x = λ t. elim t as (λ t. cond t (Some b) (find p bs) ≡ Some x → P x) [ true ↦ λ e. (let same : b ≡ x = cc in subst P same (h 0 b (omega arith))) | false ↦ λ e. find_has P p bs x (λ k d l. h (suc k) d (omega arith)) e ] in Q (p b) e
 
-  -- who was told is older
-  pub ages_told : (e : Event) (c : Things) (n : Module) (see : ℕ → Option Node) (xs ys : List B) → AllTold meaning e c n see xs ys → AllZip Ages (all_shown meaning xs) (all_shown meaning ys)
+  -- a notified listener is older
+  pub ages_told : (e : Event) (c : ContextModel) (n : Module) (see : ℕ → Option Node) (xs ys : List B) → AllNotified meaning e c n see xs ys → AllZip Ages (all_shown meaning xs) (all_shown meaning ys)
   ages_told e c n see [] [] h = tt
   ages_told e c n see [] (y ∷ ys) h = absurd h
   ages_told e c n see (x ∷ xs) [] h = absurd h
@@ -70,7 +70,7 @@ module _ {B : Type 0} (meaning : B → Listener) where
   got_shown (b ∷ bs) zero a e = (let same : b ≡ a = cc in ap (λ x. Some (shown (meaning x))) same)
   got_shown (b ∷ bs) (suc i) a e = got_shown bs i a e
 
-  -- a listener that is dropped, and one that is begun again
+  -- a listener that is detached, and one that is resynced
   pub detached_shown : (kind : ℕ) (xs ys : List B) → Detached meaning kind xs ys → DetachedShown kind (all_shown meaning xs) (all_shown meaning ys)
   detached_shown kind xs ys h = record { place = h.place; is = position_shown kind xs ∙ h.is; rest = ap (all_shown meaning) h.rest ∙ removed_shown xs h.place }
 
@@ -87,12 +87,12 @@ module _ {B : Type 0} (meaning : B → Listener) where
         rest = ap (all_shown meaning) h.rest ∙ set_shown xs h.place h.after;
       }
 
-  -- a kind that stands somewhere is there
+  -- a kind with a position is attached
   pub has_placed : (kind place : ℕ) (xs : List B) → position (has_this_kind meaning kind) xs ≡ Some place → has_kind kind (all_shown meaning xs) ≡ true
   has_placed kind place xs e = kind_shown kind xs ∙ ap is_some e
 
-  -- who followed some events is older
-  pub ages_followed : (es : List Event) (c : Things) (m : Module) (d : Things) (n : Module) (xs ys : List B) → AllFollowed meaning es c m d n xs ys → AllZip Ages (all_shown meaning xs) (all_shown meaning ys)
+  -- a listener that followed some events is older
+  pub ages_followed : (es : List Event) (c : ContextModel) (m : Module) (d : ContextModel) (n : Module) (xs ys : List B) → AllFollowed meaning es c m d n xs ys → AllZip Ages (all_shown meaning xs) (all_shown meaning ys)
   ages_followed es c m d n [] [] h = tt
   ages_followed es c m d n [] (y ∷ ys) h = absurd h
   ages_followed es c m d n (x ∷ xs) [] h = absurd h
@@ -103,7 +103,7 @@ module _ {B : Type 0} (meaning : B → Listener) where
   shown_last [] b = refl
   shown_last (x ∷ xs) b = ap (λ ys. shown (meaning x) ∷ ys) (shown_last xs b)
 
-  pub attached_shown : (c : Things) (m : Module) (b : B) (xs ys : List B) → AttachedLast meaning c m b xs ys → AttachedShown (shown (meaning b)) (all_shown meaning xs) (all_shown meaning ys)
+  pub attached_shown : (c : ContextModel) (m : Module) (b : B) (xs ys : List B) → AttachedLast meaning c m b xs ys → AttachedShown (shown (meaning b)) (all_shown meaning xs) (all_shown meaning ys)
   attached_shown c m b xs ys h =
       record {
         begun = shown (meaning h.begun);
@@ -112,7 +112,7 @@ module _ {B : Type 0} (meaning : B → Listener) where
         last = ap (all_shown meaning) h.last ∙ shown_last xs h.begun;
       }
 
-  -- the listener of a kind, as it is found
+  -- the result of looking up the listener of a kind
   abbrev pub Found : ℕ → List B → Option B → Type 0
   Found kind xs None = panel_has meaning kind xs ≡ false
   Found kind xs (Some b) = IsListener meaning kind xs b

@@ -1,4 +1,4 @@
--- An operation that is in a tree is found there, and has a place exactly where it isn't the root.
+-- An operation that is in a tree is found there, and it has a place exactly if it isn't the root.
 use Rattle.std.proofs.Common.{◌≡◌, ◌∙◌, sym, ap, ℕ, List, [], ◌∷◌, Bool, true, false, eqb, eqb-true, not, refl, inl, inr, Option, Some, None}
 use Rattle.std.specs.Prelude.{is_some}
 use Rattle.ir_event.specs.types.declared.refusal.Refusal.{Refusal}
@@ -13,7 +13,7 @@ use Rattle.ir_event.proofs.of_tree_laws.Members.{stand, itself, stand_found, sam
 use Rattle.ir_event.proofs.of_tree_laws.Around.{present_stand, member_of_place}
 use Rattle.ir_event.proofs.of_tree_laws.Listed.{bool_cases}
 use Rattle.ir_event.proofs.of_tree_laws.Shift.{Inner, inner_of, inner_place}
-use Rattle.rewriter_desk.specs.Edits.{erase_reason}
+use Rattle.rewriter.specs.Edits.{erase_reason}
 
 module _ {N T A : Type 0} (x : ℕ) (t : OpOf N T A) (d : HasDistinctIds t) (known : has_id x t ≡ true) where
   pub there : (o : OpOf N T A) × (find x t ≡ Some o)
@@ -50,7 +50,7 @@ module _ {N T A : Type 0} (x : ℕ) (t : OpOf N T A) (d : HasDistinctIds t) (kno
     | inr k ↦ k
   ]
 
-  -- why it can't be erased, if it can't
+  -- the reason that it can't be erased, if there is one
   pub root_reason : place_of x t ≡ None → erase_reason x t ≡ Some IsRoot
   root_reason e = λ i. unless (known i) NoSuchOp (unless (not (is_root e i)) IsRoot (unless (unused_outside x t) HasUses None))
 

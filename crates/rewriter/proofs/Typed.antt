@@ -1,4 +1,5 @@
--- Two values of a world have one type exactly where its numbers are one; so why one can't be replaced by the other.
+-- Two values of the IR state have one type exactly if their type ids are equal. So the reasons against a replacement
+-- agree.
 use Rattle.std.proofs.Common.{◌≡◌, ◌∙◌, sym, ap, refl, ℕ, Bool, true, false, eqb, Option, Some, None}
 use Rattle.std.specs.Prelude.{◌==◌, is_some}
 use Rattle.std.specs.Option.{option_eq}
@@ -13,8 +14,8 @@ use Rattle.ir_event.specs.tree_laws.Values.{type_of_value}
 use Rattle.ir_event.specs.tree_laws.Reasons.{unless, users_see}
 use Rattle.ir_event.specs.declared.world.World.{World}
 use Rattle.ir_event.proofs.Typed.{value_known}
-use Rattle.rewriter_desk.specs.Contents.{tests_in}
-use Rattle.rewriter_desk.specs.Edits.{replace_reason}
+use Rattle.rewriter.specs.Contents.{tests_in}
+use Rattle.rewriter.specs.Edits.{replace_reason}
 use Rattle.ir_event.specs.types.SameTypes.{same_type}
 use Rattle.ir_event.proofs.of_types.SameTerms.{same_numbers}
 

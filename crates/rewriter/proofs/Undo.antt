@@ -1,22 +1,22 @@
--- Events that are undone one after another, the newest first, and the listeners told of each.
+-- Events undone one after another, newest first, with the listeners notified of each.
 use Rattle.std.proofs.Common.{◌≡◌, ◌∙◌, sym, ap, subst, refl, ℕ, ◌-◌, ◌<◌, ◌≤◌, List, [], ◌∷◌, ◌++◌, length, take, drop, arith, append_assoc, append-nil, length-append}
 use Rattle.std.proofs.Math.Seq.{drop-append_seam}
 use Rattle.std.proofs.lemmas.List.{take-append-le, take_all}
 use Rattle.ir_event.specs.declared.event.Event.{Event}
 use Rattle.ir_event.specs.declared.world.World.{World}
-use Rattle.ir_event.specs.Modules.{module_meaning, things_in, module_in, shown_in}
+use Rattle.ir_event.specs.Modules.{module_meaning, context_model, module_in, node_of_op}
 use Rattle.ir_event.specs.Listener.{Listener}
-use Rattle.ir_event.specs.Panels.{AllTold}
-use Rattle.rewriter_desk.specs.Journals.{before, inverses, undone_all}
-use Rattle.rewriter_desk.specs.Held.{Held, Within, module_at, open_marks}
-use Rattle.rewriter_desk.specs.Moves.{Undone}
-use Rattle.rewriter_desk.proofs.Marks.{within-more}
-use Rattle.rewriter.specs.Benched.{Heard}
+use Rattle.ir_event.specs.Panels.{AllNotified}
+use Rattle.rewriter.specs.Journals.{before, inverses, undone_all}
+use Rattle.rewriter.specs.Held.{TransactionModel, Within, module_at, open_marks}
+use Rattle.rewriter.specs.Moves.{Undone}
+use Rattle.rewriter.proofs.MarkLaws.{within-more}
+use Rattle.rewriter.specs.RewriterCalls.{Notified}
 use Rattle.rewriter.specs.Rolling.{UndoneTo}
-use Rattle.rewriter.proofs.Told.{heard_none, heard_next, heard_step}
+use Rattle.rewriter.proofs.Told.{notified_none, notified_next, notified_step}
 
--- on the way back: the events `es` were undone
-pub record Undoing {B : Type 0} (meaning : B → Listener) (mark : ℕ) (from now : Held) (xs ys : List B) : Type 0 where
+-- during the rollback: the events `es` were undone
+pub record Undoing {B : Type 0} (meaning : B → Listener) (mark : ℕ) (from now : TransactionModel) (xs ys : List B) : Type 0 where
   pub es : List Event
   pub journal : from.journal ≡ now.journal ++ es
   pub long : mark ≤ length now.journal
@@ -24,10 +24,10 @@ pub record Undoing {B : Type 0} (meaning : B → Listener) (mark : ℕ) (from no
   pub store : now.store ≡ undone_all from.ctx es from.store
   pub marks : now.marks ≡ from.marks
   pub opens : open_marks now ≡ open_marks from
-  pub behind : (k : ℕ) → k ≤ length now.journal → module_at k now ≡ module_at k from
-  pub told : Heard meaning (inverses es) (record { desk = from; listeners = xs }) (record { desk = now; listeners = ys })
+  pub trailing : (k : ℕ) → k ≤ length now.journal → module_at k now ≡ module_at k from
+  pub told : Notified meaning (inverses es) (record { transaction = from; listeners = xs }) (record { transaction = now; listeners = ys })
 
-module _ {B : Type 0} (meaning : B → Listener) (mark : ℕ) (from : Held) (xs : List B) where
+module _ {B : Type 0} (meaning : B → Listener) (mark : ℕ) (from : TransactionModel) (xs : List B) where
   pub undoing_none : mark ≤ length from.journal → Undoing meaning mark from from xs xs
   undoing_none le =
       record {
@@ -38,39 +38,39 @@ module _ {B : Type 0} (meaning : B → Listener) (mark : ℕ) (from : Held) (xs 
         store = refl;
         marks = refl;
         opens = refl;
-        behind = λ k le. refl;
-        told = heard_none meaning (record { desk = from; listeners = xs });
+        trailing = λ k le. refl;
+        told = notified_none meaning (record { transaction = from; listeners = xs });
       }
 
-  pub undoing_more : (e : Event) (h g : Held) (w : World) (ys zs : List B) → mark < length h.journal → Undone e h g → w.ctx ≡ g.ctx → w.store ≡ g.store → AllTold meaning e (things_in w) (module_in w) (shown_in w) ys zs
+  pub undoing_more : (e : Event) (h g : TransactionModel) (w : World) (ys zs : List B) → mark < length h.journal → Undone e h g → w.ctx ≡ g.ctx → w.store ≡ g.store → AllNotified meaning e (context_model w) (module_in w) (node_of_op w) ys zs
       → Undoing meaning mark from h xs ys → Undoing meaning mark from g xs zs
   undoing_more e h g w ys zs lt u ctx store told on =
-      let same : g.ctx ≡ h.ctx = ap (λ (k : Held). k.ctx) u.held in
-      let one : Heard meaning (e ∷ []) (record { desk = h; listeners = ys }) (record { desk = g; listeners = zs }) = heard_step meaning e h g w ys zs same u.step u.shown ctx store told in
+      let same : g.ctx ≡ h.ctx = ap (λ (k : TransactionModel). k.ctx) u.held in
+      let one : Notified meaning (e ∷ []) (record { transaction = h; listeners = ys }) (record { transaction = g; listeners = zs }) = notified_step meaning e h g w ys zs same u.step u.shown ctx store told in
       let long = ap length u.journal ∙ length-append g.journal (u.last ∷ []) in
       record {
         es = u.last ∷ on.es;
         journal = on.journal ∙ ap (λ js. js ++ on.es) u.journal ∙ append_assoc g.journal (u.last ∷ []) on.es;
         long = omega (arith, long, lt);
         ctx = same ∙ on.ctx;
-        store = ap (λ (k : Held). k.store) u.held ∙ (λ i. undone_all (on.ctx i) (u.last ∷ []) (on.store i));
-        marks = ap (λ (k : Held). k.marks) u.held ∙ on.marks;
+        store = ap (λ (k : TransactionModel). k.store) u.held ∙ (λ i. undone_all (on.ctx i) (u.last ∷ []) (on.store i));
+        marks = ap (λ (k : TransactionModel). k.marks) u.held ∙ on.marks;
         opens = u.marked ∙ on.opens;
-        behind = λ k le. u.behind k le ∙ on.behind k (omega (arith, le, long));
-        told = subst (λ (f : Event). Heard meaning (inverses on.es ++ f ∷ []) (record { desk = from; listeners = xs }) (record { desk = g; listeners = zs })) u.is
-            (heard_next meaning (inverses on.es) (e ∷ []) (record { desk = from; listeners = xs }) (record { desk = h; listeners = ys }) (record { desk = g; listeners = zs }) same on.told one);
+        trailing = λ k le. u.trailing k le ∙ on.trailing k (omega (arith, le, long));
+        told = subst (λ (f : Event). Notified meaning (inverses on.es ++ f ∷ []) (record { transaction = from; listeners = xs }) (record { transaction = g; listeners = zs })) u.is
+            (notified_next meaning (inverses on.es) (e ∷ []) (record { transaction = from; listeners = xs }) (record { transaction = h; listeners = ys }) (record { transaction = g; listeners = zs }) same on.told one);
       }
 
   -- the newest event may be undone while the journal is longer than the mark
-  pub undoing_free : (h : Held) (ys : List B) → mark < length h.journal → Within mark from.marks → Undoing meaning mark from h xs ys → Within (length h.journal - 1) h.marks
+  pub undoing_free : (h : TransactionModel) (ys : List B) → mark < length h.journal → Within mark from.marks → Undoing meaning mark from h xs ys → Within (length h.journal - 1) h.marks
   undoing_free h ys lt w on = rw on.marks (within-more mark _ from.marks (omega (arith, lt)) w)
 
   -- and the journal gets shorter
-  pub undoing_less : (e : Event) (h g : Held) → Undone e h g → length g.journal < length h.journal
+  pub undoing_less : (e : Event) (h g : TransactionModel) → Undone e h g → length g.journal < length h.journal
   undoing_less e h g u = let long = ap length u.journal ∙ length-append g.journal (u.last ∷ []) in omega (arith, long)
 
-  -- the end of the way back
-  module _ (h : Held) (ys : List B) (short : length h.journal ≤ mark) (on : Undoing meaning mark from h xs ys) where
+  -- the end of the rollback
+  module _ (h : TransactionModel) (ys : List B) (short : length h.journal ≤ mark) (on : Undoing meaning mark from h xs ys) where
     at_mark : mark ≡ length h.journal
     at_mark = let l = on.long in omega (arith, l, short)
 
@@ -88,8 +88,8 @@ module _ {B : Type 0} (meaning : B → Listener) (mark : ℕ) (from : Held) (xs 
           marks = on.marks;
           module_of = (λ i. module_meaning (on.ctx i) (on.store i).module_of) ∙ ap (λ es. before from.ctx es from.store) (sym rest_is);
           opens = on.opens;
-          behind = λ k le. on.behind k (let at = at_mark in omega (arith, le, at));
+          trailing = λ k le. on.trailing k (let at = at_mark in omega (arith, le, at));
         }
 
-    pub undone_told : Heard meaning (inverses (drop mark from.journal)) (record { desk = from; listeners = xs }) (record { desk = h; listeners = ys })
-    undone_told = subst (λ es. Heard meaning (inverses es) (record { desk = from; listeners = xs }) (record { desk = h; listeners = ys })) (sym rest_is) on.told
+    pub undone_told : Notified meaning (inverses (drop mark from.journal)) (record { transaction = from; listeners = xs }) (record { transaction = h; listeners = ys })
+    undone_told = subst (λ es. Notified meaning (inverses es) (record { transaction = from; listeners = xs }) (record { transaction = h; listeners = ys })) (sym rest_is) on.told

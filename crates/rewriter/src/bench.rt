@@ -1,4 +1,4 @@
-//! The bench.
+//! The rewriter.
 ghost use Rattle.std.specs.Prelude.{◌≡◌, [], length, slice_get, ◌↔◌, ◌≢◌, ◌<◌, ◌⊎◌, IsTrue, OnErr, IfErr, IfOk, IsOk};
 ghost use Rattle.std.specs.Prelude.{Some, true, None};
 ghost use Rattle.std.specs.List.{All, find};
@@ -11,14 +11,15 @@ ghost use Rattle.ir_event.specs.trees.Ids.{HasDistinctIds, ids};
 ghost use Rattle.ir_event.specs.trees.Meaning.{IsSoundIn, isolated_in};
 ghost use Rattle.ir_event.specs.trees.WellFormed.{IsWellFormed, fault};
 ghost use Rattle.ir_event.specs.store.Calls.{Loaded};
-ghost use Rattle.ir_event.specs.Modules.{things_in};
+ghost use Rattle.ir_event.specs.Modules.{context_model};
 ghost use Rattle.ir_event.specs.Panels.{is_kind};
-ghost use Rattle.rewriter_desk.specs.Journals.{IsJournal, IsSlotted};
-ghost use Rattle.rewriter_desk.specs.Moves.{Grown};
-ghost use Rattle.rewriter.specs.Benched.{Led};
+ghost use Rattle.rewriter.specs.Journals.{IsJournal, TracksRemovedKeys};
+ghost use Rattle.rewriter.specs.Moves.{Grown};
+ghost use Rattle.rewriter.specs.RewriterCalls.{Led};
 ghost use Rattle.rewriter.specs.Rolling.{IsSettled, Settled};
 
 use crate::marks::settle;
+use crate::transaction::Transaction;
 use ir_event::analysis::Analysis;
 use ir_event::event::Event;
 use ir_event::panel::Panel;
@@ -30,21 +31,20 @@ use ir_event::types::node::{AttrNode, TypeNode};
 use ir_event::types::refusal::Refusal;
 use ir_event::world::World;
 use op_registry::registry::Registry;
-use rewriter_desk::desk::Desk;
-use rewriter_laws::journal_laws::stores_stay_slotted;
+use rewriter_machine::journal_laws::stores_stay_slotted;
 use std::alloc::Global;
 use std::marker::Model;
 
-/// A module under edits, with its marks and the events since the oldest open one, and the listeners that follow it.
+/// A module under edits, with its open marks, the events since the oldest one, and the listeners.
 #[derive(Drop)]
 pub struct Bench<L> {
     pub(crate) alloc: Global,
-    pub(crate) desk: Desk,
+    pub(crate) transaction: Transaction,
     pub(crate) panel: Panel<L>,
 }
 
 impl<L> Model for Bench<L> {
-    ghost use Rattle.rewriter.specs.Benched.{Benched};
+    ghost use Rattle.rewriter.specs.RewriterCalls.{Benched};
     ghost use Rattle.rewriter.specs.Rolling.{IsSettled};
     ghost use Rattle.std.specs.Coded.{codes};
     ghost use Rattle.ir_event.specs.store.Stored.{stored_code};
@@ -53,15 +53,15 @@ impl<L> Model for Bench<L> {
 
     ghost coded = { Prim.hlevel (codes, stored_code) };
 
-    ghost view = { λ b. record { desk = b.desk; listeners = b.panel } };
+    ghost view = { λ b. record { transaction = b.transaction; listeners = b.panel } };
 
-    ghost invariant = { λ b. IsSettled b.desk };
+    ghost invariant = { λ b. IsSettled b.transaction };
 }
 
 impl<L: Analysis> Bench<L> {
-    /// A bench without marks or listeners, over a module with a tree and a next free id.
+    /// Returns a rewriter for `tree`, without marks or listeners. `next` is the next free id.
     ///
-    /// Refusals: `UnknownValue`, `TooDeep`, `TooMany` in this order; `Memory`.
+    /// Refusals, in this order: `UnknownValue`, `TooDeep`, `TooMany`; and `Memory`.
     pub fn new(
         alloc: Global,
         ctx: Context,
@@ -72,9 +72,9 @@ impl<L: Analysis> Bench<L> {
         requires sound { IsSoundIn ctx tree.now }
         requires distinct { HasDistinctIds tree.now }
         requires below { All (λ x. x < next) (ids tree.now) }
-        ensures ctx { IfOk result (λ b. b.desk.ctx ≡ ctx) }
-        ensures store { IfOk result (λ b. Loaded tree.now next b.desk.store) }
-        ensures marks { IfOk result (λ b. b.desk.marks ≡ []) }
+        ensures ctx { IfOk result (λ b. b.transaction.ctx ≡ ctx) }
+        ensures store { IfOk result (λ b. Loaded tree.now next b.transaction.store) }
+        ensures marks { IfOk result (λ b. b.transaction.marks ≡ []) }
         ensures listeners { IfOk result (λ b. b.listeners ≡ []) }
         ensures refused { IfErr result (λ e. (e ≡ Refusal.Memory) ⊎ (fault (isolated_in ctx) tree.now ≡ Some e)) }
     {
@@ -83,156 +83,158 @@ impl<L: Analysis> Bench<L> {
             Ok(world) => world,
             Err(refusal) => return Err(refusal),
         };
-        Ok(Bench::over(alloc, world))
+        Ok(Bench::from_world(alloc, world))
     }
 
-    /// A bench without marks or listeners, over the module of a world. What was taken from it is given up.
-    pub fn over(alloc: Global, world: World) -> Bench<L>
-        requires slotted { IsSlotted world.store }
-        ensures desk { Settled (record {
-          ctx = things_in world;
+    /// Returns a rewriter for the module of `world`, without marks or listeners. The held operations of `world` are
+    /// released.
+    pub fn from_world(alloc: Global, world: World) -> Bench<L>
+        requires slotted { TracksRemovedKeys world.store }
+        ensures transaction { Settled (record {
+          ctx = context_model world;
           store = world.store;
           journal = [];
           marks = [];
-        }) result.desk }
+        }) result.transaction }
         ensures listeners { result.listeners ≡ [] }
     {
-        let mut desk = Desk::new(alloc, world);
-        settle(&mut desk);
+        let mut transaction = Transaction::new(alloc, world);
+        settle(&mut transaction);
         Bench {
             alloc,
-            desk,
+            transaction,
             panel: Panel::new(alloc),
         }
     }
 
-    /// What is true of every bench: its module is well-formed and of its context, in which no thing stands twice. Where
-    /// no mark is open there is no journal, and the module alone is held. The events of the journal led to the module.
+    /// Lemma: the invariants of every rewriter. The module is well-formed and of its context, whose entries are
+    /// distinct. If no mark is open, the journal is empty and nothing is held. The events of the journal lead to the
+    /// module.
     pub fn is_formed(&self)
-        ensures context { IsSound self.now.desk.ctx }
-        ensures sound { IsSoundIn self.now.desk.ctx self.now.desk.store.module_of.tree }
-        ensures formed { IsWellFormed (isolated_in self.now.desk.ctx) self.now.desk.store.module_of }
-        ensures settled { IsSettled self.now.desk }
-        ensures none { self.now.desk.marks ≡ [] → self.now.desk.journal ≡ [] }
-        ensures leads { IsJournal self.now.desk.ctx self.now.desk.journal self.now.desk.store }
+        ensures context { IsSound self.now.transaction.ctx }
+        ensures sound { IsSoundIn self.now.transaction.ctx self.now.transaction.store.module_of.tree }
+        ensures formed { IsWellFormed (isolated_in self.now.transaction.ctx) self.now.transaction.store.module_of }
+        ensures settled { IsSettled self.now.transaction }
+        ensures none { self.now.transaction.marks ≡ [] → self.now.transaction.journal ≡ [] }
+        ensures leads { IsJournal self.now.transaction.ctx self.now.transaction.journal self.now.transaction.store }
     {
-        self.desk.is_good();
-        let world = self.desk.world();
+        self.transaction.is_well_formed();
+        let world = self.transaction.world();
         world.ctx.sound();
     }
 
-    /// Where the bench has its memory from.
+    /// Returns the allocator of the rewriter.
     pub(crate) fn alloc(&self) -> Global {
         self.alloc
     }
 
-    /// The world.
+    /// Returns the IR state.
     pub fn world(&self) -> &World
-        ensures ctx { result.now.ctx ≡ self.now.desk.ctx }
-        ensures store { result.now.store ≡ self.now.desk.store }
+        ensures ctx { result.now.ctx ≡ self.now.transaction.ctx }
+        ensures store { result.now.store ≡ self.now.transaction.store }
     {
-        self.desk.world()
+        self.transaction.world()
     }
 
-    /// The listeners, in the order in which they were attached.
+    /// Returns the listeners, in the order of `attach`.
     pub fn listeners(&self) -> &[L]
         ensures { result.now ≡ self.now.listeners }
     {
         self.panel.listeners()
     }
 
-    /// The listener of a kind, if one is attached.
+    /// Returns the listener of a kind, or `None` if none is attached.
     pub fn listener(&self, kind: Kind) -> Option<&L>
         ensures { option_map (λ listener. listener.now) result ≡ find (is_kind L.meaning kind) self.now.listeners }
     {
         self.panel.listener(kind)
     }
 
-    /// Whether a mark is open.
+    /// Returns whether a mark is open.
     pub fn is_marked(&self) -> bool
-        ensures { IsTrue result ↔ (self.now.desk.marks ≢ []) }
+        ensures { IsTrue result ↔ (self.now.transaction.marks ≢ []) }
     {
-        self.desk.is_marked()
+        self.transaction.is_marked()
     }
 
-    /// How many events there are since the oldest open mark.
+    /// Returns the number of events since the oldest open mark.
     pub fn journal_len(&self) -> usize
-        ensures { result ≡ length self.now.desk.journal }
+        ensures { result ≡ length self.now.transaction.journal }
     {
-        self.desk.journal_len()
+        self.transaction.journal_len()
     }
 
-    /// The events since the oldest open mark, the oldest first.
+    /// Returns the events since the oldest open mark, oldest first.
     pub fn journal(&self) -> &[Event]
-        ensures { result.now ≡ self.now.desk.journal }
+        ensures { result.now ≡ self.now.transaction.journal }
     {
-        self.desk.journal()
+        self.transaction.journal()
     }
 
-    /// One of them, the oldest first.
+    /// Returns one of the events since the oldest open mark, by its index, oldest first.
     pub fn journal_at(&self, place: usize) -> Option<Event>
-        ensures { result ≡ slice_get self.now.desk.journal place }
+        ensures { result ≡ slice_get self.now.transaction.journal place }
     {
-        self.desk.journal_at(place)
+        self.transaction.journal_at(place)
     }
 }
 
 impl<L: Analysis> Bench<L> {
-    /// The number of a name in the context.
+    /// Interns a name and returns its id in the context.
     ///
-    /// Refusals: as for the context's call.
+    /// Refusals: those of the context.
     pub fn name(&mut self, bytes: &[u8]) -> Result<NameId, Refusal>
-        ensures ok { IfOk result (λ id. (id, self.new.desk.ctx) ≡ with_name bytes.now self.old.desk.ctx) }
-        ensures refused { IsRefusedFor (name_reason bytes.now self.old.desk.ctx) result }
-        ensures known { knows_name bytes.now self.old.desk.ctx ≡ true → IsOk result }
+        ensures ok { IfOk result (λ id. (id, self.new.transaction.ctx) ≡ with_name bytes.now self.old.transaction.ctx) }
+        ensures refused { IsRefusedFor (name_reason bytes.now self.old.transaction.ctx) result }
+        ensures known { knows_name bytes.now self.old.transaction.ctx ≡ true → IsOk result }
         ensures err { OnErr result (self.new ≡ self.old) }
-        ensures grown { Grown self.old.desk self.new.desk }
+        ensures grown { Grown self.old.transaction self.new.transaction }
         ensures listeners { self.new.listeners ≡ self.old.listeners }
         ensures led { Led L.meaning self.old self.new }
     {
-        self.desk.world().ctx.sound();
-        let id = self.desk.name(bytes);
-        self.desk.world().ctx.sound();
+        self.transaction.world().ctx.sound();
+        let id = self.transaction.name(bytes);
+        self.transaction.world().ctx.sound();
         id
     }
 
-    /// The number of a type whose parts are types of the context.
+    /// Interns a type, whose components are types of the context, and returns its id.
     ///
-    /// Refusals: as for the context's call.
+    /// Refusals: those of the context.
     pub fn ty(&mut self, node: TypeNode) -> Result<TypeId, Refusal>
-        requires { TypeIsOf self.old.desk.ctx node }
-        ensures ok { IfOk result (λ id. (id, self.new.desk.ctx) ≡ with_type node self.old.desk.ctx) }
-        ensures refused { IsRefusedFor (type_reason node self.old.desk.ctx) result }
-        ensures known { knows_type node self.old.desk.ctx ≡ true → type_reason node self.old.desk.ctx ≡ None
+        requires { TypeIsOf self.old.transaction.ctx node }
+        ensures ok { IfOk result (λ id. (id, self.new.transaction.ctx) ≡ with_type node self.old.transaction.ctx) }
+        ensures refused { IsRefusedFor (type_reason node self.old.transaction.ctx) result }
+        ensures known { knows_type node self.old.transaction.ctx ≡ true → type_reason node self.old.transaction.ctx ≡ None
             → IsOk result }
         ensures err { OnErr result (self.new ≡ self.old) }
-        ensures grown { Grown self.old.desk self.new.desk }
+        ensures grown { Grown self.old.transaction self.new.transaction }
         ensures listeners { self.new.listeners ≡ self.old.listeners }
         ensures led { Led L.meaning self.old self.new }
     {
-        self.desk.world().ctx.sound();
-        let id = self.desk.ty(node);
-        self.desk.world().ctx.sound();
+        self.transaction.world().ctx.sound();
+        let id = self.transaction.ty(node);
+        self.transaction.world().ctx.sound();
         id
     }
 
-    /// The number of an attribute whose parts are names, types and attributes of the context.
+    /// Interns an attribute, whose components are names, types and attributes of the context, and returns its id.
     ///
-    /// Refusals: as for the context's call.
+    /// Refusals: those of the context.
     pub fn attr(&mut self, node: AttrNode) -> Result<AttrId, Refusal>
-        requires { AttrIsOf self.old.desk.ctx node }
-        ensures ok { IfOk result (λ id. (id, self.new.desk.ctx) ≡ with_attr node self.old.desk.ctx) }
-        ensures refused { IsRefusedFor (attr_reason node self.old.desk.ctx) result }
-        ensures known { knows_attr node self.old.desk.ctx ≡ true → attr_reason node self.old.desk.ctx ≡ None
+        requires { AttrIsOf self.old.transaction.ctx node }
+        ensures ok { IfOk result (λ id. (id, self.new.transaction.ctx) ≡ with_attr node self.old.transaction.ctx) }
+        ensures refused { IsRefusedFor (attr_reason node self.old.transaction.ctx) result }
+        ensures known { knows_attr node self.old.transaction.ctx ≡ true → attr_reason node self.old.transaction.ctx ≡ None
             → IsOk result }
         ensures err { OnErr result (self.new ≡ self.old) }
-        ensures grown { Grown self.old.desk self.new.desk }
+        ensures grown { Grown self.old.transaction self.new.transaction }
         ensures listeners { self.new.listeners ≡ self.old.listeners }
         ensures led { Led L.meaning self.old self.new }
     {
-        self.desk.world().ctx.sound();
-        let id = self.desk.attr(node);
-        self.desk.world().ctx.sound();
+        self.transaction.world().ctx.sound();
+        let id = self.transaction.attr(node);
+        self.transaction.world().ctx.sound();
         id
     }
 }

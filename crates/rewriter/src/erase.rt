@@ -1,28 +1,28 @@
-//! Erasing an operation with what is inside it.
+//! Erases an operation with everything inside it.
 ghost use Rattle.std.specs.Prelude.{◌≡◌, None, OnOk};
-ghost use Rattle.rewriter_desk.specs.Contents.{edit_meaning, tests_in};
-ghost use Rattle.rewriter_desk.specs.Edits.{Erase, edited_by, reason_by};
-ghost use Rattle.rewriter_desk.specs.Machine.{Do};
-ghost use Rattle.rewriter.specs.Benched.{Does, Keeps, Led, reply_of};
+ghost use Rattle.rewriter.specs.Contents.{edit_meaning, tests_in};
+ghost use Rattle.rewriter.specs.Edits.{Erase, edited_by, reason_by};
+ghost use Rattle.rewriter.specs.Machine.{Do};
+ghost use Rattle.rewriter.specs.RewriterCalls.{Does, JournalAfter, Led, reply_of};
 ghost use Rattle.rewriter.specs.Wholes.{IsDoneOrNoted, Onward};
 
 use crate::bench::Bench;
 use crate::faults::erase_fault;
-use crate::finish::finish;
+use crate::finish::close_mark;
 use crate::laws::led_benches_are_kept;
 use ir_event::analysis::Analysis;
 use ir_event::types::ids::OpId;
 use ir_event::types::refusal::Refusal;
-use rewriter_laws::turns::erasing_by_last;
+use rewriter_machine::step_laws::erasing_by_last;
 
-/// Takes an operation and those inside it, the last in pre-order first, where nothing stands against it.
+/// Takes out an operation and those inside it, the last in pre-order first. Erasing it has no reason for a refusal.
 fn take_all<L: Analysis>(bench: &mut Bench<L>, op: OpId) -> Result<(), Refusal>
-    requires { reason_by (tests_in bench.old.desk.ctx) (Erase op) bench.old.desk.store.module_of ≡ None }
+    requires { reason_by (tests_in bench.old.transaction.ctx) (Erase op) bench.old.transaction.store.module_of ≡ None }
     ensures onward { Onward L.meaning bench.old bench.new }
     ensures ok { OnOk result
-        (bench.new.desk.store.module_of
-        ≡ edited_by (tests_in bench.old.desk.ctx) (Erase op) bench.old.desk.store.module_of) }
-    ensures refused { IsDoneOrNoted bench.old.desk result }
+        (bench.new.transaction.store.module_of
+        ≡ edited_by (tests_in bench.old.transaction.ctx) (Erase op) bench.old.transaction.store.module_of) }
+    ensures refused { IsDoneOrNoted bench.old.transaction result }
 {
     erasing_by_last::<u32, u32, u32>();
     led_benches_are_kept::<L>();
@@ -39,17 +39,17 @@ fn take_all<L: Analysis>(bench: &mut Bench<L>, op: OpId) -> Result<(), Refusal>
 }
 
 impl<L: Analysis> Bench<L> {
-    /// Takes an operation out of the module, with what is inside it. It is whole or not made at all. Most often nothing
-    /// is inside, and no value of it is used: then it is taken at once.
+    /// Removes `op` and everything inside it from the module. A refused call leaves the module unchanged. An operation
+    /// that is empty and unused, the common case, is taken out directly.
     ///
-    /// Refusals, in order: `NoSuchOp`; `IsRoot`; `HasUses` where an operation outside it uses a value from inside; and
-    /// `Memory` where a mark is open.
+    /// Refusals, in order: `NoSuchOp`; `IsRoot`; `HasUses` if an operation outside of `op` uses a value defined inside;
+    /// and `Memory` if a mark is open.
     pub fn erase(&mut self, op: OpId) -> Result<(), Refusal>
-        ensures does { Does L.meaning (Do (edit_meaning self.old.desk.ctx (Erase op)))
+        ensures does { Does L.meaning (Do (edit_meaning self.old.transaction.ctx (Erase op)))
             (reply_of result) self.old self.new }
         ensures led { Led L.meaning self.old self.new }
-        ensures ctx { self.new.desk.ctx ≡ self.old.desk.ctx }
-        ensures journal { Keeps L.meaning result self.old self.new }
+        ensures ctx { self.new.transaction.ctx ≡ self.old.transaction.ctx }
+        ensures journal { JournalAfter L.meaning result self.old self.new }
     {
         self.is_formed();
         match self.take(op) {
@@ -58,14 +58,14 @@ impl<L: Analysis> Bench<L> {
         }
     }
 
-    /// Takes an operation out of the module, with whatever is inside it: why it is refused is asked first, and where a
-    /// mark is open, all is taken under another.
+    /// Removes `op` and everything inside it from the module. The reasons for a refusal are checked first. If a mark is
+    /// open, the operations are taken out under a mark of this call.
     fn erase_whole(&mut self, op: OpId) -> Result<(), Refusal>
-        ensures does { Does L.meaning (Do (edit_meaning self.old.desk.ctx (Erase op)))
+        ensures does { Does L.meaning (Do (edit_meaning self.old.transaction.ctx (Erase op)))
             (reply_of result) self.old self.new }
         ensures led { Led L.meaning self.old self.new }
-        ensures ctx { self.new.desk.ctx ≡ self.old.desk.ctx }
-        ensures journal { Keeps L.meaning result self.old self.new }
+        ensures ctx { self.new.transaction.ctx ≡ self.old.transaction.ctx }
+        ensures journal { JournalAfter L.meaning result self.old self.new }
     {
         led_benches_are_kept::<L>();
         self.is_formed();
@@ -80,11 +80,11 @@ impl<L: Analysis> Bench<L> {
         }
         match take_all(self, op) {
             Ok(()) => {
-                finish(self, true);
+                close_mark(self, true);
                 Ok(())
             }
             Err(refusal) => {
-                finish(self, false);
+                close_mark(self, false);
                 Err(refusal)
             }
         }

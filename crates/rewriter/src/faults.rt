@@ -1,14 +1,14 @@
-//! Why an edit of several events is refused before any is made.
+//! Reasons against an edit of several events, found before any event is made.
 ghost use Rattle.std.specs.Prelude.{◌≡◌};
-ghost use Rattle.rewriter_desk.specs.Contents.{tests_in};
-ghost use Rattle.rewriter_desk.specs.Edits.{Erase, Replace, reason_by};
+ghost use Rattle.rewriter.specs.Contents.{tests_in};
+ghost use Rattle.rewriter.specs.Edits.{Erase, Replace, reason_by};
 
 use ir_event::trees::value::Value;
 use ir_event::types::ids::OpId;
 use ir_event::types::refusal::Refusal;
 use ir_event::world::World;
 
-/// Why a value can't be replaced by another, if it can't.
+/// Returns the reason that `old` can't be replaced by `new`, or `None`.
 pub fn replace_fault(world: &World, old: &Value, new: &Value) -> Option<Refusal>
     ensures { result ≡ reason_by (tests_in world.now.ctx) (Replace old.now new.now) world.now.store.module_of }
 {
@@ -22,13 +22,13 @@ pub fn replace_fault(world: &World, old: &Value, new: &Value) -> Option<Refusal>
     if one != other {
         return Some(Refusal::TypeDiffers);
     }
-    if !world.store.users_see(&world.ctx, *old, *new) {
+    if !world.store.users_dominated_by(&world.ctx, *old, *new) {
         return Some(Refusal::NotVisible);
     }
     None
 }
 
-/// Why an operation can't be erased, if it can't.
+/// Returns the reason that `op` can't be erased, or `None`.
 pub fn erase_fault(world: &World, op: OpId) -> Option<Refusal>
     ensures { result ≡ reason_by (tests_in world.now.ctx) (Erase op) world.now.store.module_of }
 {

@@ -1,16 +1,16 @@
-//! How a call of several events ends.
+//! The end of a call of several events.
 ghost use Rattle.std.specs.Prelude.{◌≡◌, [], true};
-ghost use Rattle.rewriter.specs.Benched.{Heard, Led};
+ghost use Rattle.rewriter.specs.RewriterCalls.{Notified, Led};
 ghost use Rattle.rewriter.specs.Wholes.{IsFinished};
 
 use crate::bench::Bench;
 use ir_event::analysis::Analysis;
 
-/// Drops the newest mark. The module stays, or the one of the mark is held again.
-pub fn finish<L: Analysis>(bench: &mut Bench<L>, stays: bool)
-    ensures finished { IsFinished stays bench.old.desk bench.new.desk }
+/// Removes the newest mark. If `stays`, the module is kept; otherwise the module of the mark is restored.
+pub fn close_mark<L: Analysis>(bench: &mut Bench<L>, stays: bool)
+    ensures finished { IsFinished stays bench.old.transaction bench.new.transaction }
     ensures led { Led L.meaning bench.old bench.new }
-    ensures untold { stays ≡ true → Heard L.meaning [] bench.old bench.new }
+    ensures untold { stays ≡ true → Notified L.meaning [] bench.old bench.new }
 {
     if stays {
         let _ = bench.commit();

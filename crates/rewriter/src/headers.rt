@@ -1,16 +1,17 @@
-//! The headers of an operation: it and those inside it, each without what is inside it, with its place.
+//! Splits an operation into headers: the operation and each one inside it, without the operations in its blocks, with
+//! its place.
 ghost use Rattle.std.specs.Prelude.{◌≡◌, ◌++◌, IfOk, OnOk, map};
 ghost use Rattle.ir_event.specs.trees.Tree.{regions_of};
 ghost use Rattle.ir_event.specs.trees.View.{region_view};
-ghost use Rattle.rewriter_laws.specs.Inserting.{bare, bare_region as bare_one, bare_regions as bare_all};
-ghost use Rattle.rewriter_laws.specs.Inserting.{end_of as last_place, headers, region_headers, regions_headers};
+ghost use Rattle.rewriter_machine.specs.Inserting.{bare, bare_region as bare_one, bare_regions as bare_all};
+ghost use Rattle.rewriter_machine.specs.Inserting.{end_of as last_place, headers, region_headers, regions_headers};
 
 use ir_event::trees::place::Place;
 use ir_event::trees::tree::{TreeOp, TreeRegion};
 use ir_event::types::ids::OpId;
 use std::alloc::{AllocError, Global};
 
-/// A copy of a region without the operations in its block.
+/// Copies a region without the operations in its block.
 fn bare_region(alloc: Global, region: &TreeRegion) -> Result<TreeRegion, AllocError>
     ensures { IfOk result (λ r. region_view r ≡ bare_one (region_view region.now)) }
 {
@@ -23,7 +24,7 @@ fn bare_region(alloc: Global, region: &TreeRegion) -> Result<TreeRegion, AllocEr
     }
 }
 
-/// Copies of regions without the operations in their blocks.
+/// Copies regions without the operations in their blocks.
 fn bare_regions(alloc: Global, regions: &Vec<TreeRegion>) -> Result<Vec<TreeRegion>, AllocError>
     ensures { IfOk result (λ v. regions_of (map region_view v.items)
         ≡ bare_all (regions_of (map region_view regions.now.items))) }
@@ -35,7 +36,7 @@ fn bare_regions(alloc: Global, regions: &Vec<TreeRegion>) -> Result<Vec<TreeRegi
     Ok(copies)
 }
 
-/// A copy of an operation without the operations inside it.
+/// Copies an operation without the operations inside it.
 fn bare_of(alloc: Global, op: &TreeOp) -> Result<TreeOp, AllocError>
     ensures { IfOk result (λ t. t ≡ bare op.now) }
 {
@@ -51,7 +52,8 @@ fn bare_of(alloc: Global, op: &TreeOp) -> Result<TreeOp, AllocError>
     })
 }
 
-/// The header of an operation that is to stand at a place, and those of the operations inside it, in pre-order.
+/// Returns the header of an operation to be inserted at `place`, followed by the headers of the operations inside it,
+/// in pre-order.
 pub(crate) fn headers_of(
     alloc: Global,
     place: Place,
@@ -64,7 +66,7 @@ pub(crate) fn headers_of(
     Ok(out)
 }
 
-/// The end of the block of a region.
+/// Returns the end of the block of a region.
 fn end_of(parent: OpId, region: u32) -> Place
     ensures { result ≡ last_place parent region }
 {

@@ -1,32 +1,32 @@
-//! Replacing a value wherever it is used.
+//! Replaces all uses of a value.
 ghost use Rattle.std.specs.Prelude.{◌≡◌, false, None, OnOk};
 ghost use Rattle.ir_event.specs.trees.Uses.{same_value};
-ghost use Rattle.rewriter_desk.specs.Contents.{edit_meaning, tests_in};
-ghost use Rattle.rewriter_desk.specs.Edits.{Replace, edited_by, reason_by};
-ghost use Rattle.rewriter_desk.specs.Machine.{Do};
-ghost use Rattle.rewriter.specs.Benched.{Does, Keeps, Led, reply_of};
+ghost use Rattle.rewriter.specs.Contents.{edit_meaning, tests_in};
+ghost use Rattle.rewriter.specs.Edits.{Replace, edited_by, reason_by};
+ghost use Rattle.rewriter.specs.Machine.{Do};
+ghost use Rattle.rewriter.specs.RewriterCalls.{Does, JournalAfter, Led, reply_of};
 ghost use Rattle.rewriter.specs.Wholes.{IsDoneOrNoted, Onward};
 
 use crate::bench::Bench;
 use crate::faults::replace_fault;
-use crate::finish::finish;
+use crate::finish::close_mark;
 use crate::laws::led_benches_are_kept;
 use ir_event::analysis::Analysis;
 use ir_event::trees::uses::is_same;
 use ir_event::trees::value::Value;
 use ir_event::types::refusal::Refusal;
-use rewriter_laws::turns::replacing_by_uses;
+use rewriter_machine::step_laws::replacing_by_uses;
 
-/// Sets a value as each use of another, which differs from it, where nothing stands against it.
+/// Sets each use of `old` to `new`, another value. The replacement has no reason for a refusal.
 fn set_uses<L: Analysis>(bench: &mut Bench<L>, old: &Value, new: &Value) -> Result<(), Refusal>
-    requires free { reason_by (tests_in bench.old.desk.ctx) (Replace old.now new.now) bench.old.desk.store.module_of
+    requires free { reason_by (tests_in bench.old.transaction.ctx) (Replace old.now new.now) bench.old.transaction.store.module_of
         ≡ None }
     requires differ { same_value old.now new.now ≡ false }
     ensures onward { Onward L.meaning bench.old bench.new }
     ensures ok { OnOk result
-        (bench.new.desk.store.module_of
-        ≡ edited_by (tests_in bench.old.desk.ctx) (Replace old.now new.now) bench.old.desk.store.module_of) }
-    ensures refused { IsDoneOrNoted bench.old.desk result }
+        (bench.new.transaction.store.module_of
+        ≡ edited_by (tests_in bench.old.transaction.ctx) (Replace old.now new.now) bench.old.transaction.store.module_of) }
+    ensures refused { IsDoneOrNoted bench.old.transaction result }
 {
     replacing_by_uses::<u32, u32, u32>();
     led_benches_are_kept::<L>();
@@ -40,18 +40,18 @@ fn set_uses<L: Analysis>(bench: &mut Bench<L>, old: &Value, new: &Value) -> Resu
 }
 
 impl<L: Analysis> Bench<L> {
-    /// Puts a value in the place of another wherever that is used. The types have to be one. Where the two are one
-    /// value, nothing changes. It is whole or not made at all.
+    /// Replaces all uses of `old` by `new`. The types must be equal. If `old` is `new`, nothing changes. A refused call
+    /// leaves the module unchanged.
     ///
-    /// Refusals, in order: `NoSuchValue` where the first or the second isn't a value of the module; `TypeDiffers`;
-    /// `NotVisible` where an operation that uses the first doesn't see the second (Language Reference, "Regions", on
-    /// value scoping); and `Memory` where a mark is open.
+    /// Refusals, in order: `NoSuchValue` if `old` or `new` isn't a value of the module; `TypeDiffers`; `NotVisible` if
+    /// `new` isn't visible at a user of `old` (Language Reference, "Regions", on value scoping); and `Memory` if a mark
+    /// is open.
     pub fn replace_all(&mut self, old: Value, new: Value) -> Result<(), Refusal>
-        ensures does { Does L.meaning (Do (edit_meaning self.old.desk.ctx (Replace old new)))
+        ensures does { Does L.meaning (Do (edit_meaning self.old.transaction.ctx (Replace old new)))
             (reply_of result) self.old self.new }
         ensures led { Led L.meaning self.old self.new }
-        ensures ctx { self.new.desk.ctx ≡ self.old.desk.ctx }
-        ensures journal { Keeps L.meaning result self.old self.new }
+        ensures ctx { self.new.transaction.ctx ≡ self.old.transaction.ctx }
+        ensures journal { JournalAfter L.meaning result self.old self.new }
     {
         replacing_by_uses::<u32, u32, u32>();
         led_benches_are_kept::<L>();
@@ -70,11 +70,11 @@ impl<L: Analysis> Bench<L> {
         }
         match set_uses(self, &old, &new) {
             Ok(()) => {
-                finish(self, true);
+                close_mark(self, true);
                 Ok(())
             }
             Err(refusal) => {
-                finish(self, false);
+                close_mark(self, false);
                 Err(refusal)
             }
         }

@@ -1,4 +1,4 @@
--- A refusal leaves the module and the marks, and what an accepted call makes of them.
+-- A refusal leaves the module and the marks unchanged; the module and the marks after an accepted call.
 use Rattle.std.proofs.Common.{◌≡◌, refl, ap, sym, ◌∙◌, subst, ℕ, zero, suc, Bool, true, false, cond, List, [], ◌∷◌, Option, Some, None, Result, Ok, Err, ◌⊎◌, inl, inr, slice_get}
 use Rattle.std.specs.Prelude.{nat_lt, slice_set}
 use Rattle.std.specs.List.{find}
@@ -12,7 +12,7 @@ use Rattle.rewriter_machine.specs.Machine.{OpenMark, State, Outcome, Fault, Tran
 use Rattle.rewriter_machine.specs.Panels.{Shown, Ages, AllAge, BegunAgain, has_kind, is_kind}
 use Rattle.rewriter_machine.specs.Runs.{Gives, is_refused}
 
--- an edit is accepted as such
+-- the reply to an accepted edit isn't a refusal
 accepted_is : (e : Edit) (m : Module) → is_refused (accepted e m) ≡ false
 accepted_is (Insert place o) m = refl
 accepted_is (Make place o) m = refl
@@ -28,7 +28,7 @@ fault_is : (refusal : Refusal) (op : Option ℕ) → is_refused (fault_reply ref
 fault_is refusal None = refl
 fault_is refusal (Some x) = refl
 
--- a call for which something is wanting is refused, and leaves all
+-- the answer is a refusal, and leaves the module and the marks unchanged
 record IsLeft (s : State) (a : Answer) : Type 0 where
   reply : is_refused a.reply ≡ true
   held : a.held ≡ s.held
@@ -51,7 +51,7 @@ unmade_left s (Resync kind) a h = left_by s Memory a h
 unmade_left s (Report kind) a h = left_by s Memory a h
 unmade_left s Print a h = left_by s Memory a h
 
--- an answer leaves what it refuses
+-- if the answer is a refusal, it leaves the module and the marks unchanged
 abbrev Leaves : State → Answer → Type 0
 Leaves s a = is_refused a.reply ≡ true → (a.held ≡ s.held) × (a.marks ≡ s.marks)
 
@@ -108,14 +108,14 @@ due_leaves s (Report kind) = go (find (is_kind kind) s.panel)
     go (Some a) h = stale a a.stale h
 due_leaves s Print = λ h. (refl, refl)
 
--- a refused call leaves the module and the marks
+-- a refused call leaves the module and the marks unchanged
 pub refused_leaves : (s t : State) (call : Call) (reply : Reply) (shows : Shows) → Goes s call reply shows t → is_refused reply ≡ true → (t.held ≡ s.held) × (t.marks ≡ s.marks)
 refused_leaves s t call reply shows g h = elim g.answer [
   | inl e ↦ (let k = due_leaves s call (ap (λ (a : Answer). is_refused a.reply) (sym e) ∙ h) in (ap (λ (a : Answer). a.held) e ∙ k.0, ap (λ (a : Answer). a.marks) e ∙ k.1))
   | inr e ↦ (let k = unmade_left s call _ e.1 in (k.held, k.marks))
 ]
 
--- what an accepted answer gives
+-- the module and the marks after an accepted answer
 abbrev Gave : State → Call → Answer → Type 0
 Gave s call a = is_refused a.reply ≡ false → Gives call s.held s.marks a.held a.marks
 
@@ -197,7 +197,7 @@ again_ages : (kind : ℕ) (old new : List Shown) → BegunAgain kind true old ne
 again_ages kind old new h =
     subst (AllAge old) (sym h.rest) (set_ages old h.place h.before h.after h.was (record { same = h.same; stale = λ e. h.gives }))
 
--- a refused call adds, drops, moves and mends no analysis
+-- a refused call adds, removes and moves no analysis, and makes none fresh
 pub refused_ages : (s t : State) (call : Call) (reply : Reply) (shows : Shows) → Goes s call reply shows t → is_refused reply ≡ true → AllAge s.panel t.panel
 refused_ages s t (Do e) reply shows g h = g.panel
 refused_ages s t (Change f) reply shows g h = g.panel

@@ -1,7 +1,7 @@
--- Replacing a value, where no reason stands against it, leaves a module well-formed.
+-- An accepted replacement of a value keeps a module well-formed.
 use Rattle.std.proofs.Common.{◌≡◌, None}
 use Rattle.std.specs.Option.{option_eq}
-use Rattle.ir_event.specs.types.Things.{Things}
+use Rattle.ir_event.specs.types.Things.{ContextModel}
 use Rattle.ir_event.specs.types.declared.refusal.Refusal.TheVariants.{NoSuchValue, NotVisible, TypeDiffers}
 use Rattle.ir_event.specs.trees.declared.value.Value.{Value}
 use Rattle.ir_event.specs.trees.Meaning.{isolated_in}
@@ -13,7 +13,7 @@ use Rattle.ir_event.specs.tree_laws.Reasons.{users_see}
 use Rattle.rewriter_machine.specs.Edits.{Replace, edited_by, reason_by}
 use Rattle.rewriter_machine.specs.Contents.{tests_in}
 
-pub replace_keeps : (c : Things) (old new : Value) (m : Numbered) → IsWellFormed (isolated_in c) m → reason_by (tests_in c) (Replace old new) m ≡ None → IsWellFormed (isolated_in c) (edited_by (tests_in c) (Replace old new) m)
+pub replace_keeps : (c : ContextModel) (old new : Value) (m : Numbered) → IsWellFormed (isolated_in c) m → reason_by (tests_in c) (Replace old new) m ≡ None → IsWellFormed (isolated_in c) (edited_by (tests_in c) (Replace old new) m)
 replace_keeps c old new m w e =
     let a = no_unless (has_value old m.tree) NoSuchValue _ e in
     let b = no_unless (has_value new m.tree) NoSuchValue _ a.1 in

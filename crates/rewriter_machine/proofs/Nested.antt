@@ -1,5 +1,5 @@
--- Calls that close the marks that they make, and no others, leave the marks from before; so a rollback behind them
--- gives the module back that was held when its mark was made.
+-- Calls that close exactly the marks that they open keep the earlier marks. So a rollback after them restores the
+-- module of its mark.
 use Rattle.std.proofs.Common.{◌≡◌, refl, ap, sym, ◌∙◌, subst, ℕ, zero, suc, true, false, List, [], ◌∷◌, ◌++◌, length, Option, Some, None, inl, inr}
 use Rattle.std.specs.Prelude.{option_and_then}
 use Rattle.ir_event.specs.Modules.{Module}
@@ -7,7 +7,7 @@ use Rattle.rewriter_machine.specs.Machine.{OpenMark, State, Call, Do, Change, Ma
 use Rattle.rewriter_machine.specs.Runs.{Answered, Runs, Gives, level, level_after, level_answered, lower, IsNested, IsMarking}
 use Rattle.rewriter_machine.proofs.Answers.{refused_leaves, accepted_gives}
 
--- so many marks are open above some others
+-- this many marks are open above some others
 record Above (n : ℕ) (base marks : List OpenMark) : Type 0 where
   front : List OpenMark
   is : marks ≡ front ++ base
@@ -59,7 +59,7 @@ runs_above (c ∷ calls) s t n m base r l a = go (λ k. runs_above calls r.0 t k
     go later None is h = absurd cc
     go later (Some k) is h = later k h (goes_above s r.0 c.call c.reply c.shows n k base r.1 is a)
 
--- calls that close the marks that they make, and no others, leave the marks
+-- calls that close exactly the marks that they open keep the marks
 pub nested_leaves : (s t : State) (calls : List Answered) → Runs s calls t → IsNested calls → t.marks ≡ s.marks
 nested_leaves s t calls r nested = go (runs_above calls s t 0 0 s.marks r nested (record { front = []; is = refl; many = refl }))
   where
@@ -70,7 +70,7 @@ nested_leaves s t calls r nested = go (runs_above calls s t 0 0 s.marks r nested
         none [] is many = is
         none (k ∷ front) is many = absurd cc
 
--- where a mark is open a rollback is accepted, and gives the marked module
+-- if a mark is open, a rollback is accepted and restores the marked module
 pub rollback_gives : (s t : State) (reply : Reply) (shows : Shows) (k : OpenMark) (ks : List OpenMark) → Goes s Rollback reply shows t → s.marks ≡ k ∷ ks → (reply ≡ Done) × (t.held ≡ k.marked) × (t.marks ≡ ks)
 rollback_gives s t reply shows k ks g e = elim g.answer [
   | inl is ↦ (let is2 : record { reply = reply; shows = shows; held = t.held; marks = t.marks } ≡ due_rollback (k ∷ ks) s = is ∙ ap (λ l. due_rollback l s) e in
@@ -78,8 +78,8 @@ rollback_gives s t reply shows k ks g e = elim g.answer [
   | inr is ↦ (let bad : false ≡ true = is.0 in absurd cc)
 ]
 
--- a mark, calls that close the marks that they make and no others, and a rollback: the module that was held, its
--- ids and its next id, and the marks are back
+-- a mark, then calls that close exactly the marks that they open, then a rollback: the module, its ids, its next id and
+-- the marks are restored
 pub rollback_restores : (s u t v : State) (call : Call) (shows last : Shows) (calls : List Answered) (reply : Reply) → IsMarking call → Goes s call Done shows u → Runs u calls t → IsNested calls → Goes t Rollback reply last v
     → (reply ≡ Done) × (v.held ≡ s.held) × (v.marks ≡ s.marks)
 rollback_restores s u t v Mark shows last calls reply is g r nested back = rollback_gives t v reply last (record { marked = s.held; counted = true }) s.marks back (nested_leaves u t calls r nested ∙ (accepted_gives s u Mark Done shows g refl).1)

@@ -1,9 +1,9 @@
--- An edit of numbers of a context stands for one of contents: what it makes of a module, and why it is refused.
+-- An edit with ids of a context, and its meaning: they have the same effect on a module, and the same reasons.
 use Rattle.std.proofs.Common.{◌≡◌, refl, ap, ◌∙◌, ℕ, ◌+◌, Bool, cond, not, ◌&&◌, ◌||◌, eqb, List, [], ◌∷◌, length, Option, Some, None, option_map}
 use Rattle.std.specs.Prelude.{nat_le, is_some}
 use Rattle.std.specs.List.{list_all}
 use Rattle.std.specs.Option.{option_eq}
-use Rattle.ir_event.specs.types.Things.{Things}
+use Rattle.ir_event.specs.types.Things.{ContextModel}
 use Rattle.ir_event.specs.types.Terms.{name_term, type_term, attr_term}
 use Rattle.ir_event.specs.types.Words.{is_isolated, is_table, is_inherent}
 use Rattle.ir_event.specs.types.declared.refusal.Refusal.TheVariants.{NoSuchOp, NoSuchValue, HasUses, NotVisible, TypeDiffers, NoSuchIndex, IsRoot, Full, IdsExhausted, TooDeepHere}
@@ -32,7 +32,7 @@ use Rattle.rewriter_machine.specs.Edits.{Insert, Make, Erase, Move, SetOperand, 
 use Rattle.rewriter_machine.specs.Contents.{tests, tests_in, NumberedEdit, edit_meaning, edited, edit_reason}
 use Rattle.ir_event.proofs.of_tree_laws.Facts.{count_meaning}
 
-module _ (c : Things) where
+module _ (c : ContextModel) where
   -- the dictionary of a key
   part_kept : (x k : ℕ) (t : Op) → part_for tests x (name_term c k) (meaning c t) ≡ part_for (tests_in c) x k t
   part_kept x k t = ap (part_in tests (name_term c k)) (map_find (name_term c) (type_term c) (attr_term c) x t) ∙ go (find x t)

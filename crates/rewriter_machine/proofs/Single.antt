@@ -1,7 +1,7 @@
--- An edit that is one event, and against which no reason stands, is a step of what the module stands for.
+-- An accepted edit of one event is a step of the module's meaning.
 use Rattle.std.proofs.Common.{◌≡◌, refl, ap, sym, ◌∙◌, subst, ℕ, true, length, Option, Some, None, slice_get}
 use Rattle.std.specs.Prelude.{nat_lt, option_and_then, is_some}
-use Rattle.ir_event.specs.types.Things.{Things}
+use Rattle.ir_event.specs.types.Things.{ContextModel}
 use Rattle.ir_event.specs.trees.declared.value.Value.{Value}
 use Rattle.ir_event.specs.trees.Tree.{Op, head}
 use Rattle.ir_event.specs.trees.Ids.{find}
@@ -24,7 +24,7 @@ use Rattle.rewriter_machine.specs.Edits.{Insert, Make, Erase, Move, SetOperand, 
 use Rattle.rewriter_machine.specs.Contents.{tests_in, NumberedEdit, EditIsOf, edit_meaning, edited, IsElementary}
 use Rattle.rewriter_machine.proofs.Numbers.{edited_meaning}
 
--- an operand that there is
+-- an operand that exists
 there : (x k : ℕ) (t o : Op) → find x t ≡ Some o → nat_lt k (length (head o).operands) ≡ true → (v : Value) × (operand_at x k t ≡ Some v)
 there x k t o f lt = go (slice_get (head o).operands k) refl (got (head o).operands k (ltb-true k (length (head o).operands) lt))
   where
@@ -35,7 +35,7 @@ there x k t o f lt = go (slice_get (head o).operands k) refl (got (head o).opera
     go None e h = absurd cc
     go (Some v) e h = (v, at ∙ e)
 
-module _ (c : Things) where
+module _ (c : ContextModel) where
   abbrev OneStep : NumberedEdit → Numbered → Type 0
   OneStep e m = (what : Event) × steps.Step c what (module_meaning c m) (module_meaning c (edited_by (tests_in c) e m))
 
@@ -61,7 +61,7 @@ module _ (c : Things) where
       let s = entry_steps c x part k None m w sound of tt e in
       (event.SetEntry x part k s.0 None, s.2))
 
-  -- and so it is of the edit of contents
+  -- the same for the edit's meaning
   pub elementary_step : (e : NumberedEdit) (m : Numbered) → IsElementary e → IsWellFormed (isolated_in c) m → IsSoundIn c m.tree → EditIsOf c m e → reason_by (tests_in c) e m ≡ None
       → (what : Event) × steps.Step c what (module_meaning c m) (edited (edit_meaning c e) (module_meaning c m))
   elementary_step e m is w sound of free =

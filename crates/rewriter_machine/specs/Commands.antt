@@ -1,4 +1,4 @@
--- The commands of a script, and which call each is.
+-- The commands of a script, and the call of each.
 use Rattle.std.specs.Prelude.{◌≡◌, ℕ, ◌≤◌, ◌+◌, List, length, Bool, ◌⊎◌, Option, Some, None, Ok, Err}
 use Rattle.ir_event.specs.types.Terms.{AttrTerm}
 use Rattle.ir_event.specs.types.Limits.{most_things}
@@ -13,21 +13,21 @@ use Rattle.ir_event.specs.Modules.{Module}
 use Rattle.rewriter_machine.specs.Edits as edit
 use Rattle.rewriter_machine.specs.Machine as call
 use Rattle.rewriter_machine.specs.Machine.{State, Transformation, Call, Do, Reply, Shows, Nothing, Goes}
-use Rattle.rewriter_machine.specs.Spots.{Spot, spot_place}
+use Rattle.rewriter_machine.specs.Points.{Point, point_place}
 
--- what a conversion aims at; operations are named by their bytes
+-- the target of a conversion; operations are given by their names
 pub record Target : Type 0 where
-  -- whether each operation is to be legal in the end, also one that is named nowhere
+  -- whether each operation must be legal at the end, also one that isn't named in the target
   pub full : Bool
-  -- the operations that are legal, those that aren't, and those that are where nothing of theirs is of type index
+  -- the legal operations, the illegal ones, and those that are legal if none of their types is index
   pub legal : List (List ℕ)
   pub illegal : List (List ℕ)
   pub dynamic : List (List ℕ)
-  -- the rules that are tried, in this order, and how deep rules may follow one another
+  -- the rules to try, in order, and the limit of nested rule applications
   pub rules : List ℕ
   pub depth : ℕ
 
--- how a command names a rule: by its number, or by its word
+-- a rule in a command: its number, or its name
 pub data RuleName : Type 0 where
   Numbered : ℕ → RuleName
   Worded : List ℕ → RuleName
@@ -35,8 +35,8 @@ pub data RuleName : Type 0 where
 -- a command; the texts of operations and attributes are bytes
 pub data Command : Type 0 where
   Erase : ℕ → Command
-  Move : ℕ → Spot → Command
-  Insert : Spot → List ℕ → Command
+  Move : ℕ → Point → Command
+  Insert : Point → List ℕ → Command
   SetOperand : ℕ → ℕ → Value → Command
   Replace : Value → Value → Command
   SetAttr : ℕ → List ℕ → List ℕ → Command
@@ -54,72 +54,71 @@ pub data Command : Type 0 where
   Report : ℕ → Command
   Print : Command
 
--- what a command comes to in a module: a call, a refusal of its place, or a refusal of its text, which may have an
--- offset
+-- the meaning of a command in a module: a call, a refused place, or a refused text, with an offset or without
 pub data Asked : Type 0 where
   Ask : Call → Asked
   Misplaced : Refusal → Asked
-  Unread : Refusal → Option ℕ → Asked
+  Unparsed : Refusal → Option ℕ → Asked
 
--- the text of an attribute is refused with an offset for what is wrong with it, or without one for want of memory
+-- the text of an attribute is refused with the offset of the fault, or without an offset because memory ran out
 abbrev pub IsAttrRefusal : Refusal → Option ℕ → Type 0
 IsAttrRefusal refusal (Some offset) = number_of refusal ≤ 14
 IsAttrRefusal refusal None = refusal ≡ Memory
 
--- and that of an operation also for want of ids
+-- the text of an operation may also be refused because the ids are used up
 abbrev pub IsOpRefusal : Refusal → Option ℕ → Type 0
 IsOpRefusal refusal (Some offset) = number_of refusal ≤ 14
 IsOpRefusal refusal None = (refusal ≡ IdsExhausted) ⊎ (refusal ≡ Memory)
 
--- an input of so many bytes can fill a context, which begins with the words of the table: each name, type and attribute
--- that is read takes a byte of it or more
+-- an input of so many bytes can fill a context, which starts with the names of the table; each new name, type and
+-- attribute takes at least one byte of the input
 abbrev pub CanFill : ℕ → Type 0
 CanFill bytes = most_things ≤ length words + bytes
 
--- a text of such an input was refused: nothing is spelled, or no room is left for what it names, or no memory
+-- a text of an input of so many bytes was refused: it has no meaning, the context is full, or memory ran out
 abbrev pub TextRefused : {X : Type 0} → ℕ → (Refusal → Option ℕ → Type 0) → (X → Type 0) → Refusal → Option ℕ → Type 0
 TextRefused bytes IsRefusal Spelled refusal offset =
     IsRefusal refusal offset
     × (((x : _) → Spelled x → ⊥) ⊎ (((refusal ≡ TooMany) × CanFill bytes) ⊎ (refusal ≡ Memory)))
 
--- a rule that is named is applied, where there is one of that name; else that is refused as an entry of no key is
+-- the named rule is applied if it exists; otherwise the command is refused with `NoSuchKey`
 abbrev pub AppliesRule : Option Transformation → Asked → Type 0
 AppliesRule None asked = asked ≡ Misplaced NoSuchKey
 AppliesRule (Some f) asked = asked ≡ Ask (call.Change f)
 
--- `bytes` is the length of the input; `SpellsOp` tells which operation bytes spell beside a module, and `SpellsAttr`
--- which attribute; `canonicalization`, `conversion` and `sweeping` are the transformations, and `application` that of a
--- rule at an operation, where there is a rule of that name
+-- `bytes` is the length of the input; `SpellsOp` relates a module, a text in bytes and an operation, `SpellsAttr` a
+-- text and an attribute; `canonicalization`, `conversion` and `sweeping` are the transformations; `application` applies
+-- a rule at an operation, if the rule exists
 module _ (bytes : ℕ) (SpellsOp : Module → List ℕ → Operation → Type 0) (SpellsAttr : List ℕ → AttrTerm → Type 0)
     (canonicalization : Option ℕ → Transformation) (conversion : Target → Transformation)
     (sweeping : Transformation) (application : RuleName → ℕ → Option Transformation) where
-  -- an operation that was read goes to its spot
-  abbrev pub Inserts : Spot → Operation → Module → Asked → Type 0
-  Inserts spot o m (Ask c) = (place : Place) × (spot_place None spot m.tree ≡ Ok place) × (c ≡ Do (edit.Insert place o))
-  Inserts spot o m (Misplaced refusal) = spot_place None spot m.tree ≡ Err refusal
-  Inserts spot o m (Unread refusal offset) = ⊥
+  -- an operation that was read is inserted at its insertion point
+  abbrev pub Inserts : Point → Operation → Module → Asked → Type 0
+  Inserts point o m (Ask c) = (place : Place) × (point_place None point m.tree ≡ Ok place) × (c ≡ Do (edit.Insert place o))
+  Inserts point o m (Misplaced refusal) = point_place None point m.tree ≡ Err refusal
+  Inserts point o m (Unparsed refusal offset) = ⊥
 
-  -- an operation of the module goes to its spot
-  abbrev pub Moves : ℕ → Spot → Module → Asked → Type 0
-  Moves x spot m (Ask c) = (place : Place) × (spot_place (Some x) spot m.tree ≡ Ok place) × (c ≡ Do (edit.Move x place))
-  Moves x spot m (Misplaced refusal) = spot_place (Some x) spot m.tree ≡ Err refusal
-  Moves x spot m (Unread refusal offset) = ⊥
+  -- an operation of the module is moved to its insertion point
+  abbrev pub Moves : ℕ → Point → Module → Asked → Type 0
+  Moves x point m (Ask c) = (place : Place) × (point_place (Some x) point m.tree ≡ Ok place) × (c ≡ Do (edit.Move x place))
+  Moves x point m (Misplaced refusal) = point_place (Some x) point m.tree ≡ Err refusal
+  Moves x point m (Unparsed refusal offset) = ⊥
 
-  -- an operation's text is read before the spot is looked for
-  abbrev pub InsertsText : Spot → List ℕ → Module → Asked → Type 0
-  InsertsText spot text m (Unread refusal offset) = TextRefused bytes IsOpRefusal (SpellsOp m text) refusal offset
-  InsertsText spot text m asked = (o : Operation) × SpellsOp m text o × Inserts spot o m asked
+  -- the text of an operation is read before the insertion point is resolved
+  abbrev pub InsertsText : Point → List ℕ → Module → Asked → Type 0
+  InsertsText point text m (Unparsed refusal offset) = TextRefused bytes IsOpRefusal (SpellsOp m text) refusal offset
+  InsertsText point text m asked = (o : Operation) × SpellsOp m text o × Inserts point o m asked
 
   abbrev pub SetsText : ℕ → List ℕ → List ℕ → Asked → Type 0
   SetsText x key text (Ask c) = (a : AttrTerm) × SpellsAttr text a × (c ≡ Do (edit.SetAttr x key a))
   SetsText x key text (Misplaced refusal) = ⊥
-  SetsText x key text (Unread refusal offset) = TextRefused bytes IsAttrRefusal (SpellsAttr text) refusal offset
+  SetsText x key text (Unparsed refusal offset) = TextRefused bytes IsAttrRefusal (SpellsAttr text) refusal offset
 
-  -- what a command comes to in a module
+  -- the meaning of a command in a module
   abbrev pub Asks : Command → Module → Asked → Type 0
   Asks (Erase x) m asked = asked ≡ Ask (Do (edit.Erase x))
-  Asks (Move x spot) m asked = Moves x spot m asked
-  Asks (Insert spot text) m asked = InsertsText spot text m asked
+  Asks (Move x point) m asked = Moves x point m asked
+  Asks (Insert point text) m asked = InsertsText point text m asked
   Asks (SetOperand x k v) m asked = asked ≡ Ask (Do (edit.SetOperand x k v))
   Asks (Replace old new) m asked = asked ≡ Ask (Do (edit.Replace old new))
   Asks (SetAttr x key text) m asked = SetsText x key text asked
@@ -136,21 +135,22 @@ module _ (bytes : ℕ) (SpellsOp : Module → List ℕ → Operation → Type 0)
   Asks (Report kind) m asked = asked ≡ Ask (call.Report kind)
   Asks Print m asked = asked ≡ Ask call.Print
 
--- how a line is replied to: as a call is, or with a refused text and its offset
+-- the response to a line: the reply of a call, or a refused text with its offset
 pub data Response : Type 0 where
   Replied : Reply → Response
   TextRefusedAt : Refusal → ℕ → Response
 
--- a refused text with an offset or without
+-- a refused text, with an offset or without
 abbrev pub text_response : Refusal → Option ℕ → Response
 text_response refusal None = Replied (call.Refused refusal)
 text_response refusal (Some offset) = TextRefusedAt refusal offset
 
--- from s a command that comes to this may be replied to so, and lead to t; a refusal of a place or text leaves all
+-- the machine may respond to a command with this meaning in this way, and get from s to t; a refused place or text
+-- changes nothing
 abbrev pub Follows : State → Asked → Response → Shows → State → Type 0
 Follows s (Ask c) (Replied reply) shows t = Goes s c reply shows t
 Follows s (Ask c) (TextRefusedAt refusal offset) shows t = ⊥
 Follows s (Misplaced refusal) response shows t =
     (response ≡ Replied (call.Refused refusal)) × (shows ≡ Nothing) × (t ≡ s)
-Follows s (Unread refusal offset) response shows t =
+Follows s (Unparsed refusal offset) response shows t =
     (response ≡ text_response refusal offset) × (shows ≡ Nothing) × (t ≡ s)

@@ -1,4 +1,4 @@
--- Edits of a module as data: what each makes of a module, and why one is refused.
+-- Edits of a module as data: the module after each, and the reason for a refusal.
 use Rattle.std.specs.Prelude.{ℕ, ◌+◌, nat_le, eqb, Bool, not, ◌||◌, Option, Some, None, is_some, if◌then◌else◌}
 use Rattle.std.specs.Option.{option_eq}
 use Rattle.ir_event.specs.types.declared.refusal.Refusal.{Refusal}
@@ -22,52 +22,52 @@ use Rattle.ir_event.specs.tree_laws.Reads.{around}
 use Rattle.ir_event.specs.tree_laws.Reasons.{unless, has_place, fits_around, with_id, put_reason, unused_outside}
 use Rattle.ir_event.specs.tree_laws.Reasons.{users_see, set_operand_reason, set_entry_reason, shift_reason}
 
--- the tests of names, keys and types by which modules are edited
+-- the tests of names, keys and types that edits need
 pub record TestsOf (N T : Type 0) : Type 0 where
-  -- the operations of a name are isolated from above
+  -- operations of this name are isolated from above
   pub isolated : N → Bool
-  -- they are symbol tables
+  -- operations of this name are symbol tables
   pub table : N → Bool
-  -- a key is inherent to them: it is one of their properties
+  -- the key is inherent to operations of this name: it is one of their properties
   pub inherent : N → N → Bool
-  -- a key comes before another
+  -- the first key is before the second
   pub before : N → N → Bool
-  -- two types are one
+  -- the two types are equal
   pub same_type : T → T → Bool
 
 -- an edit
 pub data EditOf (N T A : Type 0) : Type 0 where
-  -- an operation, with what is inside it, put at a place
+  -- inserts an operation, with everything inside it, at a place
   Insert : Place → OpOf N T A → EditOf N T A
-  -- an operation without operations in its blocks, whose id isn't looked at, put at a place under the next free id
+  -- inserts an operation with empty blocks at a place, under the next free id; its own id is ignored
   Make : Place → OpOf N T A → EditOf N T A
-  -- an operation taken away, with what is inside it
+  -- removes an operation with everything inside it
   Erase : ℕ → EditOf N T A
-  -- an operation moved to a place, with what is inside it
+  -- moves an operation, with everything inside it, to a place
   Move : ℕ → Place → EditOf N T A
-  -- a value set as an operand of an operation, by its number
+  -- sets an operand, given by its index, to a value
   SetOperand : ℕ → ℕ → Value → EditOf N T A
-  -- the second value in place of the first, wherever it is used
+  -- replaces all uses of the first value by the second
   Replace : Value → Value → EditOf N T A
-  -- an attribute set at a key of an operation
+  -- sets the attribute at a key of an operation
   SetAttr : ℕ → N → A → EditOf N T A
-  -- the entry at a key of an operation taken out
+  -- removes the entry at a key of an operation
   DropAttr : ℕ → N → EditOf N T A
 
--- the dictionary of an operation in which a key belongs: the properties, where it is inherent or they have it, else
--- the attributes
+-- the dictionary of an operation to which a key belongs: the properties if the key is inherent or they have it,
+-- otherwise the attributes
 abbrev pub part_in : {N T A : Type 0} → TestsOf N T → N → Option (OpOf N T A) → Part
 part_in w k None = Attrs
 part_in w k (Some o) =
     if w.inherent (head o).name k || is_some (entry_at w.before k (head o).properties) then Props else Attrs
 
--- the same for operation x of a tree
+-- the same, for operation x of a tree
 abbrev pub part_for : {N T A : Type 0} → TestsOf N T → ℕ → N → OpOf N T A → Part
 part_for w x k t = part_in w k (find x t)
 
--- ---- what an edit makes of a module
+-- ---- the module after an edit
 
--- the tree after an edit, where an id is the next free one
+-- the tree after an edit; `free` is the next free id
 abbrev pub tree_edited : {N T A : Type 0} → TestsOf N T → EditOf N T A → ℕ → OpOf N T A → OpOf N T A
 tree_edited w (Insert place o) free t = put place o t
 tree_edited w (Make place o) free t = put place (with_id free o) t
@@ -78,7 +78,7 @@ tree_edited w (Replace old new) free t = with_value_replaced old new t
 tree_edited w (SetAttr x k a) free t = with_entry w.before x (part_for w x k t) k (Some a) t
 tree_edited w (DropAttr x k) free t = with_entry w.before x (part_for w x k t) k None t
 
--- the next free id after an edit: what is put in takes one for each operation
+-- the next free id after an edit: each inserted operation takes one
 abbrev pub next_edited : {N T A : Type 0} → EditOf N T A → ℕ → ℕ
 next_edited (Insert place o) n = n + op_count o
 next_edited (Make place o) n = n + 1
@@ -93,11 +93,11 @@ next_edited (DropAttr x k) n = n
 abbrev pub edited_by : {N T A : Type 0} → TestsOf N T → EditOf N T A → ModuleOf N T A → ModuleOf N T A
 edited_by w e m = record { tree = tree_edited w e m.next m.tree; next = next_edited e m.next }
 
--- ---- why an edit is refused: the first reason in this order, if there is one
+-- ---- the reason against an edit: the first one in this order, if there is one
 
--- to put operation o, with what is inside it, at a place, where `free` is the next free id: the place's parent isn't
--- there; no such place; a count would pass its limit; not enough ids are left; too many operations would stand around
--- one; an operand would not be visible
+-- against inserting operation o, with everything inside it, at a place, where `free` is the next free id: the place's
+-- parent is missing; no such place; a count exceeds its limit; not enough ids are left; too deep; an operand would not
+-- be visible
 abbrev pub insert_reason : {N T A : Type 0} → (N → Bool) → Place → OpOf N T A → ℕ → OpOf N T A → Option Refusal
 insert_reason isolated place o free t =
     unless (has_id place.parent t) NoSuchOp
@@ -108,15 +108,15 @@ insert_reason isolated place o free t =
     (unless (fits_around (depth o) (around place.parent t)) TooDeepHere
     (unless (operands_visible isolated (put place o t)) NotVisible None))))))
 
--- to erase operation x: it isn't there; it is the root; a value from there is used outside it
+-- against erasing operation x: it is missing; it is the root; a value defined inside is used outside
 abbrev pub erase_reason : {N T A : Type 0} → ℕ → OpOf N T A → Option Refusal
 erase_reason x t =
     unless (has_id x t) NoSuchOp
     (unless (not (eqb (head t).id x)) IsRoot
     (unless (unused_outside x t) HasUses None))
 
--- to replace a value by another: the first isn't there; the second isn't; their types differ; a user of the first
--- doesn't see the second
+-- against replacing a value by another: the first is missing; the second is missing; their types differ; the second
+-- isn't visible at a user of the first
 abbrev pub replace_reason : {N T A : Type 0} → TestsOf N T → Value → Value → OpOf N T A → Option Refusal
 replace_reason w old new t =
     unless (has_value old t) NoSuchValue
@@ -124,7 +124,7 @@ replace_reason w old new t =
     (unless (option_eq w.same_type (type_of_value old t) (type_of_value new t)) TypeDiffers
     (unless (users_see w.isolated old new t) NotVisible None)))
 
--- why an edit of a tree is refused, where an id is the next free one
+-- the reason against an edit of a tree; `free` is the next free id
 abbrev pub tree_reason : {N T A : Type 0} → TestsOf N T → EditOf N T A → ℕ → OpOf N T A → Option Refusal
 tree_reason w (Insert place o) free t = insert_reason w.isolated place o free t
 tree_reason w (Make place o) free t = put_reason w.isolated place o free t

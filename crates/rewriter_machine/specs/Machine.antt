@@ -1,5 +1,5 @@
--- The machine: what a bench is, and what each call makes of it, as a relation, since memory may be refused and an
--- analysis may turn stale where it is told of an edit. All else is determined.
+-- The machine: the states of a rewriter, and the effect of each call, as a relation. Memory may be refused, and an
+-- analysis may become stale when it is notified of an edit. Everything else is determined.
 use Rattle.std.specs.Prelude.{◌≡◌, ℕ, nat_lt, length, List, [], ◌∷◌, Bool, true, false, ◌⊎◌, Option, Some, None, Result}
 use Rattle.std.specs.Prelude.{Ok, Err, if◌then◌else◌, filter, IsTrue}
 use Rattle.std.specs.List.{find}
@@ -16,50 +16,51 @@ use Rattle.rewriter_machine.specs.Panels.{Shown, AllAge, has_kind, is_kind, Atta
 
 -- ---- states
 
--- an open mark: the module that was held when it was made, and whether it counts among those of which there may be
--- only so many
+-- an open mark: the module when the mark was opened, and whether the mark counts towards the limit
 pub record OpenMark : Type 0 where
   pub marked : Module
   pub counted : Bool
 
--- a module of contents, the open marks, the newest first, and the attached analyses in order
+-- the module, with names, types and attributes instead of ids; the open marks, newest first; the attached analyses in
+-- order
 pub record State : Type 0 where
   pub held : Module
   pub marks : List OpenMark
   pub panel : List Shown
 
--- the most counted marks that may be open
+-- the limit of counted marks
 abbrev pub most_marks : ℕ
 most_marks = 16
 
 abbrev pub counted_marks : List OpenMark → ℕ
 counted_marks marks = length (filter (λ k. k.counted) marks)
 
--- ---- transformations: changes of several edits, made whole or not at all
+-- ---- transformations: atomic changes of several edits
 
--- what came of one
+-- the outcome of a transformation
 pub data Outcome : Type 0 where
-  -- so many operations were swept
+  -- this many operations were swept
   Swept : ℕ → Outcome
-  -- so many rewrites were made, and no rule applies any more
+  -- this many rewrites were made, and no rule applies any more
   Converged : ℕ → Outcome
-  -- so many rewrites were made, which are as many as are allowed
+  -- this many rewrites were made, which is the limit
   Limited : ℕ → Outcome
-  -- so many rules of a conversion stand
+  -- this many rules of a conversion were kept
   Converted : ℕ → Outcome
-  -- a rule was applied so often: once, or not at all
+  -- the number of times that a rule was applied: one or zero
   Applied : ℕ → Outcome
 
--- why one isn't made, and the operation that this is about, where it is about one
+-- the reason that a transformation is refused, and the operation concerned, if there is one
 pub record Fault : Type 0 where
   pub refusal : Refusal
   pub op : Option ℕ
 
 -- a transformation
 pub record Transformation : Type 0 where
-  -- what comes of a module, and the module then; or why it isn't made
+  -- the outcome and the module after it; or the reason for a refusal
   pub transformed : Module → Result (Outcome × Module) Fault
-  -- whether it makes names, types or attributes, and so may be refused where the context is full, which no module shows
+  -- whether it interns names, types or attributes, and so may be refused because the context is full, which the module
+  -- doesn't show
   pub interns : Bool
 
 -- ---- calls and answers
@@ -70,22 +71,22 @@ pub data Call : Type 0 where
   Do : Edit → Call
   -- a transformation
   Change : Transformation → Call
-  -- a mark of the module held, counted or not
+  -- opens a mark of the current module, counted or not
   Mark : Call
   Step : Call
-  -- the newest mark dropped, and its module held again or not
+  -- closes the newest mark, and keeps the module or restores the marked one
   Commit : Call
   Rollback : Call
-  -- an analysis attached; the one of a kind dropped, begun again, or asked for its rows
+  -- attaches an analysis; detaches the one of a kind, restarts it, or reads its rows
   Attach : Shown → Call
   Detach : ℕ → Call
   Resync : ℕ → Call
   Report : ℕ → Call
-  -- the module asked for
+  -- prints the module
   Print : Call
 
--- a reply: accepted, accepted with the id of a new operation or with what came of a transformation, refused, or refused
--- because of an operation
+-- a reply: accepted, accepted with the id of a new operation or with the outcome of a transformation, refused, or
+-- refused because of an operation
 pub data Reply : Type 0 where
   Done : Reply
   DoneAs : ℕ → Reply
@@ -93,20 +94,20 @@ pub data Reply : Type 0 where
   Refused : Refusal → Reply
   RefusedOn : Refusal → ℕ → Reply
 
--- what is shown beside it: nothing, rows, or the module's tree
+-- the output of a call: nothing, rows, or the module's tree
 pub data Shows : Type 0 where
   Nothing : Shows
   Rows : List RowTerm → Shows
   Tree : Operation → Shows
 
--- a reply, what is shown beside it, and the module and the marks after it
+-- a reply, the output, and the module and the marks after the call
 pub record Answer : Type 0 where
   pub reply : Reply
   pub shows : Shows
   pub held : Module
   pub marks : List OpenMark
 
--- a refusal leaves the module and the marks
+-- a refusal leaves the module and the marks unchanged
 abbrev pub refused : Refusal → State → Answer
 refused refusal s = record { reply = Refused refusal; shows = Nothing; held = s.held; marks = s.marks }
 
@@ -114,13 +115,13 @@ refused refusal s = record { reply = Refused refusal; shows = Nothing; held = s.
 abbrev pub done : Module → List OpenMark → Answer
 done m marks = record { reply = Done; shows = Nothing; held = m; marks = marks }
 
--- accepted, showing something, and all stays
+-- accepted, with output, and nothing changed
 abbrev pub showing : Shows → State → Answer
 showing shows s = record { reply = Done; shows = shows; held = s.held; marks = s.marks }
 
--- ---- what is due
+-- ---- the specified answer
 
--- how an edit of a module is accepted: with the new id, where it puts an operation in
+-- the reply to an accepted edit: with the new id, if it inserts an operation
 abbrev pub accepted : Edit → Module → Reply
 accepted (Insert place o) m = DoneAs (head o).id
 accepted (Make place o) m = DoneAs m.next
@@ -136,18 +137,18 @@ abbrev pub due_edit : Option Refusal → Edit → State → Answer
 due_edit None e s = record { reply = accepted e s.held; shows = Nothing; held = edited e s.held; marks = s.marks }
 due_edit (Some refusal) e s = refused refusal s
 
--- how a fault is replied to
+-- the reply to a fault
 abbrev pub fault_reply : Refusal → Option ℕ → Reply
 fault_reply refusal None = Refused refusal
 fault_reply refusal (Some x) = RefusedOn refusal x
 
--- a transformation is made whole, or refused
+-- a transformation is made, or refused
 abbrev pub due_change : Result (Outcome × Module) Fault → State → Answer
 due_change (Ok made) s = record { reply = DoneWith made.0; shows = Nothing; held = made.1; marks = s.marks }
 due_change (Err fault) s =
     record { reply = fault_reply fault.refusal fault.op; shows = Nothing; held = s.held; marks = s.marks }
 
--- the module held, with a mark of it more
+-- the module unchanged, with one more mark
 abbrev pub marked : Bool → State → Answer
 marked counted s = done s.held (record { marked = s.held; counted = counted } ∷ s.marks)
 
@@ -164,7 +165,7 @@ abbrev pub due_report : Option Shown → State → Answer
 due_report None s = refused NoSuchKind s
 due_report (Some a) s = if a.stale then refused Stale s else showing (Rows (a.analysis s.held.tree)) s
 
--- the answer to a call where no memory is refused
+-- the answer to a call if memory is never refused
 abbrev pub due : State → Call → Answer
 due s (Do e) = due_edit (edit_reason e s.held) e s
 due s (Change f) = due_change (f.transformed s.held) s
@@ -180,7 +181,7 @@ due s Print = showing (Tree s.held.tree) s
 
 -- ---- memory
 
--- whether an edit takes memory of its own, also where no mark is open
+-- whether an edit needs memory even if no mark is open
 abbrev pub grows : Edit → Bool
 grows (Insert place o) = true
 grows (Make place o) = true
@@ -191,12 +192,12 @@ grows (Replace old new) = false
 grows (SetAttr x k a) = true
 grows (DropAttr x k) = true
 
--- and where these marks are open: there every edit is noted
+-- the same with these marks open: if there is one, every edit is recorded
 abbrev pub grows_under : List OpenMark → Edit → Bool
 grows_under [] e = grows e
 grows_under (k ∷ ks) e = true
 
--- whether a call may be refused for want of memory
+-- whether a call may be refused because memory ran out
 abbrev pub takes_memory : State → Call → Bool
 takes_memory s (Do e) = grows_under s.marks e
 takes_memory s (Change f) = true
@@ -210,26 +211,27 @@ takes_memory s (Resync kind) = true
 takes_memory s (Report kind) = true
 takes_memory s Print = true
 
--- a call is refused for want of memory, or one that makes names, types or attributes because the context is full
+-- a call is refused because memory ran out, or, if it interns names, types or attributes, because the context is full
 abbrev pub IsUnmade : State → Call → Answer → Type 0
 IsUnmade s (Change f) a = (a ≡ refused Memory s) ⊎ (IsTrue f.interns × (a ≡ refused Full s))
 IsUnmade s _ a = a ≡ refused Memory s
 
--- where a transformation is refused with 31, that is due in the module, or `full` is so, which says that the context is
+-- if a transformation is refused with 31, that is the specified answer, or `full` holds, which says that the context is
+-- full
 abbrev pub IsFullSo : Type 0 → State → Transformation → Reply → Type 0
 IsFullSo full s f reply = reply ≡ Refused Full → (reply ≡ (due s (Change f)).reply) ⊎ full
 
--- the answer that is due, or a refusal for want of memory or of room in the context
+-- the specified answer, or a refusal because memory ran out or the context is full
 abbrev pub IsAnswer : State → Call → Answer → Type 0
 IsAnswer s call a = (a ≡ due s call) ⊎ (IsTrue (takes_memory s call) × IsUnmade s call a)
 
 -- ---- the analyses
 
--- the analyses after a resync that was refused: without memory it may leave the analysis stale
+-- the analyses after a refused resync: if memory ran out, the analysis may be stale
 abbrev pub NotResynced : ℕ → Refusal → List Shown → List Shown → Type 0
 NotResynced kind refusal old new = (new ≡ old) ⊎ ((refusal ≡ Memory) × BegunAgain kind true old new)
 
--- the analyses after a call and its reply: an edit or a transformation, accepted or not, and a rollback may leave some
+-- the analyses after a call and its reply: an edit or a transformation, accepted or not, and a rollback may make some
 -- stale
 abbrev pub PanelGoes : Call → Reply → List Shown → List Shown → Type 0
 PanelGoes (Do e) reply old new = AllAge old new
@@ -254,7 +256,7 @@ PanelGoes Print reply old new = new ≡ old
 
 -- ---- the machine
 
--- from s the machine may answer a call so, and go on to t
+-- the machine may answer a call in this way, and get from s to t
 pub record Goes (s : State) (call : Call) (reply : Reply) (shows : Shows) (t : State) : Type 0 where
   pub answer : IsAnswer s call (record { reply = reply; shows = shows; held = t.held; marks = t.marks })
   pub panel : PanelGoes call reply s.panel t.panel

@@ -7,18 +7,18 @@ use Rattle.rewriter_machine.specs.Machine.{OpenMark, State, Outcome, Call, Do, C
 use Rattle.rewriter_machine.specs.Machine.{Attach, Detach, Resync, Report, Print, Reply, Done, DoneAs, DoneWith}
 use Rattle.rewriter_machine.specs.Machine.{Refused, RefusedOn, Shows, Goes}
 
--- a call and how it was answered
+-- a call and its answer
 pub record Answered : Type 0 where
   pub call : Call
   pub reply : Reply
   pub shows : Shows
 
--- from s the machine may answer these calls so, one after another, and go on to t
+-- the machine may answer these calls in this way, one after another, and get from s to t
 abbrev pub Runs : State → List Answered → State → Type 0
 Runs s [] t = t ≡ s
 Runs s (a ∷ more) t = (u : State) × Goes s a.call a.reply a.shows u × Runs u more t
 
--- what an accepted call makes of a module and of the marks
+-- the module and the marks after an accepted call
 abbrev pub Gives : Call → Module → List OpenMark → Module → List OpenMark → Type 0
 Gives (Do e) m marks n after = (edit_reason e m ≡ None) × (n ≡ edited e m) × (after ≡ marks)
 Gives (Change f) m marks n after = ((o : Outcome) × (f.transformed m ≡ Ok (o, n))) × (after ≡ marks)
@@ -44,7 +44,7 @@ abbrev pub lower : ℕ → Option ℕ
 lower zero = None
 lower (suc n) = Some n
 
--- how many marks are open after a call was accepted, where n were before it, and it closed none but these
+-- the number of open marks after an accepted call with n of these marks before it; none if the call closes another mark
 abbrev pub level_after : Call → ℕ → Option ℕ
 level_after (Do e) n = Some n
 level_after (Change f) n = Some n
@@ -65,16 +65,16 @@ level_answered call (DoneWith o) n = level_after call n
 level_answered call (Refused refusal) n = Some n
 level_answered call (RefusedOn refusal x) n = Some n
 
--- and after a list of them: none, where a mark from before it was closed
+-- the same after a list of calls; none if a mark from before the list was closed
 abbrev pub level : List Answered → ℕ → Option ℕ
 level [] n = Some n
 level (a ∷ more) n = option_and_then (level more) (level_answered a.call a.reply n)
 
--- the calls close each mark that they make, and no other
+-- the calls close exactly the marks that they open
 abbrev pub IsNested : List Answered → Type 0
 IsNested answered = level answered 0 ≡ Some 0
 
--- a call that makes a mark
+-- a call that opens a mark
 abbrev pub IsMarking : Call → Type 0
 IsMarking (Do e) = ⊥
 IsMarking (Change f) = ⊥

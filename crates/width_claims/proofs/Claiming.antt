@@ -1,4 +1,4 @@
--- What is decided of the steps holds of the values.
+-- A decision about the steps holds of the values.
 use Rattle.std.proofs.Common.{◌≡◌, ◌∙◌, ℕ, zero, suc, ◌+◌, ◌%◌, ◌^◌, ◌<◌, ◌≤◌, ◌==◌, ◌&&◌, ◌++◌, nat_lt, ◌⊎◌, inl, inr, ⊎_elim, List, [], ◌∷◌, length, length-append, Bool, true, false, bit_and, if◌then◌else◌, Option, Some, refl, sym, ap, subst, arith, eq-eqb}
 use Rattle.std.proofs.lemmas.Bool.{cases_lt, eqb-true}
 use Rattle.std.proofs.lemmas.List.{append_assoc, append-nil}
@@ -6,36 +6,36 @@ use Rattle.std.proofs.Math.Nat.{mod-eq_of_lt}
 use Rattle.std.proofs.Math.Pow.{pow-lt}
 use Rattle.width_claims.specs.Masks.{IsMask, mask}
 use Rattle.width_claims.proofs.Masking.{are_masks, masks_narrower}
-use Rattle.bit_automata.specs.declared.step.Step.{Step}
-use Rattle.bit_automata.specs.declared.step.Step.TheVariants as step
-use Rattle.bit_automata.specs.Steps.{numbers_then, supposed, supposed_of, truth_at, truths, truths_then}
-use Rattle.bit_automata.specs.declared.verdict.Verdict.{Verdict}
-use Rattle.bit_automata.specs.declared.verdict.Verdict.TheVariants as verdict
-use Rattle.bit_automata.specs.AllWidths.{IsDecided}
+use Rattle.width_claims.specs.declared.step.Step.{Step}
+use Rattle.width_claims.specs.declared.step.Step.TheVariants as step
+use Rattle.width_claims.specs.Steps.{numbers_then, supposed, supposed_of, truth_at, truths, truths_then}
+use Rattle.width_claims.specs.declared.verdict.Verdict.{Verdict}
+use Rattle.width_claims.specs.declared.verdict.Verdict.TheVariants as verdict
+use Rattle.width_claims.specs.AllWidths.{IsDecided}
 use Rattle.width_claims.specs.Claimed.{IsClaim, IsEqualDecided}
 use Rattle.std.specs.Prelude.{IfSome}
 use Rattle.width_claims.specs.declared.form.Form.{Form}
 use Rattle.width_claims.specs.declared.form.Form.TheVariants as form
-use Rattle.width_claims.specs.declared.form.Piece.{Piece}
+use Rattle.width_claims.specs.declared.form.Expr.{Expr}
 use Rattle.width_claims.specs.declared.width.Narrower.{Narrower}
 use Rattle.width_claims.specs.declared.width.Width.{Width}
 use Rattle.width_claims.specs.declared.width.Width.TheVariants as width
 use Rattle.width_claims.specs.PieceValues.{at, piece_values}
 use Rattle.width_claims.specs.Emission.{Claim, condition_steps, block_of, claim_masks, claim_numbers, claim_place, claim_places, claim_steps, claim_truths, emitted, mask_places, narrow_numbers, narrow_steps, narrow_truths, type_numbers, type_steps, type_truths}
 use Rattle.width_claims.specs.Right.{ConditionsHold, AreNarrower, Claims, FitWidths, IsBelow, Represents, numbers}
-use Rattle.width_claims.proofs.Emitting.{emits, last, last_truth, longer, old, truths_behind}
+use Rattle.width_claims.proofs.Emitting.{emits, last, last_truth, longer, old, truths_after}
 
 module _ (W : ℕ) (vs : List ℕ) where
-  supposed_behind : (ss rs : List Step) (ns : List ℕ) (ts : List Bool) → supposed W vs ss ns ts ≡ true → supposed W vs rs (numbers W vs ss ns ts) (truths W vs ss ns ts) ≡ true → supposed W vs (ss ++ rs) ns ts ≡ true
-  supposed_behind [] rs ns ts e f = f
-  supposed_behind (s ∷ ss) rs ns ts e f = go (supposed_of s ns) (λ i j. supposed_behind ss rs (numbers_then W vs s ns ts) (truths_then s ns ts) i j) e
+  supposed_after : (ss rs : List Step) (ns : List ℕ) (ts : List Bool) → supposed W vs ss ns ts ≡ true → supposed W vs rs (numbers W vs ss ns ts) (truths W vs ss ns ts) ≡ true → supposed W vs (ss ++ rs) ns ts ≡ true
+  supposed_after [] rs ns ts e f = f
+  supposed_after (s ∷ ss) rs ns ts e f = go (supposed_of s ns) (λ i j. supposed_after ss rs (numbers_then W vs s ns ts) (truths_then s ns ts) i j) e
     where
       go : (b : Bool) → (supposed W vs ss (numbers_then W vs s ns ts) (truths_then s ns ts) ≡ true → supposed W vs rs (numbers W vs (s ∷ ss) ns ts) (truths W vs (s ∷ ss) ns ts) ≡ true → supposed W vs (ss ++ rs) (numbers_then W vs s ns ts) (truths_then s ns ts) ≡ true)
           → (b && supposed W vs ss (numbers_then W vs s ns ts) (truths_then s ns ts)) ≡ true → (b && supposed W vs (ss ++ rs) (numbers_then W vs s ns ts) (truths_then s ns ts)) ≡ true
       go true ih g = ih g f
       go false ih g = absurd (cc)
 
-  -- nothing is supposed of what pieces emit
+  -- the steps of expressions have no assumptions
   block_free : (m : ℕ) (ms pl : List ℕ) (n t : ℕ) (f : Form) (ns : List ℕ) (ts : List Bool) → supposed W vs (block_of m ms pl n t f).steps ns ts ≡ true
   block_free m ms pl n t (form.Value i) ns ts = refl
   block_free m ms pl n t (form.Literal k) ns ts = refl
@@ -54,11 +54,11 @@ module _ (W : ℕ) (vs : List ℕ) where
   block_free m ms pl n t (form.Zeros i) ns ts = refl
   block_free m ms pl n t (form.Cut i) ns ts = refl
 
-  emitted_free : (ms : List ℕ) (ps : List Piece) (pl : List ℕ) (n t : ℕ) (ns : List ℕ) (ts : List Bool) → supposed W vs (emitted ms ps pl n t) ns ts ≡ true
+  emitted_free : (ms : List ℕ) (ps : List Expr) (pl : List ℕ) (n t : ℕ) (ns : List ℕ) (ts : List Bool) → supposed W vs (emitted ms ps pl n t) ns ts ≡ true
   emitted_free ms [] pl n t ns ts = refl
   emitted_free ms (p ∷ ps) pl n t ns ts =
       let b = block_of (at ms p.ty) ms pl n t p.form in
-      supposed_behind b.steps (emitted ms ps (pl ++ b.result ∷ []) b.numbers b.truths) ns ts (block_free (at ms p.ty) ms pl n t p.form ns ts)
+      supposed_after b.steps (emitted ms ps (pl ++ b.result ∷ []) b.numbers b.truths) ns ts (block_free (at ms p.ty) ms pl n t p.form ns ts)
       (emitted_free ms ps (pl ++ b.result ∷ []) b.numbers b.truths (numbers W vs b.steps ns ts) (truths W vs b.steps ns ts))
 
   -- ---- masks
@@ -72,7 +72,7 @@ module _ (W : ℕ) (vs : List ℕ) where
     alike : length ms ≡ length ds
     masks : (u : ℕ) → u < length ms → (at ms u < n) × (at ns (at ms u) ≡ mask (at ds u))
 
-  -- one mask more, with any numbers after it
+  -- one more mask, with any numbers after it
   mask_more : (ds ms ns new : List ℕ) (ts us : List Bool) (n t k u w : ℕ) → Begun ds ms ns ts n t → ((i : ℕ) → i < n → at new i ≡ at ns i) → length new ≡ k → length us ≡ u → n < k → at new n ≡ mask w
       → Begun (ds ++ w ∷ []) (ms ++ n ∷ []) new us k u
   mask_more ds ms ns new ts us n t k u w b stay many end_truth h is =
@@ -233,7 +233,7 @@ module _ (W : ℕ) (vs : List ℕ) where
       let rest = narrow_stand ws ms ns1 ts2 (n + 1) (t + 2) ps next a.1 in
       (rest.0, (λ r. b2_is r && rest.1 r))
 
-  -- ---- what is asked
+  -- ---- conditions
 
   conditions_hold : (env pl ns : List ℕ) (hs : List ℕ) (ts : List Bool) → at ns 1 ≡ 1 → ((i : ℕ) → i < length env → at ns (at pl i) ≡ at env i) → ConditionsHold env hs
       → (supposed W vs (condition_steps pl hs) ns ts ≡ true) × (numbers W vs (condition_steps pl hs) ns ts ≡ ns) × (length (truths W vs (condition_steps pl hs) ns ts) ≡ length ts + length hs)
@@ -270,7 +270,7 @@ claims c all W vs ws h fit narrow right conditions left_in right_in =
     let pl = claim_places c in
     let T = type_steps c.first_mask c.types 2 in
     let N = narrow_steps ms c.narrower n0 t0 in
-    let E = emitted ms c.pieces [] n1 t1 in
+    let E = emitted ms c.exprs [] n1 t1 in
     let A = condition_steps pl c.conditions in
     let F = step.Equal (at pl c.left) (at pl c.right) ∷ [] in
     let begun = types_stand W vs c.types [] ws [] ns0 [] 2 0 c.first_mask (start_stands W vs h) fit in
@@ -279,22 +279,22 @@ claims c all W vs ws h fit narrow right conditions left_in right_in =
     let nsN = numbers W vs N nsT tsT in
     let tsN = truths W vs N nsT tsT in
     let first = narrow_stand W vs ws ms nsT tsT n0 t0 c.narrower (all_stand W vs ws ms nsT tsT n0 t0 begun.0) narrow in
-    let s = emits W vs ws ms c.pieces [] [] [] nsN tsN n1 t1 first.0 right in
+    let s = emits W vs ws ms c.exprs [] [] [] nsN tsN n1 t1 first.0 right in
     let nsE = numbers W vs E nsN tsN in
     let tsE = truths W vs E nsN tsN in
-    let env = piece_values ws vs c.pieces [] in
+    let env = piece_values ws vs c.exprs [] in
     let values : (i : ℕ) → i < length env → at nsE (at pl i) ≡ at env i = λ i l. (s.values i l).1 in
     let a = conditions_hold W vs env pl nsE c.conditions tsE s.one_there values conditions in
     let nsA = numbers W vs A nsE tsE in
     let tsA = truths W vs A nsE tsE in
     let b = at nsA (at pl c.left) == at nsA (at pl c.right) in
     let so : supposed W vs (T ++ (N ++ (E ++ (A ++ F)))) ns0 [] ≡ true =
-    supposed_behind W vs T (N ++ (E ++ (A ++ F))) ns0 [] begun.1
-    (supposed_behind W vs N (E ++ (A ++ F)) nsT tsT first.1
-    (supposed_behind W vs E (A ++ F) nsN tsN (emitted_free W vs ms c.pieces [] n1 t1 nsN tsN)
-    (supposed_behind W vs A F nsE tsE a.0 refl))) in
+    supposed_after W vs T (N ++ (E ++ (A ++ F))) ns0 [] begun.1
+    (supposed_after W vs N (E ++ (A ++ F)) nsT tsT first.1
+    (supposed_after W vs E (A ++ F) nsN tsN (emitted_free W vs ms c.exprs [] n1 t1 nsN tsN)
+    (supposed_after W vs A F nsE tsE a.0 refl))) in
     let yes = all W h vs so in
-    let ended : truths W vs (T ++ (N ++ (E ++ (A ++ F)))) ns0 [] ≡ tsA ++ b ∷ [] = truths_behind W vs vs vs T (N ++ (E ++ (A ++ F))) ns0 [] ∙ truths_behind W vs vs vs N (E ++ (A ++ F)) nsT tsT ∙ truths_behind W vs vs vs E (A ++ F) nsN tsN ∙ truths_behind W vs vs vs A F nsE tsE in
+    let ended : truths W vs (T ++ (N ++ (E ++ (A ++ F)))) ns0 [] ≡ tsA ++ b ∷ [] = truths_after W vs vs vs T (N ++ (E ++ (A ++ F))) ns0 [] ∙ truths_after W vs vs vs N (E ++ (A ++ F)) nsT tsT ∙ truths_after W vs vs vs E (A ++ F) nsN tsN ∙ truths_after W vs vs vs A F nsE tsE in
     let place : length tsA ≡ claim_place c = a.2 ∙ ap (λ k. k + length c.conditions) s.end_truth in
     let end_truth : b ≡ true = sym (last_truth tsA b (claim_place c) place) ∙ ap (λ ts. truth_at ts (claim_place c)) (sym ended) ∙ yes in
     let same = eqb-true (at nsA (at pl c.left)) (at nsA (at pl c.right)) end_truth in

@@ -1,4 +1,4 @@
--- What is emitted makes numbers that stand for what is made.
+-- The emitted steps compute numbers that represent the values.
 use Rattle.std.proofs.Common.{◌≡◌, ◌∙◌, ℕ, ◌+◌, ◌-◌, ◌%◌, ◌^◌, ◌<◌, ◌≤◌, ◌==◌, ◌++◌, ◌⊎◌, inl, inr, List, [], ◌∷◌, length, length-append, Bool, true, false, nat_lt, if◌then◌else◌, bit_and, bit_or, bit_xor, pos, ◌-ℤ◌, refl, sym, ap, subst, arith}
 use Rattle.std.proofs.lemmas.List.{get_or_append_left}
 use Rattle.std.proofs.Math.Seq.{get_or-append_seam}
@@ -11,11 +11,11 @@ use Rattle.dialects_int.specs.declared.operations.Predicate.TheVariants as predi
 use Rattle.dialects_int.specs.Arithmetic.{choice_of, comparison_of, difference_of, sign_extended, sum_of, truth, zero_extended}
 use Rattle.width_claims.specs.Masks.{differ, less_signed, mask, sign}
 use Rattle.width_claims.proofs.Masking.{masks_cut, masks_difference, masks_extension, masks_less, masks_literal, masks_negative, masks_resize, masks_sum, masks_zeros, shorter}
-use Rattle.bit_automata.specs.declared.step.Step.{Step}
-use Rattle.bit_automata.specs.Steps.{numbers_then, truth_at, truths, truths_then}
+use Rattle.width_claims.specs.declared.step.Step.{Step}
+use Rattle.width_claims.specs.Steps.{numbers_then, truth_at, truths, truths_then}
 use Rattle.width_claims.specs.declared.form.Form.{Form}
 use Rattle.width_claims.specs.declared.form.Form.TheVariants as form
-use Rattle.width_claims.specs.declared.form.Piece.{Piece}
+use Rattle.width_claims.specs.declared.form.Expr.{Expr}
 use Rattle.width_claims.specs.PieceValues.{at, piece_values, piece_value}
 use Rattle.width_claims.specs.Emission.{block_of, emitted, numbers_end, places, truths_end}
 use Rattle.width_claims.specs.Right.{AreRight, Emits, Has, IsBelow, IsRight, Represents, numbers, types}
@@ -55,11 +55,11 @@ zeros_low : (w a : ℕ) → zero_extended w a < 2 ^ w
 unfolding zero_extended
 zeros_low w a = mod-lt a (pow_pos w)
 
--- 0 less 1
+-- -1 as the difference 0 - 1
 all_ones : (w : ℕ) → (0 + (2 ^ w - 1)) % 2 ^ w ≡ mask w
 all_ones w = let p = pow_pos w in let e : 0 + (2 ^ w - 1) ≡ 2 ^ w - 1 = omega arith in ap (λ n. n % 2 ^ w) e ∙ mod-eq_of_lt (omega (arith, p))
 
--- numbers that stay
+-- the earlier numbers don't change
 abbrev Stay : List ℕ → List ℕ → Type 0
 Stay ns ms = (i : ℕ) → i < length ns → at ms i ≡ at ns i
 
@@ -69,7 +69,7 @@ push_steps ns x i l = old ns x i l
 push_more : (ns ms : List ℕ) (x : ℕ) → length ns ≤ length ms → Stay ns ms → Stay ns (ms ++ x ∷ [])
 push_more ns ms x h s i l = old ms x i (omega (arith, l, h)) ∙ s i l
 
--- what a block does
+-- the effect of a block
 record Does (ns : List ℕ) (n : ℕ) (ms : List ℕ) (us : List Bool) (r m u v : ℕ) : Type 0 where
   stay : Stay ns ms
   many : length ms ≡ m
@@ -79,7 +79,7 @@ record Does (ns : List ℕ) (n : ℕ) (ms : List ℕ) (us : List Bool) (r m u v 
   value : at ms r ≡ v
 
 module _ (W : ℕ) (vs ws ms : List ℕ) where
-  -- one value more
+  -- one more value
   more : (env tys pl ns new : List ℕ) (ts us : List Bool) (n t r m u v ty : ℕ) → Represents W ws ms env tys pl ns ts n t → Does ns n new us r m u v → v < 2 ^ at ws ty
       → Represents W ws ms (env ++ v ∷ []) (tys ++ ty ∷ []) (pl ++ r ∷ []) new us m u
   more env tys pl ns new ts us n t r m u v ty s d low =
@@ -132,7 +132,7 @@ module _ (W : ℕ) (vs ws ms : List ℕ) where
   does_one ns us n u x v many end_truth e =
       record { stay = push_steps ns x; many = longer ns x n many; end_truth = end_truth; grown = omega arith; there = omega arith; value = last ns x n many ∙ e }
 
-  -- one number more after others
+  -- one more number after others
   does_next : (ns ms : List ℕ) (us : List Bool) (n m u x v : ℕ) → Stay ns ms → length ns ≡ n → length ms ≡ m → n ≤ m → length us ≡ u → x ≡ v → Does ns n (ms ++ x ∷ []) us m (m + 1) u v
   does_next ns os us n m u x v stay many long h end_truth e =
       record { stay = push_more ns os x (omega (arith, many, long, h)) stay; many = longer os x m long; end_truth = end_truth; grown = omega (arith, h); there = omega arith; value = last os x m long ∙ e }
@@ -157,7 +157,7 @@ module _ (W : ℕ) (vs ws ms : List ℕ) where
       end_truth false = refl
 
   module _ (env tys pl ns : List ℕ) (ts : List Bool) (n t : ℕ) (s : Represents W ws ms env tys pl ns ts n t) where
-    -- where a value is, and how large
+    -- the number of a value, and its range
     record Is (w i : ℕ) : Type 0 where
       place : at pl i < n
       there : at ns (at pl i) ≡ at env i
@@ -442,7 +442,7 @@ module _ (W : ℕ) (vs ws ms : List ℕ) where
           small true h = let g = pow-lt {i = 0} {j = w} h in omega (arith, g)
           small false h = pow_pos w
 
-      -- and its value is one of its type
+      -- and its value is in range of its type
       low_of : (f : Form) → IsRight W ws tys w f → piece_value ws vs w f env < 2 ^ w
       low_of (form.Value i) r = mod-lt (at vs i) (pow_pos w)
       low_of (form.Literal k) r = bits_below w (literal_number false k)
@@ -465,17 +465,17 @@ module _ (W : ℕ) (vs ws ms : List ℕ) where
       low_of (form.Zeros i) r = zeros_low w (at env i)
       low_of (form.Cut i) r = mod-lt (at env i) (pow_pos w)
 
-  -- ---- all pieces
+  -- ---- all expressions
 
-  pub numbers_behind : (ss rs : List Step) (ns : List ℕ) (ts : List Bool) → numbers W vs (ss ++ rs) ns ts ≡ numbers W vs rs (numbers W vs ss ns ts) (truths W vs ss ns ts)
-  numbers_behind [] rs ns ts = refl
-  numbers_behind (s ∷ ss) rs ns ts = numbers_behind ss rs (numbers_then W vs s ns ts) (truths_then s ns ts)
+  pub numbers_after : (ss rs : List Step) (ns : List ℕ) (ts : List Bool) → numbers W vs (ss ++ rs) ns ts ≡ numbers W vs rs (numbers W vs ss ns ts) (truths W vs ss ns ts)
+  numbers_after [] rs ns ts = refl
+  numbers_after (s ∷ ss) rs ns ts = numbers_after ss rs (numbers_then W vs s ns ts) (truths_then s ns ts)
 
-  pub truths_behind : (ss rs : List Step) (ns : List ℕ) (ts : List Bool) → truths W vs (ss ++ rs) ns ts ≡ truths W vs rs (numbers W vs ss ns ts) (truths W vs ss ns ts)
-  truths_behind [] rs ns ts = refl
-  truths_behind (s ∷ ss) rs ns ts = truths_behind ss rs (numbers_then W vs s ns ts) (truths_then s ns ts)
+  pub truths_after : (ss rs : List Step) (ns : List ℕ) (ts : List Bool) → truths W vs (ss ++ rs) ns ts ≡ truths W vs rs (numbers W vs ss ns ts) (truths W vs ss ns ts)
+  truths_after [] rs ns ts = refl
+  truths_after (s ∷ ss) rs ns ts = truths_after ss rs (numbers_then W vs s ns ts) (truths_then s ns ts)
 
-  emits_all : (ps : List Piece) (env tys pl ns : List ℕ) (ts : List Bool) (n t : ℕ) → Represents W ws ms env tys pl ns ts n t → AreRight W ws ps tys
+  emits_all : (ps : List Expr) (env tys pl ns : List ℕ) (ts : List Bool) (n t : ℕ) → Represents W ws ms env tys pl ns ts n t → AreRight W ws ps tys
       → Represents W ws ms (piece_values ws vs ps env) (types ps tys) (places ms ps pl n t) (numbers W vs (emitted ms ps pl n t) ns ts) (truths W vs (emitted ms ps pl n t) ns ts) (numbers_end ms ps pl n t) (truths_end ms ps pl n t)
   emits_all [] env tys pl ns ts n t s r = s
   emits_all (p ∷ ps) env tys pl ns ts n t s r =
@@ -491,9 +491,9 @@ module _ (W : ℕ) (vs ws ms : List ℕ) where
       let m = numbers_end ms (p ∷ ps) pl n t in
       let u = truths_end ms (p ∷ ps) pl n t in
       subst (λ (us : List Bool). Represents W ws ms (piece_values ws vs (p ∷ ps) env) (types (p ∷ ps) tys) (places ms (p ∷ ps) pl n t) (numbers W vs (b.steps ++ after) ns ts) us m u)
-      (sym (truths_behind b.steps after ns ts))
+      (sym (truths_after b.steps after ns ts))
       (subst (λ (ks : List ℕ). Represents W ws ms (piece_values ws vs (p ∷ ps) env) (types (p ∷ ps) tys) (places ms (p ∷ ps) pl n t) ks (truths W vs after (numbers W vs b.steps ns ts) (truths W vs b.steps ns ts)) m u)
-      (sym (numbers_behind b.steps after ns ts)) rest)
+      (sym (numbers_after b.steps after ns ts)) rest)
 
 pub emits : Emits
 emits W vs ws ms ps env tys pl ns ts n t s r = emits_all W vs ws ms ps env tys pl ns ts n t s r

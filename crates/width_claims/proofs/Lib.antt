@@ -2,3 +2,9 @@ pub mod Cutting
 pub mod Masking
 pub mod Emitting
 pub mod Claiming
+pub mod Walking
+pub mod Branching
+pub mod Numbers
+pub mod Invariant
+pub mod Law
+pub mod Small

@@ -1,16 +1,16 @@
--- The steps of pieces. Each value is a number of a width that is none less than theirs; a type's mask stands at a place.
+-- The steps of expressions. Each value is a number of a width that is at least its own, and each type has a mask.
 use Rattle.std.specs.Prelude.{ℕ, ◌+◌, List, [], ◌∷◌, ◌++◌, length}
-use Rattle.bit_automata.specs.declared.step.Step.{Step}
-use Rattle.bit_automata.specs.declared.step.Step.TheVariants as step
+use Rattle.width_claims.specs.declared.step.Step.{Step}
+use Rattle.width_claims.specs.declared.step.Step.TheVariants as step
 use Rattle.width_claims.specs.declared.form.Form.{Form}
 use Rattle.width_claims.specs.declared.form.Form.TheVariants as form
-use Rattle.width_claims.specs.declared.form.Piece.{Piece}
+use Rattle.width_claims.specs.declared.form.Expr.{Expr}
 use Rattle.width_claims.specs.declared.width.Narrower.{Narrower}
 use Rattle.width_claims.specs.declared.width.Width.{Width}
 use Rattle.width_claims.specs.declared.width.Width.TheVariants as width
 use Rattle.width_claims.specs.PieceValues.{at}
 
--- steps, the place of their result, and how many numbers and truths there are after them
+-- steps, the place of their result, and the counts of numbers and truths after them
 pub record Block : Type 0 where
   pub steps : List Step
   pub result : ℕ
@@ -20,8 +20,8 @@ pub record Block : Type 0 where
 abbrev pub block : List Step → ℕ → ℕ → ℕ → Block
 block ss r n t = record { steps = ss; result = r; numbers = n; truths = t }
 
--- of a form, where n numbers and t truths stand before: pl are the places of values, ms those of masks, m that of the
--- form's own mask; 0 and 1 stand at the places 0 and 1
+-- the steps of a form after n numbers and t truths: pl are the places of values, ms those of masks, m that of the
+-- form's own mask; the numbers at places 0 and 1 are 0 and 1
 abbrev pub block_of : ℕ → List ℕ → List ℕ → ℕ → ℕ → Form → Block
 block_of m ms pl n t (form.Value i) = block (step.Variable i ∷ step.And n m ∷ []) (n + 1) (n + 2) t
 block_of m ms pl n t (form.Literal k) = block (step.Literal k ∷ step.And n m ∷ []) (n + 1) (n + 2) t
@@ -64,32 +64,32 @@ block_of m ms pl n t (form.Resize u i) =
 block_of m ms pl n t (form.Zeros i) = block [] (at pl i) n t
 block_of m ms pl n t (form.Cut i) = block (step.And (at pl i) m ∷ []) n (n + 1) t
 
--- the steps of all pieces, and the places of their values
-abbrev pub emitted : List ℕ → List Piece → List ℕ → ℕ → ℕ → List Step
+-- the steps of all expressions, and the places of their values
+abbrev pub emitted : List ℕ → List Expr → List ℕ → ℕ → ℕ → List Step
 emitted ms [] pl n t = []
 emitted ms (p ∷ ps) pl n t =
     (block_of (at ms p.ty) ms pl n t p.form).steps
     ++ emitted ms ps (pl ++ ((block_of (at ms p.ty) ms pl n t p.form).result ∷ [])) ((block_of (at ms p.ty) ms pl n t p.form).numbers) ((block_of (at ms p.ty) ms pl n t p.form).truths)
 
-abbrev pub places : List ℕ → List Piece → List ℕ → ℕ → ℕ → List ℕ
+abbrev pub places : List ℕ → List Expr → List ℕ → ℕ → ℕ → List ℕ
 places ms [] pl n t = pl
 places ms (p ∷ ps) pl n t =
     places ms ps (pl ++ ((block_of (at ms p.ty) ms pl n t p.form).result ∷ [])) ((block_of (at ms p.ty) ms pl n t p.form).numbers) ((block_of (at ms p.ty) ms pl n t p.form).truths)
 
--- how many numbers and truths there are after them
-abbrev pub numbers_end : List ℕ → List Piece → List ℕ → ℕ → ℕ → ℕ
+-- the counts of numbers and truths after them
+abbrev pub numbers_end : List ℕ → List Expr → List ℕ → ℕ → ℕ → ℕ
 numbers_end ms [] pl n t = n
 numbers_end ms (p ∷ ps) pl n t =
     numbers_end ms ps (pl ++ ((block_of (at ms p.ty) ms pl n t p.form).result ∷ [])) ((block_of (at ms p.ty) ms pl n t p.form).numbers) ((block_of (at ms p.ty) ms pl n t p.form).truths)
 
-abbrev pub truths_end : List ℕ → List Piece → List ℕ → ℕ → ℕ → ℕ
+abbrev pub truths_end : List ℕ → List Expr → List ℕ → ℕ → ℕ → ℕ
 truths_end ms [] pl n t = t
 truths_end ms (p ∷ ps) pl n t =
     truths_end ms ps (pl ++ ((block_of (at ms p.ty) ms pl n t p.form).result ∷ [])) ((block_of (at ms p.ty) ms pl n t p.form).numbers) ((block_of (at ms p.ty) ms pl n t p.form).truths)
 
 -- ---- a whole claim
 
--- the masks of types, where those of free ones are variables from v on
+-- the masks of types; the masks of free types are the variables from v on
 abbrev pub type_steps : ℕ → List Width → ℕ → List Step
 type_steps v [] n = []
 type_steps v (width.Free ∷ ks) n =
@@ -111,7 +111,7 @@ type_truths [] t = t
 type_truths (width.Free ∷ ks) t = type_truths ks (t + 2)
 type_truths (width.Fixed m ∷ ks) t = type_truths ks t
 
--- that types are narrower than others, as numbers that are supposed to be 1
+-- the assumptions that types are narrower than others, as numbers that must be 1
 abbrev pub narrow_steps : List ℕ → List Narrower → ℕ → ℕ → List Step
 narrow_steps ms [] n t = []
 narrow_steps ms (p ∷ ps) n t = step.Less (at ms p.narrow) (at ms p.wide) ∷ step.Select t 1 0 ∷ step.Suppose n 1 ∷ narrow_steps ms ps (n + 1) (t + 2)
@@ -124,17 +124,17 @@ abbrev pub narrow_truths : List Narrower → ℕ → ℕ
 narrow_truths [] t = t
 narrow_truths (p ∷ ps) t = narrow_truths ps (t + 2)
 
--- what is asked of values: that they are 1
+-- the assumptions that values are 1
 abbrev pub condition_steps : List ℕ → List ℕ → List Step
 condition_steps pl [] = []
 condition_steps pl (h ∷ hs) = step.Suppose (at pl h) 1 ∷ condition_steps pl hs
 
--- that two values are the same, where what is asked is so
+-- the claim that two values are equal if the conditions hold
 pub record Claim : Type 0 where
   pub first_mask : ℕ
   pub types : List Width
   pub narrower : List Narrower
-  pub pieces : List Piece
+  pub exprs : List Expr
   pub conditions : List ℕ
   pub left : ℕ
   pub right : ℕ
@@ -142,7 +142,7 @@ pub record Claim : Type 0 where
 abbrev pub claim_masks : Claim → List ℕ
 claim_masks c = mask_places c.types [] 2
 
--- how many numbers and truths stand before the pieces
+-- the counts of numbers and truths before the expressions
 abbrev pub claim_numbers : Claim → ℕ
 claim_numbers c = narrow_numbers c.narrower (type_numbers c.types 2)
 
@@ -150,7 +150,7 @@ abbrev pub claim_truths : Claim → ℕ
 claim_truths c = narrow_truths c.narrower (type_truths c.types 0)
 
 abbrev pub claim_places : Claim → List ℕ
-claim_places c = places (claim_masks c) c.pieces [] (claim_numbers c) (claim_truths c)
+claim_places c = places (claim_masks c) c.exprs [] (claim_numbers c) (claim_truths c)
 
 abbrev pub claim_steps : Claim → List Step
 claim_steps c =
@@ -158,11 +158,11 @@ claim_steps c =
     ∷ step.Literal 1
     ∷ (type_steps c.first_mask c.types 2
     ++ (narrow_steps (claim_masks c) c.narrower (type_numbers c.types 2) (type_truths c.types 0)
-    ++ (emitted (claim_masks c) c.pieces [] (claim_numbers c) (claim_truths c)
+    ++ (emitted (claim_masks c) c.exprs [] (claim_numbers c) (claim_truths c)
     ++ (condition_steps (claim_places c) c.conditions ++ (step.Equal (at (claim_places c) c.left) (at (claim_places c) c.right) ∷ [])))))
 
 abbrev pub claim_place : Claim → ℕ
-claim_place c = truths_end (claim_masks c) c.pieces [] (claim_numbers c) (claim_truths c) + length c.conditions
+claim_place c = truths_end (claim_masks c) c.exprs [] (claim_numbers c) (claim_truths c) + length c.conditions
 
-abbrev pub claim_of : ℕ → List Width → List Narrower → List Piece → List ℕ → ℕ → ℕ → Claim
-claim_of v ks ns ps hs l r = record { first_mask = v; types = ks; narrower = ns; pieces = ps; conditions = hs; left = l; right = r }
+abbrev pub claim_of : ℕ → List Width → List Narrower → List Expr → List ℕ → ℕ → ℕ → Claim
+claim_of v ks ns ps hs l r = record { first_mask = v; types = ks; narrower = ns; exprs = ps; conditions = hs; left = l; right = r }

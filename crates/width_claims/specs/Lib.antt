@@ -4,3 +4,9 @@ pub mod Emission
 pub mod Right
 pub mod Blocks
 pub mod Claimed
+pub mod Runs
+pub mod Walks
+pub mod Transitions
+pub mod Steps
+pub mod BitSerial
+pub mod AllWidths

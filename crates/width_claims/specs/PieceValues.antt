@@ -1,16 +1,16 @@
--- What pieces compute where each type has a width.
+-- The values of expressions, if each type has a width.
 use Rattle.std.specs.Prelude.{ℕ, ◌%◌, ◌^◌, ◌==◌, List, [], ◌∷◌, ◌++◌, true, false, nat_lt, get_or, bit_and, bit_or, bit_xor}
 use Rattle.ir_types.specs.Readings.{literal_number, wrapped}
 use Rattle.dialects_int.specs.declared.operations.Predicate.TheVariants as predicate
 use Rattle.dialects_int.specs.Arithmetic.{choice_of, comparison_of, difference_of, sign_extended, sum_of, truth, zero_extended}
 use Rattle.width_claims.specs.declared.form.Form.{Form}
 use Rattle.width_claims.specs.declared.form.Form.TheVariants as form
-use Rattle.width_claims.specs.declared.form.Piece.{Piece}
+use Rattle.width_claims.specs.declared.form.Expr.{Expr}
 
 abbrev pub at : List ℕ → ℕ → ℕ
 at xs i = get_or xs i 0
 
--- a form's value, of its width, the widths of all types, the variables, and the values before
+-- the value of a form, given its width, the widths of all types, the variables, and the values before
 abbrev pub piece_value : List ℕ → List ℕ → ℕ → Form → List ℕ → ℕ
 piece_value ws vs w (form.Value i) env = at vs i % 2 ^ w
 piece_value ws vs w (form.Literal n) env = wrapped w (literal_number false n)
@@ -29,6 +29,6 @@ piece_value ws vs w (form.Resize u i) env = sign_extended (at ws u) w (at env i)
 piece_value ws vs w (form.Zeros i) env = zero_extended w (at env i)
 piece_value ws vs w (form.Cut i) env = at env i % 2 ^ w
 
-abbrev pub piece_values : List ℕ → List ℕ → List Piece → List ℕ → List ℕ
+abbrev pub piece_values : List ℕ → List ℕ → List Expr → List ℕ → List ℕ
 piece_values ws vs [] env = env
 piece_values ws vs (p ∷ ps) env = piece_values ws vs ps (env ++ (piece_value ws vs (at ws p.ty) p.form env ∷ []))

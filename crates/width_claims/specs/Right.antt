@@ -1,14 +1,14 @@
--- Numbers of one width that stand for values of several.
+-- Numbers of one width that represent values of several widths.
 use Rattle.std.specs.Prelude.{◌≡◌, ℕ, ◌+◌, ◌^◌, ◌<◌, ◌≤◌, List, [], ◌∷◌, ◌++◌, Bool, length}
-use Rattle.bit_automata.specs.declared.step.Step.{Step}
-use Rattle.bit_automata.specs.Steps.{numbers_then, truths, truths_then}
+use Rattle.width_claims.specs.declared.step.Step.{Step}
+use Rattle.width_claims.specs.Steps.{numbers_then, truths, truths_then}
 use Rattle.width_claims.specs.Masks.{mask}
 use Rattle.width_claims.specs.declared.form.Form.{Form}
 use Rattle.width_claims.specs.declared.form.Form.TheVariants as form
-use Rattle.width_claims.specs.declared.form.Piece.{Piece}
+use Rattle.width_claims.specs.declared.form.Expr.{Expr}
 use Rattle.width_claims.specs.PieceValues.{at, piece_values}
 use Rattle.width_claims.specs.Emission.{Claim, claim_place, claim_steps, emitted, numbers_end, places, truths_end}
-use Rattle.bit_automata.specs.AllWidths.{IsTrueAtAllWidths}
+use Rattle.width_claims.specs.AllWidths.{IsTrueAtAllWidths}
 use Rattle.width_claims.specs.declared.width.Narrower.{Narrower}
 use Rattle.width_claims.specs.declared.width.Width.{Width}
 use Rattle.width_claims.specs.declared.width.Width.TheVariants as width
@@ -18,15 +18,15 @@ abbrev pub numbers : ℕ → List ℕ → List Step → List ℕ → List Bool �
 numbers W vs [] ns ts = ns
 numbers W vs (s ∷ ss) ns ts = numbers W vs ss (numbers_then W vs s ns ts) (truths_then s ns ts)
 
--- a width of some bits, W at most
+-- a width of at least 1 and at most W bits
 abbrev pub IsBelow : ℕ → ℕ → Type 0
 IsBelow W w = (1 ≤ w) × (w ≤ W)
 
--- the value at a place has a type of the width w
+-- the type of the value at a place has width w
 abbrev pub Has : List ℕ → List ℕ → ℕ → ℕ → Type 0
 Has ws tys w i = (i < length tys) × (at ws (at tys i) ≡ w)
 
--- a form's operands have the widths that it asks for, and a number that is written is one of its type
+-- the operands of a form have the widths that it needs, and a literal is in range of its type
 abbrev pub IsRight : ℕ → List ℕ → List ℕ → ℕ → Form → Type 0
 IsRight W ws tys w (form.Value i) = Unit {0}
 IsRight W ws tys w (form.Literal n) = n < 2 ^ w
@@ -45,11 +45,11 @@ IsRight W ws tys w (form.Resize u i) = IsBelow W (at ws u) × Has ws tys (at ws 
 IsRight W ws tys w (form.Zeros i) = (i < length tys) × (at ws (at tys i) ≤ w)
 IsRight W ws tys w (form.Cut i) = i < length tys
 
-abbrev pub AreRight : ℕ → List ℕ → List Piece → List ℕ → Type 0
+abbrev pub AreRight : ℕ → List ℕ → List Expr → List ℕ → Type 0
 AreRight W ws [] tys = Unit {0}
 AreRight W ws (p ∷ ps) tys = IsBelow W (at ws p.ty) × IsRight W ws tys (at ws p.ty) p.form × AreRight W ws ps (tys ++ (p.ty ∷ []))
 
--- n numbers and t truths: each type's mask is at its place, and so is each value
+-- n numbers and t truths: the masks of types and the values are at their places
 pub record Represents (W : ℕ) (ws ms env tys pl ns : List ℕ) (ts : List Bool) (n t : ℕ) : Type 0 where
   pub many : length ns ≡ n
   pub end_truth : length ts ≡ t
@@ -62,21 +62,21 @@ pub record Represents (W : ℕ) (ws ms env tys pl ns : List ℕ) (ts : List Bool
   pub values : (i : ℕ) → i < length env → (at pl i < n) × (at ns (at pl i) ≡ at env i) × (at env i < 2 ^ at ws (at tys i))
 
 -- the types of all values
-abbrev pub types : List Piece → List ℕ → List ℕ
+abbrev pub types : List Expr → List ℕ → List ℕ
 types [] tys = tys
 types (p ∷ ps) tys = types ps (tys ++ (p.ty ∷ []))
 
--- what is emitted makes numbers that stand for what is made
+-- the emitted steps compute numbers that represent the values
 abbrev pub Emits : Type 0
 Emits =
-    (W : ℕ) (vs ws ms : List ℕ) (ps : List Piece) (env tys pl ns : List ℕ) (ts : List Bool) (n t : ℕ)
+    (W : ℕ) (vs ws ms : List ℕ) (ps : List Expr) (env tys pl ns : List ℕ) (ts : List Bool) (n t : ℕ)
     → Represents W ws ms env tys pl ns ts n t → AreRight W ws ps tys
     → Represents W ws ms (piece_values ws vs ps env) (types ps tys) (places ms ps pl n t) (numbers W vs (emitted ms ps pl n t) ns ts) (truths W vs (emitted ms ps pl n t) ns ts)
     (numbers_end ms ps pl n t) (truths_end ms ps pl n t)
 
 -- ---- a whole claim
 
--- widths that types may have, and their masks among the variables
+-- widths that the types may have, with their masks among the variables
 abbrev pub FitWidths : ℕ → List ℕ → ℕ → List Width → List ℕ → Type 0
 FitWidths W vs v [] [] = Unit {0}
 FitWidths W vs v (width.Free ∷ ks) (w ∷ ws) = IsBelow W w × (at vs v ≡ mask w) × FitWidths W vs (v + 1) ks ws
@@ -88,18 +88,18 @@ abbrev pub AreNarrower : List ℕ → List Narrower → Type 0
 AreNarrower ws [] = Unit {0}
 AreNarrower ws (p ∷ ps) = (at ws p.narrow < at ws p.wide) × AreNarrower ws ps
 
--- what is asked of values is so
+-- the conditions hold
 abbrev pub ConditionsHold : List ℕ → List ℕ → Type 0
 ConditionsHold env [] = Unit {0}
 ConditionsHold env (h ∷ hs) = (h < length env) × (at env h ≡ 1) × ConditionsHold env hs
 
--- the two values are the same, at all widths that the types may have, for all variables, where what is asked is so
+-- the two values are equal at all widths that the types may have, for all variables that satisfy the conditions
 abbrev pub IsEqualAtAllWidths : Claim → Type 0
 IsEqualAtAllWidths c =
-    (W : ℕ) (vs ws : List ℕ) → 1 ≤ W → FitWidths W vs c.first_mask c.types ws → AreNarrower ws c.narrower → AreRight W ws c.pieces [] → ConditionsHold (piece_values ws vs c.pieces []) c.conditions
-    → c.left < length (piece_values ws vs c.pieces []) → c.right < length (piece_values ws vs c.pieces [])
-    → at (piece_values ws vs c.pieces []) c.left ≡ at (piece_values ws vs c.pieces []) c.right
+    (W : ℕ) (vs ws : List ℕ) → 1 ≤ W → FitWidths W vs c.first_mask c.types ws → AreNarrower ws c.narrower → AreRight W ws c.exprs [] → ConditionsHold (piece_values ws vs c.exprs []) c.conditions
+    → c.left < length (piece_values ws vs c.exprs []) → c.right < length (piece_values ws vs c.exprs [])
+    → at (piece_values ws vs c.exprs []) c.left ≡ at (piece_values ws vs c.exprs []) c.right
 
--- what is decided of the steps holds of the values
+-- a decision about the steps holds of the values
 abbrev pub Claims : Type 0
 Claims = (c : Claim) → IsTrueAtAllWidths (claim_steps c) (claim_place c) → IsEqualAtAllWidths c

@@ -5,7 +5,7 @@ ghost use Rattle.width_claims.specs.Emission.{block, block_of};
 ghost use Rattle.width_claims.specs.Blocks.{IsBlock};
 
 use crate::form::Form;
-use bit_automata::step::Step;
+use crate::step::Step;
 use std::alloc::AllocError;
 
 /// The place of a form's number, and the counts of numbers and truths after its steps.

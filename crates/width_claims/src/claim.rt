@@ -3,13 +3,13 @@ ghost use Rattle.std.specs.Prelude.{◌≡◌, [], IfOk, IfSome};
 ghost use Rattle.width_claims.specs.Emission.{claim_of};
 ghost use Rattle.width_claims.specs.Claimed.{IsClaim, IsEqualDecided};
 
+use crate::all_widths::decide_all_widths;
 use crate::block::at;
 use crate::emit::{emit_conditions, emit_narrower, emit_pieces, emit_types};
-use crate::form::Piece;
+use crate::form::Expr;
+use crate::step::Step;
+use crate::verdict::Verdict;
 use crate::width::{Narrower, Width};
-use bit_automata::all_widths::decide_all_widths;
-use bit_automata::step::Step;
-use bit_automata::verdict::Verdict;
 use std::alloc::{AllocError, Global};
 
 /// Writes the steps of a claim to an empty list. Returns the place of its truth, unless there are too many steps.
@@ -18,14 +18,14 @@ fn emit_claim(
     first_mask: usize,
     types: &[Width],
     narrower: &[Narrower],
-    pieces: &[Piece],
+    exprs: &[Expr],
     conditions: &[usize],
     left: usize,
     right: usize,
     steps: &mut Vec<Step>,
 ) -> Result<Option<usize>, AllocError>
     requires { steps.old.items ≡ [] }
-    ensures { IfOk result (λ p. IfSome p (IsClaim (claim_of first_mask types.now narrower.now pieces.now conditions.now left right) steps.new.items)) }
+    ensures { IfOk result (λ p. IfSome p (IsClaim (claim_of first_mask types.now narrower.now exprs.now conditions.now left right) steps.new.items)) }
 {
     steps.extend_from_slice(&[Step::Literal(0), Step::Literal(1)])?;
     let mut masks = Vec::new(alloc);
@@ -46,7 +46,7 @@ fn emit_claim(
     let mut places = Vec::new(alloc);
     let piece_values = emit_pieces(
         masks.as_slice(),
-        pieces,
+        exprs,
         &mut places,
         steps,
         ordered.numbers,
@@ -62,23 +62,23 @@ fn emit_claim(
 }
 
 /// Decides whether two values are equal at all widths that the types may have, for all variables for which the
-/// conditions hold. Visits at most `most` states.
+/// conditions hold. Looks at no more than `most` transitions, as `decide_all_widths`.
 pub fn decide_equal(
     alloc: Global,
     first_mask: usize,
     types: &[Width],
     narrower: &[Narrower],
-    pieces: &[Piece],
+    exprs: &[Expr],
     conditions: &[usize],
     left: usize,
     right: usize,
     most: usize,
 ) -> Result<Verdict, AllocError>
-    ensures { IfOk result (IsEqualDecided (claim_of first_mask types.now narrower.now pieces.now conditions.now left right)) }
+    ensures { IfOk result (IsEqualDecided (claim_of first_mask types.now narrower.now exprs.now conditions.now left right)) }
 {
     let mut steps = Vec::new(alloc);
     let place = emit_claim(
-        alloc, first_mask, types, narrower, pieces, conditions, left, right, &mut steps,
+        alloc, first_mask, types, narrower, exprs, conditions, left, right, &mut steps,
     )?;
     let Some(place) = place else {
         return Ok(Verdict::TooMany);

@@ -4,19 +4,19 @@ ghost use Rattle.width_claims.specs.Emission.{condition_steps};
 ghost use Rattle.width_claims.specs.Blocks.{AreNarrow, ArePieces, AreTypes};
 
 use crate::block::{at, block};
-use crate::form::Piece;
+use crate::form::Expr;
+use crate::step::Step;
 use crate::width::{Narrower, Width};
-use bit_automata::step::Step;
 use std::alloc::AllocError;
 
-/// The counts of numbers and truths.
+/// The numbers of numbers and truths.
 #[derive(Clone, Copy)]
 pub struct Counts {
     pub numbers: usize,
     pub truths: usize,
 }
 
-/// The most of them.
+/// The limit of numbers and truths.
 const MOST: usize = 100000;
 
 /// Appends the masks of types, and their places. The masks of free types are the variables from `v` on.
@@ -59,7 +59,7 @@ pub fn emit_types(
     }
 }
 
-/// Appends the suppositions that types are narrower than others.
+/// Appends the assumptions that types are narrower than others.
 pub fn emit_narrower(
     masks: &[usize],
     narrower: &[Narrower],
@@ -86,40 +86,40 @@ pub fn emit_narrower(
     emit_narrower(masks, tail, steps, n + 1, t + 2)
 }
 
-/// Appends the steps of pieces, and the places of their numbers.
+/// Appends the steps of expressions, and the places of their numbers.
 pub fn emit_pieces(
     masks: &[usize],
-    pieces: &[Piece],
+    exprs: &[Expr],
     places: &mut Vec<usize>,
     steps: &mut Vec<Step>,
     n: usize,
     t: usize,
 ) -> Result<Option<Counts>, AllocError>
-    ensures { IfOk result (λ c. IfSome c (ArePieces masks.now pieces.now n t places.old.items steps.old.items places.new.items steps.new.items)) }
+    ensures { IfOk result (λ c. IfSome c (ArePieces masks.now exprs.now n t places.old.items steps.old.items places.new.items steps.new.items)) }
 {
     if n > MOST || t > MOST {
         return Ok(None);
     }
-    let [piece, tail @ ..] = pieces else {
+    let [expr, tail @ ..] = exprs else {
         return Ok(Some(Counts {
             numbers: n,
             truths: t,
         }));
     };
     let ends = block(
-        at(masks, piece.ty),
+        at(masks, expr.ty),
         masks,
         places.as_slice(),
         n,
         t,
-        &piece.form,
+        &expr.form,
         steps,
     )?;
     places.push(ends.result)?;
     emit_pieces(masks, tail, places, steps, ends.numbers, ends.truths)
 }
 
-/// Appends the suppositions that values are 1.
+/// Appends the assumptions that values are 1.
 pub fn emit_conditions(
     places: &[usize],
     conditions: &[usize],

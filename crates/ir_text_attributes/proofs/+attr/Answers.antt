@@ -15,13 +15,13 @@ use Rattle.ir_text_attributes.proofs.PartLaws.{attrs_known, entries_known}
 use Rattle.ir_text_attributes.proofs.MarkSteps.{attr_mark}
 use Rattle.ir_text_attributes.proofs.+attr.Goals as goal
 
-pub arrays::array-kept-requires : goal.arrays::array-kept-requires
-arrays::array-kept-requires t c =
+pub arrays::array-intern_node-requires : goal.arrays::array-intern_node-requires
+arrays::array-intern_node-requires t c =
     let k = attrs_known c.args.depth (attr_at c.args.opaque c.args.depth) (IsAttr c.args.opaque c.args.depth) (attr_exact c.args.opaque c.args.depth) c.args.bytes.now _ c.args.ctx.now c.attrs.new.ctx c.in-Ok.found.0.items c.sound.ensures c.in-Ok.ensures.reads in
     rw c.new.ensures k
 
-pub dictionaries::dictionary-kept-requires : goal.dictionaries::dictionary-kept-requires
-dictionaries::dictionary-kept-requires t c =
+pub dictionaries::dictionary-intern_node-requires : goal.dictionaries::dictionary-intern_node-requires
+dictionaries::dictionary-intern_node-requires t c =
     let k = entries_known c.args.depth (attr_at c.args.opaque c.args.depth) (IsAttr c.args.opaque c.args.depth) (attr_exact c.args.opaque c.args.depth) c.args.bytes.now _ c.args.ctx.now c.entries.new.ctx c.in-Ok.found.0.items c.sound.ensures c.in-Ok.ensures.reads in
     rw c.new.ensures k
 

@@ -1,6 +1,6 @@
 use Rattle.std.proofs.Common.{◌≡◌, ◌*◌, ◌+◌, ◌-◌, length}
 use Rattle.ir_text_tokens.specs.declared.token.Mark.TheVariants.{CloseCurly, CloseSquare}
-use Rattle.ir_types.specs.Things.{Grows}
+use Rattle.ir_types.specs.Things.{IsExtendedBy}
 use Rattle.ir_text_types.specs.Lists.{more_at}
 use Rattle.ir_text_types.specs.Typed.{after_typed}
 use Rattle.ir_text_types.specs.TypeReading.{many}
@@ -34,13 +34,13 @@ decreases-attributes::mark_attr l = 8 * l.depth + 5
 abbrev pub invariant-arrays::attrs-items : goal.invariant-arrays::attrs-items
 invariant-arrays::attrs-items l = record {
   reads : more_at after_typed CloseSquare (λ before. attr_at l.opaque l.depth) (many - l.counter) l.items.items (l.rest, l.ctx) ≡ attrs_by l.depth (attr_at l.opaque l.depth) (l.bytes, l.initial.ctx);
-  grows : Grows l.initial.ctx l.ctx;
+  grows : IsExtendedBy l.initial.ctx l.ctx;
   count : length l.items.items ≡ l.counter;
 }
 
 abbrev pub invariant-dictionaries::entries-items : goal.invariant-dictionaries::entries-items
 invariant-dictionaries::entries-items l = record {
   reads : more_at after_typed CloseCurly (entry_by l.depth (attr_at l.opaque l.depth)) (256 - l.counter) l.items.items (l.rest, l.ctx) ≡ entries_by l.depth (attr_at l.opaque l.depth) (l.bytes, l.initial.ctx);
-  grows : Grows l.initial.ctx l.ctx;
+  grows : IsExtendedBy l.initial.ctx l.ctx;
   count : length l.items.items ≡ l.counter;
 }

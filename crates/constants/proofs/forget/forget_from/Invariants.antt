@@ -6,6 +6,6 @@ use Rattle.constants.proofs.forget.forget_from.Given as goal
 abbrev pub invariant-loop-next : goal.invariant-loop-next
 invariant-loop-next l = ForgetsFrom look_in uses_in l.fn.op (known_in l.fn.table) (known_in l.table) l.trail.items l.next l.fn.view.world.now l.view.world.now l.fn.view.looks l.view.looks
 
--- a trail is no longer than memory
+-- the length of a trail is limited by memory
 abbrev pub decreases-loop-next : goal.decreases-loop-next
 decreases-loop-next l = 2 ^ 64 - l.next

@@ -1,5 +1,5 @@
 use Rattle.std.proofs.Common.{◌≡◌, ◌++◌, drop, map}
-use Rattle.id_map.specs.Map.{entries_from}
+use Rattle.listeners_support.specs.Map.{entries_from}
 use Rattle.ir_event.specs.declared.row.Row.{Row}
 use Rattle.constants.specs.Tables.{cells_of}
 use Rattle.constants.proofs.report.push_near.Given as goal

@@ -1,5 +1,5 @@
 use Rattle.std.proofs.Common.{Some, subst}
-use Rattle.id_map.specs.Map as idmap
+use Rattle.listeners_support.specs.Map as idmap
 use Rattle.constants.proofs.Tables.{written}
 use Rattle.constants.proofs.table.note.Goals as goal
 

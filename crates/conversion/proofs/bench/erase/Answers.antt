@@ -1,5 +1,5 @@
 use Rattle.std.proofs.Common.{inl, refl, Ok}
-use Rattle.patterns.specs.Benched.{state_of}
+use Rattle.patterns.specs.RewriterCalls.{state_of}
 use Rattle.conversion_base.specs.Edits.{Erase}
 use Rattle.patterns.proofs.of_runs.Carrying.{tried_by, unmade_by}
 use Rattle.conversion.proofs.Seen.{leads_on}

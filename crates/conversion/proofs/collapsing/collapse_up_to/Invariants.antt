@@ -6,10 +6,10 @@ use Rattle.conversion.proofs.collapsing.collapse_up_to.Given as goal
 
 abbrev pub invariant-casts : goal.invariant-casts
 invariant-casts g l =
-    Collapsing l.most (g.B.Rewriting.state l.initial.bench) l.left (g.B.Rewriting.state l.bench)
-    × Leads g.B.Rewriting.state g.B.Rewriting.desk g.B.Rewriting.led l.initial.bench l.bench
-    × HaveCasts l.ops (g.B.Rewriting.state l.bench).held.tree
-    × Walked l.ops l.walk.passed l.walk.again.keys (g.B.Rewriting.state l.bench).held
+    Collapsing l.most (g.B.ConversionRewriter.state l.initial.bench) l.left (g.B.ConversionRewriter.state l.bench)
+    × Leads g.B.ConversionRewriter.state g.B.ConversionRewriter.transaction g.B.ConversionRewriter.led l.initial.bench l.bench
+    × HaveCasts l.ops (g.B.ConversionRewriter.state l.bench).held.tree
+    × Walked l.ops l.walk.passed l.walk.again.keys (g.B.ConversionRewriter.state l.bench).held
 
 abbrev pub decreases-casts : goal.decreases-casts
 decreases-casts g l = l.left

@@ -1,7 +1,7 @@
 use Rattle.std.proofs.Common.{◌*◌, ◌+◌, ◌-◌, false, [], ◌∷◌, length}
-use Rattle.conversion_base.specs.Legalization.{behind, each_of, legalization_of, made_since}
-use Rattle.conversion.specs.States.{Leads, stood_since}
-use Rattle.conversion_base.specs.Targets.{aim_of}
+use Rattle.conversion_base.specs.Legalization.{trailing, each_of, legalization_of, made_since}
+use Rattle.conversion.specs.States.{Leads, applied_since}
+use Rattle.conversion_base.specs.Targets.{target_model}
 use Rattle.conversion.proofs.Trying.{Making, Trying}
 use Rattle.conversion.proofs.legalise.+legalise.Given as goal
 
@@ -28,13 +28,13 @@ decreases-each_made-made g l = l.end - l.id
 
 abbrev pub invariant-first_rule-rules : goal.invariant-first_rule-rules
 invariant-first_rule-rules g l =
-    Trying (legalization_of (aim_of (g.B.Rewriting.state l.initial.bench).things l.target) l.below) l.op l.target.rules l.rest (g.B.Rewriting.state l.initial.bench) (g.B.Rewriting.state l.bench) l.met
-    × Leads g.B.Rewriting.state g.B.Rewriting.desk g.B.Rewriting.led l.initial.bench l.bench
+    Trying (legalization_of (target_model (g.B.ConversionRewriter.state l.initial.bench).things l.target) l.below) l.op l.target.rules l.rest (g.B.ConversionRewriter.state l.initial.bench) (g.B.ConversionRewriter.state l.bench) l.limit_reached
+    × Leads g.B.ConversionRewriter.state g.B.ConversionRewriter.transaction g.B.ConversionRewriter.led l.initial.bench l.bench
 
 abbrev pub invariant-each_made-made : goal.invariant-each_made-made
 invariant-each_made-made g l =
-    Making (legalization_of (aim_of (g.B.Rewriting.state l.initial.bench).things l.target) l.below)
-    (behind (stood_since l.fn.rule l.fn.op l.from (g.B.Rewriting.state l.initial.bench).held ∷ []) false
-    (each_of (legalization_of (aim_of (g.B.Rewriting.state l.initial.bench).things l.target) l.below) (made_since l.from (g.B.Rewriting.state l.initial.bench).held) (g.B.Rewriting.state l.initial.bench).held))
-    l.id l.end (g.B.Rewriting.state l.bench) l.fired.items l.met
-    × Leads g.B.Rewriting.state g.B.Rewriting.desk g.B.Rewriting.led l.initial.bench l.bench
+    Making (legalization_of (target_model (g.B.ConversionRewriter.state l.initial.bench).things l.target) l.below)
+    (trailing (applied_since l.fn.rule l.fn.op l.from (g.B.ConversionRewriter.state l.initial.bench).held ∷ []) false
+    (each_of (legalization_of (target_model (g.B.ConversionRewriter.state l.initial.bench).things l.target) l.below) (made_since l.from (g.B.ConversionRewriter.state l.initial.bench).held) (g.B.ConversionRewriter.state l.initial.bench).held))
+    l.id l.end (g.B.ConversionRewriter.state l.bench) l.applied.items l.limit_reached
+    × Leads g.B.ConversionRewriter.state g.B.ConversionRewriter.transaction g.B.ConversionRewriter.led l.initial.bench l.bench

@@ -1,5 +1,5 @@
 use Rattle.std.proofs.Common.{◌≡◌, ◌∷◌, length}
-use Rattle.conversion.specs.Staying.{last_rule}
+use Rattle.conversion.specs.MatchFailures.{last_rule}
 use Rattle.conversion.proofs.why.last_of.Given as goal
 
 abbrev pub invariant-rules : goal.invariant-rules

@@ -1,6 +1,6 @@
 use Rattle.std.proofs.Common.{◌≡◌, ◌∙◌, ap, sym, subst, ℕ, Some}
-use Rattle.patterns_edits.specs.Lists.{AllFit, edits_meaning}
-use Rattle.patterns_base.specs.Looks.{in_front}
+use Rattle.patterns_base.specs.Lists.{AllFit, edits_meaning}
+use Rattle.patterns_base.specs.Looks.{insertion_point}
 use Rattle.conversion_base.specs.Numbers.{cast_edits}
 use Rattle.conversion_base.proofs.Recast.{cast_fits, cast_meant, none_ends, none_placed, none_taken, none_there, some_taken}
 use Rattle.conversion_base.proofs.casts.index_edits.Goals as goal
@@ -27,7 +27,7 @@ returns-clause-edits c =
     let ctx = c.args.world.now.ctx in
     let m = c.args.world.now.store.module_of in
     let ends = c.in-Some-ends_of.ends in
-    let front = in_front c.args.op c.in-Some-place.place in
+    let front = insertion_point c.args.op c.in-Some-place.place in
     let next : c.new-next.result ≡ m.next = c.new-next.ensures ∙ c.next_id.ensures in
     ap Some (ap (edits_meaning ctx) (c.in_ok-edits.ensures ∙ ap (λ (k : ℕ). cast_edits front k c.args.op ends.operand ends.ty) next) ∙ cast_meant ctx c.sound.ensures front m.next c.args.op ends.operand ends.ty)
     ∙ some_taken ctx m.tree m.next c.args.op c.in-Some.node c.in-Some.ensures.node c.in-Some-place.place c.in-Some-place.ensures ends c.in-Some-ends_of.ensures.ends
@@ -37,5 +37,5 @@ pub returns-clause-fit : goal.returns-clause-fit
 returns-clause-fit c =
     let ctx = c.args.world.now.ctx in
     let ends = c.in-Some-ends_of.ends in
-    let front = in_front c.args.op c.in-Some-place.place in
+    let front = insertion_point c.args.op c.in-Some-place.place in
     subst (AllFit ctx) (sym c.in_ok-edits.ensures) (cast_fits ctx c.sound.ensures front c.new-next.result c.args.op ends.operand ends.ty (c.in-Some-ends_of.ensures.of ctx c.in-Some.ensures.of))

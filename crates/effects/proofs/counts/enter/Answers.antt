@@ -1,6 +1,6 @@
 use Rattle.std.proofs.Common.{◌≡◌, ℕ, ◌*◌, ◌<◌, ◌≤◌, Some, true, arith, rules, length}
 use Rattle.std.specs.Ordering.{nat_cmp}
-use Rattle.id_map.specs.Map as idmap
+use Rattle.listeners_support.specs.Map as idmap
 use Rattle.effects.specs.Counts.{counts_in}
 use Rattle.effects.specs.Marks.{is_zero}
 use Rattle.effects.proofs.Changes.{on_true_is}

@@ -2,7 +2,7 @@ use Rattle.std.proofs.Common.{subst, is_some, ◌≡◌, ℕ, ◌≤◌, Some, t
 use Rattle.std.specs.Prelude.{IsSome}
 use Rattle.std.specs.Ordering.{nat_cmp}
 use Rattle.std.specs.BTreeMap.{is_at}
-use Rattle.id_map.specs.Map as idmap
+use Rattle.listeners_support.specs.Map as idmap
 use Rattle.effects.specs.Counts.{counts_in, with_count}
 use Rattle.effects.specs.Marks.{is_zero}
 use Rattle.effects.proofs.Changes.{on_true_is}

@@ -12,6 +12,6 @@ use Rattle.greedy.proofs.journal.touched.Goals as goal
 pub returns-clause-ok : goal.returns-clause-ok
 returns-clause-ok g c =
     let w = c.world.result.now in
-    let h = c.args.bench.now.desk in
+    let h = c.args.bench.now.transaction in
     if_ok (λ (v : Vec OpId Global). (m : Module) → Leads (shown_operands w.store) w.ctx c.events_from.result.now m (module_in w) → Touched m (module_in w) v.items) (λ (v : Vec OpId Global). Touched (module_at c.args.from h) (module_held h) v.items) c.touched_by.result
     (λ v f. journal_touched w h c.args.from c.events_from.result.now v.items c.world.ensures.ctx c.world.ensures.store (c.events_from.ensures ∙ ap (drop c.args.from) c.journal.ensures) c.is_formed.ensures.leads f) c.touched_by.ensures.ok

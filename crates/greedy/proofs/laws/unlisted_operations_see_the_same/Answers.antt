@@ -1,5 +1,5 @@
-use Rattle.greedy.proofs.Seeing.{sees_the_same}
+use Rattle.greedy.proofs.Seeing.{dominated_by_the_same}
 use Rattle.greedy.proofs.laws.unlisted_operations_see_the_same.Goals as goal
 
 pub returns : goal.returns
-returns c = sees_the_same
+returns c = dominated_by_the_same

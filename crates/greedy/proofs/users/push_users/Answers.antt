@@ -1,6 +1,6 @@
 use Rattle.std.proofs.Common.{ap, sym, ◌∙◌, length, arith}
 use Rattle.effects.proofs.Unused.{few_results}
-use Rattle.greedy.specs.Sights.{Uses}
+use Rattle.greedy.specs.LocalContext.{Uses}
 use Rattle.greedy.proofs.Adding.{adds_nothing}
 use Rattle.greedy.proofs.Using.{users_absent, users_begin, users_more, users_end}
 use Rattle.greedy.proofs.users.push_users.Goals as goal

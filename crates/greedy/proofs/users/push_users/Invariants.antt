@@ -1,5 +1,5 @@
 use Rattle.std.proofs.Common.{◌-◌}
-use Rattle.greedy.specs.Sights.{Uses}
+use Rattle.greedy.specs.LocalContext.{Uses}
 use Rattle.greedy.specs.Adding.{Adding}
 use Rattle.greedy.proofs.Using.{IsUserAmong}
 use Rattle.greedy.proofs.users.push_users.Given as goal

@@ -1,5 +1,5 @@
 use Rattle.std.proofs.Common.{◌∙◌, drop, length, arith}
-use Rattle.greedy.specs.Sights.{Uses}
+use Rattle.greedy.specs.LocalContext.{Uses}
 use Rattle.greedy.proofs.Adding.{rest_all, place_more, place_done}
 use Rattle.greedy.proofs.users.push_users_from.Goals as goal
 

@@ -1,6 +1,6 @@
 use Rattle.std.proofs.Common.{◌≡◌, ◌-◌, drop, length}
 use Rattle.greedy.specs.Adding.{Adding, OneOf}
-use Rattle.greedy.specs.Sights.{Uses}
+use Rattle.greedy.specs.LocalContext.{Uses}
 use Rattle.greedy.proofs.users.push_users_from.Given as goal
 
 abbrev pub invariant-listed : goal.invariant-listed

@@ -1,12 +1,12 @@
 use Rattle.std.proofs.Common.{◌∙◌, sym, arith}
-use Rattle.greedy.proofs.Following.{from_inside, from_behind, behind_root, up}
+use Rattle.greedy.proofs.Following.{from_inside, from_after, after_root, up}
 use Rattle.greedy.proofs.walk.following.Goals as goal
 
 pub returns-in-Some : goal.returns-in-Some
 returns-in-Some c = sym (from_inside c.args.store.now.module_of.tree c.requires.distinct c.args.op c.in-Some.first c.requires.there (sym c.in-Some.ensures))
 
 pub around-init : goal.around-init
-around-init c = (c.requires.there, from_behind c.args.store.now.module_of.tree c.requires.distinct c.args.op c.requires.there (sym c.in_default.ensures))
+around-init c = (c.requires.there, from_after c.args.store.now.module_of.tree c.requires.distinct c.args.op c.requires.there (sym c.in_default.ensures))
 
 pub returns-in-Some-before : goal.returns-in-Some-before
 returns-in-Some-before c =
@@ -39,4 +39,4 @@ around-preserved c =
     (u.there, c.around.invariant.1 ∙ u.around c.in_default-before.is (sym c.in_default-first_from.ensures))
 
 pub returns : goal.returns
-returns c = sym (c.around.invariant.1 ∙ behind_root c.args.store.now.module_of.tree c.requires.distinct c.around.at c.around.invariant.0 (sym c.in_default-place.ensures))
+returns c = sym (c.around.invariant.1 ∙ after_root c.args.store.now.module_of.tree c.requires.distinct c.around.at c.around.invariant.0 (sym c.in_default-place.ensures))

@@ -1,5 +1,5 @@
 use Rattle.std.proofs.Common.{sym}
-use Rattle.greedy.proofs.Following.{before_precedes, not_behind}
+use Rattle.greedy.proofs.Following.{before_precedes, not_after}
 use Rattle.greedy.proofs.walk.precedes.Goals as goal
 
 pub returns-then-is_before : goal.returns-then-is_before
@@ -8,4 +8,4 @@ returns-then-is_before c = sym (before_precedes c.args.store.now.module_of.tree 
 pub returns-then-is_before-2 : goal.returns-then-is_before-2
 returns-then-is_before-2 c =
     let t = c.args.store.now.module_of.tree in
-    sym (not_behind t c.requires.distinct c.args.other c.args.op (before_precedes t c.requires.distinct c.args.other c.args.op (sym c.if-is_before-2.ensures)))
+    sym (not_after t c.requires.distinct c.args.other c.args.op (before_precedes t c.requires.distinct c.args.other c.args.op (sym c.if-is_before-2.ensures)))

@@ -24,5 +24,5 @@ returns c =
     (subst (λ z. Adds (put_regions z 0 (regions c.args.tree.now) s.module_of.tree) (regions_ids (regions c.args.tree.now)) s c.load_regions.new.store) (ap (λ z. (head z).id) c.tree.view_is)
     (subst (λ z. Adds (put_regions c.tree.inside.id 0 z s.module_of.tree) (regions_ids z) s c.load_regions.new.store) (ap regions c.tree.view_is) c.in_ok-load_regions.ensures))
 
-pub seed-requires-clause-below : goal.seed-requires-clause-below
-seed-requires-clause-below c = head_below c.args.next c.args.tree.now c.requires.below
+pub from_root-requires-clause-below : goal.from_root-requires-clause-below
+from_root-requires-clause-below c = head_below c.args.next c.args.tree.now c.requires.below

@@ -1,5 +1,5 @@
 use Rattle.std.proofs.Common.{sym, ◌∙◌, eqb-true, arith}
-use Rattle.ir_store_cases.proofs.Spots.{alone_holds_none}
+use Rattle.ir_store_cases.proofs.Points.{alone_holds_none}
 use Rattle.ir_store_cases.proofs.may.is_bare.Goals as goal
 
 pub returns : goal.returns

@@ -1,7 +1,7 @@
 use Rattle.std.proofs.Common.{rules, ◌≡◌, ◌+◌, map, ap, ◌∙◌, ◌∷◌, []}
 use Rattle.std.proofs.lemmas.List.{map-append}
 use Rattle.ir_store_slots.specs.Rows.{shape_of}
-use Rattle.ir_store_rows.specs.trees.View.{region_view}
+use Rattle.ir_store_arena.specs.trees.View.{region_view}
 use Rattle.ir_store_slots.specs.Grows.{parts_of}
 use Rattle.ir_store_slots.specs.Emptied.{emptied_region}
 use Rattle.ir_store_slots.proofs.Grown.{emptied_step}

@@ -1,5 +1,5 @@
 use Rattle.std.proofs.Common.{◌≡◌, ◌++◌, map, length}
-use Rattle.ir_store_rows.specs.trees.View.{region_view}
+use Rattle.ir_store_arena.specs.trees.View.{region_view}
 use Rattle.ir_store_slots.specs.Rows.{shape_of}
 use Rattle.ir_store_slots.specs.Grows.{parts_of, Wider, AreBlocks, bare_region}
 use Rattle.ir_store_slots.specs.Emptied.{emptied_region}

@@ -1,7 +1,7 @@
 use Rattle.std.proofs.Common.{refl, sym, ap, ◌∙◌, length, map}
 use Rattle.std.proofs.lemmas.List.{length-map}
-use Rattle.ir_store_rows.specs.trees.View.{region_view}
-use Rattle.ir_store_rows.specs.trees.Tree.{op, head, regions_of}
+use Rattle.ir_store_arena.specs.trees.View.{region_view}
+use Rattle.ir_store_arena.specs.trees.Tree.{op, head, regions_of}
 use Rattle.ir_store_slots.specs.Rows.{shape_of}
 use Rattle.ir_store_slots.specs.Grows.{parts_of, row_spare}
 use Rattle.ir_store_slots.specs.Emptied.{emptied_region}

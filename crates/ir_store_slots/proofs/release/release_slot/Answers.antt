@@ -8,5 +8,5 @@ returns-then-not-is_given-clause-slot c = slot_stays c.args.from c.args.key c.ar
 
 pub returns-clause-slot : goal.returns-clause-slot
 returns-clause-slot c =
-    slot_given c.args.from c.args.key c.args.rows.now c.give_up.new.self c.requires.inside (sym c.is_given.ensures ∙ c.if-not-is_given.false) c.give_up.ensures c.args.keys.now c.remove.new.self
+    slot_given c.args.from c.args.key c.args.rows.now c.free.new.self c.requires.inside (sym c.is_given.ensures ∙ c.if-not-is_given.false) c.free.ensures c.args.keys.now c.remove.new.self
     (c.remove.ensures ∙ ap (finmap.remove c.args.keys.now) (c.number.ensures ∙ c.id-op.ensures))

@@ -11,8 +11,8 @@ returns-in-Err-source_alone-clause-refused c = λ f e. source_none c.args.opaque
 pub returns-in-Err-source_alone-clause-room : goal.returns-in-Err-source_alone-clause-room
 returns-in-Err-source_alone-clause-room c = λ left e. text_fits c.args.opaque c.args.bytes.now (within_limit c.args.bytes.now (sym c.in-Ok.ensures.ok)) (c.in-Err-source_alone.ensures.full left e)
 
-pub returns-in-Ok-looked_at-clause-read : goal.returns-in-Ok-looked_at-clause-read
-returns-in-Ok-looked_at-clause-read c = spelled_of c.in-Ok-source_alone.found.0 c.args.opaque c.args.bytes.now c.in-Ok-source_alone.found.1 c.in-Ok-source_alone.ensures.read c.in-Ok.ensures.ok c.in-Ok-looked_at.ensures.ok
+pub returns-in-Ok-check_dominance-clause-read : goal.returns-in-Ok-check_dominance-clause-read
+returns-in-Ok-check_dominance-clause-read c = spelled_of c.in-Ok-source_alone.found.0 c.args.opaque c.args.bytes.now c.in-Ok-source_alone.found.1 c.in-Ok-source_alone.ensures.read c.in-Ok.ensures.ok c.in-Ok-check_dominance.ensures.ok
 
-pub returns-in-Err-looked_at-clause-refused : goal.returns-in-Err-looked_at-clause-refused
-returns-in-Err-looked_at-clause-refused c = λ f e. none_of c.in-Ok-source_alone.found.0 c.args.opaque c.args.bytes.now c.in-Ok-source_alone.found.1 c.in-Ok-source_alone.ensures.read (c.in-Err-looked_at.ensures.refused f (error_is c.in-Err-looked_at.e (errors.Refused f) e))
+pub returns-in-Err-check_dominance-clause-refused : goal.returns-in-Err-check_dominance-clause-refused
+returns-in-Err-check_dominance-clause-refused c = λ f e. none_of c.in-Ok-source_alone.found.0 c.args.opaque c.args.bytes.now c.in-Ok-source_alone.found.1 c.in-Ok-source_alone.ensures.read (c.in-Err-check_dominance.ensures.refused f (error_is c.in-Err-check_dominance.e (errors.Refused f) e))

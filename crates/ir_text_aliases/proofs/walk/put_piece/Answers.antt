@@ -5,6 +5,6 @@ use Rattle.ir_text_aliases.proofs.walk.put_piece.Goals as goal
 pub returns : goal.returns
 returns c = record {
   moved =
-      piece_moved c.args.at.now.front c.in_ok-at.field-0 (reverse c.args.at.now.outer.items) (reverse c.pass.new.outer.items) c.args.byte c.args.all.now c.args.tail.now c.behind_piece-rest.result.now c.args.out.now.text.items c.put.new.out.items c.args.out.now.marks.items
-      c.requires.all c.behind_piece-rest.ensures c.in_ok-put.ensures c.in_ok-at.ensures.front c.in_ok-at.ensures.outer;
+      piece_moved c.args.at.now.front c.in_ok-at.field-0 (reverse c.args.at.now.outer.items) (reverse c.pass.new.outer.items) c.args.byte c.args.all.now c.args.tail.now c.after_lexeme-rest.result.now c.args.out.now.text.items c.write_bytes.new.out.items c.args.out.now.marks.items
+      c.requires.all c.after_lexeme-rest.ensures c.in_ok-write_bytes.ensures c.in_ok-at.ensures.front c.in_ok-at.ensures.outer;
 }

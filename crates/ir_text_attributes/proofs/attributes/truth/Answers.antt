@@ -3,5 +3,5 @@ use Rattle.ir_types.specs.declared.node.TypeNode.TheVariants as type
 use Rattle.ir_text_types.proofs.Numbered.{type_done_known}
 use Rattle.ir_text_attributes.proofs.attributes.truth.Goals as goal
 
-pub kept-requires-2 : goal.kept-requires-2
-kept-requires-2 c = type_done_known (type.Int Signless 1) c.args.bytes.now _ c.args.ctx.now c.kept.new.ctx c.in-Ok.found.0 c.in-Ok.ensures.reads
+pub intern_node-requires-2 : goal.intern_node-requires-2
+intern_node-requires-2 c = type_done_known (type.Int Signless 1) c.args.bytes.now _ c.args.ctx.now c.intern_node.new.ctx c.in-Ok.found.0 c.in-Ok.ensures.reads

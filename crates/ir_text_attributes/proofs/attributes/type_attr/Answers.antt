@@ -1,5 +1,5 @@
 use Rattle.ir_text_types.proofs.Numbered.{type_known}
 use Rattle.ir_text_attributes.proofs.attributes.type_attr.Goals as goal
 
-pub kept-requires : goal.kept-requires
-kept-requires c = type_known c.args.opaque c.args.depth c.args.bytes.now _ c.args.ctx.now c.ty.new.ctx c.in-Ok.found.0 c.sound.ensures c.in-Ok.ensures.reads
+pub intern_node-requires : goal.intern_node-requires
+intern_node-requires c = type_known c.args.opaque c.args.depth c.args.bytes.now _ c.args.ctx.now c.ty.new.ctx c.in-Ok.found.0 c.sound.ensures c.in-Ok.ensures.reads

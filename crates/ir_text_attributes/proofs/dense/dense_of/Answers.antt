@@ -4,5 +4,5 @@ use Rattle.ir_text_types.proofs.Numbered.{type_done_known}
 use Rattle.ir_text_attributes.specs.Elements.{bits_of}
 use Rattle.ir_text_attributes.proofs.dense.dense_of.Goals as goal
 
-pub kept-requires-2 : goal.kept-requires-2
-kept-requires-2 c = type_done_known (type.Int Signless (bits_of c.args.element.now)) c.args.bytes.now _ c.args.ctx.now c.kept.new.ctx c.in-Ok.found.0 (rw c.bits_of.ensures.bits at c.in-Ok.ensures.reads)
+pub intern_node-requires-2 : goal.intern_node-requires-2
+intern_node-requires-2 c = type_done_known (type.Int Signless (bits_of c.args.element.now)) c.args.bytes.now _ c.args.ctx.now c.intern_node.new.ctx c.in-Ok.found.0 (rw c.bits_of.ensures.bits at c.in-Ok.ensures.reads)

@@ -18,10 +18,10 @@ returns-in-Ok-End-clause-reads c =
     let ends = rw c.in-Ok-End.field-0-is at c.in-Ok-End.ensures in
     rw c.in_ok-push.ensures.items (closes after_typed CloseCurly (entry_at c.args.op.now c.args.properties.now) c.items.items.items 513 c.items.counter (c.items.rest.now, c.items.ctx) _ c.items.invariant.reads c.items-test.true c.in-Ok.found.0 (c.in-Ok.found.1.now, c.entry.new.ctx) (c.in-Ok-End.end.now, c.entry.new.ctx) (rw c.deref.ensures.value at c.in-Ok.ensures.reads) (rw ends refl))
 
-pub returns-in-Err-behind_item-clause-reads : goal.returns-in-Err-behind_item-clause-reads
-returns-in-Err-behind_item-clause-reads c =
-    let going = c.in-Err-behind_item.ensures.0 in
-    no_comma after_typed CloseCurly (entry_at c.args.op.now c.args.properties.now) c.items.items.items 513 c.items.counter (c.items.rest.now, c.items.ctx) _ c.items.invariant.reads c.items-test.true c.in-Err-behind_item.e c.in-Ok.found.0 (c.in-Ok.found.1.now, c.entry.new.ctx) (rw c.deref.ensures.value at c.in-Ok.ensures.reads) (rw going refl) (fails_option c.in-Err-behind_item.e (after Comma c.in-Ok.found.1.now) (of_option (after_typed Comma (c.in-Ok.found.1.now, c.entry.new.ctx))) (λ none. rw none refl) c.in-Err-behind_item.ensures.1)
+pub returns-in-Err-after_item-clause-reads : goal.returns-in-Err-after_item-clause-reads
+returns-in-Err-after_item-clause-reads c =
+    let going = c.in-Err-after_item.ensures.0 in
+    no_comma after_typed CloseCurly (entry_at c.args.op.now c.args.properties.now) c.items.items.items 513 c.items.counter (c.items.rest.now, c.items.ctx) _ c.items.invariant.reads c.items-test.true c.in-Err-after_item.e c.in-Ok.found.0 (c.in-Ok.found.1.now, c.entry.new.ctx) (rw c.deref.ensures.value at c.in-Ok.ensures.reads) (rw going refl) (fails_option c.in-Err-after_item.e (after Comma c.in-Ok.found.1.now) (of_option (after_typed Comma (c.in-Ok.found.1.now, c.entry.new.ctx))) (λ none. rw none refl) c.in-Err-after_item.ensures.1)
 
 pub items-preserved : goal.items-preserved
 items-preserved c =
@@ -44,5 +44,5 @@ returns-in_err-push-clause-grows c = grows_trans c.args.ctx.now c.items.ctx c.en
 pub returns-in-Ok-End-clause-grows : goal.returns-in-Ok-End-clause-grows
 returns-in-Ok-End-clause-grows c = grows_trans c.args.ctx.now c.items.ctx c.entry.new.ctx c.items.invariant.grows c.in-Ok.ensures.grows
 
-pub returns-in-Err-behind_item-clause-grows : goal.returns-in-Err-behind_item-clause-grows
-returns-in-Err-behind_item-clause-grows c = grows_trans c.args.ctx.now c.items.ctx c.entry.new.ctx c.items.invariant.grows c.in-Ok.ensures.grows
+pub returns-in-Err-after_item-clause-grows : goal.returns-in-Err-after_item-clause-grows
+returns-in-Err-after_item-clause-grows c = grows_trans c.args.ctx.now c.items.ctx c.entry.new.ctx c.items.invariant.grows c.in-Ok.ensures.grows

@@ -5,8 +5,8 @@ use Rattle.ir_text_operations.specs.Claims.{IsOnly, IsNone, IsBody}
 use Rattle.ir_text_operations.proofs.Modules.{root_is_source, body_is_source, no_source}
 use Rattle.ir_text_operations.proofs.module.source.Goals as goal
 
-pub returns-in-Ok-Is-clause-read : goal.returns-in-Ok-Is-clause-read
-returns-in-Ok-Is-clause-read c = root_is_source c.args.ctx.now.opaque c.args.bytes.now c.explicit.new.ctx c.in-Ok-Is.tree (rw c.in-Ok-Is.field-0-is at c.in-Ok-Is.ensures.ok)
+pub returns-in-Ok-Explicit-clause-read : goal.returns-in-Ok-Explicit-clause-read
+returns-in-Ok-Explicit-clause-read c = root_is_source c.args.ctx.now.opaque c.args.bytes.now c.explicit.new.ctx c.in-Ok-Explicit.tree (rw c.in-Ok-Explicit.field-0-is at c.in-Ok-Explicit.ensures.ok)
 
 pub returns-in-Ok-clause-read : goal.returns-in-Ok-clause-read
 returns-in-Ok-clause-read c =

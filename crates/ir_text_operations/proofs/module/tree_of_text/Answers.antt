@@ -5,8 +5,8 @@ use Rattle.ir_text_operations.proofs.module.tree_of_text.Goals as goal
 pub returns-in-Err-source-clause-refused : goal.returns-in-Err-source-clause-refused
 returns-in-Err-source-clause-refused c = λ f e. source_none c.args.ctx.now.opaque c.args.bytes.now (c.in-Err-source.ensures.refused f e)
 
-pub returns-in-Ok-looked_at-clause-read : goal.returns-in-Ok-looked_at-clause-read
-returns-in-Ok-looked_at-clause-read c = spelled_of c.source.new.ctx c.args.ctx.now.opaque c.args.bytes.now c.in-Ok-source.tree c.in-Ok-source.ensures.read c.in-Ok.ensures.ok c.in-Ok-looked_at.ensures.ok
+pub returns-in-Ok-check_dominance-clause-read : goal.returns-in-Ok-check_dominance-clause-read
+returns-in-Ok-check_dominance-clause-read c = spelled_of c.source.new.ctx c.args.ctx.now.opaque c.args.bytes.now c.in-Ok-source.tree c.in-Ok-source.ensures.read c.in-Ok.ensures.ok c.in-Ok-check_dominance.ensures.ok
 
-pub returns-in-Err-looked_at-clause-refused : goal.returns-in-Err-looked_at-clause-refused
-returns-in-Err-looked_at-clause-refused c = λ f e. none_of c.source.new.ctx c.args.ctx.now.opaque c.args.bytes.now c.in-Ok-source.tree c.in-Ok-source.ensures.read (c.in-Err-looked_at.ensures.refused f (error_is c.in-Err-looked_at.e (errors.Refused f) e))
+pub returns-in-Err-check_dominance-clause-refused : goal.returns-in-Err-check_dominance-clause-refused
+returns-in-Err-check_dominance-clause-refused c = λ f e. none_of c.source.new.ctx c.args.ctx.now.opaque c.args.bytes.now c.in-Ok-source.tree c.in-Ok-source.ensures.read (c.in-Err-check_dominance.ensures.refused f (error_is c.in-Err-check_dominance.e (errors.Refused f) e))

@@ -45,11 +45,11 @@ regions-returns-in-Ok-End-clause-reads g t c =
     let ens = c.in-Ok.ensures.reads (map region_view c.items.items.items) (length-map c.items.items.items region_view ∙ c.items.invariant.count) in
     rw e (closes after_in CloseRound (region_at (ops_at CloseCurly (op_at (free_bound (g.O.Outer.types c.args.around.now.outer.now)) c.args.around.now.last c.args.depth) most_ops []) c.args.id c.args.isolated) (map region_view c.items.items.items) 16 c.items.count (state_of c.items.rest.now c.items.scope c.items.ctx) _ c.items.invariant.reads c.items-test.true (region_view c.in-Ok.found.0) (state_of c.in-Ok.found.1.now c.region.new.scope c.region.new.ctx) (state_of c.in-Ok-End.end.now c.region.new.scope c.region.new.ctx) ens (rw ends refl))
 
-pub regions-returns-in-Err-behind_item-clause-reads : goal.regions-returns-in-Err-behind_item-clause-reads
-regions-returns-in-Err-behind_item-clause-reads g t c =
-    let going = c.in-Err-behind_item.ensures.0 in
+pub regions-returns-in-Err-after_item-clause-reads : goal.regions-returns-in-Err-after_item-clause-reads
+regions-returns-in-Err-after_item-clause-reads g t c =
+    let going = c.in-Err-after_item.ensures.0 in
     let ens = c.in-Ok.ensures.reads (map region_view c.items.items.items) (length-map c.items.items.items region_view ∙ c.items.invariant.count) in
-    no_comma after_in CloseRound (region_at (ops_at CloseCurly (op_at (free_bound (g.O.Outer.types c.args.around.now.outer.now)) c.args.around.now.last c.args.depth) most_ops []) c.args.id c.args.isolated) (map region_view c.items.items.items) 16 c.items.count (state_of c.items.rest.now c.items.scope c.items.ctx) _ c.items.invariant.reads c.items-test.true c.in-Err-behind_item.e (region_view c.in-Ok.found.0) (state_of c.in-Ok.found.1.now c.region.new.scope c.region.new.ctx) ens (rw going refl) (fails_option c.in-Err-behind_item.e (after Comma c.in-Ok.found.1.now) (of_option (after_in Comma (state_of c.in-Ok.found.1.now c.region.new.scope c.region.new.ctx))) (λ none. rw none refl) c.in-Err-behind_item.ensures.1)
+    no_comma after_in CloseRound (region_at (ops_at CloseCurly (op_at (free_bound (g.O.Outer.types c.args.around.now.outer.now)) c.args.around.now.last c.args.depth) most_ops []) c.args.id c.args.isolated) (map region_view c.items.items.items) 16 c.items.count (state_of c.items.rest.now c.items.scope c.items.ctx) _ c.items.invariant.reads c.items-test.true c.in-Err-after_item.e (region_view c.in-Ok.found.0) (state_of c.in-Ok.found.1.now c.region.new.scope c.region.new.ctx) ens (rw going refl) (fails_option c.in-Err-after_item.e (after Comma c.in-Ok.found.1.now) (of_option (after_in Comma (state_of c.in-Ok.found.1.now c.region.new.scope c.region.new.ctx))) (λ none. rw none refl) c.in-Err-after_item.ensures.1)
 
 pub regions-items-preserved : goal.regions-items-preserved
 regions-items-preserved g t c =
@@ -100,8 +100,8 @@ regions-returns-in_err-push-clause-grows g t c = grows_trans c.args.ctx.now c.it
 pub regions-returns-in-Ok-End-clause-grows : goal.regions-returns-in-Ok-End-clause-grows
 regions-returns-in-Ok-End-clause-grows g t c = grows_trans c.args.ctx.now c.items.ctx c.region.new.ctx c.items.invariant.grows c.in-Ok.ensures.grows
 
-pub regions-returns-in-Err-behind_item-clause-grows : goal.regions-returns-in-Err-behind_item-clause-grows
-regions-returns-in-Err-behind_item-clause-grows g t c = grows_trans c.args.ctx.now c.items.ctx c.region.new.ctx c.items.invariant.grows c.in-Ok.ensures.grows
+pub regions-returns-in-Err-after_item-clause-grows : goal.regions-returns-in-Err-after_item-clause-grows
+regions-returns-in-Err-after_item-clause-grows g t c = grows_trans c.args.ctx.now c.items.ctx c.region.new.ctx c.items.invariant.grows c.in-Ok.ensures.grows
 
 pub ops-returns-in-Err-clause-grows : goal.ops-returns-in-Err-clause-grows
 ops-returns-in-Err-clause-grows g t c = grows_trans c.args.ctx.now c.items.ctx c.op.new.ctx c.items.invariant.grows c.in-Err.ensures.grows

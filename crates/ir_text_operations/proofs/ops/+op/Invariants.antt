@@ -1,6 +1,6 @@
 use Rattle.std.proofs.Common.{◌≡◌, ◌*◌, ◌+◌, ◌-◌, [], length, map}
 use Rattle.ir_text_tokens.specs.declared.token.Mark.TheVariants.{CloseRound, CloseCurly}
-use Rattle.ir_types.specs.Things.{Grows}
+use Rattle.ir_types.specs.Things.{IsExtendedBy}
 use Rattle.ir_tree.specs.View.{region_view}
 use Rattle.ir_text_types.specs.Lists.{more_at}
 use Rattle.ir_tree.specs.Limits.{most_ops}
@@ -27,12 +27,12 @@ decreases-op_with g l = 5 * l.depth + 4
 abbrev pub invariant-regions-items : goal.invariant-regions-items
 invariant-regions-items g l = record {
   reads : more_at after_in CloseRound (region_at (ops_at CloseCurly (op_at (free_bound (g.O.Outer.types l.around.outer.now)) l.around.last l.depth) most_ops []) l.id l.isolated) (16 - l.count) (map region_view l.items.items) (state_of l.rest l.scope l.ctx) ≡ regions_at (ops_at CloseCurly (op_at (free_bound (g.O.Outer.types l.around.outer.now)) l.around.last l.depth) most_ops []) l.id l.isolated (state_of l.bytes l.initial.scope l.initial.ctx);
-  grows : Grows l.initial.ctx l.ctx;
+  grows : IsExtendedBy l.initial.ctx l.ctx;
   count : length l.items.items ≡ l.count;
 }
 
 abbrev pub invariant-ops-items : goal.invariant-ops-items
 invariant-ops-items g l = record {
   reads : ops_at l.close (op_at (free_bound (g.O.Outer.types l.around.outer.now)) l.around.last l.depth) (most_ops - l.counter) l.items.items (state_of l.rest l.scope l.ctx) ≡ ops_at l.close (op_at (free_bound (g.O.Outer.types l.around.outer.now)) l.around.last l.depth) most_ops [] (state_of l.bytes l.initial.scope l.initial.ctx);
-  grows : Grows l.initial.ctx l.ctx;
+  grows : IsExtendedBy l.initial.ctx l.ctx;
 }

@@ -11,8 +11,8 @@ use Rattle.ir_types.proofs.Growth.{grows_trans}
 use Rattle.ir_text_types.proofs.Known.{signature_known}
 use Rattle.ir_text_types.proofs.types.+types.Goals as goal
 
-pub function-kept-requires : goal.function-kept-requires
-function-kept-requires t c =
+pub function-intern_node-requires : goal.function-intern_node-requires
+function-intern_node-requires t c =
     let k = signature_known c.args.opaque c.args.depth many c.args.bytes.now _ c.args.ctx.now c.signature.new.ctx (c.in-Ok.found.0.0.items, c.in-Ok.found.0.1.items) c.sound.ensures c.in-Ok.ensures.reads in
     rw (c.new.ensures, c.new-2.ensures) k
 

@@ -3,7 +3,7 @@ use Rattle.ir_text_tokens.specs.declared.token.Mark.TheVariants.{CloseRound}
 use Rattle.ir_text_types.specs.Lists.{more_at}
 use Rattle.ir_text_types.specs.Typed.{after_typed}
 use Rattle.ir_text_types.specs.TypeReading.{types_at, type_at}
-use Rattle.ir_types.specs.Things.{Grows}
+use Rattle.ir_types.specs.Things.{IsExtendedBy}
 use Rattle.ir_text_types.proofs.types.+types.Given as goal
 
 abbrev pub decreases-new_ty : goal.decreases-new_ty
@@ -27,6 +27,6 @@ decreases-function l = 6 * l.depth + 5
 abbrev pub invariant-types-items : goal.invariant-types-items
 invariant-types-items l = record {
   reads : more_at after_typed CloseRound (λ before. type_at l.opaque l.depth) (l.room - l.counter) l.items.items (l.rest, l.ctx) ≡ types_at (type_at l.opaque l.depth) l.room (l.bytes, l.initial.ctx);
-  grows : Grows l.initial.ctx l.ctx;
+  grows : IsExtendedBy l.initial.ctx l.ctx;
   count : length l.items.items ≡ l.counter;
 }

@@ -3,7 +3,7 @@ use Rattle.ir_tree.specs.Tree.{Op, regions_of, ops_of}
 use Rattle.ir_tree.specs.Ids.{ids, regions_ids, region_ids, ops_ids}
 use Rattle.ir_tree.specs.View.{region_view}
 use Rattle.ir_tree.specs.declared.tree.TreeRegion.{TreeRegion}
-use Rattle.ir_tree.proofs.Steps.{made_next, made_all, made_behind}
+use Rattle.ir_tree.proofs.Steps.{made_next, made_all, made_after}
 use Rattle.ir_tree.proofs.find.+ids.Goals as goal
 
 pub push_ids-loop-region-preserved : goal.push_ids-loop-region-preserved
@@ -19,7 +19,7 @@ push_ids-returns t c =
     let own = c.root.inside.id ∷ [] in
     let todo = λ (n : ℕ) (xs : List TreeRegion). regions_ids (regions_of (map region_view xs)) in
     let all = made_all todo xs c.loop-region.region-index c.loop-region.out.items (c.push.new.self.items ++ todo 0 xs) refl c.loop-region-test.false c.loop-region.invariant in
-    made_behind c.args.out.now.items own (todo 0 xs) c.push.new.self.items c.loop-region.out.items (ids c.args.root.now) c.in_ok-push.ensures.items all
+    made_after c.args.out.now.items own (todo 0 xs) c.push.new.self.items c.loop-region.out.items (ids c.args.root.now) c.in_ok-push.ensures.items all
     (ap (λ (xs : List TreeRegion). own ++ todo 0 xs) c.deref-region-items.ensures.value ∙ ap ids c.root.view_is)
 
 pub push_region_ids-loop-op-preserved : goal.push_region_ids-loop-op-preserved

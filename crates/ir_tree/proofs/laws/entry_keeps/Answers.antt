@@ -15,8 +15,8 @@ returns-clause-depth _ c x part k a t = head_depth (at x (change_part part (chan
 pub returns-clause-uses : goal.returns-clause-uses
 returns-clause-uses _ c x part k a v t = head_uses (at x (change_part part (change_entry (key_before_in c) k a))) (alike_entry (key_before_in c) x part k a) (entry_operands (key_before_in c) x part k a) v t
 
-pub returns-clause-sight : goal.returns-clause-sight
-returns-clause-sight _ c isolated x part k a y v t = head_visible (at x (change_part part (change_entry (key_before_in c) k a))) (alike_entry (key_before_in c) x part k a) isolated t y v
+pub returns-clause-dominance : goal.returns-clause-dominance
+returns-clause-dominance _ c isolated x part k a y v t = head_visible (at x (change_part part (change_entry (key_before_in c) k a))) (alike_entry (key_before_in c) x part k a) isolated t y v
 
 pub returns-clause-operands : goal.returns-clause-operands
 returns-clause-operands _ c isolated x part k a t = head_operands_visible (at x (change_part part (change_entry (key_before_in c) k a))) (alike_entry (key_before_in c) x part k a) (entry_operands (key_before_in c) x part k a) isolated t

@@ -15,8 +15,8 @@ returns-clause-place _ c x t = map_place (name_term c) (type_term c) (attr_term 
 pub returns-clause-uses : goal.returns-clause-uses
 returns-clause-uses _ c v t = map_uses (name_term c) (type_term c) (attr_term c) v t
 
-pub returns-clause-sight : goal.returns-clause-sight
-returns-clause-sight _ c x v t = map_visible (name_term c) (type_term c) (attr_term c) is_isolated t x v
+pub returns-clause-dominance : goal.returns-clause-dominance
+returns-clause-dominance _ c x v t = map_visible (name_term c) (type_term c) (attr_term c) is_isolated t x v
 
 pub returns-clause-operands : goal.returns-clause-operands
 returns-clause-operands _ c t = map_operands_visible (name_term c) (type_term c) (attr_term c) is_isolated t

@@ -11,5 +11,5 @@ returns-clause-place _ x k v y t = head_place (at x (put_operand k v)) (alike_op
 pub returns-clause-depth : goal.returns-clause-depth
 returns-clause-depth _ x k v t = head_depth (at x (put_operand k v)) (alike_operand x k v) t
 
-pub returns-clause-sight : goal.returns-clause-sight
-returns-clause-sight _ isolated x k w y v t = head_visible (at x (put_operand k w)) (alike_operand x k w) isolated t y v
+pub returns-clause-dominance : goal.returns-clause-dominance
+returns-clause-dominance _ isolated x k w y v t = head_visible (at x (put_operand k w)) (alike_operand x k w) isolated t y v

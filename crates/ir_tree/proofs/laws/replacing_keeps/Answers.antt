@@ -12,8 +12,8 @@ returns-clause-place _ v w y t = head_place (put_values v w) (alike_values v w) 
 pub returns-clause-depth : goal.returns-clause-depth
 returns-clause-depth _ v w t = head_depth (put_values v w) (alike_values v w) t
 
-pub returns-clause-sight : goal.returns-clause-sight
-returns-clause-sight _ isolated u w y v t = head_visible (put_values u w) (alike_values u w) isolated t y v
+pub returns-clause-dominance : goal.returns-clause-dominance
+returns-clause-dominance _ isolated u w y v t = head_visible (put_values u w) (alike_values u w) isolated t y v
 
 pub returns-clause-old : goal.returns-clause-old
 returns-clause-old _ v w t h = old_unused v w h t

@@ -3,7 +3,7 @@ use Rattle.ir_tree.specs.Tree.{Op, regions_of, ops_of}
 use Rattle.ir_tree.specs.Uses.{operand_uses, uses_of, regions_uses, region_uses, ops_uses}
 use Rattle.ir_tree.specs.View.{region_view}
 use Rattle.ir_tree.specs.declared.tree.TreeRegion.{TreeRegion}
-use Rattle.ir_tree.proofs.Steps.{made_next, made_all, made_behind}
+use Rattle.ir_tree.proofs.Steps.{made_next, made_all, made_after}
 use Rattle.ir_tree.proofs.uses.+uses.Goals as goal
 
 pub push_uses-loop-region-preserved : goal.push_uses-loop-region-preserved
@@ -22,7 +22,7 @@ push_uses-returns t c =
     let own = operand_uses v root.id 0 root.operands.items in
     let todo = λ (n : ℕ) (xs : List TreeRegion). regions_uses v (regions_of (map region_view xs)) in
     let all = made_all todo xs c.loop-region.region-index c.loop-region.out.items (c.push_own_uses.new.out.items ++ todo 0 xs) refl c.loop-region-test.false c.loop-region.invariant in
-    made_behind c.args.out.now.items own (todo 0 xs) c.push_own_uses.new.out.items c.loop-region.out.items (uses_of v c.args.root.now) c.in_ok-push_own_uses.ensures all
+    made_after c.args.out.now.items own (todo 0 xs) c.push_own_uses.new.out.items c.loop-region.out.items (uses_of v c.args.root.now) c.in_ok-push_own_uses.ensures all
     (ap (λ (xs : List TreeRegion). own ++ todo 0 xs) c.deref-region-items.ensures.value ∙ ap (uses_of v) c.root.view_is)
 
 pub push_region_uses-loop-op-preserved : goal.push_region_uses-loop-op-preserved

@@ -4,7 +4,7 @@ use Rattle.ir_tree.specs.declared.value.Value.{Value}
 use Rattle.ir_tree.proofs.Steps.{made_next, made_all}
 use Rattle.ir_tree.proofs.uses.push_own_uses.Goals as goal
 
--- the uses among operands are those by the first and those by the others
+-- the uses by a list of operands are those by its first operand, followed by those by the rest
 first_uses : (v : Value) (x k : ℕ) (w : Value) (ws : List Value) → operand_uses v x k (w ∷ []) ++ operand_uses v x (k + 1) ws ≡ operand_uses v x k (w ∷ ws)
 first_uses v x k w ws = by_cases (same_value v w)
   where

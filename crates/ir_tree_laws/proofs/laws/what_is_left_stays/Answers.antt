@@ -1,4 +1,4 @@
-use Rattle.ir_tree_laws.proofs.Edited.{head_stays, around_stays, table_stays, sight_stays}
+use Rattle.ir_tree_laws.proofs.Edited.{head_stays, around_stays, table_stays, dominance_stays}
 use Rattle.ir_tree_laws.proofs.laws.what_is_left_stays.Goals as goal
 
 pub returns-clause-head : goal.returns-clause-head
@@ -10,5 +10,5 @@ returns-clause-around g _ x t d y h = around_stays x t d y h
 pub returns-clause-table : goal.returns-clause-table
 returns-clause-table g _ x t d y h is_table = table_stays x t d y h is_table
 
-pub returns-clause-sight : goal.returns-clause-sight
-returns-clause-sight g _ x t d y h isolated v e = sight_stays x t d y h isolated v e
+pub returns-clause-dominance : goal.returns-clause-dominance
+returns-clause-dominance g _ x t d y h isolated v e = dominance_stays x t d y h isolated v e

@@ -12,8 +12,8 @@ returns-clause-distinct c t d = distinct_renumbered t d
 pub returns-clause-formed : goal.returns-clause-formed
 returns-clause-formed c isolated t w = formed_renumbered isolated t w
 
-pub returns-clause-sight : goal.returns-clause-sight
-returns-clause-sight c isolated t x v = visible_renumbered isolated t x v
+pub returns-clause-dominance : goal.returns-clause-dominance
+returns-clause-dominance c isolated t x v = visible_renumbered isolated t x v
 
 pub returns-clause-stays : goal.returns-clause-stays
 returns-clause-stays c isolated t w e = renumbered_stays isolated t w e

@@ -1,7 +1,7 @@
 use Rattle.std.proofs.Common.{◌≡◌, ◌∙◌, sym, ap, subst, ℕ, length, Err}
 use Rattle.std.specs.List.{list_any, position_or_len}
 use Rattle.std.specs.Map.{keys_of}
-use Rattle.ir_types_items.specs.Interned.{with_last}
+use Rattle.ir_types_interner.specs.Interned.{with_last}
 use Rattle.ir_types.specs.Same.{same_attr}
 use Rattle.ir_types.specs.Reasons.{IsRefusedFor, full_reason}
 use Rattle.ir_types.specs.Refusals.{not_interned}

@@ -2,7 +2,7 @@ use Rattle.std.proofs.Common.{◌≡◌, ◌∙◌, sym, ap, subst, Some, map, d
 use Rattle.std.proofs.lemmas.List.{drop-map}
 use Rattle.std.specs.List.{All}
 use Rattle.std.proofs.lemmas.List.Elements.{All-drop}
-use Rattle.ir_types.specs.Things.{Things, IsType}
+use Rattle.ir_types.specs.Things.{ContextModel, IsType}
 use Rattle.ir_types.specs.Terms.{type_term}
 use Rattle.op_registry.specs.Registry.{row_from}
 use Rattle.op_registry.specs.declared.definition.TypeRule.TheVariants as type
@@ -10,7 +10,7 @@ use Rattle.ir_verify_base.specs.Fits.{first_called}
 use Rattle.ir_verify_base.specs.Numbers.{typed}
 use Rattle.ir_verify_base.proofs.type_rules.known_of.Goals as goal
 
-dropped : (c : Things) (n : ℕ) (xs : List ℕ) → typed c (drop n xs) ≡ drop n (typed c xs)
+dropped : (c : ContextModel) (n : ℕ) (xs : List ℕ) → typed c (drop n xs) ≡ drop n (typed c xs)
 dropped c n xs = ap (map Some) (sym (drop-map (type_term c) n xs)) ∙ sym (drop-map Some n (map (type_term c) xs))
 
 pub returns : goal.returns

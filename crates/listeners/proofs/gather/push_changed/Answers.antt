@@ -1,5 +1,5 @@
 use Rattle.std.proofs.Common.{[], rules}
-use Rattle.id_map.specs.Map.{entries_from}
+use Rattle.listeners_support.specs.Map.{entries_from}
 use Rattle.listeners.proofs.Changing.{both_parts}
 use Rattle.listeners.proofs.gather.push_changed.Goals as goal
 

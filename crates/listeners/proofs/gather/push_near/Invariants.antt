@@ -1,5 +1,5 @@
 use Rattle.std.proofs.Common.{◌≡◌, ◌++◌, drop}
-use Rattle.id_map.specs.Map.{entries_from}
+use Rattle.listeners_support.specs.Map.{entries_from}
 use Rattle.listeners.specs.Keys.{keys_of}
 use Rattle.listeners.specs.Tables.{changed_uses}
 use Rattle.listeners.proofs.gather.push_near.Given as goal

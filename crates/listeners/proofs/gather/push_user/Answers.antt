@@ -1,6 +1,6 @@
 use Rattle.std.proofs.Common.{rules, ◌≡◌, ap, sym, ◌∙◌, ◌++◌, true, false, not, [], append-nil, subst}
 use Rattle.std.specs.Prelude.{OnOk, is_some}
-use Rattle.id_map.specs.Map as idmap
+use Rattle.listeners_support.specs.Map as idmap
 use Rattle.listeners.specs.Uses.{operand_uses}
 use Rattle.listeners.specs.Keys.{keys_of}
 use Rattle.listeners.specs.Others.{only}

@@ -2,7 +2,7 @@ use Rattle.std.proofs.Common.{◌≡◌, ◌∙◌, ap, sym, subst, map}
 use Rattle.std.specs.Prelude.{option_map, Result, Ok, Err, IfOk}
 use Rattle.ir_event.specs.types.Terms.{name_term}
 use Rattle.ir_event.specs.types.Words.{is_table}
-use Rattle.ir_event.specs.types.Things.{Things}
+use Rattle.ir_event.specs.types.Things.{ContextModel}
 use Rattle.ir_event.specs.tree_laws.Reads.{parent_of}
 use Rattle.ir_event.specs.tree_laws.Values.{type_of_value}
 use Rattle.ir_event.specs.Modules.{NodeIsOf, module_in}
@@ -32,7 +32,7 @@ pub role_with-requires-clause-node : goal.role_with-requires-clause-node
 role_with-requires-clause-node c =
     let w = c.args.view.now.world.now in
     let e = c.call_of.ensures.world ∙ c.tables_of.ensures.world in
-    subst (λ (z : Things). NodeIsOf z c.args.node.now) (sym (c.context-2.ensures ∙ ap (λ (u : World). u.ctx) e)) (known_node w c.args.op c.args.node.now c.requires)
+    subst (λ (z : ContextModel). NodeIsOf z c.args.node.now) (sym (c.context-2.ensures ∙ ap (λ (u : World). u.ctx) e)) (known_node w c.args.op c.args.node.now c.requires)
 
 pub returns-clause-parent : goal.returns-clause-parent
 returns-clause-parent c =
@@ -57,6 +57,6 @@ returns-clause-role c =
     let is = (λ i. tables_for table x (sym named i) (parent_of x (tree_in w))) ∙ sym c.in-Some.ensures.tables in
     if_ok _ _ c.role_with.result (λ r h.
     read_right w x n table tables r c.requires is
-    (subst (λ (z : Things). IsReadAs z (head_meaning z n.head) types tables r) e2
-    (h types (subst (λ (z : Things). option_map (call_meaning z) c.in_ok-call.call ≡ call_of (head_meaning z n.head) types) (sym e2) call))))
+    (subst (λ (z : ContextModel). IsReadAs z (head_meaning z n.head) types tables r) e2
+    (h types (subst (λ (z : ContextModel). option_map (call_meaning z) c.in_ok-call.call ≡ call_of (head_meaning z n.head) types) (sym e2) call))))
     c.role_with.ensures

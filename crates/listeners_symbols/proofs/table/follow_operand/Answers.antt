@@ -1,5 +1,5 @@
 use Rattle.std.proofs.Common.{refl, ap, sym, ◌∙◌, subst, inr}
-use Rattle.ir_event.specs.types.Things.{Things}
+use Rattle.ir_event.specs.types.Things.{ContextModel}
 use Rattle.ir_event.specs.Modules.{NodeIsOf}
 use Rattle.ir_event.specs.declared.world.World.{World}
 use Rattle.ir_event.proofs.Nodes.{known_node}
@@ -12,7 +12,7 @@ pub callee_of-requires : goal.callee_of-requires
 callee_of-requires c =
     let w = c.args.view.now.world.now in
     let same = c.context.ensures ∙ ap (λ (u : World). u.ctx) c.node.ensures.world in
-    subst (λ (z : Things). NodeIsOf z c.in-Some.node) (sym same) (known_node w c.args.op c.in-Some.node (sym c.in-Some.ensures.answer))
+    subst (λ (z : ContextModel). NodeIsOf z c.in-Some.node) (sym same) (known_node w c.args.op c.in-Some.node (sym c.in-Some.ensures.answer))
 
 pub returns-in-None-clause-followed : goal.returns-in-None-clause-followed
 returns-in-None-clause-followed c =

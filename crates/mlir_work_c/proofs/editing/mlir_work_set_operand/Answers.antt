@@ -1,8 +1,8 @@
 use Rattle.std.proofs.Common.{subst, sym}
-use Rattle.rewriter.specs.Benched.{IsKept}
-use Rattle.mlir_work_listeners.specs.Listeners.{seven_listener}
-use Rattle.mlir_work_held.specs.declared.session.Session.{Session}
+use Rattle.rewriter.specs.RewriterCalls.{AgreesOrStale}
+use Rattle.mlir_work_analyses.specs.Listeners.{any_analysis}
+use Rattle.mlir_work_c.specs.declared.session.Session.{Session}
 use Rattle.mlir_work_c.proofs.editing.mlir_work_set_operand.Goals as goal
 
 pub set_operand-requires : goal.set_operand-requires
-set_operand-requires c = subst (λ (s : Session). IsKept seven_listener s.bench) (sym c.deref_mut.ensures.value) c.in-Some.ensures.kept
+set_operand-requires c = subst (λ (s : Session). AgreesOrStale any_analysis s.bench) (sym c.deref_mut.ensures.value) c.in-Some.ensures.kept

@@ -16,7 +16,7 @@ pub loop-rest-preserved : goal.loop-rest-preserved
 loop-rest-preserved c =
     let nonempty = not_none (length c.loop-rest.rest.now) (sym c.is_empty.ensures ∙ c.loop-rest-test.true) in
     let word : view c.in_ok-text_value.field-0 ≡ text_data (cell c.loop-rest.rest.now) = c.in_ok-text_value.ensures ∙ ap text_data c.cut_cell.ensures.cell in
-    rw (c.in_ok-push.ensures.items, c.cut_cell.ensures.behind)
+    rw (c.in_ok-push.ensures.items, c.cut_cell.ensures.trailing)
     (cell_done view text_data c.loop-rest.values.items c.in_ok-text_value.field-0 c.loop-rest.rest.now nonempty word ∙ c.loop-rest.invariant)
 
 pub returns : goal.returns

@@ -4,7 +4,7 @@ use Rattle.mlir_work_json.specs.Cuts.{parts}
 use Rattle.mlir_work_json.specs.Items.{text_data}
 use Rattle.mlir_work_json.proofs.members.parts_value.Given as goal
 
--- the words so far, and those of what is left
+-- the parts so far, followed by the parts of the rest, are those of the whole text
 abbrev pub invariant-loop-rest : goal.invariant-loop-rest
 invariant-loop-rest l = map view l.values.items ++ map text_data (parts (λ b. b == l.end) l.rest) ≡ map text_data (parts (λ b. b == l.end) l.fn.text)
 

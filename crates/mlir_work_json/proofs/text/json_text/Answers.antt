@@ -15,7 +15,7 @@ loop-rest-smaller c = c.cut_at.ensures.shorter (not_none (length c.loop-rest.res
 pub loop-rest-preserved : goal.loop-rest-preserved
 loop-rest-preserved c =
     let nonempty = not_none (length c.loop-rest.rest.now) (sym c.is_empty.ensures ∙ c.loop-rest-test.true) in
-    rw (c.in_ok-put_line.ensures, c.cut_at.ensures.before, c.cut_at.ensures.after)
+    rw (c.in_ok-write_line.ensures, c.cut_at.ensures.before, c.cut_at.ensures.after)
     (line_done c.loop-rest.json.items c.loop-rest.rest.now nonempty ∙ c.loop-rest.invariant)
 
 pub returns-clause-text : goal.returns-clause-text

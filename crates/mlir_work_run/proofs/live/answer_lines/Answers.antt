@@ -1,10 +1,10 @@
-use Rattle.mlir_work_session.specs.Shelf.{book_view}
+use Rattle.mlir_work_session.specs.Registry.{registry_model}
 use Rattle.std.proofs.Common.{◌≡◌, ◌∙◌, ◌+◌, ap, arith, length, refl, sym}
-use Rattle.mlir_work_lines.specs.Feeding.{waiting}
-use Rattle.mlir_work_lines.specs.declared.feed.Stop.TheVariants.{TooMany}
+use Rattle.mlir_work_script_base.specs.Feeding.{waiting}
+use Rattle.mlir_work_script_base.specs.declared.feed.LineError.TheVariants.{TooMany}
 use Rattle.mlir_work_session.specs.Sittings.{sitting_of}
 use Rattle.mlir_work_session.specs.Limits.{most_script_bytes}
-use Rattle.mlir_work_session.specs.declared.manner.Manner.{Manner}
+use Rattle.mlir_work_session.specs.declared.options.SessionOptions.{SessionOptions}
 use Rattle.mlir_work_session.proofs.Runs.{one_number}
 use Rattle.mlir_work_run.specs.declared.live.Halt.TheVariants.{TooLong}
 use Rattle.mlir_work_run.specs.Whole.{setting_with}
@@ -16,19 +16,19 @@ lines-init g c = record {
   kept = c.requires.kept;
   mode = c.requires.mode;
   handed = c.requires.handed;
-  count = (let behind = c.requires.behind in omega (arith, behind));
+  count = (let trailing = c.requires.trailing in omega (arith, trailing));
   failed = refl;
-  lived = lived_none (setting_with g.L.Supplied.supply c.args.options (book_view c.args.book.now)) c.args.before (sitting_of g.L.Analysis.meaning c.args.bench.now c.args.book.now) (waiting c.args.kept.now.items (g.R.Source.intake c.args.reader.now).remaining) (g.W.Sink.stream c.args.writer.now);
+  lived = lived_none (setting_with g.L.AnalysisSource.supply c.args.options (registry_model c.args.registry.now)) c.args.before (sitting_of g.L.Analysis.meaning c.args.bench.now c.args.registry.now) (waiting c.args.kept.now.items (g.R.Source.intake c.args.reader.now).remaining) (g.W.Sink.stream c.args.writer.now);
 }
 
 pub returns-in-Ok-None-clause-ended : goal.returns-in-Ok-None-clause-ended
-returns-in-Ok-None-clause-ended g c = lived_end (setting_with g.L.Supplied.supply c.args.options (book_view c.args.book.now)) c.args.before (sitting_of g.L.Analysis.meaning c.args.bench.now c.args.book.now) (waiting c.args.kept.now.items (g.R.Source.intake c.args.reader.now).remaining) (waiting c.lines.kept.items (g.R.Source.intake c.lines.reader).remaining) c.lines.read c.lines.n (sitting_of g.L.Analysis.meaning c.lines.bench c.lines.book) c.lines.accepted (g.W.Sink.handed c.lines.writer) c.status_of.result (g.W.Sink.stream c.args.writer.now) (g.W.Sink.stream c.lines.writer) c.lines.invariant.lived (c.in-Ok-None.ensures.end c.in-Ok-None.field-0-is) c.lines.invariant.handed c.status_of.ensures
+returns-in-Ok-None-clause-ended g c = lived_end (setting_with g.L.AnalysisSource.supply c.args.options (registry_model c.args.registry.now)) c.args.before (sitting_of g.L.Analysis.meaning c.args.bench.now c.args.registry.now) (waiting c.args.kept.now.items (g.R.Source.intake c.args.reader.now).remaining) (waiting c.lines.kept.items (g.R.Source.intake c.lines.reader).remaining) c.lines.read c.lines.n (sitting_of g.L.Analysis.meaning c.lines.bench c.lines.registry) c.lines.accepted (g.W.Sink.handed c.lines.writer) c.status_of.result (g.W.Sink.stream c.args.writer.now) (g.W.Sink.stream c.lines.writer) c.lines.invariant.lived (c.in-Ok-None.ensures.end c.in-Ok-None.field-0-is) c.lines.invariant.handed c.status_of.ensures
 
 pub returns-in-Err-clause-ended : goal.returns-in-Err-clause-ended
-returns-in-Err-clause-ended g c = lived_halts (setting_with g.L.Supplied.supply c.args.options (book_view c.args.book.now)) c.args.before (sitting_of g.L.Analysis.meaning c.args.bench.now c.args.book.now) (waiting c.args.kept.now.items (g.R.Source.intake c.args.reader.now).remaining) (waiting c.lines.kept.items (g.R.Source.intake c.lines.reader).remaining) c.lines.read c.lines.n (sitting_of g.L.Analysis.meaning c.lines.bench c.lines.book) c.lines.accepted (g.W.Sink.handed c.lines.writer) (g.W.Sink.stream c.args.writer.now) (g.W.Sink.stream c.lines.writer) c.in-Err.stop c.halt_of.result c.lines.invariant.lived c.lines.invariant.handed c.halt_of.ensures
+returns-in-Err-clause-ended g c = lived_halts (setting_with g.L.AnalysisSource.supply c.args.options (registry_model c.args.registry.now)) c.args.before (sitting_of g.L.Analysis.meaning c.args.bench.now c.args.registry.now) (waiting c.args.kept.now.items (g.R.Source.intake c.args.reader.now).remaining) (waiting c.lines.kept.items (g.R.Source.intake c.lines.reader).remaining) c.lines.read c.lines.n (sitting_of g.L.Analysis.meaning c.lines.bench c.lines.registry) c.lines.accepted (g.W.Sink.handed c.lines.writer) (g.W.Sink.stream c.args.writer.now) (g.W.Sink.stream c.lines.writer) c.in-Err.stop c.halt_of.result c.lines.invariant.lived c.lines.invariant.handed c.halt_of.ensures
 
 pub returns-in_default-clause-ended : goal.returns-in_default-clause-ended
-returns-in_default-clause-ended g c = lived_halts (setting_with g.L.Supplied.supply c.args.options (book_view c.args.book.now)) c.args.before (sitting_of g.L.Analysis.meaning c.args.bench.now c.args.book.now) (waiting c.args.kept.now.items (g.R.Source.intake c.args.reader.now).remaining) (waiting c.lines.kept.items (g.R.Source.intake c.lines.reader).remaining) c.lines.read c.lines.n (sitting_of g.L.Analysis.meaning c.lines.bench c.lines.book) c.lines.accepted (g.W.Sink.handed c.lines.writer) (g.W.Sink.stream c.args.writer.now) (g.W.Sink.stream c.lines.writer) TooMany TooLong c.lines.invariant.lived c.lines.invariant.handed refl
+returns-in_default-clause-ended g c = lived_halts (setting_with g.L.AnalysisSource.supply c.args.options (registry_model c.args.registry.now)) c.args.before (sitting_of g.L.Analysis.meaning c.args.bench.now c.args.registry.now) (waiting c.args.kept.now.items (g.R.Source.intake c.args.reader.now).remaining) (waiting c.lines.kept.items (g.R.Source.intake c.lines.reader).remaining) c.lines.read c.lines.n (sitting_of g.L.Analysis.meaning c.lines.bench c.lines.registry) c.lines.accepted (g.W.Sink.handed c.lines.writer) (g.W.Sink.stream c.args.writer.now) (g.W.Sink.stream c.lines.writer) TooMany TooLong c.lines.invariant.lived c.lines.invariant.handed refl
 
 pub returns-in-Err-live_step-clause-ended : goal.returns-in-Err-live_step-clause-ended
 unfolding most_script_bytes
@@ -36,9 +36,9 @@ returns-in-Err-live_step-clause-ended g c =
     let line = c.in-Ok-Some.line.items in
     let told = c.in-Err-live_step.ensures.answered in
     let is : c.in-Some.more ≡ c.lines.read + length line = (let sum = c.in-Some.ensures in let long = c.len.ensures in omega (arith, sum, long)) in
-    lived_cut (setting_with g.L.Supplied.supply c.args.options (book_view c.args.book.now)) c.args.before (sitting_of g.L.Analysis.meaning c.args.bench.now c.args.book.now) (waiting c.args.kept.now.items (g.R.Source.intake c.args.reader.now).remaining) (waiting c.lines.kept.items (g.R.Source.intake c.lines.reader).remaining) (waiting c.take_line.new.kept.items (g.R.Source.intake c.take_line.new.reader).remaining)
-    c.lines.read c.in-Some.more c.lines.n (sitting_of g.L.Analysis.meaning c.lines.bench c.lines.book) (sitting_of g.L.Analysis.meaning c.live_step.new.bench c.live_step.new.book) c.lines.accepted (g.W.Sink.handed c.live_step.new.writer) (g.W.Sink.stream c.args.writer.now) (g.W.Sink.stream c.lines.writer) (g.W.Sink.stream c.live_step.new.writer) line told.1 told.0 c.lines.invariant.lived
-    (rw c.in-Ok-Some.field-0-is at c.in-Ok-Some.ensures.line) (rw c.in-Ok-Some.field-0-is at c.in-Ok-Some.ensures.some) (rw c.in-Ok-Some.field-0-is at c.in-Ok-Some.ensures.short) is (rw (c.manner_of-manner.ensures, c.deref.ensures.value) at told.2) told.3
+    lived_cut (setting_with g.L.AnalysisSource.supply c.args.options (registry_model c.args.registry.now)) c.args.before (sitting_of g.L.Analysis.meaning c.args.bench.now c.args.registry.now) (waiting c.args.kept.now.items (g.R.Source.intake c.args.reader.now).remaining) (waiting c.lines.kept.items (g.R.Source.intake c.lines.reader).remaining) (waiting c.take_line.new.kept.items (g.R.Source.intake c.take_line.new.reader).remaining)
+    c.lines.read c.in-Some.more c.lines.n (sitting_of g.L.Analysis.meaning c.lines.bench c.lines.registry) (sitting_of g.L.Analysis.meaning c.live_step.new.bench c.live_step.new.registry) c.lines.accepted (g.W.Sink.handed c.live_step.new.writer) (g.W.Sink.stream c.args.writer.now) (g.W.Sink.stream c.lines.writer) (g.W.Sink.stream c.live_step.new.writer) line told.1 told.0 c.lines.invariant.lived
+    (rw c.in-Ok-Some.field-0-is at c.in-Ok-Some.ensures.line) (rw c.in-Ok-Some.field-0-is at c.in-Ok-Some.ensures.some) (rw c.in-Ok-Some.field-0-is at c.in-Ok-Some.ensures.short) is (rw (c.session_options_of-session_options.ensures, c.deref.ensures.value) at told.2) told.3
 
 pub lines-preserved : goal.lines-preserved
 unfolding most_script_bytes
@@ -51,12 +51,12 @@ lines-preserved g c =
       kept = c.live_step.ensures.kept;
       mode = c.live_step.ensures.mode ∙ c.lines.invariant.mode;
       handed = c.in-Ok.ensures.handed;
-      count = (let had = c.lines.invariant.count in let one = one_number c.lines.n c.in-Ok.told in let next = c.number_behind-n.ensures in omega (arith, had, one, next, is, some));
+      count = (let had = c.lines.invariant.count in let one = one_number c.lines.n c.in-Ok.told in let next = c.next_number-n.ensures in omega (arith, had, one, next, is, some));
       failed = c.in-Ok-Some.ensures.failed ∙ c.lines.invariant.failed;
-      lived = rw (c.number_behind-n.ensures, c.accepted_behind-accepted.ensures) (lived_step (setting_with g.L.Supplied.supply c.args.options (book_view c.args.book.now)) c.args.before (sitting_of g.L.Analysis.meaning c.args.bench.now c.args.book.now) (waiting c.args.kept.now.items (g.R.Source.intake c.args.reader.now).remaining) (waiting c.lines.kept.items (g.R.Source.intake c.lines.reader).remaining) (waiting c.take_line.new.kept.items (g.R.Source.intake c.take_line.new.reader).remaining)
-          c.lines.read c.in-Some.more c.lines.n (sitting_of g.L.Analysis.meaning c.lines.bench c.lines.book) (sitting_of g.L.Analysis.meaning c.live_step.new.bench c.live_step.new.book) c.lines.accepted (g.W.Sink.stream c.args.writer.now) (g.W.Sink.stream c.lines.writer) (g.W.Sink.stream c.live_step.new.writer) line told.0 c.in-Ok.told c.lines.invariant.lived
-          (rw c.in-Ok-Some.field-0-is at c.in-Ok-Some.ensures.line) some (rw c.in-Ok-Some.field-0-is at c.in-Ok-Some.ensures.short) is (rw (c.manner_of-manner.ensures, c.deref.ensures.value) at told.1) told.2);
+      lived = rw (c.next_number-n.ensures, c.accepted_so_far-accepted.ensures) (lived_step (setting_with g.L.AnalysisSource.supply c.args.options (registry_model c.args.registry.now)) c.args.before (sitting_of g.L.Analysis.meaning c.args.bench.now c.args.registry.now) (waiting c.args.kept.now.items (g.R.Source.intake c.args.reader.now).remaining) (waiting c.lines.kept.items (g.R.Source.intake c.lines.reader).remaining) (waiting c.take_line.new.kept.items (g.R.Source.intake c.take_line.new.reader).remaining)
+          c.lines.read c.in-Some.more c.lines.n (sitting_of g.L.Analysis.meaning c.lines.bench c.lines.registry) (sitting_of g.L.Analysis.meaning c.live_step.new.bench c.live_step.new.registry) c.lines.accepted (g.W.Sink.stream c.args.writer.now) (g.W.Sink.stream c.lines.writer) (g.W.Sink.stream c.live_step.new.writer) line told.0 c.in-Ok.told c.lines.invariant.lived
+          (rw c.in-Ok-Some.field-0-is at c.in-Ok-Some.ensures.line) some (rw c.in-Ok-Some.field-0-is at c.in-Ok-Some.ensures.short) is (rw (c.session_options_of-session_options.ensures, c.deref.ensures.value) at told.1) told.2);
     }
 
 pub live_step-requires-clause-mode : goal.live_step-requires-clause-mode
-live_step-requires-clause-mode g c = c.lines.invariant.mode ∙ sym (ap (λ (m : Manner). m.opaque) c.manner_of-manner.ensures)
+live_step-requires-clause-mode g c = c.lines.invariant.mode ∙ sym (ap (λ (m : SessionOptions). m.opaque) c.session_options_of-session_options.ensures)

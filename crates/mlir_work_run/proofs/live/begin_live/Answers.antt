@@ -1,5 +1,5 @@
 use Rattle.std.proofs.Common.{[], sym, append-nil}
-use Rattle.mlir_work_session.specs.Benched.{state_of}
+use Rattle.mlir_work_session.specs.RewriterCalls.{state_of}
 use Rattle.mlir_work_session.proofs.Joins.{grows_fails}
 use Rattle.mlir_work_run.proofs.live.begin_live.Goals as goal
 

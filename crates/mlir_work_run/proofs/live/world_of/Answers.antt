@@ -1,5 +1,5 @@
 use Rattle.std.proofs.Common.{◌∙◌, ap}
-use Rattle.ir_event.specs.types.Things.{Things}
+use Rattle.ir_event.specs.types.Things.{ContextModel}
 use Rattle.ir_event.specs.Modules.{module_in}
 use Rattle.mlir_work_run.proofs.Numbered.{numbered_meaning, formed_meaning, world_is}
 use Rattle.mlir_work_run.proofs.live.world_of.Goals as goal
@@ -14,4 +14,4 @@ pub returns-in-Some-clause-world : goal.returns-in-Some-clause-world
 returns-in-Some-clause-world c = world_is c.args.opaque c.args.text.now c.in-Ok.found.0 c.in-Ok.found.1 (module_in c.in-Some.world) c.in-Ok.ensures.read c.in-Some.ensures.module
 
 pub returns-in-Some-clause-mode : goal.returns-in-Some-clause-mode
-returns-in-Some-clause-mode c = ap (λ (d : Things). d.opaque) c.in-Some.ensures.ctx ∙ c.in-Ok.ensures.mode
+returns-in-Some-clause-mode c = ap (λ (d : ContextModel). d.opaque) c.in-Some.ensures.ctx ∙ c.in-Ok.ensures.mode

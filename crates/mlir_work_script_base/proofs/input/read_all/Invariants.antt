@@ -5,8 +5,8 @@ use Rattle.mlir_work_script_base.specs.Limits.{most_input_bytes}
 use Rattle.mlir_work_script_base.specs.Reads.{AreMade}
 use Rattle.mlir_work_script_base.proofs.input.read_all.Given as goal
 
--- the bytes that were read are the front of the input, and are kept unless there was no memory for them; each read gave
--- one at least, or was interrupted
+-- the bytes read so far are a prefix of the input, and are in the buffer unless memory ran out; each read gave at
+-- least one byte or was interrupted
 abbrev pub invariant-loop-made : goal.invariant-loop-made
 invariant-loop-made g l = record {
   front : List ℕ;

@@ -1,12 +1,12 @@
 use Rattle.std.proofs.Common.{refl}
-use Rattle.mlir_work_mixed.specs.transforms.rewriter.Commands as command
-use Rattle.mlir_work_mixed.specs.transforms.rewriter.Edits as edit
-use Rattle.mlir_work_mixed.specs.transforms.rewriter.Machine.{Do}
+use Rattle.mlir_work_transforms.specs.rewriter.Commands as command
+use Rattle.mlir_work_transforms.specs.rewriter.Edits as edit
+use Rattle.mlir_work_transforms.specs.rewriter.Machine.{Do}
 use Rattle.mlir_work_session.proofs.Obeying.{obeys_plain}
 use Rattle.mlir_work_session.proofs.edits.erase.Goals as goal
 
 pub returns-clause-obeys : goal.returns-clause-obeys
-returns-clause-obeys g c manner = obeys_plain manner _ _ (command.Erase c.args.op) (Do (edit.Erase c.args.op)) _ _ c.reply_to.ensures refl c.erase.ensures.does
+returns-clause-obeys g c session_options = obeys_plain session_options _ _ (command.Erase c.args.op) (Do (edit.Erase c.args.op)) _ _ c.reply_to.ensures refl c.erase.ensures.does
 
 pub returns-clause-kept : goal.returns-clause-kept
 returns-clause-kept g c = c.led_benches_are_kept.ensures.kept _ _ c.erase.ensures.led c.requires

@@ -1,11 +1,11 @@
 use Rattle.std.proofs.Common.{refl}
 use Rattle.mlir_work_session.proofs.script.answer.Goals as goal
 
-pub returns-in-Obey-clause-replies : goal.returns-in-Obey-clause-replies
-returns-in-Obey-clause-replies g c = rw c.in-Obey.is c.tell_command.ensures.obeys
+pub returns-in-Command-clause-replies : goal.returns-in-Command-clause-replies
+returns-in-Command-clause-replies g c = rw c.in-Command.is c.answer_command.ensures.obeys
 
-pub returns-in-Ordered-clause-replies : goal.returns-in-Ordered-clause-replies
-returns-in-Ordered-clause-replies g c = rw c.in-Ordered.is c.tell_order.ensures.fulfils
+pub returns-in-Session-clause-replies : goal.returns-in-Session-clause-replies
+returns-in-Session-clause-replies g c = rw c.in-Session.is c.answer_session_command.ensures.fulfils
 
-pub returns-in-Booked-clause-replies : goal.returns-in-Booked-clause-replies
-returns-in-Booked-clause-replies g c = rw c.in-Booked.is (c.shelve.ensures.shelves, refl)
+pub returns-in-Registry-clause-replies : goal.returns-in-Registry-clause-replies
+returns-in-Registry-clause-replies g c = rw c.in-Registry.is (c.run_registry_command.ensures.registries, refl)

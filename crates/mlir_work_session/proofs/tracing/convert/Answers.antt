@@ -1,15 +1,15 @@
-use Rattle.mlir_work_mixed.specs.transforms.rewriter.Benched.{state_of}
+use Rattle.mlir_work_transforms.specs.rewriter.RewriterCalls.{state_of}
 use Rattle.mlir_work_script_base.specs.Clauses.{clauses_of, target_of}
-use Rattle.mlir_work_mixed.specs.transforms.Converting.{command_aim, conversion}
-use Rattle.mlir_work_mixed.proofs.of_transforms.Converted.{convert_full}
+use Rattle.mlir_work_transforms.specs.Converting.{command_aim, conversion}
+use Rattle.mlir_work_transforms.proofs.Converted.{convert_full}
 use Rattle.mlir_work_session.proofs.Fulfilling.{fulfils_converted}
 use Rattle.mlir_work_session.proofs.Room.{replied}
 use Rattle.mlir_work_session.proofs.tracing.convert.Goals as goal
 
 pub returns-clause-fulfils : goal.returns-clause-fulfils
-returns-clause-fulfils g c way =
+returns-clause-fulfils g c setting =
     let target = target_of c.args.full (clauses_of c.args.clauses.now) in
-    fulfils_converted way target _ _ _ _ _ c.reply_converted.ensures c.convert_traced-traced.ensures.does c.convert_traced-traced.ensures.lines
+    fulfils_converted setting target _ _ _ _ _ c.reply_converted.ensures c.convert_traced-traced.ensures.does c.convert_traced-traced.ensures.lines
 
 pub returns-clause-room : goal.returns-clause-room
 returns-clause-room g c =

@@ -1,40 +1,40 @@
 use Rattle.std.proofs.Common.{◌≡◌, ◌∙◌, ap, sym, inr, map, ℕ, List, Some, Vec, Global}
 use Rattle.std.specs.Prelude.{option_map}
 use Rattle.ir_event.specs.types.declared.refusal.Refusal.TheVariants.{Full, Memory}
-use Rattle.mlir_work_mixed.specs.transforms.greedy.Changes.{rewriting}
-use Rattle.mlir_work_mixed.specs.transforms.greedy.Trial.{by_rules}
+use Rattle.mlir_work_transforms.specs.greedy.Changes.{rewriting}
+use Rattle.mlir_work_transforms.specs.greedy.PatternSet.{by_rules}
 use Rattle.mlir_work_script_base.specs.RuleNames.{names_of}
-use Rattle.mlir_work_session.specs.Machine.{limit_or, way_of}
+use Rattle.mlir_work_session.specs.Machine.{limit_or, session_setting}
 use Rattle.mlir_work_session.proofs.Fulfilling.{fulfils_forgot, fulfils_told, fulfils_untold, told_named}
 use Rattle.mlir_work_session.proofs.Room.{other_room, rules_rewrite, traced_room}
 use Rattle.mlir_work_session.proofs.tracing.rewrite.Goals as goal
 
 pub returns-in-Ok-None-clause-fulfils : goal.returns-in-Ok-None-clause-fulfils
 returns-in-Ok-None-clause-fulfils g c supply =
-    rw (c.plain.ensures.reply, c.plain.ensures.shows) (fulfils_untold (way_of supply c.args.manner.now) (Some (names_of c.args.rules.now)) c.args.limit _ (sym (ap (option_map (λ rs. rewriting (by_rules rs) (limit_or c.args.manner.now.limit c.args.limit))) (rw c.in-Ok-None.field-0-is at c.in-Ok-None.ensures.rules))))
+    rw (c.reply_only.ensures.reply, c.reply_only.ensures.shows) (fulfils_untold (session_setting supply c.args.session_options.now) (Some (names_of c.args.rules.now)) c.args.limit _ (sym (ap (option_map (λ rs. rewriting (by_rules rs) (limit_or c.args.session_options.now.limit c.args.limit))) (rw c.in-Ok-None.field-0-is at c.in-Ok-None.ensures.rules))))
 
 pub returns-in-Ok-None-clause-room : goal.returns-in-Ok-None-clause-room
-returns-in-Ok-None-clause-room g c f is = rw (c.plain.ensures.reply) (other_room _ _ f _ (λ e. cc))
+returns-in-Ok-None-clause-room g c f is = rw (c.reply_only.ensures.reply) (other_room _ _ f _ (λ e. cc))
 
 pub returns-in-Err-clause-fulfils : goal.returns-in-Err-clause-fulfils
 returns-in-Err-clause-fulfils g c supply =
-    rw (c.plain-in-Err.ensures.reply, c.plain-in-Err.ensures.shows) (fulfils_forgot (way_of supply c.args.manner.now) (names_of c.args.rules.now) c.args.limit _ c.in-Err.refusal c.in-Err.ensures.want.0 c.in-Err.ensures.want.1)
+    rw (c.reply_only-in-Err.ensures.reply, c.reply_only-in-Err.ensures.shows) (fulfils_forgot (session_setting supply c.args.session_options.now) (names_of c.args.rules.now) c.args.limit _ c.in-Err.refusal c.in-Err.ensures.want.0 c.in-Err.ensures.want.1)
 
 pub returns-in-Err-clause-room : goal.returns-in-Err-clause-room
-returns-in-Err-clause-room g c f is = rw (c.plain-in-Err.ensures.reply) (other_room _ _ f c.in-Err.refusal (λ e. let z : Memory ≡ Full = sym c.in-Err.ensures.want.0 ∙ e in cc))
+returns-in-Err-clause-room g c f is = rw (c.reply_only-in-Err.ensures.reply) (other_room _ _ f c.in-Err.refusal (λ e. let z : Memory ≡ Full = sym c.in-Err.ensures.want.0 ∙ e in cc))
 
 pub returns-clause-fulfils : goal.returns-clause-fulfils
 returns-clause-fulfils g c supply =
     let names = names_of c.args.rules.now in
     let rules = rw c.in-Ok-Some.field-0-is at c.in-Ok-Some.ensures.rules in
-    fulfils_told (way_of supply c.args.manner.now) (Some names) c.args.limit (rewriting (by_rules c.in-Ok-Some.rules.items) c.limit_of.result) _ _ _ _ _ (rules_rewrite names _ _ _ rules c.limit_of.ensures) c.told.ensures.reply (rw c.deref.ensures.value at c.rewrite_traced-called.ensures.does)
-    (told_named names c.in-Ok-Some.rules.items _ _ _ _ _ _ _ _ rules c.limit_of.ensures c.new-lines.ensures.text (ap (λ (ns : List (Vec ℕ Global)). map (λ n. n.items) ns) c.new-lines.ensures.names) (rw c.deref.ensures.value at c.rewrite_traced-called.ensures.told) c.told.ensures.shows)
+    fulfils_told (session_setting supply c.args.session_options.now) (Some names) c.args.limit (rewriting (by_rules c.in-Ok-Some.rules.items) c.limit_of.result) _ _ _ _ _ (rules_rewrite names _ _ _ rules c.limit_of.ensures) c.trace_reply.ensures.reply (rw c.deref.ensures.value at c.rewrite_traced-called.ensures.does)
+    (told_named names c.in-Ok-Some.rules.items _ _ _ _ _ _ _ _ rules c.limit_of.ensures c.new-lines.ensures.text (ap (λ (ns : List (Vec ℕ Global)). map (λ n. n.items) ns) c.new-lines.ensures.names) (rw c.deref.ensures.value at c.rewrite_traced-called.ensures.told) c.trace_reply.ensures.shows)
 
 pub returns-clause-room : goal.returns-clause-room
 returns-clause-room g c f is =
     let names = names_of c.args.rules.now in
     let rules = rw c.in-Ok-Some.field-0-is at c.in-Ok-Some.ensures.rules in
-    traced_room _ _ f (rewriting (by_rules c.in-Ok-Some.rules.items) c.limit_of.result) _ _ _ _ (λ more. inr more) (rules_rewrite names _ _ _ rules c.limit_of.ensures) is c.told.ensures.reply (rw c.deref.ensures.value at c.rewrite_traced-called.ensures.room)
+    traced_room _ _ f (rewriting (by_rules c.in-Ok-Some.rules.items) c.limit_of.result) _ _ _ _ (λ more. inr more) (rules_rewrite names _ _ _ rules c.limit_of.ensures) is c.trace_reply.ensures.reply (rw c.deref.ensures.value at c.rewrite_traced-called.ensures.room)
 
 pub returns-clause-kept : goal.returns-clause-kept
 returns-clause-kept g c = c.led_benches_are_kept.ensures.kept _ _ c.rewrite_traced-called.ensures.led c.requires

@@ -1,18 +1,18 @@
 use Rattle.std.proofs.Common.{refl}
-use Rattle.mlir_work_mixed.specs.transforms.rewriter.Commands as command
-use Rattle.mlir_work_mixed.specs.transforms.rewriter.Machine as call
-use Rattle.mlir_work_mixed.specs.transforms.rewriter.Benched.{state_of}
+use Rattle.mlir_work_transforms.specs.rewriter.Commands as command
+use Rattle.mlir_work_transforms.specs.rewriter.Machine as call
+use Rattle.mlir_work_transforms.specs.rewriter.RewriterCalls.{state_of}
 use Rattle.mlir_work_script_base.specs.Clauses.{clauses_of, target_of}
-use Rattle.mlir_work_mixed.specs.transforms.Converting.{command_aim, conversion}
-use Rattle.mlir_work_mixed.proofs.of_transforms.Converted.{convert_full}
+use Rattle.mlir_work_transforms.specs.Converting.{command_aim, conversion}
+use Rattle.mlir_work_transforms.proofs.Converted.{convert_full}
 use Rattle.mlir_work_session.proofs.Obeying.{obeys_plain}
 use Rattle.mlir_work_session.proofs.Room.{replied}
 use Rattle.mlir_work_session.proofs.transforming.convert.Goals as goal
 
 pub returns-clause-obeys : goal.returns-clause-obeys
-returns-clause-obeys g c manner =
+returns-clause-obeys g c session_options =
     let target = target_of c.args.full (clauses_of c.args.clauses.now) in
-    obeys_plain manner _ _ (command.Convert target) (call.Change (conversion target)) _ _ c.reply_converted.ensures refl c.convert.ensures.does
+    obeys_plain session_options _ _ (command.Convert target) (call.Change (conversion target)) _ _ c.reply_converted.ensures refl c.convert.ensures.does
 
 pub returns-clause-kept : goal.returns-clause-kept
 returns-clause-kept g c = c.led_benches_are_kept.ensures.kept _ _ c.convert.ensures.led c.requires

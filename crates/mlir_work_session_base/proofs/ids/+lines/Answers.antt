@@ -2,7 +2,7 @@ use Rattle.std.proofs.Common.{◌∙◌, ap, sym, refl, map, ◌++◌, ◌∷◌
 use Rattle.ir_event.specs.trees.Tree.{Op, regions_of, ops_of}
 use Rattle.ir_event.specs.trees.View.{region_view}
 use Rattle.ir_event.specs.trees.declared.tree.TreeRegion.{TreeRegion}
-use Rattle.ir_event.proofs.of_trees.Steps.{made_next, made_all, made_behind}
+use Rattle.ir_event.proofs.of_trees.Steps.{made_next, made_all, made_after}
 use Rattle.mlir_work_session_base.specs.IdsText.{line_ids, ops_line_ids, region_line_ids, regions_line_ids}
 use Rattle.mlir_work_session_base.proofs.ids.+lines.Goals as goal
 
@@ -21,7 +21,7 @@ push_lines-returns t c =
     let own = x ∷ [] in
     let todo = λ (n : ℕ) (xs : List TreeRegion). regions_line_ids x (regions_of (map region_view xs)) in
     let all = made_all todo xs c.loop-region.region-index c.loop-region.out.items (c.push.new.self.items ++ todo 0 xs) refl c.loop-region-test.false c.loop-region.invariant in
-    made_behind c.args.out.now.items own (todo 0 xs) c.push.new.self.items c.loop-region.out.items (line_ids c.args.tree.now) c.in_ok-push.ensures.items all
+    made_after c.args.out.now.items own (todo 0 xs) c.push.new.self.items c.loop-region.out.items (line_ids c.args.tree.now) c.in_ok-push.ensures.items all
     (ap (λ (xs : List TreeRegion). own ++ todo 0 xs) c.deref-region-items.ensures.value ∙ ap line_ids c.tree.view_is)
 
 pub push_region_lines-loop-op-preserved : goal.push_region_lines-loop-op-preserved

@@ -3,12 +3,12 @@ use Rattle.mlir_work_transforms.proofs.at.applies.Goals as goal
 
 pub returns-in-Ok-done-clause-onward : goal.returns-in-Ok-done-clause-onward
 returns-in-Ok-done-clause-onward g c =
-    let r = g.R.Rewriting in
+    let r = g.R.GreedyRewriter in
     r.through _ _ _ (r.through _ _ _ c.in-Ok.ensures.onward c.rewrite_once-done.ensures.onward) c.rollback.ensures.onward
 
 pub returns-in-Err-done-clause-onward : goal.returns-in-Err-done-clause-onward
 returns-in-Err-done-clause-onward g c =
-    let r = g.R.Rewriting in
+    let r = g.R.GreedyRewriter in
     r.through _ _ _ (r.through _ _ _ c.in-Ok.ensures.onward c.rewrite_once-done.ensures.onward) c.rollback.ensures.onward
 
 pub returns-in-Err-clause-left : goal.returns-in-Err-clause-left

@@ -6,7 +6,7 @@ use Rattle.mlir_work_transforms.proofs.AtRuns.{at_start, one_more, converges, re
 use Rattle.mlir_work_transforms.proofs.at.rewrites.Goals as goal
 
 pub rewrites-init : goal.rewrites-init
-rewrites-init g c = (at_start c.args.op c.args.limit (g.R.Rewriting.held c.args.bench.now), (omega arith, (refl, (g.R.Rewriting.stays c.args.bench.now, noted_none (g.R.Rewriting.desk c.args.bench.now)))))
+rewrites-init g c = (at_start c.args.op c.args.limit (g.R.GreedyRewriter.held c.args.bench.now), (omega arith, (refl, (g.R.GreedyRewriter.stays c.args.bench.now, noted_none (g.R.GreedyRewriter.transaction c.args.bench.now)))))
 
 pub rewrites-preserved : goal.rewrites-preserved
 rewrites-preserved g c = (
@@ -16,7 +16,7 @@ rewrites-preserved g c = (
     (
       c.rewrite_once.ensures.marks ∙ c.rewrites.invariant.1.1.0,
       (
-        g.R.Rewriting.through _ _ _ c.rewrites.invariant.1.1.1.0 c.rewrite_once.ensures.onward,
+        g.R.GreedyRewriter.through _ _ _ c.rewrites.invariant.1.1.1.0 c.rewrite_once.ensures.onward,
         noted_more _ _ _ c.rewrites.invariant.1.1.1.1 c.rewrite_once.ensures.journal,
       ),
     ),
@@ -40,19 +40,19 @@ returns-in-Ok-false-applies-clause-ok g c =
     ∙ ap (λ m. ended m c.rewrites.count converged) (sym c.applies.ensures.held)
 
 pub returns-in-Ok-false-clause-onward : goal.returns-in-Ok-false-clause-onward
-returns-in-Ok-false-clause-onward g c = g.R.Rewriting.through _ _ _ c.rewrites.invariant.1.1.1.0 c.rewrite_once.ensures.onward
+returns-in-Ok-false-clause-onward g c = g.R.GreedyRewriter.through _ _ _ c.rewrites.invariant.1.1.1.0 c.rewrite_once.ensures.onward
 
 pub returns-in-Err-clause-onward : goal.returns-in-Err-clause-onward
-returns-in-Err-clause-onward g c = g.R.Rewriting.through _ _ _ c.rewrites.invariant.1.1.1.0 c.rewrite_once.ensures.onward
+returns-in-Err-clause-onward g c = g.R.GreedyRewriter.through _ _ _ c.rewrites.invariant.1.1.1.0 c.rewrite_once.ensures.onward
 
 pub returns-in-Ok-true-applies-clause-onward : goal.returns-in-Ok-true-applies-clause-onward
-returns-in-Ok-true-applies-clause-onward g c = g.R.Rewriting.through _ _ _ c.rewrites.invariant.1.1.1.0 c.applies.ensures.onward
+returns-in-Ok-true-applies-clause-onward g c = g.R.GreedyRewriter.through _ _ _ c.rewrites.invariant.1.1.1.0 c.applies.ensures.onward
 
 pub returns-in-Ok-false-applies-clause-onward : goal.returns-in-Ok-false-applies-clause-onward
-returns-in-Ok-false-applies-clause-onward g c = g.R.Rewriting.through _ _ _ c.rewrites.invariant.1.1.1.0 c.applies.ensures.onward
+returns-in-Ok-false-applies-clause-onward g c = g.R.GreedyRewriter.through _ _ _ c.rewrites.invariant.1.1.1.0 c.applies.ensures.onward
 
 pub returns-in-Err-applies-clause-onward : goal.returns-in-Err-applies-clause-onward
-returns-in-Err-applies-clause-onward g c = g.R.Rewriting.through _ _ _ c.rewrites.invariant.1.1.1.0 c.applies.ensures.onward
+returns-in-Err-applies-clause-onward g c = g.R.GreedyRewriter.through _ _ _ c.rewrites.invariant.1.1.1.0 c.applies.ensures.onward
 
 pub returns-in-Ok-false-clause-journal : goal.returns-in-Ok-false-clause-journal
 returns-in-Ok-false-clause-journal g c = noted_more _ _ _ c.rewrites.invariant.1.1.1.1 c.rewrite_once.ensures.journal

@@ -13,13 +13,13 @@ returns-then-limit-lt1-clause-refused g c = elim c.then-limit-lt1.either [
 ]
 
 pub returns-then-limit-lt1-clause-journal : goal.returns-then-limit-lt1-clause-journal
-returns-then-limit-lt1-clause-journal g c = left_none (g.R.Rewriting.desk c.args.bench.now)
+returns-then-limit-lt1-clause-journal g c = left_none (g.R.GreedyRewriter.transaction c.args.bench.now)
 
 pub returns-then-not-in_tree-clause-refused : goal.returns-then-not-in_tree-clause-refused
 returns-then-not-in_tree-clause-refused g c = absent_reason c.args.op c.args.limit _ (limit_fits c.args.limit c.if-limit-lt1.false c.if-limit-gt1000000.false) _ (sym c.in_tree.ensures ∙ c.if-not-in_tree.true)
 
 pub returns-then-not-in_tree-clause-journal : goal.returns-then-not-in_tree-clause-journal
-returns-then-not-in_tree-clause-journal g c = left_none (g.R.Rewriting.desk c.args.bench.now)
+returns-then-not-in_tree-clause-journal g c = left_none (g.R.GreedyRewriter.transaction c.args.bench.now)
 
 pub returns-in-Err-clause-refused : goal.returns-in-Err-clause-refused
 returns-in-Err-clause-refused g c = memory_reason c.args.op c.args.limit _ _ (limit_fits c.args.limit c.if-limit-lt1.false c.if-limit-gt1000000.false)
@@ -36,16 +36,16 @@ returns-in-Ok-rewrites-clause-ok g c =
 pub returns-in-Err-rewrites-clause-refused : goal.returns-in-Err-rewrites-clause-refused
 returns-in-Err-rewrites-clause-refused g c =
     stop_reason c.args.op c.args.limit _ (limit_fits c.args.limit c.if-limit-lt1.false c.if-limit-gt1000000.false) _ _ _ c.in-Err-rewrites.refusal (sym c.in_tree.ensures ∙ c.if-not-in_tree.false) c.in-Ok.ensures.held
-    (g.R.Rewriting.stays_full _ _ c.rollback.ensures.onward) c.in-Err-rewrites.ensures.refused
+    (g.R.GreedyRewriter.stays_full _ _ c.rollback.ensures.onward) c.in-Err-rewrites.ensures.refused
 
 pub returns-in-Ok-rewrites-clause-onward : goal.returns-in-Ok-rewrites-clause-onward
 returns-in-Ok-rewrites-clause-onward g c =
-    let r = g.R.Rewriting in
+    let r = g.R.GreedyRewriter in
     r.through _ _ _ (r.through _ _ _ c.in-Ok.ensures.onward c.rewrites.ensures.onward) c.commit.ensures.onward
 
 pub returns-in-Err-rewrites-clause-onward : goal.returns-in-Err-rewrites-clause-onward
 returns-in-Err-rewrites-clause-onward g c =
-    let r = g.R.Rewriting in
+    let r = g.R.GreedyRewriter in
     r.through _ _ _ (r.through _ _ _ c.in-Ok.ensures.onward c.rewrites.ensures.onward) c.rollback.ensures.onward
 
 pub returns-in-Ok-rewrites-clause-journal : goal.returns-in-Ok-rewrites-clause-journal

@@ -15,8 +15,8 @@ returns-clause-does g c =
     let o = command_aim (said_target c.args.full (clauses_of c.args.clauses.now)) in
     let new = c.convert_told-called.new in
     let r = c.convert_told-called.result in
-    let shown : Shown r c.told.result.called new.teller.text.items c.told.result.lines.items new.teller.stay = record { ok = c.told.ensures.ok; fault = c.told.ensures.fault } in
-    traced_does g.L.Analysis.meaning o c.args.bench.now new.bench r c.told.result.called new.teller.text.items c.told.result.lines.items new.teller.stay shown
+    let shown : Shown r c.traced_conversion.result.called new.tracer.text.items c.traced_conversion.result.lines.items new.tracer.failure = record { ok = c.traced_conversion.ensures.ok; fault = c.traced_conversion.ensures.fault } in
+    traced_does g.L.Analysis.meaning o c.args.bench.now new.bench r c.traced_conversion.result.called new.tracer.text.items c.traced_conversion.result.lines.items new.tracer.failure shown
     c.led_benches_are_kept.ensures.ages c.convert_told-called.ensures.led c.convert_told-called.ensures.converts c.convert_told-called.ensures.does
 
 pub returns-clause-converts : goal.returns-clause-converts
@@ -24,31 +24,31 @@ returns-clause-converts g c =
     let o = command_aim (said_target c.args.full (clauses_of c.args.clauses.now)) in
     let new = c.convert_told-called.new in
     let r = c.convert_told-called.result in
-    let shown : Shown r c.told.result.called new.teller.text.items c.told.result.lines.items new.teller.stay = record { ok = c.told.ensures.ok; fault = c.told.ensures.fault } in
-    traced_converts g.L.Analysis.meaning o c.args.bench.now new.bench r c.told.result.called new.teller.text.items c.told.result.lines.items new.teller.stay shown c.convert_told-called.ensures.converts
+    let shown : Shown r c.traced_conversion.result.called new.tracer.text.items c.traced_conversion.result.lines.items new.tracer.failure = record { ok = c.traced_conversion.ensures.ok; fault = c.traced_conversion.ensures.fault } in
+    traced_converts g.L.Analysis.meaning o c.args.bench.now new.bench r c.traced_conversion.result.called new.tracer.text.items c.traced_conversion.result.lines.items new.tracer.failure shown c.convert_told-called.ensures.converts
 
 pub returns-clause-lines : goal.returns-clause-lines
 returns-clause-lines g c =
     let o = command_aim (said_target c.args.full (clauses_of c.args.clauses.now)) in
     let new = c.convert_told-called.new in
     let r = c.convert_told-called.result in
-    let shown : Shown r c.told.result.called new.teller.text.items c.told.result.lines.items new.teller.stay = record { ok = c.told.ensures.ok; fault = c.told.ensures.fault } in
+    let shown : Shown r c.traced_conversion.result.called new.tracer.text.items c.traced_conversion.result.lines.items new.tracer.failure = record { ok = c.traced_conversion.ensures.ok; fault = c.traced_conversion.ensures.fault } in
     let begun = c.new-lines.result in
-    traced_lines o (seen c.args.bench.now) (seen new.bench) r c.told.result.called begun.text.items new.teller.text.items c.told.result.lines.items begun.stay new.teller.stay c.convert_told-called.ensures.converts
-    (record { nothing = c.new-lines.ensures.text; unset = c.new-lines.ensures.stay; told = c.convert_told-called.ensures.told; stays = c.convert_told-called.ensures.stays }) shown
+    traced_lines o (seen c.args.bench.now) (seen new.bench) r c.traced_conversion.result.called begun.text.items new.tracer.text.items c.traced_conversion.result.lines.items begun.failure new.tracer.failure c.convert_told-called.ensures.converts
+    (record { nothing = c.new-lines.ensures.text; unset = c.new-lines.ensures.failure; told = c.convert_told-called.ensures.told; stays = c.convert_told-called.ensures.stays }) shown
 
 pub returns-clause-none : goal.returns-clause-none
 returns-clause-none g c =
     let o = command_aim (said_target c.args.full (clauses_of c.args.clauses.now)) in
     let new = c.convert_told-called.new in
     let r = c.convert_told-called.result in
-    let shown : Shown r c.told.result.called new.teller.text.items c.told.result.lines.items new.teller.stay = record { ok = c.told.ensures.ok; fault = c.told.ensures.fault } in
-    traced_on g.L.Analysis.meaning o c.args.bench.now new.bench r c.told.result.called new.teller.text.items c.told.result.lines.items new.teller.stay shown (has_no_cast (module_held new.bench.desk).tree ≡ true) c.convert_told-called.ensures.none
+    let shown : Shown r c.traced_conversion.result.called new.tracer.text.items c.traced_conversion.result.lines.items new.tracer.failure = record { ok = c.traced_conversion.ensures.ok; fault = c.traced_conversion.ensures.fault } in
+    traced_on g.L.Analysis.meaning o c.args.bench.now new.bench r c.traced_conversion.result.called new.tracer.text.items c.traced_conversion.result.lines.items new.tracer.failure shown (has_no_cast (module_held new.bench.transaction).tree ≡ true) c.convert_told-called.ensures.none
 
 pub returns-clause-journal : goal.returns-clause-journal
 returns-clause-journal g c =
     let o = command_aim (said_target c.args.full (clauses_of c.args.clauses.now)) in
     let new = c.convert_told-called.new in
     let r = c.convert_told-called.result in
-    let shown : Shown r c.told.result.called new.teller.text.items c.told.result.lines.items new.teller.stay = record { ok = c.told.ensures.ok; fault = c.told.ensures.fault } in
-    traced_journal g.L.Analysis.meaning o c.args.bench.now new.bench r c.told.result.called new.teller.text.items c.told.result.lines.items new.teller.stay shown (Noted c.args.bench.now.desk new.bench.desk) (Recorded [] c.args.bench.now.desk new.bench.desk) c.convert_told-called.ensures.journal
+    let shown : Shown r c.traced_conversion.result.called new.tracer.text.items c.traced_conversion.result.lines.items new.tracer.failure = record { ok = c.traced_conversion.ensures.ok; fault = c.traced_conversion.ensures.fault } in
+    traced_journal g.L.Analysis.meaning o c.args.bench.now new.bench r c.traced_conversion.result.called new.tracer.text.items c.traced_conversion.result.lines.items new.tracer.failure shown (Noted c.args.bench.now.transaction new.bench.transaction) (Recorded [] c.args.bench.now.transaction new.bench.transaction) c.convert_told-called.ensures.journal

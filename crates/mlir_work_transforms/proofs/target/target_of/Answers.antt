@@ -34,9 +34,9 @@ returns-clause-interned g c =
 
 pub returns-clause-names : goal.returns-clause-names
 returns-clause-names g c =
-    let first = c.names_in.new.bench.desk.ctx in
-    let second = c.names_in-2.new.bench.desk.ctx in
-    let d = c.names_in-3.new.bench.desk.ctx in
+    let first = c.names_in.new.bench.transaction.ctx in
+    let second = c.names_in-2.new.bench.transaction.ctx in
+    let d = c.names_in-3.new.bench.transaction.ctx in
     target_named d (record { full = c.args.full; legal = c.in-Ok.legal; illegal = c.in-Ok-names_in.illegal; dynamic = c.in-Ok-names_in-2.dynamic; rules = c.in-Some.rules.items; depth = c.unwrap_or.result })
     c.args.full c.args.clauses.now
     (still_numbers first d _ _ (grows_trans first second d c.names_in-2.ensures.interned.grows c.names_in-3.ensures.interned.grows) c.in-Ok.ensures.named)
@@ -45,9 +45,9 @@ returns-clause-names g c =
 
 pub returns-clause-aim : goal.returns-clause-aim
 returns-clause-aim g c =
-    let first = c.names_in.new.bench.desk.ctx in
-    let second = c.names_in-2.new.bench.desk.ctx in
-    let d = c.names_in-3.new.bench.desk.ctx in
+    let first = c.names_in.new.bench.transaction.ctx in
+    let second = c.names_in-2.new.bench.transaction.ctx in
+    let d = c.names_in-3.new.bench.transaction.ctx in
     target_aims d (record { full = c.args.full; legal = c.in-Ok.legal; illegal = c.in-Ok-names_in.illegal; dynamic = c.in-Ok-names_in-2.dynamic; rules = c.in-Some.rules.items; depth = c.unwrap_or.result })
     c.args.full c.args.clauses.now
     (still_numbers first d _ _ (grows_trans first second d c.names_in-2.ensures.interned.grows c.names_in-3.ensures.interned.grows) c.in-Ok.ensures.named)

@@ -1,5 +1,5 @@
 use Rattle.std.proofs.Common.{refl}
-use Rattle.patterns_lowering.specs.runs.Interning.{Added}
+use Rattle.patterns_lowering.specs.Interning.{Added}
 use Rattle.patterns.proofs.Adding.{added_on}
 use Rattle.patterns.proofs.Numbers.{attr_keeps, type_keeps}
 use Rattle.patterns.proofs.Standing.{chosen_edits_stand}
@@ -10,9 +10,9 @@ returns-in-Err-integer_type-clause-added g c = added_on g.L.Analysis.meaning c.a
 
 pub returns-in-Ok-chosen_edits-clause-stands : goal.returns-in-Ok-chosen_edits-clause-stands
 returns-in-Ok-chosen_edits-clause-stands g c =
-    let old = c.args.bench.now.desk.ctx in
-    let middle = c.predicate_attr.new.bench.desk.ctx in
-    let new = c.integer_type.new.bench.desk.ctx in
+    let old = c.args.bench.now.transaction.ctx in
+    let middle = c.predicate_attr.new.bench.transaction.ctx in
+    let new = c.integer_type.new.bench.transaction.ctx in
     let all : Added g.L.Analysis.meaning c.args.bench.now c.integer_type.new.bench = added_on g.L.Analysis.meaning c.args.bench.now c.predicate_attr.new.bench c.integer_type.new.bench c.is_formed.ensures.context.holds c.in-Ok.ensures.added c.in-Ok-integer_type.ensures.added in
     chosen_edits_stand new c.is_formed-2.ensures.context c.args.site.now c.args.ty _ (type_keeps old new c.args.ty _ all.grown.grows (c.requires.ty, refl))
     c.in-Ok-integer_type.truth c.in-Ok-integer_type.ensures.ok

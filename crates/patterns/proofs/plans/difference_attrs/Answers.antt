@@ -16,10 +16,10 @@ returns-in-Err-flags_attr-clause-added g c =
 
 pub returns-clause-ok : goal.returns-clause-ok
 returns-clause-ok g c =
-    let old = c.args.bench.now.desk.ctx in
-    let first = c.value_attr.new.bench.desk.ctx in
-    let second = c.value_attr-2.new.bench.desk.ctx in
-    let last = c.flags_attr.new.bench.desk.ctx in
+    let old = c.args.bench.now.transaction.ctx in
+    let first = c.value_attr.new.bench.transaction.ctx in
+    let second = c.value_attr-2.new.bench.transaction.ctx in
+    let last = c.flags_attr.new.bench.transaction.ctx in
     let typed : IsTypeOf first c.args.ty (type_term old c.args.ty) = type_keeps old first c.args.ty _ c.in-Ok.ensures.added.grown.grows (c.requires.ty, refl) in (
       attr_keeps second last c.in-Ok.value _ c.is_formed-2.ensures.context.holds c.in-Ok-flags_attr.ensures.added.grown.grows (attr_keeps first second c.in-Ok.value _ c.is_formed.ensures.context.holds c.in-Ok-value_attr.ensures.added.grown.grows c.in-Ok.ensures.ok),
       attr_keeps second last c.in-Ok-value_attr.value _ c.is_formed-2.ensures.context.holds c.in-Ok-flags_attr.ensures.added.grown.grows

@@ -1,5 +1,5 @@
 use Rattle.std.proofs.Common.{refl}
-use Rattle.patterns_lowering.specs.runs.Interning.{Added}
+use Rattle.patterns_lowering.specs.Interning.{Added}
 use Rattle.patterns.proofs.Adding.{added_on}
 use Rattle.patterns.proofs.Numbers.{flags_keep, name_keeps, type_keeps}
 use Rattle.patterns.proofs.Standing.{remainder_edits_stand}
@@ -10,9 +10,9 @@ returns-in-Err-flags_attr-clause-added g c = added_on g.L.Analysis.meaning c.arg
 
 pub returns-in-Ok-remainder_edits-clause-stands : goal.returns-in-Ok-remainder_edits-clause-stands
 returns-in-Ok-remainder_edits-clause-stands g c =
-    let old = c.args.bench.now.desk.ctx in
-    let middle = c.flags_for.new.bench.desk.ctx in
-    let new = c.flags_attr.new.bench.desk.ctx in
+    let old = c.args.bench.now.transaction.ctx in
+    let middle = c.flags_for.new.bench.transaction.ctx in
+    let new = c.flags_attr.new.bench.transaction.ctx in
     let all : Added g.L.Analysis.meaning c.args.bench.now c.flags_attr.new.bench = added_on g.L.Analysis.meaning c.args.bench.now c.flags_for.new.bench c.flags_attr.new.bench c.is_formed.ensures.context.holds c.in-Ok.ensures.added c.in-Ok-flags_attr.ensures.added in
     remainder_edits_stand new c.is_formed-2.ensures.context c.args.site.now c.args.ty _ (type_keeps old new c.args.ty _ all.grown.grows (c.requires.ty, refl))
     c.args.division _ (name_keeps old new c.args.division _ all.grown.grows (c.requires.name, refl))

@@ -1,6 +1,6 @@
 use Rattle.std.proofs.Common.{◌≡◌, ◌++◌, length, map}
 use Rattle.ir_event.specs.Modules.{module_in}
-use Rattle.patterns_yields.specs.base.Looks.{is_index_value}
+use Rattle.patterns_soundness.specs.base.Looks.{is_index_value}
 use Rattle.patterns_lowering.proofs.index.index_values.Given as goal
 
 abbrev pub invariant-values : goal.invariant-values

@@ -2,7 +2,7 @@ use Rattle.std.proofs.Common.{◌≡◌, ◌++◌, length, map, true}
 use Rattle.std.specs.List.{list_all}
 use Rattle.ir_event.specs.types.Terms.{type_term}
 use Rattle.ir_event.specs.trees.Meaning.{is_type}
-use Rattle.patterns_yields.specs.base.Lowering.{indices}
+use Rattle.patterns_soundness.specs.base.Lowering.{indices}
 use Rattle.patterns_lowering.proofs.index.indices.Given as goal
 
 abbrev pub invariant-types : goal.invariant-types

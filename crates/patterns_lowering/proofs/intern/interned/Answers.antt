@@ -8,14 +8,14 @@ use Rattle.patterns_lowering.proofs.intern.interned.Goals as goal
 
 pub lowered_entries-requires-clause-known : goal.lowered_entries-requires-clause-known
 lowered_entries-requires-clause-known g c =
-    let old = c.args.bench.now.desk.ctx in
-    let new = c.interned_types.new.bench.desk.ctx in
+    let old = c.args.bench.now.transaction.ctx in
+    let new = c.interned_types.new.bench.transaction.ctx in
     subst (AreKnown new) (sym c.deref.ensures.value)
     (subst (λ (o : Op). AreKnown new (head o).properties) (sym c.op.view_is) (entries_sound new c.args.op.now (stays_sound old new c.args.op.now c.in-Ok.ensures.interned.grown.grows c.requires)))
 
 pub returns-in-Ok-lowered_entries-clause-types : goal.returns-in-Ok-lowered_entries-clause-types
 returns-in-Ok-lowered_entries-clause-types g c =
-    types_stay c.interned_types.new.bench.desk.ctx c.lowered_entries.new.bench.desk.ctx c.in-Ok.types.0 c.in-Ok.types.1 c.in-Ok-lowered_entries.ensures.interned.grown.grows c.in-Ok.ensures.types
+    types_stay c.interned_types.new.bench.transaction.ctx c.lowered_entries.new.bench.transaction.ctx c.in-Ok.types.0 c.in-Ok.types.1 c.in-Ok-lowered_entries.ensures.interned.grown.grows c.in-Ok.ensures.types
 
 pub returns-in-Ok-lowered_entries-clause-interned : goal.returns-in-Ok-lowered_entries-clause-interned
 returns-in-Ok-lowered_entries-clause-interned g c =

@@ -5,8 +5,8 @@ use Rattle.patterns_lowering.proofs.intern.interned_types.Goals as goal
 
 pub returns-in-Ok-interned_type-clause-types : goal.returns-in-Ok-interned_type-clause-types
 returns-in-Ok-interned_type-clause-types g c =
-    let b = c.interned_type.new.bench.desk.ctx in
-    let d = c.interned_type-2.new.bench.desk.ctx in
+    let b = c.interned_type.new.bench.transaction.ctx in
+    let d = c.interned_type-2.new.bench.transaction.ctx in
     let grows = c.in-Ok-interned_type.ensures.interned.grown.grows in
     record {
       wide_known = type_known b d c.in-Ok.wide grows c.in-Ok.ensures.known;

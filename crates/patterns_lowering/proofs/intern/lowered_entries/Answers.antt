@@ -7,7 +7,7 @@ use Rattle.ir_event.proofs.of_types.Truths.{uncons}
 
 pub entries-init : goal.entries-init
 entries-init g c = record {
-  lowering = subst (λ (made : List (ℕ × ℕ)). IsLowering c.args.bench.now.desk.ctx c.args.entries.now c.args.entries.now made) (sym c.new-lowered.ensures.items) (lowering_begun c.args.bench.now.desk.ctx c.args.entries.now c.requires.known);
+  lowering = subst (λ (made : List (ℕ × ℕ)). IsLowering c.args.bench.now.transaction.ctx c.args.entries.now c.args.entries.now made) (sym c.new-lowered.ensures.items) (lowering_begun c.args.bench.now.transaction.ctx c.args.entries.now c.requires.known);
   interned = interned_none g.L.Analysis.meaning c.led_benches_are_kept.ensures.none c.args.bench.now;
   holds = c.is_formed.ensures.context.holds;
   known = c.requires.wide_known;
@@ -20,8 +20,8 @@ returns-in-Err-clause-interned g c =
 
 pub entries-preserved : goal.entries-preserved
 entries-preserved g c =
-    let b = c.entries.bench.desk.ctx in
-    let d = c.lowered_entry.new.bench.desk.ctx in
+    let b = c.entries.bench.transaction.ctx in
+    let d = c.lowered_entry.new.bench.transaction.ctx in
     let grows = c.in_default-lowered_entry.ensures.interned.grown.grows in
     let u = uncons c.entries.rest.now c.entry-item.result _ c.in-len1-up.len_at_least c.entry-item.is in
     record {

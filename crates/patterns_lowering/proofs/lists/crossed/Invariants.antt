@@ -1,6 +1,6 @@
 use Rattle.std.proofs.Common.{◌≡◌, ◌≤◌, ◌+◌, ◌++◌, length}
 use Rattle.ir_event.specs.trees.Limits.{most_next}
-use Rattle.patterns_yields.specs.base.Lowering.{crossed, marked}
+use Rattle.patterns_soundness.specs.base.Lowering.{crossed, marked}
 use Rattle.patterns_lowering.proofs.lists.crossed.Given as goal
 
 abbrev pub invariant-marks : goal.invariant-marks

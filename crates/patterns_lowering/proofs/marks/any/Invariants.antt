@@ -1,5 +1,5 @@
 use Rattle.std.proofs.Common.{◌≡◌, length}
-use Rattle.patterns_yields.specs.base.Lowering.{any}
+use Rattle.patterns_soundness.specs.base.Lowering.{any}
 use Rattle.patterns_lowering.proofs.marks.any.Given as goal
 
 abbrev pub invariant-marks : goal.invariant-marks

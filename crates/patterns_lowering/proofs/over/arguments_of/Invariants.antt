@@ -1,5 +1,5 @@
 use Rattle.std.proofs.Common.{◌≡◌, ◌+◌, ◌++◌, length}
-use Rattle.patterns_yields.specs.base.Makes.{arguments_from}
+use Rattle.patterns_soundness.specs.base.Makes.{arguments_from}
 use Rattle.patterns_lowering.proofs.over.arguments_of.Given as goal
 
 abbrev pub invariant-types : goal.invariant-types

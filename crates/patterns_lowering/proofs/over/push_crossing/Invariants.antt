@@ -1,6 +1,6 @@
 use Rattle.std.proofs.Common.{◌≡◌, ◌≤◌, ◌+◌, ◌++◌, length}
 use Rattle.ir_event.specs.trees.Limits.{most_next}
-use Rattle.patterns_yields.specs.base.Lowering.{marked}
+use Rattle.patterns_soundness.specs.base.Lowering.{marked}
 use Rattle.patterns_lowering.specs.Numbers.{crossing_edits}
 use Rattle.patterns_lowering.proofs.over.push_crossing.Given as goal
 

@@ -2,9 +2,9 @@ use Rattle.std.proofs.Common.{ap, ◌∙◌, subst}
 use Rattle.std.specs.Prelude.{codes}
 use Rattle.ir_event.specs.types.Terms.{name_term}
 use Rattle.ir_event.specs.Modules.{module_in}
-use Rattle.patterns_yields.specs.base.Words.{named}
-use Rattle.patterns_yields.specs.base.Lowering.{any, lower_choice}
-use Rattle.patterns_regions.specs.Blocks.{body_at}
+use Rattle.patterns_soundness.specs.base.Words.{named}
+use Rattle.patterns_soundness.specs.base.Lowering.{any, lower_choice}
+use Rattle.patterns_plans.specs.Blocks.{body_at}
 use Rattle.patterns_lowering.specs.Planned.{AreTaken}
 use Rattle.patterns_lowering.proofs.Ruled.{not_there, not_lower_choice, unmarked_lower_choice, is_lower_choice, indexed_lower_choice}
 use Rattle.patterns_lowering.proofs.plans.plan_lower_choice.Goals as goal

@@ -1,7 +1,7 @@
 use Rattle.std.proofs.Common.{ap, ◌∙◌, ◌||◌}
 use Rattle.ir_event.specs.types.Terms.{name_term}
-use Rattle.patterns_yields.specs.base.Words.{among, index_users}
-use Rattle.patterns_yields.specs.base.Lowering.{any, lower_index}
+use Rattle.patterns_soundness.specs.base.Words.{among, index_users}
+use Rattle.patterns_soundness.specs.base.Lowering.{any, lower_index}
 use Rattle.patterns_lowering.proofs.Ruled.{not_there, not_lower_index, unmarked_lower_index, is_lower_index, indexed}
 use Rattle.patterns_lowering.proofs.plans.plan_lower_index.Goals as goal
 

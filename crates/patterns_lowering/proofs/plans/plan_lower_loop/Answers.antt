@@ -2,9 +2,9 @@ use Rattle.std.proofs.Common.{sym, ap, ◌∙◌, subst}
 use Rattle.std.specs.Prelude.{codes}
 use Rattle.ir_event.specs.types.Terms.{name_term}
 use Rattle.ir_event.specs.Modules.{module_in}
-use Rattle.patterns_yields.specs.base.Words.{named}
-use Rattle.patterns_yields.specs.base.Lowering.{any, lower_loop}
-use Rattle.patterns_regions.specs.Blocks.{body_at}
+use Rattle.patterns_soundness.specs.base.Words.{named}
+use Rattle.patterns_soundness.specs.base.Lowering.{any, lower_loop}
+use Rattle.patterns_plans.specs.Blocks.{body_at}
 use Rattle.patterns_lowering.specs.Planned.{AreTaken}
 use Rattle.patterns_lowering.proofs.Shown.{raw, types_known_at}
 use Rattle.patterns_lowering.proofs.Ruled.{not_there, not_lower_loop, unmarked_lower_loop, no_block_lower_loop, is_lower_loop, indexed_lower_loop}

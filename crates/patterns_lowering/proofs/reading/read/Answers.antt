@@ -4,8 +4,8 @@ use Rattle.ir_event.specs.types.Terms.{type_term}
 use Rattle.ir_event.specs.trees.Meaning.{is_type}
 use Rattle.ir_event.specs.Modules.{module_in}
 use Rattle.effects.proofs.Reached.{few_regions}
-use Rattle.patterns_yields.specs.base.Looks.{is_index_value}
-use Rattle.patterns_yields.specs.base.Lowering.{indices}
+use Rattle.patterns_soundness.specs.base.Looks.{is_index_value}
+use Rattle.patterns_soundness.specs.base.Lowering.{indices}
 use Rattle.patterns_lowering.proofs.Shown.{shown_known, was_read}
 use Rattle.patterns_lowering.proofs.reading.read.Goals as goal
 

@@ -1,7 +1,7 @@
 use Rattle.std.proofs.Common.{◌≡◌, length, map}
 use Rattle.ir_event.specs.types.Terms.{name_term}
 use Rattle.ir_event.specs.types.WordNames.{word_bytes}
-use Rattle.patterns_yields.specs.base.Words.{among}
+use Rattle.patterns_soundness.specs.base.Words.{among}
 use Rattle.patterns_lowering.proofs.users.is_among.Given as goal
 
 abbrev pub invariant-words : goal.invariant-words

@@ -1,5 +1,5 @@
 use Rattle.std.proofs.Common.{refl}
-use Rattle.patterns_yields.specs.base.Words.{arithmetic, index_users}
+use Rattle.patterns_soundness.specs.base.Words.{arithmetic, index_users}
 use Rattle.patterns_lowering.proofs.users.users.Goals as goal
 
 pub returns : goal.returns

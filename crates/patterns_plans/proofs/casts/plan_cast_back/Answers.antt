@@ -1,7 +1,7 @@
 use Rattle.std.proofs.Common.{◌∙◌}
 use Rattle.std.proofs.lemmas.Result.{IfOk-weaker}
 use Rattle.ir_event.specs.Modules.{module_in}
-use Rattle.patterns_reads.specs.Reads.{bare_in, one_in}
+use Rattle.patterns_matchers.specs.Reads.{bare_in, one_in}
 use Rattle.patterns_plans.proofs.Recasts.{by_unrealized, by_index}
 use Rattle.patterns_plans.proofs.casts.plan_cast_back.Goals as goal
 

@@ -1,12 +1,12 @@
 use Rattle.std.proofs.Common.{ap, option_map}
 use Rattle.ir_event.specs.Modules.{module_in}
-use Rattle.patterns_reads.specs.Reads.{bare_in, head_in, one_in}
+use Rattle.patterns_matchers.specs.Reads.{bare_in, header_of_node, one_in}
 use Rattle.patterns_plans.proofs.Recasts.{none_through}
 use Rattle.patterns_plans.proofs.casts.through_index.Goals as goal
 
-pub returns-in_default-one_of-clause-edits : goal.returns-in_default-one_of-clause-edits
-returns-in_default-one_of-clause-edits c node n front =
-    none_through (module_in c.args.world.now).tree n front (bare_in c.args.world.now.ctx c.args.op node) (one_in c.args.world.now.ctx c.args.p.now) _ (head_in c.args.world.now.ctx c.in-Some.inside) c.in_ok-inside.ensures.node (ap (option_map (head_in c.args.world.now.ctx)) c.in-Some.is) (c.in_default-one_of.ensures.shape c.args.world.now.ctx)
+pub returns-in_default-unary_op-clause-edits : goal.returns-in_default-unary_op-clause-edits
+returns-in_default-unary_op-clause-edits c node n front =
+    none_through (module_in c.args.world.now).tree n front (bare_in c.args.world.now.ctx c.args.op node) (one_in c.args.world.now.ctx c.args.p.now) _ (header_of_node c.args.world.now.ctx c.in-Some.inside) c.in_ok-inside.ensures.node (ap (option_map (header_of_node c.args.world.now.ctx)) c.in-Some.is) (c.in_default-unary_op.ensures.shape c.args.world.now.ctx)
 
 pub returns-clause-fit : goal.returns-clause-fit
 returns-clause-fit c = c.in_ok-plan.ensures.fit c.args.world.now.ctx

@@ -1,10 +1,10 @@
 use Rattle.std.proofs.Common.{ap, option_map}
 use Rattle.ir_event.specs.Modules.{module_in}
-use Rattle.patterns_reads.specs.Reads.{head_in, one_in}
+use Rattle.patterns_matchers.specs.Reads.{header_of_node, one_in}
 use Rattle.patterns_reasons.proofs.Making.{no_unrealized_cast}
 use Rattle.patterns_reasons.proofs.casts.unrealized.Goals as goal
 
-pub returns-in_default-one_of : goal.returns-in_default-one_of
-returns-in_default-one_of c =
-    no_unrealized_cast (module_in c.args.world.now).tree (one_in c.args.world.now.ctx c.args.p.now) _ (head_in c.args.world.now.ctx c.in-Some.inside) c.in_ok-inside.ensures.node
-    (ap (option_map (head_in c.args.world.now.ctx)) c.in-Some.is) (c.in_default-one_of.ensures.shape c.args.world.now.ctx) c.is_of_type.result c.is_of_type.ensures c.if-is_of_type.false
+pub returns-in_default-unary_op : goal.returns-in_default-unary_op
+returns-in_default-unary_op c =
+    no_unrealized_cast (module_in c.args.world.now).tree (one_in c.args.world.now.ctx c.args.p.now) _ (header_of_node c.args.world.now.ctx c.in-Some.inside) c.in_ok-inside.ensures.node
+    (ap (option_map (header_of_node c.args.world.now.ctx)) c.in-Some.is) (c.in_default-unary_op.ensures.shape c.args.world.now.ctx) c.is_of_type.result c.is_of_type.ensures c.if-is_of_type.false

@@ -6,10 +6,10 @@ use Rattle.ir_event.specs.tree_laws.Reasons.{take_reason}
 use Rattle.ir_event.proofs.of_tree_laws.Reasoned.{no_unless}
 use Rattle.ir_event.specs.store.Stored.{Stored}
 use Rattle.ir_event.specs.store.Calls.{after_take}
-use Rattle.rewriter_desk.specs.Contents.{tests_in}
-use Rattle.rewriter_desk.specs.Edits.{Erase, erase_reason}
+use Rattle.rewriter.specs.Contents.{tests_in}
+use Rattle.rewriter.specs.Edits.{Erase, erase_reason}
 use Rattle.ir_event.specs.trees.WellFormed.{Module}
-use Rattle.rewriter_laws.specs.Erasing.{ids_in}
+use Rattle.rewriter_machine.specs.Erasing.{ids_in}
 use Rattle.rewriter.proofs.There.{not_gone}
 use Rattle.rewriter.proofs.Noted.{made_module}
 use Rattle.rewriter.proofs.Together.{onward_made, underway_none, underway_made, refused_on}
@@ -20,12 +20,12 @@ rest-init g c = underway_none g.L.Analysis.meaning c.led_benches_are_kept.ensure
 
 pub rest-preserved : goal.rest-preserved
 rest-preserved g c =
-    let w = tests_in c.args.bench.now.desk.ctx in
-    let m = c.rest.bench.desk.store.module_of in
+    let w = tests_in c.args.bench.now.transaction.ctx in
+    let m = c.rest.bench.transaction.store.module_of in
     let h = c.rest.invariant in
     let end : (ys : List ℕ) × (ids_in (find c.args.op m.tree) ≡ ys ++ c.in-Some.last ∷ []) = subst (λ (s : Stored). (ys : List ℕ) × (ids_in (find c.args.op s.module_of.tree) ≡ ys ++ c.in-Some.last ∷ [])) c.world.ensures.store c.in-Some.ensures in
     let differ : eqb c.in-Some.last c.args.op ≡ false = sym c.eq.ensures ∙ c.if-eq.false in
-    underway_made g.L.Analysis.meaning c.led_benches_are_kept.ensures.more (Erase c.args.op) (after_take c.in-Some.last c.rest.bench.desk.store)
+    underway_made g.L.Analysis.meaning c.led_benches_are_kept.ensures.more (Erase c.args.op) (after_take c.in-Some.last c.rest.bench.transaction.store)
     c.args.bench.now c.rest.bench c.take.new.self c.is_formed.ensures.context.holds h c.in_default-take.ensures.ok
     (c.erasing_by_last.ensures.formed w c.args.op c.in-Some.last end.0 m h.formed h.free end.1)
     (c.erasing_by_last.ensures.still w c.args.op c.in-Some.last end.0 m h.formed h.free end.1 differ)
@@ -33,8 +33,8 @@ rest-preserved g c =
 
 pub rest-smaller : goal.rest-smaller
 rest-smaller g c =
-    let w = tests_in c.args.bench.now.desk.ctx in
-    let m = c.rest.bench.desk.store.module_of in
+    let w = tests_in c.args.bench.now.transaction.ctx in
+    let m = c.rest.bench.transaction.store.module_of in
     let h = c.rest.invariant in
     let end : (ys : List ℕ) × (ids_in (find c.args.op m.tree) ≡ ys ++ c.in-Some.last ∷ []) = subst (λ (s : Stored). (ys : List ℕ) × (ids_in (find c.args.op s.module_of.tree) ≡ ys ++ c.in-Some.last ∷ [])) c.world.ensures.store c.in-Some.ensures in
     let left = ap (λ (l : List ℕ). length l) (c.erasing_by_last.ensures.fewer w c.args.op c.in-Some.last end.0 m h.formed h.free end.1) in
@@ -44,8 +44,8 @@ rest-smaller g c =
 
 pub returns-in-Err-clause-refused : goal.returns-in-Err-clause-refused
 returns-in-Err-clause-refused g c =
-    let w = tests_in c.args.bench.now.desk.ctx in
-    let m = c.rest.bench.desk.store.module_of in
+    let w = tests_in c.args.bench.now.transaction.ctx in
+    let m = c.rest.bench.transaction.store.module_of in
     let h = c.rest.invariant in
     let end : (ys : List ℕ) × (ids_in (find c.args.op m.tree) ≡ ys ++ c.in-Some.last ∷ []) = subst (λ (s : Stored). (ys : List ℕ) × (ids_in (find c.args.op s.module_of.tree) ≡ ys ++ c.in-Some.last ∷ [])) c.world.ensures.store c.in-Some.ensures in
     refused_on g.L.Analysis.meaning (take_reason c.in-Some.last m.tree) c.in-Err.refusal c.args.bench.now c.rest.bench h.onward
@@ -53,11 +53,11 @@ returns-in-Err-clause-refused g c =
 
 pub returns-then-eq-clause-onward : goal.returns-then-eq-clause-onward
 returns-then-eq-clause-onward g c =
-    onward_made g.L.Analysis.meaning c.led_benches_are_kept.ensures.more (after_take c.in-Some.last c.rest.bench.desk.store) c.args.bench.now c.rest.bench c.take.new.self c.is_formed.ensures.context.holds c.rest.invariant.onward c.in_default-take.ensures.ok
+    onward_made g.L.Analysis.meaning c.led_benches_are_kept.ensures.more (after_take c.in-Some.last c.rest.bench.transaction.store) c.args.bench.now c.rest.bench c.take.new.self c.is_formed.ensures.context.holds c.rest.invariant.onward c.in_default-take.ensures.ok
 
 pub returns-clause-ok : goal.returns-clause-ok
 returns-clause-ok g c =
-    let t = c.rest.bench.desk.store.module_of.tree in
+    let t = c.rest.bench.transaction.store.module_of.tree in
     let free : erase_reason c.args.op t ≡ None = c.rest.invariant.free in
     let gone : find c.args.op t ≡ None = subst (λ (s : Stored). find c.args.op s.module_of.tree ≡ None) c.world.ensures.store c.in_default.ensures in
     absurd (not_gone c.args.op t c.rest.invariant.formed.distinct (no_unless (has_id c.args.op t) NoSuchOp _ free).0 gone)

@@ -8,12 +8,12 @@ returns-then-ne c =
     let e : (c.in-Some.one == c.in-Some-value_type.other) ≡ false = search rules in
     sym (typed_reason c.args.world.now c.sound.ensures c.args.old.now c.args.new.now c.in-Some.one c.in-Some-value_type.other (sym c.value_type.ensures ∙ c.in-Some.is) (sym c.value_type-2.ensures ∙ c.in-Some-value_type.is) false _ e refl)
 
-pub returns-then-not-users_see : goal.returns-then-not-users_see
-returns-then-not-users_see c =
+pub returns-then-not-users_dominated_by : goal.returns-then-not-users_dominated_by
+returns-then-not-users_dominated_by c =
     let e : (c.in-Some.one == c.in-Some-value_type.other) ≡ true = search rules in
-    sym (typed_reason c.args.world.now c.sound.ensures c.args.old.now c.args.new.now c.in-Some.one c.in-Some-value_type.other (sym c.value_type.ensures ∙ c.in-Some.is) (sym c.value_type-2.ensures ∙ c.in-Some-value_type.is) true _ e (sym c.users_see.ensures ∙ c.if-not-users_see.true))
+    sym (typed_reason c.args.world.now c.sound.ensures c.args.old.now c.args.new.now c.in-Some.one c.in-Some-value_type.other (sym c.value_type.ensures ∙ c.in-Some.is) (sym c.value_type-2.ensures ∙ c.in-Some-value_type.is) true _ e (sym c.users_dominated_by.ensures ∙ c.if-not-users_dominated_by.true))
 
 pub returns : goal.returns
 returns c =
     let e : (c.in-Some.one == c.in-Some-value_type.other) ≡ true = search rules in
-    sym (typed_reason c.args.world.now c.sound.ensures c.args.old.now c.args.new.now c.in-Some.one c.in-Some-value_type.other (sym c.value_type.ensures ∙ c.in-Some.is) (sym c.value_type-2.ensures ∙ c.in-Some-value_type.is) true _ e (sym c.users_see.ensures ∙ c.if-not-users_see.false))
+    sym (typed_reason c.args.world.now c.sound.ensures c.args.old.now c.args.new.now c.in-Some.one c.in-Some-value_type.other (sym c.value_type.ensures ∙ c.in-Some.is) (sym c.value_type-2.ensures ∙ c.in-Some-value_type.is) true _ e (sym c.users_dominated_by.ensures ∙ c.if-not-users_dominated_by.false))

@@ -1,7 +1,7 @@
 use Rattle.std.proofs.Common.{◌≡◌, ◌++◌, map, drop}
 use Rattle.ir_event.specs.trees.Tree.{regions_of, ops_of}
 use Rattle.ir_event.specs.trees.View.{region_view}
-use Rattle.rewriter_laws.specs.Inserting.{regions_headers, ops_headers}
+use Rattle.rewriter_machine.specs.Inserting.{regions_headers, ops_headers}
 use Rattle.rewriter.proofs.headers.+headers.Given as goal
 
 abbrev pub invariant-push_inner_headers-loop-region : goal.invariant-push_inner_headers-loop-region

@@ -4,7 +4,7 @@ use Rattle.ir_event.specs.trees.View.{region_view}
 use Rattle.ir_event.specs.trees.declared.tree.TreeRegion.{TreeRegion}
 use Rattle.ir_event.proofs.of_trees.Lists.{regions_from}
 use Rattle.ir_event.proofs.of_trees.Steps.{made_all}
-use Rattle.rewriter_laws.specs.Inserting.{bare_regions}
+use Rattle.rewriter_machine.specs.Inserting.{bare_regions}
 use Rattle.rewriter.proofs.headers.bare_regions.Goals as goal
 
 pub returns : goal.returns

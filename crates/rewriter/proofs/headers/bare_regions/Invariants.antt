@@ -1,7 +1,7 @@
 use Rattle.std.proofs.Common.{◌≡◌, ◌++◌, map, drop}
 use Rattle.ir_event.specs.trees.Tree.{regions_of, region_list}
 use Rattle.ir_event.specs.trees.View.{region_view}
-use Rattle.rewriter_laws.specs.Inserting.{bare_regions}
+use Rattle.rewriter_machine.specs.Inserting.{bare_regions}
 use Rattle.rewriter.proofs.headers.bare_regions.Given as goal
 
 abbrev pub invariant-loop-region : goal.invariant-loop-region

@@ -1,5 +1,5 @@
 use Rattle.rewriter.proofs.OpenMarks.{unmarked}
 use Rattle.rewriter.proofs.marks.give_up.Goals as goal
 
-pub settle-requires : goal.settle-requires
-settle-requires c = unmarked c.args.desk.now.marks c.if-is_marked.ensures.1
+pub release_all-requires : goal.release_all-requires
+release_all-requires c = unmarked c.args.transaction.now.marks c.if-is_marked.ensures.1

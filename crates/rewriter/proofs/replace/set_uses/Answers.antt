@@ -6,8 +6,8 @@ use Rattle.ir_event.specs.store.Calls.{after_operand}
 use Rattle.ir_event.specs.store.Using.{is_use}
 use Rattle.ir_event.specs.tree_laws.Reasons.{set_operand_reason}
 use Rattle.ir_event.specs.trees.Meaning.{isolated_in}
-use Rattle.rewriter_desk.specs.Contents.{tests_in}
-use Rattle.rewriter_desk.specs.Edits.{Replace}
+use Rattle.rewriter.specs.Contents.{tests_in}
+use Rattle.rewriter.specs.Edits.{Replace}
 use Rattle.rewriter.proofs.Noted.{made_module}
 use Rattle.rewriter.proofs.Together.{underway_none, underway_made, refused_on}
 use Rattle.rewriter.proofs.replace.set_uses.Goals as goal
@@ -17,11 +17,11 @@ uses-init g c = underway_none g.L.Analysis.meaning c.led_benches_are_kept.ensure
 
 pub uses-preserved : goal.uses-preserved
 uses-preserved g c =
-    let w = tests_in c.args.bench.now.desk.ctx in
-    let m = c.uses.bench.desk.store.module_of in
+    let w = tests_in c.args.bench.now.transaction.ctx in
+    let m = c.uses.bench.transaction.store.module_of in
     let h = c.uses.invariant in
     let use_is : is_use c.in-Some.site.0 c.in-Some.site.1 (uses_of c.args.old.now m.tree) ≡ true = subst (λ (s : Stored). is_use c.in-Some.site.0 c.in-Some.site.1 (uses_of c.args.old.now s.module_of.tree) ≡ true) c.world.ensures.store c.in-Some.ensures in
-    underway_made g.L.Analysis.meaning c.led_benches_are_kept.ensures.more (Replace c.args.old.now c.args.new.now) (after_operand c.in-Some.site.0 c.in-Some.site.1 c.args.new.now c.uses.bench.desk.store)
+    underway_made g.L.Analysis.meaning c.led_benches_are_kept.ensures.more (Replace c.args.old.now c.args.new.now) (after_operand c.in-Some.site.0 c.in-Some.site.1 c.args.new.now c.uses.bench.transaction.store)
     c.args.bench.now c.uses.bench c.set_operand.new.self c.is_formed.ensures.context.holds h c.in_default-set_operand.ensures.ok
     (c.replacing_by_uses.ensures.formed w c.args.old.now c.args.new.now c.in-Some.site.0 c.in-Some.site.1 m h.formed h.free use_is)
     (c.replacing_by_uses.ensures.still w c.args.old.now c.args.new.now c.in-Some.site.0 c.in-Some.site.1 m h.formed h.free c.requires.differ use_is)
@@ -29,8 +29,8 @@ uses-preserved g c =
 
 pub uses-smaller : goal.uses-smaller
 uses-smaller g c =
-    let w = tests_in c.args.bench.now.desk.ctx in
-    let m = c.uses.bench.desk.store.module_of in
+    let w = tests_in c.args.bench.now.transaction.ctx in
+    let m = c.uses.bench.transaction.store.module_of in
     let h = c.uses.invariant in
     let use_is : is_use c.in-Some.site.0 c.in-Some.site.1 (uses_of c.args.old.now m.tree) ≡ true = subst (λ (s : Stored). is_use c.in-Some.site.0 c.in-Some.site.1 (uses_of c.args.old.now s.module_of.tree) ≡ true) c.world.ensures.store c.in-Some.ensures in
     let one = c.replacing_by_uses.ensures.fewer w c.args.old.now c.args.new.now c.in-Some.site.0 c.in-Some.site.1 m h.formed c.requires.differ use_is in
@@ -39,17 +39,17 @@ uses-smaller g c =
 
 pub returns-in-Err-clause-refused : goal.returns-in-Err-clause-refused
 returns-in-Err-clause-refused g c =
-    let w = tests_in c.args.bench.now.desk.ctx in
+    let w = tests_in c.args.bench.now.transaction.ctx in
     let b = c.uses.bench in
     let h = c.uses.invariant in
-    let use_is : is_use c.in-Some.site.0 c.in-Some.site.1 (uses_of c.args.old.now b.desk.store.module_of.tree) ≡ true = subst (λ (s : Stored). is_use c.in-Some.site.0 c.in-Some.site.1 (uses_of c.args.old.now s.module_of.tree) ≡ true) c.world.ensures.store c.in-Some.ensures in
-    refused_on g.L.Analysis.meaning (set_operand_reason (isolated_in b.desk.ctx) c.in-Some.site.0 c.in-Some.site.1 c.args.new.now b.desk.store.module_of.tree) c.in-Err.refusal c.args.bench.now b h.onward
-    (ap (λ d. set_operand_reason (isolated_in d) c.in-Some.site.0 c.in-Some.site.1 c.args.new.now b.desk.store.module_of.tree) h.onward.ctx
-    ∙ c.replacing_by_uses.ensures.reason w c.args.old.now c.args.new.now c.in-Some.site.0 c.in-Some.site.1 b.desk.store.module_of h.formed h.free use_is)
+    let use_is : is_use c.in-Some.site.0 c.in-Some.site.1 (uses_of c.args.old.now b.transaction.store.module_of.tree) ≡ true = subst (λ (s : Stored). is_use c.in-Some.site.0 c.in-Some.site.1 (uses_of c.args.old.now s.module_of.tree) ≡ true) c.world.ensures.store c.in-Some.ensures in
+    refused_on g.L.Analysis.meaning (set_operand_reason (isolated_in b.transaction.ctx) c.in-Some.site.0 c.in-Some.site.1 c.args.new.now b.transaction.store.module_of.tree) c.in-Err.refusal c.args.bench.now b h.onward
+    (ap (λ d. set_operand_reason (isolated_in d) c.in-Some.site.0 c.in-Some.site.1 c.args.new.now b.transaction.store.module_of.tree) h.onward.ctx
+    ∙ c.replacing_by_uses.ensures.reason w c.args.old.now c.args.new.now c.in-Some.site.0 c.in-Some.site.1 b.transaction.store.module_of h.formed h.free use_is)
     c.in-Err.ensures.refused
 
 pub returns-clause-ok : goal.returns-clause-ok
 returns-clause-ok g c =
-    let w = tests_in c.args.bench.now.desk.ctx in
-    let m = c.uses.bench.desk.store.module_of in
+    let w = tests_in c.args.bench.now.transaction.ctx in
+    let m = c.uses.bench.transaction.store.module_of in
     sym (c.replacing_by_uses.ensures.done w c.args.old.now c.args.new.now m (subst (λ (s : Stored). uses_of c.args.old.now s.module_of.tree ≡ []) c.world.ensures.store c.in_default.ensures)) ∙ c.uses.invariant.same

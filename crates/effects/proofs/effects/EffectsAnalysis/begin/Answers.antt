@@ -11,12 +11,12 @@ pub returns-clause-ok : goal.returns-clause-ok
 returns-clause-ok c =
     let ctx = c.args.world.now.ctx in
     let t = c.args.world.now.store.module_of.tree in
-    let yes : c.put_module.result ≡ true = search rules in
+    let yes : c.insert_module.result ≡ true = search rules in
     let distinct = c.args.world.now.formed.distinct in (
       refl,
       (
         meaning_distinct ctx t distinct,
-        begun_agrees ctx t (row_at c.no_rows.result) (row_at c.put_module.new.rows) distinct c.no_rows.ensures
-            (on_true_is c.put_module.result _ yes c.put_module.ensures),
+        begun_agrees ctx t (row_at c.no_rows.result) (row_at c.insert_module.new.rows) distinct c.no_rows.ensures
+            (on_true_is c.insert_module.result _ yes c.insert_module.ensures),
       ),
     )

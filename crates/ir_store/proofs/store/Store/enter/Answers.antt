@@ -9,7 +9,7 @@ use Rattle.ir_store_reads.specs.Stored.{has_slot}
 use Rattle.ir_store.specs.Calls.{after_entry}
 use Rattle.ir_store.proofs.Called.{rows_in, keys_in, same_inside}
 use Rattle.ir_store_reads.proofs.Marking.{can_mark_used}
-use Rattle.ir_store_reads.proofs.Slots.{found}
+use Rattle.ir_store_reads.proofs.SlotLaws.{found}
 use Rattle.ir_store.proofs.Dictionaries.{refused_some, refused_memory, revert_sorted, revert_slot, entry_found, there_before, entry_given, same_given, entry_fits, same_fits, entry_done, same_done}
 use Rattle.ir_store.proofs.store.Store.enter.Goals as goal
 
@@ -35,12 +35,12 @@ change-requires-clause-entry c =
     let p = entry_found c.self.inside c.self.invariant c.args.op c.args.part c.args.key before c.args.value (Ok c.in-Ok.at) c.in-Ok.ensures in
     there_before before c.args.key c.args.value _ p.1.1
 
-pub put_mark-requires : goal.put_mark-requires
-put_mark-requires c =
+pub link_slot-requires : goal.link_slot-requires
+link_slot-requires c =
     let a = c.self.inside in
     let w = c.self.invariant in
     let p = entry_found a w c.args.op c.args.part c.args.key (key_before_in c.args.ctx.now) c.args.value (Ok c.in-Ok.at) c.in-Ok.ensures in
-    can_mark_used (rows_in a) a.marks.homes c.in-Ok.at w.marked (w.right.live_used c.in-Ok.at (found (rows_in a) (keys_in a) a.sibs a.root a.spelled.0 w.right a.spelled.1 c.args.op c.in-Ok.at (sym p.0)).live)
+    can_mark_used (rows_in a) a.marks.homes c.in-Ok.at w.marked (w.right.live_used c.in-Ok.at (found (rows_in a) (keys_in a) a.sibs a.root a.represented.0 w.right a.represented.1 c.args.op c.in-Ok.at (sym p.0)).live)
 
 pub invariant_of-self-inside-2 : goal.invariant_of-self-inside-2
 invariant_of-self-inside-2 c =
@@ -99,4 +99,4 @@ invariant_of-self-2 c =
     let before = key_before_in c.args.ctx.now in
     let p = entry_found c.self.inside c.self.invariant c.args.op c.args.part c.args.key before c.args.value (Ok c.in-Ok.at) c.in-Ok.ensures in
     entry_fits c.self.inside c.self.invariant c.args.op c.args.part c.args.key before c.args.value c.in-Ok.at p.0 c.change.new.self
-    c.in-Ok-change.ensures.ok c.self-2-1.given.0 c.put_mark.new.marks.homes c.put_mark.ensures
+    c.in-Ok-change.ensures.ok c.self-2-1.given.0 c.link_slot.new.marks.homes c.link_slot.ensures

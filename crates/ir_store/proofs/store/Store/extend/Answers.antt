@@ -62,43 +62,43 @@ returns-in-Err-insert-clause-err c =
     let q = parts_of c.grow_slot-grown.new.rows c.grow_slot-grown.new.sibs c.grow_slot-grown.new.uses c.grow_slot-grown.new.cells.items in
     wide_done c.self.inside c.self.invariant q c.in-Ok.ensures.wider c.laws-2.ensures.few c.laws-3.ensures.few (finmap.get c.insert.new.self) (λ y. ap (λ m. finmap.get m y) c.in-Err-insert.ensures.refused) c.in-Err-insert.self-in-Err-insert-1-own.given.0 c.in-Err-insert.self-in-Err-insert-1-own.given.1.0 c.in-Err-insert.self-in-Err-insert-1-own.given.1.1.0 ∙ c.self.view_is
 
-pub put-requires : goal.put-requires
-put-requires c =
+pub write_op-requires : goal.write_op-requires
+write_op-requires c =
     let none = no_key c.self.inside c.self.invariant c.args.op (ap (known c.args.op) c.self.view_is ∙ c.requires) in
     (c.in-Ok.ensures.grown.ready (keys_in c.self.inside) none).inside
 
-pub invariant_of-self-inside-in-Err-put : goal.invariant_of-self-inside-in-Err-put
-invariant_of-self-inside-in-Err-put c =
+pub invariant_of-self-inside-in-Err-write_op : goal.invariant_of-self-inside-in-Err-write_op
+invariant_of-self-inside-in-Err-write_op c =
     let a = c.self.inside in
     let q = parts_of c.grow_slot-grown.new.rows c.grow_slot-grown.new.sibs c.grow_slot-grown.new.uses c.grow_slot-grown.new.cells.items in
     let none = no_key a c.self.invariant c.args.op (ap (known c.args.op) c.self.view_is ∙ c.requires) in
-    let back = key_back a.keys c.insert.new.self c.remove.new.self c.args.op c.number.result c.number-in-Err-put.result c.in-Ok.grown.0 c.number.ensures c.number-in-Err-put.ensures c.in-Ok-insert.ensures.inserted c.remove.ensures none in
-    let q2 = record q { rows = c.put.new.self } in
-    let wide2 : Wider (parts a) q2 = subst (λ z. Wider (parts a) (record q { rows = z })) (sym c.in-Err-put.ensures.err) c.in-Ok.ensures.wider in
+    let back = key_back a.keys c.insert.new.self c.remove.new.self c.args.op c.number.result c.number-in-Err-write_op.result c.in-Ok.grown.0 c.number.ensures c.number-in-Err-write_op.ensures c.in-Ok-insert.ensures.inserted c.remove.ensures none in
+    let q2 = record q { rows = c.write_op.new.self } in
+    let wide2 : Wider (parts a) q2 = subst (λ z. Wider (parts a) (record q { rows = z })) (sym c.in-Err-write_op.ensures.err) c.in-Ok.ensures.wider in
     wide_given a c.self.invariant q2 wide2 c.laws-2.ensures.few c.laws-3.ensures.few (finmap.get c.remove.new.self) back
 
-pub invariant_of-self-in-Err-put : goal.invariant_of-self-in-Err-put
-invariant_of-self-in-Err-put c =
+pub invariant_of-self-in-Err-write_op : goal.invariant_of-self-in-Err-write_op
+invariant_of-self-in-Err-write_op c =
     let a = c.self.inside in
     let q = parts_of c.grow_slot-grown.new.rows c.grow_slot-grown.new.sibs c.grow_slot-grown.new.uses c.grow_slot-grown.new.cells.items in
     let none = no_key a c.self.invariant c.args.op (ap (known c.args.op) c.self.view_is ∙ c.requires) in
-    let back = key_back a.keys c.insert.new.self c.remove.new.self c.args.op c.number.result c.number-in-Err-put.result c.in-Ok.grown.0 c.number.ensures c.number-in-Err-put.ensures c.in-Ok-insert.ensures.inserted c.remove.ensures none in
-    let q2 = record q { rows = c.put.new.self } in
-    let wide2 : Wider (parts a) q2 = subst (λ z. Wider (parts a) (record q { rows = z })) (sym c.in-Err-put.ensures.err) c.in-Ok.ensures.wider in
-    wide_fits a c.self.invariant q2 wide2 c.laws-2.ensures.few c.laws-3.ensures.few (finmap.get c.remove.new.self) back c.self-in-Err-put-1.given.0 c.reach.new.marks.homes c.reach.ensures.nodes
+    let back = key_back a.keys c.insert.new.self c.remove.new.self c.args.op c.number.result c.number-in-Err-write_op.result c.in-Ok.grown.0 c.number.ensures c.number-in-Err-write_op.ensures c.in-Ok-insert.ensures.inserted c.remove.ensures none in
+    let q2 = record q { rows = c.write_op.new.self } in
+    let wide2 : Wider (parts a) q2 = subst (λ z. Wider (parts a) (record q { rows = z })) (sym c.in-Err-write_op.ensures.err) c.in-Ok.ensures.wider in
+    wide_fits a c.self.invariant q2 wide2 c.laws-2.ensures.few c.laws-3.ensures.few (finmap.get c.remove.new.self) back c.self-in-Err-write_op-1.given.0 c.reach.new.marks.homes c.reach.ensures.nodes
 
-pub returns-in-Err-put-clause-err : goal.returns-in-Err-put-clause-err
-returns-in-Err-put-clause-err c =
+pub returns-in-Err-write_op-clause-err : goal.returns-in-Err-write_op-clause-err
+returns-in-Err-write_op-clause-err c =
     let a = c.self.inside in
     let q = parts_of c.grow_slot-grown.new.rows c.grow_slot-grown.new.sibs c.grow_slot-grown.new.uses c.grow_slot-grown.new.cells.items in
     let none = no_key a c.self.invariant c.args.op (ap (known c.args.op) c.self.view_is ∙ c.requires) in
-    let back = key_back a.keys c.insert.new.self c.remove.new.self c.args.op c.number.result c.number-in-Err-put.result c.in-Ok.grown.0 c.number.ensures c.number-in-Err-put.ensures c.in-Ok-insert.ensures.inserted c.remove.ensures none in
-    let q2 = record q { rows = c.put.new.self } in
-    let wide2 : Wider (parts a) q2 = subst (λ z. Wider (parts a) (record q { rows = z })) (sym c.in-Err-put.ensures.err) c.in-Ok.ensures.wider in
-    wide_done a c.self.invariant q2 wide2 c.laws-2.ensures.few c.laws-3.ensures.few (finmap.get c.remove.new.self) back c.self-in-Err-put-1.given.0 c.self-in-Err-put-1.given.1.0 c.self-in-Err-put-1.given.1.1.0 ∙ c.self.view_is
+    let back = key_back a.keys c.insert.new.self c.remove.new.self c.args.op c.number.result c.number-in-Err-write_op.result c.in-Ok.grown.0 c.number.ensures c.number-in-Err-write_op.ensures c.in-Ok-insert.ensures.inserted c.remove.ensures none in
+    let q2 = record q { rows = c.write_op.new.self } in
+    let wide2 : Wider (parts a) q2 = subst (λ z. Wider (parts a) (record q { rows = z })) (sym c.in-Err-write_op.ensures.err) c.in-Ok.ensures.wider in
+    wide_done a c.self.invariant q2 wide2 c.laws-2.ensures.few c.laws-3.ensures.few (finmap.get c.remove.new.self) back c.self-in-Err-write_op-1.given.0 c.self-in-Err-write_op-1.given.1.0 c.self-in-Err-write_op-1.given.1.1.0 ∙ c.self.view_is
 
-pub put_mark-requires : goal.put_mark-requires
-put_mark-requires c =
+pub link_slot-requires : goal.link_slot-requires
+link_slot-requires c =
     let q = parts_of c.grow_slot-grown.new.rows c.grow_slot-grown.new.sibs c.grow_slot-grown.new.uses c.grow_slot-grown.new.cells.items in
     let none = no_key c.self.inside c.self.invariant c.args.op (ap (known c.args.op) c.self.view_is ∙ c.requires) in
     let ready = c.in-Ok.ensures.grown.ready (keys_in c.self.inside) none in
@@ -113,8 +113,8 @@ invariant_of-self-inside-2 c =
     let look : (y : ℕ) → finmap.get c.insert.new.self y ≡ cond (eqb c.args.op y) (Some c.in-Ok.grown.0) (keys_in c.self.inside y) = key_put c.self.inside.keys c.insert.new.self c.args.op c.number.result c.in-Ok.grown.0 c.number.ensures c.in-Ok-insert.ensures.inserted in
     let here = look c.args.op ∙ cond-true (eqb c.args.op c.args.op) (Some c.in-Ok.grown.0) (keys_in c.self.inside c.args.op) (eq-eqb c.args.op c.args.op refl) in
     let others : (y : ℕ) → (y ≡ c.args.op → ⊥) → finmap.get c.insert.new.self y ≡ keys_in c.self.inside y = λ y ne. look y ∙ cond-false (eqb c.args.op y) (Some c.in-Ok.grown.0) (keys_in c.self.inside y) (ne_eqb c.args.op y (λ e. ne (sym e))) in
-    let rows' = c.put.new.self in
-    let er : rows' ≡ slice_set q.rows c.in-Ok.grown.0 c.in-Ok.grown.1 = c.in-Ok-put.ensures.ok in
+    let rows' = c.write_op.new.self in
+    let er : rows' ≡ slice_set q.rows c.in-Ok.grown.0 c.in-Ok.grown.1 = c.in-Ok-write_op.ensures.ok in
     let long' = put_long q.rows rows' c.in-Ok.grown.0 c.in-Ok.grown.1 er in
     let same : (y : ℕ) → (y ≡ c.in-Ok.grown.0 → ⊥) → row_at rows' y ≡ row_at q.rows y = put_other q.rows rows' c.in-Ok.grown.0 c.in-Ok.grown.1 er in
     let own = put_own q.rows rows' c.in-Ok.grown.0 c.in-Ok.grown.1 er ready.inside in
@@ -128,12 +128,12 @@ invariant_of-self-2 c =
     let look : (y : ℕ) → finmap.get c.insert.new.self y ≡ cond (eqb c.args.op y) (Some c.in-Ok.grown.0) (keys_in c.self.inside y) = key_put c.self.inside.keys c.insert.new.self c.args.op c.number.result c.in-Ok.grown.0 c.number.ensures c.in-Ok-insert.ensures.inserted in
     let here = look c.args.op ∙ cond-true (eqb c.args.op c.args.op) (Some c.in-Ok.grown.0) (keys_in c.self.inside c.args.op) (eq-eqb c.args.op c.args.op refl) in
     let others : (y : ℕ) → (y ≡ c.args.op → ⊥) → finmap.get c.insert.new.self y ≡ keys_in c.self.inside y = λ y ne. look y ∙ cond-false (eqb c.args.op y) (Some c.in-Ok.grown.0) (keys_in c.self.inside y) (ne_eqb c.args.op y (λ e. ne (sym e))) in
-    let rows' = c.put.new.self in
-    let er : rows' ≡ slice_set q.rows c.in-Ok.grown.0 c.in-Ok.grown.1 = c.in-Ok-put.ensures.ok in
+    let rows' = c.write_op.new.self in
+    let er : rows' ≡ slice_set q.rows c.in-Ok.grown.0 c.in-Ok.grown.1 = c.in-Ok-write_op.ensures.ok in
     let long' = put_long q.rows rows' c.in-Ok.grown.0 c.in-Ok.grown.1 er in
     let same : (y : ℕ) → (y ≡ c.in-Ok.grown.0 → ⊥) → row_at rows' y ≡ row_at q.rows y = put_other q.rows rows' c.in-Ok.grown.0 c.in-Ok.grown.1 er in
     let own = put_own q.rows rows' c.in-Ok.grown.0 c.in-Ok.grown.1 er ready.inside in
-    grow_fits c.self.inside c.self.invariant q c.in-Ok.ensures.wider c.laws-2.ensures.few c.laws-3.ensures.few c.args.op c.args.header.now c.in-Ok.grown.0 c.in-Ok.grown.1 none (length c.self.inside.uses.homes) c.in-Ok.ensures.grown (grow_apart c.self.inside c.self.invariant q c.in-Ok.ensures.wider c.laws-2.ensures.few c.laws-3.ensures.few c.in-Ok.grown.0 c.in-Ok.grown.1) (finmap.get c.insert.new.self) here others rows' long' same own c.self-2-1.given.0 c.reach.new.marks.homes c.put_mark.new.marks.homes c.reach.ensures.nodes (grow_there c.in-Ok.grown.0 q.rows c.reach.new.marks.homes c.len.result ready.inside (omega (arith, c.len.ensures)) c.in-Ok-reach.ensures.there) c.put_mark.ensures
+    grow_fits c.self.inside c.self.invariant q c.in-Ok.ensures.wider c.laws-2.ensures.few c.laws-3.ensures.few c.args.op c.args.header.now c.in-Ok.grown.0 c.in-Ok.grown.1 none (length c.self.inside.uses.homes) c.in-Ok.ensures.grown (grow_apart c.self.inside c.self.invariant q c.in-Ok.ensures.wider c.laws-2.ensures.few c.laws-3.ensures.few c.in-Ok.grown.0 c.in-Ok.grown.1) (finmap.get c.insert.new.self) here others rows' long' same own c.self-2-1.given.0 c.reach.new.marks.homes c.link_slot.new.marks.homes c.reach.ensures.nodes (grow_there c.in-Ok.grown.0 q.rows c.reach.new.marks.homes c.len.result ready.inside (omega (arith, c.len.ensures)) c.in-Ok-reach.ensures.there) c.link_slot.ensures
 
 pub returns-clause-ok : goal.returns-clause-ok
 returns-clause-ok c =
@@ -143,8 +143,8 @@ returns-clause-ok c =
     let look : (y : ℕ) → finmap.get c.insert.new.self y ≡ cond (eqb c.args.op y) (Some c.in-Ok.grown.0) (keys_in c.self.inside y) = key_put c.self.inside.keys c.insert.new.self c.args.op c.number.result c.in-Ok.grown.0 c.number.ensures c.in-Ok-insert.ensures.inserted in
     let here = look c.args.op ∙ cond-true (eqb c.args.op c.args.op) (Some c.in-Ok.grown.0) (keys_in c.self.inside c.args.op) (eq-eqb c.args.op c.args.op refl) in
     let others : (y : ℕ) → (y ≡ c.args.op → ⊥) → finmap.get c.insert.new.self y ≡ keys_in c.self.inside y = λ y ne. look y ∙ cond-false (eqb c.args.op y) (Some c.in-Ok.grown.0) (keys_in c.self.inside y) (ne_eqb c.args.op y (λ e. ne (sym e))) in
-    let rows' = c.put.new.self in
-    let er : rows' ≡ slice_set q.rows c.in-Ok.grown.0 c.in-Ok.grown.1 = c.in-Ok-put.ensures.ok in
+    let rows' = c.write_op.new.self in
+    let er : rows' ≡ slice_set q.rows c.in-Ok.grown.0 c.in-Ok.grown.1 = c.in-Ok-write_op.ensures.ok in
     let long' = put_long q.rows rows' c.in-Ok.grown.0 c.in-Ok.grown.1 er in
     let same : (y : ℕ) → (y ≡ c.in-Ok.grown.0 → ⊥) → row_at rows' y ≡ row_at q.rows y = put_other q.rows rows' c.in-Ok.grown.0 c.in-Ok.grown.1 er in
     let own = put_own q.rows rows' c.in-Ok.grown.0 c.in-Ok.grown.1 er ready.inside in

@@ -4,7 +4,7 @@ use Rattle.std.proofs.lemmas.Bool.{false≢true}
 use Rattle.ir_store_reads.specs.trees.Ids.{has_id, find}
 use Rattle.ir_store_reads.specs.tree_laws.Reads.{around}
 use Rattle.ir_store_reads.specs.tree_laws.Reasons.{levels_in}
-use Rattle.ir_store_reads.proofs.Slots.{found, found_op, in_tree_is}
+use Rattle.ir_store_reads.proofs.SlotLaws.{found, found_op, in_tree_is}
 use Rattle.ir_store.proofs.Taking.{heads_of}
 use Rattle.ir_store.proofs.Called.{rows_in, keys_in}
 use Rattle.ir_store.proofs.Rising.{around_some, room_is}
@@ -14,17 +14,17 @@ use Rattle.ir_store.proofs.store.Store.fits_in.Goals as goal
 pub returns-in_default : goal.returns-in_default
 returns-in_default c =
     let a = c.self.inside in
-    absurd (false≢true (ap is_some c.in_default.ensures ∙ in_tree_is (rows_in a) (keys_in a) a.sibs a.root a.spelled.0 c.self.invariant.right a.spelled.1 c.args.op ∙ ap (λ s. has_id c.args.op s.module_of.tree) c.self.view_is ∙ c.requires.op))
+    absurd (false≢true (ap is_some c.in_default.ensures ∙ in_tree_is (rows_in a) (keys_in a) a.sibs a.root a.represented.0 c.self.invariant.right a.represented.1 c.args.op ∙ ap (λ s. has_id c.args.op s.module_of.tree) c.self.view_is ∙ c.requires.op))
 
 pub op_fits-requires-clause-rows : goal.op_fits-requires-clause-rows
-op_fits-requires-clause-rows c = let a = c.self.inside in heads_of (rows_in a) (keys_in a) a.sibs a.root a.spelled.0 c.self.invariant.right
+op_fits-requires-clause-rows c = let a = c.self.inside in heads_of (rows_in a) (keys_in a) a.sibs a.root a.represented.0 c.self.invariant.right
 
 pub returns : goal.returns
 returns c =
     let a = c.self.inside in
     let t = c.args.self.now.module_of.tree in
-    let fd = found (rows_in a) (keys_in a) a.sibs a.root a.spelled.0 c.self.invariant.right a.spelled.1 c.args.op c.in-Some.key (sym c.in-Some.ensures) in
-    let o = found_op (rows_in a) (keys_in a) a.sibs a.root a.spelled.0 c.self.invariant.right a.spelled.1 c.args.op c.in-Some.key fd in
+    let fd = found (rows_in a) (keys_in a) a.sibs a.root a.represented.0 c.self.invariant.right a.represented.1 c.args.op c.in-Some.key (sym c.in-Some.ensures) in
+    let o = found_op (rows_in a) (keys_in a) a.sibs a.root a.represented.0 c.self.invariant.right a.represented.1 c.args.op c.in-Some.key fd in
     c.op_fits.ensures ∙ fits_is (rows_in a) a.sibs.lists c.room_in-room.result c.in-Some.key o.0 o.1.1
     ∙ ap (λ z. nat_lt (levels_in z) c.room_in-room.result) (sym o.1.0)
     ∙ ap (λ s. nat_lt (levels_in (find c.args.op s.module_of.tree)) c.room_in-room.result) c.self.view_is

@@ -17,17 +17,17 @@ returns-in_default-place c =
     let z = placeless_level t c.distinct.ensures c.around.second (sym c.in_default-place.ensures) in
     sym (precedes_none t c.distinct.ensures c.around.first c.around.second (c.around.invariant.level ∙ z) z) ∙ c.around.invariant.same
 
-pub returns-then-place-behind : goal.returns-then-place-behind
-returns-then-place-behind c =
+pub returns-then-place-trailing : goal.returns-then-place-trailing
+returns-then-place-trailing c =
     let t = c.args.self.now.module_of.tree in
     c.is_before.ensures
-    ∙ precedes_list t c.distinct.ensures c.around.first c.around.second c.in-Some.place c.in-Some-place.behind (sym c.in-Some.ensures) (sym c.in-Some-place.ensures) (eqb-true _ _ (sym c.if-eq.ensures)) c.if-place-behind.true
+    ∙ precedes_list t c.distinct.ensures c.around.first c.around.second c.in-Some.place c.in-Some-place.trailing (sym c.in-Some.ensures) (sym c.in-Some-place.ensures) (eqb-true _ _ (sym c.if-eq.ensures)) c.if-place-trailing.true
     ∙ c.around.invariant.same
 
 pub returns-then-eq : goal.returns-then-eq
 returns-then-eq c =
     let t = c.args.self.now.module_of.tree in
-    precedes_regions t c.distinct.ensures c.around.first c.around.second c.in-Some.place c.in-Some-place.behind (sym c.in-Some.ensures) (sym c.in-Some-place.ensures) (eqb-true _ _ (sym c.if-eq.ensures)) c.if-place-behind.false
+    precedes_regions t c.distinct.ensures c.around.first c.around.second c.in-Some.place c.in-Some-place.trailing (sym c.in-Some.ensures) (sym c.in-Some-place.ensures) (eqb-true _ _ (sym c.if-eq.ensures)) c.if-place-trailing.false
     ∙ c.around.invariant.same
 
 pub around-smaller : goal.around-smaller
@@ -39,8 +39,8 @@ pub around-preserved : goal.around-preserved
 around-preserved c =
     let t = c.args.self.now.module_of.tree in
     record {
-      level = same_level_up t c.distinct.ensures c.around.first c.around.second c.in-Some.place c.in-Some-place.behind (sym c.in-Some.ensures) (sym c.in-Some-place.ensures) c.around.invariant.level;
+      level = same_level_up t c.distinct.ensures c.around.first c.around.second c.in-Some.place c.in-Some-place.trailing (sym c.in-Some.ensures) (sym c.in-Some-place.ensures) c.around.invariant.level;
       same =
-          sym (precedes_up t c.distinct.ensures c.around.first c.around.second c.in-Some.place c.in-Some-place.behind (sym c.in-Some.ensures) (sym c.in-Some-place.ensures) c.around.invariant.level (eqb-false _ _ (sym c.if-eq.ensures)))
+          sym (precedes_up t c.distinct.ensures c.around.first c.around.second c.in-Some.place c.in-Some-place.trailing (sym c.in-Some.ensures) (sym c.in-Some-place.ensures) c.around.invariant.level (eqb-false _ _ (sym c.if-eq.ensures)))
           ∙ c.around.invariant.same;
     }

@@ -3,7 +3,7 @@ use Rattle.std.specs.Prelude.{is_some}
 use Rattle.std.proofs.lemmas.Bool.{false≢true}
 use Rattle.ir_store_reads.specs.trees.Ids.{has_id, find}
 use Rattle.ir_store_reads.specs.Rows.{row_at}
-use Rattle.ir_store_reads.proofs.Slots.{in_tree_is, found}
+use Rattle.ir_store_reads.proofs.SlotLaws.{in_tree_is, found}
 use Rattle.ir_store.specs.Ends.{IsLastIn, ids_in}
 use Rattle.ir_store.proofs.Taking.{heads_of}
 use Rattle.ir_store.proofs.Called.{rows_in, keys_in}
@@ -13,12 +13,12 @@ use Rattle.ir_store.proofs.store.Store.last_inside.Goals as goal
 pub returns-in_default : goal.returns-in_default
 returns-in_default c =
     let a = c.self.inside in
-    absurd (false≢true (ap is_some c.in_default.ensures ∙ in_tree_is (rows_in a) (keys_in a) a.sibs a.root a.spelled.0 c.self.invariant.right a.spelled.1 c.args.op ∙ ap (λ s. has_id c.args.op s.module_of.tree) c.self.view_is ∙ c.requires))
+    absurd (false≢true (ap is_some c.in_default.ensures ∙ in_tree_is (rows_in a) (keys_in a) a.sibs a.root a.represented.0 c.self.invariant.right a.represented.1 c.args.op ∙ ap (λ s. has_id c.args.op s.module_of.tree) c.self.view_is ∙ c.requires))
 
 pub last_slot-requires : goal.last_slot-requires
 last_slot-requires c =
     let a = c.self.inside in
-    heads_of (rows_in a) (keys_in a) a.sibs a.root a.spelled.0 c.self.invariant.right c.in-Some.key (found (rows_in a) (keys_in a) a.sibs a.root a.spelled.0 c.self.invariant.right a.spelled.1 c.args.op c.in-Some.key (sym c.in-Some.ensures)).live
+    heads_of (rows_in a) (keys_in a) a.sibs a.root a.represented.0 c.self.invariant.right c.in-Some.key (found (rows_in a) (keys_in a) a.sibs a.root a.represented.0 c.self.invariant.right a.represented.1 c.args.op c.in-Some.key (sym c.in-Some.ensures)).live
 
 pub returns-in_default-last_slot : goal.returns-in_default-last_slot
 returns-in_default-last_slot c = subst (λ s. ids_in (find c.args.op s.module_of.tree) ≡ c.args.op ∷ []) c.self.view_is (alone c.self.inside c.self.invariant c.args.op c.in-Some.key c.in-Some.ensures c.in_default-last_slot.ensures)

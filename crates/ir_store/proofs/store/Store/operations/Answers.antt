@@ -3,4 +3,4 @@ use Rattle.ir_store.proofs.Taking.{heads_of}
 use Rattle.ir_store.proofs.store.Store.operations.Goals as goal
 
 pub push_op-requires-clause-rows : goal.push_op-requires-clause-rows
-push_op-requires-clause-rows c = let a = c.self.inside in heads_of (rows_in a) (keys_in a) a.sibs a.root a.spelled.0 c.self.invariant.right
+push_op-requires-clause-rows c = let a = c.self.inside in heads_of (rows_in a) (keys_in a) a.sibs a.root a.represented.0 c.self.invariant.right

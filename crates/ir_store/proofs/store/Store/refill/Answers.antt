@@ -72,8 +72,8 @@ returns-in-Err-insert-clause-err c =
     let wide = wide_same q (is_even a w c.laws.ensures) in
     wide_done a w q wide c.laws.ensures.few c.laws-2.ensures.few (finmap.get c.insert.new.self) (λ y. ap (λ m. finmap.get m y) c.in-Err-insert.ensures.refused) c.in-Err-insert.self-in-Err-insert-1-own.given.0 c.in-Err-insert.self-in-Err-insert-1-own.given.1.0 c.in-Err-insert.self-in-Err-insert-1-own.given.1.1.0 ∙ c.self.view_is
 
-pub put-requires : goal.put-requires
-put-requires c =
+pub write_op-requires : goal.write_op-requires
+write_op-requires c =
     let a = c.self.inside in
     let w = c.self.invariant in
     let q = parts a in
@@ -85,8 +85,8 @@ put-requires c =
     let ready = grown.ready (keys_in a) none in
     ready.inside
 
-pub invariant_of-self-inside-in-Err-put : goal.invariant_of-self-inside-in-Err-put
-invariant_of-self-inside-in-Err-put c =
+pub invariant_of-self-inside-in-Err-write_op : goal.invariant_of-self-inside-in-Err-write_op
+invariant_of-self-inside-in-Err-write_op c =
     let a = c.self.inside in
     let w = c.self.invariant in
     let q = parts a in
@@ -96,13 +96,13 @@ invariant_of-self-inside-in-Err-put c =
     let v = c.in-Ok-Some.found.draft in
     let grown = some_told (λ p. Grown 0 q c.args.op c.args.header.now p.slot p.draft) c.in-Ok-Some.field-0 c.in-Ok-Some.found c.in-Ok-Some.field-0-is c.in-Ok-Some.ensures in
     let ready = grown.ready (keys_in a) none in
-    let back = key_back a.keys c.insert.new.self c.remove.new.self c.args.op c.number.result c.number-in-Err-put.result k c.number.ensures c.number-in-Err-put.ensures c.in-Ok-insert.ensures.inserted c.remove.ensures none in
-    let q2 = record q { rows = c.put.new.self } in
-    let wide2 : Wider q q2 = subst (λ z. Wider q (record q { rows = z })) (sym c.in-Err-put.ensures.err) wide in
+    let back = key_back a.keys c.insert.new.self c.remove.new.self c.args.op c.number.result c.number-in-Err-write_op.result k c.number.ensures c.number-in-Err-write_op.ensures c.in-Ok-insert.ensures.inserted c.remove.ensures none in
+    let q2 = record q { rows = c.write_op.new.self } in
+    let wide2 : Wider q q2 = subst (λ z. Wider q (record q { rows = z })) (sym c.in-Err-write_op.ensures.err) wide in
     wide_given a w q2 wide2 c.laws.ensures.few c.laws-2.ensures.few (finmap.get c.remove.new.self) back
 
-pub invariant_of-self-in-Err-put : goal.invariant_of-self-in-Err-put
-invariant_of-self-in-Err-put c =
+pub invariant_of-self-in-Err-write_op : goal.invariant_of-self-in-Err-write_op
+invariant_of-self-in-Err-write_op c =
     let a = c.self.inside in
     let w = c.self.invariant in
     let q = parts a in
@@ -112,13 +112,13 @@ invariant_of-self-in-Err-put c =
     let v = c.in-Ok-Some.found.draft in
     let grown = some_told (λ p. Grown 0 q c.args.op c.args.header.now p.slot p.draft) c.in-Ok-Some.field-0 c.in-Ok-Some.found c.in-Ok-Some.field-0-is c.in-Ok-Some.ensures in
     let ready = grown.ready (keys_in a) none in
-    let back = key_back a.keys c.insert.new.self c.remove.new.self c.args.op c.number.result c.number-in-Err-put.result k c.number.ensures c.number-in-Err-put.ensures c.in-Ok-insert.ensures.inserted c.remove.ensures none in
-    let q2 = record q { rows = c.put.new.self } in
-    let wide2 : Wider q q2 = subst (λ z. Wider q (record q { rows = z })) (sym c.in-Err-put.ensures.err) wide in
-    wide_fits a w q2 wide2 c.laws.ensures.few c.laws-2.ensures.few (finmap.get c.remove.new.self) back c.self-in-Err-put-1.given.0 c.reach.new.marks.homes c.reach.ensures.nodes
+    let back = key_back a.keys c.insert.new.self c.remove.new.self c.args.op c.number.result c.number-in-Err-write_op.result k c.number.ensures c.number-in-Err-write_op.ensures c.in-Ok-insert.ensures.inserted c.remove.ensures none in
+    let q2 = record q { rows = c.write_op.new.self } in
+    let wide2 : Wider q q2 = subst (λ z. Wider q (record q { rows = z })) (sym c.in-Err-write_op.ensures.err) wide in
+    wide_fits a w q2 wide2 c.laws.ensures.few c.laws-2.ensures.few (finmap.get c.remove.new.self) back c.self-in-Err-write_op-1.given.0 c.reach.new.marks.homes c.reach.ensures.nodes
 
-pub returns-in-Err-put-clause-err : goal.returns-in-Err-put-clause-err
-returns-in-Err-put-clause-err c =
+pub returns-in-Err-write_op-clause-err : goal.returns-in-Err-write_op-clause-err
+returns-in-Err-write_op-clause-err c =
     let a = c.self.inside in
     let w = c.self.invariant in
     let q = parts a in
@@ -128,13 +128,13 @@ returns-in-Err-put-clause-err c =
     let v = c.in-Ok-Some.found.draft in
     let grown = some_told (λ p. Grown 0 q c.args.op c.args.header.now p.slot p.draft) c.in-Ok-Some.field-0 c.in-Ok-Some.found c.in-Ok-Some.field-0-is c.in-Ok-Some.ensures in
     let ready = grown.ready (keys_in a) none in
-    let back = key_back a.keys c.insert.new.self c.remove.new.self c.args.op c.number.result c.number-in-Err-put.result k c.number.ensures c.number-in-Err-put.ensures c.in-Ok-insert.ensures.inserted c.remove.ensures none in
-    let q2 = record q { rows = c.put.new.self } in
-    let wide2 : Wider q q2 = subst (λ z. Wider q (record q { rows = z })) (sym c.in-Err-put.ensures.err) wide in
-    wide_done a w q2 wide2 c.laws.ensures.few c.laws-2.ensures.few (finmap.get c.remove.new.self) back c.self-in-Err-put-1.given.0 c.self-in-Err-put-1.given.1.0 c.self-in-Err-put-1.given.1.1.0 ∙ c.self.view_is
+    let back = key_back a.keys c.insert.new.self c.remove.new.self c.args.op c.number.result c.number-in-Err-write_op.result k c.number.ensures c.number-in-Err-write_op.ensures c.in-Ok-insert.ensures.inserted c.remove.ensures none in
+    let q2 = record q { rows = c.write_op.new.self } in
+    let wide2 : Wider q q2 = subst (λ z. Wider q (record q { rows = z })) (sym c.in-Err-write_op.ensures.err) wide in
+    wide_done a w q2 wide2 c.laws.ensures.few c.laws-2.ensures.few (finmap.get c.remove.new.self) back c.self-in-Err-write_op-1.given.0 c.self-in-Err-write_op-1.given.1.0 c.self-in-Err-write_op-1.given.1.1.0 ∙ c.self.view_is
 
-pub put_mark-requires : goal.put_mark-requires
-put_mark-requires c =
+pub link_slot-requires : goal.link_slot-requires
+link_slot-requires c =
     let a = c.self.inside in
     let w = c.self.invariant in
     let q = parts a in
@@ -162,7 +162,7 @@ invariant_of-self-inside-2 c =
     let here = look c.args.op ∙ cond-true (eqb c.args.op c.args.op) (Some k) (keys_in a c.args.op) (eq-eqb c.args.op c.args.op refl) in
     let others : (y : ℕ) → (y ≡ c.args.op → ⊥) → finmap.get c.insert.new.self y ≡ keys_in a y = λ y ne. look y ∙ cond-false (eqb c.args.op y) (Some k) (keys_in a y) (ne_eqb c.args.op y (λ e. ne (sym e))) in
     let rows' = c.take_spare-self-inside.new.rows in
-    let er : rows' ≡ slice_set q.rows k v = c.take_spare-self-inside.ensures ∙ c.in-Ok-put.ensures.ok in
+    let er : rows' ≡ slice_set q.rows k v = c.take_spare-self-inside.ensures ∙ c.in-Ok-write_op.ensures.ok in
     let long' = put_long q.rows rows' k v er in
     let same : (y : ℕ) → (y ≡ k → ⊥) → row_at rows' y ≡ row_at q.rows y = put_other q.rows rows' k v er in
     let own = put_own q.rows rows' k v er ready.inside in
@@ -183,12 +183,12 @@ invariant_of-self-2 c =
     let here = look c.args.op ∙ cond-true (eqb c.args.op c.args.op) (Some k) (keys_in a c.args.op) (eq-eqb c.args.op c.args.op refl) in
     let others : (y : ℕ) → (y ≡ c.args.op → ⊥) → finmap.get c.insert.new.self y ≡ keys_in a y = λ y ne. look y ∙ cond-false (eqb c.args.op y) (Some k) (keys_in a y) (ne_eqb c.args.op y (λ e. ne (sym e))) in
     let rows' = c.take_spare-self-inside.new.rows in
-    let er : rows' ≡ slice_set q.rows k v = c.take_spare-self-inside.ensures ∙ c.in-Ok-put.ensures.ok in
+    let er : rows' ≡ slice_set q.rows k v = c.take_spare-self-inside.ensures ∙ c.in-Ok-write_op.ensures.ok in
     let long' = put_long q.rows rows' k v er in
     let same : (y : ℕ) → (y ≡ k → ⊥) → row_at rows' y ≡ row_at q.rows y = put_other q.rows rows' k v er in
     let own = put_own q.rows rows' k v er ready.inside in
     let there = grow_there k q.rows c.reach.new.marks.homes c.len.result ready.inside (omega (arith, c.len.ensures)) c.in-Ok.ensures.there in
-    grow_fits a w q wide c.laws.ensures.few c.laws-2.ensures.few c.args.op c.args.header.now k v none 0 grown (spare_apart a w q wide c.laws.ensures.few c.laws-2.ensures.few 0 k c.args.op v ready) (finmap.get c.insert.new.self) here others rows' long' same own c.self-2-1.given.0 c.reach.new.marks.homes c.put_mark.new.marks.homes c.reach.ensures.nodes there c.put_mark.ensures
+    grow_fits a w q wide c.laws.ensures.few c.laws-2.ensures.few c.args.op c.args.header.now k v none 0 grown (spare_apart a w q wide c.laws.ensures.few c.laws-2.ensures.few 0 k c.args.op v ready) (finmap.get c.insert.new.self) here others rows' long' same own c.self-2-1.given.0 c.reach.new.marks.homes c.link_slot.new.marks.homes c.reach.ensures.nodes there c.link_slot.ensures
 
 pub returns-clause-ok : goal.returns-clause-ok
 returns-clause-ok c =
@@ -205,7 +205,7 @@ returns-clause-ok c =
     let here = look c.args.op ∙ cond-true (eqb c.args.op c.args.op) (Some k) (keys_in a c.args.op) (eq-eqb c.args.op c.args.op refl) in
     let others : (y : ℕ) → (y ≡ c.args.op → ⊥) → finmap.get c.insert.new.self y ≡ keys_in a y = λ y ne. look y ∙ cond-false (eqb c.args.op y) (Some k) (keys_in a y) (ne_eqb c.args.op y (λ e. ne (sym e))) in
     let rows' = c.take_spare-self-inside.new.rows in
-    let er : rows' ≡ slice_set q.rows k v = c.take_spare-self-inside.ensures ∙ c.in-Ok-put.ensures.ok in
+    let er : rows' ≡ slice_set q.rows k v = c.take_spare-self-inside.ensures ∙ c.in-Ok-write_op.ensures.ok in
     let long' = put_long q.rows rows' k v er in
     let same : (y : ℕ) → (y ≡ k → ⊥) → row_at rows' y ≡ row_at q.rows y = put_other q.rows rows' k v er in
     let own = put_own q.rows rows' k v er ready.inside in

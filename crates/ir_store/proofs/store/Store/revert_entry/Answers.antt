@@ -6,7 +6,7 @@ use Rattle.ir_store_reads.specs.Stored.{has_slot, has_entry}
 use Rattle.ir_store.specs.Calls.{after_entry}
 use Rattle.ir_store.proofs.Called.{rows_in, keys_in, same_inside}
 use Rattle.ir_store_reads.proofs.Marking.{can_mark_used}
-use Rattle.ir_store_reads.proofs.Slots.{found}
+use Rattle.ir_store_reads.proofs.SlotLaws.{found}
 use Rattle.ir_store.proofs.Changes.{set_sound}
 use Rattle.ir_store.proofs.Dictionaries.{revert_found, revert_sorted, revert_slot, revert_there, entry_given, entry_fits, entry_done}
 use Rattle.ir_store.proofs.store.Store.revert_entry.Goals as goal
@@ -34,11 +34,11 @@ pub returns-in_default-clause-done : goal.returns-in_default-clause-done
 returns-in_default-clause-done c =
     absurd (revert_found c.self.inside c.self.invariant c.args.op c.args.part c.args.key (key_before_in c.args.ctx.now) c.args.value (ap (λ s. has_id c.args.op s.module_of.tree) c.self.view_is ∙ c.requires.can.there) c.in_default.ensures)
 
-pub put_mark-requires : goal.put_mark-requires
-put_mark-requires c =
+pub link_slot-requires : goal.link_slot-requires
+link_slot-requires c =
     let a = c.self.inside in
     let w = c.self.invariant in
-    can_mark_used (rows_in a) a.marks.homes c.in-Some.at w.marked (w.right.live_used c.in-Some.at (found (rows_in a) (keys_in a) a.sibs a.root a.spelled.0 w.right a.spelled.1 c.args.op c.in-Some.at (sym c.in-Some.ensures)).live)
+    can_mark_used (rows_in a) a.marks.homes c.in-Some.at w.marked (w.right.live_used c.in-Some.at (found (rows_in a) (keys_in a) a.sibs a.root a.represented.0 w.right a.represented.1 c.args.op c.in-Some.at (sym c.in-Some.ensures)).live)
 
 pub invariant_of-self-inside-2 : goal.invariant_of-self-inside-2
 invariant_of-self-inside-2 c =
@@ -47,7 +47,7 @@ invariant_of-self-inside-2 c =
 pub invariant_of-self : goal.invariant_of-self
 invariant_of-self c =
     entry_fits c.self.inside c.self.invariant c.args.op c.args.part c.args.key (key_before_in c.args.ctx.now) c.args.value c.in-Some.at c.in-Some.ensures c.revert.new.self c.revert.ensures
-    c.self-2-1.given.0 c.put_mark.new.marks.homes c.put_mark.ensures
+    c.self-2-1.given.0 c.link_slot.new.marks.homes c.link_slot.ensures
 
 pub returns-clause-done : goal.returns-clause-done
 returns-clause-done c =

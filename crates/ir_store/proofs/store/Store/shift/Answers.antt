@@ -20,34 +20,34 @@ returns-in_default-clause-done c =
     let can = may_relink (isolated_in c.args.ctx.now) (λ n. is_table (name_term c.args.ctx.now n)) c.args.op c.args.place c.args.self.now.module_of c.requires (sym c.in-None.ensures) in
     absurd (relink_place c.args.self.now.module_of.tree c.distinct.ensures c.args.op c.args.place can (sym c.in_default.ensures))
 
-pub relink-requires : goal.relink-requires
-relink-requires c = may_relink (isolated_in c.args.ctx.now) (λ n. is_table (name_term c.args.ctx.now n)) c.args.op c.args.place c.args.self.now.module_of c.requires (sym c.in-None.ensures)
+pub move_unchecked-requires : goal.move_unchecked-requires
+move_unchecked-requires c = may_relink (isolated_in c.args.ctx.now) (λ n. is_table (name_term c.args.ctx.now n)) c.args.op c.args.place c.args.self.now.module_of c.requires (sym c.in-None.ensures)
 
-pub is_seen-requires : goal.is_seen-requires
-is_seen-requires c =
-    subst (λ s. CanLook c.args.op s.module_of.tree) (sym c.relink.ensures)
+pub operands_dominate-requires : goal.operands_dominate-requires
+operands_dominate-requires c =
+    subst (λ s. CanLook c.args.op s.module_of.tree) (sym c.move_unchecked.ensures)
     (may_look (isolated_in c.args.ctx.now) (λ n. is_table (name_term c.args.ctx.now n)) c.args.op c.args.place c.args.self.now.module_of c.requires (sym c.in-None.ensures))
 
-pub returns-then-is_seen-clause-done : goal.returns-then-is_seen-clause-done
-returns-then-is_seen-clause-done c =
+pub returns-then-operands_dominate-clause-done : goal.returns-then-operands_dominate-clause-done
+returns-then-operands_dominate-clause-done c =
     let isolated = isolated_in c.args.ctx.now in (
       seen_reason isolated (λ n. is_table (name_term c.args.ctx.now n)) c.args.op c.args.place c.args.self.now.module_of c.requires (sym c.in-None.ensures)
-          (ap (λ s. is_seen isolated c.args.op s.module_of.tree) (sym c.relink.ensures) ∙ sym c.is_seen.ensures ∙ c.if-is_seen.true),
-      c.relink.ensures,
+          (ap (λ s. is_seen isolated c.args.op s.module_of.tree) (sym c.move_unchecked.ensures) ∙ sym c.operands_dominate.ensures ∙ c.if-operands_dominate.true),
+      c.move_unchecked.ensures,
     )
 
-pub returns-then-is_seen-clause-formed : goal.returns-then-is_seen-clause-formed
-returns-then-is_seen-clause-formed c =
+pub returns-then-operands_dominate-clause-formed : goal.returns-then-operands_dominate-clause-formed
+returns-then-operands_dominate-clause-formed c =
     let isolated = isolated_in c.args.ctx.now in
-    subst (λ s. IsWellFormed isolated s.module_of) (sym c.relink.ensures)
+    subst (λ s. IsWellFormed isolated s.module_of) (sym c.move_unchecked.ensures)
     (shift_keeps isolated (λ n. is_table (name_term c.args.ctx.now n)) c.args.op c.args.place c.args.self.now.module_of c.requires
     (seen_reason isolated (λ n. is_table (name_term c.args.ctx.now n)) c.args.op c.args.place c.args.self.now.module_of c.requires (sym c.in-None.ensures)
-    (ap (λ s. is_seen isolated c.args.op s.module_of.tree) (sym c.relink.ensures) ∙ sym c.is_seen.ensures ∙ c.if-is_seen.true)))
+    (ap (λ s. is_seen isolated c.args.op s.module_of.tree) (sym c.move_unchecked.ensures) ∙ sym c.operands_dominate.ensures ∙ c.if-operands_dominate.true)))
 
-pub relink-requires-2 : goal.relink-requires-2
-relink-requires-2 c =
+pub move_unchecked-requires-2 : goal.move_unchecked-requires-2
+move_unchecked-requires-2 c =
     let can = may_relink (isolated_in c.args.ctx.now) (λ n. is_table (name_term c.args.ctx.now n)) c.args.op c.args.place c.args.self.now.module_of c.requires (sym c.in-None.ensures) in
-    subst (λ s. CanRelink c.args.op c.in-Some-place.old s.module_of.tree) (sym c.relink.ensures)
+    subst (λ s. CanRelink c.args.op c.in-Some-place.old s.module_of.tree) (sym c.move_unchecked.ensures)
     (can_go_back c.args.op c.args.place c.args.self.now.module_of.tree c.distinct.ensures can c.in-Some-place.old (sym c.in-Some-place.ensures))
 
 pub returns-clause-done : goal.returns-clause-done
@@ -55,8 +55,8 @@ returns-clause-done c =
     let isolated = isolated_in c.args.ctx.now in
     let can = may_relink isolated (λ n. is_table (name_term c.args.ctx.now n)) c.args.op c.args.place c.args.self.now.module_of c.requires (sym c.in-None.ensures) in (
       unseen_refused isolated (λ n. is_table (name_term c.args.ctx.now n)) c.args.op c.args.place c.args.self.now.module_of c.requires (sym c.in-None.ensures)
-          (ap (λ s. is_seen isolated c.args.op s.module_of.tree) (sym c.relink.ensures) ∙ sym c.is_seen.ensures ∙ c.if-is_seen.false),
-      c.relink-2.ensures ∙ ap (after_shift c.args.op c.in-Some-place.old) c.relink.ensures
+          (ap (λ s. is_seen isolated c.args.op s.module_of.tree) (sym c.move_unchecked.ensures) ∙ sym c.operands_dominate.ensures ∙ c.if-operands_dominate.false),
+      c.move_unchecked-2.ensures ∙ ap (after_shift c.args.op c.in-Some-place.old) c.move_unchecked.ensures
           ∙ gone_back c.args.op c.args.place c.in-Some-place.old c.args.self.now c.distinct.ensures can (sym c.in-Some-place.ensures),
     )
 
@@ -64,5 +64,5 @@ pub returns-clause-formed : goal.returns-clause-formed
 returns-clause-formed c =
     let can = may_relink (isolated_in c.args.ctx.now) (λ n. is_table (name_term c.args.ctx.now n)) c.args.op c.args.place c.args.self.now.module_of c.requires (sym c.in-None.ensures) in
     subst (λ s. IsWellFormed (isolated_in c.args.ctx.now) s.module_of)
-    (sym (c.relink-2.ensures ∙ ap (after_shift c.args.op c.in-Some-place.old) c.relink.ensures ∙ gone_back c.args.op c.args.place c.in-Some-place.old c.args.self.now c.distinct.ensures can (sym c.in-Some-place.ensures)))
+    (sym (c.move_unchecked-2.ensures ∙ ap (after_shift c.args.op c.in-Some-place.old) c.move_unchecked.ensures ∙ gone_back c.args.op c.args.place c.in-Some-place.old c.args.self.now c.distinct.ensures can (sym c.in-Some-place.ensures)))
     c.requires

@@ -10,7 +10,7 @@ use Rattle.ir_store_reads.proofs.Marking.{can_mark_used}
 use Rattle.ir_store.proofs.store.Store.take.Goals as goal
 
 pub find_idle-requires-clause-blocks : goal.find_idle-requires-clause-blocks
-find_idle-requires-clause-blocks c = let a = c.self.inside in heads_of (rows_in a) (keys_in a) a.sibs a.root a.spelled.0 c.self.invariant.right
+find_idle-requires-clause-blocks c = let a = c.self.inside in heads_of (rows_in a) (keys_in a) a.sibs a.root a.represented.0 c.self.invariant.right
 
 pub same-self : goal.same-self
 same-self c = same_inside c.self.inside _ _ _
@@ -33,8 +33,8 @@ remove-requires c =
     let p = plan c.self.inside c.self.invariant c.laws.ensures c.args.op (Ok c.in-Ok.key) c.in-Ok.ensures in
     (c.self.invariant.right.items c.in-Ok.key p.0.found.live p.0.inner).item
 
-pub put_mark-requires : goal.put_mark-requires
-put_mark-requires c =
+pub link_slot-requires : goal.link_slot-requires
+link_slot-requires c =
     let p = plan c.self.inside c.self.invariant c.laws.ensures c.args.op (Ok c.in-Ok.key) c.in-Ok.ensures in
     can_mark_used (rows_in c.self.inside) c.self.inside.marks.homes c.in-Ok.key c.self.invariant.marked (c.self.invariant.right.live_used c.in-Ok.key p.0.found.live)
 
@@ -48,7 +48,7 @@ pub invariant_of-self : goal.invariant_of-self
 invariant_of-self c =
     let a = c.self.inside in
     let p = plan a c.self.invariant c.laws.ensures c.args.op (Ok c.in-Ok.key) c.in-Ok.ensures in
-    take_fits a c.self.invariant c.args.op c.in-Ok.key p.0 c.use_run-base.result c.use_run-base.ensures c.set_live.new.self c.set_live.ensures c.remove.new.self c.remove.ensures.lists c.remove.ensures.homes c.free_uses.new.uses.homes c.free_uses.ensures (no_take_reason c.args.op a.spelled.0 p.1).spared c.self-2-1.given.0 c.put_mark.new.marks.homes c.put_mark.ensures
+    take_fits a c.self.invariant c.args.op c.in-Ok.key p.0 c.use_run-base.result c.use_run-base.ensures c.set_live.new.self c.set_live.ensures c.remove.new.self c.remove.ensures.lists c.remove.ensures.homes c.free_uses.new.uses.homes c.free_uses.ensures (no_take_reason c.args.op a.represented.0 p.1).spared c.self-2-1.given.0 c.link_slot.new.marks.homes c.link_slot.ensures
 
 pub returns : goal.returns
 returns c =

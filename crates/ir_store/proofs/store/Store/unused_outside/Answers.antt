@@ -2,7 +2,7 @@ use Rattle.std.proofs.Common.{sym, ◌∙◌, ap, ◌≡◌, true, subst}
 use Rattle.std.specs.Prelude.{is_some}
 use Rattle.ir_store_reads.specs.trees.Ids.{has_id}
 use Rattle.ir_store_reads.specs.tree_laws.Reasons.{unused_outside}
-use Rattle.ir_store_reads.proofs.Slots.{in_tree_is, none_found}
+use Rattle.ir_store_reads.proofs.SlotLaws.{in_tree_is, none_found}
 use Rattle.ir_store.proofs.Called.{rows_in, keys_in}
 use Rattle.ir_store.proofs.Keeping.{keeps_whole}
 use Rattle.ir_store.proofs.Leaving.{absent_unused}
@@ -14,15 +14,15 @@ pub returns-in_default : goal.returns-in_default
 returns-in_default c =
     let a = c.self.inside in
     sym (subst (λ s. unused_outside c.args.op s.module_of.tree ≡ true) c.self.view_is
-    (absent_unused a.spelled.0 c.self.invariant.distinct c.args.op (none_found (rows_in a) (keys_in a) a.sibs a.root a.spelled.0 c.self.invariant.right a.spelled.1 c.args.op (sym c.in_default.ensures))))
+    (absent_unused a.represented.0 c.self.invariant.distinct c.args.op (none_found (rows_in a) (keys_in a) a.sibs a.root a.represented.0 c.self.invariant.right a.represented.1 c.args.op (sym c.in_default.ensures))))
 
 pub op_keeps-requires-clause-there : goal.op_keeps-requires-clause-there
 op_keeps-requires-clause-there c =
     let a = c.self.inside in
-    sym (ap is_some c.in-Some.ensures ∙ in_tree_is (rows_in a) (keys_in a) a.sibs a.root a.spelled.0 c.self.invariant.right a.spelled.1 c.args.op ∙ ap (λ s. has_id c.args.op s.module_of.tree) c.self.view_is)
+    sym (ap is_some c.in-Some.ensures ∙ in_tree_is (rows_in a) (keys_in a) a.sibs a.root a.represented.0 c.self.invariant.right a.represented.1 c.args.op ∙ ap (λ s. has_id c.args.op s.module_of.tree) c.self.view_is)
 
 pub op_keeps-requires-clause-rows : goal.op_keeps-requires-clause-rows
-op_keeps-requires-clause-rows c = let a = c.self.inside in heads_of (rows_in a) (keys_in a) a.sibs a.root a.spelled.0 c.self.invariant.right
+op_keeps-requires-clause-rows c = let a = c.self.inside in heads_of (rows_in a) (keys_in a) a.sibs a.root a.represented.0 c.self.invariant.right
 
 pub op_keeps-requires-clause-values : goal.op_keeps-requires-clause-values
 op_keeps-requires-clause-values c = find_values c.self.inside c.self.invariant

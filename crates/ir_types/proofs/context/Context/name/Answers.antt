@@ -1,6 +1,6 @@
 use Rattle.std.proofs.Common.{◌∙◌, ◌≤◌, sym, subst, map, length}
 use Rattle.std.proofs.lemmas.List.{length-map}
-use Rattle.ir_types.specs.Things.{Grows}
+use Rattle.ir_types.specs.Things.{IsExtendedBy}
 use Rattle.ir_types.proofs.Growth.{grows_name}
 use Rattle.ir_types.proofs.Keeping.{kept_with_name, named_things, name_call}
 use Rattle.ir_types.proofs.context.Context.name.Goals as goal
@@ -17,4 +17,4 @@ returns-clause-ok c =
 
 pub returns-clause-grows : goal.returns-clause-grows
 returns-clause-grows c =
-    rw (← c.self.view_is) (subst (Grows _) (sym (named_things c.self.inside.opaque (map (λ v. v.items) c.self.inside.names.keys) (map (λ v. v.items) c.intern_name.new.names.keys) c.self.inside.types.entries c.self.inside.attrs.entries c.args.bytes.now c.in_ok-place.ensures.names)) (grows_name c.args.bytes.now _))
+    rw (← c.self.view_is) (subst (IsExtendedBy _) (sym (named_things c.self.inside.opaque (map (λ v. v.items) c.self.inside.names.keys) (map (λ v. v.items) c.intern_name.new.names.keys) c.self.inside.types.entries c.self.inside.attrs.entries c.args.bytes.now c.in_ok-place.ensures.names)) (grows_name c.args.bytes.now _))

@@ -10,12 +10,12 @@ pub returns-in-Ok : goal.returns-in-Ok
 returns-in-Ok c =
     let w = c.args.view.world.now in
     record {
-      heard = record {
+      notified = record {
         told = record {
           same = record { kind = refl; analysis = λ t. refl; most = λ e m n. refl };
           agrees = λ m step shows held. inl (held.0, followed_is_kept w.ctx c.args.event m (module_in w) (subst IsSound c.context.ensures c.sound.ensures) step (kept_at c.args.self.now.roles) (kept_at c.follow.new.roles) held.1 c.in-Ok.ensures.followed);
           stale = λ h. h;
-          heard = inl refl;
+          notified = inl refl;
         };
         looks = λ m step shows held. within_most c.args.view.world.now c.args.event m step c.args.view.looks c.follow.new.view.looks c.follow.ensures.looks c.follow.ensures.take;
         world = c.follow.ensures.world;
@@ -24,12 +24,12 @@ returns-in-Ok c =
 
 pub returns-in-Err : goal.returns-in-Err
 returns-in-Err c = record {
-  heard = record {
+  notified = record {
     told = record {
       same = record { kind = refl; analysis = λ t. refl; most = λ e m n. refl };
       agrees = λ m step shows held. inr refl;
       stale = λ h. refl;
-      heard = inl refl;
+      notified = inl refl;
     };
     looks = λ m step shows held. within_most c.args.view.world.now c.args.event m step c.args.view.looks c.follow.new.view.looks c.follow.ensures.looks c.follow.ensures.take;
     world = c.follow.ensures.world;

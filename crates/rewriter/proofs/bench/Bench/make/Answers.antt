@@ -1,8 +1,8 @@
 use Rattle.std.proofs.Common.{◌≡◌, refl, sym, ap, rules}
-use Rattle.rewriter_desk.specs.Edits as edit
-use Rattle.rewriter_desk.specs.Machine.{DoneAs}
+use Rattle.rewriter.specs.Edits as edit
+use Rattle.rewriter.specs.Machine.{DoneAs}
 use Rattle.rewriter.proofs.Going.{edit_goes, refused_always}
-use Rattle.rewriter.specs.Held.{Held}
+use Rattle.rewriter.specs.Held.{TransactionModel}
 use Rattle.rewriter.proofs.Noted.{made_ctx, made_journaled, recorded_left}
 use Rattle.rewriter.proofs.Told.{made_told, made_led, led_left}
 use Rattle.rewriter.proofs.bench.Bench.make.Goals as goal
@@ -18,7 +18,7 @@ returns-in-Err-clause-led g c = rw (← c.self.view_is) (led_left g.L.Analysis.m
 
 pub returns-in-Ok-clause-does : goal.returns-in-Ok-clause-does
 returns-in-Ok-clause-does g c =
-    let free : c.new-op.result ≡ c.self.inside.desk.store.module_of.next = search rules in
+    let free : c.new-op.result ≡ c.self.inside.transaction.store.module_of.next = search rules in
     rw (← c.self.view_is) (edit_goes g.L.Analysis.meaning (edit.Make c.args.place c.args.header.now) _ _ _ _ (ap DoneAs (sym free)) c.in-Ok.ensures.refused refl (made_told g.L.Analysis.meaning _ _ _ _ _ c.world-in-Ok.result.now _ _ c.in-Ok.ensures.ok c.world-in-Ok.ensures.ctx c.world-in-Ok.ensures.store c.tell.ensures c.settle.ensures))
 
 pub returns-in-Err-clause-does : goal.returns-in-Err-clause-does
@@ -31,7 +31,7 @@ pub returns-in-Ok-clause-journal : goal.returns-in-Ok-clause-journal
 returns-in-Ok-clause-journal g c = rw (← c.self.view_is) (made_journaled g.L.Analysis.meaning _ _ _ (made_told g.L.Analysis.meaning _ _ _ _ _ c.world-in-Ok.result.now _ _ c.in-Ok.ensures.ok c.world-in-Ok.ensures.ctx c.world-in-Ok.ensures.store c.tell.ensures c.settle.ensures))
 
 pub returns-in-Err-clause-ctx : goal.returns-in-Err-clause-ctx
-returns-in-Err-clause-ctx g c = rw (← c.self.view_is) (ap (λ (h : Held). h.ctx) c.in-Err.ensures.err)
+returns-in-Err-clause-ctx g c = rw (← c.self.view_is) (ap (λ (h : TransactionModel). h.ctx) c.in-Err.ensures.err)
 
 pub returns-in-Err-clause-journal : goal.returns-in-Err-clause-journal
 returns-in-Err-clause-journal g c = rw (← c.self.view_is) (recorded_left _ _ c.in-Err.ensures.err)

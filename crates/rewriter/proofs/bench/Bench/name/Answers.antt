@@ -1,11 +1,11 @@
 use Rattle.std.proofs.Common.{subst, []}
 use Rattle.ir_event.specs.types.Sound.{Holds}
 use Rattle.rewriter.proofs.Rolled.{grown_settled}
-use Rattle.rewriter.proofs.Told.{heard_grown}
+use Rattle.rewriter.proofs.Told.{notified_grown}
 use Rattle.rewriter.proofs.bench.Bench.name.Goals as goal
 
 pub returns-clause-led : goal.returns-clause-led
-returns-clause-led g c = rw (← c.self.view_is) ([], heard_grown g.L.Analysis.meaning _ _ _ (subst Holds c.world.ensures.ctx c.sound.ensures.holds) (subst Holds c.world-2.ensures.ctx c.sound-2.ensures.holds) c.name-id.ensures.grows)
+returns-clause-led g c = rw (← c.self.view_is) ([], notified_grown g.L.Analysis.meaning _ _ _ (subst Holds c.world.ensures.ctx c.sound.ensures.holds) (subst Holds c.world-2.ensures.ctx c.sound-2.ensures.holds) c.name-id.ensures.grows)
 
 pub invariant_of-self : goal.invariant_of-self
 invariant_of-self g c = grown_settled _ _ c.name-id.ensures.grows c.self.invariant

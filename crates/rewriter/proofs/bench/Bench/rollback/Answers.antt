@@ -1,7 +1,7 @@
 use Rattle.std.proofs.Common.{[]}
 use Rattle.rewriter.proofs.Rolled.{dropped_undone, given_settled, rollback_goes, rollback_led, rollback_told, rollback_none}
-use Rattle.rewriter.proofs.Told.{heard_none}
-use Rattle.rewriter.proofs.Contexts.{rollback_ctx}
+use Rattle.rewriter.proofs.Told.{notified_none}
+use Rattle.rewriter.proofs.ContextLaws.{rollback_ctx}
 use Rattle.rewriter.proofs.bench.Bench.rollback.Goals as goal
 
 pub returns-clause-does : goal.returns-clause-does
@@ -14,10 +14,10 @@ pub returns-clause-led : goal.returns-clause-led
 returns-clause-led g c = rw (← c.self.view_is) (rollback_led g.L.Analysis.meaning _ _ _ _ _ _ _ c.in-Some.ensures.some c.undo_to.ensures.undone c.close.ensures c.give_up.ensures c.undo_to.ensures.told)
 
 pub returns-in_default-clause-led : goal.returns-in_default-clause-led
-returns-in_default-clause-led g c = ([], heard_none g.L.Analysis.meaning _)
+returns-in_default-clause-led g c = ([], notified_none g.L.Analysis.meaning _)
 
 pub returns-in_default-clause-does : goal.returns-in_default-clause-does
-returns-in_default-clause-does g c = rw (← c.self.view_is) (rollback_none g.L.Analysis.meaning (record { desk = c.self.inside.desk; listeners = c.self.inside.panel }) c.in_default.ensures.none)
+returns-in_default-clause-does g c = rw (← c.self.view_is) (rollback_none g.L.Analysis.meaning (record { transaction = c.self.inside.transaction; listeners = c.self.inside.panel }) c.in_default.ensures.none)
 
 pub returns-clause-ctx : goal.returns-clause-ctx
 returns-clause-ctx g c = rw (← c.self.view_is) (rollback_ctx _ _ _ _ _ c.undo_to.ensures.undone c.close.ensures c.give_up.ensures)

@@ -1,5 +1,5 @@
 use Rattle.std.proofs.Common.{refl}
-use Rattle.rewriter_desk.specs.Edits as edit
+use Rattle.rewriter.specs.Edits as edit
 use Rattle.rewriter.proofs.Going.{entry_goes}
 use Rattle.rewriter.proofs.bench.Bench.set_attr.Goals as goal
 

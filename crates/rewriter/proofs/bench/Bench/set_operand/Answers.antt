@@ -1,7 +1,7 @@
 use Rattle.std.proofs.Common.{refl, ap}
-use Rattle.rewriter_desk.specs.Edits as edit
+use Rattle.rewriter.specs.Edits as edit
 use Rattle.rewriter.proofs.Going.{edit_goes, refused_marked}
-use Rattle.rewriter.specs.Held.{Held}
+use Rattle.rewriter.specs.Held.{TransactionModel}
 use Rattle.rewriter.proofs.Noted.{made_ctx, made_journaled, recorded_left}
 use Rattle.rewriter.proofs.Told.{made_told, made_led, led_left}
 use Rattle.rewriter.proofs.bench.Bench.set_operand.Goals as goal
@@ -28,7 +28,7 @@ pub returns-in-Ok-clause-journal : goal.returns-in-Ok-clause-journal
 returns-in-Ok-clause-journal g c = rw (← c.self.view_is) (made_journaled g.L.Analysis.meaning _ _ _ (made_told g.L.Analysis.meaning _ _ _ _ _ c.world.result.now _ _ c.in-Ok.ensures.ok c.world.ensures.ctx c.world.ensures.store c.tell.ensures c.settle.ensures))
 
 pub returns-in-Err-clause-ctx : goal.returns-in-Err-clause-ctx
-returns-in-Err-clause-ctx g c = rw (← c.self.view_is) (ap (λ (h : Held). h.ctx) c.in-Err.ensures.err)
+returns-in-Err-clause-ctx g c = rw (← c.self.view_is) (ap (λ (h : TransactionModel). h.ctx) c.in-Err.ensures.err)
 
 pub returns-in-Err-clause-journal : goal.returns-in-Err-clause-journal
 returns-in-Err-clause-journal g c = rw (← c.self.view_is) (recorded_left _ _ c.in-Err.ensures.err)

@@ -1,6 +1,6 @@
 use Rattle.std.proofs.Common.{false}
 use Rattle.rewriter.proofs.Rolled.{step_does, mark_led, mark_untold, marked_settled}
-use Rattle.rewriter.proofs.Contexts.{step_ctx}
+use Rattle.rewriter.proofs.ContextLaws.{step_ctx}
 use Rattle.rewriter.proofs.bench.Bench.step.Goals as goal
 
 pub returns-clause-does : goal.returns-clause-does

@@ -1,0 +1,282 @@
+/* mlir_work as a library: a session holds a module and runs commands on it, one line of a script at a time.
+
+   A line has the same effect as in a script that `mlir_work --brief` runs. docs/GUIDE.md lists the commands,
+   docs/REPORTS.md the reports; docs/EMBED.md says how to build, link and call the library, and what is proved.
+
+   Rules for the caller. The library checks only those marked (checked):
+   - A handle starts as MLIR_WORK_CLOSED and is released by mlir_work_close. Only these calls read or write it. It may
+     be moved to another address, but not copied: use only one of two copies, and neither after one was closed. The
+     library can't detect a copy without a table of all sessions, which threads would have to share.
+   - Each call accepts a closed handle, and its answer says that the handle is closed (checked). Memory that no call
+     wrote counts as a closed handle, unless its `word` field has the bytes "mlirwrk1" (checked).
+   - One call at a time on a handle, and only from the thread that opened it. Handles are independent and there is no
+     global state, so each thread may have its own handles.
+   - No pointer is null, even if the length is 0, and no argument points into memory of another argument.
+   - A call reads its input only while it runs, and keeps no pointer to it. Output is copied to the caller. No memory
+     changes its owner.
+   - A call needs stack for the deepest nesting in the text that it reads: 512 KB of stack are enough (measured:
+     288 KB). A thread with less stack may end by SIGSEGV. (musl gives a thread 128 KB by default.)
+   - No call from a signal handler, or in the child after a fork of a process with several threads.
+   - malloc, realloc and free are of one allocator, and align like those of the C library.
+   If memory runs out, the answer is refusal 36, and the module and its marks are unchanged. */
+#ifndef MLIR_WORK_H
+#define MLIR_WORK_H
+
+#include <stdbool.h>
+#include <stddef.h>
+#include <stdint.h>
+
+#ifdef __cplusplus
+extern "C" {
+#endif
+
+/* The version of these calls. It increases if a signature or the meaning of a number changes. A program that was
+   compiled with another version than mlir_work_version returns must stop. */
+#define MLIR_WORK_VERSION 1
+uint32_t mlir_work_version(void);
+
+/* A handle of a session; it starts as MLIR_WORK_CLOSED. */
+typedef struct mlir_work_session {
+  struct {
+    void *at;
+  } slot;
+  uint64_t word;
+} mlir_work_session;
+
+#define MLIR_WORK_CLOSED { { 0 }, 0 }
+
+/* The outcome of a line. */
+enum mlir_work_outcome {
+  MLIR_WORK_NOTHING = 0,    /* an empty line or a comment: no output, no change */
+  MLIR_WORK_OK = 1,         /* done */
+  MLIR_WORK_MADE = 2,       /* done; number: the new operation */
+  MLIR_WORK_SWEPT = 3,      /* number: how many symbols were erased */
+  MLIR_WORK_CONVERGED = 4,  /* number: how many rewrites were made; no rule applies any more */
+  MLIR_WORK_LIMIT = 5,      /* number: how many rewrites were made, which is the limit */
+  MLIR_WORK_CONVERTED = 6,  /* number: how many rules the conversion applied */
+  MLIR_WORK_REFUSED = 7,    /* refusal: why; the session is unchanged */
+  MLIR_WORK_REFUSED_ON = 8, /* and number: the operation that caused the refusal */
+  MLIR_WORK_REFUSED_AT = 9, /* and number: the byte offset of the fault in the text, from 0 */
+  MLIR_WORK_NO_SESSION = 10, /* the handle is closed */
+  MLIR_WORK_APPLIED = 11,   /* number: how often the rule or pattern was applied, 0 or 1 */
+  MLIR_WORK_HOLDS = 12,     /* number: the width up to which a pattern is right for all values; 0: every width */
+  MLIR_WORK_EMPTY = 13,     /* number: the width up to which a pattern never applies */
+  MLIR_WORK_FAILS = 14,     /* number: a width at which a pattern is wrong; the output has the values */
+  MLIR_WORK_UNREFUTED = 15  /* number: the width at which samples found no counterexample */
+};
+
+/* Why a text or a command is refused: docs/REFUSALS.md. */
+enum mlir_work_refusal {
+  MLIR_WORK_BAD_TOKEN = 1, /* No token starts at this offset. */
+  MLIR_WORK_UNEXPECTED = 2, /* A token that isn't allowed here. */
+  MLIR_WORK_UNKNOWN_VALUE = 3, /* A name that is not bound, or an operand that is not visible. */
+  MLIR_WORK_REDEFINED = 4, /* A name that is bound already. */
+  MLIR_WORK_TYPE_MISMATCH = 5, /* The number or the types of operands or results differ from what is written. */
+  MLIR_WORK_BAD_WIDTH = 6, /* A width outside the integer types. */
+  MLIR_WORK_BAD_VALUE = 7, /* A value outside the range of its type. */
+  MLIR_WORK_MULTIPLE_BLOCKS = 8, /* A second block in a region. */
+  MLIR_WORK_SUCCESSORS = 9, /* An operation with successors. */
+  MLIR_WORK_TOO_DEEP = 10, /* A nesting deeper than its limit. */
+  MLIR_WORK_TOO_MANY = 11, /* A count past its limit. */
+  MLIR_WORK_DUPLICATE_KEY = 12, /* A key twice in one dictionary. */
+  MLIR_WORK_LEFT_OUT = 13, /* A construct of MLIR that isn't supported. */
+  MLIR_WORK_NOT_UTF8 = 14, /* A text that is not UTF-8. */
+  MLIR_WORK_NO_SUCH_OP = 20, /* No such operation in the module. */
+  MLIR_WORK_NO_SUCH_VALUE = 21, /* No such value in the module. */
+  MLIR_WORK_HAS_USES = 22, /* A result or argument that is still used. */
+  MLIR_WORK_NOT_VISIBLE = 23, /* An operand would not be visible. */
+  MLIR_WORK_TYPE_DIFFERS = 24, /* The types of two values differ. */
+  MLIR_WORK_NO_SUCH_INDEX = 25, /* No such operand, region or block, or no such place in it. */
+  MLIR_WORK_NO_SUCH_KEY = 26, /* No entry with the key. */
+  MLIR_WORK_INTO_ITSELF = 27, /* An operation would be inside itself. */
+  MLIR_WORK_OTHER_TABLE = 28, /* An operation would leave its symbol table. */
+  MLIR_WORK_IS_ROOT = 29, /* The root can be neither moved nor removed. */
+  MLIR_WORK_NOT_EMPTY = 30, /* A block still holds operations. */
+  MLIR_WORK_FULL = 31, /* A count of the module would exceed its limit. */
+  MLIR_WORK_IDS_EXHAUSTED = 32, /* No operation id is left. */
+  MLIR_WORK_TOO_DEEP_HERE = 33, /* An operation would exceed the depth limit. */
+  MLIR_WORK_TOO_MANY_MARKS = 34, /* Too many marks are open. */
+  MLIR_WORK_NO_MARK = 35, /* No mark is open. */
+  MLIR_WORK_MEMORY = 36, /* Memory was refused. */
+  MLIR_WORK_STALE = 40, /* The analysis is stale. */
+  MLIR_WORK_NO_SUCH_KIND = 41, /* No analysis of the kind is attached. */
+  MLIR_WORK_KIND_TAKEN = 42, /* An analysis of the kind is attached already. */
+  MLIR_WORK_BAD_LIMIT = 50, /* A limit outside its range. */
+  MLIR_WORK_NOT_LEGALISED = 51, /* An operation that no rule makes legal. */
+  MLIR_WORK_CHAIN_TOO_DEEP = 52, /* A chain of rules beyond the depth limit. */
+  MLIR_WORK_UNRECONCILED = 53, /* A remaining cast that can't be lowered. */
+  MLIR_WORK_BAD_TARGET = 54, /* A conversion target that contradicts itself. */
+  MLIR_WORK_BAD_COMMAND = 60, /* A line that isn't a command. */
+};
+
+/* The answer of a call. */
+typedef struct mlir_work_answer {
+  uint32_t outcome; /* an mlir_work_outcome */
+  uint32_t refusal; /* an mlir_work_refusal, or 0 */
+  uint64_t number;  /* the number of the outcome, or 0 */
+  uint64_t shown;   /* how many bytes of output mlir_work_read copies; valid until the next line runs */
+} mlir_work_answer;
+
+/* Returns the word of a refusal, as replies have it, or "" if the number is no refusal. */
+static inline const char *mlir_work_refusal_word(uint32_t refusal) {
+  switch (refusal) {
+  case 1: return "BadToken";
+  case 2: return "Unexpected";
+  case 3: return "UnknownValue";
+  case 4: return "Redefined";
+  case 5: return "TypeMismatch";
+  case 6: return "BadWidth";
+  case 7: return "BadValue";
+  case 8: return "MultipleBlocks";
+  case 9: return "Successors";
+  case 10: return "TooDeep";
+  case 11: return "TooMany";
+  case 12: return "DuplicateKey";
+  case 13: return "LeftOut";
+  case 14: return "NotUtf8";
+  case 20: return "NoSuchOp";
+  case 21: return "NoSuchValue";
+  case 22: return "HasUses";
+  case 23: return "NotVisible";
+  case 24: return "TypeDiffers";
+  case 25: return "NoSuchIndex";
+  case 26: return "NoSuchKey";
+  case 27: return "IntoItself";
+  case 28: return "OtherTable";
+  case 29: return "IsRoot";
+  case 30: return "NotEmpty";
+  case 31: return "Full";
+  case 32: return "IdsExhausted";
+  case 33: return "TooDeepHere";
+  case 34: return "TooManyMarks";
+  case 35: return "NoMark";
+  case 36: return "Memory";
+  case 40: return "Stale";
+  case 41: return "NoSuchKind";
+  case 42: return "KindTaken";
+  case 50: return "BadLimit";
+  case 51: return "NotLegalised";
+  case 52: return "ChainTooDeep";
+  case 53: return "Unreconciled";
+  case 54: return "BadTarget";
+  case 60: return "BadCommand";
+  }
+  return "";
+}
+
+/* Parses a module and opens a session on it, with all seven analyses. A session that the handle held is closed first.
+   `text`: `text_length` bytes, without a terminating 0. `key`: the seed of the library's hash tables. Choose a number
+   that the author of the text can't predict, so that the text can't force collisions; no answer depends on it.
+   `limit`: the limit of rewrites for a `canon` without a limit. The answer is MLIR_WORK_OK, or MLIR_WORK_REFUSED_AT or
+   MLIR_WORK_REFUSED, after which the handle is closed. */
+void mlir_work_open(mlir_work_session *session, const uint8_t *text, size_t text_length, uint64_t key, uint32_t limit,
+                    mlir_work_answer *answer);
+
+/* Opens a session like mlir_work_open, but keeps unknown types and attributes as their texts, in the module and in
+   each line, like `mlir_work --opaque`. */
+void mlir_work_open_opaque(mlir_work_session *session, const uint8_t *text, size_t text_length, uint64_t key,
+                           uint32_t limit, mlir_work_answer *answer);
+
+/* Runs a line of a script: one command, with or without a line feed at its end. A text of several lines is refused
+   (60 BadCommand). The answer to `expect REFUSAL COMMAND` is the answer to COMMAND: the caller compares it with the
+   expected refusal. */
+void mlir_work_command(mlir_work_session *session, const uint8_t *line, size_t line_length, mlir_work_answer *answer);
+
+/* Copies the output of the last line, from byte `from` on, into `into`, at most `into_length` bytes. Returns how many
+   bytes were copied: 0 at the end of the output, and for a closed handle. */
+size_t mlir_work_read(mlir_work_session *session, size_t from, uint8_t *into, size_t into_length);
+
+/* Replaces the blanks between the cells of report rows by tabs, in place, so that a caller can split the rows of any
+   analysis. No cell contains a tab. (This function is part of the header, not of the library, and isn't proved.) */
+static inline void mlir_work_tabs(uint8_t *rows, size_t length) {
+  bool is_text = false, is_last = false;
+  for (size_t i = 0, row = 0; i < length; i++) {
+    if (rows[i] == '"') {
+      is_text = !is_text;
+    } else if (rows[i] == '\n') {
+      row = i + 1;
+      is_last = false;
+    } else if (rows[i] == ' ' && !is_text && !is_last) {
+      rows[i] = '\t';
+      is_last = rows[row] == '%' && i + 1 < length && rows[i + 1] != '#'; /* a constant may contain blanks */
+    }
+  }
+}
+
+/* Closes the session and frees its memory. A closed handle stays closed. */
+void mlir_work_close(mlir_work_session *session);
+
+/* Edits and queries by numbers, without writing or parsing a line. */
+
+/* In the field `region`: the value is a result. */
+#define MLIR_WORK_RESULT UINT32_MAX
+
+/* A value: result number `place` of an operation, or argument number `place` of the block of one of its regions. */
+typedef struct mlir_work_value {
+  uint32_t operation;
+  uint32_t region; /* or MLIR_WORK_RESULT */
+  uint32_t place;
+} mlir_work_value;
+
+/* The kind of an insertion point. */
+enum mlir_work_place {
+  MLIR_WORK_BEFORE = 0, /* directly before an operation */
+  MLIR_WORK_AFTER = 1,  /* directly after it */
+  MLIR_WORK_START = 2,  /* at the start of the block of one of its regions */
+  MLIR_WORK_END = 3     /* at the end of that block */
+};
+
+typedef struct mlir_work_spot {
+  uint32_t kind; /* an mlir_work_place; any other is refused (60 BadCommand) */
+  uint32_t operation;
+  uint32_t region; /* of MLIR_WORK_START and MLIR_WORK_END */
+} mlir_work_spot;
+
+/* The commands `set-operand`, `replace`, `erase` and `move`, with the same answers. */
+void mlir_work_set_operand(mlir_work_session *session, uint32_t operation, uint32_t operand,
+                           const mlir_work_value *value, mlir_work_answer *answer);
+void mlir_work_replace(mlir_work_session *session, const mlir_work_value *old_value, const mlir_work_value *new_value,
+                       mlir_work_answer *answer);
+void mlir_work_erase(mlir_work_session *session, uint32_t operation, mlir_work_answer *answer);
+void mlir_work_move(mlir_work_session *session, uint32_t operation, const mlir_work_spot *spot,
+                    mlir_work_answer *answer);
+
+/* The result of a query if there is no such operation, or if the handle is closed. */
+#define MLIR_WORK_NONE UINT64_MAX
+
+/* Returns whether an operation is in the module. */
+bool mlir_work_has(mlir_work_session *session, uint32_t operation);
+
+/* Returns the root: the module's own operation, which contains all others. */
+uint64_t mlir_work_root(mlir_work_session *session);
+
+/* Returns the parent operation. */
+uint64_t mlir_work_parent(mlir_work_session *session, uint32_t operation);
+
+/* Return the next and the previous operation in the same block. */
+uint64_t mlir_work_next(mlir_work_session *session, uint32_t operation);
+uint64_t mlir_work_previous(mlir_work_session *session, uint32_t operation);
+
+/* Return the first and the last operation in the block of a region. */
+uint64_t mlir_work_first(mlir_work_session *session, uint32_t operation, uint32_t region);
+uint64_t mlir_work_last(mlir_work_session *session, uint32_t operation, uint32_t region);
+
+/* Returns whether an operation has operand number `operand`, counted from 0, and writes the operand to `value`. If
+   there is none, `value` is unchanged. */
+bool mlir_work_operand(mlir_work_session *session, uint32_t operation, size_t operand, mlir_work_value *value);
+
+/* A use of a value: the operation, and the number of its operand. */
+typedef struct mlir_work_use {
+  uint32_t operation;
+  uint32_t operand;
+} mlir_work_use;
+
+/* Returns whether a value is used, and writes one of its uses to `use`. After that operand is set to another value, the
+   call returns another use. If the value isn't used, `use` is unchanged. `report uses` lists all uses. */
+bool mlir_work_first_use(mlir_work_session *session, const mlir_work_value *value, mlir_work_use *use);
+
+#ifdef __cplusplus
+}
+#endif
+
+#endif

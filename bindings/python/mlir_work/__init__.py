@@ -1,0 +1,24 @@
+"""Edits an MLIR module in generic form and reads its analyses, through the library or the program `mlir_work`.
+
+    with mlir_work.Session(text) as s:
+        for row in s.report("dead"):
+            s.erase(row.operation)
+        print(s.print())
+
+docs/EMBED.md has a tour."""
+from .errors import Error, ModuleRefused, ProcessLost, Refused, SessionClosed, Stays
+from .library import Library
+from .operations import Operation
+from .patterns import Checked, Pattern
+from .process import Process
+from .reply import Reply, Unproved
+from .rewrites import Canonicalized, Reason, Rewrite, Traced
+from .rows import KINDS, Constant, Dead, Diagnostic, Effect, Row, Symbol, Unreached, Use
+from .session import Session
+from .values import Argument, Result, Value, after, before, end, quoted, start
+from .way import Way
+
+__all__ = ["KINDS", "Argument", "Canonicalized", "Checked", "Constant", "Dead", "Diagnostic", "Effect", "Error",
+           "Library", "ModuleRefused", "Operation", "Pattern", "Process", "ProcessLost", "Refused", "Reply", "Result",
+           "Reason", "Rewrite", "Row", "Session", "SessionClosed", "Stays", "Symbol", "Traced", "Unproved",
+           "Unreached", "Use", "Value", "Way", "after", "before", "end", "quoted", "start"]

@@ -1,0 +1,1 @@
+"""The command line: `python -m mlir_work COMMAND`."""

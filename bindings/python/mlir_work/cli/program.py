@@ -1,0 +1,125 @@
+"""Runs the program on a module and a script, and reads its output."""
+import pathlib
+import subprocess
+import sys
+import tempfile
+
+from .. import command
+from ..process import Process
+from ..reply import Transcript, decoded
+from ..script import has_divider, joined, parted, patterns_in
+
+OPAQUE, PATTERNS = "--opaque", "--patterns"
+# Options from the command line, which each run of the program gets.
+ASKED = []
+# The status of a command that Ctrl-C ended, as in shells.
+INTERRUPTED = 130
+
+
+class Fault(Exception):
+    """There is no program to run, or the files are no input. The message says why."""
+
+
+class Wrong(Fault):
+    """The program refuses a file that the command line names. The message says why."""
+
+
+def started():
+    """Returns the command that starts the program. Raises `Fault` if there is none."""
+    try:
+        return command.find()
+    except FileNotFoundError as fault:
+        raise Fault(str(fault)) from None
+
+
+def asked_for():
+    """Returns the command that starts the program, with the options that each run gets."""
+    return started().with_words(*ASKED)
+
+
+def has_option(option):
+    """Whether the program's help names an option. Raises `Fault` if the program can't be started."""
+    program = started()
+    try:
+        return program.has_option(option)
+    except OSError as fault:
+        raise Fault(f"{program.words[0]}: {fault.strerror}") from None
+
+
+def process(module):
+    """Returns a process of the program that holds a module. Raises `ModuleRefused` and `ProcessLost`."""
+    program = asked_for()
+    held = Process(program.words, program.more)
+    held.open(module)
+    return held
+
+
+def arguments(parser):
+    """Adds the options of each command that runs the program."""
+    parser.add_argument(OPAQUE, action="store_true",
+                        help="keep unknown types and attributes as their texts, like `mlir_work --opaque`")
+    parser.add_argument(PATTERNS, metavar="FILE", action="append", default=[],
+                        help="a file of user patterns, a line each, which are defined first; may be repeated")
+
+
+def ask(is_opaque, files=()):
+    """Sets the options of all further runs: opaque terms, and files of patterns. Raises `Fault` if the program lacks an
+    option, and `Wrong` if it refuses a pattern."""
+    ASKED[:] = [OPAQUE] * is_opaque + [word for file in files for word in (PATTERNS, file)]
+    for option, is_asked in ((OPAQUE, is_opaque), (PATTERNS, files)):
+        if is_asked and not has_option(option):
+            raise Fault(f"{started().words[0]} has no option {option}: install a newer program, or leave out {option}")
+    if files:
+        program = asked_for()
+        it = subprocess.run([*program.words, "--brief"], input=b"", capture_output=True, env=program.environment,
+                            check=False)
+        if it.returncode == 2:
+            raise Wrong(it.stderr.decode("utf-8", "replace").strip().removeprefix("error: "))
+
+
+def named_from_the_start():
+    """Returns the names of the patterns in the files that the command line names."""
+    files = [file for option, file in zip(ASKED, ASKED[1:]) if option == PATTERNS]
+    return [line.split()[0].decode("utf-8", "replace") for line in patterns_in(files)]
+
+
+def inputs(names):
+    """Returns the module and the script of one or two files, and the line at which the script begins in the last file.
+    The name `-` is standard input. Raises `Fault` if a divider ends the module of two files."""
+    texts = [sys.stdin.buffer.read() if name == "-" else pathlib.Path(name).read_bytes() for name in names]
+    if len(texts) == 1:
+        return parted(texts[0])
+    if has_divider(texts[0]):
+        raise Fault(f"{names[0]}: a line `// -----` begins a script here, but the command line names a script too: "
+                    "remove one of the two")
+    return (*texts, 1)
+
+
+def written(text):
+    """Returns the status of a run over an input, with --brief, and its output. The input is a file, since a pipe
+    accepts only a few kilobytes at a time."""
+    program = asked_for()
+    with tempfile.TemporaryFile() as given:
+        given.write(text)
+        given.seek(0)
+        it = subprocess.run([*program.words, "--brief"], stdin=given, stdout=subprocess.PIPE, env=program.environment,
+                            check=False)
+    if it.returncode not in (0, 1, 3) or not it.stdout and it.returncode:
+        raise Fault(f"{program.words[0]} ended with status {it.returncode} after {len(it.stdout)} bytes of output: "
+                    "expected output, and status 0, 1 or 3")
+    return it.returncode, decoded(it.stdout)
+
+
+def ran(text):
+    """Returns the output of a run over an input."""
+    return Transcript(*written(text))
+
+
+def answered(module, script):
+    """Returns the output of a run over a module, as bytes, and a script, as text."""
+    return ran(joined(module, script.encode("utf-8", "surrogateescape")))
+
+
+def asked(module, lines):
+    """Returns the output of a run over a module, as bytes, and some lines of text."""
+    return answered(module, "".join([line + "\n" for line in lines]))

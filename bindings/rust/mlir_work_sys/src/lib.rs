@@ -1,0 +1,102 @@
+//! The calls of `libmlir_work.a`, as in `bindings/c/mlir_work.h`. That header states the rules for the caller.
+#![no_std]
+
+use core::ffi::c_void;
+
+/// The version of the calls that are declared here.
+pub const VERSION: u32 = 1;
+
+/// A handle of a session. It starts as `CLOSED`.
+#[repr(C)]
+#[derive(Debug)]
+pub struct Handle {
+    pub at: *mut c_void,
+    pub word: u64,
+}
+
+/// A closed handle.
+pub const CLOSED: Handle = Handle { at: core::ptr::null_mut(), word: 0 };
+
+/// The answer of a call.
+#[repr(C)]
+#[derive(Clone, Copy, Debug, Default, PartialEq, Eq)]
+pub struct Answer {
+    pub outcome: u32,
+    pub refusal: u32,
+    pub number: u64,
+    pub shown: u64,
+}
+
+/// In the field `region`: the value is a result.
+pub const RESULT: u32 = u32::MAX;
+/// The result of a query if there is no such operation.
+pub const NONE: u64 = u64::MAX;
+
+/// A value: result number `place` of an operation, or argument number `place` of the block of one of its regions.
+#[repr(C)]
+#[derive(Clone, Copy, Debug, Default, PartialEq, Eq, Hash)]
+pub struct Value {
+    pub operation: u32,
+    pub region: u32,
+    pub place: u32,
+}
+
+/// An insertion point: before (0) or after (1) an operation, or at the start (2) or the end (3) of the block of one of
+/// its regions.
+#[repr(C)]
+#[derive(Clone, Copy, Debug, PartialEq, Eq, Hash)]
+pub struct Spot {
+    pub kind: u32,
+    pub operation: u32,
+    pub region: u32,
+}
+
+/// A use of a value: the operation, and the number of its operand.
+#[repr(C)]
+#[derive(Clone, Copy, Debug, Default, PartialEq, Eq, Hash)]
+pub struct Use {
+    pub operation: u32,
+    pub operand: u32,
+}
+
+extern "C" {
+    pub fn mlir_work_version() -> u32;
+    pub fn mlir_work_open(
+        session: *mut Handle,
+        text: *const u8,
+        text_length: usize,
+        key: u64,
+        limit: u32,
+        answer: *mut Answer,
+    );
+    pub fn mlir_work_open_opaque(
+        session: *mut Handle,
+        text: *const u8,
+        text_length: usize,
+        key: u64,
+        limit: u32,
+        answer: *mut Answer,
+    );
+    pub fn mlir_work_command(session: *mut Handle, line: *const u8, line_length: usize, answer: *mut Answer);
+    pub fn mlir_work_read(session: *mut Handle, from: usize, into: *mut u8, into_length: usize) -> usize;
+    pub fn mlir_work_close(session: *mut Handle);
+    pub fn mlir_work_set_operand(
+        session: *mut Handle,
+        operation: u32,
+        operand: u32,
+        value: *const Value,
+        answer: *mut Answer,
+    );
+    pub fn mlir_work_replace(session: *mut Handle, old: *const Value, new: *const Value, answer: *mut Answer);
+    pub fn mlir_work_erase(session: *mut Handle, operation: u32, answer: *mut Answer);
+    pub fn mlir_work_move(session: *mut Handle, operation: u32, spot: *const Spot, answer: *mut Answer);
+    pub fn mlir_work_has(session: *mut Handle, operation: u32) -> bool;
+    pub fn mlir_work_root(session: *mut Handle) -> u64;
+    pub fn mlir_work_parent(session: *mut Handle, operation: u32) -> u64;
+    pub fn mlir_work_next(session: *mut Handle, operation: u32) -> u64;
+    pub fn mlir_work_previous(session: *mut Handle, operation: u32) -> u64;
+    pub fn mlir_work_first(session: *mut Handle, operation: u32, region: u32) -> u64;
+    pub fn mlir_work_last(session: *mut Handle, operation: u32, region: u32) -> u64;
+    pub fn mlir_work_operand(session: *mut Handle, operation: u32, operand: usize, value: *mut Value) -> bool;
+    pub fn mlir_work_first_use(session: *mut Handle, value: *const Value, user: *mut Use) -> bool;
+}

@@ -1,5 +1,0 @@
-pub mod Walking
-pub mod Numbers
-pub mod Invariant
-pub mod Law
-pub mod Small

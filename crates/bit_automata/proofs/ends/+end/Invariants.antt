@@ -1,5 +1,0 @@
-use Rattle.std.proofs.Common.{length}
-use Rattle.bit_automata.proofs.ends.+end.Given as goal
-
-abbrev pub decreases-end : goal.decreases-end
-decreases-end l = length l.steps.now

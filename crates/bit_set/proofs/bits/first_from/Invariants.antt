@@ -1,9 +1,0 @@
-use Rattle.std.proofs.Common.{◌≡◌, ℕ, ◌≤◌, ◌<◌, ◌/◌, ◌-◌, length}
-use Rattle.bit_set.specs.Bits.{bit_of}
-use Rattle.bit_set.proofs.bits.first_from.Given as goal
-
-abbrev pub invariant-words : goal.invariant-words
-invariant-words l = (l.word ≤ l.at) × ((i : ℕ) → l.word ≤ i / 64 → i / 64 < l.at → bit_of l.words i ≡ 0)
-
-abbrev pub decreases-words : goal.decreases-words
-decreases-words l = length l.words - l.at

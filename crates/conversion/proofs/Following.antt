@@ -1,0 +1,106 @@
+-- The operations after an operation in pre-order.
+use Rattle.std.proofs.Common.{◌≡◌, refl, ap, sym, ◌∙◌, subst, ℕ, zero, suc, ◌+◌, Bool, true, false, true≢false, cond, ◌||◌, eqb, eq-eqb, eqb-true, List, [], ◌∷◌, ◌++◌, append-nil, append_assoc, inl, inr, arith}
+use Rattle.std.specs.List.{list_any, IsDistinct}
+use Rattle.std.proofs.lemmas.Map.Keys.{IsDistinct-tail}
+use Rattle.ir_event.specs.trees.Tree.{OpOf, op, RegionsOf, no_regions, region, RegionOf, empty, block, OpsOf, no_ops, next, regions}
+use Rattle.ir_event.specs.trees.Ids.{ids, regions_ids, region_ids, ops_ids, HasDistinctIds}
+use Rattle.ir_event.proofs.of_trees.Returns.{absent_first}
+use Rattle.ir_event.specs.tree_laws.Reads.{comes_after, precedes}
+use Rattle.ir_event.specs.tree_laws.Stands.{StepOf, StandOf, stand_id, stands, regions_stands, region_stands, ops_stands}
+use Rattle.ir_event.specs.tree_laws.Members.{In}
+use Rattle.ir_event.proofs.of_tree_laws.Listed.{bool_cases, either, in_parts}
+use Rattle.ir_event.proofs.of_tree_laws.Readings.{step}
+use Rattle.ir_event.proofs.of_trees.Facts.{ids_head}
+use Rattle.std.proofs.lemmas.Bool.{or_right}
+
+-- ---- lists
+
+abbrev pub there : ℕ → List ℕ → Bool
+there x xs = list_any (λ y. eqb y x) xs
+
+pub there_left : (x : ℕ) (xs ys : List ℕ) → there x xs ≡ true → there x (xs ++ ys) ≡ true
+there_left x [] ys h = absurd (true≢false (sym h))
+there_left x (y ∷ xs) ys h = elim (either (eqb y x) (there x xs) h) [
+  | inl e ↦ ap (λ b. b || there x (xs ++ ys)) e
+  | inr e ↦ or_right (eqb y x) (there x (xs ++ ys)) (there_left x xs ys e)
+]
+
+pub there_right : (x : ℕ) (xs ys : List ℕ) → there x ys ≡ true → there x (xs ++ ys) ≡ true
+there_right x [] ys h = h
+there_right x (y ∷ xs) ys h = or_right (eqb y x) (there x (xs ++ ys)) (there_right x xs ys h)
+
+pub first_once : (x b : ℕ) (xs : List ℕ) → IsDistinct eqb (x ∷ xs) → there b xs ≡ true → eqb x b ≡ true → ⊥
+first_once x b xs d h e = true≢false (sym h ∙ subst (λ z. there z xs ≡ false) (eqb-true x b e) (absent_first x xs d))
+
+-- an entry after the first x comes after x
+after_cut : (a x : ℕ) (front back : List ℕ) → IsDistinct eqb (front ++ a ∷ back) → there x back ≡ true → comes_after a x (front ++ a ∷ back) ≡ true
+after_cut a x [] back d h = ap (λ b. cond b (there x back) (comes_after a x back)) (eq-eqb a a refl) ∙ h
+after_cut a x (y ∷ front) back d h = elim (bool_cases (eqb y a)) [
+  | inl e ↦ absurd (first_once y a (front ++ a ∷ back) d (there_right a front (a ∷ back) (ap (λ b. b || there a back) (eq-eqb a a refl))) e)
+  | inr e ↦ ap (λ b. cond b (there x (front ++ a ∷ back)) (comes_after a x (front ++ a ∷ back))) e ∙ after_cut a x front back (IsDistinct-tail eqb y (front ++ a ∷ back) d) h
+]
+
+-- ---- trees
+
+module _ {N T A : Type 0} where
+  -- the regions from an index on
+  abbrev pub regions_from : ℕ → RegionsOf N T A → RegionsOf N T A
+  regions_from zero rs = rs
+  regions_from (suc r) no_regions = no_regions
+  regions_from (suc r) (region g rs) = regions_from r rs
+
+  -- the ids after all contents of an operation, by its path
+  abbrev pub trailing : List (StepOf N T A) → List ℕ
+  trailing [] = []
+  trailing (a ∷ q) = ops_ids a.rest ++ (regions_ids (regions_from (a.region + 1) (regions a.parent)) ++ trailing q)
+
+  from_more : (k : ℕ) (g : RegionOf N T A) (rs all : RegionsOf N T A) → regions_from k all ≡ region g rs → regions_from (k + 1) all ≡ rs
+  from_more zero g rs (region h os) e = cc
+  from_more zero g rs no_regions e = absurd cc
+  from_more (suc k) g rs no_regions e = absurd cc
+  from_more (suc k) g rs (region h os) e = let one : suc (k + 1) ≡ suc k + 1 = omega arith in subst (λ j. regions_from j (region h os) ≡ rs) one (from_more k g rs os e)
+
+  -- the ids of a tree, split after the contents of an operation
+  abbrev Cut : List ℕ → StandOf N T A → Type 0
+  Cut all s = (front : List ℕ) × (all ≡ front ++ (ids s.here ++ trailing s.path))
+
+  cut_more : (more xs : List ℕ) (s : StandOf N T A) → Cut xs s → Cut (more ++ xs) s
+  cut_more more xs s c = (more ++ c.0, ap (λ l. more ++ l) c.1 ∙ sym (append_assoc more c.0 (ids s.here ++ trailing s.path)))
+
+  mutual
+    cut_op : (b : List (StepOf N T A)) (t : OpOf N T A) (s : StandOf N T A) → In s (stands b t) → Cut (ids t ++ trailing b) s
+    cut_op b (op h rs) s (inl e) = ([], ap (λ (z : StandOf N T A). ids z.here ++ trailing z.path) (sym e))
+    cut_op b (op h rs) s (inr k) = cut_more (h.id ∷ []) (regions_ids rs ++ trailing b) s (cut_regions (op h rs) b 0 rs s refl k)
+
+    cut_regions : (p : OpOf N T A) (b : List (StepOf N T A)) (r : ℕ) (rs : RegionsOf N T A) (s : StandOf N T A) → regions_from r (regions p) ≡ rs → In s (regions_stands p b r rs) → Cut (regions_ids rs ++ trailing b) s
+    cut_regions p b r no_regions s e k = absurd k
+    cut_regions p b r (region g rs) s e k =
+        let later = from_more r g rs (regions p) e in
+        elim (in_parts s (region_stands p b r g) (regions_stands p b (r + 1) rs) k) [
+          | inl l ↦ subst (λ xs. Cut xs s) (sym (append_assoc (region_ids g) (regions_ids rs) (trailing b)) ∙ refl)
+              (subst (λ us. Cut (region_ids g ++ (regions_ids us ++ trailing b)) s) later (cut_region p b r g s l))
+          | inr l ↦ subst (λ xs. Cut xs s) (sym (append_assoc (region_ids g) (regions_ids rs) (trailing b)))
+              (cut_more (region_ids g) (regions_ids rs ++ trailing b) s (cut_regions p b (r + 1) rs s later l))
+        ]
+
+    cut_region : (p : OpOf N T A) (b : List (StepOf N T A)) (r : ℕ) (g : RegionOf N T A) (s : StandOf N T A) → In s (region_stands p b r g) → Cut (region_ids g ++ (regions_ids (regions_from (r + 1) (regions p)) ++ trailing b)) s
+    cut_region p b r empty s k = absurd k
+    cut_region p b r (block args os) s k = cut_ops p b r args [] os s k
+
+    cut_ops : (p : OpOf N T A) (b : List (StepOf N T A)) (r : ℕ) (args : List T) (front : List (OpOf N T A)) (os : OpsOf N T A) (s : StandOf N T A) → In s (ops_stands p b r args front os) → Cut (ops_ids os ++ (regions_ids (regions_from (r + 1) (regions p)) ++ trailing b)) s
+    cut_ops p b r args front no_ops s k = absurd k
+    cut_ops p b r args front (next o os) s k =
+        let a = step p r args front os in
+        let end = regions_ids (regions_from (r + 1) (regions p)) ++ trailing b in
+        elim (in_parts s (stands (a ∷ b) o) (ops_stands p b r args (front ++ o ∷ []) os) k) [
+          | inl l ↦ subst (λ xs. Cut xs s) (sym (append_assoc (ids o) (ops_ids os) end)) (cut_op (a ∷ b) o s l)
+          | inr l ↦ subst (λ xs. Cut xs s) (sym (append_assoc (ids o) (ops_ids os) end)) (cut_more (ids o) (ops_ids os ++ end) s (cut_ops p b r args (front ++ o ∷ []) os s l))
+        ]
+
+  module _ (t : OpOf N T A) (d : HasDistinctIds t) where
+    -- operations inside or after an operation follow it in pre-order
+    pub comes_later : (s : StandOf N T A) (x : ℕ) → In s (stands [] t) → there x (regions_ids (regions s.here) ++ trailing s.path) ≡ true → precedes (stand_id s) x t ≡ true
+    comes_later s x h k =
+        let c = cut_op [] t s h in
+        let is : ids t ≡ c.0 ++ (stand_id s ∷ (regions_ids (regions s.here) ++ trailing s.path)) = sym (append-nil (ids t)) ∙ c.1 ∙ ap (λ l. c.0 ++ (l ++ trailing s.path)) (ids_head s.here) in
+        ap (comes_after (stand_id s) x) is ∙ after_cut (stand_id s) x c.0 (regions_ids (regions s.here) ++ trailing s.path) (subst (IsDistinct eqb) is d) k

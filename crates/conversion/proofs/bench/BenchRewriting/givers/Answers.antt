@@ -1,8 +1,0 @@
-use Rattle.ir_event.specs.Modules.{module_in}
-use Rattle.patterns.specs.Held.{module_held}
-use Rattle.conversion.proofs.Seen.{same_module}
-use Rattle.conversion.proofs.Walking.{gives_held}
-use Rattle.conversion.proofs.bench.BenchRewriting.givers.Goals as goal
-
-pub returns-in-Ok : goal.returns-in-Ok
-returns-in-Ok g c = gives_held c.args.op (module_in c.world.result.now) (module_held c.args.self.now.desk) (same_module c.world.result.now c.args.self.now.desk c.world.ensures.ctx c.world.ensures.store) c.in-Ok.found c.in-Ok.ensures

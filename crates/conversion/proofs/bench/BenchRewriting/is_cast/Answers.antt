@@ -1,8 +1,0 @@
-use Rattle.std.proofs.Common.{ap, ◌∙◌}
-use Rattle.ir_event.specs.Modules.{Module}
-use Rattle.conversion_base.specs.Reconciling.{is_cast}
-use Rattle.conversion.proofs.Seen.{same_module}
-use Rattle.conversion.proofs.bench.BenchRewriting.is_cast.Goals as goal
-
-pub returns : goal.returns
-returns g c = c.is_cast.ensures ∙ ap (λ (m : Module). is_cast c.args.op m.tree) (same_module c.world.result.now c.args.self.now.desk c.world.ensures.ctx c.world.ensures.store)

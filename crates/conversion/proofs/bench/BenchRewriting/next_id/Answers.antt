@@ -1,5 +1,0 @@
-use Rattle.conversion.proofs.Seen.{next_free}
-use Rattle.conversion.proofs.bench.BenchRewriting.next_id.Goals as goal
-
-pub returns : goal.returns
-returns g c = next_free c.world.result.now c.args.self.now.desk c.world.ensures.ctx c.world.ensures.store c.next_id.result c.next_id.ensures

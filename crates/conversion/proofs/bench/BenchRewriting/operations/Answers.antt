@@ -1,5 +1,0 @@
-use Rattle.conversion.proofs.Seen.{all_in_order}
-use Rattle.conversion.proofs.bench.BenchRewriting.operations.Goals as goal
-
-pub returns : goal.returns
-returns g c = all_in_order c.world.result.now c.args.self.now.desk c.world.ensures.ctx c.world.ensures.store c.operations.result c.operations.ensures.listed

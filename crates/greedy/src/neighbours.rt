@@ -1,0 +1,94 @@
+//! Lists the operations next to events: the defining operations of values that gain or lose a use, and the operations
+//! around the places of the events.
+ghost use Rattle.std.specs.Prelude.{OnOk, ◌⊎◌};
+ghost use Rattle.greedy.specs.Adding.{Adds, OneOf};
+ghost use Rattle.greedy.specs.Parts.{Gives, GivesMoved, IsBeside};
+ghost use Rattle.greedy.specs.Shown.{shown_operands};
+
+use crate::parents::push_parents;
+use crate::push::push;
+use ir_event::event::Event;
+use ir_event::store::store::Store;
+use ir_event::trees::value::Value;
+use ir_event::types::ids::OpId;
+use ir_event::world::World;
+use std::alloc::AllocError;
+
+/// Pushes the defining operation of `value`, if it has one.
+fn push_defining_op(ops: &mut Vec<OpId>, value: &Value) -> Result<(), AllocError>
+    ensures { OnOk result (Adds (Gives value.now) ops.old.items ops.new.items) }
+{
+    match value {
+        Value::Result(op, _) => push(ops, *op),
+        Value::Arg(..) => Ok(()),
+    }
+}
+
+/// Pushes the defining operations of two values.
+fn push_both(ops: &mut Vec<OpId>, old: &Value, new: &Value) -> Result<(), AllocError>
+    ensures { OnOk result (Adds (λ x. Gives old.now x ⊎ Gives new.now x) ops.old.items ops.new.items) }
+{
+    push_defining_op(ops, old)?;
+    push_defining_op(ops, new)
+}
+
+/// Pushes the defining operations of some values.
+fn push_defining_ops(ops: &mut Vec<OpId>, values: &[Value]) -> Result<(), AllocError>
+    ensures { OnOk result (Adds (OneOf Gives values.now) ops.old.items ops.new.items) }
+{
+    let mut rest = values;
+    'values: while let [value, tail @ ..] = rest {
+        push_defining_op(ops, value)?;
+        rest = tail;
+    }
+    Ok(())
+}
+
+/// Pushes the defining operations of the operands that the store shows for `op`.
+fn push_shown(store: &Store, ops: &mut Vec<OpId>, op: OpId) -> Result<(), AllocError>
+    ensures { OnOk result (Adds (OneOf Gives (shown_operands store.now op)) ops.old.items ops.new.items) }
+{
+    match store.node(op) {
+        Some(node) => push_defining_ops(ops, node.operands()),
+        None => Ok(()),
+    }
+}
+
+/// Pushes the defining operations of the values that gain or lose a use in an event.
+fn push_moved(world: &World, ops: &mut Vec<OpId>, event: &Event) -> Result<(), AllocError>
+    ensures { OnOk result (Adds (GivesMoved world.now event.now) ops.old.items ops.new.items) }
+{
+    match event {
+        Event::Put { op, .. } => push_shown(&world.store, ops, *op),
+        Event::Take { op, .. } => push_shown(&world.store, ops, *op),
+        Event::SetOperand { old, new, .. } => push_both(ops, old, new),
+        Event::SetEntry { .. } => Ok(()),
+        Event::Shift { .. } => Ok(()),
+    }
+}
+
+/// Pushes the defining operations of the values that gain or lose a use in an event, and the operations around its
+/// places.
+fn push_beside(world: &World, ops: &mut Vec<OpId>, event: &Event) -> Result<(), AllocError>
+    ensures { OnOk result (Adds (IsBeside world.now event.now) ops.old.items ops.new.items) }
+{
+    push_moved(world, ops, event)?;
+    push_parents(world, ops, event)
+}
+
+/// Pushes the neighbours of each event: the defining operations of values that gain or lose a use, and the operations
+/// around the places of the event.
+pub(crate) fn push_neighbours(
+    world: &World,
+    ops: &mut Vec<OpId>,
+    events: &[Event],
+) -> Result<(), AllocError>
+    ensures { OnOk result (Adds (OneOf (IsBeside world.now) events.now) ops.old.items ops.new.items) }
+{
+    let mut rest = events;
+    'events: while let [event, tail @ ..] = rest {
+        push_beside(world, ops, event)?;
+        rest = tail;
+    }
+    Ok(())
+}

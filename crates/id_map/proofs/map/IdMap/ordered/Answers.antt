@@ -1,5 +1,0 @@
-use Rattle.id_map.proofs.Lookups.{all_rise}
-use Rattle.id_map.proofs.map.IdMap.ordered.Goals as goal
-
-pub returns : goal.returns
-returns g c = rw (← c.self.view_is) (all_rise c.self.inside.near.items c.self.inside.far c.self.invariant c.len.ensures.ordered)

@@ -1,0 +1,10 @@
+use Rattle.std.proofs.Common.{length}
+use Rattle.ir_tree_laws.specs.trees.Meaning.{key_before_in}
+use Rattle.ir_store_arena.proofs.Lookups.{Sought}
+use Rattle.ir_store_arena.proofs.lookup.find_entry.Given as goal
+
+abbrev pub invariant-loop-rest : goal.invariant-loop-rest
+invariant-loop-rest l = Sought (key_before_in l.ctx) l.key l.at l.rest l.entries
+
+abbrev pub decreases-loop-rest : goal.decreases-loop-rest
+decreases-loop-rest l = length l.rest

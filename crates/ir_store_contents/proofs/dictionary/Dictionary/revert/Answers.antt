@@ -1,6 +1,0 @@
-use Rattle.ir_tree_laws.specs.trees.Meaning.{key_before_in}
-use Rattle.ir_store_contents.proofs.Orders.{context_order, present_has}
-use Rattle.ir_store_contents.proofs.dictionary.Dictionary.revert.Goals as goal
-
-pub take_out-requires : goal.take_out-requires
-take_out-requires c = present_has (key_before_in c.args.ctx.now) (context_order c.args.ctx.now) c.args.key _ (c.requires.entry c.in-None.is)

@@ -1,7 +1,0 @@
-pub mod Slots
-pub mod Shapes
-pub mod Contents
-pub mod Made
-pub use Rattle.ir_tree_laws.specs.trees
-pub use Rattle.ir_tree_laws.specs as tree_laws
-pub use Rattle.ir_tree_laws.specs.types

@@ -1,3 +1,0 @@
-pub mod Paged
-pub mod Tables
-pub mod Counting

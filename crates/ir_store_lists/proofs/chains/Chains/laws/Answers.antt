@@ -1,5 +1,0 @@
-use Rattle.ir_store_lists.proofs.Once.{laws_hold}
-use Rattle.ir_store_lists.proofs.chains.Chains.laws.Goals as goal
-
-pub returns : goal.returns
-returns c = laws_hold c.self.inside.links.items c.self.inside.linked c.self.inside.room c.args.self.now c.self.view_is

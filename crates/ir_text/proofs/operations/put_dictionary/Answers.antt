@@ -1,5 +1,0 @@
-use Rattle.ir_text.proofs.Meanings.{entries_are}
-use Rattle.ir_text.proofs.operations.put_dictionary.Goals as goal
-
-pub returns : goal.returns
-returns c = rw (entries_are c.args.ctx.now c.args.entries.now) c.put_entries.ensures

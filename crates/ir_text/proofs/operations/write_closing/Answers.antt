@@ -1,0 +1,5 @@
+use Rattle.ir_text.proofs.Wholes.{closed}
+use Rattle.ir_text.proofs.operations.write_closing.Goals as goal
+
+pub returns-in-len1-up : goal.returns-in-len1-up
+returns-in-len1-up c = λ d. rw (closed d c.args.regions.now c.in-len1-up.len_at_least) (c.write.ensures d)

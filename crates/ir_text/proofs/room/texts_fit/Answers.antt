@@ -1,5 +1,0 @@
-use Rattle.ir_text.proofs.WholeRoom.{text_fits}
-use Rattle.ir_text.proofs.room.texts_fit.Goals as goal
-
-pub returns : goal.returns
-returns c = text_fits

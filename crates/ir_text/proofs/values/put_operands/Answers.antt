@@ -1,5 +1,0 @@
-use Rattle.std.proofs.Common.{append_assoc}
-use Rattle.ir_text.proofs.values.put_operands.Goals as goal
-
-pub returns : goal.returns
-returns c = λ d. rw (c.in_ok-put_short-2.ensures, c.in_ok-put_values.ensures d, c.in_ok-put_short.ensures) (simp append_assoc)

@@ -1,6 +1,0 @@
-pub mod Steps
-pub mod Kept
-pub mod Again
-pub mod Parts
-pub mod Walk
-pub mod Ahead

@@ -1,7 +1,0 @@
-use Rattle.std.proofs.Common.{rules}
-use Rattle.ir_tree.specs.Meaning.{key_before_in}
-use Rattle.ir_text_operations.proofs.Placing.{put_at}
-use Rattle.ir_text_operations.proofs.dictionaries.put_among.Goals as goal
-
-pub returns : goal.returns
-returns c = rw (put_at (key_before_in c.args.ctx.now) c.args.entry c.args.sorted.now.items) (search rules)

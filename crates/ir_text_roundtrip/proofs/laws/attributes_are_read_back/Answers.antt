@@ -1,5 +1,0 @@
-use Rattle.ir_text_roundtrip.proofs.Attributes.{attr_again}
-use Rattle.ir_text_roundtrip.proofs.laws.attributes_are_read_back.Goals as goal
-
-pub returns : goal.returns
-returns c o depth a rest small fit s = attr_again o depth small a rest fit s

@@ -1,5 +1,0 @@
-use Rattle.ir_text_roundtrip.proofs.Types.{function_type_again}
-use Rattle.ir_text_roundtrip.proofs.laws.function_types_are_read_back.Goals as goal
-
-pub returns : goal.returns
-returns c = function_type_again

@@ -1,5 +1,0 @@
-use Rattle.ir_text_roundtrip.proofs.Types.{type_again}
-use Rattle.ir_text_roundtrip.proofs.laws.types_are_read_back.Goals as goal
-
-pub returns : goal.returns
-returns c o depth t rest small fit s = type_again o depth small t rest fit.0 fit.1 s

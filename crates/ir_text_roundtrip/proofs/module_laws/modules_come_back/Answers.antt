@@ -1,5 +1,0 @@
-use Rattle.ir_text_roundtrip.proofs.AsItComes.{module_comes_back}
-use Rattle.ir_text_roundtrip.proofs.module_laws.modules_come_back.Goals as goal
-
-pub returns : goal.returns
-returns c = module_comes_back

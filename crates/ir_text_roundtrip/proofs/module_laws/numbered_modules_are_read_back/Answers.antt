@@ -1,5 +1,0 @@
-use Rattle.ir_text_roundtrip.proofs.Modules.{numbered_again}
-use Rattle.ir_text_roundtrip.proofs.module_laws.numbered_modules_are_read_back.Goals as goal
-
-pub returns : goal.returns
-returns c = numbered_again

@@ -1,8 +1,0 @@
--- What a keyed hasher computes.
-use Rattle.std.specs.Prelude.{ℕ, ◌==◌, List, length, take, drop, if◌then◌else◌}
-use Rattle.std.specs.Hash.FoldHasher as folding
-use Rattle.std.specs.declared.hash.FoldHasher.{FoldHasher}
-
--- the state after some bytes: sixteen are taken as twice eight, so that no factor is of the key's choice alone
-abbrev pub write : FoldHasher → List ℕ → FoldHasher
-write h bs = if length bs == 16 then folding.write (folding.write h (take 8 bs)) (drop 8 bs) else folding.write h bs

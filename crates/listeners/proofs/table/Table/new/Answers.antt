@@ -1,5 +1,0 @@
-use Rattle.listeners.proofs.Changing.{new_table}
-use Rattle.listeners.proofs.table.Table.new.Goals as goal
-
-pub returns : goal.returns
-returns c = new_table c.new.result c.args.listed c.new.ensures

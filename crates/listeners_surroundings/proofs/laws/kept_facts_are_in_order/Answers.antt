@@ -1,5 +1,0 @@
-use Rattle.listeners_surroundings.proofs.SortedFacts.{kept_in_order}
-use Rattle.listeners_surroundings.proofs.laws.kept_facts_are_in_order.Goals as goal
-
-pub returns : goal.returns
-returns g _ fact is_kept t es sorted kept = kept_in_order fact is_kept t es sorted kept

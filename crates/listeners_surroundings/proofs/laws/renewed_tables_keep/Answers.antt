@@ -1,5 +1,0 @@
-use Rattle.listeners_surroundings.proofs.Tables.{renewed_keeps}
-use Rattle.listeners_surroundings.proofs.laws.renewed_tables_keep.Goals as goal
-
-pub returns : goal.returns
-returns g _ fact is_kept c e m n before after s kept renewed = renewed_keeps fact is_kept c e m n before after s kept renewed

@@ -1,7 +1,0 @@
-use Rattle.std.proofs.Common.{◌≡◌, ℕ, None}
-use Rattle.listeners_symbols.specs.Lines.{numbers_at}
-use Rattle.listeners_unreached.specs.Marks.{left_at, those_added}
-use Rattle.listeners_unreached.proofs.waiting.all_left.Given as goal
-
-abbrev pub invariant-loop-op : goal.invariant-loop-op
-invariant-loop-op l = (z : ℕ) → those_added (numbers_at l.fn.roles) z l.op-iterator (left_at l.left z) ≡ those_added (numbers_at l.fn.roles) z l.fn.roles.hidden.keys None

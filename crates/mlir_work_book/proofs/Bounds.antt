@@ -1,8 +1,0 @@
--- A reply that is bounded is so as what is told.
-use Rattle.std.proofs.Common.{◌≡◌, ℕ}
-use Rattle.rewriter_machine.specs.Commands.{Response, TextRefusedAt}
-use Rattle.mlir_work_book.specs.Notices.{IsWithin, Plain}
-use Rattle.mlir_work_book.specs.Replies.{IsBounded}
-
-pub within_of : (bytes : ℕ) (response : Response) → IsBounded bytes response → IsWithin bytes (Plain response)
-within_of bytes response h refusal offset e = h refusal offset (let same : Plain response ≡ Plain (TextRefusedAt refusal offset) = e in cc)

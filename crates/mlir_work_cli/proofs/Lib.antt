@@ -1,0 +1,4 @@
+pub mod Told
+mod Joined
+mod Ending
+mod Fronts

@@ -1,0 +1,4 @@
+pub mod Json
+pub mod Inputs
+pub mod Patterns
+pub mod Readings

@@ -1,0 +1,89 @@
+//! Runs whose output is JSON.
+ghost use Rattle.std.specs.Prelude.{[], Some, IfOk, IfSome, OnErr};
+ghost use Rattle.std.specs.Io.KnownBytes.{Keeps};
+ghost use Rattle.mlir_work_run.specs.session.Panels.{all_shown};
+ghost use Rattle.mlir_work_run.specs.session.Registry.{registry_model};
+ghost use Rattle.mlir_work_run.specs.session.Writes.{Writes};
+ghost use Rattle.mlir_work_run.specs.Ends.{HasStatus};
+ghost use Rattle.mlir_work_run.specs.Whole.{IsOutput, setting_with};
+ghost use Rattle.mlir_work_cli.specs.Json.{IsJsonOutput, IsTold};
+
+use mlir_work_json::text::json_text;
+use mlir_work_run::analysis_source::AnalysisSource;
+use mlir_work_run::registry::PatternRegistry;
+use mlir_work_run::run::{Options, run_watched};
+use mlir_work_run::sink::Sink;
+use mlir_work_run::source::Source;
+use mlir_work_run::watched::Watched;
+use mlir_work_run::writing::{WriteFault, flush, write};
+use std::alloc::{AllocError, Global};
+
+/// Writes all bytes and flushes the writer.
+fn written<W: Sink>(writer: &mut W, bytes: &[u8]) -> Result<(), WriteFault>
+    ensures { Writes (W.stream writer.old) (W.stream writer.new) bytes.now result }
+{
+    match write(writer, bytes) {
+        Ok(()) => flush(writer),
+        Err(fault) => Err(fault),
+    }
+}
+
+/// Reads and runs the whole input. Returns the output, kept in memory, and the status.
+fn kept_output<L: AnalysisSource, R: Source>(
+    alloc: Global,
+    key: u64,
+    options: Options,
+    reader: &mut R,
+    boxes: Vec<L>,
+    registry: PatternRegistry,
+) -> Result<(u8, Vec<u8>), AllocError>
+    ensures { IfOk result (λ kept. IfSome (R.intake reader.old).remaining (λ input. HasStatus
+        (IsOutput (setting_with L.supply options (registry_model registry)) (all_shown L.meaning boxes.items) input)
+        (Some []) (Some kept.1.items) kept.0)) }
+{
+    let mut kept = Watched::new(Vec::new(alloc));
+    let status = run_watched(alloc, key, options, reader, &mut kept, boxes, registry);
+    if kept.has_failed() {
+        return Err(AllocError);
+    }
+    Ok((status, kept.into_inner()))
+}
+
+/// Writes an output as JSON. Returns its status, or 4 if a write fails.
+fn tell<W: Sink>(alloc: Global, writer: &mut W, status: u8, output: &[u8]) -> Result<u8, AllocError>
+    ensures told { IfOk result (λ told. IsTold status output.now
+        (W.stream writer.old).contents (W.stream writer.new).contents told) }
+    ensures unwritten { OnErr result (Keeps (W.stream writer.old).contents (W.stream writer.new).contents) }
+{
+    let json = json_text(alloc, output)?;
+    match written(writer, &json) {
+        Ok(()) => Ok(status),
+        Err(WriteFault) => Ok(4),
+    }
+}
+
+/// Reads the whole input, a module and a script, and writes the output as JSON, one object a line. Returns the status
+/// of `run_watched`, or 4 if a read or a write failed.
+///
+/// The output is built in memory before the first byte is written. If memory runs out, nothing is written and the
+/// call returns `Err`.
+pub fn run_as_json<L: AnalysisSource, R: Source, W: Sink>(
+    alloc: Global,
+    key: u64,
+    options: Options,
+    reader: &mut R,
+    writer: &mut W,
+    boxes: Vec<L>,
+    registry: PatternRegistry,
+) -> Result<u8, AllocError>
+    ensures ran { IfOk result (λ status. IfSome (R.intake reader.old).remaining (λ input. HasStatus
+        (IsJsonOutput (setting_with L.supply options (registry_model registry)) (all_shown L.meaning boxes.items) input)
+        (W.stream writer.old).contents (W.stream writer.new).contents status)) }
+    ensures unwritten { OnErr result (Keeps (W.stream writer.old).contents (W.stream writer.new).contents) }
+{
+    let (status, output) = kept_output(alloc, key, options, reader, boxes, registry)?;
+    if status == 4 {
+        return Ok(4);
+    }
+    tell(alloc, writer, status, &output)
+}

@@ -1,0 +1,19 @@
+//! The command line, and the parts of a run outside the session.
+//!
+//! - `options` and `text` parse the command line and hold the texts of `--help`.
+//! - `inputs` builds one input from the files and commands of the command line.
+//! - `reading` reads a file of user patterns, one a line, into the pattern registry.
+//! - `json` writes the output of a run as JSON.
+#![tactic(auto)]
+
+pub mod input_laws;
+pub mod inputs;
+pub mod json;
+pub mod options;
+pub mod pattern_file_laws;
+pub mod reading;
+mod text;
+
+pub use mlir_work_run::{dry_run, input, live, run, sink, source, watched, writing};
+pub use user_patterns_registry::registry;
+pub use user_patterns_text::error;

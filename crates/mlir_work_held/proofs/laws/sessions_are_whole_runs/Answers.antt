@@ -1,5 +1,0 @@
-use Rattle.mlir_work_held.proofs.Talking.{talked_whole}
-use Rattle.mlir_work_held.proofs.laws.sessions_are_whole_runs.Goals as goal
-
-pub returns : goal.returns
-returns c = talked_whole

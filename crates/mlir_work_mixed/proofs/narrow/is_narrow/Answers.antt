@@ -1,5 +1,0 @@
-use Rattle.mlir_work_mixed.proofs.Narrowed.{none_is_narrow}
-use Rattle.mlir_work_mixed.proofs.narrow.is_narrow.Goals as goal
-
-pub returns-then-not-has_type : goal.returns-then-not-has_type
-returns-then-not-has_type c = none_is_narrow c.args.ctx.now c.args.ty c.args.most c.has_type.result c.has_type.ensures c.if-not-has_type.true

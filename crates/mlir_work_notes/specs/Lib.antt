@@ -1,0 +1,4 @@
+pub mod Standing
+pub mod Named
+pub mod Notes
+pub mod Unsupported

@@ -1,8 +1,0 @@
-use Rattle.mlir_work_patterns.proofs.Fronts.{has_wrong, wrong_is_told}
-use Rattle.mlir_work_patterns.proofs.laws.refused_lines_have_a_first_wrong_one.Goals as goal
-
-pub returns-clause-told : goal.returns-clause-told
-returns-clause-told c = wrong_is_told
-
-pub returns-clause-one : goal.returns-clause-one
-returns-clause-one c = has_wrong

@@ -1,0 +1,9 @@
+pub mod Replies
+pub mod Notices
+pub mod Told
+pub mod Explained
+pub mod Registries
+pub use Rattle.user_patterns_registry.specs.Registry
+pub use Rattle.user_patterns_registry.specs.declared.registry.PatternRegistry
+pub use Rattle.user_patterns_registry.specs.declared.check_result.CheckSummary
+pub use Rattle.user_patterns_registry.specs.Rows

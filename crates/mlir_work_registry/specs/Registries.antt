@@ -1,0 +1,87 @@
+-- The effect of a registry command on the pattern registry, and its response.
+use Rattle.std.specs.Prelude.{◌≡◌, ℕ, ◌-◌, List, [], ◌⊎◌, length, Option, Some, None, Ok, Err, if◌then◌else◌}
+use Rattle.ir_event.specs.types.declared.refusal.Refusal.{Refusal}
+use Rattle.ir_event.specs.types.declared.refusal.Refusal.TheVariants.{BadLimit, Memory, NoSuchKey}
+use Rattle.ir_text_tokens.specs.Refusals.{refusal_of}
+use Rattle.rewriter_machine.specs.Commands.{Replied, TextRefusedAt}
+use Rattle.rewriter_machine.specs.Machine.{Done, Refused}
+use Rattle.mlir_work_script.specs.RegistryCommands.{RegistryCommand, Define, Patterns, Check, Sample}
+use Rattle.user_patterns_text.specs.Refusing.{Outcome}
+use Rattle.user_patterns_widths.specs.Passing.{is_passing}
+use Rattle.user_patterns_registry.specs.CheckResult.{IsCheckResult, IsUntried, asked_width, said_of}
+use Rattle.user_patterns_registry.specs.Rows.{rows_text}
+use Rattle.user_patterns_registry.specs.Sampled.{IsSampled, IsUnsampled}
+use Rattle.user_patterns_registry.specs.declared.check_result.CheckResult.{CheckResult}
+use Rattle.user_patterns_registry.specs.declared.check_result.CheckResult.TheVariants as judgement
+use Rattle.user_patterns_registry.specs.declared.check_result.CheckSummary.{CheckSummary}
+use Rattle.user_patterns_registry.specs.declared.check_result.CheckSummary.TheVariants as said
+use Rattle.user_patterns_registry.specs.Registry.{RegistryModel, Kept, defined, found, listing_text, noted}
+use Rattle.mlir_work_registry.specs.Notices.{Notice, Plain, Checked}
+
+-- the command is refused and the registry doesn't change
+abbrev pub IsRefused : Refusal → RegistryModel → Notice → List ℕ → RegistryModel → Type 0
+IsRefused refusal b notice bytes c = (notice ≡ Plain (Replied (Refused refusal))) × (bytes ≡ []) × (c ≡ b)
+
+-- the pattern of a text is defined, or the text is refused at a byte, counted from its start
+abbrev pub IsDefined : Outcome RegistryModel → List ℕ → RegistryModel → Notice → List ℕ → RegistryModel → Type 0
+IsDefined (Ok new) text b notice bytes c = (notice ≡ Plain (Replied Done)) × (bytes ≡ []) × (c ≡ new)
+IsDefined (Err fault) text b notice bytes c =
+    (notice ≡ Plain (TextRefusedAt (refusal_of fault.refusal) (length text - fault.left))) × (bytes ≡ []) × (c ≡ b)
+
+-- the rows of a counterexample, if there is one
+abbrev pub judgement_rows : Kept → CheckResult → List ℕ
+judgement_rows k (judgement.Holds w) = []
+judgement_rows k judgement.AllWidths = []
+judgement_rows k (judgement.Vacuous w) = []
+judgement_rows k (judgement.Fails counterexample) = rows_text k.variables counterexample
+judgement_rows k (judgement.Sampled w) = []
+
+-- the summary of a check result. The check tries all values but no poison: if the pattern matches a `select`, or its
+-- replacement has a division or a remainder, the summary is only that no counterexample was found. (No such pattern has
+-- the result `AllWidths`, which covers only sums, differences, products and bitwise operations.)
+abbrev pub said_for : Kept → CheckResult → CheckSummary
+said_for k (judgement.Holds w) = if is_passing k.shape then said.Holds w else said.Sampled w
+said_for k judgement.AllWidths = said_of judgement.AllWidths
+said_for k (judgement.Vacuous w) = said_of (judgement.Vacuous w)
+said_for k (judgement.Fails counterexample) = said_of (judgement.Fails counterexample)
+said_for k (judgement.Sampled w) = said_of (judgement.Sampled w)
+
+-- the summary and the rows are those of a true check result
+abbrev pub IsSaid : (CheckResult → Type 0) → Kept → CheckSummary → List ℕ → Type 0
+IsSaid is_true k said bytes = (j : CheckResult) × is_true j × (said ≡ said_for k j) × (bytes ≡ judgement_rows k j)
+
+-- the summary of a check of a pattern up to a width, and the summary of a test with samples
+abbrev pub IsChecked : Kept → Option ℕ → CheckSummary → List ℕ → Type 0
+IsChecked k asked said bytes = IsSaid (IsCheckResult k.shape asked) k said bytes
+
+abbrev pub IsSampledAs : Kept → ℕ → CheckSummary → List ℕ → Type 0
+IsSampledAs k w said bytes = IsSaid (IsSampled k.shape w) k said bytes
+
+-- a possible summary of a named pattern is the response, with its rows, and is recorded
+abbrev pub IsNoted : (CheckSummary → List ℕ → Type 0) → List ℕ → RegistryModel → Notice → List ℕ → RegistryModel → Type 0
+IsNoted is_said name b notice bytes c =
+    (said : CheckSummary) × is_said said bytes × (notice ≡ Checked said) × (c ≡ noted name said b)
+
+-- a named pattern is checked and the summary is recorded; or the width is refused, or no pattern has the name
+abbrev pub Checks : Option Kept → List ℕ → Option ℕ → RegistryModel → Notice → List ℕ → RegistryModel → Type 0
+Checks None name asked b notice bytes c = IsRefused NoSuchKey b notice bytes c
+Checks (Some k) name asked b notice bytes c =
+    IsNoted (IsChecked k asked) name b notice bytes c
+    ⊎ (IsUntried k.shape (asked_width k.shape asked) × IsRefused BadLimit b notice bytes c)
+
+-- the same for a test with samples
+abbrev pub Samples : Option Kept → List ℕ → ℕ → RegistryModel → Notice → List ℕ → RegistryModel → Type 0
+Samples None name w b notice bytes c = IsRefused NoSuchKey b notice bytes c
+Samples (Some k) name w b notice bytes c =
+    IsNoted (IsSampledAs k w) name b notice bytes c ⊎ (IsUnsampled k.shape w × IsRefused BadLimit b notice bytes c)
+
+-- the effect of a registry command if memory doesn't run out
+abbrev pub IsShelved : RegistryCommand → RegistryModel → Notice → List ℕ → RegistryModel → Type 0
+IsShelved (Define text) b notice bytes c = IsDefined (defined b text) text b notice bytes c
+IsShelved Patterns b notice bytes c = (notice ≡ Plain (Replied Done)) × (bytes ≡ listing_text b) × (c ≡ b)
+IsShelved (Check name asked) b notice bytes c = Checks (found name b) name asked b notice bytes c
+IsShelved (Sample name w) b notice bytes c = Samples (found name b) name w b notice bytes c
+
+-- with registry `b`, a registry command may get this response, with these bytes below it, and lead to registry `c`
+abbrev pub Registries : RegistryCommand → RegistryModel → Notice → List ℕ → RegistryModel → Type 0
+Registries registry_command b notice bytes c = IsRefused Memory b notice bytes c ⊎ IsShelved registry_command b notice bytes c

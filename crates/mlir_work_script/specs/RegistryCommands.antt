@@ -1,0 +1,77 @@
+-- The grammar of the commands on the pattern registry.
+use Rattle.std.specs.Prelude.{ℕ, List, [], ◌∷◌, ◌==◌, Bool, false, not, Option, Some, None, if◌then◌else◌, codes, length, option_and_then}
+use Rattle.std.specs.Char.{is_ascii_digit}
+use Rattle.std.specs.Str.{bytes_eq}
+use Rattle.mlir_work_script_base.specs.Numbers.{number_of}
+use Rattle.mlir_work_script_base.specs.Words.{word_of, after_word}
+use Rattle.mlir_work_script.specs.declared.registry_command.RegistryCommand.{RegistryCommand as Coded}
+use Rattle.mlir_work_script.specs.declared.registry_command.RegistryCommand.TheVariants as code
+
+-- a command on the pattern registry
+pub data RegistryCommand : Type 0 where
+  -- defines the pattern of a text
+  Define : List ℕ → RegistryCommand
+  -- lists all patterns
+  Patterns : RegistryCommand
+  -- checks a pattern up to a maximum width, or up to the default width
+  Check : List ℕ → Option ℕ → RegistryCommand
+  -- tests a pattern at one width with edge values and random values
+  Sample : List ℕ → ℕ → RegistryCommand
+
+-- the model of a registry command, read from memory
+abbrev pub registry_order_of : Coded → RegistryCommand
+registry_order_of (code.Define text) = Define text.now
+registry_order_of code.Patterns = Patterns
+registry_order_of (code.Check name width) = Check name.now width
+registry_order_of (code.Sample name width) = Sample name.now width
+
+-- the command, if nothing is left
+abbrev pub all_told : List ℕ → Option RegistryCommand → Option RegistryCommand
+all_told rest session_command = if length rest == 0 then session_command else None
+
+-- pattern TEXT; the text is the rest of the line
+abbrev pub define_in : List ℕ → Option RegistryCommand
+define_in rest = if length rest == 0 then None else Some (Define rest)
+
+-- patterns
+abbrev pub patterns_in : List ℕ → Option RegistryCommand
+patterns_in rest = all_told rest (Some Patterns)
+
+-- a name is a word that isn't empty and doesn't begin with a digit
+abbrev pub is_name : List ℕ → Bool
+is_name [] = false
+is_name (b ∷ bs) = not (is_ascii_digit b)
+
+-- the text after a width: nothing, or `sampled`
+abbrev pub tried_in : List ℕ → List ℕ → ℕ → Option RegistryCommand
+tried_in name rest w =
+    if length rest == 0 then Some (Check name (Some w))
+    else if bytes_eq (word_of rest) (codes "sampled") then all_told (after_word rest) (Some (Sample name w))
+    else None
+
+-- width W [sampled]
+abbrev pub width_in : List ℕ → List ℕ → Option RegistryCommand
+width_in name text =
+    if bytes_eq (word_of text) (codes "width")
+    then option_and_then (tried_in name (after_word (after_word text))) (number_of (word_of (after_word text)))
+    else None
+
+-- the text after a name: nothing, or a width
+abbrev pub checked_in : List ℕ → List ℕ → Option RegistryCommand
+checked_in name rest = if length rest == 0 then Some (Check name None) else width_in name rest
+
+-- check NAME [width W [sampled]]
+abbrev pub check_in : List ℕ → Option RegistryCommand
+check_in rest = if is_name (word_of rest) then checked_in (word_of rest) (after_word rest) else None
+
+-- a registry command, from its name and the rest of the line
+abbrev pub registry_order_named : List ℕ → List ℕ → Option RegistryCommand
+registry_order_named name rest =
+    if bytes_eq name (codes "pattern") then define_in rest
+    else if bytes_eq name (codes "patterns") then patterns_in rest
+    else if bytes_eq name (codes "check") then check_in rest
+    else None
+
+-- a trimmed line as a registry command
+abbrev pub registry_order_in : List ℕ → Option RegistryCommand
+registry_order_in text = registry_order_named (word_of text) (after_word text)

@@ -1,0 +1,284 @@
+//! Parses session commands: the commands that need more than the rewriter.
+ghost use Rattle.std.specs.Prelude.{◌≡◌, None, Some, option_map};
+ghost use Rattle.mlir_work_script.specs.SessionCommands.{attach_in, canon_order_in, ids_in, limit_in, order_in, order_named};
+ghost use Rattle.mlir_work_script.specs.SessionCommands.{convert_order_in, convert_trace_in};
+ghost use Rattle.mlir_work_script.specs.SessionCommands.{at_in, order_of, Rewrite, rewrite_in, rule_or_none, ruled_in, trace_in, why_in, report_in};
+ghost use Rattle.mlir_work_script_base.specs.RuleNames.{name_of, names_of};
+
+use ir_event::types::ids::OpId;
+use mlir_work_script_base::clauses::{Clauses, clauses_in, mode_named};
+use mlir_work_script_base::kind::{Kind, kind_named};
+use mlir_work_script_base::numbers::parse_number;
+use mlir_work_script_base::rule_name::{RuleName, are_tried, rule_named};
+use mlir_work_script_base::subject::{Subject, subject_named};
+use mlir_work_script_base::values::op_named;
+use mlir_work_script_base::words::split_word;
+
+/// A session command.
+#[derive(Clone, Copy)]
+pub enum SessionCommand<'a> {
+    /// `attach KIND` creates the analysis of a kind and attaches it.
+    Attach(Kind),
+    /// `print ids` shows the module with the ids of its operations.
+    PrintIds,
+    /// `report KIND of THING` shows the report rows about an operation or a value.
+    ReportAbout {
+        /// The kind of the analysis.
+        kind: Kind,
+        /// The operation or value.
+        subject: Subject,
+    },
+    /// `rewrite RULES [limit N]` and `canon only RULES [limit N]` apply the named rules until none applies or the
+    /// limit is reached.
+    Rewrite {
+        /// The rules in the order in which they are tried at an operation, separated by commas.
+        rules: &'a [u8],
+        /// The rewrite limit, if the line gives one.
+        limit: Option<u32>,
+    },
+    /// `canon trace [limit N]` and `rewrite RULES trace [limit N]` also trace each rewrite.
+    Trace {
+        /// The rules, if the line names rules.
+        rules: Option<&'a [u8]>,
+        /// The rewrite limit, if the line gives one.
+        limit: Option<u32>,
+    },
+    /// `convert trace MODE CLAUSES` converts, and traces each applied rule or shows why an operation stays illegal.
+    TraceConvert {
+        /// Whether the conversion is full: each operation must become legal.
+        full: bool,
+        /// The clauses.
+        clauses: Clauses<'a>,
+    },
+    /// `canon at #N [limit N]` applies the canonicalization rules at one operation until none applies there or the
+    /// limit is reached.
+    CanonAt {
+        op: OpId,
+        /// The rewrite limit, if the line gives one.
+        limit: Option<u32>,
+    },
+    /// `why #N [RULE]` says why rules don't match at an operation.
+    Why {
+        op: OpId,
+        /// The rule, if the line names one. Otherwise the command shows all rules in the table for the operation's
+        /// name.
+        rule: Option<RuleName<'a>>,
+    },
+}
+
+/// Parses the argument of `attach KIND`.
+fn attach<'a>(rest: &[u8]) -> Option<SessionCommand<'a>>
+    ensures { option_map order_of result ≡ attach_in rest.now }
+{
+    let (kind, left) = split_word(rest);
+    if !left.is_empty() {
+        return None;
+    }
+    let kind = kind_named(kind)?;
+    Some(SessionCommand::Attach(kind))
+}
+
+/// Parses the argument of `print ids`.
+fn ids<'a>(rest: &[u8]) -> Option<SessionCommand<'a>>
+    ensures { option_map order_of result ≡ ids_in rest.now }
+{
+    if rest != b"ids".as_slice() {
+        return None;
+    }
+    Some(SessionCommand::PrintIds)
+}
+
+/// Parses the arguments of `report KIND of THING`.
+fn report<'a>(rest: &[u8]) -> Option<SessionCommand<'a>>
+    ensures { option_map order_of result ≡ report_in rest.now }
+{
+    let (kind, rest) = split_word(rest);
+    let (of, rest) = split_word(rest);
+    if of != b"of".as_slice() {
+        return None;
+    }
+    let (thing, left) = split_word(rest);
+    if !left.is_empty() {
+        return None;
+    }
+    let kind = kind_named(kind)?;
+    let subject = subject_named(thing)?;
+    Some(SessionCommand::ReportAbout { kind, subject })
+}
+
+/// Parses `[limit N]` at the end of a line. The inner option is `None` if there is no limit.
+fn limit(text: &[u8]) -> Option<Option<u32>>
+    ensures { result ≡ limit_in text.now }
+{
+    if text.is_empty() {
+        return Some(None);
+    }
+    let (name, rest) = split_word(text);
+    if name != b"limit".as_slice() {
+        return None;
+    }
+    let (limit, left) = split_word(rest);
+    if !left.is_empty() {
+        return None;
+    }
+    let limit = parse_number(limit)?;
+    Some(Some(limit))
+}
+
+/// Parses `[limit N]` after `trace`.
+fn trace<'a>(rest: &[u8]) -> Option<SessionCommand<'a>>
+    ensures { option_map order_of result ≡ trace_in None rest.now }
+{
+    let limit = limit(rest)?;
+    Some(SessionCommand::Trace { rules: None, limit })
+}
+
+/// Parses `[limit N]` after a rule list and `trace`.
+fn traced<'a>(rules: &'a [u8], rest: &[u8]) -> Option<SessionCommand<'a>>
+    ensures { option_map order_of result ≡ trace_in (Some (names_of rules.now)) rest.now }
+{
+    let limit = limit(rest)?;
+    Some(SessionCommand::Trace {
+        rules: Some(rules),
+        limit,
+    })
+}
+
+/// Parses `[limit N]` after a rule list.
+fn untraced<'a>(rules: &'a [u8], rest: &[u8]) -> Option<SessionCommand<'a>>
+    ensures { option_map order_of result ≡ option_map (λ limit. Rewrite (names_of rules.now) limit) (limit_in rest.now) }
+{
+    let limit = limit(rest)?;
+    Some(SessionCommand::Rewrite { rules, limit })
+}
+
+/// Parses `[trace] [limit N]` after a rule list.
+fn ruled<'a>(rules: &'a [u8], rest: &[u8]) -> Option<SessionCommand<'a>>
+    ensures { option_map order_of result ≡ ruled_in (names_of rules.now) rest.now }
+{
+    let (name, trailing) = split_word(rest);
+    if name == b"trace".as_slice() {
+        return traced(rules, trailing);
+    }
+    untraced(rules, rest)
+}
+
+/// Parses the arguments of `rewrite RULES [trace] [limit N]`.
+fn rewrite(rest: &[u8]) -> Option<SessionCommand<'_>>
+    ensures { option_map order_of result ≡ rewrite_in rest.now }
+{
+    let (rules, rest) = split_word(rest);
+    if !are_tried(rules) {
+        return None;
+    }
+    ruled(rules, rest)
+}
+
+/// Parses `#N [limit N]` after `canon at`.
+fn canon_at<'a>(rest: &[u8]) -> Option<SessionCommand<'a>>
+    ensures { option_map order_of result ≡ at_in rest.now }
+{
+    let (op, rest) = split_word(rest);
+    let op = op_named(op)?;
+    let limit = limit(rest)?;
+    Some(SessionCommand::CanonAt { op, limit })
+}
+
+/// Parses `[RULE]` at the end of a line. The inner option is `None` if there is no rule.
+fn rule_or_none(text: &[u8]) -> Option<Option<RuleName<'_>>>
+    ensures { option_map (λ rule. option_map name_of rule) result ≡ rule_or_none text.now }
+{
+    if text.is_empty() {
+        return Some(None);
+    }
+    let (rule, left) = split_word(text);
+    if !left.is_empty() {
+        return None;
+    }
+    let rule = rule_named(rule)?;
+    Some(Some(rule))
+}
+
+/// Parses the arguments of `why #N [RULE]`.
+fn why(rest: &[u8]) -> Option<SessionCommand<'_>>
+    ensures { option_map order_of result ≡ why_in rest.now }
+{
+    let (op, rest) = split_word(rest);
+    let op = op_named(op)?;
+    let rule = rule_or_none(rest)?;
+    Some(SessionCommand::Why { op, rule })
+}
+
+/// Parses the arguments of `canon only RULES [trace] [limit N]`, `canon trace [limit N]` and `canon at #N [limit N]`.
+fn canon(rest: &[u8]) -> Option<SessionCommand<'_>>
+    ensures { option_map order_of result ≡ canon_order_in rest.now }
+{
+    let (name, rest) = split_word(rest);
+    if name == b"only".as_slice() {
+        return rewrite(rest);
+    }
+    if name == b"trace".as_slice() {
+        return trace(rest);
+    }
+    if name == b"at".as_slice() {
+        return canon_at(rest);
+    }
+    None
+}
+
+/// Parses a mode and clauses after `convert trace`.
+fn convert_traced(rest: &[u8]) -> Option<SessionCommand<'_>>
+    ensures { option_map order_of result ≡ convert_trace_in rest.now }
+{
+    let (mode, rest) = split_word(rest);
+    let full = mode_named(mode)?;
+    let clauses = clauses_in(rest)?;
+    Some(SessionCommand::TraceConvert { full, clauses })
+}
+
+/// Parses the arguments of `convert trace MODE CLAUSES`.
+fn convert(rest: &[u8]) -> Option<SessionCommand<'_>>
+    ensures { option_map order_of result ≡ convert_order_in rest.now }
+{
+    let (name, rest) = split_word(rest);
+    if name != b"trace".as_slice() {
+        return None;
+    }
+    convert_traced(rest)
+}
+
+/// Parses a session command from its name and the rest of the line.
+fn order_named<'a>(name: &[u8], rest: &'a [u8]) -> Option<SessionCommand<'a>>
+    ensures { option_map order_of result ≡ order_named name.now rest.now }
+{
+    if name == b"attach".as_slice() {
+        return attach(rest);
+    }
+    if name == b"print".as_slice() {
+        return ids(rest);
+    }
+    if name == b"report".as_slice() {
+        return report(rest);
+    }
+    if name == b"rewrite".as_slice() {
+        return rewrite(rest);
+    }
+    if name == b"canon".as_slice() {
+        return canon(rest);
+    }
+    if name == b"convert".as_slice() {
+        return convert(rest);
+    }
+    if name == b"why".as_slice() {
+        return why(rest);
+    }
+    None
+}
+
+/// Parses a trimmed line as a session command.
+pub(crate) fn parse_session_command(text: &[u8]) -> Option<SessionCommand<'_>>
+    ensures { option_map order_of result ≡ order_in text.now }
+{
+    let (name, rest) = split_word(text);
+    order_named(name, rest)
+}

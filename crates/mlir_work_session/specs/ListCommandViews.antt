@@ -1,0 +1,7 @@
+-- The model of a rule list that names a registered pattern, read from memory.
+use Rattle.mlir_work_script_base.specs.RuleNames.{names_of}
+use Rattle.mlir_work_session.specs.RuleLists.{ListCommand}
+use Rattle.mlir_work_session.specs.declared.rule_lists.ListRewrite.{ListRewrite as Coded}
+
+abbrev pub list_command_view : Coded → ListCommand
+list_command_view x = record { names = names_of x.rules.now; limit = x.limit; tells = x.tells }

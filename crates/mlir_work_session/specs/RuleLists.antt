@@ -1,0 +1,61 @@
+-- Session commands with a pattern registry: a rule list that names a registered pattern rewrites by rules and
+-- patterns. Any other session command runs as without a registry.
+use Rattle.std.specs.Prelude.{◌≡◌, ℕ, List, [], ◌++◌, Bool, true, false, Option, Some, None, if◌then◌else◌}
+use Rattle.ir_event.specs.Modules.{Module}
+use Rattle.mlir_work_transforms.specs.rewriter.Commands.{AppliesRule, Asked, Follows, Response, RuleName}
+use Rattle.mlir_work_transforms.specs.rewriter.Machine.{Nothing, State, Transformation}
+use Rattle.mlir_work_script.specs.SessionCommands.{SessionCommand, Rewrite, Trace}
+use Rattle.mlir_work_registry.specs.Replies.{is_accepted}
+use Rattle.mlir_work_registry.specs.Registry.{RegistryModel}
+use Rattle.mlir_work_transforms.specs.RuleLists.{all_listed, mixed_trace, mixing, names_own}
+use Rattle.mlir_work_transforms.specs.Unproved.{unproved_of}
+use Rattle.mlir_work_session.specs.declared.options.SessionOptions.{SessionOptions}
+use Rattle.mlir_work_session.specs.Machine.{IsContextFull, RunsSessionCommand, SessionSetting, limit_or, told_if}
+
+-- a rule list that names a registered pattern, its limit, and whether each rewrite is traced
+pub record ListCommand : Type 0 where
+  pub names : List RuleName
+  pub limit : Option ℕ
+  pub tells : Bool
+
+abbrev pub list_command_if : Bool → ListCommand → Option ListCommand
+list_command_if own x = if own then Some x else None
+
+-- the rule list of a session command, if the list names a registered pattern
+abbrev pub list_command_of : SessionCommand → RegistryModel → Option ListCommand
+list_command_of (Rewrite names limit) registry =
+    list_command_if (names_own registry names) (record { names = names; limit = limit; tells = false })
+list_command_of (Trace (Some names) limit) registry =
+    list_command_if (names_own registry names) (record { names = names; limit = limit; tells = true })
+list_command_of _ registry = None
+
+-- the transformation of a rule list
+abbrev pub list_command_change : SessionOptions → RegistryModel → ListCommand → Option Transformation
+list_command_change session_options registry x = mixing registry x.names (limit_or session_options.limit x.limit)
+
+-- the trace of the rewrites, if each is traced
+abbrev pub list_command_trace : Bool → SessionOptions → RegistryModel → ListCommand → Module → List ℕ
+list_command_trace false session_options registry x m = []
+list_command_trace true session_options registry x m = mixed_trace (all_listed registry x.names) (limit_or session_options.limit x.limit) m
+
+-- the bytes below an accepted reply: a line for each pattern of the list that no check proves for the module before
+-- the rewrite, and then the trace
+abbrev pub list_command_bytes : SessionOptions → RegistryModel → ListCommand → Module → Response → List ℕ
+list_command_bytes session_options registry x m response =
+    told_if (is_accepted response) (unproved_of registry x.names m.tree ++ list_command_trace x.tells session_options registry x m)
+
+-- from state `s` a rule list may get this response, with these bytes below the reply, and lead to state `t`
+pub record Mixes (session_options : SessionOptions) (registry : RegistryModel) (x : ListCommand) (s : State) (response : Response) (bytes : List ℕ) (t : State) : Type 0 where
+  pub asked : Asked
+  pub asks : AppliesRule (list_command_change session_options registry x) asked
+  pub follows : Follows s asked response Nothing t
+  pub text : bytes ≡ list_command_bytes session_options registry x s.held response
+
+abbrev pub RunsListCommand : SessionSetting → RegistryModel → Option ListCommand → State → SessionCommand → Response → List ℕ → State → Type 0
+RunsListCommand setting registry None s session_command response bytes t = RunsSessionCommand setting s session_command response bytes t
+RunsListCommand setting registry (Some x) s session_command response bytes t = Mixes setting.session_options registry x s response bytes t
+
+-- when a rule list may be refused with 31
+abbrev pub ListCommandRoom : Type 0 → SessionOptions → RegistryModel → ListCommand → State → Response → Type 0
+ListCommandRoom full session_options registry x s response =
+    (f : Transformation) → list_command_change session_options registry x ≡ Some f → IsContextFull full s f response

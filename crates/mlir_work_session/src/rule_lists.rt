@@ -1,0 +1,182 @@
+//! Runs session commands on a rewriter with a pattern registry. A `rewrite` or `trace` whose rule list names a
+//! registered pattern rewrites by rules and patterns.
+ghost use Rattle.std.specs.Prelude.{◌≡◌, ◌++◌, map, option_map};
+ghost use Rattle.ir_text.specs.Public.{IsFull};
+ghost use Rattle.mlir_work_script.specs.SessionCommands.{order_of};
+ghost use Rattle.mlir_work_transforms.specs.TraceText.{trace_text};
+ghost use Rattle.mlir_work_transforms.specs.greedy.Changes.{rewriting};
+ghost use Rattle.mlir_work_transforms.specs.greedy.Tracing.{trace_of};
+ghost use Rattle.mlir_work_transforms.specs.greedy.PatternSet.{AreAttempts, patterns_of, by_attempts};
+ghost use Rattle.mlir_work_transforms.specs.rewriter.RewriterCalls.{AgreesOrStale, state_of};
+ghost use Rattle.mlir_work_transforms.specs.rewriter.Commands.{Ask, Follows};
+ghost use Rattle.mlir_work_transforms.specs.rewriter.Machine.{Change, Nothing};
+ghost use Rattle.mlir_work_registry.specs.Replies.{is_accepted};
+ghost use Rattle.mlir_work_registry.specs.Registry.{registry_model};
+ghost use Rattle.mlir_work_session.specs.Machine.{IsContextFull, response_of, told_if, session_setting};
+ghost use Rattle.mlir_work_session.specs.RuleLists.{RunsListCommand, ListCommandRoom, Mixes, list_command_of};
+ghost use Rattle.mlir_work_session.specs.ListCommandViews.{list_command_view};
+
+use crate::options::SessionOptions;
+use crate::reply::Reply;
+use crate::session_commands::run_session_command;
+use crate::shows::{ShownReply, reply_only};
+use crate::tracing::trace_reply;
+use crate::transforming::limit_of;
+use ir_event::analysis::Analysis;
+use ir_event::types::refusal::Refusal;
+use mlir_work_registry::registry::PatternRegistry;
+use mlir_work_script::session_command::SessionCommand;
+use mlir_work_session_base::analysis_source::AnalysisSource;
+use mlir_work_transforms::greedy::bench::rewrite_with_patterns;
+use mlir_work_transforms::greedy::pattern_set::RuleOrPattern;
+use mlir_work_transforms::named_patterns::names_pattern;
+use mlir_work_transforms::rewriter::Bench;
+use mlir_work_transforms::rewriter::laws::led_benches_are_kept;
+use mlir_work_transforms::rule_list::{RuleList, parse_rule_list};
+use mlir_work_transforms::trace::trace_rewrite_with_patterns;
+use mlir_work_transforms::trace_lines::TraceLines;
+use mlir_work_transforms::unproved::unproved_of;
+use std::alloc::Global;
+
+/// A rule list that names a registered pattern, with its limit and whether each rewrite is traced.
+#[derive(Clone, Copy)]
+pub(crate) struct ListRewrite<'a> {
+    pub(crate) rules: &'a [u8],
+    pub(crate) limit: Option<u32>,
+    pub(crate) tells: bool,
+}
+
+/// Returns the rule list of a session command, if the list names a registered pattern.
+fn list_rewrite<'a>(
+    registry: &PatternRegistry,
+    session_command: &SessionCommand<'a>,
+) -> Option<ListRewrite<'a>>
+    ensures { option_map list_command_view result ≡ list_command_of (order_of session_command.now) (registry_model registry.now) }
+{
+    let list_command = match session_command {
+        SessionCommand::Rewrite { rules, limit } => ListRewrite {
+            rules,
+            limit: *limit,
+            tells: false,
+        },
+        SessionCommand::Trace {
+            rules: Some(rules),
+            limit,
+        } => ListRewrite {
+            rules,
+            limit: *limit,
+            tells: true,
+        },
+        _ => return None,
+    };
+    if names_pattern(registry, list_command.rules) {
+        Some(list_command)
+    } else {
+        None
+    }
+}
+
+/// Rewrites by rules and patterns until none applies or the limit is reached. Shows `lines` below the reply.
+fn rewrite_plainly<L: Analysis>(
+    alloc: Global,
+    bench: &mut Bench<L>,
+    candidates: &[RuleOrPattern<'_>],
+    lines: TraceLines,
+    limit: u32,
+) -> ShownReply
+    requires kept { AgreesOrStale L.meaning bench.old }
+    requires may { AreAttempts (patterns_of candidates.now) }
+    ensures follows { Follows (state_of L.meaning bench.old) (Ask (Change (rewriting (by_attempts (patterns_of candidates.now)) limit))) (response_of result.reply) Nothing (state_of L.meaning bench.new) }
+    ensures shows { result.shows.items ≡ told_if (is_accepted (response_of result.reply)) lines.text.items }
+    ensures room { IsContextFull (IsFull bench.new.transaction.ctx) (state_of L.meaning bench.old) (rewriting (by_attempts (patterns_of candidates.now)) limit) (response_of result.reply) }
+    ensures kept { AgreesOrStale L.meaning bench.new }
+    ensures mode { bench.new.transaction.ctx.opaque ≡ bench.old.transaction.ctx.opaque }
+{
+    led_benches_are_kept::<L>();
+    let called = rewrite_with_patterns(alloc, bench, candidates, limit);
+    trace_reply(alloc, lines, called)
+}
+
+/// Rewrites by rules and patterns until none applies or the limit is reached. Traces each rewrite after the given
+/// lines.
+fn rewrite_telling<L: Analysis>(
+    alloc: Global,
+    bench: &mut Bench<L>,
+    candidates: &[RuleOrPattern<'_>],
+    lines: TraceLines,
+    limit: u32,
+) -> ShownReply
+    requires kept { AgreesOrStale L.meaning bench.old }
+    requires may { AreAttempts (patterns_of candidates.now) }
+    ensures follows { Follows (state_of L.meaning bench.old) (Ask (Change (rewriting (by_attempts (patterns_of candidates.now)) limit))) (response_of result.reply) Nothing (state_of L.meaning bench.new) }
+    ensures shows { result.shows.items ≡ told_if (is_accepted (response_of result.reply)) (lines.text.items ++ trace_text (map (λ n. n.items) lines.names.items) (trace_of (by_attempts (patterns_of candidates.now)) limit (state_of L.meaning bench.old).held)) }
+    ensures room { IsContextFull (IsFull bench.new.transaction.ctx) (state_of L.meaning bench.old) (rewriting (by_attempts (patterns_of candidates.now)) limit) (response_of result.reply) }
+    ensures kept { AgreesOrStale L.meaning bench.new }
+    ensures mode { bench.new.transaction.ctx.opaque ≡ bench.old.transaction.ctx.opaque }
+{
+    led_benches_are_kept::<L>();
+    let mut lines = lines;
+    let called = trace_rewrite_with_patterns(alloc, bench, candidates, limit, &mut lines);
+    trace_reply(alloc, lines, called)
+}
+
+/// Rewrites by the rules and patterns of a list, and shows a line for each pattern that no check proves for the
+/// module. Refused with `NoSuchKey` if a name is neither a rule nor a pattern.
+fn rewrite_list_command<L: Analysis>(
+    alloc: Global,
+    session_options: &SessionOptions,
+    bench: &mut Bench<L>,
+    registry: &PatternRegistry,
+    list_command: &ListRewrite<'_>,
+) -> ShownReply
+    requires { AgreesOrStale L.meaning bench.old }
+    ensures mixes { Mixes session_options.now (registry_model registry.now) (list_command_view list_command.now) (state_of L.meaning bench.old) (response_of result.reply) result.shows.items (state_of L.meaning bench.new) }
+    ensures room { ListCommandRoom (IsFull bench.new.transaction.ctx) session_options.now (registry_model registry.now) (list_command_view list_command.now) (state_of L.meaning bench.old) (response_of result.reply) }
+    ensures kept { AgreesOrStale L.meaning bench.new }
+    ensures mode { bench.new.transaction.ctx.opaque ≡ bench.old.transaction.ctx.opaque }
+{
+    let RuleList { candidates, names } = match parse_rule_list(
+        alloc,
+        registry,
+        list_command.rules,
+    ) {
+        Ok(Some(mixed)) => mixed,
+        Ok(None) => return reply_only(alloc, Reply::Refused(Refusal::NoSuchKey)),
+        Err(refusal) => return reply_only(alloc, Reply::Refused(refusal)),
+    };
+    let Ok(text) = unproved_of(alloc, bench.world(), registry, list_command.rules) else {
+        return reply_only(alloc, Reply::Refused(Refusal::Memory));
+    };
+    let lines = TraceLines { text, names };
+    let limit = limit_of(session_options, list_command.limit);
+    if list_command.tells {
+        rewrite_telling(alloc, bench, &candidates, lines, limit)
+    } else {
+        rewrite_plainly(alloc, bench, &candidates, lines, limit)
+    }
+}
+
+/// Runs a session command; `registry` has the user patterns. A refused command doesn't change the module.
+pub fn run_list_command<L: AnalysisSource>(
+    alloc: Global,
+    session_options: &SessionOptions,
+    bench: &mut Bench<L>,
+    registry: &PatternRegistry,
+    session_command: &SessionCommand<'_>,
+) -> ShownReply
+    requires { AgreesOrStale L.meaning bench.old }
+    ensures fulfils { RunsListCommand (session_setting L.supply session_options.now) (registry_model registry.now) (list_command_of (order_of session_command.now) (registry_model registry.now)) (state_of L.meaning bench.old) (order_of session_command.now) (response_of result.reply) result.shows.items (state_of L.meaning bench.new) }
+    ensures kept { AgreesOrStale L.meaning bench.new }
+    ensures mode { bench.new.transaction.ctx.opaque ≡ bench.old.transaction.ctx.opaque }
+{
+    match list_rewrite(registry, session_command) {
+        Some(list_command) => rewrite_list_command(
+            alloc,
+            session_options,
+            bench,
+            registry,
+            &list_command,
+        ),
+        None => run_session_command(alloc, session_options, bench, session_command),
+    }
+}

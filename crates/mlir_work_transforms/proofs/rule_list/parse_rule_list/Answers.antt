@@ -1,0 +1,18 @@
+use Rattle.std.proofs.Common.{◌≡◌, Some, sym}
+use Rattle.mlir_work_script_base.specs.RuleNames.{names_of}
+use Rattle.mlir_work_registry.specs.Registry.{registry_model}
+use Rattle.mlir_work_transforms.specs.RuleLists.{all_listed}
+use Rattle.mlir_work_transforms.specs.Views.{listed_views}
+use Rattle.mlir_work_transforms.proofs.Joined.{all_may}
+use Rattle.mlir_work_transforms.proofs.rule_list.parse_rule_list.Goals as goal
+
+pub returns-in-Ok-None-clause-mixed : goal.returns-in-Ok-None-clause-mixed
+returns-in-Ok-None-clause-mixed c = sym (rw c.in-Ok-None.field-0-is at c.in-Ok-None.ensures.listed)
+
+pub returns-in-Ok-clause-mixed : goal.returns-in-Ok-clause-mixed
+returns-in-Ok-clause-mixed c =
+    let registry = registry_model c.args.registry.now in
+    let names = names_of c.args.list.now in
+    let ls = listed_views c.in-Ok-Some.listed.items in
+    let all : all_listed registry names ≡ Some ls = sym (rw c.in-Ok-Some.field-0-is at c.in-Ok-Some.ensures.listed) in
+    (ls, all, rw c.deref.ensures.value at c.in-Ok.ensures, all_may registry names ls all)

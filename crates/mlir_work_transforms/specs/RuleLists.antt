@@ -1,0 +1,56 @@
+-- Lists of rules and registered patterns, by name.
+use Rattle.std.specs.Prelude.{ℕ, List, [], ◌∷◌, map, Bool, Option, Some, None, is_some, option_map, option_and_then}
+use Rattle.std.specs.List.{list_any}
+use Rattle.ir_event.specs.Modules.{Module}
+use Rattle.mlir_work_transforms.specs.greedy.Changes.{rewriting}
+use Rattle.mlir_work_transforms.specs.greedy.Tracing.{trace_of}
+use Rattle.mlir_work_transforms.specs.greedy.PatternSet.{RuleOrPatternModel, OfOwn, OfRule, by_attempts}
+use Rattle.mlir_work_transforms.specs.rewriter.Commands.{Numbered, RuleName, Worded}
+use Rattle.mlir_work_transforms.specs.rewriter.Machine.{Transformation}
+use Rattle.mlir_work_transforms.specs.Rewriting.{canonical_named}
+use Rattle.mlir_work_transforms.specs.TraceText.{trace_text}
+use Rattle.mlir_work_registry.specs.Registry.{RegistryModel, Kept, found}
+
+-- the registered pattern with this name
+abbrev pub pattern_named : RuleName → RegistryModel → Option Kept
+pattern_named (Numbered n) registry = None
+pattern_named (Worded word) registry = found word registry
+
+-- a rule, or a pattern with its name
+pub record Listed : Type 0 where
+  pub attempt : RuleOrPatternModel
+  pub name : List ℕ
+
+-- a name resolves to a registered pattern, or else to a canonicalization rule
+abbrev pub or_rule : Option Kept → RuleName → Option Listed
+or_rule None name = option_map (λ r. record { attempt = OfRule r; name = [] }) (canonical_named name)
+or_rule (Some k) name = Some (record { attempt = OfOwn k.shape; name = k.name })
+
+abbrev pub listed_named : RegistryModel → RuleName → Option Listed
+listed_named registry name = or_rule (pattern_named name registry) name
+
+-- all names of a list resolved, if each can be
+abbrev pub all_listed : RegistryModel → List RuleName → Option (List Listed)
+all_listed registry [] = Some []
+all_listed registry (name ∷ names) =
+    option_and_then (λ l. option_map (λ ls. l ∷ ls) (all_listed registry names)) (listed_named registry name)
+
+-- whether a name is that of a registered pattern
+abbrev pub names_own : RegistryModel → List RuleName → Bool
+names_own registry names = list_any (λ name. is_some (pattern_named name registry)) names
+
+-- the rules and patterns, and their names for a trace
+abbrev pub attempts_in : List Listed → List RuleOrPatternModel
+attempts_in ls = map Listed.attempt ls
+
+abbrev pub names_in : List Listed → List (List ℕ)
+names_in ls = map Listed.name ls
+
+-- the transformation of a list with at most so many rewrites
+abbrev pub mixing : RegistryModel → List RuleName → ℕ → Option Transformation
+mixing registry names limit = option_map (λ ls. rewriting (by_attempts (attempts_in ls)) limit) (all_listed registry names)
+
+-- the trace of a list
+abbrev pub mixed_trace : Option (List Listed) → ℕ → Module → List ℕ
+mixed_trace None limit m = []
+mixed_trace (Some ls) limit m = trace_text (names_in ls) (trace_of (by_attempts (attempts_in ls)) limit m)

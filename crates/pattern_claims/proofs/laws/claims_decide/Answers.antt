@@ -1,5 +1,0 @@
-use Rattle.pattern_claims.proofs.Deciding.{claims_decide}
-use Rattle.pattern_claims.proofs.laws.claims_decide.Goals as goal
-
-pub returns : goal.returns
-returns c = claims_decide

@@ -1,5 +1,0 @@
-use Rattle.pattern_claims.proofs.Deciding.{outcomes_decide}
-use Rattle.pattern_claims.proofs.laws.outcomes_decide.Goals as goal
-
-pub returns : goal.returns
-returns c = outcomes_decide

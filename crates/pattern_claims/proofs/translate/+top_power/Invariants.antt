@@ -1,4 +1,0 @@
-use Rattle.pattern_claims.proofs.translate.+top_power.Given as goal
-
-abbrev pub decreases-top_power : goal.decreases-top_power
-decreases-top_power l = l.most

@@ -1,5 +1,0 @@
-use Rattle.std.specs.Prelude.{length}
-use Rattle.pattern_claims.proofs.variables.+variables.Given as goal
-
-abbrev pub decreases-variables : goal.decreases-variables
-decreases-variables l = length l.tys.now

@@ -1,5 +1,0 @@
-use Rattle.std.specs.Prelude.{length}
-use Rattle.pattern_claims.proofs.walk.+all_old.Given as goal
-
-abbrev pub decreases-all_old : goal.decreases-all_old
-decreases-all_old l = length l.old.now

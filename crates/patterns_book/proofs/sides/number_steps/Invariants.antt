@@ -1,9 +1,0 @@
-use Rattle.std.proofs.Common.{◌≡◌, ◌++◌, length, map}
-use Rattle.patterns_book.specs.Fitting.{number_step}
-use Rattle.patterns_book.proofs.sides.number_steps.Given as goal
-
-abbrev pub invariant-numbers : goal.invariant-numbers
-invariant-numbers l = l.steps.items ++ map (number_step l.fn.kinds) l.rest ≡ l.fn.steps.items ++ map (number_step l.fn.kinds) l.fn.numbers
-
-abbrev pub decreases-numbers : goal.decreases-numbers
-decreases-numbers l = length l.rest

@@ -1,7 +1,0 @@
-pub mod Outcomes
-pub mod Contents
-pub mod Checks
-pub mod Families
-pub mod Folded
-pub mod Kept
-pub use Rattle.exhaustive.specs.Cases

@@ -1,4 +1,0 @@
-pub mod Standing
-pub mod Near
-pub mod Made
-pub mod Plans

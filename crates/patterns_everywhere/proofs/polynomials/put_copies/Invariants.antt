@@ -1,9 +1,0 @@
-use Rattle.std.proofs.Common.{◌≡◌, ◌++◌, length}
-use Rattle.patterns_everywhere.specs.Views.{view}
-use Rattle.patterns_everywhere.proofs.polynomials.put_copies.Given as goal
-
-abbrev pub invariant-terms : goal.invariant-terms
-invariant-terms l = view l.out.items ++ view l.rest ≡ view l.fn.out.items ++ view l.fn.terms
-
-abbrev pub decreases-terms : goal.decreases-terms
-decreases-terms l = length l.rest

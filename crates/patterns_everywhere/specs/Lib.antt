@@ -1,5 +1,0 @@
-pub mod Polynomials
-pub mod Everywhere
-pub mod Views
-pub mod Lasting
-pub mod Passing

@@ -1,5 +1,0 @@
-use Rattle.patterns_facts.proofs.Facts.{facts}
-use Rattle.patterns_facts.proofs.laws.each_rule_has_its_facts.Goals as goal
-
-pub returns : goal.returns
-returns c = facts

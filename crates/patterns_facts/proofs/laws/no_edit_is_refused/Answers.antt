@@ -1,5 +1,0 @@
-use Rattle.patterns_facts.proofs.Accepted.{are_accepted}
-use Rattle.patterns_facts.proofs.laws.no_edit_is_refused.Goals as goal
-
-pub returns : goal.returns
-returns c = are_accepted

@@ -1,5 +1,0 @@
-use Rattle.patterns_formed.proofs.Ending.{checked_same}
-use Rattle.patterns_formed.proofs.finishing.finished.Goals as goal
-
-pub returns-clause-gives : goal.returns-clause-gives
-returns-clause-gives c = checked_same _ _ c.checked.result c.pattern_of.ensures c.checked.ensures.gives

@@ -1,4 +1,0 @@
-pub mod EndViews
-pub mod Ending
-pub mod Forming
-pub mod FormingViews

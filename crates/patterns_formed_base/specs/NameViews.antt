@@ -1,7 +1,0 @@
--- The names that the code holds.
-use Rattle.patterns_formed_base.specs.declared.names.Names.{Names as NamesCode}
-use Rattle.patterns_formed_base.specs.Views.{variable_views}
-use Rattle.patterns_formed_base.specs.Names.{Names}
-
-abbrev pub names_view : NamesCode → Names
-names_view n = record { variables = variable_views n.variables.items; constants = n.constants; old = n.old; numbers = n.numbers }

@@ -1,6 +1,0 @@
-pub mod Ranges
-pub mod Refuting
-pub mod Telling
-pub mod Trying
-pub mod Wide
-pub mod Widest

@@ -1,4 +1,0 @@
-pub mod Judged
-pub mod Rows
-pub mod Values
-pub mod Sampled

@@ -1,9 +1,0 @@
-use Rattle.std.proofs.Common.{◌≡◌, length}
-use Rattle.patterns_makeable.specs.Makeable.{last_type, or_last}
-use Rattle.patterns_makeable.proofs.makeable.last_type.Given as goal
-
-abbrev pub invariant-new : goal.invariant-new
-invariant-new l = or_last l.last l.rest ≡ last_type l.fn.new
-
-abbrev pub decreases-new : goal.decreases-new
-decreases-new l = length l.rest

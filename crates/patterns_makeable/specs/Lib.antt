@@ -1,2 +1,0 @@
-pub mod Makeable
-pub mod United

@@ -1,9 +1,0 @@
-use Rattle.std.proofs.Common.{◌++◌, ◌≡◌}
-use Rattle.patterns_book.specs.Matching.{nothing}
-use Rattle.patterns_matched.proofs.places.push_nothing.Given as goal
-
-abbrev pub invariant-left : goal.invariant-left
-invariant-left l = l.values.items ++ nothing l.left ≡ l.fn.values.items ++ nothing l.fn.count
-
-abbrev pub decreases-left : goal.decreases-left
-decreases-left l = l.left

@@ -1,4 +1,0 @@
-pub mod Stands
-pub mod Types
-pub mod Matched
-pub mod Built

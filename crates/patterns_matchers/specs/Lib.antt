@@ -1,0 +1,21 @@
+pub mod Numbers
+pub mod Pairs
+pub mod TriviallyVerified
+pub mod Plans
+pub mod Reads
+pub mod Suited
+pub use Rattle.patterns_base.specs.Casting
+pub use Rattle.patterns_base.specs.Folding
+pub use Rattle.patterns_base.specs.Made
+pub use Rattle.patterns_base.specs.Makes
+pub use Rattle.patterns_base.specs.Words
+pub use Rattle.patterns_base.specs.Keeps
+pub use Rattle.patterns_base.specs.Looks
+pub use Rattle.patterns_base.specs.Rewrites
+pub use Rattle.patterns_base.specs.RuleNames
+pub use Rattle.patterns_base.specs.Rules
+pub use Rattle.patterns_base.specs.declared.rule.Rule
+pub use Rattle.patterns_base.specs.Contents
+pub use Rattle.patterns_base.specs.Lists
+pub use Rattle.patterns_base.specs.declared.edit.Edit
+pub use Rattle.patterns_base.specs as rules

@@ -1,8 +1,0 @@
-use Rattle.patterns_meaning.proofs.OldRules.{choose_known_is}
-use Rattle.patterns_meaning.proofs.kept.choose_known.Goals as goal
-
-pub returns-clause-ready : goal.returns-clause-ready
-returns-clause-ready c = (choose_known_is c.no_edit_is_refused.ensures).0
-
-pub returns-clause-computing : goal.returns-clause-computing
-returns-clause-computing c = (choose_known_is c.no_edit_is_refused.ensures).1

@@ -1,8 +1,0 @@
-use Rattle.patterns_meaning.proofs.OldRules.{drop_zero_is}
-use Rattle.patterns_meaning.proofs.kept.drop_zero.Goals as goal
-
-pub returns-clause-ready : goal.returns-clause-ready
-returns-clause-ready c = (drop_zero_is c.no_edit_is_refused.ensures).0
-
-pub returns-clause-computing : goal.returns-clause-computing
-returns-clause-computing c = (drop_zero_is c.no_edit_is_refused.ensures).1

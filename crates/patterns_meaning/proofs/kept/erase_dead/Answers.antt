@@ -1,8 +1,0 @@
-use Rattle.patterns_meaning.proofs.Erasing.{erase_dead_computing, erase_dead_ready}
-use Rattle.patterns_meaning.proofs.kept.erase_dead.Goals as goal
-
-pub returns-clause-ready : goal.returns-clause-ready
-returns-clause-ready c = erase_dead_ready c.no_edit_is_refused.ensures
-
-pub returns-clause-computing : goal.returns-clause-computing
-returns-clause-computing c = erase_dead_computing c.no_edit_is_refused.ensures

@@ -1,8 +1,0 @@
-use Rattle.patterns_meaning.proofs.Mirroring.{mirror_comparison_computing, mirror_comparison_ready}
-use Rattle.patterns_meaning.proofs.kept.mirror_comparison.Goals as goal
-
-pub returns-clause-ready : goal.returns-clause-ready
-returns-clause-ready c = mirror_comparison_ready c.no_edit_is_refused.ensures
-
-pub returns-clause-computing : goal.returns-clause-computing
-returns-clause-computing c = mirror_comparison_computing c.no_edit_is_refused.ensures

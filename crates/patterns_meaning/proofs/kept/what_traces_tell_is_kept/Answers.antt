@@ -1,8 +1,0 @@
-use Rattle.patterns_meaning.proofs.Told.{told_canonicalization_keeps, told_rewriting_keeps}
-use Rattle.patterns_meaning.proofs.kept.what_traces_tell_is_kept.Goals as goal
-
-pub returns-clause-rewriting : goal.returns-clause-rewriting
-returns-clause-rewriting c = told_rewriting_keeps
-
-pub returns-clause-canonicalization : goal.returns-clause-canonicalization
-returns-clause-canonicalization c = told_canonicalization_keeps c.no_edit_is_refused.ensures c.rewriting_by_its_rules_is_canonicalization.ensures

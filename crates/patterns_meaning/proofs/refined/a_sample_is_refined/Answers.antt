@@ -1,8 +1,0 @@
-use Rattle.patterns_meaning.proofs.RefiningSampled.{sample_is_refined, samples_arent_refined}
-use Rattle.patterns_meaning.proofs.refined.a_sample_is_refined.Goals as goal
-
-pub returns-clause-refined : goal.returns-clause-refined
-returns-clause-refined c = sample_is_refined
-
-pub returns-clause-refused : goal.returns-clause-refused
-returns-clause-refused c = samples_arent_refined

@@ -1,5 +1,0 @@
-use Rattle.patterns_meaning.proofs.Unique.{outcomes_are_unique}
-use Rattle.patterns_meaning.proofs.refined.outcomes_are_unique.Goals as goal
-
-pub returns : goal.returns
-returns c = outcomes_are_unique

@@ -1,9 +1,0 @@
-use Rattle.std.proofs.Common.{refl}
-use Rattle.patterns_meaning.proofs.StrictSampled.{sample_is_ready}
-use Rattle.patterns_meaning.proofs.strict.samples_are_strict.Goals as goal
-
-pub returns-clause-patterns : goal.returns-clause-patterns
-returns-clause-patterns c = ((record { formed = refl; makeable = refl; named = refl }, refl, refl), (record { formed = refl; makeable = refl; named = refl }, refl, refl))
-
-pub returns-clause-ready : goal.returns-clause-ready
-returns-clause-ready c = sample_is_ready

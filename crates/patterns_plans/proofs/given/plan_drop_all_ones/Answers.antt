@@ -1,4 +1,0 @@
-use Rattle.patterns_plans.proofs.given.plan_drop_all_ones.Goals as goal
-
-pub returns-clause-fit : goal.returns-clause-fit
-returns-clause-fit c = c.in_ok-plan.ensures.fit c.args.world.now.ctx

@@ -1,4 +1,0 @@
-use Rattle.patterns_plans.proofs.given.plan_keep_itself.Goals as goal
-
-pub returns-clause-fit : goal.returns-clause-fit
-returns-clause-fit c = c.in_ok-plan.ensures.fit c.args.world.now.ctx

@@ -1,0 +1,74 @@
+//! Plans each rule that reads only what the store shows of its operation.
+ghost use Rattle.std.specs.Prelude.{◌≡◌, IfOk, Some};
+ghost use Rattle.ir_event.specs.Modules.{NodeIsOf, module_in};
+ghost use Rattle.patterns_matchers.specs.Reads.{head_at, header_of_node};
+ghost use Rattle.patterns_plans.specs.Planned.{FitsIn, IsPlanAt, IsPlannedRule};
+
+use crate::casts::{plan_cast_back, plan_cut_cast, plan_extend_extension};
+use crate::combined::{plan_add_negative, plan_regroup_constants};
+use crate::constant::{
+    plan_cancel_itself, plan_compare_itself, plan_compare_zero, plan_fold_to_constant,
+    plan_zero_remainder,
+};
+use crate::dead::plan_erase_dead;
+use crate::expanded::{plan_expand_difference, plan_expand_min_max, plan_expand_remainder};
+use crate::fold_to_operand::{
+    plan_choose_known, plan_choose_same, plan_choose_truth, plan_drop_all_ones, plan_drop_one,
+    plan_drop_zero, plan_keep_itself,
+};
+use crate::in_place::{plan_choose_opposite, plan_mirror_comparison, plan_swap_constant};
+use ir_event::store::node::Node;
+use ir_event::types::ids::OpId;
+use ir_event::world::World;
+use patterns_matchers::plan::RewritePlan;
+use patterns_matchers::rule::Rule;
+use std::alloc::{AllocError, Global};
+
+/// Plans a rule at an operation, or returns `None` if the rule doesn't apply. `node` is what the store shows of the
+/// operation. The caller has checked that the operation is verified and has a place.
+pub fn plan(
+    alloc: Global,
+    world: &World,
+    rule: Rule,
+    op: OpId,
+    node: &Node<'_>,
+) -> Result<Option<RewritePlan>, AllocError>
+    requires rule { IsPlannedRule rule }
+    requires shown { Some (header_of_node world.now.ctx node.now) ≡ head_at op (module_in world.now).tree }
+    requires of { NodeIsOf world.now.ctx node.now }
+    ensures edits { IfOk result (IsPlanAt rule world.now op) }
+    ensures fit { IfOk result (FitsIn world.now.ctx) }
+{
+    match rule {
+        Rule::EraseDead => plan_erase_dead(alloc, world, op),
+        Rule::FoldToConstant => plan_fold_to_constant(alloc, world, node),
+        Rule::SwapConstant => plan_swap_constant(alloc, world, op, node),
+        Rule::DropZero => plan_drop_zero(alloc, world, op, node),
+        Rule::DropOne => plan_drop_one(alloc, world, op, node),
+        Rule::DropAllOnes => plan_drop_all_ones(alloc, world, op, node),
+        Rule::CancelItself => Ok(plan_cancel_itself(world, node)),
+        Rule::KeepItself => plan_keep_itself(alloc, world, op, node),
+        Rule::ZeroRemainder => plan_zero_remainder(alloc, world, node),
+        Rule::RegroupConstants => plan_regroup_constants(alloc, world, node),
+        Rule::AddNegative => plan_add_negative(alloc, world, node),
+        Rule::CompareItself => Ok(plan_compare_itself(world, node)),
+        Rule::MirrorComparison => plan_mirror_comparison(alloc, world, node),
+        Rule::CompareZero => plan_compare_zero(alloc, world, node),
+        Rule::ChooseSame => plan_choose_same(alloc, world, op, node),
+        Rule::ChooseKnown => plan_choose_known(alloc, world, op, node),
+        Rule::ChooseTruth => plan_choose_truth(alloc, world, op, node),
+        Rule::ChooseOpposite => plan_choose_opposite(alloc, world, op, node),
+        Rule::ExtendExtension => plan_extend_extension(alloc, world, node),
+        Rule::CutCast => plan_cut_cast(alloc, world, op, node),
+        Rule::CastBack => plan_cast_back(alloc, world, op, node),
+        Rule::ExpandMinMax => Ok(plan_expand_min_max(world, node)),
+        Rule::ExpandDifference => Ok(plan_expand_difference(world, node)),
+        Rule::ExpandRemainder => Ok(plan_expand_remainder(world, node)),
+        Rule::OpenBranch
+        | Rule::OpenLoop
+        | Rule::StopLoop
+        | Rule::LowerIndex
+        | Rule::LowerLoop
+        | Rule::LowerChoice => Ok(None),
+    }
+}

@@ -1,5 +1,0 @@
-use Rattle.patterns_reasons.proofs.Told as told
-use Rattle.patterns_reasons.proofs.laws.told_conditions_fail.Goals as goal
-
-pub returns : goal.returns
-returns c = record { applies = told.told_where_rules_apply; fails = told.told_conditions_fail }

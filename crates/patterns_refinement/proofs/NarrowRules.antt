@@ -1,0 +1,158 @@
+-- The listed rules keep narrow modules narrow.
+use Rattle.std.proofs.Common.{◌≡◌, ℕ, zero, suc, ◌<◌, ◌≤◌, refl, sym, ◌∙◌, subst, List, [], ◌∷◌, Bool, true, false, eqb, Some, slice_get, inl, inr, arith}
+use Rattle.std.specs.Prelude.{if◌then◌else◌, nat_le}
+use Rattle.std.proofs.lemmas.Bool.Decides.{nat_tests}
+use Rattle.std.proofs.lemmas.Option.{none-some, same_Some}
+use Rattle.ir_types.specs.declared.bits.BitsKind.{BitsKind}
+use Rattle.ir_types.specs.declared.bits.BitsKind.TheVariants as kind
+use Rattle.ir_types.specs.Terms.{AttrTerm, TypeTerm}
+use Rattle.ir_tree.specs.declared.value.Value.TheVariants.{Arg, Result}
+use Rattle.ir_tree.specs.declared.place.Part.{Part}
+use Rattle.ir_tree.specs.declared.place.Part.TheVariants.{Attrs, Props}
+use Rattle.ir_tree.specs.Tree.{head}
+use Rattle.ir_tree.specs.Edits.{at, change_part, put_operand, put_values}
+use Rattle.ir_tree.specs.Meaning.{Operation}
+use Rattle.ir_tree_laws.specs.Members.{In}
+use Rattle.ir_tree_laws.specs.Values.{type_of_value}
+use Rattle.ir_event.specs.Modules.{Module}
+use Rattle.dialects_int.specs.Folds.{kind_of}
+use Rattle.rewriter_machine.specs.Contents.{Edit, all_edited, edited}
+use Rattle.rewriter_machine.specs.Edits.{DropAttr, Erase, Insert, Make, Move, Replace, SetAttr, SetOperand}
+use Rattle.patterns_laws.specs.Made.{i1}
+use Rattle.patterns_laws.proofs.KnownFolds.{given_some}
+use Rattle.patterns_base.specs.declared.rule.Rule.{Rule}
+use Rattle.patterns_base.specs.Rewrites.{becomes, rewrite_of}
+use Rattle.patterns_soundness.specs.Accepted.{AreAccepted}
+use Rattle.user_patterns_data.specs.Matching.{Header}
+use Rattle.patterns_refinement.specs.Meaning.{Each, EachBlock}
+use Rattle.patterns_refinement.specs.Better.{kind_in}
+use Rattle.patterns_refinement.specs.Keeping.{IsReady}
+use Rattle.patterns_refinement.specs.Runs.{kept_rules}
+use Rattle.patterns_refinement.specs.Narrow.{IsNarrow, NarrowRulesKeep, is_narrow}
+use Rattle.patterns_refinement.proofs.Edited.{blocks_below, blocks_changed, blocks_without, each_both, each_changed, each_without}
+use Rattle.patterns_refinement.proofs.Formed.{is_below}
+use Rattle.patterns_refinement.proofs.PlainRules.{AllPlain, IsFine, IsTypedBy, MakesPlain, fine_add_negative, fine_cancel_itself, fine_choose_known, fine_choose_opposite, fine_choose_same, fine_choose_truth, fine_compare_itself, fine_compare_zero, fine_cut_cast, fine_drop_all_ones, fine_drop_one, fine_drop_zero, fine_erase_dead, fine_expand_difference, fine_expand_min_max, fine_extend_extension, fine_fold_to_constant, fine_keep_itself, fine_mirror_comparison, fine_regroup_constants, fine_swap_constant, fine_zero_remainder}
+use Rattle.patterns_refinement.proofs.Readied.{HasKind, kinds_are}
+use Rattle.patterns_refinement.proofs.Rewritten.{all_blocks, all_put}
+use Rattle.patterns_refinement.proofs.Ruled.{ruled}
+use Rattle.patterns_refinement.proofs.Trees.{ArgumentsAre, ResultsAre, each_found, typed_found}
+
+-- ---- types of narrow kinds
+abbrev pub IsSmall : ℕ → TypeTerm → Type 0
+IsSmall most ty = (k : BitsKind) → kind_of ty ≡ Some k → is_narrow most k ≡ true
+
+abbrev pub AllSmall : ℕ → List TypeTerm → Type 0
+AllSmall most tys = (k : ℕ) (ty : TypeTerm) → slice_get tys k ≡ Some ty → IsSmall most ty
+
+pub alone_small : (most : ℕ) (ty : TypeTerm) → IsSmall most ty → AllSmall most (ty ∷ [])
+alone_small most ty s zero uy e = subst (IsSmall most) (same_Some ty uy e) s
+alone_small most ty s (suc k) uy e = absurd (none-some uy e)
+
+module _ (most : ℕ) where
+  abbrev SmallHead : Header → Type 0
+  SmallHead h = AllSmall most h.results
+
+  abbrev SmallBlock : ℕ → ℕ → List TypeTerm → Type 0
+  SmallBlock y r args = AllSmall most args
+
+  -- the types of all values of a tree
+  pub record AreSmall (t : Operation) : Type 0 where
+    pub results : Each (λ h. AllSmall most h.results) t
+    pub arguments : EachBlock (λ y r args. AllSmall most args) t
+
+  pub narrow_of : (m : Module) → AreSmall m.tree → IsNarrow most m
+  narrow_of m s v k e = let g = given_some (type_of_value v m.tree) kind_of k e in typed_found (λ w ty. IsSmall most ty) m.tree s.results s.arguments v g.0 g.1 k g.2
+
+  pub small_of : (m : Module) → IsReady m → IsNarrow most m → AreSmall m.tree
+  small_of m ready narrow =
+      let old = kinds_are m.tree ready.formed.distinct in
+      let below = is_below m.next m.tree ready.formed.below in
+      record {
+        results = each_both (ResultsAre (HasKind (kind_in m.tree))) (λ h. h.id < m.next) SmallHead (λ h p l k ty e j i. narrow (Result h.id k) j (p k ty e ∙ i)) m.tree old.results below;
+        arguments = blocks_below (ArgumentsAre (HasKind (kind_in m.tree))) SmallBlock m.next (λ y r args l p k ty e j i. narrow (Arg y r k) j (p k ty e ∙ i)) m.tree below old.arguments;
+      }
+
+  -- ---- edits
+  changed_at : (x : ℕ) (f : Header → Header) → ((h : Header) → SmallHead h → SmallHead (f h)) → (h : Header) → SmallHead h → SmallHead (at x f h)
+  changed_at x f keeps h p = go (eqb h.id x)
+    where
+      go : (b : Bool) → SmallHead (if b then f h else h)
+      go true = keeps h p
+      go false = p
+
+  same_id : (x : ℕ) (f : Header → Header) → ((h : Header) → h.id ≡ (f h).id) → (h : Header) → h.id ≡ (at x f h).id
+  same_id x f same h = go (eqb h.id x)
+    where
+      own : Header → ℕ
+      own h = h.id
+
+      go : (b : Bool) → h.id ≡ own (if b then f h else h)
+      go true = same h
+      go false = refl
+
+  changed_part : (part : Part) (f : List (List ℕ × AttrTerm) → List (List ℕ × AttrTerm)) (h : Header) → SmallHead h → SmallHead (change_part part f h)
+  changed_part Props f h p = p
+  changed_part Attrs f h p = p
+
+  part_id : (part : Part) (f : List (List ℕ × AttrTerm) → List (List ℕ × AttrTerm)) (h : Header) → h.id ≡ (change_part part f h).id
+  part_id Props f h = refl
+  part_id Attrs f h = refl
+
+  truth_small : 1 ≤ most → IsSmall most i1
+  truth_small l k e = subst (λ k. is_narrow most k ≡ true) (same_Some (kind.Int 1) k e) (one l)
+    where
+      one : 1 ≤ most → nat_le 1 most ≡ true
+      one l = grind (arith, nat_tests)
+
+  typed_small : (h : Header) → 1 ≤ most → SmallHead h → (tys : List TypeTerm) → IsTypedBy h tys → AllSmall most tys
+  typed_small h l s tys t = subst (AllSmall most) (sym t.1) (alone_small most t.0 (elim t.2 [ inl e ↦ s 0 t.0 e | inr e ↦ subst (IsSmall most) (sym e) (truth_small l) ]))
+
+  one_small : (h : Header) → 1 ≤ most → SmallHead h → (e : Edit) (m : Module) → MakesPlain h e → AreSmall m.tree → AreSmall (edited e m).tree
+  one_small h l s (Make place o) m p r = record {
+    results = all_put SmallHead place m.next (o ∷ []) m.tree (typed_small h l s (head o).results p.2, tt) (p.1, tt) r.results;
+    arguments = all_blocks SmallBlock place m.next (o ∷ []) m.tree (p.1, tt) r.arguments;
+  }
+  one_small h l s (Erase x) m p r = record { results = each_without SmallHead x m.tree r.results; arguments = blocks_without SmallBlock x m.tree r.arguments }
+  one_small h l s (SetOperand x k v) m p r = record {
+    results = each_changed SmallHead SmallHead (at x (put_operand k v)) (changed_at x (put_operand k v) (λ h q. q)) m.tree r.results;
+    arguments = blocks_changed SmallBlock (at x (put_operand k v)) (same_id x (put_operand k v) (λ h. refl)) m.tree r.arguments;
+  }
+  one_small h l s (Replace old new) m p r = record {
+    results = each_changed SmallHead SmallHead (put_values old new) (λ h q. q) m.tree r.results;
+    arguments = blocks_changed SmallBlock (put_values old new) (λ h. refl) m.tree r.arguments;
+  }
+  one_small h l s (SetAttr x k a) m p r = record {
+    results = each_changed SmallHead SmallHead _ (changed_at x _ (changed_part _ _)) m.tree r.results;
+    arguments = blocks_changed SmallBlock _ (same_id x _ (part_id _ _)) m.tree r.arguments;
+  }
+  one_small h l s (Insert place o) m p r = absurd p
+  one_small h l s (Move x place) m p r = absurd p
+  one_small h l s (DropAttr x k) m p r = absurd p
+
+  all_small : (h : Header) → 1 ≤ most → SmallHead h → (es : List Edit) (m : Module) → AllPlain h es → AreSmall m.tree → AreSmall (all_edited es m).tree
+  all_small h l s [] m p r = r
+  all_small h l s (e ∷ es) m p r = all_small h l s es (edited e m) p.1 (one_small h l s e m p.0 r)
+
+  -- ---- rules
+  pub fine_narrow : AreAccepted → 1 ≤ most → (r : Rule) → IsFine r → (m n : Module) (x : ℕ) → IsReady m → IsNarrow most m → rewrite_of r m x ≡ becomes n → IsNarrow most n
+  fine_narrow accepted l r fine m n x ready narrow e =
+      let q = ruled accepted r m n x ready.formed ready.sorted e in
+      let s = small_of m ready narrow in
+      let root = (each_found SmallHead x m.tree s.results q.here q.found).0 in
+      narrow_of n (subst (λ (n : Module). AreSmall n.tree) q.module_is (all_small (head q.here) l root q.edits m ((fine m.tree m.next q.front q.here).plain q.edits q.made) s))
+
+abbrev EachFine : List Rule → Type 0
+EachFine [] = Unit {0}
+EachFine (r ∷ rs) = IsFine r × EachFine rs
+
+one_fine : (rs : List Rule) → EachFine rs → (r : Rule) → In r rs → IsFine r
+one_fine [] k r i = absurd i
+one_fine (s ∷ rs) k r (inl i) = subst IsFine (sym i) k.0
+one_fine (s ∷ rs) k r (inr i) = one_fine rs k.1 r i
+
+each_fine : EachFine kept_rules
+each_fine =
+    (fine_erase_dead, (fine_fold_to_constant, (fine_swap_constant, (fine_drop_zero, (fine_drop_one, (fine_drop_all_ones, (fine_cancel_itself, (fine_keep_itself, (fine_zero_remainder, (fine_regroup_constants, (fine_add_negative, (fine_compare_itself, (fine_mirror_comparison, (fine_compare_zero, (fine_choose_same, (fine_choose_known, (fine_choose_truth, (fine_choose_opposite, (fine_extend_extension, (fine_cut_cast, (fine_expand_min_max, (fine_expand_difference, tt))))))))))))))))))))))
+
+pub narrow_rules_keep : AreAccepted → NarrowRulesKeep
+narrow_rules_keep accepted most l r i m n x ready narrow e = fine_narrow most accepted l r (one_fine kept_rules each_fine r i) m n x ready narrow e

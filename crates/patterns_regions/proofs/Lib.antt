@@ -1,9 +1,0 @@
-pub mod Walking
-pub mod Bodies
-pub mod Viewed
-pub mod Replacing
-pub mod Openings
-pub mod Ruled
-pub mod Needed
-pub mod Slices
-pub mod Held

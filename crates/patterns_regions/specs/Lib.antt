@@ -1,4 +1,0 @@
-pub mod Blocks
-pub mod Opened
-pub mod Times
-pub mod Rules

@@ -1,6 +1,0 @@
-use Rattle.std.proofs.Common.{arith}
-use Rattle.patterns_shelf.proofs.Halves.{half_noted}
-use Rattle.patterns_shelf.proofs.book.note_in.Goals as goal
-
-pub returns : goal.returns
-returns c = half_noted c.args.name.now c.args.said _ _ _ (omega arith) c.loop-one.invariant

@@ -1,5 +1,0 @@
-use Rattle.patterns_shelf.proofs.Halves.{Half, IsNoted}
-use Rattle.patterns_shelf.proofs.book.note_in.Given as goal
-
-abbrev pub invariant-loop-one : goal.invariant-loop-one
-invariant-loop-one l = Half (IsNoted l.name l.said) l.initial.one-items l.one-items l.one-index

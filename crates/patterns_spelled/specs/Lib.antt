@@ -1,7 +1,0 @@
-pub mod Syntax
-pub mod Heads
-pub mod Grammar
-pub mod Reading
-pub mod Printing
-pub mod Laws
-pub mod Samples

@@ -1,2 +1,0 @@
-pub mod Yields
-pub use Rattle.patterns_base.specs as base

@@ -1,6 +1,0 @@
-//! What cases make benches from.
-#![tactic(auto)]
-
-pub mod worlds;
-
-pub use rewriter::Bench;

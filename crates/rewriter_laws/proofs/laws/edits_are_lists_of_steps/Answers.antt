@@ -1,5 +1,0 @@
-use Rattle.rewriter_laws.proofs.Stepped.{edit_steps}
-use Rattle.rewriter_laws.proofs.laws.edits_are_lists_of_steps.Goals as goal
-
-pub returns : goal.returns
-returns _ c e m w sound of free = edit_steps c m w sound e of free

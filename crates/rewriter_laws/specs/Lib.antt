@@ -1,5 +1,0 @@
-pub mod Replacing
-pub mod Erasing
-pub mod Inserting
-pub mod Events
-pub mod Journals

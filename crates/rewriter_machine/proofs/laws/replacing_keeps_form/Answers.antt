@@ -1,5 +1,0 @@
-use Rattle.rewriter_machine.proofs.Formed.{replace_keeps}
-use Rattle.rewriter_machine.proofs.laws.replacing_keeps_form.Goals as goal
-
-pub returns : goal.returns
-returns _ c old new m w e = replace_keeps c old new m w e

@@ -1,0 +1,15 @@
+pub mod Seen
+pub mod Accepted
+pub mod Makings
+pub mod Carried
+pub mod Found
+pub mod Widths
+pub mod Placed
+pub mod Ordered
+pub mod Binding
+pub mod Additions
+pub mod FoundBuilt
+pub mod Backwards
+pub mod TypesAt
+pub mod Planned
+pub mod Rooted

@@ -1,0 +1,10 @@
+use Rattle.std.proofs.Common.{length, ◌≡◌}
+use Rattle.ir_event.specs.trees.Uses.{same_value}
+use Rattle.user_patterns_data.specs.Matching.{all_bound}
+use Rattle.user_patterns_apply.proofs.places.bind_all.Given as goal
+
+abbrev pub invariant-places : goal.invariant-places
+invariant-places l = all_bound same_value l.places l.given l.values ≡ all_bound same_value l.fn.places l.fn.given l.fn.values
+
+abbrev pub decreases-places : goal.decreases-places
+decreases-places l = length l.places

@@ -1,0 +1,26 @@
+use Rattle.std.proofs.Common.{ap, map, sym, ◌∙◌, subst, arith}
+use Rattle.ir_event.specs.Modules.{module_in}
+use Rattle.patterns_base.specs.Looks.{is_verified}
+use Rattle.user_patterns_data.specs.Shapes.{pattern_model}
+use Rattle.user_patterns_apply.specs.Types.{AreTypesOf, written_of}
+use Rattle.user_patterns_apply.proofs.Planned.{typed_shown, untyped_plan, whole_again, written_are}
+use Rattle.user_patterns_apply.proofs.typing.bound_types.Goals as goal
+
+pub bind_all_types-requires : goal.bind_all_types-requires
+bind_all_types-requires c = record {
+  of = subst (AreTypesOf c.args.world.now.ctx) (sym (c.deref_mut.ensures.value ∙ c.in_ok-types.ensures ∙ ap (map written_of) c.deref.ensures.value)) (written_are c.args.world.now.ctx c.args.pattern.now.value_types.items);
+}
+
+pub returns-then-not-bind_all_types-clause-types : goal.returns-then-not-bind_all_types-clause-types
+returns-then-not-bind_all_types-clause-types c =
+    let w = c.args.world.now in
+    let m = module_in w in
+    untyped_plan m.tree (is_verified m.tree) m.next (pattern_model c.args.pattern.now) c.args.values.now w.ctx c.deref_mut.result.now c.bind_all_types.new.types (c.deref_mut.ensures.value ∙ c.in_ok-types.ensures ∙ ap (map written_of) c.deref.ensures.value)
+    c.bind_all_types.result c.bind_all_types.ensures.stands c.if-not-bind_all_types.true
+
+pub returns-clause-types : goal.returns-clause-types
+returns-clause-types c =
+    let w = c.args.world.now in
+    let m = module_in w in
+    typed_shown m.tree (is_verified m.tree) m.next (pattern_model c.args.pattern.now) c.args.values.now w.ctx c.deref_mut.result.now c.bind_all_types.new.types (c.deref_mut.ensures.value ∙ c.in_ok-types.ensures ∙ ap (map written_of) c.deref.ensures.value)
+    c.bind_all_types.result c.bind_all_types.ensures.stands _ (whole_again c.in_ok-types.types.len c.bind_all_types.new.types c.in_ok-types.types.items (omega (arith, c.bind_all_types.auto.types, c.deref_mut.ensures.len))) c.if-not-bind_all_types.false

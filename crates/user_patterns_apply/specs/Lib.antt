@@ -1,0 +1,6 @@
+pub mod Own
+pub mod Planned
+pub mod Stands
+pub mod Types
+pub mod Matched
+pub mod Built

@@ -1,0 +1,2 @@
+pub mod CanBuild
+pub mod Unified

@@ -1,0 +1,5 @@
+pub mod Registry
+pub mod CheckResult
+pub mod Rows
+pub mod Values
+pub mod Sampled

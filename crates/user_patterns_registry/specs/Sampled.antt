@@ -1,0 +1,100 @@
+-- The sampled check of a pattern at wide types. A reported counterexample is one. Without a counterexample, the check
+-- says nothing about other values.
+use Rattle.std.specs.Prelude.{◌≡◌, ℕ, ◌<◌, ◌≤◌, ◌/◌, ◌^◌, ◌⊎◌, Bool, false, List, [], ◌∷◌, ◌++◌, get_or, map, max, replicate, take, Option, Some, None}
+use Rattle.ir_types.specs.declared.refusal.Refusal.{Refusal}
+use Rattle.ir_types.specs.declared.refusal.Refusal.TheVariants.{BadLimit, Memory}
+use Rattle.user_patterns_check.specs.Cases.{first_failing}
+use Rattle.user_patterns_check.specs.declared.verdict.Verdict.TheVariants as verdict
+use Rattle.user_patterns_check.specs.Checks.{keeps}
+use Rattle.user_patterns_check.specs.Families.{IsVerdict}
+use Rattle.user_patterns_data.specs.Fitting.{content_at}
+use Rattle.user_patterns_data.specs.Shapes.{PatternModel}
+use Rattle.user_patterns_registry.specs.declared.check_result.Counterexample.{Counterexample}
+use Rattle.user_patterns_registry.specs.declared.check_result.CheckResult.{CheckResult}
+use Rattle.user_patterns_registry.specs.declared.check_result.CheckResult.TheVariants as judgement
+use Rattle.user_patterns_registry.specs.CheckResult.{IsShown, told_width, width_told}
+use Rattle.user_patterns_registry.specs.Values.{values_of}
+
+-- ---- the samples
+
+-- the greatest width that a sampled check accepts, and the limit of type variables
+abbrev pub most_sampled : ℕ
+most_sampled = 128
+
+abbrev pub most_types : ℕ
+most_types = 4
+
+-- each type variable has the given width, half of it or a quarter, by three levels
+abbrev pub levels : ℕ
+levels = 3
+
+abbrev pub level_width : ℕ → ℕ → ℕ
+level_width w level = max 1 (w / 2 ^ level)
+
+-- the number of test cases at each list of widths
+abbrev pub cases : ℕ
+cases = 4096
+
+-- the check runs over lists of numbers: a level for each type variable, then a case
+abbrev pub tried_bounds : PatternModel → List ℕ
+tried_bounds p = replicate p.types levels ++ (cases ∷ [])
+
+abbrev pub widths_tried : PatternModel → ℕ → List ℕ → List ℕ
+widths_tried p w numbers = map (level_width w) (take p.types numbers)
+
+abbrev pub case_tried : PatternModel → List ℕ → ℕ
+case_tried p numbers = get_or numbers p.types 0
+
+abbrev pub values_tried : PatternModel → ℕ → List ℕ → List ℕ
+values_tried p w numbers = values_of (case_tried p numbers) (content_at p (widths_tried p w numbers)).value_types
+
+-- whether the pattern refines at the values of a case, at the widths of the levels
+abbrev pub keeps_tried : PatternModel → ℕ → List ℕ → Bool
+keeps_tried p w numbers = keeps (content_at p (widths_tried p w numbers)) (values_tried p w numbers)
+
+-- the first levels and case at which it doesn't
+abbrev pub first_refuting : PatternModel → ℕ → Option (List ℕ)
+first_refuting p w = first_failing (keeps_tried p w) (tried_bounds p)
+
+-- ---- the report
+
+-- a check that is refused: the width is 0 or above the limit, or there are too many type variables
+abbrev pub IsUnsampled : PatternModel → ℕ → Type 0
+IsUnsampled p w = (w < 1) ⊎ ((most_sampled < w) ⊎ (most_types < p.types))
+
+-- a check that is accepted
+pub record IsTried (p : PatternModel) (w : ℕ) : Type 0 where
+  pub low : 1 ≤ w
+  pub high : w ≤ most_sampled
+  pub types : p.types ≤ most_types
+
+-- a counterexample has the first widths and values at which the pattern doesn't refine, and the values that both
+-- sides compute
+pub record IsRefuted (p : PatternModel) (w : ℕ) (c : Counterexample) : Type 0 where
+  pub first :
+      (numbers : List ℕ)
+      × (first_refuting p w ≡ Some numbers)
+      × (c.widths.items ≡ widths_tried p w numbers)
+      × (c.values.items ≡ values_tried p w numbers)
+  pub width : c.width ≡ width_told p c.widths.items
+  pub broken : keeps (content_at p c.widths.items) c.values.items ≡ false
+  pub shown : IsShown (content_at p c.widths.items) c
+
+abbrev pub IsSampled : PatternModel → ℕ → CheckResult → Type 0
+IsSampled p w (judgement.Sampled v) = IsTried p w × (v ≡ told_width p w) × (first_refuting p w ≡ None)
+IsSampled p w (judgement.Fails c) = IsTried p w × IsRefuted p w c
+IsSampled p w _ = ⊥
+
+-- the reason why a check is refused
+abbrev pub IsNotSampled : PatternModel → ℕ → Refusal → Type 0
+IsNotSampled p w Memory = Unit {0}
+IsNotSampled p w BadLimit = IsUnsampled p w
+IsNotSampled p w _ = ⊥
+
+-- ---- the law of the report
+
+-- a counterexample of a sampled check is a counterexample of a check up to this width: its widths are from 1 to this
+-- width, its values are of the variables' kinds, and the pattern doesn't refine at them
+abbrev pub RefutesTruly : Type 0
+RefutesTruly =
+    (p : PatternModel) (w : ℕ) (c : Counterexample) → IsTried p w → IsRefuted p w c → IsVerdict (content_at p) p.types w (verdict.Fails c.widths c.values)

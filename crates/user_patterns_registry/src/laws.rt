@@ -1,0 +1,13 @@
+//! Laws of registries.
+ghost use Rattle.std.specs.Prelude.{[]};
+ghost use Rattle.user_patterns_registry.specs.Registry.{AddsOne, IsRegistry, NotingKeepsARegistry, StaysARegistry};
+
+/// The names in a registry are distinct, it has at most 256 patterns, and each can be applied. The empty registry
+/// satisfies this, and a defined pattern or a recorded check keeps it. A new pattern is the last one, and lookups of
+/// the others give the same result as before.
+pub fn what_is_defined_is_ready()
+    ensures empty { IsRegistry [] }
+    ensures registry { StaysARegistry }
+    ensures noted { NotingKeepsARegistry }
+    ensures one { AddsOne }
+{}

@@ -1,0 +1,4 @@
+pub mod EndViews
+pub mod Ending
+pub mod Sema
+pub mod SemaViews

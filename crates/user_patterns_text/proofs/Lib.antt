@@ -1,0 +1,13 @@
+pub mod Lists
+pub mod ListSteps
+pub mod Matching
+pub mod Agreeing
+pub mod Patterns
+pub mod Items
+pub mod Texts
+pub mod Exact
+pub mod Spelled
+pub mod Shown
+pub mod TermLaws
+pub mod Whole
+pub mod Printable

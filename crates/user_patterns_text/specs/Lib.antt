@@ -1,0 +1,13 @@
+pub mod Parts
+pub mod Views
+pub mod Refusing
+pub mod Reading
+pub mod Spelled
+pub mod Printed
+pub mod Syntax
+pub mod Heads
+pub mod Grammar
+pub mod Recognizing
+pub mod Printing
+pub mod Laws
+pub mod Samples

@@ -1,0 +1,5 @@
+pub mod Polynomials
+pub mod AllWidths
+pub mod Views
+pub mod Lasting
+pub mod Passing

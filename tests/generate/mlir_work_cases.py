@@ -1,0 +1,1539 @@
+#!/usr/bin/env python3
+"""Writes stdin and stdout of crates/mlir_work_cases: each case is a line, and its answer computed here from the rules
+of scripts, inputs and replies by regular expressions and Python's own cuts. And it writes the golden files of tests/
+that are of whole runs with all listeners, of the same rules. Run it at the top of the repository.
+
+The whole runs are written out here or in tests/generate/worked_rows.txt, and compared with what the rules of oracle
+give for them, or are of analyses_cases.py, verifier_cases.py, conversion_cases.py, heard_cases.py,
+own_pattern_cases.py, trace_cases.py, convert_trace_cases.py and why_cases.py, many of them random from the seeds there,
+with the answers of the rules. `decided.py` writes to `oracle/decided.txt` which patterns claims about bits decide. The
+program that MLIR_WORK_CLAIMS names answers, or the one of these sources. Without a program the file isn't changed."""
+import itertools
+import pathlib
+import re
+
+import checkout  # noqa: F401
+
+from oracle import live, script
+from oracle.lines import Table, given, told
+from tests.compare import refusals
+from tests.generate import about_cases, analyses_cases, conversion_cases, convert_trace_cases, decided, explained_cases
+from tests.generate import heard_cases, named_pattern_cases, own_pattern_cases, rule_cases, trace_cases
+from tests.generate import verifier_cases, why_cases, worked_rows
+from tests.golden import golden
+
+MOST_LINE = 16777216
+VERSION = re.search(rb"(?m)^## (\S+)", pathlib.Path("CHANGELOG.md").read_bytes())[1]
+TABLE, GOLDEN = Table(), golden.Collected()
+case, title = TABLE.case, GOLDEN.title
+
+
+def whole(text, brief=True, limit=script.LIMIT, name=""):
+    """Adds a golden case of a run with all listeners, whose answer is that of the rules in Python. In a group the case
+    is called `brief` or `full`, or `name` and `name-full`."""
+    words = ["--brief"] * brief + ["--limit", str(limit)] * (limit != script.LIMIT)
+    answer = script.run(text, brief, script.BOXES, script.ALL, limit)
+    GOLDEN.case(words, text, answer, name=(name or "brief") if brief else f"{name}-full".lstrip("-"))
+
+
+REFUSALS = """1 BadToken|2 Unexpected|3 UnknownValue|4 Redefined|5 TypeMismatch|6 BadWidth|7 BadValue|8 MultipleBlocks
+9 Successors|10 TooDeep|11 TooMany|12 DuplicateKey|13 LeftOut|14 NotUtf8|20 NoSuchOp|21 NoSuchValue|22 HasUses
+23 NotVisible|24 TypeDiffers|25 NoSuchIndex|26 NoSuchKey|27 IntoItself|28 OtherTable|29 IsRoot|30 NotEmpty|31 Full
+32 IdsExhausted|33 TooDeepHere|34 TooManyMarks|35 NoMark|36 Memory|40 Stale|41 NoSuchKind|42 KindTaken|50 BadLimit
+51 NotLegalised|52 ChainTooDeep|53 Unreconciled|54 BadTarget|60 BadCommand""".replace("\n", "|").split("|")
+
+# What a script's words say.
+KINDS = {number: name.encode() for number, name in script.KINDS.items()}
+NUMBERS = {name: number for number, name in KINDS.items()}
+
+
+def kind_word(number):
+    return KINDS.get(number, b"kind%d" % number)
+
+
+def kind_of(word):
+    return {kind_word(number): number for number in range(256)}.get(word)
+
+
+def number_of(word):
+    if re.fullmatch(rb"[0-9]+", word) and int(word) < 2 ** 32:
+        return int(word)
+    return None
+
+
+def numbers_in(pattern, word):
+    found = re.fullmatch(pattern, word)
+    numbers = [number_of(part) for part in found.groups()] if found else [None]
+    return None if None in numbers else numbers
+
+
+def op_of(word):
+    return numbers_in(rb"#([0-9]+)", word)
+
+
+def value_of(word):
+    return numbers_in(rb"%v([0-9]+)\.([0-9]+)", word) or numbers_in(rb"%a([0-9]+)\.([0-9]+)\.([0-9]+)", word)
+
+
+def dotted(numbers):
+    return ".".join(map(str, numbers))
+
+
+def spot_of(words):
+    """A place from its words, and the words after it."""
+    if len(words) >= 2 and words[0] in (b"before", b"after") and op_of(words[1]):
+        return f"{words[0].decode()} {op_of(words[1])[0]}", words[2:]
+    if len(words) >= 3 and words[0] in (b"start", b"end") and op_of(words[1]) and number_of(words[2]) is not None:
+        return f"{words[0].decode()} {op_of(words[1])[0]} {number_of(words[2])}", words[3:]
+    return None, words
+
+
+ESCAPES = {b"n": b"\n", b"t": b"\t", b"\\": b"\\", b'"': b'"'}
+
+
+def key_of(text):
+    """The bytes of the key at the beginning of a text, and the rest; None if there is no key."""
+    found = re.match(rb'"((?:[^"\\\n\x0b\x0c\r]|\\[nt\\"]|\\[0-9a-fA-F]{2})*)"(?=[ \t]|\Z)', text)
+    if text.startswith(b'"'):
+        if not found:
+            return None, text
+        raw = re.sub(rb"\\([nt\\\"]|[0-9a-fA-F]{2})", lambda e: ESCAPES.get(e[1]) or bytes([int(e[1], 16)]), found[1])
+        return raw, text[found.end():].lstrip(b" \t")
+    word, rest = re.fullmatch(rb"([^ \t]*)[ \t]*(.*)", text, re.S).groups()
+    return (word if re.fullmatch(rb"[A-Za-z_][A-Za-z0-9_$.]*", word) else None), rest
+
+
+def entry_says(name, rest):
+    op, rest = re.fullmatch(rb"([^ \t]*)[ \t]*(.*)", rest, re.S).groups()
+    key, rest = key_of(rest)
+    if not op_of(op) or key is None or (rest != b"") != (name == b"set-attr"):
+        return "bad"
+    return f"{name.decode()} {op_of(op)[0]} {told(key)}" + (told(rest) if rest else "")
+
+
+def insert_says(rest):
+    found = re.fullmatch(rb"(before|after)[ \t]+([^ \t]+)[ \t]+(.+)|(start|end)[ \t]+([^ \t]+)[ \t]+([^ \t]+)[ "
+                         rb"\t]+(.+)", rest, re.S)
+    if not found:
+        return "bad"
+    beside, op, text, inside, around, region, other = found.groups()
+    spot, _ = spot_of([beside, op] if beside else [inside, around, region])
+    return f"insert {spot} {told(text or other)}" if spot else "bad"
+
+
+NAMES, NUMBERS, NUMBER = rb"[^ \t,]+(?:,[^ \t,]+)*", rb"[0-9]+(?:,[0-9]+)*", rb"[0-9]+"
+CLAUSES = {b"legal": NAMES, b"illegal": NAMES, b"dynamic": NAMES, b"rules": NUMBERS, b"depth": NUMBER}
+
+
+def convert_says(words):
+    """The words after `convert`, or after `convert trace`: a mode, and then each clause that there is, at most once,
+    with one word after it."""
+    clauses = list(zip(words[1::2], words[2::2]))
+    if words[0] not in (b"partial", b"full") or len(words) % 2 == 0 or len(dict(clauses)) < len(clauses):
+        return "bad"
+    for name, word in clauses:
+        if name not in CLAUSES or not re.fullmatch(CLAUSES[name], word):
+            return "bad"
+        if CLAUSES[name] != NAMES and max(map(int, word.split(b","))) > 4294967295:
+            return "bad"
+    found = dict(clauses)
+    lists = [f" {name.decode()} {told(found[name])}" for name in CLAUSES if name in found and name != b"depth"]
+    return f"convert {words[0].decode()}{''.join(lists)} depth {int(found[b'depth']) if b'depth' in found else 'none'}"
+
+
+def apply_says(rule, op):
+    """A rule by its number, or by a word, which begins with no digit."""
+    if not rule[:1].isdigit():
+        return f"apply {told(rule)} {op_of(op)[0]}"
+    number = number_of(rule)
+    return f"apply {number} {op_of(op)[0]}" if number in range(1, 31) else "bad"
+
+
+def why_says(words):
+    """What the words of a line say of why rules don't apply, if they do."""
+    if len(words) not in (2, 3) or words[0] != b"why" or not op_of(words[1]):
+        return None
+    op, rule = op_of(words[1])[0], words[2] if len(words) == 3 else None
+    if rule is None:
+        return f"why {op} all"
+    if not rule[:1].isdigit():
+        return f"why {op} {told(rule)}"
+    return f"why {op} {number_of(rule)}" if number_of(rule) in range(1, 31) else None
+
+
+def canon_at_says(words):
+    """What the words of a line say of canonicalizing one operation, if they do."""
+    if words[:2] != [b"canon", b"at"] or len(words) < 3 or not op_of(words[2]):
+        return None
+    says = limit_says(words[3:])
+    return says and f"canon {op_of(words[2])[0]} {says}"
+
+
+def refusal_of(word):
+    """The number and the word of a refusal, by one of them."""
+    for refusal in REFUSALS:
+        number, name = refusal.encode().split()
+        if word == name or number_of(word) == int(number):
+            return refusal
+    return None
+
+
+def line_says(line):
+    try:
+        line.decode()
+    except UnicodeDecodeError:
+        return "bad"
+    text = line.strip(b" \t\r")
+    if not text or text.startswith(b"//"):
+        return "nothing"
+    found = re.fullmatch(rb"expect[ \t]+([^ \t]+)(?:[ \t]+(.*))?", text, re.S)
+    if found and refusal_of(found[1]):
+        return f"expects {refusal_of(found[1])} {text_says(found[2] or b'')}"
+    return text_says(text)
+
+
+def tried_says(word):
+    """Whether each item of a list names a rule that may be tried, by its number, or by a word."""
+    return all(number_of(item) in range(1, 25) if item[:1].isdigit() else item for item in word.split(b","))
+
+
+def book_says(text):
+    """What a line says of user patterns, if it does."""
+    name, rest = re.fullmatch(rb"([^ \t]*)[ \t]*(.*)", text, re.S).groups()
+    words = re.split(rb"[ \t]+", rest)
+    if name == b"pattern" and rest:
+        return f"pattern {told(rest)}"
+    if name == b"patterns" and not rest:
+        return "patterns"
+    if name == b"check" and rest and not words[0][:1].isdigit():
+        if len(words) == 1:
+            return f"check {told(words[0])} width none"
+        if words[1] == b"width" and number_of(b"".join(words[2:3])) is not None and words[3:] in ([], [b"sampled"]):
+            return f"check {told(words[0])} width {number_of(words[2])}" + " sampled" * len(words[3:])
+    return None
+
+
+def limit_says(words):
+    """The limit that words give, if they are one limit or none."""
+    if not words:
+        return "limit none"
+    is_limit = len(words) == 2 and words[0] == b"limit" and number_of(words[1]) is not None
+    return f"limit {number_of(words[1])}" if is_limit else None
+
+
+def rewrite_says(words):
+    """What the words of a line say of rewriting by some rules, or of traced rewriting, if they do."""
+    if words[:2] == [b"canon", b"trace"]:
+        says = limit_says(words[2:])
+        return says and f"trace all {says}"
+    found = words[1:] if words[0] == b"rewrite" else words[2:] if words[:2] == [b"canon", b"only"] else []
+    if not found or not tried_says(found[0]):
+        return None
+    is_traced = found[1:2] == [b"trace"]
+    says = limit_says(found[1 + is_traced:])
+    return says and f"{'trace' if is_traced else 'rewrite'} {told(found[0])} {says}"
+
+
+def about_says(words):
+    """What the words of a line say of a report of one operation or one value, if they do."""
+    if len(words) != 4 or words[0] != b"report" or words[2] != b"of" or kind_of(words[1]) is None:
+        return None
+    if op_of(words[3]):
+        return f"report {kind_of(words[1])} of op {op_of(words[3])[0]}"
+    return value_of(words[3]) and f"report {kind_of(words[1])} of value {dotted(value_of(words[3]))}"
+
+
+def text_says(text):
+    if book_says(text):
+        return book_says(text)
+    words = re.split(rb"[ \t]+", text)
+    for says in (rewrite_says, why_says, canon_at_says):
+        if says(words):
+            return says(words)
+    if words == [b"print", b"ids"]:
+        return "ids"
+    if len(words) == 2 and words[0] == b"attach" and kind_of(words[1]) is not None:
+        return f"attach {kind_of(words[1])}"
+    if about_says(words):
+        return about_says(words)
+    if words in ([b"print"], [b"begin"], [b"commit"], [b"rollback"], [b"sweep"]):
+        return words[0].decode()
+    if len(words) == 3 and words[0] == b"apply" and op_of(words[2]):
+        return apply_says(*words[1:])
+    if words == [b"canon"]:
+        return "canon"
+    if len(words) == 3 and words[:2] == [b"canon", b"limit"] and number_of(words[2]) is not None:
+        return f"canon {number_of(words[2])}"
+    if len(words) >= 3 and words[:2] == [b"convert", b"trace"]:
+        says = convert_says(words[2:])
+        return says if says == "bad" else says.replace("convert ", "convert trace ", 1)
+    if len(words) >= 2 and words[0] == b"convert":
+        return convert_says(words[1:])
+    if len(words) == 2 and words[0] == b"erase" and op_of(words[1]):
+        return f"erase {op_of(words[1])[0]}"
+    if len(words) == 3 and words[0] == b"replace" and value_of(words[1]) and value_of(words[2]):
+        return f"replace {dotted(value_of(words[1]))} {dotted(value_of(words[2]))}"
+    if len(words) == 2 and words[0] in (b"report", b"detach", b"resync") and kind_of(words[1]) is not None:
+        return f"{words[0].decode()} {kind_of(words[1])}"
+    if len(words) == 4 and words[0] == b"set-operand":
+        op, operand, value = op_of(words[1]), number_of(words[2]), value_of(words[3])
+        if op and operand is not None and value:
+            return f"set {op[0]} {operand} {dotted(value)}"
+    if len(words) >= 2 and words[0] == b"move" and op_of(words[1]):
+        spot, more = spot_of(words[2:])
+        if spot and not more:
+            return f"move {op_of(words[1])[0]} {spot}"
+    name, rest = re.fullmatch(rb"([^ \t]*)[ \t]*(.*)", text, re.S).groups()
+    if name == b"insert":
+        return insert_says(rest)
+    if name in (b"set-attr", b"drop-attr"):
+        return entry_says(name, rest)
+    return "bad"
+
+
+def line(text, want=None):
+    text = text.encode() if isinstance(text, str) else text
+    says = line_says(text)
+    assert want is None or says == want, (text, says)
+    if says not in ("bad", "nothing"):
+        case("line " + given(text), says)
+
+
+NOTHING = ["", " ", "\t\r", "//", "// x", "  //x\r", "//report uses"]
+REPORTS = {"report uses": 1, "report symbols": 2, "report diagnostics": 3, "report effects": 4, "report dead": 5,
+           "report constants": 6,
+           "report unreached": 7, "report kind0": 0, "report kind8": 8, "report kind9": 9, "report kind255": 255,
+           " \treport \t kind10\t\r": 10}
+PRINTS = ["print", "  print", "print\t", "print \r"]
+SETS = {"set-operand #3 0 %v2.0": "3 0 2.0", "set-operand\t#3\t\t0 %v2.1\r": "3 0 2.1",
+        "set-operand #003 01 %v02.0010": "3 1 2.10",
+        "set-operand #4294967295 4294967295 %v4294967295.4294967295": "4294967295 4294967295 4294967295.4294967295",
+        "set-operand #3 0 %a1.0.0": "3 0 1.0.0", "set-operand #3 1 %a1.2.3": "3 1 1.2.3",
+        "set-operand #0 00 %a001.000.4294967295": "0 0 1.0.4294967295"}
+MOVES = {"move #3 before #2": "3 before 2", "move\t#3  after\t#002\r": "3 after 2", "move #3 start #1 0": "3 start 1 0",
+         "move #3 end #1 00": "3 end 1 0",
+         "move #4294967295 end #4294967295 4294967295": "4294967295 end 4294967295 4294967295"}
+KINDS_ALONE = {"detach uses": "detach 1", "resync uses": "resync 1", "detach kind9": "detach 9",
+               "\tresync  kind255 \r": "resync 255", "detach constants": "detach 6", "resync unreached": "resync 7",
+               "attach uses": "attach 1", "\tattach  unreached \r": "attach 7", "attach kind9": "attach 9"}
+ORDERS = {"report uses of #3": "report 1 of op 3", "\treport  unreached\tof  #0003 \r": "report 7 of op 3",
+          "report kind9 of %v2.0": "report 9 of value 2.0", "report constants of %a01.2.003": "report 6 of value 1.2.3",
+          "report dead of #4294967295": "report 5 of op 4294967295",
+          "expect 20 report symbols of #9": "expects 20 NoSuchOp report 2 of op 9",
+          "rewrite 1": "rewrite [1] limit none", "rewrite 4,drop-one,0024": "rewrite [4,drop-one,0024] limit none",
+          "\tcanon  only\t1,2  limit 007\r": "rewrite [1,2] limit 7",
+          "rewrite nope,#1 limit 0": "rewrite [nope,#1] limit 0",
+          "canon only limit": "rewrite [limit] limit none", "canon only 1,1": "rewrite [1,1] limit none",
+          "rewrite -1,_": "rewrite [-1,_] limit none",
+          "canon trace": "trace all limit none", "\tcanon \t trace\tlimit  0007 \r": "trace all limit 7",
+          "canon trace limit 0": "trace all limit 0", "canon trace limit 4294967295": "trace all limit 4294967295",
+          "rewrite 1 trace": "trace [1] limit none",
+          "rewrite 4,drop-one\ttrace  limit 10": "trace [4,drop-one] limit 10",
+          "canon only 024,nope trace": "trace [024,nope] limit none",
+          "canon only trace limit 2": "rewrite [trace] limit 2", "rewrite trace": "rewrite [trace] limit none",
+          "rewrite trace trace limit 3": "trace [trace] limit 3", "canon only trace trace": "trace [trace] limit none",
+          "expect 50 canon trace limit 0": "expects 50 BadLimit trace all limit 0",
+          "expect 26 rewrite x trace": "expects 26 NoSuchKey trace [x] limit none",
+          "why #3": "why 3 all", "\twhy \t #0004294967295 \r": "why 4294967295 all", "why #3 4": "why 3 4",
+          "why #3 0030": "why 3 30", "why\t#03\tdrop-zero\r": "why 3 [drop-zero]",
+          "why #0 no_rule.x": "why 0 [no_rule.x]",
+          "why #3 -1": "why 3 [-1]", "why #3 #4": "why 3 [#4]", "why #3 //": "why 3 [//]", "why #3 all": "why 3 [all]",
+          "expect 20 why #9": "expects 20 NoSuchOp why 9 all",
+          "expect NoSuchKey why #3 nope": "expects 26 NoSuchKey why 3 [nope]",
+          "canon at #3": "canon 3 limit none", "\tcanon \t at\t#003  limit\t07 \r": "canon 3 limit 7",
+          "canon at #4294967295 limit 4294967295": "canon 4294967295 limit 4294967295",
+          "canon at #0 limit 0": "canon 0 limit 0",
+          "expect 50 canon at #3 limit 0": "expects 50 BadLimit canon 3 limit 0",
+          "convert trace partial": "convert trace partial depth none",
+          " convert\ttrace \t full\r": "convert trace full depth none",
+          "convert trace partial illegal arith.remsi,arith.subi rules 27,26 depth 1":
+              "convert trace partial illegal [arith.remsi,arith.subi] rules [27,26] depth 1",
+          "convert trace full depth 016\t rules 2,0030,2  dynamic c illegal b legal a":
+              "convert trace full legal [a] illegal [b] dynamic [c] rules [2,0030,2] depth 16",
+          "convert trace partial legal trace rules 1 depth 17":
+              "convert trace partial legal [trace] rules [1] depth 17",
+          "expect 51 convert trace full": "expects 51 NotLegalised convert trace full depth none",
+          "print ids": "ids", "\tprint  ids \r": "ids", "expect 22 erase #3": "expects 22 HasUses erase 3",
+          "expect HasUses erase #3": "expects 22 HasUses erase 3", "\texpect  0060\tnonsense\r":
+              "expects 60 BadCommand bad",
+          "expect 22": "expects 22 HasUses bad", "expect 22 // x": "expects 22 HasUses bad",
+          "expect 60 expect 60 print": "expects 60 BadCommand bad", "expect 1 print ids": "expects 1 BadToken ids",
+          "expect 42 attach dead": "expects 42 KindTaken attach 5",
+          "expect 2 insert end #0 0 x": "expects 2 Unexpected insert end 0 0 [x]"}
+BOOK_ORDERS = {"pattern p": "pattern [p]", "\tpattern \t p\targ => %a // x \r": "pattern [p\\targ => %a // x]",
+               "pattern //": "pattern [//]", "pattern 1": "pattern [1]", "pattern pattern": "pattern [pattern]",
+               "patterns": "patterns", " patterns\t\r": "patterns", "check p": "check [p] width none",
+               "\tcheck  a-b.c \r": "check [a-b.c] width none", "check width": "check [width] width none",
+               "check p\twidth  008\r": "check [p] width 8", "check width width 0": "check [width] width 0",
+               "check #1 width 4294967295": "check [#1] width 4294967295",
+               "check p width 8 sampled": "check [p] width 8 sampled",
+               "\tcheck width\twidth  00  sampled \r": "check [width] width 0 sampled",
+               "check sampled width 4294967295 sampled": "check [sampled] width 4294967295 sampled",
+               "check sampled": "check [sampled] width none", "check sampled width 9": "check [sampled] width 9",
+               "expect 50 check p width 129 sampled": "expects 50 BadLimit check [p] width 129 sampled",
+               "expect 26 check nope": "expects 26 NoSuchKey check [nope] width none",
+               "expect 4 pattern p q": "expects 4 Redefined pattern [p q]"}
+ALONE = {"begin": "begin", "\tcommit \r": "commit", "rollback\t": "rollback", "sweep": "sweep", " sweep\t\r": "sweep",
+         "erase #1": "erase 1", " erase\t#0004294967295": "erase 4294967295",
+         "replace %v1.0 %a2.0.1": "replace 1.0 2.0.1", "replace\t%a1.2.3  %v01.00\r": "replace 1.2.3 1.0",
+         "replace %v1.0 %v1.0": "replace 1.0 1.0",
+         "apply 1 #2": "apply 1 2", "\tapply  030\t#0004294967295 \r": "apply 30 4294967295",
+         "apply drop-zero #3": "apply [drop-zero] 3", "apply no_rule.x #0": "apply [no_rule.x] 0",
+         "apply -1 #3": "apply [-1] 3", "apply #1 #2": "apply [#1] 2"}
+INSERTS = {"insert end #0 0 x": "insert end 0 0 [x]",
+           "insert before #3 \"test.a\"() : () -> ()": 'insert before 3 ["test.a"() : () -> ()]',
+           "insert\tafter\t#03\t\t%a  =  \r": "insert after 3 [%a  =]",
+           "insert start #1 00 // x": "insert start 1 0 [// x]", "insert end #1 2 0": "insert end 1 2 [0]",
+           "insert before #3 #4": "insert before 3 [#4]", "insert before #1 a\rb": "insert before 1 [a\\rb]"}
+ENTRIES = {"set-attr #3 k 1 : i32": "set-attr 3 [k][1 : i32]",
+           "set-attr\t#03\t k.a$_9\t\t unit ": "set-attr 3 [k.a$_9][unit]", "drop-attr #3 k": "drop-attr 3 [k]",
+           'set-attr #3 "a b" 1': "set-attr 3 [a b][1]", 'drop-attr #3 ""': "drop-attr 3 []",
+           'drop-attr #3 "\\n\\t\\\\\\"\\4aZ"': 'drop-attr 3 [\\n\\t\\"JZ]',
+           'set-attr #0 "" unit': "set-attr 0 [][unit]", "set-attr #3 _ // x": "set-attr 3 [_][// x]",
+           "set-attr #3 k =": "set-attr 3 [k][=]",
+           'set-attr #3 "k"\t"v"': 'set-attr 3 [k]["v"]', "set-attr #3 k a\rb": "set-attr 3 [k][a\\rb]"}
+CHANGES = {"canon": "canon", "\tcanon \r": "canon", "canon limit 1": "canon 1", "canon\tlimit  0010\r": "canon 10",
+           "canon limit 0": "canon 0", "canon limit 1000001": "canon 1000001",
+           "canon limit 4294967295": "canon 4294967295", "convert partial": "convert partial depth none",
+           " convert\tfull\r": "convert full depth none",
+           "convert partial illegal arith.maxsi,arith.select rules 25":
+               "convert partial illegal [arith.maxsi,arith.select] rules [25] depth none",
+           "convert full legal builtin.module,func.func,func.return illegal arith.maxsi rules 25":
+               "convert full legal [builtin.module,func.func,func.return] illegal [arith.maxsi] rules [25] depth none",
+           "convert partial dynamic arith.constant,scf.for rules 28,29":
+               "convert partial dynamic [arith.constant,scf.for] rules [28,29] depth none",
+           "convert partial illegal arith.remsi,arith.subi rules 27,26 depth 1":
+               "convert partial illegal [arith.remsi,arith.subi] rules [27,26] depth 1",
+           "convert full depth 016\t rules 2,0030,2  dynamic c illegal b legal a":
+               "convert full legal [a] illegal [b] dynamic [c] rules [2,0030,2] depth 16",
+           "convert partial legal legal illegal depth": "convert partial legal [legal] illegal [depth] depth none",
+           "convert full legal a.b,a.b": "convert full legal [a.b,a.b] depth none",
+           "convert partial rules 1": "convert partial rules [1] depth none",
+           "convert partial depth 17": "convert partial depth 17", "convert partial depth 0": "convert partial depth 0",
+           "convert partial rules 4294967295,0 depth 4294967295":
+               "convert partial rules [4294967295,0] depth 4294967295",
+           "convert full legal \"a\",#1,//": 'convert full legal ["a",#1,//] depth none',
+           "convert full legal a\rb,\xe9": "convert full legal [a\\rb,\\xc3\\xa9] depth none"}
+BAD = """move|move #3|move #3 before|move 3 before #2|move #3 before 2|move #3 before #2 x|move #3 start #1
+move #3 start #1 0 0|move #3 end #1 x|move #3 under #1|move #3 Before #2|move #3 before# 2|move #3 start#1 0
+move #4294967296 before #2|move #3 before #4294967296|move #3 end #1 4294967296|moves #3 before #2|set-attr|set-attr #3
+set-attr #3 k|set-attr #3 k \t|set-attr 3 k 1|set-attr #3 9k 1|set-attr #3 k-a 1|set-attr #3 "k 1|set-attr #3 "k"1
+set-attr #3 "k"" 1|set-attr #3 "\\q" 1|set-attr #3 "\\4" 1|set-attr #3 "k"\r 1|set-attr #3 \r"k" 1|set-attr #3 k\r 1
+set-attr #3 \xe9 1|set-attr # k 1|set_attr #3 k 1|set-attr #3 "a\rb" 1|set-attr #3 "a\x0bb" 1|set-attr #3 @k 1
+set-attr #3 = 1|set-attr #3 // 1|drop-attr|drop-attr #3|drop-attr #3 k x|drop-attr #3 "k" x|drop-attr #3 "k
+drop-attr 3 k|drop-attr #3 9|drop-attr #3 k k|drop-attr #3 //|detach|detach uses uses|detach Uses|detach kind1
+detachuses|resync|resync uses x|resync use|resync kind256|canon x|canon 1|canon limit|canon limit x|canon limit -1
+canon limit +1|canon limit 1 x|canon limit 1 limit 1|canon limit limit|canon limits 1|canon Limit 1
+canon limit 4294967296|canon limit 1,2|canon limit #1|canon //|canonlimit 1|canonicalize|Canon|cano|canon\xa0|convert
+convert x|convert Partial|convert partial x|convert partial,full|convert partial full|convert legal a
+convert legal a partial|convert partially|converts partial|Convert full|convert partial legal|convert partial legal ,
+convert partial legal a,|convert partial legal ,a|convert partial legal a,,b|convert partial legal a, b
+convert partial legal a b|convert partial legal a legal b|convert partial legal a legal a
+convert partial legal a illegal|convert partial illegal|convert partial illegal b,,|convert partial illegal a illegal b
+convert partial dynamic|convert partial dynamic ,,|convert partial dynamic a dynamic b|convert partial rules
+convert partial rules x|convert partial rules ,|convert partial rules 1,|convert partial rules ,1
+convert partial rules 1,,2|convert partial rules 1 2|convert partial rules 1,x|convert partial rules -1
+convert partial rules +1|convert partial rules 4294967296|convert partial rules 1,4294967296
+convert partial rules 2 rules 2|convert partial rules #2|convert partial depth|convert partial depth x
+convert partial depth 1,2|convert partial depth 1 depth 1|convert partial depth 4294967296|convert partial depth -1
+convert partial depth 1 x|convert partial Legal a|convert partial legals a|convert partial rule 2
+convert partial limit 1|convert partial depth 1 legal|erase|erase 1|erase #|erase #1 x|erase #1 #2|erase #4294967296
+Erase #1|erase#1|replace|replace %v1.0|replace %v1.0 %v1|replace %v1.0 %v2.0 x|replace 1.0 %v2.0|replace %v1.0 #2
+replace %v4294967296.0 %v1.0|insert|insert end|insert end #0|insert end #0 0|insert end #0 0 \t|insert end #0 x y
+insert end 0 0 x|insert before #1|insert before #1 \t|insert before 1 x|insert under #1 x|insert end #0 4294967296 x
+insert "test.a"() : () -> ()|begin x|begin //|Begin|commit 1|commits|rollback #1|rollback  x|roll back|undo|report
+report nonsense|report Uses|report use|report uses uses|report uses \r x|reportuses|Report uses|report kind|report kind1
+report kind6|report kind07|report kind00|report kind256|report kind4294967305|report kind-1|report kind9x|report 1
+report kind7|report Unreached|report uses of|report uses of 3|report uses of #|report uses of #3 x|report of #3
+report uses #3|report uses Of #3|report uses of #3 #4|report uses of %v2|report uses of %a1.0|report use of #3
+report uses off #3|report uses of#3|report usesof #3|report uses of of #3|report kind1 of #3|report uses of #4294967296
+report uses of %v4294967296.0|report uses of %v2.0.0|report uses of @f|reports uses of #3|print of #3
+resync uses of #3|sweep x|sweep //|Sweep|sweeps|swee|sweep #1|apply|apply 1|apply #1|apply 1 #|apply 1 2
+apply 0 #1|apply 31 #1|apply 00031 #1|apply 1x #1|apply 1 #1 x|apply 4294967297 #1|apply drop-zero|apply drop-zero 3
+apply drop-zero #3 #4|apply drop zero #3|Apply 1 #2|applies 1 #2|apply 1 #4294967296|rewrite|rewrite 25|rewrite 0
+rewrite 1,|rewrite ,1|rewrite 1,,2|rewrite 1, 2|rewrite 1 2|rewrite 1,30|rewrite 1 limit|rewrite 1 limit x
+rewrite 1 limit 2 3|rewrite limit 3|rewrite 1x|rewrite 1 limits 2|rewrites 1|Rewrite 1|rewrite 4294967297
+rewrite 1 limit 4294967296|canon only|canon only 25|canon only 1 limit|canon only limit 3|canononly 1|canon Only 1
+canon only 1,|canon 1 only|canon trace x|canon trace limit|canon trace limit x|canon trace limit 1 2|canon trace 1
+canon trace limit 4294967296|canon trace only 1|canon limit 1 trace|canontrace|canon trace trace|canon Trace
+canon tracelimit 1|rewrite 1 tracelimit 1|rewrite 1trace|canon trace,1|rewrite trace limit|canon trace limit -1
+canon traces|rewrite 1 traces|rewrite 1 trace x|rewrite 1 trace trace|rewrite 1 trace limit|rewrite 1 limit 1 trace
+rewrite 25 trace|rewrite 1, trace|rewrite 1 trace limit -1|rewrite 1 trace 1|canon only 1 trace only|trace|trace limit 1
+canon only 30 trace|canon only trace limit|canon only trace x|canon at|canon at 3|canon at #|canon at #3 x
+canon at #3 limit|canon at #3 limit x|canon at #3 limit 1 2|canon at #3 limit 4294967296|canon at #3 trace|canon at#3
+canonat #3|canon At #3|canon at #4294967296|canon trace at #3|canon limit 1 at #3|canon at at #3|canon at #3 #4|why
+why 3|why #|why #3 0|why #3 31|why #3 4x|why #3 4 5|why #3 drop-zero 4|why #3 4294967300|why #4294967296|Why #3|whys #3
+why#3|why of #3|why drop-zero #3|why #3 of 4|why %v3.0|convert trace|convert trace trace|convert trace trace partial
+convert trace Partial|convert partial trace|convert traces partial|convert tracepartial|converttrace partial
+convert Trace partial|convert trace,partial|convert trace partial x|convert trace partial legal
+convert trace partial legal a,|convert trace partial legal a legal b|convert trace partial rules x
+convert trace partial rules 4294967296|convert trace partial depth 1,2|convert trace full limit 1|trace convert partial
+convert trace legal a|convert trace full trace|converts trace full
+attach|attach uses uses|attach Uses|attach kind1
+attachuses|attach x|attach #1|attach all
+print id|print idss|print ids x|print ids ids|print Ids|printids|print ids //|expect|expect print|expect 99 print
+expect 0 print|expect 22x erase #3|expect Hasuses erase #3|expect hasuses erase #3|expect -22 erase #3|Expect 22 print
+expect 4294967318 erase #3|expect22 print|expects 22 print|expect 22,23 print|expect 15 print|expect 39 print|print x
+print //|Print|prin|prints|/print|print\x0b|\x0cprint|jump|set-operand|set-operand #3|set-operand #3 0
+set-operand #3 0 %v2.0 x|set-operand 3 0 %v2.0|set-operand # 0 %v2.0|set-operand ##3 0 %v2.0|set-operand # 3 0 %v2.0
+set-operand #3 x %v2.0|set-operand #3 -1 %v2.0|set-operand #3 +1 %v2.0|set-operand #0x3 0 %v2.0|set-operand #3 0 #2
+set_operand #3 0 %v2.0|set-operand #3 0 v2.0|set-operand #3 0 %|set-operand #3 0 %v|set-operand #3 0 %v2
+set-operand #3 0 %v2.|set-operand #3 0 %v.0|set-operand #3 0 %v2.0.0|set-operand #3 0 %v2..0|set-operand #3 0 %V2.0
+set-operand #3 0 %v 2.0|set-operand #3 0 %a1.0|set-operand #3 0 %a1.0.|set-operand #3 0 %a1..0|set-operand #3 0 %a.0.0
+set-operand #3 0 %a1.0.0.0|set-operand #3 0 %b1.0.0|set-operand #4294967296 0 %v2.0|set-operand #3 4294967296 %v2.0
+set-operand #3 0 %v4294967296.0|set-operand #3 0 %v2.4294967296|set-operand #3 0 %a1.4294967296.0
+pattern|Pattern p|patterns x|patterns //|pattern|patternsp|check|check 4|check 4x|check p x|check p width
+check p width x|check p width -1|check p width 4294967296|check p width 1 2|check p Width 1|check p q width 1
+check 1 width 2|Check p|checks p|check p sampled|check p sampled width 8|check p width sampled|check 1 width 2 sampled
+check p width sampled 8|check p width 8 sample|check p width 8 Sampled|check p width 8 sampled 9|check p 8 sampled
+check p width 8 sampled sampled|check p width x sampled|check p width 4294967296 sampled|check p width 8 sampled //
+set-operand #42949672950 0 %v2.0|set-operand #99999999999999999999999 0 %v2.0""".replace("\n", "|").split("|")
+
+
+# Lines with near misses: each with a byte removed, a byte inserted, and another byte at each place.
+NEAR_MISSES = ("report uses", "report kind10", "print", "// x", "set-operand #3 10 %v2.0", "set-operand #3 0 %a1.0.2",
+               "move #3 after #2", "move #3 end #1 0", "set-attr #3 k.a 1", "set-attr #3 \"a\\n\" 1", "drop-attr #3 k",
+               "detach uses", "resync kind10", "canon limit 10", "convert full depth 2 legal a,b rules 2,25",
+               "attach dead", "print ids", "expect 22 print", "rewrite 2,drop-one limit 10", "report uses of #10",
+               "report kind10 of %v2.0", "canon trace limit 10", "rewrite 2,x trace limit 3",
+               "convert trace full depth 2", "why #3", "why #3 10", "why #3 drop-one", "canon at #3 limit 10",
+               "pattern p x", "patterns", "check p width 10", "check p width 10 sampled")
+NOT_UTF8 = ((b"// \xff", "bad"), (b"\xc3", "bad"), (b"print\xff", "bad"), (b"// \xc3\xa9", "nothing"),
+            (b"print \xc3\xa9", "bad"), (b"// \xed\xa0\x80", "bad"), (b"// \xf4\x90\x80\x80", "bad"),
+            (b"// \xf4\x8f\xbf\xbf", "nothing"), (b"// \xc0\x80", "bad"))
+
+
+def near_misses(text):
+    """A line with a byte removed, inserted, or changed, at each place."""
+    text = text.encode()
+    for place in range(len(text) + 1):
+        yield text[:place] + text[place + 1:]
+        for byte in b" \t\r/x0#.%\"\\":
+            yield text[:place] + bytes([byte]) + text[place:]
+            yield text[:place] + bytes([byte]) + text[place + 1:]
+
+
+def lines():
+    """The command that a line says, with its numbers and names, which no reply shows."""
+    for text, kind in REPORTS.items():
+        line(text, f"report {kind}")
+    for text in PRINTS:
+        line(text, "print")
+    for text, want in SETS.items():
+        line(text, "set " + want)
+    for text, want in MOVES.items():
+        line(text, "move " + want)
+    for refusal in REFUSALS:
+        for word in refusal.split():
+            line(f"expect {word} sweep", f"expects {refusal} sweep")
+    for table in (KINDS_ALONE, ALONE, INSERTS, ENTRIES, CHANGES, ORDERS, BOOK_ORDERS):
+        for text, want in table.items():
+            line(text, want)
+    for number in range(260):
+        line(f"report kind{number}")
+    for text in NEAR_MISSES:
+        for near in near_misses(text):
+            line(near)
+
+
+def slug(text):
+    """A line as a name of a case."""
+    return re.sub("[^a-z0-9]+", "-", text.lower()).strip("-") or "comment"
+
+
+def replies_to_lines():
+    """The replies to lines that say nothing or are no command, by the names of their cases:
+
+    - no-command: each form of command with a word too few, too many, or wrong, is refused by 60;
+    - nothing: empty lines and comments aren't counted;
+    - not-utf8: a line that isn't UTF-8 is refused by 60, also where it is a comment;
+    - kind-names: `report` of each name `kindN` is refused by 41, and by 60 where N is no number of a kind;
+    - near-LINE: each near miss of a line; most are refused by 60."""
+    def replied(name, sentence, texts, member=""):
+        texts = dict.fromkeys(texts)
+        title(name, sentence)
+        whole(TEXT + DIVIDER + b"".join(text + b"\n" for text in texts) + b"print\n", name=member)
+
+    lists = (("no-command", "Each form of command with a word too few, too many or wrong is refused by 60.", BAD),
+             ("nothing", "Empty lines and comments get no reply and aren't counted.", NOTHING))
+    for name, sentence, texts in lists:
+        assert {line_says(text.encode()) for text in texts} == {name.replace("no-command", "bad")}, name
+        replied(name, sentence, [text.encode() for text in texts])
+    for text, want in NOT_UTF8:
+        assert line_says(text) == want, text
+    replied("not-utf8", "A line that isn't UTF-8 is refused by 60, a comment too.", [text for text, _ in NOT_UTF8])
+    replied("kind-names", "A report of an unknown kind is refused by 41, and of a number that is no kind by 60.",
+            [b"report kind%d" % number for number in range(260)])
+    for text in NEAR_MISSES:
+        replied("near-misses", "A line that differs from a command by one character is no command, or another one.",
+                near_misses(text), slug(text))
+
+
+def words():
+    for text in [b"", b" ", b"\t", b"a", b"a ", b" a", b"a b", b"a\tb", b"a \t b c", b"a\rb c", b"ab  ", b"\r",
+                 b"a\n b"]:
+        word, blanks, rest = re.fullmatch(rb"([^ \t]*)([ \t]*)(.*)", text, re.S).groups()
+        case("word " + given(text), told(word) + told(rest))
+    for parts in itertools.product((b"", b" ", b"\t\r", b"\n", b"x", b"\xc3"), repeat=3):
+        text = b"".join(parts)
+        case("trim " + given(text), told(text.strip(b" \t\r")))
+    numbers = [0, 1, 9, 10, 255, 256, 4294967294, 4294967295, 4294967296, 4294967305, 42949672950, 2 ** 64, 10 ** 40]
+    texts = [b"%s%d%s" % (front, number, back) for number in numbers for front in (b"", b"0", b"000", b"-", b"+", b" ")
+             for back in (b"", b" ", b"x", b"_0")]
+    for text in texts + [b"", b"x", b"0x1", b"\xd9\xa3"]:
+        answer = number_of(text)
+        case("number " + given(text), "none" if answer is None else str(answer))
+    for text in [b"#" + text for text in texts] + [b"", b"#", b"##1", b"1"]:
+        answer = op_of(text)
+        case("op " + given(text), str(answer[0]) if answer else "none")
+    parts = [b"", b"0", b"07", b"4294967295", b"4294967296", b"x"]
+    for start, (one, two) in itertools.product((b"%v", b"%a", b"%", b"v", b"%V"), itertools.product(parts, repeat=2)):
+        for text in (start + one + b"." + two, start + one + b"." + two + b".3", start + one + b".3." + two, start + one
+                     + two):
+            answer = value_of(text)
+            case("value " + given(text), dotted(answer) if answer else "none")
+    kinds = [kind_word(number) for number in range(256)] + [b"kind%d" % number
+                                                            for number in range(300)] + [
+                                                                b"", b"kind", b"Uses", b"use", b"usess", b"kind-1",
+                                                                b"kind007", b"1", b"kind 9"]
+    for text in kinds:
+        answer = kind_of(text)
+        case("kind " + given(text), "none" if answer is None else str(answer))
+
+
+def split(text):
+    """The module and the script."""
+    found = re.search(rb"(?:\A|(?<=\n))// -----(?:\n|\Z)", text)
+    return (text[:found.start()], text[found.end():]) if found else (text, b"")
+
+
+def cuts():
+    rows = [("ab\n// -----\nprint\n", "ab\n", "print\n"), ("// -----\nprint", "", "print"),
+            ("ab\n// -----", "ab\n", ""), ("ab\n// -----\n", "ab\n", ""),
+            ("a\n// -----\nb\n// -----\nc", "a\n", "b\n// -----\nc"), ("// -----\n// -----\n", "", "// -----\n")]
+    rows += [(text, text, "")
+             for text in ("", "ab", "ab\nprint\n", "ab\n// ------\nprint\n", "ab\n// ----\nprint\n",
+                          "ab\n// -----\r\nprint\n", "ab\n // -----\nprint\n",
+                                           "ab\n// ----- \nprint\n", "ab\n//-----\nprint\n", "ab// -----\nprint\n",
+                                           "ab\r// -----\nprint\n")]
+    for text, module, script in rows:
+        assert split(text.encode()) == (module.encode(), script.encode()), text
+    texts = [text.encode() for text, _, _ in rows]
+    pieces = (b"// -----", b"// -----\r", b"// ----", b"/", b"", b"ab", b"// -----x")
+    for count in (1, 2, 3):
+        for parts in itertools.product(pieces, repeat=count):
+            texts += [b"\n".join(parts), b"\n".join(parts) + b"\n"]
+    for text in texts:
+        module, script = split(text)
+        case("split " + given(text), told(module) + told(script))
+    for text in (b"a\nb\nc", b"a", b"a\n", b"\na", b"a\r\nb", b"", b"\n", b"\n\n", b"\xff\n\xff"):
+        front, _, rest = text.partition(b"\n")
+        case("first " + given(text), told(front) + told(rest))
+
+
+def replies():
+    """Each call that writes, with what it writes."""
+    out = []
+    for n in (0, 1, 9, 10, 12, 99, 100, 4294967295, 4294967296, 2 ** 64 - 1):
+        out += [(f"ok {n}", f"{n} ok\n"), (f"number {n}", f"{n}"),
+                (f"refused {n} HasUses", f"{n} refused 22 HasUses\n")]
+        words = ("swept", "converged", "limit", "converted", "applied")
+        out += [(f"came {n} {word} {n}", f"{n} {word} {n}\n") for word in words]
+        out += [(f"refused-on {n} NotLegalised {op}", f"{n} refused 51 NotLegalised #{op}\n")
+                for op in (0, 2, 4294967295)]
+    for refusal in REFUSALS:
+        word = refusal.split()[1]
+        out += [(f"refused 1 {word}", f"1 refused {refusal}\n"), (f"module {word}", f"module refused {refusal}\n"),
+                (f"module {word} 16", f"module refused {refusal} at 16\n"),
+                (f"refused-at 9 {word} 17", f"9 refused {refusal} at 17\n"),
+                (f"expected 7 {word}", f"7 expected {refusal}\n"),
+                (f"attach 9 {word}", f"attach kind9 refused {refusal}\n"),
+                (f"attach 1 {word}", f"attach uses refused {refusal}\n")]
+    for offset in (0, 9, 10, 33554431, 33554432):
+        out.append((f"module TooMany {offset}", f"module refused 11 TooMany at {offset}\n"))
+        out.append((f"refused-at 4294967296 TooMany {offset}", f"4294967296 refused 11 TooMany at {offset}\n"))
+    for number in range(256):
+        word = kind_word(number).decode()
+        out += [(f"rows {number}", f"-- {word}\n"), (f"stale {number}", f"-- {word} stale\n"),
+                (f"memory {number}", f"-- {word} memory\n")]
+        out.append((f"attach {number} KindTaken", f"attach {word} refused 42 KindTaken\n"))
+    out.append(("module-memory", "-- module memory\n"))
+    for op, place in itertools.product((0, 3, 10, 4294967295), repeat=2):
+        out += [(f"op {op}", f"#{op}"), (f"value {op}.{place}", f"%v{op}.{place}"),
+                (f"value {op}.{place}.7", f"%a{op}.{place}.7"), (f"value {op}.2.{place}", f"%a{op}.2.{place}")]
+    out += [("refused 7 NotVisible", "7 refused 23 NotVisible\n"),
+            ("refused-at 1 LeftOut 10", "1 refused 13 LeftOut at 10\n"), ("value 2.0", "%v2.0"),
+            ("value 1.2.3", "%a1.2.3"), ("value 2.7", "%v2.7"), ("value 1.0.3", "%a1.0.3")]
+    return out + [("ab cd", "abcd"), ("", "")]
+
+
+def writes():
+    for refusal in REFUSALS:
+        case("refusal " + refusal.split()[1], refusal)
+    for call, text in replies():
+        case("write " + call, told(text.encode()))
+
+
+TEXT = b"""\"func.func\"() <{function_type = (i32) -> i32, sym_name = \"f\"}> ({
+^bb0(%a: i32):
+  %c = \"arith.constant\"() <{value = 2 : i32}> : () -> i32
+  %s = \"arith.addi\"(%a, %c) <{overflowFlags = #arith.overflow<none>}> : (i32, i32) -> i32
+  \"func.return\"(%s) : (i32) -> ()
+}) : () -> ()
+"""
+DIVIDER = b"// -----\n"
+
+
+def printed(first):
+    """The printed function, with this first operand of the sum."""
+    return b"""\"builtin.module\"() ({
+  \"func.func\"() <{function_type = (i32) -> i32, sym_name = \"f\"}> ({
+  ^bb0(%arg0: i32):
+    %0 = \"arith.constant\"() <{value = 2 : i32}> : () -> i32
+    %1 = \"arith.addi\"(FIRST, %0) <{overflowFlags = #arith.overflow<none>}> : (i32, i32) -> i32
+    \"func.return\"(%1) : (i32) -> ()
+  }) : () -> ()
+}) : () -> ()
+""".replace(b"FIRST", first)
+
+
+USES = b"%a1.0.0 #3 0\n%v2.0 #3 1\n%v3.0 #4 0\n"
+EDITED_USES = b"%v2.0 #3 0\n%v2.0 #3 1\n%v3.0 #4 0\n"
+PRINTED, EDITED = printed(b"%arg0"), printed(b"%0")
+EMPTY = b"\"builtin.module\"() ({\n^bb0:\n}) : () -> ()\n"
+
+
+BOXES = ("uses", "diagnostics")
+
+
+def detached(text, boxes):
+    """An input whose script drops all listeners but some before it begins."""
+    module, script_text = script.split(text)
+    dropped = b"".join(b"detach %s\n" % kind.encode() for kind in script.BOXES if kind not in boxes)
+    return module + DIVIDER + dropped + script_text
+
+
+def run(how, text, status, out, boxes=BOXES):
+    """A run with some listeners: a golden case with all of them, and where its answer speaks of one that isn't there
+    also one that drops them."""
+    assert script.run(text, how == "brief", boxes, script.ALL) == (status, out), text
+    whole(text, how == "brief")
+    if b" 41 NoSuchKind" in out and boxes != script.BOXES:
+        whole(detached(text, boxes), how == "brief", name="dropped")
+
+
+def runs():
+    """Whole runs: the status and all bytes of the output."""
+    over = TEXT + DIVIDER
+    title("refused-then-accepted", "Refused commands change nothing, and the commands after them run.")
+    commands = (b"set-operand #3 2 %v2.0\nset-operand #3 0 %v9.0\nset-operand #3 0 %v3.0\njump\nreport "
+                b"symbols\nreport uses\nprint\n")
+    replies = (b"1 refused 25 NoSuchIndex\n2 refused 21 NoSuchValue\n3 refused 23 NotVisible\n4 refused 60 "
+               b"BadCommand\n5 refused 41 NoSuchKind\n6 ok\n")
+    run("brief", over + commands, 1, replies + USES + b"7 ok\n" + PRINTED)
+    wrong = b"\"test.a\"() {a = 256 : i8} : () -> ()\n"
+    refused_value, refused_line = b"module refused 7 BadValue at 16\n", b"module refused 13 LeftOut at 10\n"
+    for name, text, status, out, sentence in (
+            ("module-refused", wrong + DIVIDER + b"print\n", 3, refused_value,
+             "If the module is refused, no line of the script is run and the status is 3."),
+            ("module-refused-without-script", wrong, 3, refused_value,
+             "A refused module without a script ends with status 3."),
+            ("empty-input", b"", 0, b"", "An empty input is an empty module without a script, and nothing is printed."),
+            ("module-without-script", TEXT, 0, b"", "A module without a script prints nothing."),
+            ("only-the-divider", DIVIDER, 0, b"", "A divider alone is an empty module with an empty script."),
+            ("print-empty-module", DIVIDER + b"print", 0, b"1 ok\n" + EMPTY,
+             "`print` shows an empty module, and the last line needs no line feed."),
+            ("print-module", over + b"print\n", 0, b"1 ok\n" + PRINTED, "`print` shows the module in MLIR's form."),
+            ("report-uses", over + b"report uses", 0, b"1 ok\n" + USES, "`report uses` shows one row for each use."),
+            ("divider-with-space", b"// ----- \nprint\n", 3, refused_line,
+             "A divider with a space after it is a comment, so the next line belongs to the module."),
+            ("divider-with-carriage-return", b"// -----\r\nprint\n", 3, refused_line,
+             "A divider with a carriage return after it is a comment, so the next line belongs to the module.")):
+        title(name, sentence)
+        for how in ("brief", "full"):
+            run(how, text, status, out)
+    title("blanks-and-comments-in-scripts", "Carriage returns, tabs, empty lines and comments in a script are skipped.")
+    returns = b"report uses\r\n\r\n// a comment\r\n \tset-operand  #3 0\t%v2.0 \r\nreport uses\r"
+    run("brief", over + returns, 0, b"1 ok\n" + USES + b"2 ok\n3 ok\n" + EDITED_USES)
+    title("script-not-utf-8", "A line of a script that isn't UTF-8 is a bad command, and the next line runs.")
+    bad = b"print \xff\nreport \xc3\x28uses\nreport uses\n"
+    run("brief", over + bad, 1, b"1 refused 60 BadCommand\n2 refused 60 BadCommand\n3 ok\n" + USES)
+    title("full-output-after-each-command", "Without `--brief` the module and all reports follow each command except "
+          "`report` and `print`, and also a refused one.")
+    listed, edited = (PRINTED + b"-- uses\n" + USES + b"-- diagnostics\n", EDITED + b"-- uses\n" + EDITED_USES
+                      + b"-- diagnostics\n")
+    commands = b"jump\nreport uses\nset-operand #3 0 %v2.0\nset-operand #0 0 %v2.0\nprint\n"
+    run("full", over + commands, 1,
+        b"1 refused 60 BadCommand\n" + listed + b"2 ok\n" + USES + b"3 ok\n" + edited + b"4 refused 25 NoSuchIndex\n"
+        + edited + b"5 ok\n" + EDITED)
+    title("diagnostics-follow-edits",
+          "An edit that breaks a return's type adds a V15 row, and the edit back removes it.")
+    wrong = b"""\"func.func\"() <{function_type = (i32, i64) -> i32, sym_name = \"g\"}> ({
+^bb0(%a: i32, %b: i64):
+  \"func.return\"(%a) : (i32) -> ()
+}) : () -> ()
+""" + DIVIDER + b"""report diagnostics
+set-operand #2 0 %a1.0.1
+report diagnostics
+set-operand #2 0 %a1.0.0
+report diagnostics
+"""
+    run("brief", wrong, 0, b"1 ok\n2 ok\n3 ok\n#2 V15\n4 ok\n5 ok\n")
+    returned = b"""\"builtin.module\"() ({
+  \"func.func\"() <{function_type = (i32, i64) -> i32, sym_name = \"g\"}> ({
+  ^bb0(%arg0: i32, %arg1: i64):
+    \"func.return\"(VALUE) -> ()
+  }) : () -> ()
+}) : () -> ()
+"""
+    other, same = returned.replace(b"VALUE", b"%arg1) : (i64"), returned.replace(b"VALUE", b"%arg0) : (i32")
+    listed = b"-- uses\n%%a1.0.%d #2 0\n-- diagnostics\n"
+    run("full", wrong, 0, b"1 ok\n2 ok\n" + other + listed % 1 + b"#2 V15\n3 ok\n#2 V15\n4 ok\n" + same + listed % 0
+        + b"5 ok\n")
+    title("stored-run-beginning", "Reports follow an edit in the first commands of the stored run of crates/mlir_work.")
+    # (each read and write of this one fails in turn in tests/faults/ends.py)
+    text = over + b"report uses\nset-operand #3 0 %v2.0\nreport uses\nprint\n"
+    run("brief", text, 0, b"1 ok\n" + USES + b"2 ok\n3 ok\n" + EDITED_USES + b"4 ok\n" + EDITED, script.BOXES)
+
+
+def byte_limits():
+    """Both sides of the limits of bytes, of a module's text, of a script's, and of an input: copies of a piece, and the
+    rest."""
+    def sized(piece, size, rest, status, out):
+        count, left = divmod(size - len(rest), len(piece))
+        assert left == 0, (piece, size, rest)
+        GOLDEN.case(["--brief"], [(count, piece)] + [(1, rest)] * bool(rest), (status, out))
+
+    title("module-of-16-mib", "A module of 16,777,216 bytes is read.")
+    sized(b"\n", 16777216, b"", 0, b"")
+    title("module-over-16-mib", "A module of 16,777,217 bytes is refused by 11 at its last byte.")
+    sized(b"\n", 16777217, b"", 3, b"module refused 11 TooMany at 16777216\n")
+    # The first divider ends the module. The others are comments of the script.
+    front = len(DIVIDER)
+    title("script-of-16-mib", "A script of 16,777,216 bytes is run.")
+    sized(DIVIDER, front + 16777216, b"print\n////", 0, b"1 ok\n" + EMPTY)
+    title("script-over-16-mib", "A script of 16,777,217 bytes is one bad command.")
+    sized(DIVIDER, front + 16777217, b"print\n/////", 1, b"1 refused 60 BadCommand\n")
+    title("input-of-32-mib", "An input of 33,554,432 bytes is read, and its script is one bad command.")
+    sized(DIVIDER, 33554432, b"//", 1, b"1 refused 60 BadCommand\n")
+    title("input-over-32-mib", "An input of 33,554,433 bytes is refused by 11 at its last byte.")
+    sized(DIVIDER, 33554433, b"///", 3, b"module refused 11 TooMany at 33554432\n")
+
+
+def due(text, refusals=(), boxes=BOXES):
+    """A run in both forms, with the answer by the rules; these refusals are among its replies, and no others."""
+    for how in ("brief", "full"):
+        status, out = script.run(text, how == "brief", boxes, script.ALL)
+        seen = set(re.findall(rb"(?m)^[0-9]+ refused ([0-9]+) ", out))
+        assert seen == {str(number).encode() for number in refusals}, (text, seen)
+        run(how, text, status, out, boxes)
+
+
+BLOCKS = b"""%a = "t.a"() : () -> i1
+"t.b"() ({
+^b0(%x: i1):
+  %c = "t.c"(%x) : (i1) -> i1
+  "t.d"(%c) : (i1) -> ()
+}, {}, {
+^b1:
+}) : () -> ()
+"t.e"(%a) <{p = 1 : i32}> {q} : (i1) -> ()
+"""
+
+
+def nested(depth):
+    return b'"t.n"() ({' * depth + b"^a:" + b"}) : () -> ()" * depth
+
+
+def moves():
+    """Operations are moved."""
+    listed = b"report uses\nprint\n"
+    for name, words, numbers, sentence in (
+            ("move-after-itself", "#2 after #2", [], "An operation can be moved after itself, which changes nothing."),
+            ("move-to-same-place", "#2 before #3", [], "An operation can be moved to the place where it is."),
+            ("move-after-previous", "#3 after #2", [], "An operation can be moved after the operation before it."),
+            ("move-before-next", "#3 before #4", [], "An operation can be moved before the operation after it."),
+            ("move-to-start-of-region", "#2 start #1 0", [], "`start` moves an operation to the front of a region."),
+            ("move-unknown-to-end", "#9 end #1 0", [20], "An operation that doesn't exist can't be moved."),
+            ("move-before-unknown", "#2 before #9", [20], "An operation can't be moved before an unknown operation."),
+            ("move-after-unknown", "#2 after #9", [20], "An operation can't be moved after an unknown operation."),
+            ("move-into-unknown", "#2 start #9 0", [20], "An operation can't be moved into an unknown operation."),
+            ("move-unknown-before-unknown", "#9 before #8", [20],
+             "If the operation and its place are unknown, the reply is 20."),
+            ("move-before-root", "#2 before #0", [29], "Nothing can be moved before the module."),
+            ("move-after-root", "#2 after #0", [29], "Nothing can be moved after the module."),
+            ("move-root-into-function", "#0 end #1 0", [29], "The module can't be moved into its own operation."),
+            ("move-root-before-itself", "#0 before #0", [29], "The module can't be moved before itself."),
+            ("move-to-missing-region", "#2 end #1 1", [25],
+             "A region index that the operation doesn't have is refused."),
+            ("move-into-op-without-regions", "#2 start #2 0", [25],
+             "The region index of an operation without regions is refused before the move into itself."),
+            ("move-unknown-to-missing-region", "#9 end #1 7", [25],
+             "The region index is checked before the operation that is moved."),
+            ("move-into-itself", "#1 end #1 0", [27], "An operation can't be moved into its own region."),
+            ("move-before-own-child", "#1 before #3", [27],
+             "An operation can't be moved before an operation inside it."),
+            ("move-before-itself", "#2 before #2", [27], "An operation can't be moved before itself."),
+            ("move-use-to-start", "#4 start #1 0", [23],
+             "A user can't be moved before the definition of its operand, to the start of the region."),
+            ("move-sum-before-constant", "#3 start #1 0", [23],
+             "A sum can't be moved before the constant that it adds."),
+            ("move-constant-to-end", "#2 end #1 0", [23], "A constant can't be moved after its user."),
+            ("move-user-before-definition", "#3 before #2", [23],
+             "A user can't be moved right before the definition of its operand."),
+            ("move-constant-out-of-function", "#2 end #0 0", [23],
+             "A constant can't be moved out of the function that uses it, since its user would precede it."),
+            ("move-sum-out-of-function", "#3 after #1", [23],
+             "A sum can't be moved out of the function whose argument it uses.")):
+        title(name, sentence)
+        due(TEXT + DIVIDER + b"move %s\n" % words.encode() + listed, numbers)
+    over = BLOCKS + DIVIDER
+    title("moves-between-regions", "Operations move into and out of regions while each operand stays visible.")
+    due(over + b"move #5 end #2 2\nmove #4 end #2 2\nmove #4 start #2 0\nmove #2 before #1\nmove #1 start #2 2\nmove "
+               b"#5 before #2\nmove #5 start #2 2\n" + listed, [23])
+    title("move-to-region-without-block", "A region without a block has no place to move to, as an index past the last "
+          "region has none.")
+    due(over + b"move #5 start #2 1\nmove #5 start #2 3\nmove #5 end #2 0\nmove #5 after #3\nmove #5 after #5\nmove "
+               b"#5 start #0 0\n" + listed, [25, 23])
+    title("move-between-symbol-tables", "An operation can't be moved from one symbol table into another one.")
+    tables = (b"\"builtin.module\"() ({^a:}) : () -> ()\n\"b\"() : () -> ()\n\"builtin.module\"() ({}) : () -> ()\n"
+              + DIVIDER)
+    due(tables + b"move #2 end #1 0\nmove #3 end #1 0\nmove #1 after #3\nmove #2 end #3 0\nprint\n", [28, 25])
+    title("move-too-deep", "A moved operation can have 128 operations around it, and is refused with 129.")
+    deep = nested(128) + b"\n" + nested(1) + b"\n" + DIVIDER
+    due(deep + b"move #129 end #127 0\nmove #129 end #128 0\nmove #129 end #0 0\n", [33])
+
+
+def entries():
+    """Entries are set and taken out."""
+    over = TEXT + DIVIDER
+    shown = b"print\nreport diagnostics\n"
+    for name, words, sentence in (
+            ("set-attribute", '#3 k 1 : i32', "`set-attr` adds a discardable attribute."),
+            ("set-property", '#3 overflowFlags #arith.overflow<nsw>', "`set-attr` sets a property that is there."),
+            ("set-key-with-blank", '#3 "a b" "x"', "A key in quotes may have a blank."),
+            ("set-empty-key", '#3 "" unit', "A key in quotes may be empty."),
+            ("set-key-with-escape", '#3 "\\4aZ" [1, @a::@b]', "An escape in a quoted key is read: `\\4aZ` is `JZ`."),
+            ("set-function-type", "#1 function_type (i32) -> i64",
+             "A function type that doesn't fit the return is accepted, and the return gets a V15 row."),
+            ("set-symbol-name-to-bool", "#1 sym_name true",
+             "A symbol name that isn't a string is accepted, and the function gets a V13 row."),
+            ("set-constant-value", "#2 value 7 : i32", "`set-attr` changes the value of a constant."),
+            ("set-constant-value-of-other-type", "#2 value 7 : i64",
+             "A constant's value of another type is accepted, and the constant gets a V14 row."),
+            ("set-extra-attribute", "#2 extra {a = unit, b = 2 : i8}",
+             "A constant can have a discardable attribute, here a dictionary."),
+            ("set-attribute-of-root", "#0 k array<i32: 1>", "The module can have attributes."),
+            ("set-attribute-with-comment", "#3 k 1 : i32 // x", "A comment may follow the attribute in the line.")):
+        title(name, sentence)
+        due(over + b"set-attr %s\n" % words.encode() + shown)
+    for name, words, sentence in (
+            ("set-value-out-of-range", "#3 k 256 : i8", "A value that its type can't hold is refused by 7."),
+            ("set-bad-token", "#3 k $", "A byte that begins no token is refused by 1."),
+            ("set-bad-token-at-unknown-op", "#9 k $",
+             "The text of an attribute is read before the operation is found."),
+            ("set-attribute-with-more-text", "#3 k 1 : i32 x", "A token after the attribute is refused by 2."),
+            ("set-unsupported-type", "#3 k f32", "A type that isn't supported is refused by 13."),
+            ("set-dictionary-with-key-twice", "#3 k {a, a}", "A dictionary with one key twice is refused by 12."),
+            ("set-unclosed-type", "#3 k (i32", "An attribute that ends in the middle is refused at its end."),
+            ("set-width-of-129", "#3 k 1 : i129", "A width over 128 is refused by 6."),
+            ("set-attribute-too-deep", "#3 k " + "[" * 33 + "]" * 33, "33 arrays in one another are refused by 10."),
+            ("set-unclosed-string", "#3 k \"x\ty", "A string that isn't closed is refused by 1."),
+            ("set-no-attribute", "#3 k // x", "A comment is no attribute: the text ends too early.")):
+        status, out = script.run(over + b"set-attr %s\n" % words.encode(), True, BOXES, script.ALL)
+        assert re.fullmatch(rb"1 refused ([1-9]|1[0-4]) [A-Za-z0-9]+ at [0-9]+\n", out), (words, out)
+        title(name, sentence)
+        due(over + b"set-attr %s\n" % words.encode() + shown, [int(out.split()[2])])
+    title("set-and-drop-unknown", "An unknown operation is refused by 20, and a key that isn't there by 26.")
+    due(over + b"set-attr #9 k 1 : i32\ndrop-attr #9 k\ndrop-attr #3 nope\ndrop-attr #3 \"over flow\"\n" + shown,
+        [20, 26])
+    title("drop-property-and-set-it-again", "A property that was dropped can't be dropped again, but set again.")
+    due(over + b"drop-attr #3 overflowFlags\ndrop-attr #3 overflowFlags\nset-attr #3 overflowFlags "
+               b"#arith.overflow<none>\n" + shown, [26])
+    title("function-type-there-and-back", "The V15 row of a wrong function type goes when the type is set back.")
+    due(over + b"set-attr #1 function_type (i32) -> i64\nreport diagnostics\nset-attr #1 function_type (i32) -> i32\n"
+        + shown)
+    title("keys-stay-where-they-are",
+          "A key stays a property or an attribute while it is set, and a dropped property of an "
+          "unregistered operation comes back as an attribute.")
+    due(BLOCKS + DIVIDER
+        + b"set-attr #5 p 2 : i32\nset-attr #5 q 2 : i32\nset-attr #5 r 2 : i32\ndrop-attr #5 p\nset-attr #5 p 3 : "
+          b"i32\ndrop-attr #5 q\ndrop-attr #5 \"r\"\n" + shown)
+    title("inherent-keys-are-properties", "`value` of a constant becomes a property, and `values` an attribute.")
+    due(over + b"drop-attr #2 value\nset-attr #2 value 3 : i32\nset-attr #2 values 3 : i32\ndrop-attr #2 values\n"
+        + shown)
+    title("entries-limit", "An operation has at most 256 attributes: the 257th is refused by 31 until one is dropped.")
+    many = b"\"t.a\"() {" + b", ".join(b"k%d" % n for n in range(256)) + b"} : () -> ()\n"
+    due(many + DIVIDER + b"set-attr #1 k unit\nset-attr #1 k7 1 : i8\ndrop-attr #1 k9\nset-attr #1 k unit\nset-attr "
+                         b"#1 l unit\n", [31])
+
+
+def wholes():
+    """Operations are inserted and erased with what is inside them, and values replaced; marks are made, and gone back
+    to."""
+    over = BLOCKS + DIVIDER
+    shown = b"report uses\nreport diagnostics\nprint\n"
+    new = b'"t.n"(%v1.0) ({^c(%y: i8): %z = "t.o"(%y) : (i8) -> i8 "t.p"(%z) : (i8) -> ()}, {}) : (i1) -> ()'
+    for name, place, where in (
+            ("insert-at-end", b"end #0 0", "at the end of the module"),
+            ("insert-before", b"before #5", "before an operation"),
+            ("insert-after", b"after #1", "after an operation"),
+            ("insert-at-start-of-region", b"start #2 0", "at the start of a region"),
+            ("insert-into-empty-block", b"end #2 2", "into a block without operations")):
+        title(name, f"An operation with inner operations is inserted {where}, erased, and inserted again with new ids.")
+        due(over + b"insert %s %s\nerase #6\ninsert %s %s\n" % (place, new, place, new) + shown)
+    for name, place, number, sentence in (
+            ("insert-user-at-start", b"start #0 0", 23, "A user can't be inserted before its operand's definition."),
+            ("insert-user-before-definition", b"before #1", 23,
+             "A user can't be inserted right before its operand's definition."),
+            ("insert-before-unknown", b"before #9", 20, "Nothing can be inserted before an unknown operation."),
+            ("insert-after-root", b"after #0", 29, "Nothing can be inserted after the module."),
+            ("insert-into-region-without-block", b"end #2 1", 25,
+             "Nothing can be inserted into a region without a block."),
+            ("insert-into-op-without-regions", b"end #1 0", 25,
+             "Nothing can be inserted into an operation without regions.")):
+        title(name, sentence)
+        due(over + b"insert %s %s\n" % (place, new) + shown, [number])
+    for name, words, numbers, sentence in (
+            ("erase-used-result", b"erase #1", [22], "An operation whose result is used can't be erased."),
+            ("erase-with-inner-operations", b"erase #2", [], "An operation is erased with all operations inside it."),
+            ("erase-used-by-next", b"erase #3", [22],
+             "An operation in a block can't be erased while the next one uses it."),
+            ("erase-user-then-definition", b"erase #5\nerase #1", [],
+             "A definition can be erased after its last user."),
+            ("erase-root", b"erase #0", [29], "The module can't be erased."),
+            ("erase-unknown", b"erase #6", [20], "An operation that doesn't exist can't be erased."),
+            ("erase-inner-after-outer", b"erase #2\nerase #3", [20],
+             "An operation that was erased with its parent doesn't exist any more."),
+            ("replace-by-block-argument", b"replace %v1.0 %a2.0.0", [23],
+             "A value can't be replaced by a block argument that its users don't see."),
+            ("replace-block-argument", b"replace %a2.0.0 %v1.0", [],
+             "A block argument can be replaced by a value defined outside."),
+            ("replace-then-erase", b"replace %v3.0 %v1.0\nerase #3", [],
+             "An operation can be erased once its result was replaced."),
+            ("replace-by-itself", b"replace %v1.0 %v1.0", [], "Replacing a value by itself changes nothing."),
+            ("replace-unknown-by-unknown", b"replace %v9.0 %v8.0", [21], "An unknown value can't be replaced."),
+            ("replace-by-unknown", b"replace %v1.0 %v8.0", [21], "A value can't be replaced by an unknown value."),
+            ("replace-by-inner-value", b"replace %v1.0 %v3.0", [23],
+             "A value can't be replaced by one inside a region that its users are outside of.")):
+        title(name, sentence)
+        due(over + words + b"\n" + shown, numbers)
+    twice = (b'%a = "t.a"() : () -> i1\n%b = "t.b"() : () -> i1\n"t.c"(%a, %b, %a) : (i1, i1, i1) -> ()\n%d = '
+             b'"t.d"(%a) : (i1) -> i8\n' + DIVIDER)
+    title("replace-there-and-back", "All uses of a value are replaced, and replaced back they are one value's; another "
+          "type is refused.")
+    due(twice + b"replace %v1.0 %v2.0\nreplace %v2.0 %v1.0\nreplace %v1.0 %v4.0\n" + shown, [24])
+    title("rollback-replace-and-erase",
+          "Two nested rollbacks undo a replacement and two erasures, and a third has no mark.")
+    due(twice + b"begin\nreplace %v1.0 %v2.0\nerase #1\nbegin\nerase #4\nrollback\nrollback\nrollback\n" + shown, [35])
+    title("commit-erase-and-insert", "A commit keeps the edits since its mark, and a second commit has no mark.")
+    due(twice + b"begin\nerase #4\ninsert end #0 0 %x = \"t.e\"() : () -> i1\ncommit\ncommit\ninsert end #0 0 "
+                b"\"t.f\"(%v5.0) : (i1) -> ()\n" + shown, [35])
+    title("marks-limit", "At most 16 marks are open: the 17th `begin` is refused by 34, and the 17th `rollback` by 35.")
+    due(twice + b"begin\n" * 17 + b"set-attr #3 k 1 : i8\n" + b"rollback\n" * 17 + shown, [34, 35])
+    title("rollback-four-kinds-of-edits",
+          "A rollback undoes a move, an operand, and an attribute that was set and dropped.")
+    due(twice + b"begin\nmove #2 before #1\nset-operand #3 0 %v2.0\ndrop-attr #3 k\nset-attr #3 k unit\ndrop-attr #3 "
+                b"k\nrollback\n" + shown, [26])
+    title("rollback-gives-ids-back", "An id that was given after a mark is given again after the rollback.")
+    due(twice + b"begin\ninsert end #0 0 \"t.e\"() : () -> ()\nrollback\ninsert end #0 0 \"t.e\"() : () -> ()\n"
+        + shown)
+    title("insert-too-deep", "An inserted operation can have 128 operations around it, and is refused with 129.")
+    deep = nested(128) + b"\n" + DIVIDER
+    due(deep + b"insert end #127 0 \"t.a\"() : () -> ()\ninsert end #127 0 \"t.a\"() ({^a:}) : () -> ()\ninsert end "
+               b"#128 0 \"t.a\"() : () -> ()\n"
+        b"insert end #127 0 \"t.a\"() ({^a: \"t.b\"() : () -> ()}) : () -> ()\n", [33])
+
+
+def panels():
+    """Analyses are dropped and begun again."""
+    over = TEXT + DIVIDER
+    title("detach-then-report", "An analysis that was detached can't be reported, begun again or detached.")
+    due(over + b"detach uses\nreport uses\nresync uses\ndetach uses\nset-operand #3 0 %v2.0\nresync "
+               b"diagnostics\nreport diagnostics\n", [41])
+    title("resync-around-edit", "An analysis that is begun again around an edit reports the edited module.")
+    due(over + b"resync uses\nset-operand #3 0 %v2.0\nresync uses\nreport uses\ndetach diagnostics\nreport "
+               b"diagnostics\nprint\n", [41])
+    title("edit-without-analyses", "Edits go on when analyses are detached, and an unknown analysis is refused by 41.")
+    due(over + b"detach kind9\nresync effects\ndetach uses\ndetach diagnostics\nmove #2 start #1 0\nprint\n", [41])
+
+
+def attaching():
+    """Analyses that were dropped are attached again."""
+    over, boxes = TEXT + DIVIDER, script.BOXES
+    for word in boxes:
+        kind = word.encode()
+        asked = b"report %s\n" % kind
+        title(f"attach-{word}-again", f"`{word}` can't be attached twice, and can be attached after it was detached.")
+        due(over + b"attach %s\ndetach %s\nattach %s\n" % (kind, kind, kind) + asked, [42], boxes)
+        title(f"attach-{word}-after-edits",
+              f"`{word}` attached after edits reports the edited module, and follows the edits after that.")
+        due(BLOCKS + DIVIDER + b"detach %s\nreplace %%v3.0 %%v1.0\nerase #3\nset-attr #1 k unit\n" % kind
+            + b"attach %s\n" % kind + asked + b"move #1 after #2\nerase #2\n" + asked
+            + b"detach %s\n" % kind + asked, [23, 41], boxes)
+    every = [kind.encode() for kind in boxes]
+    title("attach-all-in-other-order", "All analyses are detached and attached in the reverse order.")
+    due(over + b"".join(b"detach %s\n" % kind for kind in every) + b"set-operand #3 0 %v2.0\n"
+        + b"".join(b"attach %s\n" % kind for kind in every[::-1]), (), boxes)
+    title("attach-inside-mark",
+          "A rollback undoes edits for an analysis attached inside the mark, but attaches and detaches "
+          "nothing.")
+    due(over + b"begin\ndetach uses\nset-operand #3 0 %v2.0\nattach uses\nrollback\nreport uses\nbegin\n"
+               b"detach dead\nrollback\nreport dead\nattach dead\nreport dead\n", [41], boxes)
+    title("attach-unknown-kind", "A kind without an analysis is refused by 41, and one that is attached by 42.")
+    due(over + b"attach kind9\nattach kind255\ndetach kind9\nresync uses\nattach kind0\nattach dead\n", [41, 42],
+        boxes)
+
+
+def with_ids():
+    """The module is printed with the ids of its operations."""
+    for name, text, sentence in (
+            ("print-ids-of-function", TEXT, "`print ids` writes each operation's id in a comment."),
+            ("print-ids-of-regions", BLOCKS, "`print ids` numbers the operations of several regions."),
+            ("print-ids-of-empty-module", b"", "`print ids` of an empty module shows the root's id alone."),
+            ("print-ids-of-nested", nested(5) + b"\n" + BLOCKS, "`print ids` numbers operations at each depth."),
+            ("divider-after-text-of-line", nested(128),
+             "A divider that doesn't begin its line is a comment, so the script is read as the module's text."),
+            ("print-ids-of-empty-regions",
+             b'"t.a"() ({}, {}) : () -> ()\n"t.b"() ({\n^a(%x: i1, %y: i8):\n}) {k = "\\0A// #7"} : () -> ()\n',
+             "`print ids` writes an operation's id on each line of its regions, also if these are empty.")):
+        title(name, sentence)
+        due(text + DIVIDER + b"print ids\nprint\n", (), script.BOXES)
+    title("print-ids-after-edits",
+          "`print ids` shows new ids, gaps of erased operations, and the old ids after a rollback.")
+    due(BLOCKS + DIVIDER + b"insert start #2 0 \"t.n\"() ({\"t.m\"() : () -> ()}) : () -> ()\nerase #5\nprint ids\n"
+                           b"begin\nmove #1 before #0\nerase #6\nprint ids\nrollback\nprint  ids\n", [29],
+        script.BOXES)
+
+
+def expecting():
+    """Lines say how their command is to be refused: the status and the line below the reply."""
+    over, boxes = TEXT + DIVIDER, script.BOXES
+    right = (b"expect 22 erase #2\nexpect HasUses erase #2\nexpect 20 erase #9\nexpect 60 jump\n"
+             b"expect 1 set-attr #3 k $\n")
+    title("expect-refusals", "Refusals that are expected by number or by word leave the status 0.")
+    due(over + right, [22, 20, 60, 1], boxes)
+    title("expect-refused-conversions", "A refused conversion can be expected by number or by word.")
+    due(over + b"expect 51 convert full illegal arith.addi\n"
+               b"expect NotLegalised convert partial illegal arith.addi rules 25\n"
+               b"expect 54 convert partial legal a,b illegal b,c\n", [51, 54], boxes)
+    title("expect-refusals-of-other-commands", "Refusals of reports, attaching, marks and limits can be expected.")
+    due(over + b"expect 41 report kind9\nexpect 42 attach uses\nexpect 35 commit\nexpect 50 canon limit 0\n",
+        [41, 42, 35, 50], boxes)
+    for name, line, sentence in (
+            ("expect-other-number", b"expect 23 erase #2", "A refusal by another number than expected is reported."),
+            ("expect-refusal-of-accepted", b"expect 22 erase #4",
+             "An edit that isn't refused as expected is still made."),
+            ("expect-refusal-of-print", b"expect 22 print", "`print` isn't refused, which an expectation reports."),
+            ("expect-refusal-of-report", b"expect 22 report uses",
+             "A report that isn't refused as expected prints its rows after the expectation."),
+            ("expect-other-than-bad-command", b"expect 22 jump", "A bad command where 22 was expected is reported."),
+            ("expect-without-command", b"expect 22",
+             "`expect` without a command is a bad command that wasn't expected."),
+            ("expect-unknown-number", b"expect 99 erase #2",
+             "`expect` with a number of no refusal is a bad command as a whole."),
+            ("expect-without-number", b"expect erase #2",
+             "`expect` with a word of no refusal is a bad command as a whole."),
+            ("expect-bad-command-of-print-ids", b"expect 60 print ids",
+             "`print ids` is no bad command, which an expectation reports."),
+            ("expect-other-fault-of-text", b"expect 2 set-attr #3 k $",
+             "A text refused by 1 isn't the 2 that is expected."),
+            ("expect-other-fault-of-conversion", b"expect 54 convert partial illegal arith.addi",
+             "A conversion refused by 51 isn't the 54 that is expected."),
+            ("expect-bad-expect", b"expect 60 expect 22",
+             "An `expect` inside an `expect` is the expected bad command."),
+            ("expect-twice", b"expect 22 expect 22 erase #2",
+             "An `expect` inside an `expect` is a bad command, whatever is behind it."),
+            ("expect-memory", b"expect 36 begin", "A mark that is made where 36 was expected is reported."),
+            ("expect-refusal-of-insert", b"expect 35 insert end #0 0 \"t.a\"() : () -> ()",
+             "An insertion that isn't refused as expected is made, and its id comes first."),
+            ("expect-comment", b"expect 22 // x", "A comment is no command: `expect` alone is a bad command."),
+            ("comment-with-expect", b"// expect 22 x", "An `expect` in a comment is skipped."),
+            ("expect-command-with-more-words", b"expect 22 erase #2 #2",
+             "A command with a word too many is a bad command where 22 was expected."),
+            ("expect-refusal-of-canon", b"expect 22 canon", "`canon` converges where a refusal was expected."),
+            ("expect-refusal-of-sweep", b"expect 22 sweep", "`sweep` succeeds where a refusal was expected.")):
+        text = over + right + line + b"\nreport uses\n"
+        title(name, sentence)
+        for brief in (True, False):
+            whole(text, brief)
+    title("expect-beside-unexpected", "A refusal that isn't expected makes the status 1, also next to expected ones.")
+    due(over + b"expect 22 erase #2\nerase #2\nexpect 22 erase #2\n", [22], boxes)
+    title("expect-inside-mark", "An edit that wasn't refused as expected is undone by a rollback like any other.")
+    due(over + b"begin\nexpect 22 erase #2\nexpect 22 erase #4\nrollback\nprint\n", [22], boxes)
+
+
+def rewriting():
+    """Some rules are tried, in an order of their own."""
+    boxes = script.BOXES
+    text = sums(6) + DIVIDER
+    for name, rules, sentence in (
+            ("rewrite-erase-unused", b"1", "`rewrite 1` alone finds no unused operation among sums that are used."),
+            ("rewrite-fold", b"2", "`rewrite 2` folds six sums of constants, and leaves the constant unused."),
+            ("rewrite-swap", b"3", "`rewrite 3` swaps no operands if both are constants."),
+            ("rewrite-drop-zero", b"4", "`rewrite 4` drops no operand if no constant is zero."),
+            ("rewrite-erase-or-fold", b"1,2", "`rewrite 1,2` folds six sums and erases the constant."),
+            ("rewrite-fold-or-erase", b"2,1", "`rewrite 2,1` does the same in the other order of rules."),
+            ("rewrite-four-rules", b"4,3,2,1", "Rules that don't apply change nothing in a list of four."),
+            ("rewrite-by-names", b"fold-to-constant,swap-constant", "Rules can be called by their names."),
+            ("rewrite-names-and-numbers", b"drop-zero,10,1", "Names and numbers of rules can be mixed in a list."),
+            ("rewrite-last-rule", b"24", "`rewrite 24` finds nothing in sums of constants."),
+            ("rewrite-rules-twice", b"1,1,2,2", "A rule may be in a list twice."),
+            ("rewrite-all-rules", b",".join(b"%d" % number for number in range(1, 25)),
+             "All 24 rules in their order fold the sums and erase the constant."),
+            ("rewrite-all-rules-backwards", b",".join(b"%d" % number for number in range(24, 0, -1)),
+             "All 24 rules in the reverse order come to the same module.")):
+        title(name, sentence)
+        due(text + b"begin\nrewrite %s\nprint\nrewrite %s\nrollback\ncanon only %s limit 2\n" % (rules, rules, rules)
+            + b"report constants\nprint\n", (), boxes)
+    title("rewrite-refused",
+          "Numbers of conversion rules, unknown names, limits outside 1 to 1,000,000 and lists that end "
+          "too early are refused.")
+    due(text + b"rewrite 25\nrewrite 1,30\nrewrite lower-loop\nrewrite nope\nrewrite 1,nope\nrewrite nope,25\n"
+               b"rewrite 1 limit 0\nrewrite nope limit 0\nrewrite 1 limit 1000001\nrewrite 1 limit 1000000\n"
+               b"rewrite 1,\n"
+               b"canon only\ncanon only 1 limit\nexpect 26 canon only nope\n", [60, 26, 50], boxes)
+    title("rewrite-with-limit-of-run", "`--limit 1` limits each `rewrite` to one rewrite.")
+    whole(text + b"rewrite 2\nrewrite 1,2,3,4\nprint\n", True, 1)
+
+
+def sweeps():
+    """A sweep erases all unreachable private symbols, or none."""
+    shown = b"report unreached\nreport symbols\nprint\n"
+    private = b'<{function_type = () -> (), sym_name = "%s", sym_visibility = "private"}>'
+    one = b'"func.func"() ' + private + b" ({}) : () -> ()\n"
+    call = b'"func.call"() <{callee = @%s}> : () -> ()\n'
+    caller = b'"func.func"() ' + private + b" ({\n" + call + b'"func.return"() : () -> ()\n}) : () -> ()\n'
+    boxes = script.BOXES
+    title("sweep-empty-module", "`sweep` of an empty module sweeps nothing.")
+    due(DIVIDER + b"sweep\nsweep\n" + shown, [41], boxes[:1])
+    for name, text, sentence in (
+            ("one-private", one % b"f", "a private function that nothing calls"),
+            ("called-private", one % b"f" + call % b"f", "nothing if the private function is called"),
+            ("private-cycle", caller % (b"f", b"g") + caller % (b"g", b"f") + one % b"h" + call % b"h",
+             "two private functions that only call each other, and not one that is called"),
+            ("second-of-one-name", one % b"f" + one % b"f" + call % b"f",
+             "the second of two private functions of one name, since a call reaches the first")):
+        title(f"sweep-{name}", f"`sweep` erases {sentence}.")
+        due(text + DIVIDER + b"sweep\n" + shown + b"sweep\n", (), boxes)
+        title(f"sweep-{name}-rolled-back", f"A rollback undoes `sweep`, which erases {sentence}.")
+        due(text + DIVIDER + b"begin\nsweep\nset-attr #0 k unit\nrollback\n" + shown + b"sweep\nbegin\ncommit\n"
+            + shown, (), boxes)
+    title("sweep-nested-module",
+          "A private module is swept with the two private functions inside it, which are counted.")
+    due(b'"builtin.module"() <{sym_name = "m", sym_visibility = "private"}> ({\n' + one % b"f" + caller % (b"g", b"f")
+        + b'}) : () -> ()\n"test.b"() : () -> ()\n' + DIVIDER + b"begin\nsweep\n" + shown + b"rollback\n" + shown, (),
+        boxes)
+    title("sweep-used-result", "If a private symbol's result is used, `sweep` is refused by 22 and erases nothing.")
+    used = b'%0 = "func.func"() ' + private % b"p" + b' ({}) : () -> i32\n"test.u"(%0) : (i32) -> ()\n'
+    due(one % b"f" + used + one % b"g" + DIVIDER + b"sweep\nbegin\nsweep\n" + shown + b"rollback\nerase #3\nsweep\n"
+        + shown, [22], boxes)
+    title("sweep-user-with-definition", "A private symbol whose user is a private symbol is swept, since the last one "
+          "goes first.")
+    due(used.replace(b"test.u", b"func.func").replace(b"(%0)",
+                                                      b'(%0) <{sym_name = "q", sym_visibility = "private"}> ({})')
+                                                      + DIVIDER + b"sweep\n" + shown, (), boxes)
+
+
+def whole_cut(text):
+    """A golden case of all beginnings of a module's text."""
+    answers = [script.run(text[:count], True, script.BOXES, script.ALL) for count in range(len(text))]
+    GOLDEN.case(["--brief"], text, golden.cut_text(answers), True)
+
+
+def sums(count):
+    """A module in which so many rewrites can be made: sums of two constants, each used."""
+    one = b'%0 = "arith.constant"() <{value = 1 : i32}> : () -> i32\n'
+    used = b'%%%d = "arith.addi"(%%0, %%0) : (i32, i32) -> i32\n"t.u"(%%%d) : (i32) -> ()\n'
+    return one + b"".join(used % (number, number) for number in range(1, count + 1))
+
+
+def command_lines():
+    """What the words of a command line ask for, or what is printed of them, and whether that is a fault."""
+    help_text = pathlib.Path("tools/help.txt").read_bytes()
+    usage, more = b"\n\nUsage: mlir_work [OPTIONS] [MODULE]\n", b"\nFor more information, try '--help'.\n"
+
+    def limited(words, limit, count):
+        text = sums(count) + DIVIDER + b"canon\n"
+        brief = "--brief" in words
+        status, out = script.run(text, brief, script.BOXES, script.ALL, limit)
+        # One rewrite folds a sum, and the last erases the constant.
+        said = b"1 limit %d\n" % limit if count >= limit else b"1 converged %d\n" % (count + 1)
+        assert out.startswith(said), out[:80]
+        GOLDEN.case(words.split(), text, (status, out))
+
+    def wrong(words, why):
+        GOLDEN.case(words, b"", (2, b"error: " + why))
+
+    for name, words, limit, sentence in (
+            ("limit-word", "--limit 5", 5, "`--limit 5` ends `canon` after five rewrites."),
+            ("limit-with-equals-sign", "--limit=5", 5, "`--limit=5` is `--limit 5`."),
+            ("limit-with-zeros", "--limit 0010", 10, "A limit may have zeros in front."),
+            ("limit-of-one", "--limit 1", 1, "1 is the least limit."),
+            ("limit-of-a-million", "--limit 1000000", 1000000, "1,000,000 is the largest limit."),
+            ("limit-with-plus", "--limit +5", 5, "A limit may have a plus sign.")):
+        title(name, sentence)
+        limited(words, limit, 11)
+        limited(words + " --brief", limit, 11)
+    # (by hand, since the rules search a module from its root for each rewrite)
+    for name, count, reply, sentence in (
+            ("default-limit-kept", 999, b"1 converged 1000\n", "1,000 rewrites are within the default limit."),
+            ("default-limit-reached", 1000, b"1 limit 1000\n", "The default limit is 1,000 rewrites.")):
+        title(name, sentence)
+        GOLDEN.case(["--brief"], sums(count) + DIVIDER + b"canon\n", (0, reply))
+    title("no-words", "Without words the module and all reports follow each command.")
+    limited("", script.LIMIT, 2)
+    for name, words, why, sentence in (
+            ("limit-out-of-range", ("0", "1000001", "4294967297", "-1"), "{} is not in 1..=1000000",
+             "A limit outside 1 to 1,000,000 is a usage error."),
+            ("limit-not-a-number", ("x", "1.5", "1_0"), "invalid digit found in string",
+             "A limit that isn't an integer is a usage error."),
+            ("limit-empty", ("",), "cannot parse integer from empty string", "An empty limit is a usage error."),
+            ("limit-over-64-bits", ("99999999999999999999",), "number too large to fit in target type",
+             "A limit of more than 64 bits is a usage error.")):
+        title(name, sentence)
+        for word in words:
+            told = f"invalid value '{word}' for '--limit <N>': {why.format(word)}\n"
+            wrong([f"--limit={word}"], told.encode() + more)
+    title("limit-without-value", "`--limit` without a value is a usage error.")
+    for words in ("--limit", "--limit --brief", "--brief --limit"):
+        wrong(words.split(), b"a value is required for '--limit <N>' but none was supplied\n" + more)
+    title("limit-twice", "`--limit` can be given once.")
+    wrong("--limit 5 --limit 5".split(), b"the argument '--limit <N>' cannot be used multiple times" + usage + more)
+
+    def unexpected(words, word):
+        tip = f"\n\n  tip: to pass '{word}' as a value, use '-- {word}'"
+        wrong(words.split(), f"unexpected argument '{word}' found{tip}".encode() + usage + more)
+
+    title("unreadable-module-file",
+          "A word that is no option is a module's file, and one that can't be read is reported.")
+    wrong("--limit 5 6".split(), b"6: it can't be read\n")
+    wrong(["x"], b"x: it can't be read\n")
+    title("unknown-option", "An unknown option is a usage error, which says how to pass it as a value.")
+    unexpected("--limit -1", "-1")
+    unexpected("-l 5", "-l")
+    unexpected("--nonsense", "--nonsense")
+    unexpected("-b", "-b")
+    title("help", "`--help` prints the help, whatever other options there are.")
+    for words in ("--help", "-h", "--brief --help", "--format json --brief --help", "--patterns x --help"):
+        GOLDEN.case(words.split(), b"", (0, help_text))
+    title("version", "`--version` prints the program's name and version.")
+    for words in ("--version", "-V"):
+        GOLDEN.case([words], b"", (0, b"mlir_work %s\n" % VERSION))
+    title("flag-twice", "A flag can be given once.")
+    wrong(["--interactive", "--interactive"],
+          b"the argument '--interactive' cannot be used multiple times" + usage + more)
+    for word in ("--brief", "--opaque", "--explain"):
+        wrong([word, word], f"the argument '{word}' cannot be used multiple times".encode() + usage + more)
+    formats = b"\n  [possible values: text, json]\n" + more
+    title("unknown-format", "`--format` takes `text` or `json`, and the error lists them.")
+    for word in ("xml", "JSON"):
+        wrong([f"--format={word}"], f"invalid value '{word}' for '--format <FORMAT>'".encode() + formats)
+    title("format-without-value", "`--format` without a value is a usage error.")
+    for word in ("--format", "--format="):
+        wrong([word], b"a value is required for '--format <FORMAT>' but none was supplied" + formats)
+    title("format-twice", "`--format` can be given once.")
+    wrong("--format json --format text".split(),
+          b"the argument '--format <FORMAT>' cannot be used multiple times" + usage + more)
+    title("format-with-interactive", "`--interactive` and `--format` exclude each other.")
+    for word in ("text", "json"):
+        wrong(["--interactive", "--format", word],
+              b"the argument '--interactive' cannot be used with '--format <FORMAT>'"
+              + usage.replace(b"[OPTIONS]", b"--interactive") + more)
+    # Types and attributes that aren't known, which are kept where that is asked for.
+    kept = (b'%0 = "t.a"() {x = 1.0 : f32, y = #d.a<b>} : () -> tensor<4xf32>\n' + DIVIDER
+            + b'insert end #0 0 "t.b"(%v1.0) : (tensor<4xf32>) -> !d.t\nset-attr #2 z dense<0.5> : tensor<4xf32>\n'
+            + b"set-attr #1 x array<f32: 1.0>\nset-attr #1 y 1.0 : i32\nreport uses\nprint\n")
+    title("opaque", "`--opaque` keeps types and attributes that aren't supported as they are written.")
+    for words in ("--opaque", "--opaque --brief"):
+        GOLDEN.case(words.split(), kept, script.run_opaque(kept, "--brief" in words))
+    title("not-opaque", "Without `--opaque` a module with a float is refused.")
+    GOLDEN.case(["--brief"], kept, script.run(kept))
+    # The example of the help.
+    example = re.search(rb"<<'END'\n(.*)  END\n(.*)", help_text, re.S)
+    module, out = (re.sub(rb"(?m)^  ", b"", part) for part in example.groups())
+    title("example-of-help", "The example of `--help` prints what the help says.")
+    run("brief", module, 0, out, script.BOXES)
+    # Files of patterns that can't be read, before whatever else (tools/tests/test_own_patterns.py has those that can).
+    title("patterns-without-value", "`--patterns` without a value is a usage error.")
+    for words in ("--patterns", "--patterns --brief", "--patterns x --patterns"):
+        wrong(words.split(), b"a value is required for '--patterns <FILE>' but none was supplied\n" + more)
+    title("patterns-with-option-as-value", "An option isn't taken for the value of `--patterns`.")
+    unexpected("--patterns -x", "-x")
+    title("unreadable-pattern-file",
+          "A file of patterns that can't be read is reported before other words are looked at.")
+    for words in ("--patterns x", "--patterns=x", "--patterns x y -s z", "--patterns x -o /dev/null/y -e print",
+                  "--patterns x --patterns y", "--patterns x --interactive", "--patterns x --format json"):
+        wrong(words.split(), b"x: it can't be read\n")
+    title("pattern-file-of-no-file", "An empty name, `-`, a folder and a path below a device are no files of patterns.")
+    for name in ("", "-", ".", "/dev/null/x"):
+        wrong([f"--patterns={name}"], f"{name}: it can't be read\n".encode())
+    title("format-with-interactive-and-patterns", "A usage error is reported before files of patterns are read.")
+    wrong("--patterns x --interactive --format json".split(),
+          b"the argument '--interactive' cannot be used with '--format <FORMAT>'"
+          + usage.replace(b"[OPTIONS]", b"--patterns <FILE> --interactive") + more)
+    title("empty-pattern-file", "A file of patterns may be empty.")
+    text = TEXT + DIVIDER + b"patterns\nreport uses\n"
+    GOLDEN.case("--patterns /dev/null --brief".split(), text, script.run(text))
+
+
+def interactive():
+    """Runs that answer each line as soon as it arrives: the output, whenever it is written."""
+    def lived(text, *words):
+        limit = int(words[words.index("--limit") + 1]) if "--limit" in words else script.LIMIT
+        answer = live.run(text, "--brief" in words, limit)
+        # (a whole run writes the same, but for the ends)
+        whole = script.run(text, "--brief" in words, limit=limit)
+        assert answer[0] == whole[0] and answer[1].replace(b"\n\n", b"\n").lstrip(b"\n") == whole[1], text
+        GOLDEN.case(["--interactive", *words], text, answer, name="brief" if "--brief" in words else "full")
+
+    looks = b"report uses\n// none\n\nprint\njump\n\xff\nreport dead"
+    edits = b"set-operand #3 0 %v2.0\nbegin\nerase #3\nset-attr #3 k 256 : i8\nmove #9 end #1 0\nrollback\nprint\n"
+    for name, text, sentence in (
+            ("empty-input", b"", "An empty input is a module, for which an empty line is written."),
+            ("divider", DIVIDER, "A divider alone is an empty module."),
+            ("divider-without-line-feed", DIVIDER[:-1], "A last line without a line feed is a divider too."),
+            ("module", TEXT, "A module without a divider is read at the end of the input."),
+            ("module-and-divider", TEXT + DIVIDER, "A module is read when its divider is there."),
+            ("module-and-divider-without-line-feed", TEXT + DIVIDER[:-1],
+             "A module is read when its divider ends the input."),
+            ("module-refused", b'"a"(', "A module that ends too early is refused at the end of the input."),
+            ("module-refused-before-script", b'"a"(\n' + DIVIDER + looks,
+             "If the module is refused, no line of the script is answered."),
+            ("last-line-without-line-feed", TEXT + DIVIDER + looks, "A last line without a line feed is answered."),
+            ("last-line-with-line-feed", TEXT + DIVIDER + looks + b"\n",
+             "A line feed after the last line changes no reply."),
+            ("edits", TEXT + DIVIDER + edits, "Edits, refusals and a rollback are answered line by line."),
+            ("divider-in-script", TEXT + DIVIDER + edits + DIVIDER + looks,
+             "A second divider is a comment of the script."),
+            ("two-dividers", DIVIDER + DIVIDER + b"print\n", "A divider right after the divider is a comment."),
+            ("divider-with-space", b"// ----- \n" + DIVIDER + b"print\n",
+             "A divider with a space after it is a comment of the module."),
+            ("carriage-returns", TEXT.replace(b"\n", b"\r\n") + DIVIDER + b"print\r\nreport uses\r\n",
+             "Lines of the module and of the script may end with a carriage return and a line feed.")):
+        title(f"interactive-{name}", f"{sentence[:-1]}, with `--interactive`.")
+        for words in ((), ("--brief",)):
+            lived(text, *words)
+    title("interactive-limits", "`--limit` limits each command of an interactive run, and `limit` one command.")
+    for words in (("--limit", "2"), ("--brief", "--limit", "4"), ()):
+        lived(sums(3) + DIVIDER + b"canon\ncanon limit 1\ncanon\nprint\n", *words)
+    # All beginnings of a short input.
+    title("interactive-prefixes", "Each prefix of a short input has the replies to the lines that are there.")
+    short = b'%0 = "t.a"() : () -> i8\n' + DIVIDER + b"erase #1\nprint\n"
+    answers = [live.run(short[:count]) for count in range(len(short))]
+    GOLDEN.case(["--brief", "--interactive"], short, golden.cut_text(answers), True)
+    # Both sides of the limit of a line, and a script that has no limit as a whole.
+    line, told = b"1 ok\n\n", b"2 ok\n\n"
+    for name, size, status, sentence in (
+            ("interactive-line-of-16-mib", MOST_LINE, 0, "A line of 16,777,216 bytes is read."),
+            ("interactive-line-over-16-mib", MOST_LINE + 1, 4,
+             "A line of 16,777,217 bytes ends the run with status 4.")):
+        title(name, sentence)
+        pieces = [(1, DIVIDER + b"report dead\n//"), (size - 3, b" "), (1, b"\nreport dead\n")]
+        GOLDEN.case(["--brief", "--interactive"], pieces, (status, b"\n" + line + told * (status == 0)))
+    title("interactive-script-over-16-mib", "The script of an interactive run may have more than 16,777,216 bytes.")
+    pieces = [(1, DIVIDER), (MOST_LINE // 8 + 2, b"//      \n"), (1, b"report dead\n")]
+    GOLDEN.case(["--brief", "--interactive"], pieces, (0, b"\n" + line))
+    title("interactive-module-over-16-mib", "A module of 16,777,217 bytes is refused at its last byte.")
+    GOLDEN.case(["--brief", "--interactive"], [(16777217, b"\n")], (3, b"module refused 11 TooMany at 16777216\n"))
+
+
+def over_limits():
+    """The texts of commands that pass a limit: of regions, of results, of entries."""
+    regions = b", ".join([b"{}"] * 17)
+    entries = b", ".join(b"k%d" % number for number in range(257))
+    for name, line, sentence in (
+            ("regions-over-limit", b'insert end #0 0 "a"() (' + regions + b") : () -> ()",
+             "An inserted operation with 17 regions is refused by 11."),
+            ("results-over-limit", b'insert end #0 0 %a:257 = "a"() : () -> ()',
+             "An inserted operation with 257 results is refused by 11."),
+            ("dictionary-over-limit", b"set-attr #0 x {" + entries + b"}",
+             "A dictionary with 257 entries is refused by 11.")):
+        title(name, sentence)
+        text = DIVIDER + line + b"\nprint\n"
+        status, out = script.run(text, True, BOXES, script.ALL)
+        assert out.startswith(b"1 refused 11 TooMany at "), out
+        run("brief", text, status, out)
+
+
+def refused():
+    """Each input of docs/REFUSALS.md, and of docs/VERIFIER.md."""
+    for text, answer, _ in refusals.rows():
+        number, word = re.search(r"refused ([0-9]+) ([A-Za-z0-9]+)", answer).groups()
+        slug = re.sub("(?<=[a-z])(?=[A-Z0-9])", "-", word).lower()
+        title(f"refusal-{number}-{slug}",
+              f"Inputs of docs/REFUSALS.md are refused by {number} ({word}) as the page says.")
+        run("brief", text, 3 if answer.startswith("module") else 1, answer.encode() + b"\n")
+    for text, row, _ in refusals.broken():
+        rule = row.split()[1]
+        title(f"broken-{rule.lower()}", f"The module of docs/VERIFIER.md for {rule} breaks it as the page says.")
+        run("brief", text + DIVIDER + b"report diagnostics\n", 0, f"1 ok\n{row}\n".encode())
+
+
+def worked():
+    """Each row of tests/generate/worked_rows.txt, with all listeners."""
+    for row in worked_rows.rows():
+        title(row.name, row.sentence)
+        limit = re.search("--limit ([0-9]+)", row.options)
+        status, out = script.run(row.input, "--brief" in row.options, script.BOXES, script.ALL, int(limit[1]) if limit
+                                 else script.LIMIT)
+        assert (status, worked_rows.is_output(row, out)) == (row.status, True), row.input
+        words = row.options.replace("full", "").split()
+        GOLDEN.case(words, row.input, (status, out))
+
+
+def beginnings():
+    """The first text, cut after each byte: a module, or none."""
+    for count in range(len(TEXT)):
+        status, out = script.run(TEXT[:count], True, script.BOXES, script.ALL)
+        said = re.fullmatch(rb"module refused [0-9]+ [A-Z][A-Za-z0-9]+ at [0-9]+\n", out)
+        assert (status, out) == (0, b"") or status == 3 and said, count
+    title("prefixes-of-module", "Each prefix of a module's text is read or refused where it ends.")
+    whole_cut(TEXT)
+
+
+def analyses(kinds, text, brief=True, name=""):
+    """A case of a run with some listeners; gives what is written."""
+    _, out = script.run(text, brief, kinds, script.ALL)
+    whole(text, brief, name=name)
+    if b" 41 NoSuchKind" in out and set(kinds) != set(script.BOXES):
+        whole(detached(text, kinds), brief, name=f"{name}-dropped".lstrip("-"))
+    return out
+
+
+GOLDEN_PARTS = {
+    "runs": (runs, moves, entries, wholes, panels, attaching, with_ids, expecting, rewriting, sweeps, over_limits,
+             beginnings, byte_limits, interactive, replies_to_lines),
+    "pages": (refused, worked),
+    "command_line": (command_lines,),
+}
+
+
+def main():
+    decided.name_program()
+    print("seeds", analyses_cases.SEED, verifier_cases.SEED, heard_cases.SEED, conversion_cases.SEED,
+          own_pattern_cases.SEED, trace_cases.SEED, convert_trace_cases.SEED, why_cases.SEED)
+    for part in (lines, words, cuts, writes):
+        part()
+    for area, parts in GOLDEN_PARTS.items():
+        for part in parts:
+            GOLDEN.begin(f"{area}/{part.__name__}")
+            part()
+    analyses_cases.all_cases(analyses, GOLDEN.begin, title)
+    about_cases.all_cases(analyses, GOLDEN.begin, title)
+    conversion_cases.all_cases(analyses, GOLDEN.begin, title)
+    own_pattern_cases.all_cases(whole, GOLDEN.begin, GOLDEN.case, title)
+    GOLDEN.begin("patterns/named")
+    named_pattern_cases.all_cases(GOLDEN.case)
+    for part in (trace_cases, convert_trace_cases, why_cases, explained_cases):
+        part.all_cases(GOLDEN.case, GOLDEN.begin, title)
+    heard_cases.all_cases(case, GOLDEN.case, GOLDEN.begin, title)
+    GOLDEN.begin("rules/applied")
+    rule_cases.all_cases(GOLDEN.case, case)
+    TABLE.write("mlir_work_cases")
+    GOLDEN.write()
+    decided.write()
+
+
+if __name__ == "__main__":
+    main()
