@@ -2,7 +2,7 @@
 
 Importing this module puts the top and the folder of the Python package on the import path. A script that is started by
 its path imports this module first, and then finds `mlir_work`, `oracle`, `tests`, `benchmarks`, `gate` and `tools`.
-Each folder with such scripts has a link to this file."""
+Each folder with such scripts has a checkout.py of its own that runs this one."""
 import pathlib
 import sys
 
