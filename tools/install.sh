@@ -1,12 +1,13 @@
 #!/bin/sh
 # Installs the program `mlir_work` that `./run` starts; the command line `mlir-work`, which needs Python 3; a man page;
-# completions for bash and zsh; and the Python package, in share/mlir_work/python. MLIR_WORK selects another program.
+# completions for bash and zsh; the pages for users, in share/doc/mlir_work; and the Python package, in
+# share/mlir_work/python. MLIR_WORK selects another program.
 # If there is a library of these sources, or MLIR_WORK_ARCHIVE names one, it also installs the library in lib/, its
 # headers in include/, and the Rust crates in share/mlir_work/rust.
 #
 # usage: tools/install.sh PREFIX
 set -eu
-[ $# -eq 1 ] || { sed -n '2,7s/^# \{0,1\}//p' "$0" >&2; exit 2; }
+[ $# -eq 1 ] || { sed -n '2,8s/^# \{0,1\}//p' "$0" >&2; exit 2; }
 mkdir -p "$1"
 prefix=$(cd "$1" && pwd)
 here=$(cd "$(dirname "$(readlink -f "$0")")/.." && pwd)
@@ -50,6 +51,13 @@ made bash >"$prefix/share/bash-completion/completions/mlir_work"
 ln -sf mlir_work "$prefix/share/bash-completion/completions/mlir-work"
 made zsh >"$prefix/share/zsh/site-functions/_mlir_work"
 
+# The pages for users.
+pages=$prefix/share/doc/mlir_work
+mkdir -p "$pages"
+for page in GUIDE COOKBOOK PATTERNS FROM_MLIR_OPT CANONICALIZE CONVERT VERIFIER REPORTS REFUSALS OPERATIONS JSON EMBED; do
+    cp "$here/docs/$page.md" "$pages"
+done
+
 # This file is in the folder of the package, so that Python finds the package.
 cat >"$share/python/mlir-work" <<'END'
 from mlir_work.cli.main import start
@@ -67,4 +75,4 @@ MLIR_WORK_INSTALLED=$prefix/bin/mlir_work exec python3 "$prefix/share/mlir_work/
 END
 chmod 755 "$prefix/bin/mlir-work"
 echo "installed in $prefix: bin/mlir_work, bin/mlir-work, share/man/man1/mlir_work.1, completions for bash and zsh,
-share/mlir_work/python$library"
+share/doc/mlir_work, share/mlir_work/python$library"

@@ -12,6 +12,8 @@ from . import generic, messages, mistakes, program
 from .forms import looks
 from .listing import MADE, listed
 
+# The number with which unsupported constructs are refused.
+LEFT_OUT = 13
 BEHIND = "    note: this insert used no operation number: later inserts have lower numbers than if it were accepted"
 
 
@@ -82,11 +84,11 @@ def commands_refused(name, parts, first, replies, kept=()):
 
 
 def explained(names):
-    """Runs the files. Returns the status, and the lines that explain what was refused. A refused module is converted to
-    generic form and tried again."""
+    """Runs the files. Returns the status, and the lines that explain what was refused. If the module has an unsupported
+    construct, such as a custom form, mlir-opt converts it first."""
     module, script, first = program.inputs(names)
     done = program.ran(joined(module, script), *program.explaining())
-    if done.refused:
+    if done.refused and done.refused.number == LEFT_OUT:
         made, said = generic.tried(names[0], module)
         print(*said, sep="\n", end="\n" * bool(said), file=sys.stderr)
         if made is not None:

@@ -16,6 +16,8 @@ FLOATS = re.compile(r"f32|f64|f16|bf16|tf32|f80|f128|(?:f8E|f6E|f4E).*")
 CAUSES = {"loc": "location", "tensor": "tensor-type", "vector": "vector-type", "complex": "other-type",
           "tuple": "other-type", "none": "other-type", "dense": "dense", "dense_resource": "dense", "sparse": "dense",
           "affine_map": "affine", "affine_set": "affine", "module": "pretty-form"}
+# A link of a page.
+LINK = re.compile(r" *\(?\[[^]]*\]\([^)]*\)\)?")
 # The largest number of a refusal of a text.
 LAST_OF_TEXT = 14
 
@@ -36,7 +38,7 @@ def general(number):
     sentence, fix = of_page().get(number, ("", ""))
     if not sentence:
         return "docs/REFUSALS.md has the refusals"
-    return f"{sentence}: {fix.partition('. ')[0]}" if fix else sentence
+    return f"{sentence}: {LINK.sub('', fix).partition('. ')[0]}" if fix else sentence
 
 
 @functools.lru_cache(maxsize=None)
@@ -118,6 +120,10 @@ def of_command(number, words, about):
     """Returns why a command with these words is refused. `about` has what the refusal names."""
     if number == 26:
         return unknown_name(words)
+    if number == 50:
+        return ("found too large a width or too many values, expected a width of 1 to 128: name a smaller width, or add "
+                "`sampled`") if words[0] == "check" else (
+                    f"found `{words[-1]}`, expected a limit from 1 to 1,000,000: correct the limit")
     if not about:
         return general(number)
     first, rest = about[0], about[1:]

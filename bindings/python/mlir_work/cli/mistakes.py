@@ -41,7 +41,7 @@ def hint(number, line, column):
     """Returns a further sentence for the most frequent mistakes, or an empty text."""
     words = line.split()
     if number == 13 and words[0] == "set-attr" and re.fullmatch(r"\w+", line[column:].strip()):
-        return f'. Write a string in quotes: "{line[column:].strip()}"'
+        return f', as "{line[column:].strip()}"'
     if number == 3 and words[0] == "insert":
         return ". Commands don't use the names in the module's text: " + PARTS["VALUE"][1]
     if number == 23 and words[0] == "replace":
@@ -80,7 +80,15 @@ def explained(reply, line, own=()):
         why = messages.of_command(it.number, line.split(), reply.about)
     if it.number == 26:
         column = named_at(line)
+    elif column is None and reply.about:
+        column = where(line, reply.about[2 if it.number == 24 else 0])
     return Fault(column, f"{title}: {why}{hint(it.number, line, column or 0)}")
+
+
+def where(line, word):
+    """Returns the byte of the last place at which a line has a word, or None."""
+    found = [it.start() for it in re.finditer(rf"(?<!\S){re.escape(word)}(?!\S)", line)]
+    return found[-1] if found else None
 
 
 def named_at(line):
