@@ -455,8 +455,8 @@ function listSteps() {
 function partName(step) {
   const told = [["made", "+"], ["changed", "~"], ["gone", "−"]]
     .flatMap(([what, sign]) => (step.ops?.[what] || []).map(op => `${sign}#${op}`));
-  const by = step.by ? `${step.by[0][0]}  ` : "";
-  return `${step.part[0]}  ${by}${told.join(" ")}${step.ops?.more ? " .." : ""}`;
+  const first = step.by?.length === 1 ? step.by[0][0] : step.part[0];
+  return `${first}  ${told.join(" ")}${step.ops?.more ? " .." : ""}`;
 }
 
 function select(row) {
