@@ -54,7 +54,8 @@ made zsh >"$prefix/share/zsh/site-functions/_mlir_work"
 # The pages for users.
 pages=$prefix/share/doc/mlir_work
 mkdir -p "$pages"
-for page in GUIDE COOKBOOK PATTERNS FROM_MLIR_OPT CANONICALIZE CONVERT VERIFIER REPORTS REFUSALS OPERATIONS JSON EMBED; do
+for page in GUIDE COOKBOOK PATTERNS FROM_MLIR_OPT CANONICALIZE CONVERT VERIFIER REPORTS REFUSALS OPERATIONS JSON \
+    EMBED; do
     cp "$here/docs/$page.md" "$pages"
 done
 

@@ -33,8 +33,8 @@ class CommandLine(unittest.TestCase):
     def ran(self, *words, text="", **more):
         """The status of a command line, and what it prints to both ends."""
         before, variables = support.words()
-        it = subprocess.run([sys.executable, ROOT / "tools/mlir_work.py", *words], input=text, cwd=self.folder, text=True,
-                            capture_output=True, check=False,
+        it = subprocess.run([sys.executable, ROOT / "tools/mlir_work.py", *words], input=text, cwd=self.folder,
+                            text=True, capture_output=True, check=False,
                             env={**os.environ, **variables, "MLIR_WORK": " ".join(before), "MLIR_OPT": "none", **more})
         return it.returncode, it.stdout, it.stderr
 
@@ -75,9 +75,9 @@ class CommandLine(unittest.TestCase):
         self.assertEqual(run.place_of_module(["-"]), 0)
 
     def test_custom_forms(self):
-        for text, is_custom in {CUSTOM: True, "module {\n}\n": True, "// one\n#map = affine_map<() -> ()>\nmodule {\n}": True,
-                                "%c = arith.constant 1 : i8\n": True, PLAIN: False, "": False, "#a = 1\n" + PLAIN: False,
-                                '%0:2 = "a"() : () -> (i8, i8)\n': False}.items():
+        for text, is_custom in {CUSTOM: True, "module {\n}\n": True, "%c = arith.constant 1 : i8\n": True,
+                                "// one\n#map = affine_map<() -> ()>\nmodule {\n}": True, PLAIN: False, "": False,
+                                "#a = 1\n" + PLAIN: False, '%0:2 = "a"() : () -> (i8, i8)\n': False}.items():
             self.assertEqual(run.is_custom(text.encode()), is_custom, text)
 
     @unittest.skipUnless(shutil.which("mlir-opt-22"), "mlir-opt-22 isn't installed")

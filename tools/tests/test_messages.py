@@ -87,7 +87,8 @@ class Messages(unittest.TestCase):
     def test_both_say_the_same(self):
         """The program and the command line say the same of a module."""
         for case in cases():
-            said = {command.split()[0]: {line.partition(": ")[2] for line in told.splitlines() if line.startswith("m.mlir:")}
+            said = {command.split()[0]: {line.partition(": ")[2] for line in told.splitlines()
+                                         if line.startswith("m.mlir:")}
                     for command, told in case.commands if "m.mlir" in command and "--patterns" not in command}
             if {"run", "explain"} <= set(said) and any("read a module" not in it for it in said["run"]):
                 wanted = {it for it in said["run"] if not it.startswith("read a module")}

@@ -102,11 +102,23 @@ ANSWERED = (b"1 ok\nzero arith.addi(%a, 0) => %a // not checked\n"
             b"double arith.addi(%a, %a) => arith.shli(%a, 1) // fails 1\n")
 
 
+# What the program says of a file that isn't there, and of one that can't be read.
+MISSING, UNREADABLE = "found no such file: correct the name", "this file can't be read: name a file that you may read"
+
+
 def has_patterns():
     try:
         return support.words()[0][0] != sys.executable and program.has_option("--patterns")
     except program.Fault:
         return False
+
+
+def message(file, text, told):
+    """What the program's message on a refused line of a file begins with. `told` is what oracle says of it."""
+    number, refusal, at = re.fullmatch(r"line (\d+): refused (\d+ \w+) at (\d+)", told).groups()
+    line = text.split(b"\n")[int(number) - 1]
+    column = len(line) - len(line.lstrip(b" \t\r")) + int(at) + 1
+    return f"{file}:{number}:{column}: {refusal}: found "
 
 
 def has_files():
@@ -205,9 +217,11 @@ class Patterns(Case):
         for title, (texts, wrong, told) in REFUSED.items():
             with self.subTest(title):
                 flags, files = self.flags(texts)
-                wanted = 2, b"", f"error: {files[wrong]}: {told}\n"
+                begins = message(files[wrong], texts[wrong], told)
                 for more in ([], ["--brief", "--limit", "5", "--opaque"], ["--interactive"], ["--format", "json"]):
-                    self.assertEqual(self.ran(*flags, *more, given=MODULE), wanted)
+                    status, out, told = self.ran(*flags, *more, given=MODULE)
+                    self.assertEqual((status, out, told[:len(begins)], told.count("\n")), (2, b"", begins, 1))
+                    self.assertIn(", expected ", told)
 
     def test_asked(self):
         for title, lines in SCRIPTS.items():
@@ -252,10 +266,10 @@ class Patterns(Case):
         goal = f"--refused=pattern {ZERO.decode().strip()} = 4"
         self.assertEqual(self.main("reduce", *flags, goal, module, "-o", smaller)[0], 0)
         self.assertEqual(self.main("reduce", goal, module, "-o", smaller)[0], 1)
-        for name, told in ((self.named("wrong", ZERO + ZERO), "line 2: refused 4 Redefined at 0"),
-                           ("none", "it can't be read")):
+        for name, told in ((self.named("wrong", ZERO + ZERO), ":2:1: 4 Redefined: found `zero`, expected a new name: "
+                            "rename one of the two patterns"), ("none", ": found no such file: correct the name")):
             self.assertEqual(self.main("explain", "--patterns", name, module, script),
-                             (2, "", f"mlir-work: {name}: {told}\n"))
+                             (2, "", f"mlir-work: {name}{told}\n"))
 
     def test_prompt(self):
         """Typed lines may name the patterns, in both ways to ask the program."""
@@ -318,12 +332,13 @@ class Patterns(Case):
                             ([none, there], none), (["-"], "-"), ([""], ""), ([f"{there}/b"], f"{there}/b")):
             flags = [word for name in words for word in ("--patterns", name)]
             for more in ([], ["--interactive"], ["--format", "json"]):
-                self.assertEqual(self.ran(*flags, *more, given=ZERO), (2, b"", f"error: {name}: it can't be read\n"))
+                why = MISSING if name in (none, "-", "") else UNREADABLE
+                self.assertEqual(self.ran(*flags, *more, given=ZERO), (2, b"", f"error: {name}: {why}\n"))
 
     def test_all_are_read_before_the_first_is_defined(self):
         flags, files = self.flags([b"5", ZERO])
         os.unlink(files[1])
-        self.assertEqual(self.ran(*flags), (2, b"", f"error: {files[1]}: it can't be read\n"))
+        self.assertEqual(self.ran(*flags), (2, b"", f"error: {files[1]}: {MISSING}\n"))
 
     def test_too_long(self):
         """A file may have as many bytes as an input, and a pattern as many as a text: both sides."""

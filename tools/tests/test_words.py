@@ -223,7 +223,8 @@ class CommandLine(unittest.TestCase):
             self.assertTrue(it.stderr.endswith(end), it.stderr)
         self.assertIn("write one of open, reduce", self.ran().stderr)
         it = self.ran("none.mlir")
-        self.assertEqual((it.returncode, it.stderr), (4, "mlir-work: none.mlir: No such file or directory: correct the name\n"))
+        told = "mlir-work: none.mlir: No such file or directory: correct the name\n"
+        self.assertEqual((it.returncode, it.stderr), (4, told))
 
     def test_status(self):
         name = str(ROOT / "examples/fold.mlir")

@@ -259,7 +259,9 @@ fn run_named(
     match fs::create(rt, name) {
         Ok(file) => run_inputs(rt, given, patterns, &inputs, file),
         Err(_) => {
-            let _ = eprintln!(rt; "error: {name}: it can't be written");
+            let _ = eprintln!(rt;
+                "error: {name}: this file can't be written: name one that you may write"
+            );
             Ok(2)
         }
     }

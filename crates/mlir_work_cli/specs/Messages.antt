@@ -15,7 +15,7 @@ use Rattle.mlir_work_notes.specs.declared.unsupported.UnsupportedConstruct.TheVa
 abbrev pub wanted : Refusal → List ℕ
 wanted BadToken = codes "expected a token: remove the byte, or close the string on its line"
 wanted Unexpected = codes "expected another token: an operation is %r = \"name\"(%x) <{..}> ({..}) {..} : (i32) -> i32"
-wanted UnknownValue = codes "expected a value that is defined before this use: define it first, or correct the name"
+wanted UnknownValue = codes "expected a value defined above: define it, or correct the name"
 wanted Redefined = codes "expected a new name: rename one of the two values"
 wanted TypeMismatch = codes "expected types that fit: correct the types after the colon"
 wanted BadWidth = codes "expected 1 to 128 bits: correct the width"

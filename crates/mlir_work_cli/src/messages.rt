@@ -22,8 +22,7 @@ fn wanted(refusal: Refusal) -> &'static [u8]
         Refusal::BadToken => b"expected a token: remove the byte, or close the string on its line",
         Refusal::Unexpected =>
             b"expected another token: an operation is %r = \"name\"(%x) <{..}> ({..}) {..} : (i32) -> i32",
-        Refusal::UnknownValue =>
-            b"expected a value that is defined before this use: define it first, or correct the name",
+        Refusal::UnknownValue => b"expected a value defined above: define it, or correct the name",
         Refusal::Redefined => b"expected a new name: rename one of the two values",
         Refusal::TypeMismatch => b"expected types that fit: correct the types after the colon",
         Refusal::BadWidth => b"expected 1 to 128 bits: correct the width",

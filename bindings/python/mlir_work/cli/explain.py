@@ -1,9 +1,9 @@
 """Runs a script over a module and explains each refusal.
 
-For each refused line it prints `FILE:LINE:COLUMN: NUMBER WORD: ` and what was found, what was expected and what to
-do, the line, and a caret if the fault has a place. For a line that isn't a command it prints the form of the closest command. Below these
-lines it prints the operation that a refusal names, as `ids` at the prompt shows it, and the reason of a `convert trace`
-why the operation stays. Columns count bytes from 1. The status is the program's."""
+For each refused line it prints `FILE:LINE:COLUMN: NUMBER WORD: ` and what was found, what was expected and what to do,
+the line, and a caret if the fault has a place. For a line that isn't a command it prints the form of the closest
+command. Below these lines it prints the operation that a refusal names, as `ids` at the prompt shows it, and the reason
+of a `convert trace` why the operation stays. Columns count bytes from 1. The status is the program's."""
 import re
 import sys
 
@@ -100,7 +100,8 @@ def explained(names):
 
 def arguments(parser):
     """Adds the arguments of the command."""
-    parser.add_argument("module", metavar="MODULE", help="a file with a module; mlir-opt converts it if it isn't in generic form")
+    parser.add_argument("module", metavar="MODULE", 
+                        help="a file with a module; if it isn't in generic form, mlir-opt converts it")
     parser.add_argument("script", metavar="SCRIPT", nargs="?",
                         help="a file with a script; without it, the script is in MODULE, after a line `// -----`")
     program.arguments(parser)

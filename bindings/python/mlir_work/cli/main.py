@@ -45,7 +45,8 @@ def parser():
                                epilog=getattr(part, "EPILOG", None))
         part.arguments(own)
         own.set_defaults(run=part.run)
-    parts.add_parser(RUN, help="run a script over a module, as `mlir_work` does: `mlir-work run --help`", add_help=False)
+    parts.add_parser(RUN, help="run a script over a module, as `mlir_work` does (`mlir-work run --help`)",
+                     add_help=False)
     return whole
 
 
@@ -85,8 +86,8 @@ def over_parts(given):
     names = [getattr(given, it) for it in ("module", "before", "after") if hasattr(given, it)]
     parts = [program.parts(name) for name in names]
     if len(set(map(len, parts))) > 1:
-        raise program.Wrong(f"found {len(parts[0])} modules in {names[0]} and {len(parts[1])} in {names[1]}, expected as "
-                            "many in both")
+        raise program.Wrong(f"found {len(parts[0])} modules in {names[0]} and {len(parts[1])} in {names[1]}, expected "
+                            "as many in both")
     keys = [it for it in ("out", "output") if getattr(given, it, None)]
     outputs, worst = {key: getattr(given, key) for key in keys}, 0
     for place, those in enumerate(zip(*parts), 1):

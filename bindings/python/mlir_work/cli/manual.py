@@ -78,7 +78,8 @@ def man(text, version):
              plain(f"{PROMPT} open opens a prompt on a module: it answers one command after another, and `help` there "
                    f"lists them. {PROMPT} FILE is the same."),
              ".SH MLIR-WORK", ".nf",
-             plain("\n\n".join([*(part.rows() for part in parts()), f"{RUN} [OPTIONS] [MODULE]\n    {ABOUT_RUN}"])), ".fi",
+             plain("\n\n".join([*(part.rows() for part in parts()), f"{RUN} [OPTIONS] [MODULE]\n    {ABOUT_RUN}"])),
+             ".fi",
              ".SH AT THE PROMPT", ".nf", plain("\n".join(words.rows(76))), ".fi"]
     for part in rest.strip("\n").split("\n\n"):
         title = re.match(r"([A-Z][\w ]*):\n|(?=(Commands), )", part)
@@ -137,7 +138,7 @@ def zsh(*_):
     commands = " ".join(f"'{word}:{of_zsh(about)}'" for word, about in [
         *((part.word, part.about) for part in parts()), (command_line.RUN, ABOUT_RUN)])
     cases = "\n".join([*(f"    {part.word}) _arguments {zsh_options(part)} '*:file:_files' ;;" for part in parts()),
-                       f"    {command_line.RUN}) _arguments {' '.join(row.strip() for row in rows)} '*:file:_files' ;;"])
+                       f"    {command_line.RUN}) _arguments {' '.join(map(str.strip, rows))} '*:file:_files' ;;"])
     return f"""#compdef {PROGRAM} {PROMPT}
 if [[ $service = {PROMPT} ]]; then
   if (( CURRENT == 2 )); then

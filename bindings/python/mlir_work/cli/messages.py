@@ -116,14 +116,19 @@ def unknown_name(words):
     return f"found {named(names)}, expected {what}: correct the name, or define a pattern; `help RULE` describes a rule"
 
 
+def bad_limit(words):
+    """Returns why the limit of a rewrite or the width of a check is refused."""
+    if words[0] == "check":
+        return "found too large a width or too many values, expected 1 to 128: name a smaller width, or add `sampled`"
+    return f"found `{words[-1]}`, expected a limit from 1 to 1,000,000: correct the limit"
+
+
 def of_command(number, words, about):
     """Returns why a command with these words is refused. `about` has what the refusal names."""
     if number == 26:
         return unknown_name(words)
     if number == 50:
-        return ("found too large a width or too many values, expected a width of 1 to 128: name a smaller width, or add "
-                "`sampled`") if words[0] == "check" else (
-                    f"found `{words[-1]}`, expected a limit from 1 to 1,000,000: correct the limit")
+        return bad_limit(words)
     if not about:
         return general(number)
     first, rest = about[0], about[1:]

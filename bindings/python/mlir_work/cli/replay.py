@@ -42,8 +42,8 @@ class State:
 class Step:
     """A line of a script, or a part of it, such as rewrite 2 of 14 (`part`). `reply` is the reply, `notes` are the
     comments above the line, and `run` are the lines to run for it, if they change the module or a report. A refused
-    line has the lines below its reply in `told`, and what its refusal is about in `about`. `unproved` are the lines that
-    name patterns which no check proves. `rewrites` are the rewrites of the step, once it has a state."""
+    line has the lines below its reply in `told`, and what its refusal is about in `about`. `unproved` are the lines
+    that name patterns which no check proves. `rewrites` are the rewrites of the step, once it has a state."""
 
     def __init__(self, line, reply, notes=(), run=(), part=None, told=(), unproved=(), about=()):
         self.line, self.reply, self.notes, self.run, self.part = line, reply, list(notes), list(run), part
