@@ -384,6 +384,14 @@ class Clicked(unittest.TestCase):
         self.assertEqual(self.texts("#rows .go"), ["−%v6.0 #7 1", "−%v6.0 #7 2", "−%v6.0 #8 1"])
         self.assertEqual(self.texts(".tab[aria-selected=true] .many"), ["19"])
 
+    def test_rules(self):
+        """A step of a `canon` shows its rule and the operation, and the list names the rule."""
+        number = next(at for at, step in enumerate(self.steps) if step.rewrites)
+        self.here.open(f"{self.address}#step={number}")
+        rule, operation, text = page.rewrite_row(self.steps[number].rewrites[0], self.steps[number - 1].state)
+        self.assertEqual(self.texts("#told .by"), [f"{rule} at #{operation} {text}"])
+        self.assertTrue(any(name.startswith(f"{rule}  ") for name in self.texts("#steps .part .name")))
+
     def test_reports(self):
         self.here.open(self.address + "#step=5")
         for place, (kind, rows) in enumerate(self.steps[5].state.rows.items(), 1):
