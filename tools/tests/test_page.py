@@ -386,7 +386,7 @@ class Clicked(unittest.TestCase):
 
     def test_rules(self):
         """A step of a `canon` shows its rule and the operation, and the list names the rule."""
-        number = next(at for at, step in enumerate(self.steps) if step.rewrites)
+        number = next(at for at, step in enumerate(self.steps) if step.rewrites and step.part)
         self.here.open(f"{self.address}#step={number}")
         rule, operation, text = page.rewrite_row(self.steps[number].rewrites[0], self.steps[number - 1].state)
         self.assertEqual(self.texts("#told .by"), [f"{rule} at #{operation} {text}"])
