@@ -91,11 +91,13 @@ class CommandLine(unittest.TestCase):
         self.file("two.mlir", f"{CUSTOM}// -----\n{CUSTOM}")
         with tempfile.TemporaryDirectory() as folder, unittest.mock.patch.dict(os.environ, tool):
             two = str(self.folder / "two.mlir")
-            file = run.in_generic_form(["--split-input-file", two, "-e", "print"], folder)[1]
+            file = run.in_generic_form(["--split-input-file", two, "-e", "print"], 1, folder)[1]
             text = pathlib.Path(file).read_text()
             self.assertEqual((text.count('"func.func"'), text.count("\n// -----\n")), (2, 1))
-            file = run.in_generic_form([str(self.folder / "c.mlir")], folder)[0]
+            file = run.in_generic_form([str(self.folder / "c.mlir")], 0, folder)[0]
             self.assertEqual(pathlib.Path(file).read_text().count('"func.func"'), 1)
+        status, said, told = self.ran("run", "--brief", text=f"{CUSTOM}// -----\nreport dead\n", **tool)
+        self.assertEqual((status, said, told), (0, "1 ok\n", "-: in generic form, as mlir-opt-22 prints it\n"))
 
 
 if __name__ == "__main__":

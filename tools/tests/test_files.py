@@ -91,7 +91,7 @@ class Files(unittest.TestCase):
         module = self.named("m.mlir", b'"a"(')
         status, out, told = self.ran(module, "-e", "print")
         self.assertEqual((status, told), (3, f"{module}:1:5: 2 Unexpected: found the end of the text, expected another "
-                                          "token: an operation is %r = \"name\"(%x) <{..}> ({..}) {..} : (i32) -> i32\n"))
+                                          'token: an operation is %r = "name"(%x) <{..}> ({..}) {..} : (i32) -> i32\n'))
         self.assertTrue(out.startswith("module refused "))
         self.assertEqual(self.ran("-e", "print", given=b'"a"(')[2], "")
         script = self.named("a.script", SCRIPT)

@@ -9,6 +9,8 @@ import tempfile
 from ..script import DIVIDER
 from . import generic, program, table
 
+# Options with which the program doesn't read standard input as a whole.
+NO_INPUT = {"-h", "--help", "-V", "--version", "--interactive"}
 # What begins an operation in custom form: a bare word, perhaps after results. Comments and aliases may be before it.
 CUSTOM = re.compile(rb"(?:\s+|//[^\n]*\n|[#!][^\n]*=[^\n]*\n)*(?:%[\w:, %]*=\s*)?[A-Za-z_]")
 
@@ -50,14 +52,14 @@ def converted(name, text, is_split):
     return (DIVIDER + b"\n").join([*made, *lines[count:]]) if len(made) == count else None
 
 
-def in_generic_form(words, folder):
-    """Returns the arguments of the program, with a file in generic form in place of one that isn't."""
-    place = place_of_module(words)
+def in_generic_form(words, place, folder):
+    """Returns the arguments of the program, with a file in generic form in place of the module's file, which may be in
+    another form."""
     try:
-        text = program.read(words[place]) if place is not None and words[place] != "-" else None
+        text = program.read(words[place])
     except OSError:
-        text = None
-    made = None if text is None else converted(words[place], text, program.SPLIT in words)
+        return words
+    made = converted(words[place], text, program.SPLIT in words)
     if made is None:
         return words
     file = os.path.join(folder, os.path.basename(words[place]))
@@ -66,9 +68,20 @@ def in_generic_form(words, folder):
     return [*words[:place], file, *words[place + 1:]]
 
 
+def standard_input(words):
+    """Returns standard input, with its module in generic form; or None if the program is to read it."""
+    if NO_INPUT & set(words) or sys.stdin.isatty():
+        return None
+    text = sys.stdin.buffer.read()
+    made = converted("-", text, program.SPLIT in words)
+    return text if made is None else made
+
+
 def main(words):
     """Runs the program with some arguments, and returns its status."""
-    command = program.started()
+    command, place = program.started(), place_of_module(words)
+    given = standard_input(words) if place is None or words[place] == "-" else None
     with tempfile.TemporaryDirectory() as folder:
-        words = [*command.words, *in_generic_form(words, folder)]
-        return subprocess.run(words, env=command.environment, check=False).returncode
+        if place is not None and words[place] != "-":
+            words = in_generic_form(words, place, folder)
+        return subprocess.run([*command.words, *words], env=command.environment, check=False, input=given).returncode
