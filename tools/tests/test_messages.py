@@ -12,13 +12,20 @@ import tempfile
 import unittest
 
 import support
-from support import ROOT, program
+from support import ROOT, explain, refusals
+
+from mlir_work.reply import module_refused
 
 FOLDER = ROOT / "tests/golden/messages"
 LINE = re.compile(r"^\$ mlir-work (.*)\n", re.M)
 FILE = re.compile(r"^--- (\S+)\n", re.M)
 # The program has these messages if its help names them.
-SAYS = "says where and why|line on standard error"
+SAYS = "a line on standard error"
+WHOLE = b'''%a, %b:2 = "t.a"() <{k = "x\\22", l = -1 : i8}> ({
+^bb0(%c: memref<?x4xi8>, %d: (i1) -> index): "t.b"(%c, %b#1) {m = [@s::@t, array<i8: 1, -2>, unit]} :
+    (memref<?x4xi8>, ui8) -> () // one
+}) : () -> (i8, i8, ui8)
+'''
 
 
 class Case:
@@ -93,6 +100,29 @@ class Messages(unittest.TestCase):
             if {"run", "explain"} <= set(said) and any("read a module" not in it for it in said["run"]):
                 wanted = {it for it in said["run"] if not it.startswith("read a module")}
                 self.assertEqual(wanted, said["explain"], case.name)
+
+
+    def test_inputs_of_the_page(self):
+        """The program and the command line say the same of each refused module of docs/REFUSALS.md, and of others that
+        are cut off at each byte."""
+        page = ROOT / "docs/REFUSALS.md"
+        texts = [(text, ()) for text, answer, _ in refusals.rows(page) if answer.startswith("module ")]
+        texts += [(text, ("--opaque",)) for text, answer in refusals.opaque_rows(page) if answer.startswith("module ")]
+        texts += [(WHOLE[:at], ()) for at in range(1, len(WHOLE))]
+        before, more = support.words()
+        with tempfile.TemporaryDirectory() as folder:
+            file = pathlib.Path(folder, "m.mlir")
+            for text, flags in texts:
+                file.write_bytes(text)
+                it = subprocess.run([*before, "--brief", *flags, str(file), "-e", "print"], capture_output=True,
+                                    check=False, env={**os.environ, **more})
+                refused = module_refused(it.stdout.decode("utf-8", "replace"))
+                with self.subTest(text=text, flags=flags):
+                    if refused is None:
+                        self.assertEqual(it.stderr, b"")
+                        continue
+                    wanted = explain.text_refused(str(file), text, refused)[0]
+                    self.assertEqual(it.stderr.decode(), f"{wanted}\n")
 
 
 if __name__ == "__main__":
