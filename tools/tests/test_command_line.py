@@ -51,6 +51,11 @@ class CommandLine(unittest.TestCase):
         self.assertEqual(self.ran("--opaque", "f.mlir", text="dead\n")[0], 0)
         self.assertEqual(self.ran("explain", "f.mlir")[0], 3)
 
+    def test_help(self):
+        self.assertEqual(self.ran("help"), self.ran("--help"))
+        self.assertEqual(self.ran("help", "reduce"), self.ran("reduce", "--help"))
+        self.assertIn("run a script over a module", self.ran("help")[1])
+
     def test_several_modules(self):
         self.file("two.mlir", f"{PLAIN}// -----\n{WRONG}")
         status, said, _ = self.ran("explain", "--split-input-file", "two.mlir")

@@ -113,6 +113,8 @@ def why(fault):
 def main(words):
     """Runs the command that the words name, and returns its status."""
     words = reordered(words)
+    if words[:1] == ["help"] and not os.path.exists("help"):
+        words = [*words[1:2], "--help"]
     if not words:
         parser().error(f"a command is missing: write one of {', '.join(commands())}, or the file of a module")
     if words[0] not in commands() and not words[0].startswith("-"):
