@@ -52,7 +52,8 @@ masks_difference W w a b h l =
     ∙ add-mul-mod_self_right (a + (2 ^ w - b)) m.0 (2 ^ w) ∙ sym (difference_is w a b l)
 
 pub masks_literal : MasksLiteral
-masks_literal W w n h l = and_mask (n % 2 ^ W) w ∙ shorter n W w h ∙ mod-eq_of_lt l ∙ literal_low w n l
+unfolding wrapped
+masks_literal W w n h = and_mask (n % 2 ^ W) w ∙ shorter n W w h
 
 pub masks_negative : MasksNegative
 unfolding difference_of
