@@ -353,11 +353,11 @@ module _ (W : ℕ) (vs : List ℕ) (js : List BitsKind) (first : kind_at js 0 �
               elim (quotient_of_one k s.number s.poisoned (subst (λ (n : ℕ). 1 ≤ n) w some) (subst (λ (n : ℕ). s.number < 2 ^ n) w below)) [
                 | inl f ↦ inl (both ∙ f)
                 | inr f ↦ inr (record {
-                    outcome = outcome_by k s.number s.poisoned;
-                    is = both ∙ f;
-                    grown = same W vs widths ps base.right;
-                    stands = record { number = s.number; poisoned = s.poisoned; number_is = s.number_is; poison_is = s.poison_is; is = refl; written_is = tt };
-                  })
+                  outcome = outcome_by k s.number s.poisoned;
+                  is = both ∙ f;
+                  grown = same W vs widths ps base.right;
+                  stands = record { number = s.number; poisoned = s.poisoned; number_is = s.number_is; poison_is = s.poison_is; is = refl; written_is = tt };
+                })
               ]
 
           with_one : (e : (x.ty == y.ty) ≡ true) (l : Literal) → WrittenIs (Some l) (at widths x.ty) u.number u.poisoned → (c : Bool) → is_number 1 l ≡ c

@@ -1,5 +1,5 @@
 -- Instructions without a condition.
-use Rattle.std.proofs.Common.{◌≡◌, ℕ, List, Bool, true, false, true≢false, Option, Some, None, refl, sym}
+use Rattle.std.proofs.Common.{◌≡◌, List, Bool, true, false, true≢false, Option, Some, None, refl, sym}
 use Rattle.std.specs.Prelude.{IfOk, Result, Ok, Err}
 use Rattle.user_patterns_data.specs.declared.pattern.PatternType.{PatternType}
 use Rattle.width_claims.specs.declared.form.Expr.{Expr}

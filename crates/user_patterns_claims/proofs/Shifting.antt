@@ -1,5 +1,5 @@
 -- Shifts of values by literals.
-use Rattle.std.proofs.Common.{ℤ, pos, negsuc, ◌≡◌, ◌∙◌, ℕ, suc, ◌+◌, ◌-◌, ◌*◌, ◌/◌, ◌%◌, ◌^◌, ◌<◌, ◌≤◌, ◌==◌, ◌⊎◌, inl, inr, ⊎_elim, List, Bool, true, false, not, nat_lt, if◌then◌else◌, bit_xor, Option, Some, None, ◌-ℤ◌, refl, sym, ap, subst, arith}
+use Rattle.std.proofs.Common.{pos, negsuc, ◌≡◌, ◌∙◌, ℕ, suc, ◌+◌, ◌-◌, ◌*◌, ◌/◌, ◌%◌, ◌^◌, ◌<◌, ◌≤◌, ◌==◌, ◌⊎◌, inl, inr, ⊎_elim, List, true, false, not, nat_lt, if◌then◌else◌, bit_xor, Option, Some, None, refl, sym, ap, arith}
 use Rattle.std.specs.Prelude.{int_lt}
 use Rattle.std.specs.Int.{int_shr}
 use Rattle.std.proofs.lemmas.Bool.{cases_lt}
@@ -21,8 +21,7 @@ use Rattle.user_patterns_check.specs.Outcomes.{divides, is_signed_remainder}
 use Rattle.width_claims.specs.declared.form.Form.TheVariants as form
 use Rattle.width_claims.specs.declared.form.Expr.{Expr}
 use Rattle.width_claims.specs.PieceValues.{at}
-use Rattle.width_claims.specs.Right.{IsBelow}
-use Rattle.user_patterns_claims.specs.Translation.{Made, by_sign, exchanged, exchanged_if, put, right_of, right_signed, shifted, times, with_ones, with_zero}
+use Rattle.user_patterns_claims.specs.Translation.{Made, exchanged, put, right_of, right_signed, shifted}
 use Rattle.user_patterns_claims.proofs.Pieces.{Base, Is, Makes, base_on, makes_next, makes_same, same}
 use Rattle.user_patterns_claims.proofs.Ranges.{value_below}
 use Rattle.user_patterns_claims.proofs.Forms.{put_less_signed, put_negative, put_number, put_quotient, put_select, put_xor}

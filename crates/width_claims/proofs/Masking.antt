@@ -10,7 +10,7 @@ use Rattle.std.proofs.Math.Nat.{add-mod, add-mul-mod_self_right, div-eq_of_lt, m
 use Rattle.std.proofs.Math.Pow.{mod-mod-pow, pow-lt}
 use Rattle.ir_types.specs.Readings.{signed_of, wrapped}
 use Rattle.ir_types.proofs.ReadingLaws.{unsigned_back}
-use Rattle.ir_types.proofs.Widths.{halves, literal_high, literal_low}
+use Rattle.ir_types.proofs.Widths.{halves, literal_high}
 use Rattle.dialects_int.specs.Arithmetic.{comparison_of, difference_of, product_of, sign_extended, sum_of, zero_extended}
 use Rattle.dialects_int.proofs.Widths.{difference_is}
 use Rattle.dialects_int.proofs.Quotients.{signed_cases}

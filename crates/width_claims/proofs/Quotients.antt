@@ -1,10 +1,9 @@
 -- Quotients bit by bit: the carry of the product of quotient and divisor plus the remainder, and the remainder's bits
 -- against the divisor's.
-use Rattle.std.proofs.Common.{◌≡◌, ◌∙◌, ℕ, zero, suc, ◌+◌, ◌-◌, ◌*◌, ◌/◌, ◌%◌, ◌^◌, ◌<◌, ◌≤◌, ◌==◌, ◌&&◌, ◌⊎◌, inl, inr, min, not, Bool, true, false, nat_lt, if◌then◌else◌, refl, sym, ap, subst, arith}
+use Rattle.std.proofs.Common.{◌≡◌, ◌∙◌, ℕ, zero, suc, ◌+◌, ◌-◌, ◌*◌, ◌/◌, ◌%◌, ◌^◌, ◌<◌, ◌≤◌, ◌==◌, ◌&&◌, ◌⊎◌, inl, inr, min, not, true, false, nat_lt, refl, sym, ap, subst, arith}
 use Rattle.std.specs.Int.{bit_at}
 use Rattle.std.proofs.lemmas.Bool.Decides.{nat_tests}
 use Rattle.std.proofs.lemmas.Nat.{div-mul-add, div-add-mod', mod-mul-add, pow-add, pow_pos}
-use Rattle.std.proofs.lemmas.Nat.Bits.{bit_at-lt}
 use Rattle.std.proofs.Math.Nat.{div-div-eq-div-mul, div-le_self, div-lt_iff_lt-mul, mod-eq_of_lt, mod-lt, mul-le-mul_left, mul-le-mul_right, pow-suc}
 use Rattle.width_claims.specs.BitSerial.{is_quotient, is_too_great, kept_carry, kept_less, kept_rest, less_still, next_quotient, quotient_kept, quotient_next, quotient_radix}
 use Rattle.width_claims.proofs.Numbers.{less, less_bits, less_yes, low_below, one_more}
