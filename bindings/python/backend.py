@@ -37,14 +37,20 @@ def metadata():
     return "".join(line + "\n" for line in lines).encode()
 
 
+def pages():
+    """Returns the folder of the pages: next to the command line in an installed package, docs/ in a checkout."""
+    packed_pages = HERE / NAME / "cli/docs"
+    return packed_pages if packed_pages.is_dir() else HERE.parents[1] / "docs"
+
+
 def files():
-    """Returns the files of the package, by their names in an archive. A checkout has a link to the pages in docs/, of
-    which the command line reads those that are listed in data.py."""
-    pages = HERE / NAME / "cli/docs"
+    """Returns the files of the package, by their names in an archive. Of the pages it has those that the command line
+    reads, which data.py lists."""
     read = re.search(r'PAGES = \((.*?)\)', (HERE / NAME / "cli/data.py").read_text(), re.S)[1]
     found = [it for it in (HERE / NAME).rglob("*") if it.suffix in KEPT or it.name == "py.typed"]
-    found = [it for it in found if pages not in it.parents] + [pages / it for it in re.findall('"(.*?)"', read)]
-    return {it.relative_to(HERE).as_posix(): it.read_bytes() for it in sorted(found)}
+    inside = {it.relative_to(HERE).as_posix(): it.read_bytes() for it in found}
+    inside |= {f"{NAME}/cli/docs/{it}": (pages() / it).read_bytes() for it in re.findall('"(.*?)"', read)}
+    return dict(sorted(inside.items()))
 
 
 def packed(folder, inside):
