@@ -2,8 +2,8 @@
 # Installs the program `mlir_work` that `./run` starts; the command line `mlir-work`, which needs Python 3; a man page;
 # completions for bash and zsh; the pages for users, in share/doc/mlir_work; and the Python package, in
 # share/mlir_work/python. MLIR_WORK selects another program.
-# If there is a library of these sources, or MLIR_WORK_ARCHIVE names one, it also installs the library in lib/, its
-# headers in include/, and the Rust crates in share/mlir_work/rust.
+# If there is a library of these sources, or MLIR_WORK_ARCHIVE names one, it also installs the library in lib/, with a
+# file for pkg-config and a package for CMake, its headers in include/, and the Rust crates in share/mlir_work/rust.
 #
 # usage: tools/install.sh PREFIX
 set -eu
@@ -12,6 +12,7 @@ mkdir -p "$1"
 prefix=$(cd "$1" && pwd)
 here=$(cd "$(dirname "$(readlink -f "$0")")/.." && pwd)
 program=${MLIR_WORK-$(python3 "$here/tools/sources.py" --program)}
+version=$(sed -n 's/^## \([^ ]*\).*/\1/p' "$here/CHANGELOG.md" | head -n 1)
 share=$prefix/share/mlir_work
 package=$share/python/mlir_work
 
@@ -28,8 +29,13 @@ python3 "$here/bindings/python/backend.py" "$share/python"
 library=
 rm -f "$package/libmlir_work.so"
 if [ -n "${MLIR_WORK_ARCHIVE-}" ] || python3 "$here/tools/sources.py" --library >/dev/null 2>&1; then
-    mkdir -p "$prefix/lib" "$prefix/include" "$share/rust"
+    cmake=$prefix/lib/cmake/mlir_work
+    mkdir -p "$prefix/lib/pkgconfig" "$cmake" "$prefix/include" "$share/rust"
     python3 "$here/tools/library.py" "$prefix/lib" >/dev/null
+    sed "s/@VERSION@/$version/" "$here/bindings/c/mlir_work.pc.in" >"$prefix/lib/pkgconfig/mlir_work.pc"
+    sed "s/@VERSION@/$version/" "$here/bindings/c/mlir_workConfigVersion.cmake.in" \
+        >"$cmake/mlir_workConfigVersion.cmake"
+    cp "$here/bindings/c/mlir_workConfig.cmake" "$cmake"
     cp "$here/bindings/c/mlir_work.h" "$here/bindings/cpp/mlir_work.hpp" "$prefix/include"
     cp -R "$here/bindings/rust/Cargo.toml" "$here"/bindings/rust/mlir_work* "$share/rust"
     [ ! -f "$prefix/lib/libmlir_work.so" ] ||
@@ -41,7 +47,6 @@ fi
 # The man page and the completions are generated from the help of the installed program, docs/commands.json, and the
 # help of the command line.
 "$prefix/bin/mlir_work" --help >"$share/tools/help.txt"
-version=$(sed -n 's/^## \([^ ]*\).*/\1/p' "$here/CHANGELOG.md" | head -n 1)
 made() {
     PYTHONPATH=$share/python python3 -m mlir_work.cli.manual "$1" "$share/tools/help.txt" "$version"
 }

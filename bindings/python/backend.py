@@ -1,4 +1,5 @@
-"""Packs the package for `pip install ./bindings/python` (PEP 517, PEP 660), without a tool that has to be fetched.
+"""Packs the package for `pip install ./bindings/python` (PEP 517, PEP 660), without a tool that has to be fetched. The
+wheel has the shared library of the workbench if there is one: next to the package, or made from dist/ in a checkout.
 
 usage: bindings/python/backend.py FOLDER     writes the files of the package into a folder"""
 import base64
@@ -6,14 +7,18 @@ import hashlib
 import io
 import pathlib
 import re
+import subprocess
 import sys
+import sysconfig
 import tarfile
+import tempfile
 import zipfile
 
 HERE = pathlib.Path(__file__).resolve().parent
 ABOUT = (HERE / "pyproject.toml").read_text()
 NAME = "mlir_work"
 KEPT = (".py", ".html", ".css", ".js")
+SHARED = "libmlir_work.so"
 # The earliest time that an archive can record. With a fixed time, equal files give equal archives.
 WHEN = (1980, 1, 1, 0, 0, 0)
 
@@ -53,10 +58,25 @@ def files():
     return dict(sorted(inside.items()))
 
 
+def shared():
+    """Returns the bytes of the shared library, or None if there is none and none can be made."""
+    beside, maker = HERE / NAME / SHARED, HERE.parent.parent / "tools/library.py"
+    if beside.is_file():
+        return beside.read_bytes()
+    with tempfile.TemporaryDirectory() as room:
+        made = pathlib.Path(room, SHARED)
+        if maker.is_file():
+            subprocess.run([sys.executable, str(maker), room], capture_output=True, check=False)
+        return made.read_bytes() if made.is_file() else None
+
+
 def packed(folder, inside):
-    """Writes a wheel of some files, and returns its name."""
-    about, name = f"{title()}.dist-info", f"{title()}-py3-none-any.whl"
-    wheel = b"Wheel-Version: 1.0\nGenerator: mlir_work\nRoot-Is-Purelib: true\nTag: py3-none-any\n"
+    """Writes a wheel of some files, and returns its name. A wheel with the shared library is for this platform only."""
+    is_bound = f"{NAME}/{SHARED}" in inside
+    tag = f"py3-none-{re.sub('[-.]', '_', sysconfig.get_platform()) if is_bound else 'any'}"
+    about, name = f"{title()}.dist-info", f"{title()}-{tag}.whl"
+    wheel = "Wheel-Version: 1.0\nGenerator: mlir_work\n"
+    wheel = f"{wheel}Root-Is-Purelib: {'false' if is_bound else 'true'}\nTag: {tag}\n".encode()
     whole = {**inside, f"{about}/METADATA": metadata(), f"{about}/WHEEL": wheel,
              f"{about}/entry_points.txt": f"[console_scripts]\nmlir-work = {said('mlir-work')}\n".encode()}
     record = ""
@@ -74,7 +94,8 @@ def packed(folder, inside):
 
 def build_wheel(wheel_directory, config_settings=None, metadata_directory=None):
     """Writes a wheel of the package, and returns its name."""
-    return packed(wheel_directory, files())
+    library = shared()
+    return packed(wheel_directory, {**files(), **({f"{NAME}/{SHARED}": library} if library else {})})
 
 
 def build_editable(wheel_directory, config_settings=None, metadata_directory=None):
