@@ -1,7 +1,7 @@
 #!/usr/bin/env python3
-"""How many patterns have a form that the laws of crates/patterns_refinement ask for (`is_sound_form`): a pattern creates
-no signed division, its new operations have operands of the required types, and each type variable in its conditions is
-the type of a variable, of a matched operation or of a new value.
+"""How many patterns have a form that the laws of crates/patterns_refinement ask for (`is_sound_form`): a pattern
+creates no signed division, its new operations have operands of the required types, and each type variable in its
+conditions is the type of a variable, of a matched operation or of a new value.
 
 usage: tests/compare/sound_forms.py [FILE..]
 
@@ -24,7 +24,7 @@ def named(line):
 
 
 def has_types(pattern):
-    """Whether each type variable of a condition is the type of a value on the left or of a new operation or constant."""
+    """Whether each type variable of a condition is the type of a value on the left, or of a new value."""
     terms = [it for side in (pattern.old, pattern.new) for it in patterns.walk(side)]
     had = {pattern.typed(it) for it in terms if not (isinstance(it, patterns.Constant) and it.number.is_literal())}
     had |= {pattern.typed(it) for it in patterns.walk(pattern.new)}

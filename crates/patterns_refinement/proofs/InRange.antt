@@ -80,28 +80,25 @@ has_kind t v k i = go (type_of_value v t) i
     go (Some ty) i = refl
 
 module _ (accepted : OwnAreAccepted) (p : PatternModel) (proper : IsProper p) (m n : Module) (x : ℕ) (ready : IsReady m) (range : IsInRange m) (rewrites : own_rewrite p m x ≡ becomes n) where
-  abbrev s : Site accepted p proper m n x ready rewrites
-  s = site_of accepted p proper m n x ready rewrites
+  abbrev its_site : Site accepted p proper m n x ready rewrites
+  its_site = site_of accepted p proper m n x ready rewrites
 
   here_at : FoundAt p m x
-  here_at = record { here = s.here.here; is_matched = s.here.is_matched; types = s.here.types; are_types = s.here.are_types }
+  here_at = record { here = its_site.here.here; is_matched = its_site.here.is_matched; types = its_site.here.types; are_types = its_site.here.are_types }
 
-  own_range : is_kinded_at (map kind_standing s.here.types) p ≡ true → IsInRange n
-  own_range kinded v k i = by_value v (sym (passing_kinds accepted p proper m n x ready rewrites s kinded v (has_kind n.tree v k i)) ∙ i)
+  own_range : is_kinded_at (map kind_standing its_site.here.types) p ≡ true → IsInRange n
+  own_range kinded v k i = by_value v (sym (passing_kinds accepted p proper m n x ready rewrites its_site kinded v (has_kind n.tree v k i)) ∙ i)
     where
-      new_kinds : List BitsKind
-      new_kinds = map (λ w. kind_at (map kind_standing s.here.types) (new_type w)) p.new
+      wide : list_all (λ k. is_width (width_of k)) (map (λ w. kind_at (map kind_standing its_site.here.types) (new_type w)) p.new) ≡ true
+      wide = made_wide _ its_site.applied.made _ (its_made m p x proper ready its_site.applied.made its_site.applied.value its_site.applied.plan its_site.here kinded)
 
-      wide : list_all (λ k. is_width (width_of k)) (map (λ w. kind_at (map kind_standing s.here.types) (new_type w)) p.new) ≡ true
-      wide = made_wide _ s.applied.made _ (its_made m p x proper ready s.applied.made s.applied.value s.applied.plan s.here kinded)
-
-      by_value : (v : Value) → with_all (kind_in m.tree) m.next None (map (λ k. Some k) (map (λ w. kind_at (map kind_standing s.here.types) (new_type w)) p.new)) v ≡ Some k → is_width (width_of k) ≡ true
+      by_value : (v : Value) → with_all (kind_in m.tree) m.next None (map (λ k. Some k) (map (λ w. kind_at (map kind_standing its_site.here.types) (new_type w)) p.new)) v ≡ Some k → is_width (width_of k) ≡ true
       by_value (Arg y r j) e = range (Arg y r j) k e
       by_value (Result y j) e = go (nat_lt y m.next) e
         where
-          go : (b : Bool) → (if b then kind_in m.tree (Result y j) else get_or (map (λ k. Some k) (map (λ w. kind_at (map kind_standing s.here.types) (new_type w)) p.new)) (y - m.next) None) ≡ Some k → is_width (width_of k) ≡ true
+          go : (b : Bool) → (if b then kind_in m.tree (Result y j) else get_or (map (λ k. Some k) (map (λ w. kind_at (map kind_standing its_site.here.types) (new_type w)) p.new)) (y - m.next) None) ≡ Some k → is_width (width_of k) ≡ true
           go true e = range (Result y j) k e
-          go false e = some_wide (map (λ w. kind_at (map kind_standing s.here.types) (new_type w)) p.new) wide (y - m.next) k e
+          go false e = some_wide (map (λ w. kind_at (map kind_standing its_site.here.types) (new_type w)) p.new) wide (y - m.next) k e
 
 -- ---- patterns that hold for all outcomes
 record SoundForm (p : PatternModel) : Type 0 where

@@ -150,10 +150,10 @@ module _ (p : PatternModel) (m : Module) (x : ℕ) (proper : IsProper p) (ready 
   typed_wide i t w = bound_wide t w.term w.type_stands
 
   -- a type of a value is bound
-  abbrev value_types : ℕ → Bool
-  value_types t = list_any (eqb t) p.values || (list_any (eqb t) (map PatternOp.ty p.old) || list_any (eqb t) (map new_type p.new))
+  abbrev is_valued : ℕ → Bool
+  is_valued t = list_any (eqb t) p.values || (list_any (eqb t) (map PatternOp.ty p.old) || list_any (eqb t) (map new_type p.new))
 
-  valued_wide : (t : ℕ) → value_types t ≡ true → good t ≡ true
+  valued_wide : (t : ℕ) → is_valued t ≡ true → good t ≡ true
   valued_wide t e =
       let are = typed_parts m.tree (is_verified m.tree) m.next p q.here q.types q.are_types in
       elim (or_cases (list_any (eqb t) p.values) (list_any (eqb t) (map PatternOp.ty p.old) || list_any (eqb t) (map new_type p.new)) e) [
@@ -175,9 +175,9 @@ module _ (p : PatternModel) (m : Module) (x : ℕ) (proper : IsProper p) (ready 
 
   -- a type that the pattern has is concrete, or bound
   had_wide : (t : ℕ) → is_had p t ≡ true → good t ≡ true
-  had_wide t e = elim (or_cases (is_concrete (united.kind_in p.value_types t)) (value_types t) parts.1) [ inl i ↦ by_type (united.kind_in p.value_types t) refl i | inr i ↦ valued_wide t i ]
+  had_wide t e = elim (or_cases (is_concrete (united.kind_in p.value_types t)) (is_valued t) parts.1) [ inl i ↦ by_type (united.kind_in p.value_types t) refl i | inr i ↦ valued_wide t i ]
     where
-      parts : (nat_lt t (length p.value_types) ≡ true) × ((is_concrete (united.kind_in p.value_types t) || value_types t) ≡ true)
+      parts : (nat_lt t (length p.value_types) ≡ true) × ((is_concrete (united.kind_in p.value_types t) || is_valued t) ≡ true)
       parts = and_parts (nat_lt t (length p.value_types)) _ e
 
       within : t < length p.value_types

@@ -65,7 +65,7 @@ use Rattle.patterns_refinement.proofs.Trees.{each_found}
 use Rattle.patterns_refinement.specs.Observing.{is_computed}
 
 -- ---- a property that passes from a value to the operands of its defining operation holds of all bound values, if
--- all matched operations have a form of which it passes
+-- the forms of all matched operations pass it on
 abbrev pub Passes : Operation → (Header → Bool) → (Expression → Bool) → (Value → Type 0) → Type 0
 Passes t verified good Q =
     (f : Expression) (v : Value) (h : Header) → good f ≡ true → defining_op_head t verified v ≡ Some h → rule_of h.name ≡ Some (rule_for f) → Q v → (w : Value) → In w h.operands → Q w

@@ -1,5 +1,5 @@
 -- The patterns that a registry notes as `holds` are proved, and refine what a module computes.
-use Rattle.std.proofs.Common.{◌≡◌, ◌∙◌, Bool, true, false, ◌||◌, List, refl, sym, subst, inl, inr, ◌⊎◌}
+use Rattle.std.proofs.Common.{◌≡◌, Bool, true, true≢false, List, sym, subst, inl, inr, ◌⊎◌}
 use Rattle.std.proofs.lemmas.Bool.{or_cases}
 use Rattle.ir_event.specs.tree_laws.Members.{In}
 use Rattle.user_patterns_data.specs.Shapes.{PatternModel}
@@ -8,8 +8,9 @@ use Rattle.user_patterns_widths.specs.Lasting.{PolynomialsKeep}
 use Rattle.greedy.specs.PatternSet.{RuleOrPatternModel, OfOwn, OfRule}
 use Rattle.patterns_refinement.specs.MixedRuns.{HoldsEverywhere}
 use Rattle.patterns_refinement.specs.ForOutcomes.{HoldsForOutcomes, IsProved, ProvedApplyRefines, ProvedRewriteRefines, is_sound_form}
+use Rattle.patterns_refinement.specs.ForOutcomesSamples.{PoisonRefutes}
 use Rattle.patterns_refinement.proofs.StrictLaws.{registered_proper}
-use Rattle.registry_refinement.specs.Noted.{IsTrulyNoted, NotedApplyRefines, NotedAreProved, NotedRewriteRefines, NotesAreTrue, is_covered}
+use Rattle.registry_refinement.specs.Noted.{IsTrulyNoted, NotedApplyRefines, NotedAreProved, NotedRewriteRefines, NotesAreTrue, WrongIsNeverNoted, is_covered}
 
 -- a pattern that holds by its form
 by_form : PolynomialsKeep → (p : PatternModel) → IsTrulyNoted p → holds_at_all_widths p ≡ true → HoldsEverywhere p
@@ -36,3 +37,12 @@ noted_apply_refines proved refines b reached t is m n x ready range e = refines 
 
 pub noted_rewrite_refines : NotedAreProved → ProvedRewriteRefines → NotedRewriteRefines
 noted_rewrite_refines proved refines b reached ts are limit m n k e ready range i = refines ts (λ t j. proved b reached t (are t j)) limit m n k e ready range i
+
+-- a pattern that poison refutes
+pub never_noted : NotesAreTrue → PoisonRefutes → WrongIsNeverNoted
+never_noted notes refutes b reached name k e same f =
+    let h = subst IsTrulyNoted same (notes b reached name k e f) in
+    elim h.proved [
+      | inl g ↦ true≢false (sym g.0)
+      | inr o ↦ refutes.3 o
+    ]

@@ -11,7 +11,9 @@ use Rattle.user_patterns_data.specs.WellFormed.{is_well_formed}
 use Rattle.user_patterns_build.specs.CanBuild.{can_build}
 use Rattle.user_patterns_build.specs.Unified.{ready}
 use Rattle.user_patterns_build.proofs.Numbered.{is_ready}
-use Rattle.user_patterns_text.specs.Refusing.{Outcome, ◌>>=◌}
+use Rattle.user_patterns_text.specs.Refusing.{Outcome, ◌>>=◌, begins}
+use Rattle.user_patterns_text.specs.Spelled.{whole_at}
+use Rattle.user_patterns_sema.specs.Sema.{formed}
 use Rattle.user_patterns_widths.specs.Passing.{is_passing}
 use Rattle.user_patterns_registry.specs.CheckResult.{IsCheckResult, IsProvedAtAllWidths, asked_width, default_most, is_small, widest}
 use Rattle.user_patterns_registry.specs.Sampled.{IsSampled}
@@ -19,7 +21,7 @@ use Rattle.user_patterns_registry.specs.declared.check_result.CheckResult.{Check
 use Rattle.user_patterns_registry.specs.declared.check_result.CheckResult.TheVariants as judgement
 use Rattle.user_patterns_registry.specs.declared.check_result.CheckSummary.{CheckSummary}
 use Rattle.user_patterns_registry.specs.declared.check_result.CheckSummary.TheVariants as said
-use Rattle.user_patterns_registry.specs.Registry.{AreApart, IsRegistry, Kept, NotingKeepsARegistry, RegistryModel, StaysARegistry, defined, found, is_named, kept_of, made_ready, noted, noted_one, shape_of, with_said}
+use Rattle.user_patterns_registry.specs.Registry.{AreApart, IsRegistry, Kept, NotingKeepsARegistry, RegistryModel, StaysARegistry, added, and_kept, defined, found, is_named, kept_as, kept_of, made_ready, noted, noted_one, room_for, shape_of, variables_of, with_said}
 use Rattle.mlir_work_script.specs.RegistryCommands.{RegistryCommand, Define, Patterns, Check, Sample}
 use Rattle.mlir_work_registry.specs.Notices.{Notice}
 use Rattle.mlir_work_registry.specs.Registries.{Checks, IsChecked, IsDefined, IsNoted, IsRefused, IsSampledAs, IsShelved, Registries, Samples, said_for}
@@ -84,11 +86,11 @@ AllTrue (k ∷ ks) = IsReady k × IsTrue k × AllTrue ks
 found_true : (ks : RegistryModel) → AllTrue ks → (name : List ℕ) (k : Kept) → found name ks ≡ Some k → IsReady k × IsTrue k
 unfolding found
 found_true [] all name k e = absurd (none-some k e)
-found_true (j ∷ ks) all name k e = go (is_named name j) e
+found_true (j ∷ ks) all name k e = go (λ e. found_true ks all.2 name k e) (is_named name j) e
   where
-    go : (b : Bool) → (if b then Some j else found name ks) ≡ Some k → IsReady k × IsTrue k
-    go true e = subst (λ k. IsReady k × IsTrue k) (same_Some _ _ e) (all.0, all.1)
-    go false e = found_true ks all.2 name k e
+    go : (found name ks ≡ Some k → IsReady k × IsTrue k) → (b : Bool) → (if b then Some j else found name ks) ≡ Some k → IsReady k × IsTrue k
+    go more true e = subst (λ k. IsReady k × IsTrue k) (same_Some _ _ e) (all.0, all.1)
+    go more false e = more e
 
 -- ---- a definition
 bound_ok : {A B : Type 0} (o : Outcome A) (f : A → Outcome B) (y : B) → (o >>= f) ≡ Ok y → (x : A) × (o ≡ Ok x) × (f x ≡ Ok y)
@@ -114,18 +116,18 @@ record Fresh (b new : RegistryModel) : Type 0 where
 abbrev IsFresh : Kept → Type 0
 IsFresh k = IsReady k × (k.said ≡ None)
 
-fresh : (b new : RegistryModel) (text : List ℕ) → defined b text ≡ Ok new → Fresh b new
+defined_fresh : (b new : RegistryModel) (text : List ℕ) → defined b text ≡ Ok new → Fresh b new
 unfolding defined kept_of shape_of
-fresh b new text h =
-    let p = bound_ok _ _ new h in
-    let r = bound_ok _ _ new p.2 in
-    let k = bound_ok (kept_of p.0) _ new r.2 in
-    let vs = bound_ok _ _ k.0 k.1 in
-    let t = bound_ok (shape_of p.0) _ k.0 vs.2 in
-    let s = bound_ok _ _ t.0 t.1 in
+defined_fresh b new text h =
+    let p = bound_ok (whole_at text) (λ p. room_for p.name (begins text) b >>= λ _. added b p) new h in
+    let r = bound_ok (room_for p.0.name (begins text) b) (λ _. added b p.0) new p.2 in
+    let k = bound_ok (kept_of p.0) (λ k. Ok (and_kept b k)) new r.2 in
+    let vs = bound_ok (variables_of p.0) (λ vs. shape_of p.0 >>= λ t. Ok (kept_as p.0 vs t)) k.0 k.1 in
+    let t = bound_ok (shape_of p.0) (λ t. Ok (kept_as p.0 vs.0 t)) k.0 vs.2 in
+    let s = bound_ok (formed p.0) (λ s. made_ready (ready s)) t.0 t.1 in
     let right = ready_made s.0 t.0 (ready s.0) refl s.2 in
-    let its : IsFresh k.0 = subst IsFresh (ok_same _ k.0 _ (Ok k.0) refl refl t.2) (right, refl) in
-    record { last = k.0; is = ok_same _ new _ (Ok new) refl refl k.2; ready = its.0; unsaid = its.1 }
+    let its : IsFresh k.0 = subst IsFresh (ok_same (kept_as p.0 vs.0 t.0) k.0 (Ok (kept_as p.0 vs.0 t.0)) (Ok k.0) refl refl t.2) (right, refl) in
+    record { last = k.0; is = ok_same (and_kept b k.0) new (Ok (and_kept b k.0)) (Ok new) refl refl k.2; ready = its.0; unsaid = its.1 }
 
 added_true : (ks : RegistryModel) (k : Kept) → AllTrue ks → IsReady k → k.said ≡ None → AllTrue (ks ++ (k ∷ []))
 added_true [] k all r e = (r, (λ f. absurd (none-some said.AllWidths (sym e ∙ f))), tt)
@@ -141,30 +143,32 @@ module _ (name : List ℕ) (told : CheckSummary) where
   others_true : (ks : RegistryModel) → AllTrue ks → found name ks ≡ None → AllTrue (noted name told ks)
   unfolding found
   others_true [] all e = tt
-  others_true (j ∷ ks) all e = go (is_named name j) refl e
+  others_true (j ∷ ks) all e = go (λ e. others_true ks all.2 e) (is_named name j) refl e
     where
-      go : (b : Bool) → is_named name j ≡ b → (if b then Some j else found name ks) ≡ None → IsReady (noted_one name told j) × IsTrue (noted_one name told j) × AllTrue (noted name told ks)
-      go true i e = absurd (none-some j (sym e))
-      go false i e =
+      go : (found name ks ≡ None → AllTrue (noted name told ks)) → (b : Bool) → is_named name j ≡ b → (if b then Some j else found name ks) ≡ None
+          → IsReady (noted_one name told j) × IsTrue (noted_one name told j) × AllTrue (noted name told ks)
+      go more true i e = absurd (none-some j (sym e))
+      go more false i e =
           let same : j ≡ noted_one name told j = ap (λ b. if b then with_said told j else j) (sym i) in
-          (subst IsReady same all.0, subst IsTrue same all.1, others_true ks all.2 e)
+          (subst IsReady same all.0, subst IsTrue same all.1, more e)
 
   -- one pattern has the name, and the summary is true of it
   noted_true : (ks : RegistryModel) → AllTrue ks → AreApart ks → (k : Kept) → found name ks ≡ Some k → (told ≡ said.AllWidths → CheckedSo k.shape) → AllTrue (noted name told ks)
   unfolding found
   noted_true [] all apart k e right = tt
-  noted_true (j ∷ ks) all apart k e right = go (is_named name j) refl e
+  noted_true (j ∷ ks) all apart k e right = go (λ e. others_true ks all.2 e) (λ e. noted_true ks all.2 apart.1 k e right) (is_named name j) refl e
     where
-      go : (b : Bool) → is_named name j ≡ b → (if b then Some j else found name ks) ≡ Some k → IsReady (noted_one name told j) × IsTrue (noted_one name told j) × AllTrue (noted name told ks)
-      go true i e =
+      go : (found name ks ≡ None → AllTrue (noted name told ks)) → (found name ks ≡ Some k → AllTrue (noted name told ks)) → (b : Bool) → is_named name j ≡ b
+          → (if b then Some j else found name ks) ≡ Some k → IsReady (noted_one name told j) × IsTrue (noted_one name told j) × AllTrue (noted name told ks)
+      go others more true i e =
           let same : with_said told j ≡ noted_one name told j = ap (λ b. if b then with_said told j else j) (sym i) in
           let is : j ≡ k = same_Some _ _ e in
           let its : j.name ≡ name = (bytes_eq-Decides j.name name).0 i in
           let one : IsTrue (with_said told j) = (λ f. subst (λ (k : Kept). CheckedSo k.shape) (sym is) (right (same_Some _ _ f))) in
-          (subst IsReady same all.0, subst IsTrue same one, others_true ks all.2 (ap (λ n. found n ks) (sym its) ∙ apart.0))
-      go false i e =
+          (subst IsReady same all.0, subst IsTrue same one, others (ap (λ n. found n ks) (sym its) ∙ apart.0))
+      go others more false i e =
           let same : j ≡ noted_one name told j = ap (λ b. if b then with_said told j else j) (sym i) in
-          (subst IsReady same all.0, subst IsTrue same all.1, noted_true ks all.2 apart.1 k e right)
+          (subst IsReady same all.0, subst IsTrue same all.1, more e)
 
 -- ---- commands
 module _ (stays : StaysARegistry) (noting : NotingKeepsARegistry) where
@@ -176,7 +180,7 @@ module _ (stays : StaysARegistry) (noting : NotingKeepsARegistry) where
 
   defined_good : (text : List ℕ) (b c : RegistryModel) (notice : Notice) (bytes : List ℕ) (o : Outcome RegistryModel) → defined b text ≡ o → Good b → IsDefined o text b notice bytes c → Good c
   defined_good text b c notice bytes (Ok new) e g is =
-      let f = fresh b new text e in
+      let f = defined_fresh b new text e in
       subst Good (sym is.2) (stays b new text g.0 e, subst AllTrue f.is (added_true b f.last g.1 f.ready f.unsaid))
   defined_good text b c notice bytes (Err fault) e g is = refused_good b c g is.2
 

@@ -17,6 +17,7 @@ use Rattle.patterns_refinement.specs.Keeping.{IsReady}
 use Rattle.patterns_refinement.specs.Runs.{kept_rules}
 use Rattle.patterns_refinement.specs.Refining.{IsRefinedBy}
 use Rattle.patterns_refinement.specs.ForOutcomes.{IsInRange, IsProved, applied, is_sound_form}
+use Rattle.patterns_refinement.specs.ForOutcomesSamples.{choice_as_and}
 use Rattle.user_patterns_registry.specs.CheckResult.{IsProvedAtAllWidths}
 use Rattle.user_patterns_registry.specs.declared.check_result.CheckSummary.TheVariants as said
 use Rattle.user_patterns_registry.specs.Registry.{RegistryModel, Kept, found}
@@ -82,3 +83,10 @@ NotedRewriteRefines =
     (b : RegistryModel) → IsReached b → (ts : List RuleOrPatternModel) → ((t : RuleOrPatternModel) → In t ts → IsNotedIn b t)
     → (limit : ℕ) (m n : Module) (k : ℕ) (e : End) → IsReady m → IsInRange m → rewriting_of (by_attempts ts) limit m ≡ ended n k e
     → IsReady n × IsInRange n × IsRefinedBy m n
+
+-- ---- a wrong pattern
+-- no session notes `select(c, a, false) => andi(c, a)` as `holds`: it is wrong if a is poison, though it holds for all
+-- known values
+abbrev pub WrongIsNeverNoted : Type 0
+WrongIsNeverNoted =
+    (b : RegistryModel) → IsReached b → (name : List ℕ) (k : Kept) → found name b ≡ Some k → k.shape ≡ choice_as_and → k.said ≡ Some said.AllWidths → ⊥

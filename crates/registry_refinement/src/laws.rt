@@ -1,7 +1,8 @@
 //! From the reply to a check to the module: laws of patterns that a registry notes as `holds` without a width.
-ghost use Rattle.registry_refinement.specs.Noted.{NotedApplyRefines, NotedAreProved, NotedRewriteRefines, NotesAreTrue};
+ghost use Rattle.registry_refinement.specs.Noted.{NotedApplyRefines, NotedAreProved, NotedRewriteRefines};
+ghost use Rattle.registry_refinement.specs.Noted.{NotesAreTrue, WrongIsNeverNoted};
 
-use patterns_refinement::proved::proved_patterns_refine;
+use patterns_refinement::proved::{proved_patterns_refine, samples_hold_for_all_outcomes};
 use user_patterns_registry::laws::what_is_defined_is_ready;
 use user_patterns_widths::laws::polynomials_keep;
 
@@ -24,4 +25,12 @@ pub fn noted_patterns_refine()
 {
     noted_patterns_are_proved();
     proved_patterns_refine();
+}
+
+/// No session notes `select(c, a, false) => andi(c, a)` as `holds`, which is wrong if `a` is poison.
+pub fn wrong_patterns_are_not_noted()
+    ensures { WrongIsNeverNoted }
+{
+    noted_patterns_are_proved();
+    samples_hold_for_all_outcomes();
 }
