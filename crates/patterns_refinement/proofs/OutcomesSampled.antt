@@ -3,7 +3,7 @@ use Rattle.std.proofs.Common.{◌≡◌, ℕ, zero, suc, ◌<◌, refl, ap, sym,
 use Rattle.std.specs.Prelude.{◌==◌, if◌then◌else◌}
 use Rattle.ir_types.specs.declared.bits.BitsKind.{BitsKind}
 use Rattle.ir_types.specs.declared.bits.BitsKind.TheVariants as kind
-use Rattle.dialects_int.specs.Folds.{Known}
+use Rattle.ir_types.specs.Readings.{wrapped}
 use Rattle.user_patterns_check.specs.Cases.{AreBelow}
 use Rattle.user_patterns_check.specs.Checks.{AlwaysKeeps, counts, keeps, refines}
 use Rattle.user_patterns_check.specs.Outcomes.{Outcome}
@@ -44,6 +44,7 @@ two : (v : ℕ) → suc (suc v) < 2 → ⊥
 two v l = omega (arith, l)
 
 known_kept : AlwaysKeeps (content_with (kind.Int 1 ∷ []) choice_as_and)
+unfolding wrapped
 known_kept [] l = absurd l
 known_kept (c ∷ []) l = absurd l.1
 known_kept (c ∷ a ∷ b ∷ vs) l = absurd l.1.1
@@ -57,6 +58,7 @@ known_kept ((suc (suc c)) ∷ a ∷ []) l = absurd (two c l.0)
 
 -- c is 0, and a is poison
 refuted : HoldsAtAllWidths choice_as_and → ⊥
+unfolding wrapped
 refuted holds = true≢false (sym (holds (kind.Int 1 ∷ []) refl (refl, tt) (Some (kind.Int 1, 0) ∷ None ∷ []) ((refl, below), tt, (tt, tt, tt))))
   where
     below : 0 < 2
