@@ -20,7 +20,7 @@ use Rattle.patterns_base.specs.declared.rule.Rule.TheVariants.{DropZero, EraseDe
 use Rattle.patterns_base.specs.declared.rule.Rule.TheVariants.{FoldToConstant, KeepItself, MirrorComparison}
 use Rattle.patterns_base.specs.declared.rule.Rule.TheVariants.{OpenBranch, OpenLoop, RegroupConstants}
 use Rattle.patterns_base.specs.declared.rule.Rule.TheVariants.{StopLoop, SwapConstant, ZeroRemainder}
-use Rattle.patterns_base.specs.Canonicalization.{greedy_rules}
+use Rattle.patterns_base.specs.Canonicalization.{End, canonicalization_of, ended, greedy_rules}
 use Rattle.patterns_base.specs.RuleNames.{all_rules}
 use Rattle.patterns_base.specs.Rewrites.{becomes, rewrite_of}
 use Rattle.patterns_base.specs.Rules.{OnlyListed, has_rule}

@@ -83,7 +83,7 @@ module _ (accepted : OwnAreAccepted) (p : PatternModel) (proper : IsProper p) (m
   abbrev its_site : Site accepted p proper m n x ready rewrites
   its_site = site_of accepted p proper m n x ready rewrites
 
-  here_at : FoundAt p m x
+  abbrev here_at : FoundAt p m x
   here_at = record { here = its_site.here.here; is_matched = its_site.here.is_matched; types = its_site.here.types; are_types = its_site.here.are_types }
 
   own_range : is_kinded_at (map kind_standing its_site.here.types) p ≡ true → IsInRange n
