@@ -29,7 +29,7 @@ use Rattle.user_patterns_data.specs.declared.pattern.ConstantExpression.{Constan
 use Rattle.user_patterns_data.specs.declared.pattern.ConstantExpression.TheVariants as number
 use Rattle.user_patterns_data.specs.declared.pattern.NewValue.{NewValue}
 use Rattle.user_patterns_data.specs.declared.pattern.NewValue.TheVariants as new
-use Rattle.user_patterns_data.specs.Fitting.{fits, extra_fits, is_asked, is_integer, kind_at, kind_with, kinds_with, number_fits}
+use Rattle.user_patterns_data.specs.Fitting.{fits, extra_fits, is_asked, is_integer, kind_at, kinds_with, number_fits}
 use Rattle.user_patterns_data.specs.Shapes.{PatternModel}
 use Rattle.user_patterns_build.specs.CanBuild.{new_type}
 use Rattle.user_patterns_build.specs.Unified.{is_same}

@@ -1,5 +1,5 @@
 -- Rules and patterns that keep the widths of a module in range, and refine what it computes.
-use Rattle.std.proofs.Common.{◌≡◌, ℕ, ◌-◌, ◌≤◌, refl, sym, ◌∙◌, subst, List, [], ◌∷◌, map, Bool, true, false, ◌&&◌, Option, Some, None, get_or, inl, inr, zero, suc}
+use Rattle.std.proofs.Common.{◌≡◌, ℕ, ◌-◌, ◌≤◌, refl, sym, ◌∙◌, subst, List, [], ◌∷◌, map, Bool, true, false, Option, Some, None, get_or, inl, inr, zero, suc}
 use Rattle.std.specs.Prelude.{if◌then◌else◌, is_some, nat_lt}
 use Rattle.std.specs.List.{list_all}
 use Rattle.std.proofs.lemmas.Bool.{and_from, and_parts}
@@ -35,12 +35,12 @@ use Rattle.patterns_refinement.specs.Better.{kind_in, takes, takes_its}
 use Rattle.patterns_refinement.specs.Improving.{is_without_quotients}
 use Rattle.patterns_refinement.specs.Keeping.{IsReady, done_after}
 use Rattle.patterns_refinement.specs.Runs.{KeptAreKept, kept_rules}
-use Rattle.patterns_refinement.specs.MixedRuns.{HoldsEverywhere, KeptThrough}
-use Rattle.patterns_refinement.specs.Passing.{FoundAt, KeptAt, is_kinded_at, kinds_there}
+use Rattle.patterns_refinement.specs.MixedRuns.{KeptThrough}
+use Rattle.patterns_refinement.specs.Passing.{FoundAt, KeptAt, is_kinded_at}
 use Rattle.patterns_refinement.specs.Strict.{HoldingKeep}
 use Rattle.patterns_refinement.specs.UsedTypes.{uses_only}
 use Rattle.patterns_refinement.specs.ByForm.{is_kinded_by_form}
-use Rattle.patterns_refinement.specs.ForOutcomes.{CanonStaysInRange, HoldsForOutcomes, IsInRange, IsProved, KeepsForOutcomes, OutcomesKeep, PatternsStayInRange, ProvedApplyRefines, ProvedRewriteRefines, RulesStayInRange, applied, has_width, is_had, is_sound_form, numbered}
+use Rattle.patterns_refinement.specs.ForOutcomes.{CanonStaysInRange, IsInRange, IsProved, KeepsForOutcomes, OutcomesKeep, PatternsStayInRange, ProvedApplyRefines, ProvedRewriteRefines, RulesStayInRange, applied, has_width, is_had, is_sound_form, numbered}
 use Rattle.patterns_refinement.proofs.Canonical.{canonicalization_kinds}
 use Rattle.patterns_refinement.proofs.Giving.{after_old}
 use Rattle.patterns_refinement.proofs.Makings.{AllMade, MadeOne, with_all}

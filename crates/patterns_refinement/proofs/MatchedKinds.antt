@@ -1,7 +1,7 @@
 -- A match in a module in range, of a pattern whose form passes the tests: its kinds are kinds of all types that the
 -- pattern uses, and the new values take their operands.
-use Rattle.std.proofs.Common.{◌≡◌, ℕ, zero, suc, ◌+◌, ◌<◌, refl, ap, sym, ◌∙◌, subst, List, [], ◌∷◌, length, map, Bool, true, false, true≢false, ◌&&◌, ◌||◌, eqb, Option, Some, None, slice_get, get_or, ◌⊎◌, inl, inr, arith}
-use Rattle.std.specs.Prelude.{if◌then◌else◌, is_some, nat_lt}
+use Rattle.std.proofs.Common.{◌≡◌, ℕ, zero, suc, ◌+◌, ◌<◌, refl, ap, sym, ◌∙◌, subst, List, [], ◌∷◌, length, map, Bool, true, false, true≢false, ◌||◌, eqb, Some, slice_get, inl, inr, arith}
+use Rattle.std.specs.Prelude.{if◌then◌else◌, nat_lt}
 use Rattle.std.specs.List.{list_all, list_any}
 use Rattle.std.proofs.lemmas.Bool.{and_from, and_parts, ltb-true, or_cases}
 use Rattle.std.proofs.lemmas.Option.{none-some, same_Some, slice_get-get_or, slice_get_within}
@@ -12,9 +12,8 @@ use Rattle.ir_types.specs.Reasons.{is_width}
 use Rattle.ir_types.specs.Terms.{TypeTerm}
 use Rattle.ir_types.proofs.WordNumbers.{all_at}
 use Rattle.ir_tree.specs.declared.value.Value.{Value}
-use Rattle.ir_tree.specs.declared.value.Value.TheVariants.{Arg, Result}
 use Rattle.ir_tree.specs.Meaning.{Operation}
-use Rattle.ir_tree_laws.specs.Values.{has_value, type_of_value}
+use Rattle.ir_tree_laws.specs.Values.{type_of_value}
 use Rattle.ir_tree_laws.proofs.Reasoned.{some_there}
 use Rattle.ir_event.specs.Modules.{Module}
 use Rattle.dialects_int.specs.Folds.{kind_of}
@@ -27,14 +26,13 @@ use Rattle.user_patterns_data.specs.declared.pattern.PatternType.TheVariants as 
 use Rattle.user_patterns_data.specs.declared.pattern.NewValue.{NewValue}
 use Rattle.user_patterns_data.specs.declared.pattern.NewValue.TheVariants as new
 use Rattle.user_patterns_data.specs.declared.pattern.PatternOp.{PatternOp}
-use Rattle.user_patterns_data.specs.Fitting.{content_with, fits, kind_at}
-use Rattle.user_patterns_data.specs.Matching.{Header, Standing, standing, types_at, written}
+use Rattle.user_patterns_data.specs.Fitting.{kind_at}
+use Rattle.user_patterns_data.specs.Matching.{Standing, standing, types_at, written}
 use Rattle.user_patterns_data.specs.Planning.{kind_standing, new_place, old_place, planned}
 use Rattle.user_patterns_data.specs.Shapes.{PatternModel}
 use Rattle.user_patterns_build.specs.CanBuild.{new_type}
 use Rattle.user_patterns_build.specs.Unified as united
 use Rattle.patterns_refinement.specs.Applied.{IsProper}
-use Rattle.patterns_refinement.specs.Better.{kind_in}
 use Rattle.patterns_refinement.specs.Keeping.{IsReady}
 use Rattle.patterns_refinement.specs.Passing.{is_kinded_at}
 use Rattle.patterns_refinement.specs.UsedTypes.{uses_only}

@@ -1,17 +1,16 @@
 -- Patterns that a check found to hold up to a width refine what narrow modules compute, and so do runs of them.
-use Rattle.std.proofs.Common.{◌≡◌, ℕ, zero, suc, ◌+◌, ◌-◌, ◌<◌, ◌≤◌, refl, ap, sym, ◌∙◌, subst, List, [], ◌∷◌, length, map, Bool, true, false, true≢false, ◌&&◌, eqb, eqb-true, Option, Some, None, slice_get, get_or, inl, inr, arith}
-use Rattle.std.specs.Prelude.{if◌then◌else◌, is_some, nat_le, nat_lt, option_map}
+use Rattle.std.proofs.Common.{◌≡◌, ℕ, zero, suc, ◌+◌, ◌-◌, ◌<◌, ◌≤◌, refl, ap, sym, ◌∙◌, subst, List, [], ◌∷◌, length, map, Bool, true, false, true≢false, ◌&&◌, eqb, eqb-true, Option, Some, None, get_or, inl, inr, arith}
+use Rattle.std.specs.Prelude.{if◌then◌else◌, is_some, nat_le, nat_lt}
 use Rattle.std.specs.List.{list_all, list_any, range_with_len}
 use Rattle.std.proofs.lemmas.Bool.{and_parts, cases_lt, ltb-true, or_cases}
 use Rattle.std.proofs.lemmas.Bool.Decides.{nat_tests}
 use Rattle.std.proofs.lemmas.List.{get_or_past}
 use Rattle.std.proofs.lemmas.List.FromFn.{get_or-map-range_with_len}
-use Rattle.std.proofs.lemmas.Option.{get_or_from_slice_get, none-some, same_Some, slice_get-get_or, slice_get-map, slice_get_within}
+use Rattle.std.proofs.lemmas.Option.{none-some, same_Some, slice_get-get_or, slice_get_within}
 use Rattle.ir_types.specs.declared.bits.BitsKind.{BitsKind}
 use Rattle.ir_types.specs.declared.bits.BitsKind.TheVariants as kind
-use Rattle.ir_types.specs.Bits.{type_of, width_of}
+use Rattle.ir_types.specs.Bits.{width_of}
 use Rattle.ir_types.specs.Terms.{TypeTerm}
-use Rattle.ir_types.proofs.SameTerms.{type_is}
 use Rattle.ir_types.proofs.WordNumbers.{all_at}
 use Rattle.ir_tree.specs.declared.value.Value.{Value}
 use Rattle.ir_tree.specs.declared.value.Value.TheVariants.{Arg, Result}
@@ -21,7 +20,6 @@ use Rattle.ir_tree_laws.specs.Values.{has_value, type_of_value}
 use Rattle.ir_tree_laws.proofs.Reasoned.{some_there}
 use Rattle.ir_event.specs.Modules.{Module}
 use Rattle.dialects_int.specs.Folds.{kind_of}
-use Rattle.patterns_laws.proofs.KnownFolds.{given_some, kind_back}
 use Rattle.patterns_base.specs.Looks.{is_verified}
 use Rattle.patterns_base.specs.declared.rule.Rule.{Rule}
 use Rattle.patterns_base.specs.Rewrites.{becomes}
@@ -34,14 +32,12 @@ use Rattle.user_patterns_data.specs.declared.pattern.PatternType.TheVariants as 
 use Rattle.user_patterns_data.specs.declared.pattern.NewValue.{NewValue}
 use Rattle.user_patterns_data.specs.declared.pattern.PatternOp.{PatternOp}
 use Rattle.user_patterns_data.specs.Fitting.{content_with, kind_at, kind_with, kinds_with}
-use Rattle.user_patterns_data.specs.Matching.{types_at, written}
 use Rattle.user_patterns_data.specs.Planning.{kind_standing, old_place, planned}
 use Rattle.user_patterns_data.specs.Shapes.{PatternModel}
 use Rattle.user_patterns_data.specs.WellFormed.{front_stands, kind_stands, sides_stand}
 use Rattle.user_patterns_build.specs.CanBuild.{new_type}
 use Rattle.user_patterns_build.specs.Unified.{first_same}
 use Rattle.user_patterns_build.specs.Unified as united
-use Rattle.user_patterns_apply.proofs.FoundBuilt.{types_keep}
 use Rattle.user_patterns_apply.specs.Own.{OwnAreAccepted}
 use Rattle.greedy.specs.PatternSet.{RuleOrPatternModel, OfOwn, OfRule, attempted}
 use Rattle.patterns_refinement.specs.Better.{kind_in}
@@ -54,7 +50,7 @@ use Rattle.patterns_refinement.proofs.Forms.{kind_is}
 use Rattle.patterns_refinement.proofs.Going.{typed_at, typed_parts}
 use Rattle.patterns_refinement.proofs.MixedRunning.{led}
 use Rattle.patterns_refinement.proofs.Running.{own_of, runs_under}
-use Rattle.patterns_refinement.proofs.Standing.{IsTyped, Stands, stands_standing}
+use Rattle.patterns_refinement.proofs.Standing.{IsTyped, stands_standing}
 use Rattle.patterns_refinement.proofs.PassingMatched.{Here}
 use Rattle.patterns_refinement.proofs.PassingMade.{all_kinds}
 use Rattle.patterns_refinement.proofs.MatchedTypes.{any_at, mapped_at, written_is}

@@ -1,11 +1,11 @@
 -- A pattern that refines for all outcomes of its variables, at the kinds of a match, refines what a ready module
 -- computes.
-use Rattle.std.proofs.Common.{◌≡◌, ℕ, zero, suc, ◌+◌, ◌-◌, ◌<◌, ◌≤◌, ◌^◌, refl, ap, sym, ◌∙◌, subst, List, [], ◌∷◌, ◌++◌, length, map, Bool, true, false, true≢false, eqb, Option, Some, None, slice_get, ◌⊎◌, inl, inr, arith}
+use Rattle.std.proofs.Common.{◌≡◌, ℕ, zero, suc, ◌+◌, ◌<◌, ◌^◌, refl, ap, sym, ◌∙◌, subst, List, [], ◌∷◌, length, map, Bool, true, false, true≢false, eqb, Option, Some, None, slice_get, inl, inr, arith}
 use Rattle.std.specs.Prelude.{if◌then◌else◌, is_some}
 use Rattle.std.specs.List.{list_all, list_any}
 use Rattle.std.proofs.lemmas.Bool.{cases_lt}
 use Rattle.std.proofs.lemmas.List.{length-append, length-map}
-use Rattle.std.proofs.lemmas.Option.{none-some, same_Some, slice_get_within}
+use Rattle.std.proofs.lemmas.Option.{same_Some, slice_get_within}
 use Rattle.ir_types.specs.declared.bits.BitsKind.{BitsKind}
 use Rattle.ir_types.specs.Bits.{width_of}
 use Rattle.ir_types.specs.Terms.{TypeTerm}
@@ -18,25 +18,23 @@ use Rattle.ir_event.specs.Modules.{Module}
 use Rattle.dialects_int.specs.Folds.{Known, kind_of, rule_of}
 use Rattle.patterns_laws.proofs.KnownFolds.{given_at, given_some}
 use Rattle.patterns_base.specs.Looks.{is_verified}
-use Rattle.patterns_base.specs.Rewrites.{becomes}
 use Rattle.user_patterns_check.specs.Checks.{new_refines, old_ran, old_refined, refines, shown}
 use Rattle.user_patterns_check.specs.Contents.{Content}
 use Rattle.user_patterns_check.specs.Outcomes.{Outcome, given, run}
 use Rattle.user_patterns_check.proofs.Following.{run_after}
-use Rattle.user_patterns_claims.specs.Outcomes.{AreOutcomes, IsNumberIf, IsOutcome, keeps_outcomes, old_outcomes}
+use Rattle.user_patterns_claims.specs.Outcomes.{AreOutcomes, IsNumberIf, IsOutcome, old_outcomes}
 use Rattle.user_patterns_data.specs.declared.pattern.Expression.{Expression}
-use Rattle.user_patterns_data.specs.declared.pattern.PatternOp.{PatternOp}
 use Rattle.user_patterns_data.specs.Fitting.{content_with, extra_step, kind_at, number_step, piece_step}
 use Rattle.user_patterns_data.specs.Matching.{Header, Standing, defining_op_head, known, standing}
 use Rattle.user_patterns_data.specs.Planning.{extra_place, kind_standing, known_at, new_place, old_place, outcomes, planned}
 use Rattle.user_patterns_data.specs.Shapes.{PatternModel}
 use Rattle.user_patterns_data.specs.WellFormed.{new_begins, new_ends, old_begins}
-use Rattle.user_patterns_apply.specs.Own.{OwnAreAccepted, own_rewrite}
+use Rattle.user_patterns_apply.specs.Own.{OwnAreAccepted}
 use Rattle.patterns_refinement.specs.Meaning.{Assignment, IsOfType, Obeys, is_arithmetic, makes}
 use Rattle.patterns_refinement.specs.Applied.{IsProper, extra_kind, kinds_after, kinds_given, kinds_matched}
 use Rattle.patterns_refinement.specs.Better.{IsSure, kind_in, may_overflow}
 use Rattle.patterns_refinement.specs.Improving.{makes_no_quotient}
-use Rattle.patterns_refinement.specs.Keeping.{Computing, Improves, IsReady, done_after, is_there}
+use Rattle.patterns_refinement.specs.Keeping.{Computing, IsReady, done_after, is_there}
 use Rattle.patterns_refinement.specs.Passing.{FoundAt, is_kinded_at}
 use Rattle.patterns_refinement.specs.ForOutcomes.{KeepsForOutcomes, OutcomesKeepThere}
 use Rattle.patterns_refinement.proofs.Beginning.{AreKnown, bits_below, constants_are, extra_shows, planner_alike}
@@ -44,7 +42,7 @@ use Rattle.patterns_refinement.proofs.Forms.{defining_op_of, kind_is, rule_for}
 use Rattle.patterns_refinement.proofs.Giving.{Making}
 use Rattle.patterns_refinement.proofs.Going.{formed_parts, made_parts, matched_parts, typed_parts}
 use Rattle.patterns_refinement.proofs.Improved.{new_ready}
-use Rattle.patterns_refinement.proofs.Makings.{all_bare, all_numbers, with_all}
+use Rattle.patterns_refinement.proofs.Makings.{all_bare, all_numbers}
 use Rattle.patterns_refinement.proofs.Monotone.{itself, same_refined, through}
 use Rattle.patterns_refinement.proofs.News.{HasNumbers, ShowsNew, extended, extended_agrees, extended_later, new_place_of, news_run}
 use Rattle.patterns_refinement.proofs.Numbers.{Alike, given_speak, number_fixed, run_alike}

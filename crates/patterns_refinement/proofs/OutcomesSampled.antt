@@ -1,15 +1,13 @@
 -- A sample pattern with a `select` holds for all outcomes, and another one is refuted by poison.
-use Rattle.std.proofs.Common.{◌≡◌, ℕ, zero, suc, ◌<◌, refl, ap, sym, ◌∙◌, subst, List, [], ◌∷◌, Bool, true, false, true≢false, Option, Some, None, slice_get, arith}
+use Rattle.std.proofs.Common.{◌≡◌, ℕ, zero, suc, ◌<◌, refl, sym, subst, [], ◌∷◌, Bool, true, false, true≢false, Some, None, arith}
 use Rattle.std.specs.Prelude.{◌==◌, if◌then◌else◌}
 use Rattle.ir_types.specs.declared.bits.BitsKind.{BitsKind}
 use Rattle.ir_types.specs.declared.bits.BitsKind.TheVariants as kind
 use Rattle.ir_types.specs.Readings.{wrapped}
-use Rattle.user_patterns_check.specs.Cases.{AreBelow}
-use Rattle.user_patterns_check.specs.Checks.{AlwaysKeeps, counts, keeps, refines}
+use Rattle.user_patterns_check.specs.Checks.{AlwaysKeeps, refines}
 use Rattle.user_patterns_check.specs.Outcomes.{Outcome}
 use Rattle.user_patterns_data.specs.Fitting.{content_with}
-use Rattle.user_patterns_claims.specs.Outcomes.{AreKindsOf, AreOutcomes, HoldsAtAllWidths, IsOutcome, are_kinds, keeps_outcomes}
-use Rattle.patterns_refinement.specs.ForOutcomes.{HoldsForOutcomes}
+use Rattle.user_patterns_claims.specs.Outcomes.{HoldsAtAllWidths, IsOutcome, keeps_outcomes}
 use Rattle.patterns_refinement.specs.ForOutcomesSamples.{PoisonRefutes, SampleHolds, choice_as_and, same_choice}
 use Rattle.patterns_refinement.proofs.Monotone.{itself}
 

@@ -2,7 +2,7 @@
 -- tested. In such a module the check of a pattern that passes poison on is enough for refinement, without a premise
 -- at an operation. The same holds for runs of such patterns and rules.
 use Rattle.std.specs.Prelude.{◌≡◌, ◌≤◌, ℕ, List, map, eqb, nat_le, Bool, true, false, ◌&&◌, ◌||◌, Some}
-use Rattle.std.specs.List.{list_all, list_any}
+use Rattle.std.specs.List.{list_any}
 use Rattle.ir_types.specs.declared.bits.BitsKind.{BitsKind}
 use Rattle.ir_types.specs.declared.bits.BitsKind.TheVariants as kind
 use Rattle.ir_tree.specs.declared.value.Value.{Value}
@@ -13,19 +13,11 @@ use Rattle.patterns_base.specs.Rewrites.{becomes, rewrite_of}
 use Rattle.patterns_base.specs.Canonicalization.{End, canonicalization_of, ended}
 use Rattle.user_patterns_check.specs.declared.verdict.Verdict.TheVariants as verdict
 use Rattle.user_patterns_check.specs.Families.{AreWidths, IsVerdict}
-use Rattle.user_patterns_data.specs.declared.pattern.TypeConstraint.{TypeConstraint}
-use Rattle.user_patterns_data.specs.declared.pattern.TypeConstraint.TheVariants as asked
-use Rattle.user_patterns_data.specs.declared.pattern.ExtraConstant.{ExtraConstant}
-use Rattle.user_patterns_data.specs.declared.pattern.ExtraConstant.TheVariants as extra
 use Rattle.user_patterns_data.specs.declared.pattern.PatternType.{PatternType}
 use Rattle.user_patterns_data.specs.declared.pattern.PatternType.TheVariants as sort
-use Rattle.user_patterns_data.specs.declared.pattern.ConstantExpression.{ConstantExpression}
-use Rattle.user_patterns_data.specs.declared.pattern.ConstantExpression.TheVariants as number
-use Rattle.user_patterns_data.specs.declared.pattern.NewValue.{NewValue}
 use Rattle.user_patterns_data.specs.declared.pattern.PatternOp.{PatternOp}
 use Rattle.user_patterns_data.specs.Fitting.{content_at, fits, kinds_with}
 use Rattle.user_patterns_data.specs.Shapes.{PatternModel}
-use Rattle.user_patterns_build.specs.CanBuild.{new_type}
 use Rattle.user_patterns_build.specs.Unified.{first_same}
 use Rattle.user_patterns_build.specs.Unified as united
 use Rattle.user_patterns_apply.specs.Own.{own_rewrite}

@@ -1,13 +1,12 @@
 -- The patterns that a registry notes as `holds` are proved, and refine what a module computes.
-use Rattle.std.proofs.Common.{◌≡◌, Bool, true, true≢false, List, sym, subst, inl, inr, ◌⊎◌}
+use Rattle.std.proofs.Common.{◌≡◌, true, true≢false, sym, subst, inl, inr, ◌⊎◌}
 use Rattle.std.proofs.lemmas.Bool.{or_cases}
-use Rattle.ir_event.specs.tree_laws.Members.{In}
 use Rattle.user_patterns_data.specs.Shapes.{PatternModel}
 use Rattle.user_patterns_widths.specs.AllWidths.{holds_at_all_widths}
 use Rattle.user_patterns_widths.specs.Lasting.{PolynomialsKeep}
-use Rattle.greedy.specs.PatternSet.{RuleOrPatternModel, OfOwn, OfRule}
+use Rattle.greedy.specs.PatternSet.{OfOwn, OfRule}
 use Rattle.patterns_refinement.specs.MixedRuns.{HoldsEverywhere}
-use Rattle.patterns_refinement.specs.ForOutcomes.{HoldsForOutcomes, IsProved, ProvedApplyRefines, ProvedRewriteRefines, is_sound_form}
+use Rattle.patterns_refinement.specs.ForOutcomes.{HoldsForOutcomes, ProvedApplyRefines, ProvedRewriteRefines, is_sound_form}
 use Rattle.patterns_refinement.specs.ForOutcomesSamples.{PoisonRefutes}
 use Rattle.patterns_refinement.proofs.StrictLaws.{registered_proper}
 use Rattle.registry_refinement.specs.Noted.{IsTrulyNoted, NotedApplyRefines, NotedAreProved, NotedRewriteRefines, NotesAreTrue, WrongIsNeverNoted, is_covered}

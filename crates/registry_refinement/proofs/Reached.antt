@@ -1,6 +1,5 @@
 -- The notes of a registry that registry commands made are true.
-use Rattle.std.proofs.Common.{◌≡◌, ◌∙◌, ℕ, zero, suc, ◌≤◌, Bool, true, false, if◌then◌else◌, List, [], ◌∷◌, ◌++◌, Option, Some, None, Result, Ok, Err, refl, sym, ap, subst, arith, inl, inr, ◌⊎◌}
-use Rattle.std.specs.Str.{bytes_eq}
+use Rattle.std.proofs.Common.{◌≡◌, ◌∙◌, ℕ, zero, suc, ◌≤◌, Bool, true, false, if◌then◌else◌, List, [], ◌∷◌, ◌++◌, Option, Some, None, Ok, Err, refl, sym, ap, subst, arith, inl, inr}
 use Rattle.std.proofs.lemmas.Option.{none-some, same_Some}
 use Rattle.std.proofs.lemmas.Slice.Eq.{bytes_eq-Decides}
 use Rattle.user_patterns_check.specs.declared.verdict.Verdict.TheVariants as verdict
@@ -24,8 +23,8 @@ use Rattle.user_patterns_registry.specs.declared.check_result.CheckSummary.TheVa
 use Rattle.user_patterns_registry.specs.Registry.{AreApart, IsRegistry, Kept, NotingKeepsARegistry, RegistryModel, StaysARegistry, added, and_kept, defined, found, is_named, kept_as, kept_of, made_ready, noted, noted_one, room_for, shape_of, variables_of, with_said}
 use Rattle.mlir_work_script.specs.RegistryCommands.{RegistryCommand, Define, Patterns, Check, Sample}
 use Rattle.mlir_work_registry.specs.Notices.{Notice}
-use Rattle.mlir_work_registry.specs.Registries.{Checks, IsChecked, IsDefined, IsNoted, IsRefused, IsSampledAs, IsShelved, Registries, Samples, said_for}
-use Rattle.registry_refinement.specs.Noted.{IsReached, IsTrulyNoted, Leads, NotesAreTrue}
+use Rattle.mlir_work_registry.specs.Registries.{Checks, IsChecked, IsDefined, IsNoted, IsSampledAs, IsShelved, Registries, Samples, said_for}
+use Rattle.registry_refinement.specs.Noted.{Leads, NotesAreTrue}
 
 -- ---- one check
 -- what the note says, but that the pattern can be applied
