@@ -32,7 +32,7 @@ use Rattle.patterns_refinement.proofs.Steps.{push_last, push_other}
 use Rattle.patterns_refinement.proofs.Forms.{FitThere, constant_there, kind_is}
 use Rattle.patterns_refinement.proofs.Numbers.{Alike}
 
-bits_below : (k : BitsKind) (n : ℕ) → is_bits k n ≡ true → n < 2 ^ width_of k
+pub bits_below : (k : BitsKind) (n : ℕ) → is_bits k n ≡ true → n < 2 ^ width_of k
 bits_below k n e = let h = and_parts (is_width (width_of k)) (nat_lt n (2 ^ width_of k)) e in ltb-true n (2 ^ width_of k) h.1
 
 bits_are : (k : BitsKind) (n : ℕ) → is_bits k n ≡ true → bits_of k n ≡ Some (k, n)
@@ -84,10 +84,17 @@ module _ (t : Operation) (verified : Header → Bool) (a : Assignment) (b : Stan
       }
 
   -- ---- the known number at a place
-  pub known_there : FitThere t verified a b → (n : ℕ) (p : PatternModel) (k : ℕ) (v : Value) (x : Known) → known_at t verified n p b k ≡ Some x → Stands k v b → a v ≡ Some x
-  known_there fits n p k v x e s =
+  -- a bound value that a verified constant defines has the constant's number as outcome
+  abbrev pub AreKnown : Type 0
+  AreKnown = (k : ℕ) (v : Value) (x : Known) → Stands k v b → known t verified v ≡ Some x → a v ≡ Some x
+
+  pub are_known : FitThere t verified a b → AreKnown
+  are_known fits k v x s e = constant_there t verified a v x (λ h i. fits k v h s i) e
+
+  pub known_there : AreKnown → (n : ℕ) (p : PatternModel) (k : ℕ) (v : Value) (x : Known) → known_at t verified n p b k ≡ Some x → Stands k v b → a v ≡ Some x
+  known_there knows n p k v x e s =
       let g = given_some (standing k b) (known t verified) x e in
-      constant_there t verified a v x (λ h i. fits k v h s i) (ap (known t verified) (one_stands k v g.0 b s (standing_stands k g.0 b g.1)) ∙ g.2)
+      knows k v x s (ap (known t verified) (one_stands k v g.0 b s (standing_stands k g.0 b g.1)) ∙ g.2)
 
   module _ (n : ℕ) (p : PatternModel) where
     abbrev pub outcome_at : ℕ → Outcome
@@ -108,7 +115,7 @@ module _ (t : Operation) (verified : Header → Bool) (a : Assignment) (b : Stan
     outcomes_long k [] = refl
     outcomes_long k (ty ∷ tys) = ap suc (outcomes_long (k + 1) tys)
 
-    constants_below : (ks : List ℕ) → list_all (is_variable p) ks ≡ true → (k : ℕ) → list_any (eqb k) ks ≡ true → k < length p.values
+    pub constants_below : (ks : List ℕ) → list_all (is_variable p) ks ≡ true → (k : ℕ) → list_any (eqb k) ks ≡ true → k < length p.values
     constants_below [] e k h = absurd (true≢false (sym h))
     constants_below (j ∷ ks) e k h =
         let parts = and_parts (is_variable p j) (list_all (is_variable p) ks) e in
@@ -120,7 +127,7 @@ module _ (t : Operation) (verified : Header → Bool) (a : Assignment) (b : Stan
         below : (k j m : ℕ) → k ≡ j → nat_lt j m ≡ true → k < m
         below k j m i h = grind (arith, nat_tests)
 
-    constants_are : (ks : List ℕ) → list_all (λ k. is_some (known_at t verified n p b k)) ks ≡ true → (k : ℕ) → list_any (eqb k) ks ≡ true → is_some (known_at t verified n p b k) ≡ true
+    pub constants_are : (ks : List ℕ) → list_all (λ k. is_some (known_at t verified n p b k)) ks ≡ true → (k : ℕ) → list_any (eqb k) ks ≡ true → is_some (known_at t verified n p b k) ≡ true
     constants_are [] e k h = absurd (true≢false (sym h))
     constants_are (j ∷ ks) e k h =
         let parts = and_parts (is_some (known_at t verified n p b j)) (list_all (λ k. is_some (known_at t verified n p b k)) ks) e in
@@ -130,10 +137,10 @@ module _ (t : Operation) (verified : Header → Bool) (a : Assignment) (b : Stan
         ]
 
     -- the planner and the environment agree on the values at fixed places
-    pub planner_alike : FitThere t verified a b → list_all (is_variable p) p.constants ≡ true → constants_known t verified n p b ≡ true
-        → (s : Begins 0 p.values []) → Alike p (outcomes t verified n p 0 p.values b) s.env
-    planner_alike fits below all s = record {
-      long = outcomes_long 0 p.values ∙ sym (s.long ∙ no_more (length p.values));
+    pub planner_alike : AreKnown → list_all (is_variable p) p.constants ≡ true → constants_known t verified n p b ≡ true
+        → (env : List Outcome) → length env ≡ length p.values → ((j : ℕ) (v : Value) → j < length p.values → Stands j v b → slice_get env j ≡ Some (a v)) → Alike p (outcomes t verified n p 0 p.values b) env
+    planner_alike knows below all env long shows = record {
+      long = outcomes_long 0 p.values ∙ sym long;
       same = λ k h. elim h [
         | inl c ↦
             let l = constants_below p.constants below k c in
@@ -141,8 +148,8 @@ module _ (t : Operation) (verified : Header → Bool) (a : Assignment) (b : Stan
             let g = given_some (standing k b) (known t verified) x.0 x.1 in
             let s_at = standing_stands k g.0 b g.1 in
             outcomes_at 0 p.values k l ∙ ap (λ j. Some (outcome_at j)) (no_more k) ∙ ap (λ c. Some (if c then known_at t verified n p b k else None)) c ∙ ap (λ o. Some o) x.1
-            ∙ sym (s.shows k g.0 (omega arith) (omega (arith, l)) s_at ∙ ap (λ o. Some o) (known_there fits n p k g.0 x.0 x.1 s_at))
-        | inr l ↦ slice_get_past (outcomes t verified n p 0 p.values b) k (omega (arith, l, outcomes_long 0 p.values)) ∙ sym (slice_get_past s.env k (omega (arith, l, s.long)))
+            ∙ sym (shows k g.0 l s_at ∙ ap (λ o. Some o) (known_there knows n p k g.0 x.0 x.1 s_at))
+        | inr l ↦ slice_get_past (outcomes t verified n p 0 p.values b) k (omega (arith, l, outcomes_long 0 p.values)) ∙ sym (slice_get_past env k (omega (arith, l, long)))
       ];
     }
       where
@@ -156,14 +163,14 @@ module _ (t : Operation) (verified : Header → Bool) (a : Assignment) (b : Stan
     same_there (Some x) (Some None) h = absurd (true≢false (sym h))
     same_there (Some x) (Some (Some y)) h = (x, refl, ap (λ z. Some (Some z)) (sym (one_known x y h)))
 
-    pub extra_shows : FitThere t verified a b → (env : List Outcome) (k : ℕ) (fs : List ExtraConstant) → extra_known t verified n p k fs b env ≡ true
+    pub extra_shows : AreKnown → (env : List Outcome) (k : ℕ) (fs : List ExtraConstant) → extra_known t verified n p k fs b env ≡ true
         → (j : ℕ) (v : Value) → k ≤ j → j < k + length fs → Stands j v b → slice_get env j ≡ Some (a v)
-    extra_shows fits env k [] e j v low high s = absurd (omega (arith, low, high))
-    extra_shows fits env k (f ∷ fs) e j v low high s =
+    extra_shows knows env k [] e j v low high s = absurd (omega (arith, low, high))
+    extra_shows knows env k (f ∷ fs) e j v low high s =
         let h = and_parts (are_same (known_at t verified n p b k) (slice_get env k)) (extra_known t verified n p (k + 1) fs b env) e in
         elim (cases_eq j k) [
           | inl i ↦
               let x = same_there (known_at t verified n p b k) (slice_get env k) h.0 in
-              ap (slice_get env) i ∙ x.2 ∙ ap (λ o. Some o) (sym (known_there fits n p k v x.0 x.1 (subst (λ z. Stands z v b) i s)))
-          | inr m ↦ extra_shows fits env (k + 1) fs h.1 j v (omega (arith, low, m)) (omega (arith, high)) s
+              ap (slice_get env) i ∙ x.2 ∙ ap (λ o. Some o) (sym (known_there knows n p k v x.0 x.1 (subst (λ z. Stands z v b) i s)))
+          | inr m ↦ extra_shows knows env (k + 1) fs h.1 j v (omega (arith, low, m)) (omega (arith, high)) s
         ]

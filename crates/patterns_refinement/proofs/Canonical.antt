@@ -1,9 +1,11 @@
 -- Canonicalization of modules without unrealized casts, and without loops and conditionals of `scf`, refines what
 -- they compute.
-use Rattle.std.proofs.Common.{◌≡◌, ℕ, zero, suc, ◌≤◌, refl, ap, sym, ◌∙◌, subst, List, [], ◌∷◌, Bool, true, false, true≢false, ◌&&◌, ◌||◌, not, Some, ◌⊎◌, inl, inr, slice_get}
+use Rattle.std.proofs.Common.{◌≡◌, ℕ, zero, suc, refl, ap, sym, ◌∙◌, subst, List, [], ◌∷◌, Bool, true, false, true≢false, ◌&&◌, ◌||◌, not, Some, ◌⊎◌, inl, inr, slice_get}
 use Rattle.std.specs.Prelude.{codes}
 use Rattle.std.specs.List.{list_any}
 use Rattle.std.proofs.lemmas.Option.{none-some, same_Some}
+use Rattle.ir_types.specs.declared.bits.BitsKind.{BitsKind}
+use Rattle.ir_types.specs.declared.bits.BitsKind.TheVariants as kind
 use Rattle.ir_tree.specs.Tree.{head}
 use Rattle.ir_tree_laws.specs.Members.{In}
 use Rattle.ir_event.specs.Modules.{Module}
@@ -18,7 +20,7 @@ use Rattle.patterns_base.specs.declared.rule.Rule.TheVariants.{DropZero, EraseDe
 use Rattle.patterns_base.specs.declared.rule.Rule.TheVariants.{FoldToConstant, KeepItself, MirrorComparison}
 use Rattle.patterns_base.specs.declared.rule.Rule.TheVariants.{OpenBranch, OpenLoop, RegroupConstants}
 use Rattle.patterns_base.specs.declared.rule.Rule.TheVariants.{StopLoop, SwapConstant, ZeroRemainder}
-use Rattle.patterns_base.specs.Canonicalization.{greedy_rules}
+use Rattle.patterns_base.specs.Canonicalization.{End, canonicalization_of, ended, greedy_rules}
 use Rattle.patterns_base.specs.RuleNames.{all_rules}
 use Rattle.patterns_base.specs.Rewrites.{becomes, rewrite_of}
 use Rattle.patterns_base.specs.Rules.{OnlyListed, has_rule}
@@ -27,11 +29,11 @@ use Rattle.greedy.specs.Rewriting.{IsOfItsRules}
 use Rattle.patterns_refinement.specs.Canonical.{CanonicalizationKeeps, IsPlain, is_plain, opening_rules}
 use Rattle.patterns_refinement.specs.Keeping.{IsReady}
 use Rattle.patterns_refinement.specs.Runs.{kept_rules}
-use Rattle.patterns_refinement.specs.Narrow.{IsNarrow, NarrowCanonicalizationKeeps}
+use Rattle.patterns_refinement.specs.Narrow.{HaveKinds, NarrowCanonicalizationKeeps, is_narrow}
 use Rattle.patterns_refinement.proofs.AllKept.{all_kept}
 use Rattle.patterns_refinement.proofs.CastingBack.{cast_back_gives, cast_back_ready, casts_back}
 use Rattle.patterns_refinement.proofs.Listed.{led}
-use Rattle.patterns_refinement.proofs.NarrowRules.{fine_narrow}
+use Rattle.patterns_refinement.proofs.NarrowRules.{fine_narrow, truth_narrow}
 use Rattle.patterns_refinement.proofs.PlainRules.{AllPlain, IsFine, all_plain, fine_add_negative, fine_cancel_itself, fine_choose_known, fine_choose_opposite, fine_choose_same, fine_choose_truth, fine_compare_itself, fine_compare_zero, fine_cut_cast, fine_drop_all_ones, fine_drop_one, fine_drop_zero, fine_erase_dead, fine_extend_extension, fine_fold_to_constant, fine_keep_itself, fine_mirror_comparison, fine_regroup_constants, fine_swap_constant, fine_zero_remainder}
 use Rattle.patterns_refinement.proofs.Ruled.{ruled}
 use Rattle.patterns_refinement.proofs.Running.{rules_under}
@@ -121,18 +123,23 @@ module _ (accepted : AreAccepted) (only : OnlyListed) where
       let r = rules_under IsPlain greedy_rules (λ r i m p x plain ready e. one_step m p x r i ready plain e) l.0 m n plain ready l.1 in
       (r.1.0, r.0, r.1.1, r.1.2)
 
-  -- a step keeps narrow modules narrow
-  narrow_step : (most : ℕ) → 1 ≤ most → (m p : Module) (x : ℕ) (r : Rule) → In r greedy_rules → IsReady m → IsPlain m → IsNarrow most m → rewrite_of r m x ≡ becomes p → IsNarrow most p
-  narrow_step most l m p x r i ready plain narrow e = go (one_known greedy_rules all_known r i)
+  -- a step keeps the kinds of a module's values within a set that has `i1`
+  kinds_step : (good : BitsKind → Bool) → good (kind.Int 1) ≡ true → (m p : Module) (x : ℕ) (r : Rule) → In r greedy_rules → IsReady m → IsPlain m → HaveKinds good m → rewrite_of r m x ≡ becomes p → HaveKinds good p
+  kinds_step good l m p x r i ready plain kinds e = go (one_known greedy_rules all_known r i)
     where
-      go : IsKnown r → IsNarrow most p
-      go (inl k) = fine_narrow most accepted l r k.1 m p x ready narrow e
-      go (inr (inl same)) = fine_narrow most accepted l CastBack fine_cast_back m p x ready narrow (ap (λ r. rewrite_of r m x) (sym same) ∙ e)
+      go : IsKnown r → HaveKinds good p
+      go (inl k) = fine_narrow good accepted l r k.1 m p x ready kinds e
+      go (inr (inl same)) = fine_narrow good accepted l CastBack fine_cast_back m p x ready kinds (ap (λ r. rewrite_of r m x) (sym same) ∙ e)
       go (inr (inr lacks)) = absurd (never m p x r ready plain lacks e)
+
+  pub canonicalization_kinds : IsOfItsRules → (good : BitsKind → Bool) → good (kind.Int 1) ≡ true
+      → (limit : ℕ) (m n : Module) (k : ℕ) (e : End) → IsReady m → IsPlain m → HaveKinds good m → canonicalization_of limit m ≡ ended n k e → HaveKinds good n
+  canonicalization_kinds own good l limit m n k e ready plain kinds i =
+      let d = led greedy_rules limit k m n e (own limit m ∙ i) in
+      let r =
+      rules_under (λ m. IsPlain m × HaveKinds good m) greedy_rules (λ r i m p x s ready e. let t = one_step m p x r i ready s.0 e in ((t.0, kinds_step good l m p x r i ready s.0 s.1 e), t.1)) d.0 m n (plain, kinds) ready d.1 in
+      r.0.1
 
   pub canonicalization_narrow : IsOfItsRules → NarrowCanonicalizationKeeps
   canonicalization_narrow own most some limit m n k e ready plain narrow i =
-      let l = led greedy_rules limit k m n e (own limit m ∙ i) in
-      let r =
-      rules_under (λ m. IsPlain m × IsNarrow most m) greedy_rules (λ r i m p x s ready e. let t = one_step m p x r i ready s.0 e in ((t.0, narrow_step most some m p x r i ready s.0 s.1 e), t.1)) l.0 m n (plain, narrow) ready l.1 in
-      r.0.1
+      canonicalization_kinds own (is_narrow most) (truth_narrow most some) limit m n k e ready plain narrow i

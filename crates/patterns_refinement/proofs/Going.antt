@@ -41,7 +41,7 @@ use Rattle.patterns_refinement.proofs.Forms.{FitThere, fit_there, kind_is}
 use Rattle.patterns_refinement.proofs.OfKinds.{OfKinds, extras_run, numbers_run}
 use Rattle.patterns_refinement.proofs.OfBits.{AllOfBits, run_bits}
 use Rattle.patterns_refinement.proofs.Numbers.{Alike, given_speak, number_fixed, run_alike}
-use Rattle.patterns_refinement.proofs.Beginning.{Begins, begins, extra_shows, planner_alike}
+use Rattle.patterns_refinement.proofs.Beginning.{AreKnown, Begins, are_known, begins, extra_shows, planner_alike}
 use Rattle.patterns_refinement.proofs.Olds.{OldsRun, ShowsOld, olds_run}
 use Rattle.patterns_refinement.proofs.News.{HasNumbers, ShowsNew, extended, extended_agrees, extended_later, new_place_of, news_run}
 
@@ -230,6 +230,9 @@ module _ (t : Operation) (verified : Header → Bool) (n : ℕ) (p : PatternMode
   all_fit : FitThere t verified a b
   all_fit = fit_there t verified a done found_fits b kept.are_done kept.are_unbroken
 
+  knows : AreKnown t verified a b ts
+  knows = are_known t verified a b ts all_fit
+
   typed_as : AreTyped t verified n p b ts
   typed_as = typed_parts t verified n p b ts kept.are_types
 
@@ -251,7 +254,7 @@ module _ (t : Operation) (verified : Header → Bool) (n : ℕ) (p : PatternMode
   numbers =
       let r =
       run_alike p steps.given (outcomes t verified n p 0 p.values b) start.env q.env (given_speak p ks (old_begins p) f.extra f.numbers)
-      (planner_alike t verified a b ts n p all_fit f.constants q.constants start) q.numbers in
+      (planner_alike t verified a b ts n p knows f.constants q.constants start.env (omega (arith, start.long)) (λ j v l s. start.shows j v (omega arith) (omega (arith, l)) s)) q.numbers in
       let g = run_grows steps.given start.env r.0 r.1 in
       record {
         env = r.0;
@@ -265,7 +268,7 @@ module _ (t : Operation) (verified : Header → Bool) (n : ℕ) (p : PatternMode
   numbers_show j w o high s = elim o [
     | inl l ↦ elim (cases_lt j (length p.values)) [
       | inl i ↦ numbers.stays j (a w) (start.shows j w (omega arith) (omega (arith, i)) s)
-      | inr i ↦ sym (numbers.alike.same j (inr i)) ∙ extra_shows t verified a b ts n p all_fit q.env (extra_place p) p.extra q.extra j w i (omega (arith, l)) s
+      | inr i ↦ sym (numbers.alike.same j (inr i)) ∙ extra_shows t verified a b ts n p knows q.env (extra_place p) p.extra q.extra j w i (omega (arith, l)) s
     ]
     | inr l ↦ absurd (omega (arith, l, high))
   ]

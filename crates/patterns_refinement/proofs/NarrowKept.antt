@@ -1,17 +1,16 @@
 -- Patterns that a check found to hold up to a width refine what narrow modules compute, and so do runs of them.
-use Rattle.std.proofs.Common.{◌≡◌, ℕ, zero, suc, ◌+◌, ◌-◌, ◌<◌, ◌≤◌, refl, ap, sym, ◌∙◌, subst, List, [], ◌∷◌, length, map, Bool, true, false, true≢false, ◌&&◌, eqb, eqb-true, Option, Some, None, slice_get, get_or, inl, inr, arith}
-use Rattle.std.specs.Prelude.{if◌then◌else◌, is_some, nat_le, nat_lt, option_map}
+use Rattle.std.proofs.Common.{◌≡◌, ℕ, zero, suc, ◌+◌, ◌-◌, ◌<◌, ◌≤◌, refl, ap, sym, ◌∙◌, subst, List, [], ◌∷◌, length, map, Bool, true, false, true≢false, ◌&&◌, eqb, eqb-true, Option, Some, None, get_or, inl, inr, arith}
+use Rattle.std.specs.Prelude.{if◌then◌else◌, is_some, nat_le, nat_lt}
 use Rattle.std.specs.List.{list_all, list_any, range_with_len}
 use Rattle.std.proofs.lemmas.Bool.{and_parts, cases_lt, ltb-true, or_cases}
 use Rattle.std.proofs.lemmas.Bool.Decides.{nat_tests}
 use Rattle.std.proofs.lemmas.List.{get_or_past}
 use Rattle.std.proofs.lemmas.List.FromFn.{get_or-map-range_with_len}
-use Rattle.std.proofs.lemmas.Option.{get_or_from_slice_get, none-some, same_Some, slice_get-get_or, slice_get-map, slice_get_within}
+use Rattle.std.proofs.lemmas.Option.{none-some, same_Some, slice_get-get_or, slice_get_within}
 use Rattle.ir_types.specs.declared.bits.BitsKind.{BitsKind}
 use Rattle.ir_types.specs.declared.bits.BitsKind.TheVariants as kind
-use Rattle.ir_types.specs.Bits.{type_of, width_of}
+use Rattle.ir_types.specs.Bits.{width_of}
 use Rattle.ir_types.specs.Terms.{TypeTerm}
-use Rattle.ir_types.proofs.SameTerms.{type_is}
 use Rattle.ir_types.proofs.WordNumbers.{all_at}
 use Rattle.ir_tree.specs.declared.value.Value.{Value}
 use Rattle.ir_tree.specs.declared.value.Value.TheVariants.{Arg, Result}
@@ -21,7 +20,6 @@ use Rattle.ir_tree_laws.specs.Values.{has_value, type_of_value}
 use Rattle.ir_tree_laws.proofs.Reasoned.{some_there}
 use Rattle.ir_event.specs.Modules.{Module}
 use Rattle.dialects_int.specs.Folds.{kind_of}
-use Rattle.patterns_laws.proofs.KnownFolds.{given_some, kind_back}
 use Rattle.patterns_base.specs.Looks.{is_verified}
 use Rattle.patterns_base.specs.declared.rule.Rule.{Rule}
 use Rattle.patterns_base.specs.Rewrites.{becomes}
@@ -34,28 +32,28 @@ use Rattle.user_patterns_data.specs.declared.pattern.PatternType.TheVariants as 
 use Rattle.user_patterns_data.specs.declared.pattern.NewValue.{NewValue}
 use Rattle.user_patterns_data.specs.declared.pattern.PatternOp.{PatternOp}
 use Rattle.user_patterns_data.specs.Fitting.{content_with, kind_at, kind_with, kinds_with}
-use Rattle.user_patterns_data.specs.Matching.{types_at, written}
 use Rattle.user_patterns_data.specs.Planning.{kind_standing, old_place, planned}
 use Rattle.user_patterns_data.specs.Shapes.{PatternModel}
 use Rattle.user_patterns_data.specs.WellFormed.{front_stands, kind_stands, sides_stand}
 use Rattle.user_patterns_build.specs.CanBuild.{new_type}
 use Rattle.user_patterns_build.specs.Unified.{first_same}
 use Rattle.user_patterns_build.specs.Unified as united
-use Rattle.user_patterns_apply.proofs.FoundBuilt.{types_keep}
 use Rattle.user_patterns_apply.specs.Own.{OwnAreAccepted}
 use Rattle.greedy.specs.PatternSet.{RuleOrPatternModel, OfOwn, OfRule, attempted}
 use Rattle.patterns_refinement.specs.Better.{kind_in}
 use Rattle.patterns_refinement.specs.Keeping.{IsReady}
 use Rattle.patterns_refinement.specs.Runs.{KeptAreKept, kept_rules}
 use Rattle.patterns_refinement.specs.Passing.{KeptAt, is_kinded_at, new_is_defined, piece_passes}
-use Rattle.patterns_refinement.specs.Narrow.{HoldsNarrow, IsNarrow, IsNarrowly, NarrowKeep, NarrowRewritingKeeps, is_visited, is_narrow, is_settled, is_settled_as, new_settled}
+use Rattle.patterns_refinement.specs.Narrow.{HoldsNarrow, IsNarrow, IsNarrowly, NarrowKeep, NarrowRewritingKeeps, is_visited, is_narrow, is_settled, is_settled_as}
+use Rattle.patterns_refinement.specs.UsedTypes.{new_uses}
 use Rattle.patterns_refinement.proofs.Forms.{kind_is}
 use Rattle.patterns_refinement.proofs.Going.{typed_at, typed_parts}
 use Rattle.patterns_refinement.proofs.MixedRunning.{led}
 use Rattle.patterns_refinement.proofs.Running.{own_of, runs_under}
-use Rattle.patterns_refinement.proofs.Standing.{IsTyped, Stands, stands_standing}
+use Rattle.patterns_refinement.proofs.Standing.{IsTyped, stands_standing}
 use Rattle.patterns_refinement.proofs.PassingMatched.{Here}
 use Rattle.patterns_refinement.proofs.PassingMade.{all_kinds}
+use Rattle.patterns_refinement.proofs.MatchedTypes.{any_at, mapped_at, written_is}
 use Rattle.patterns_refinement.proofs.PassingKept.{passing_computing, passing_kinds, passing_ready, site_of}
 use Rattle.patterns_refinement.proofs.NarrowRules.{narrow_rules_keep}
 use Rattle.patterns_refinement.proofs.NarrowTypes.{all_parts, content_same, fits_same, kinded_same}
@@ -87,26 +85,14 @@ are_widths most f h a zero = tt
 are_widths most f h a (suc n) = let q = h a in (q.0, q.1, are_widths most f h (a + 1) n)
 
 -- ---- lists
-any_at : (t : ℕ) (xs : List ℕ) → list_any (eqb t) xs ≡ true → (i : ℕ) × (slice_get xs i ≡ Some t)
-any_at t [] e = absurd (true≢false (sym e))
-any_at t (x ∷ xs) e = elim (or_cases (eqb t x) (list_any (eqb t) xs) e) [
-  | inl i ↦ (0, ap (λ z. Some z) (sym (eqb-true t x i)))
-  | inr i ↦ let r = any_at t xs i in (suc r.0, r.1)
-]
-
 some_narrow : (most : ℕ) (ks : List BitsKind) → list_all (is_narrow most) ks ≡ true → (i : ℕ) (k : BitsKind) → get_or (map (λ k. Some k) ks) i None ≡ Some k → is_narrow most k ≡ true
 some_narrow most [] e i k h = absurd (none-some k h)
 some_narrow most (j ∷ ks) e zero k h = subst (λ k. is_narrow most k ≡ true) (same_Some j k h) (and_parts (is_narrow most j) (list_all (is_narrow most) ks) e).0
 some_narrow most (j ∷ ks) e (suc i) k h = some_narrow most ks (and_parts (is_narrow most j) (list_all (is_narrow most) ks) e).1 i k h
 
-mapped_at : (f : PatternType → BitsKind) (ks : List PatternType) (t : ℕ) → t < length ks → kind_at (map f ks) t ≡ f (united.kind_in ks t)
-mapped_at f ks t l =
-    let at = slice_get-get_or ks t (sort.Concrete kind.Index) l in
-    get_or_from_slice_get (map f ks) t (f (united.kind_in ks t)) (kind.Int 0) (slice_get-map f ks t ∙ ap (option_map f) at)
-
 -- ---- the types of a match in a narrow module
-module _ (most : ℕ) (p : PatternModel) (m : Module) (x : ℕ) (h : HoldsNarrow most p) (ready : IsReady m) (narrow : IsNarrow most m) (os : List Operation) (value : Value) (passes : list_all piece_passes p.old ≡ true) (plan : planned m.tree (is_verified m.tree) m.next p x ≡ Some (os, value))
-    (q : Here m p x passes h.proper ready os value plan) where
+module _ (most : ℕ) (p : PatternModel) (m : Module) (x : ℕ) (h : HoldsNarrow most p) (ready : IsReady m) (narrow : IsNarrow most m) (os : List Operation) (value : Value) (plan : planned m.tree (is_verified m.tree) m.next p x ≡ Some (os, value))
+    (q : Here m p x h.proper ready os value plan) where
   abbrev ks : List BitsKind
   ks = map kind_standing q.types
 
@@ -130,17 +116,6 @@ module _ (most : ℕ) (p : PatternModel) (m : Module) (x : ℕ) (h : HoldsNarrow
             subst (λ t. is_narrow most (kind_at ks t) ≡ true) (same_Some a.0 t (sym a.1 ∙ r.1)) (typed_narrow (old_place p + r.0) a.0 a.2)
       ]
 
-  -- concrete types are bound
-  written_stands : (t : ℕ) (k : BitsKind) → t < length p.value_types → united.kind_in p.value_types t ≡ sort.Concrete k → Stands t (type_of k) q.types
-  written_stands t k l e =
-      let g = given_some (types_at m.tree (is_verified m.tree) 0 p.values q.here (map written p.value_types)) (types_at m.tree (is_verified m.tree) (old_place p) (map PatternOp.ty p.old) q.here) q.types q.are_types in
-      let at : slice_get p.value_types t ≡ Some (sort.Concrete k) = slice_get-get_or p.value_types t (sort.Concrete kind.Index) l ∙ ap (λ z. Some z) e in
-      types_keep type_is m.tree (is_verified m.tree) (old_place p) (map PatternOp.ty p.old) q.here g.0 q.types g.2 t (type_of k)
-      (types_keep type_is m.tree (is_verified m.tree) 0 p.values q.here (map written p.value_types) g.0 g.1 t (type_of k) (slice_get-map written p.value_types t ∙ ap (option_map written) at))
-
-  written_is : (t : ℕ) (k : BitsKind) → t < length p.value_types → united.kind_in p.value_types t ≡ sort.Concrete k → kind_at ks t ≡ k
-  written_is t k l e = kind_is q.types t (type_of k) k (written_stands t k l e) (kind_back k)
-
   -- a settled type is one of the pattern's
   settled_within : (t : ℕ) → is_settled most p t ≡ true → t < length p.value_types
   settled_within t e = elim (cases_lt t (length p.value_types)) [
@@ -152,7 +127,7 @@ module _ (most : ℕ) (p : PatternModel) (m : Module) (x : ℕ) (h : HoldsNarrow
   settled_narrow t e = go (united.kind_in p.value_types t) refl e
     where
       go : (j : PatternType) → united.kind_in p.value_types t ≡ j → is_settled_as most p t j ≡ true → is_narrow most (kind_at ks t) ≡ true
-      go (sort.Concrete k) i s = subst (λ k. is_narrow most k ≡ true) (sym (written_is t k (settled_within t e) i)) s
+      go (sort.Concrete k) i s = subst (λ k. is_narrow most k ≡ true) (sym (written_is p m x h.proper ready os value plan q t k (settled_within t e) i)) s
       go (sort.Variable v) i s = visited_narrow t (and_parts (is_visited most p t) (eqb (first_same (sort.Variable v) p.value_types) t) s).0
 
   -- the widths of the pattern's type variables
@@ -172,7 +147,7 @@ module _ (most : ℕ) (p : PatternModel) (m : Module) (x : ℕ) (h : HoldsNarrow
   settled_same t e = go (united.kind_in p.value_types t) refl e
     where
       go : (j : PatternType) → united.kind_in p.value_types t ≡ j → is_settled_as most p t j ≡ true → kind_at ks t ≡ kind_at (kinds_with widths p.value_types) t
-      go (sort.Concrete k) i s = let l = settled_within t e in written_is t k l i ∙ sym (mapped_at (kind_with widths) p.value_types t l ∙ ap (kind_with widths) i)
+      go (sort.Concrete k) i s = let l = settled_within t e in written_is p m x h.proper ready os value plan q t k l i ∙ sym (mapped_at (kind_with widths) p.value_types t l ∙ ap (kind_with widths) i)
       go (sort.Variable v) i s =
           let l = settled_within t e in
           let r = and_parts (is_visited most p t) (eqb (first_same (sort.Variable v) p.value_types) t) s in
@@ -184,24 +159,24 @@ module _ (most : ℕ) (p : PatternModel) (m : Module) (x : ℕ) (h : HoldsNarrow
   widths_are = are_widths most width_for (λ v. chosen_within most (kind_at ks (first_same (sort.Variable v) p.value_types)) h.some) 0 p.types
 
   pub keeps_here : AlwaysKeeps (content_with (map kind_standing q.types) p)
-  keeps_here = subst AlwaysKeeps (sym (content_same most p ks (kinds_with widths p.value_types) settled_same h.settled)) (h.holds.0 widths widths_are)
+  keeps_here = subst AlwaysKeeps (sym (content_same (is_settled most p) p ks (kinds_with widths p.value_types) settled_same h.settled)) (h.holds.0 widths widths_are)
 
   pub kinded_here : is_kinded_at (map kind_standing q.types) p ≡ true
   kinded_here =
-      kinded_same most p ks (kinds_with widths p.value_types) settled_same h.settled
-      ∙ h.kinded widths widths_are (sym (fits_same most p ks (kinds_with widths p.value_types) settled_same h.settled) ∙ q.parts.widths)
+      kinded_same (is_settled most p) p ks (kinds_with widths p.value_types) settled_same h.settled
+      ∙ h.kinded widths widths_are (sym (fits_same (is_settled most p) p ks (kinds_with widths p.value_types) settled_same h.settled) ∙ q.parts.widths)
 
   -- new values are narrow
-  news_narrow : (ws : List NewValue) → list_all (new_settled most p) ws ≡ true → list_all (is_narrow most) (map (λ w. kind_at (map kind_standing q.types) (new_type w)) ws) ≡ true
+  news_narrow : (ws : List NewValue) → list_all (new_uses (is_settled most p)) ws ≡ true → list_all (is_narrow most) (map (λ w. kind_at (map kind_standing q.types) (new_type w)) ws) ≡ true
   news_narrow [] e = refl
-  news_narrow (w ∷ ws) e = let r = and_parts (new_settled most p w) (list_all (new_settled most p) ws) e in (λ i. settled_narrow (new_type w) r.0 i && news_narrow ws r.1 i)
+  news_narrow (w ∷ ws) e = let r = and_parts (new_uses (is_settled most p) w) (list_all (new_uses (is_settled most p)) ws) e in (λ i. settled_narrow (new_type w) r.0 i && news_narrow ws r.1 i)
 
-  pub kinds_narrow : (kinded : is_kinded_at (map kind_standing q.types) p ≡ true) (v : Value) (k : BitsKind) → all_kinds m p x passes h.proper ready os value plan q kinded v ≡ Some k → is_narrow most k ≡ true
+  pub kinds_narrow : (kinded : is_kinded_at (map kind_standing q.types) p ≡ true) (v : Value) (k : BitsKind) → all_kinds m p x h.proper ready os value plan q kinded v ≡ Some k → is_narrow most k ≡ true
   kinds_narrow kinded (Arg y r j) k e = narrow (Arg y r j) k e
   kinds_narrow kinded (Result y j) k e = go (nat_lt y m.next) e
     where
-      last : list_all (new_settled most p) p.new ≡ true
-      last = (all_parts most p h.settled).news
+      last : list_all (new_uses (is_settled most p)) p.new ≡ true
+      last = (all_parts (is_settled most p) p h.settled).news
 
       go : (b : Bool) → (if b then kind_in m.tree (Result y j) else get_or (map (λ k. Some k) (map (λ w. kind_at (map kind_standing q.types) (new_type w)) p.new)) (y - m.next) None) ≡ Some k → is_narrow most k ≡ true
       go true e = narrow (Result y j) k e
@@ -211,14 +186,14 @@ module _ (most : ℕ) (p : PatternModel) (m : Module) (x : ℕ) (h : HoldsNarrow
 pub narrow_keep : OwnAreAccepted → NarrowKeep
 narrow_keep accepted most p m n x h ready narrow e =
     let t = and_parts (list_all piece_passes p.old) (list_all new_is_defined p.new) h.passing in
-    let s = site_of accepted p t.0 t.1 h.proper m n x ready e in
+    let s = site_of accepted p h.proper m n x ready e in
     let r = s.applied in
-    let kinded = kinded_here most p m x h ready narrow r.made r.value t.0 r.plan s.here in
-    let keeps = keeps_here most p m x h ready narrow r.made r.value t.0 r.plan s.here in (
+    let kinded = kinded_here most p m x h ready narrow r.made r.value r.plan s.here in
+    let keeps = keeps_here most p m x h ready narrow r.made r.value r.plan s.here in (
       (λ v k i.
           let there : has_value v n.tree ≡ true = has_kind n.tree v k i in
-          kinds_narrow most p m x h ready narrow r.made r.value t.0 r.plan s.here kinded v k (sym (passing_kinds accepted p t.0 t.1 h.proper m n x ready e s kinded v there) ∙ i)),
-      (passing_ready accepted p t.0 t.1 h.proper m n x ready e s kinded, passing_computing accepted p t.0 t.1 h.proper m n x ready e s kinded keeps),
+          kinds_narrow most p m x h ready narrow r.made r.value r.plan s.here kinded v k (sym (passing_kinds accepted p h.proper m n x ready e s kinded v there) ∙ i)),
+      (passing_ready accepted p h.proper m n x ready e s kinded, passing_computing accepted p h.proper m n x ready e s kinded t.0 t.1 keeps),
     )
   where
     has_kind : (t : Operation) (v : Value) (k : BitsKind) → kind_in t v ≡ Some k → has_value v t ≡ true

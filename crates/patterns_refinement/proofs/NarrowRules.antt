@@ -1,4 +1,4 @@
--- The listed rules keep narrow modules narrow.
+-- The listed rules keep the kinds of a module's values within a set that has `i1`. So they keep narrow modules narrow.
 use Rattle.std.proofs.Common.{◌≡◌, ℕ, zero, suc, ◌<◌, ◌≤◌, refl, sym, ◌∙◌, subst, List, [], ◌∷◌, Bool, true, false, eqb, Some, slice_get, inl, inr, arith}
 use Rattle.std.specs.Prelude.{if◌then◌else◌, nat_le}
 use Rattle.std.proofs.lemmas.Bool.Decides.{nat_tests}
@@ -28,7 +28,7 @@ use Rattle.patterns_refinement.specs.Meaning.{Each, EachBlock}
 use Rattle.patterns_refinement.specs.Better.{kind_in}
 use Rattle.patterns_refinement.specs.Keeping.{IsReady}
 use Rattle.patterns_refinement.specs.Runs.{kept_rules}
-use Rattle.patterns_refinement.specs.Narrow.{IsNarrow, NarrowRulesKeep, is_narrow}
+use Rattle.patterns_refinement.specs.Narrow.{HaveKinds, NarrowRulesKeep, is_narrow}
 use Rattle.patterns_refinement.proofs.Edited.{blocks_below, blocks_changed, blocks_without, each_both, each_changed, each_without}
 use Rattle.patterns_refinement.proofs.Formed.{is_below}
 use Rattle.patterns_refinement.proofs.PlainRules.{AllPlain, IsFine, IsTypedBy, MakesPlain, fine_add_negative, fine_cancel_itself, fine_choose_known, fine_choose_opposite, fine_choose_same, fine_choose_truth, fine_compare_itself, fine_compare_zero, fine_cut_cast, fine_drop_all_ones, fine_drop_one, fine_drop_zero, fine_erase_dead, fine_expand_difference, fine_expand_min_max, fine_extend_extension, fine_fold_to_constant, fine_keep_itself, fine_mirror_comparison, fine_regroup_constants, fine_swap_constant, fine_zero_remainder}
@@ -37,33 +37,33 @@ use Rattle.patterns_refinement.proofs.Rewritten.{all_blocks, all_put}
 use Rattle.patterns_refinement.proofs.Ruled.{ruled}
 use Rattle.patterns_refinement.proofs.Trees.{ArgumentsAre, ResultsAre, each_found, typed_found}
 
--- ---- types of narrow kinds
-abbrev pub IsSmall : ℕ → TypeTerm → Type 0
-IsSmall most ty = (k : BitsKind) → kind_of ty ≡ Some k → is_narrow most k ≡ true
+-- ---- types of kinds of a set
+abbrev pub IsSmall : (BitsKind → Bool) → TypeTerm → Type 0
+IsSmall good ty = (k : BitsKind) → kind_of ty ≡ Some k → good k ≡ true
 
-abbrev pub AllSmall : ℕ → List TypeTerm → Type 0
-AllSmall most tys = (k : ℕ) (ty : TypeTerm) → slice_get tys k ≡ Some ty → IsSmall most ty
+abbrev pub AllSmall : (BitsKind → Bool) → List TypeTerm → Type 0
+AllSmall good tys = (k : ℕ) (ty : TypeTerm) → slice_get tys k ≡ Some ty → IsSmall good ty
 
-pub alone_small : (most : ℕ) (ty : TypeTerm) → IsSmall most ty → AllSmall most (ty ∷ [])
-alone_small most ty s zero uy e = subst (IsSmall most) (same_Some ty uy e) s
-alone_small most ty s (suc k) uy e = absurd (none-some uy e)
+pub alone_small : (good : BitsKind → Bool) (ty : TypeTerm) → IsSmall good ty → AllSmall good (ty ∷ [])
+alone_small good ty s zero uy e = subst (IsSmall good) (same_Some ty uy e) s
+alone_small good ty s (suc k) uy e = absurd (none-some uy e)
 
-module _ (most : ℕ) where
+module _ (good : BitsKind → Bool) where
   abbrev SmallHead : Header → Type 0
-  SmallHead h = AllSmall most h.results
+  SmallHead h = AllSmall good h.results
 
   abbrev SmallBlock : ℕ → ℕ → List TypeTerm → Type 0
-  SmallBlock y r args = AllSmall most args
+  SmallBlock y r args = AllSmall good args
 
   -- the types of all values of a tree
   pub record AreSmall (t : Operation) : Type 0 where
-    pub results : Each (λ h. AllSmall most h.results) t
-    pub arguments : EachBlock (λ y r args. AllSmall most args) t
+    pub results : Each (λ h. AllSmall good h.results) t
+    pub arguments : EachBlock (λ y r args. AllSmall good args) t
 
-  pub narrow_of : (m : Module) → AreSmall m.tree → IsNarrow most m
-  narrow_of m s v k e = let g = given_some (type_of_value v m.tree) kind_of k e in typed_found (λ w ty. IsSmall most ty) m.tree s.results s.arguments v g.0 g.1 k g.2
+  pub narrow_of : (m : Module) → AreSmall m.tree → HaveKinds good m
+  narrow_of m s v k e = let g = given_some (type_of_value v m.tree) kind_of k e in typed_found (λ w ty. IsSmall good ty) m.tree s.results s.arguments v g.0 g.1 k g.2
 
-  pub small_of : (m : Module) → IsReady m → IsNarrow most m → AreSmall m.tree
+  pub small_of : (m : Module) → IsReady m → HaveKinds good m → AreSmall m.tree
   small_of m ready narrow =
       let old = kinds_are m.tree ready.formed.distinct in
       let below = is_below m.next m.tree ready.formed.below in
@@ -98,16 +98,13 @@ module _ (most : ℕ) where
   part_id Props f h = refl
   part_id Attrs f h = refl
 
-  truth_small : 1 ≤ most → IsSmall most i1
-  truth_small l k e = subst (λ k. is_narrow most k ≡ true) (same_Some (kind.Int 1) k e) (one l)
-    where
-      one : 1 ≤ most → nat_le 1 most ≡ true
-      one l = grind (arith, nat_tests)
+  truth_small : good (kind.Int 1) ≡ true → IsSmall good i1
+  truth_small l k e = subst (λ k. good k ≡ true) (same_Some (kind.Int 1) k e) l
 
-  typed_small : (h : Header) → 1 ≤ most → SmallHead h → (tys : List TypeTerm) → IsTypedBy h tys → AllSmall most tys
-  typed_small h l s tys t = subst (AllSmall most) (sym t.1) (alone_small most t.0 (elim t.2 [ inl e ↦ s 0 t.0 e | inr e ↦ subst (IsSmall most) (sym e) (truth_small l) ]))
+  typed_small : (h : Header) → good (kind.Int 1) ≡ true → SmallHead h → (tys : List TypeTerm) → IsTypedBy h tys → AllSmall good tys
+  typed_small h l s tys t = subst (AllSmall good) (sym t.1) (alone_small good t.0 (elim t.2 [ inl e ↦ s 0 t.0 e | inr e ↦ subst (IsSmall good) (sym e) (truth_small l) ]))
 
-  one_small : (h : Header) → 1 ≤ most → SmallHead h → (e : Edit) (m : Module) → MakesPlain h e → AreSmall m.tree → AreSmall (edited e m).tree
+  one_small : (h : Header) → good (kind.Int 1) ≡ true → SmallHead h → (e : Edit) (m : Module) → MakesPlain h e → AreSmall m.tree → AreSmall (edited e m).tree
   one_small h l s (Make place o) m p r = record {
     results = all_put SmallHead place m.next (o ∷ []) m.tree (typed_small h l s (head o).results p.2, tt) (p.1, tt) r.results;
     arguments = all_blocks SmallBlock place m.next (o ∷ []) m.tree (p.1, tt) r.arguments;
@@ -129,12 +126,12 @@ module _ (most : ℕ) where
   one_small h l s (Move x place) m p r = absurd p
   one_small h l s (DropAttr x k) m p r = absurd p
 
-  all_small : (h : Header) → 1 ≤ most → SmallHead h → (es : List Edit) (m : Module) → AllPlain h es → AreSmall m.tree → AreSmall (all_edited es m).tree
+  all_small : (h : Header) → good (kind.Int 1) ≡ true → SmallHead h → (es : List Edit) (m : Module) → AllPlain h es → AreSmall m.tree → AreSmall (all_edited es m).tree
   all_small h l s [] m p r = r
   all_small h l s (e ∷ es) m p r = all_small h l s es (edited e m) p.1 (one_small h l s e m p.0 r)
 
   -- ---- rules
-  pub fine_narrow : AreAccepted → 1 ≤ most → (r : Rule) → IsFine r → (m n : Module) (x : ℕ) → IsReady m → IsNarrow most m → rewrite_of r m x ≡ becomes n → IsNarrow most n
+  pub fine_narrow : AreAccepted → good (kind.Int 1) ≡ true → (r : Rule) → IsFine r → (m n : Module) (x : ℕ) → IsReady m → HaveKinds good m → rewrite_of r m x ≡ becomes n → HaveKinds good n
   fine_narrow accepted l r fine m n x ready narrow e =
       let q = ruled accepted r m n x ready.formed ready.sorted e in
       let s = small_of m ready narrow in
@@ -154,5 +151,14 @@ each_fine : EachFine kept_rules
 each_fine =
     (fine_erase_dead, (fine_fold_to_constant, (fine_swap_constant, (fine_drop_zero, (fine_drop_one, (fine_drop_all_ones, (fine_cancel_itself, (fine_keep_itself, (fine_zero_remainder, (fine_regroup_constants, (fine_add_negative, (fine_compare_itself, (fine_mirror_comparison, (fine_compare_zero, (fine_choose_same, (fine_choose_known, (fine_choose_truth, (fine_choose_opposite, (fine_extend_extension, (fine_cut_cast, (fine_expand_min_max, (fine_expand_difference, tt))))))))))))))))))))))
 
+pub rules_keep_kinds : AreAccepted → (good : BitsKind → Bool) → good (kind.Int 1) ≡ true → (r : Rule) → In r kept_rules → (m n : Module) (x : ℕ) → IsReady m → HaveKinds good m → rewrite_of r m x ≡ becomes n → HaveKinds good n
+rules_keep_kinds accepted good l r i m n x ready kinds e = fine_narrow good accepted l r (one_fine kept_rules each_fine r i) m n x ready kinds e
+
+pub truth_narrow : (most : ℕ) → 1 ≤ most → is_narrow most (kind.Int 1) ≡ true
+truth_narrow most l = one most l
+  where
+    one : (most : ℕ) → 1 ≤ most → nat_le 1 most ≡ true
+    one most l = grind (arith, nat_tests)
+
 pub narrow_rules_keep : AreAccepted → NarrowRulesKeep
-narrow_rules_keep accepted most l r i m n x ready narrow e = fine_narrow most accepted l r (one_fine kept_rules each_fine r i) m n x ready narrow e
+narrow_rules_keep accepted most l r i m n x ready narrow e = rules_keep_kinds accepted (is_narrow most) (truth_narrow most l) r i m n x ready narrow e

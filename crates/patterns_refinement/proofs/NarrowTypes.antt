@@ -24,7 +24,7 @@ use Rattle.user_patterns_data.specs.Shapes.{PatternModel}
 use Rattle.user_patterns_build.specs.CanBuild.{new_type}
 use Rattle.patterns_refinement.specs.Applied.{extra_kind, kinds_after, kinds_given, kinds_matched, number_kind, piece_kind}
 use Rattle.patterns_refinement.specs.Passing.{form_takes, is_kinded_at, new_takes, news_take}
-use Rattle.patterns_refinement.specs.Narrow.{all_settled, asked_settled, extra_settled, is_settled, new_settled, number_settled, piece_settled}
+use Rattle.patterns_refinement.specs.UsedTypes.{asked_uses, extra_uses, new_uses, number_uses, piece_uses, uses_only}
 use Rattle.patterns_refinement.proofs.StrictForms.{same_mapped, same_tested}
 
 after_same : {X : Type 0} (f g : List BitsKind → X → BitsKind) (test : X → Bool) → ((es : List BitsKind) (x : X) → test x ≡ true → f es x ≡ g es x) → (xs : List X) (es : List BitsKind) → list_all test xs ≡ true → kinds_after f xs es ≡ kinds_after g xs es
@@ -33,40 +33,40 @@ after_same f g test h (x ∷ xs) es e =
     let q = and_parts (test x) (list_all test xs) e in
     ap (λ k. kinds_after f xs (es ++ (k ∷ []))) (h es x q.0) ∙ after_same f g test h xs (es ++ (g es x ∷ [])) q.1
 
--- all parts of the pattern have settled types
-pub record Settled (most : ℕ) (p : PatternModel) : Type 0 where
-  pub values : list_all (is_settled most p) p.values ≡ true
-  pub extra : list_all (extra_settled most p) p.extra ≡ true
-  pub asked : list_all (asked_settled most p) p.type_constraints ≡ true
-  pub given : list_all (number_settled most p) p.given ≡ true
-  pub olds : list_all (piece_settled most p) p.old ≡ true
-  pub news : list_all (new_settled most p) p.new ≡ true
+-- all parts of the pattern use only types that pass a test
+pub record Settled (ok : ℕ → Bool) (p : PatternModel) : Type 0 where
+  pub values : list_all ok p.values ≡ true
+  pub extra : list_all (extra_uses ok) p.extra ≡ true
+  pub asked : list_all (asked_uses ok) p.type_constraints ≡ true
+  pub given : list_all (number_uses ok) p.given ≡ true
+  pub olds : list_all (piece_uses ok) p.old ≡ true
+  pub news : list_all (new_uses ok) p.new ≡ true
 
-pub all_parts : (most : ℕ) (p : PatternModel) → all_settled most p ≡ true → Settled most p
-all_parts most p settled =
-    let a = and_parts (list_all (is_settled most p) p.values) _ settled in
-    let b = and_parts (list_all (extra_settled most p) p.extra) _ a.1 in
-    let c = and_parts (list_all (asked_settled most p) p.type_constraints) _ b.1 in
-    let d = and_parts (list_all (number_settled most p) p.given) _ c.1 in
-    let e = and_parts (list_all (piece_settled most p) p.old) (list_all (new_settled most p) p.new) d.1 in
+pub all_parts : (ok : ℕ → Bool) (p : PatternModel) → uses_only ok p ≡ true → Settled ok p
+all_parts ok p settled =
+    let a = and_parts (list_all ok p.values) _ settled in
+    let b = and_parts (list_all (extra_uses ok) p.extra) _ a.1 in
+    let c = and_parts (list_all (asked_uses ok) p.type_constraints) _ b.1 in
+    let d = and_parts (list_all (number_uses ok) p.given) _ c.1 in
+    let e = and_parts (list_all (piece_uses ok) p.old) (list_all (new_uses ok) p.new) d.1 in
     record { values = a.0; extra = b.0; asked = c.0; given = d.0; olds = e.0; news = e.1 }
 
-module _ (most : ℕ) (p : PatternModel) (js ks : List BitsKind) (same : (t : ℕ) → is_settled most p t ≡ true → kind_at js t ≡ kind_at ks t) (settled : all_settled most p ≡ true) where
-  abbrev all : Settled most p
-  all = all_parts most p settled
+module _ (ok : ℕ → Bool) (p : PatternModel) (js ks : List BitsKind) (same : (t : ℕ) → ok t ≡ true → kind_at js t ≡ kind_at ks t) (settled : uses_only ok p ≡ true) where
+  abbrev all : Settled ok p
+  all = all_parts ok p settled
 
   -- ---- the instance of a check
-  bits_same : (l : Literal) → is_settled most p l.ty ≡ true → bits_with js l ≡ bits_with ks l
+  bits_same : (l : Literal) → ok l.ty ≡ true → bits_with js l ≡ bits_with ks l
   bits_same l e = ap (λ k. if is_width (width_of k) then literal_bits (type_of k) l.negative l.magnitude else None) (same l.ty e)
 
-  written_same : (l : Literal) → is_settled most p l.ty ≡ true → step.Constant (kind_at js l.ty) (or_zero (bits_with js l)) ≡ step.Constant (kind_at ks l.ty) (or_zero (bits_with ks l))
+  written_same : (l : Literal) → ok l.ty ≡ true → step.Constant (kind_at js l.ty) (or_zero (bits_with js l)) ≡ step.Constant (kind_at ks l.ty) (or_zero (bits_with ks l))
   written_same l e = let k = same l.ty e in let b = bits_same l e in (λ i. step.Constant (k i) (or_zero (b i)))
 
-  extra_same : (f : ExtraConstant) → extra_settled most p f ≡ true → extra_step js f ≡ extra_step ks f
+  extra_same : (f : ExtraConstant) → extra_uses ok f ≡ true → extra_step js f ≡ extra_step ks f
   extra_same (extra.Literal l) e = written_same l e
   extra_same (extra.SameAs i) e = refl
 
-  number_same : (n : ConstantExpression) → number_settled most p n ≡ true → number_step js n ≡ number_step ks n
+  number_same : (n : ConstantExpression) → number_uses ok n ≡ true → number_step js n ≡ number_step ks n
   number_same (number.Literal l) e = written_same l e
   number_same (number.Width u) e = ap (λ k. number_step (k ∷ []) (number.Width 0)) (same u e)
   number_same (number.Binary o i j) e = refl
@@ -74,22 +74,22 @@ module _ (most : ℕ) (p : PatternModel) (js ks : List BitsKind) (same : (t : �
   number_same (number.Log2 i) e = refl
   number_same (number.Require i) e = refl
 
-  piece_same : (o : PatternOp) → piece_settled most p o ≡ true → piece_step js o ≡ piece_step ks o
+  piece_same : (o : PatternOp) → piece_uses ok o ≡ true → piece_step js o ≡ piece_step ks o
   piece_same o e = ap (λ k. form_step k o.form) (same o.ty e)
 
-  new_same : (w : NewValue) → new_settled most p w ≡ true → new_step js w ≡ new_step ks w
+  new_same : (w : NewValue) → new_uses ok w ≡ true → new_step js w ≡ new_step ks w
   new_same (new.Operation o) e = piece_same o e
   new_same (new.Constant i u) e = refl
 
   -- ---- the condition under which it may be applied
-  literal_fits : (l : Literal) → is_settled most p l.ty ≡ true → extra_fits js (extra.Literal l) ≡ extra_fits ks (extra.Literal l)
+  literal_fits : (l : Literal) → ok l.ty ≡ true → extra_fits js (extra.Literal l) ≡ extra_fits ks (extra.Literal l)
   literal_fits l e = ap is_some (bits_same l e)
 
-  extra_fit : (f : ExtraConstant) → extra_settled most p f ≡ true → extra_fits js f ≡ extra_fits ks f
+  extra_fit : (f : ExtraConstant) → extra_uses ok f ≡ true → extra_fits js f ≡ extra_fits ks f
   extra_fit (extra.Literal l) e = literal_fits l e
   extra_fit (extra.SameAs i) e = refl
 
-  number_fit : (n : ConstantExpression) → number_settled most p n ≡ true → number_fits js n ≡ number_fits ks n
+  number_fit : (n : ConstantExpression) → number_uses ok n ≡ true → number_fits js n ≡ number_fits ks n
   number_fit (number.Literal l) e = literal_fits l e
   number_fit (number.Width u) e = refl
   number_fit (number.Binary o i j) e = refl
@@ -97,9 +97,9 @@ module _ (most : ℕ) (p : PatternModel) (js ks : List BitsKind) (same : (t : �
   number_fit (number.Log2 i) e = refl
   number_fit (number.Require i) e = refl
 
-  asked_same : (a : TypeConstraint) → asked_settled most p a ≡ true → is_asked js a ≡ is_asked ks a
+  asked_same : (a : TypeConstraint) → asked_uses ok a ≡ true → is_asked js a ≡ is_asked ks a
   asked_same (asked.Narrower s u) e =
-      let q = and_parts (is_settled most p s) (is_settled most p u) e in
+      let q = and_parts (ok s) (ok u) e in
       let f = same s q.0 in
       let g = same u q.1 in
       (λ i. is_integer (f i) && (is_integer (g i) && nat_lt (width_of (f i)) (width_of (g i))))
@@ -107,27 +107,27 @@ module _ (most : ℕ) (p : PatternModel) (js ks : List BitsKind) (same : (t : �
 
   pub fits_same : fits js p ≡ fits ks p
   fits_same =
-      let a = same_tested (is_asked js) (is_asked ks) (asked_settled most p) asked_same p.type_constraints all.asked in
-      let f = same_tested (extra_fits js) (extra_fits ks) (extra_settled most p) extra_fit p.extra all.extra in
-      let n = same_tested (number_fits js) (number_fits ks) (number_settled most p) number_fit p.given all.given in
+      let a = same_tested (is_asked js) (is_asked ks) (asked_uses ok) asked_same p.type_constraints all.asked in
+      let f = same_tested (extra_fits js) (extra_fits ks) (extra_uses ok) extra_fit p.extra all.extra in
+      let n = same_tested (number_fits js) (number_fits ks) (number_uses ok) number_fit p.given all.given in
       (λ i. a i && (f i && n i))
 
   pub content_same : content_with js p ≡ content_with ks p
   content_same =
       let e = fits_same in
-      let v = same_mapped (kind_at js) (kind_at ks) (is_settled most p) same p.values all.values in
-      let f = same_mapped (extra_step js) (extra_step ks) (extra_settled most p) extra_same p.extra all.extra in
-      let g = same_mapped (number_step js) (number_step ks) (number_settled most p) number_same p.given all.given in
-      let o = same_mapped (piece_step js) (piece_step ks) (piece_settled most p) piece_same p.old all.olds in
-      let w = same_mapped (new_step js) (new_step ks) (new_settled most p) new_same p.new all.news in
+      let v = same_mapped (kind_at js) (kind_at ks) ok same p.values all.values in
+      let f = same_mapped (extra_step js) (extra_step ks) (extra_uses ok) extra_same p.extra all.extra in
+      let g = same_mapped (number_step js) (number_step ks) (number_uses ok) number_same p.given all.given in
+      let o = same_mapped (piece_step js) (piece_step ks) (piece_uses ok) piece_same p.old all.olds in
+      let w = same_mapped (new_step js) (new_step ks) (new_uses ok) new_same p.new all.news in
       (λ i. record { applies = e i; value_types = v i; given = f i ++ g i; old = o i; old_result = p.root; new = w i; new_result = p.result })
 
   -- ---- new operations take their operands
-  extra_of : (es : List BitsKind) (f : ExtraConstant) → extra_settled most p f ≡ true → extra_kind js es f ≡ extra_kind ks es f
+  extra_of : (es : List BitsKind) (f : ExtraConstant) → extra_uses ok f ≡ true → extra_kind js es f ≡ extra_kind ks es f
   extra_of es (extra.Literal l) e = same l.ty e
   extra_of es (extra.SameAs i) e = refl
 
-  number_of : (es : List BitsKind) (n : ConstantExpression) → number_settled most p n ≡ true → number_kind js es n ≡ number_kind ks es n
+  number_of : (es : List BitsKind) (n : ConstantExpression) → number_uses ok n ≡ true → number_kind js es n ≡ number_kind ks es n
   number_of es (number.Literal l) e = same l.ty e
   number_of es (number.Width u) e = same u e
   number_of es (number.Binary o i j) e = refl
@@ -137,20 +137,20 @@ module _ (most : ℕ) (p : PatternModel) (js ks : List BitsKind) (same : (t : �
 
   matched_same : kinds_matched js p ≡ kinds_matched ks p
   matched_same =
-      let v = same_mapped (kind_at js) (kind_at ks) (is_settled most p) same p.values all.values in
+      let v = same_mapped (kind_at js) (kind_at ks) ok same p.values all.values in
       ap (λ es. kinds_after (piece_kind js) p.old (kinds_after (number_kind js) p.given (kinds_after (extra_kind js) p.extra es))) v
-      ∙ ap (λ es. kinds_after (piece_kind js) p.old (kinds_after (number_kind js) p.given es)) (after_same (extra_kind js) (extra_kind ks) (extra_settled most p) extra_of p.extra (map (kind_at ks) p.values) all.extra)
-      ∙ ap (kinds_after (piece_kind js) p.old) (after_same (number_kind js) (number_kind ks) (number_settled most p) number_of p.given (kinds_after (extra_kind ks) p.extra (map (kind_at ks) p.values)) all.given)
-      ∙ after_same (piece_kind js) (piece_kind ks) (piece_settled most p) (λ es o e. same o.ty e) p.old (kinds_given ks p) all.olds
+      ∙ ap (λ es. kinds_after (piece_kind js) p.old (kinds_after (number_kind js) p.given es)) (after_same (extra_kind js) (extra_kind ks) (extra_uses ok) extra_of p.extra (map (kind_at ks) p.values) all.extra)
+      ∙ ap (kinds_after (piece_kind js) p.old) (after_same (number_kind js) (number_kind ks) (number_uses ok) number_of p.given (kinds_after (extra_kind ks) p.extra (map (kind_at ks) p.values)) all.given)
+      ∙ after_same (piece_kind js) (piece_kind ks) (piece_uses ok) (λ es o e. same o.ty e) p.old (kinds_given ks p) all.olds
 
-  takes_same : (es : List BitsKind) (w : NewValue) → new_settled most p w ≡ true → new_takes js es w ≡ new_takes ks es w
+  takes_same : (es : List BitsKind) (w : NewValue) → new_uses ok w ≡ true → new_takes js es w ≡ new_takes ks es w
   takes_same es (new.Operation o) e = ap (λ k. is_width (width_of k) && form_takes es k o.form) (same o.ty e)
   takes_same es (new.Constant i u) e = ap (same_kind (kind_at es i)) (same u e)
 
-  news_same : (ws : List NewValue) (es : List BitsKind) → list_all (new_settled most p) ws ≡ true → news_take js es ws ≡ news_take ks es ws
+  news_same : (ws : List NewValue) (es : List BitsKind) → list_all (new_uses ok) ws ≡ true → news_take js es ws ≡ news_take ks es ws
   news_same [] es e = refl
   news_same (w ∷ ws) es e =
-      let q = and_parts (new_settled most p w) (list_all (new_settled most p) ws) e in
+      let q = and_parts (new_uses ok w) (list_all (new_uses ok) ws) e in
       let one = takes_same es w q.0 in
       let more = ap (λ k. news_take js (es ++ (k ∷ [])) ws) (same (new_type w) q.0) ∙ news_same ws (es ++ (kind_at ks (new_type w) ∷ [])) q.1 in
       (λ i. one i && more i)

@@ -65,7 +65,7 @@ use Rattle.patterns_refinement.proofs.Standing.{Stands, ValuesStand, standing_st
 use Rattle.patterns_refinement.proofs.StaysReady.{stays_kinds, stays_ready}
 use Rattle.patterns_refinement.proofs.Steps.{run_grows}
 use Rattle.patterns_refinement.proofs.Trees.{each_found, found_fit, types_found, value_below}
-use Rattle.patterns_refinement.proofs.PassingMatched.{Here, Passes, each_mapped, found_here, defining_op_kinds, matched_all, numbers_of_bits, numbers_of_kinds, operands_known, starts}
+use Rattle.patterns_refinement.proofs.PassingMatched.{Here, Passes, any_form, any_forms, each_mapped, found_here, defining_op_kinds, matched_all, numbers_of_bits, numbers_of_kinds, operands_known, starts}
 use Rattle.patterns_refinement.proofs.PassingMade.{AreBuilt, IsBuilt, IsPlace, are_built, are_made, first_at, given_at_place, news_typed, old_below, placed, run_there, given_long, kinds_long}
 use Rattle.std.proofs.lemmas.List.{get_or_past}
 use Rattle.patterns_refinement.proofs.Beginning.{outcomes_long}
@@ -101,8 +101,8 @@ none_divided (w ∷ ws) e =
     one (new.Operation r) e = by_form r.form e
     one (new.Constant i t) e = refl
 
-module _ (m : Module) (p : PatternModel) (x : ℕ) (passing : list_all piece_passes p.old ≡ true) (defined : list_all new_is_defined p.new ≡ true) (proper : IsProper p) (ready : IsReady m) (os : List Operation) (value : Value)
-    (plan : planned m.tree (is_verified m.tree) m.next p x ≡ Some (os, value)) (q : Here m p x passing proper ready os value plan) (kinded : is_kinded_at (map kind_standing q.types) p ≡ true) where
+module _ (m : Module) (p : PatternModel) (x : ℕ) (proper : IsProper p) (ready : IsReady m) (os : List Operation) (value : Value)
+    (plan : planned m.tree (is_verified m.tree) m.next p x ≡ Some (os, value)) (q : Here m p x proper ready os value plan) (kinded : is_kinded_at (map kind_standing q.types) p ≡ true) where
   abbrev t : Operation
   t = m.tree
 
@@ -115,11 +115,11 @@ module _ (m : Module) (p : PatternModel) (x : ℕ) (passing : list_all piece_pas
   abbrev all_kinds : Value → Option BitsKind
   all_kinds = with_all (kind_in m.tree) m.next None (map (λ k. Some k) (map (λ w. kind_at (map kind_standing q.types) (new_type w)) p.new))
 
-  its_made : AllMade all_kinds os its_kinds
-  its_made = are_made m p x passing proper ready os value plan q kinded
+  pub its_made : AllMade (with_all (kind_in m.tree) m.next None (map (λ k. Some k) (map (λ w. kind_at (map kind_standing q.types) (new_type w)) p.new))) os (map (λ w. kind_at (map kind_standing q.types) (new_type w)) p.new)
+  its_made = are_made m p x proper ready os value plan q kinded
 
   abbrev New_place : ℕ → Type 0
-  New_place j = IsPlace m p x passing proper ready os value plan q kinded j
+  New_place j = IsPlace m p x proper ready os value plan q kinded j
 
   -- a pattern has at most one match
   pub here_at : FoundAt p m x
@@ -128,11 +128,11 @@ module _ (m : Module) (p : PatternModel) (x : ℕ) (passing : list_all piece_pas
   pub root_within : x < m.next
   root_within = value_below m.next t (is_below m.next t ready.formed.below) (Result x 0) q.root
 
-  its_unflagged : AreUnflagged os
+  pub its_unflagged : AreUnflagged os
   its_unflagged = all_unflagged q.types q.parts.env m.next (new_place p) p.new q.here q.parts.last os q.parts.made
 
-  plain : AreNoQuotients os
-  plain = no_quotients q.types q.parts.env m.next (new_place p) p.new q.here q.parts.last os (made_parts p proper.buildable).named (none_divided p.new defined) q.parts.made
+  pub plain : list_all makes_no_quotient p.new ≡ true → AreNoQuotients os
+  plain none = no_quotients q.types q.parts.env m.next (new_place p) p.new q.here q.parts.last os (made_parts p proper.buildable).named none q.parts.made
 
   -- ---- bound values are computed, if the root is executed
   module _ (a : Assignment) (done : ℕ → Bool) (computing : Computing a done m.tree) where
@@ -140,18 +140,18 @@ module _ (m : Module) (p : PatternModel) (x : ℕ) (passing : list_all piece_pas
     later = done_after m.next x done
 
     -- operands of executed operations are available
-    there_pass : Passes m.tree (is_verified m.tree) (λ w. is_there done w ≡ true)
+    there_pass : Passes m.tree (is_verified m.tree) any_form (λ w. is_there done w ≡ true)
     there_pass f v h s e r i w n =
         let g = defining_op_of t (is_verified t) v h e in
         let k = each_found (IsFed done) g.id t computing.fed g.here g.found in
         all_each (is_there done) h.operands (subst (λ (h : Header). list_all (is_there done) h.operands ≡ true) g.heads (k.0 (ap done k.1 ∙ ap (is_there done) (sym g.value) ∙ i))) w n
 
-    there_all : done x ≡ true → (i : ℕ) (w : Value) → Stands i w q.here → is_there done w ≡ true
-    there_all d = matched_all t (is_verified t) (λ w. is_there done w ≡ true) there_pass p x q.here passing proper.named q.is_matched d
+    pub there_all : done x ≡ true → (i : ℕ) (w : Value) → Stands i w q.here → is_there done w ≡ true
+    there_all d = matched_all t (is_verified t) any_form (λ w. is_there done w ≡ true) there_pass p x q.here (any_forms p.old) proper.named q.is_matched d
 
     fine_there : (j : ℕ) (w : Value) → New_place j → j < new_place p + length p.new → Stands j w q.parts.last → done x ≡ true → is_there later w ≡ true
-    fine_there j w o l s d = elim (placed m p x passing proper ready os value plan q kinded j w o l s) [
-      | inl h ↦ still_there m.next x done w (old_below m p x passing proper ready os value plan q kinded j w h) (there_all d j w h.stands)
+    fine_there j w o l s d = elim (placed m p x proper ready os value plan q kinded j w o l s) [
+      | inl h ↦ still_there m.next x done w (old_below m p x proper ready os value plan q kinded j w h) (there_all d j w h.stands)
       | inr h ↦ ap (is_there later) h.is ∙ after_new m.next x done (m.next + h.number) (omega arith) ∙ d
     ]
 
@@ -181,10 +181,10 @@ module _ (m : Module) (p : PatternModel) (x : ℕ) (passing : list_all piece_pas
           all_fed_so (y + 1) (n + 1) ws us (omega (arith, above)) (omega (arith, low)) (omega (arith, sum)) built.1 r.1,
         )
 
-    fed : AllPut (IsFed later) m.next os
-    fed = all_fed_so m.next (new_place p) p.new os (omega arith) (omega arith) (omega arith) (are_built m p x passing proper ready os value plan q kinded) (formed_parts p proper.formed).news
+    pub fed : AllPut (IsFed (done_after m.next x done)) m.next os
+    fed = all_fed_so m.next (new_place p) p.new os (omega arith) (omega arith) (omega arith) (are_built m p x proper ready os value plan q kinded) (formed_parts p proper.formed).news
 
-    value_there : done x ≡ true → is_there later value ≡ true
+    pub value_there : done x ≡ true → is_there (done_after m.next x done) value ≡ true
     value_there d =
         let f = formed_parts p proper.formed in
         let r = new_place_of q.types q.value_types p q.parts.env (λ v. None) (new_ends p) p.result (omega arith) f.result in
@@ -207,7 +207,7 @@ module _ (m : Module) (p : PatternModel) (x : ℕ) (passing : list_all piece_pas
       nothing_given c us js are.1 d,
     )
 
-    making_still : done x ≡ false → Making a m.next x done os value
+    pub making_still : done x ≡ false → Making a m.next x done os value
     making_still d =
         let zs : List Outcome = map (λ (o : Operation). None) os in
         let c = with_all a m.next None zs in
@@ -226,7 +226,7 @@ module _ (m : Module) (p : PatternModel) (x : ℕ) (passing : list_all piece_pas
         }
 
     -- ---- if the root is executed, constants have their known numbers
-    constant_is : done x ≡ true → (i : ℕ) (v : Value) (y : Known) → Stands i v q.here → known m.tree (is_verified m.tree) v ≡ Some y → a v ≡ Some y
+    pub constant_is : done x ≡ true → (i : ℕ) (v : Value) (y : Known) → Stands i v q.here → known m.tree (is_verified m.tree) v ≡ Some y → a v ≡ Some y
     constant_is d i v y s e = constant_there t (is_verified t) a v y fits e
       where
         fits : (h : Header) → defining_op_head t (is_verified t) v ≡ Some h → MakesIt t (is_verified t) a v h
@@ -282,7 +282,7 @@ module _ (m : Module) (p : PatternModel) (x : ℕ) (passing : list_all piece_pas
 
     numbers_long : length q.parts.env ≡ old_place p
     numbers_long =
-        let n = (numbers_of_kinds m p x passing proper ready os value plan q).long in
+        let n = (numbers_of_kinds m p x proper ready os value plan q).long in
         let k = given_long ks p in
         omega (arith, n, k)
 
@@ -310,14 +310,14 @@ module _ (m : Module) (p : PatternModel) (x : ℕ) (passing : list_all piece_pas
             let is = q.variables j h.its_value h.within h.stands in
             let typed = subst (IsOfType is.term) h.is (types_found a t computing.typed h.its_value is.term is.of_value) in
             same_Some _ _ (sym typed.0 ∙ is.of) ∙ sym (first_at ks p j h.within)
-        | inr h ↦ (numbers_of_kinds m p x passing proper ready os value plan q).are j y h.is ∙ sym (given_at_place ks p j h.within)
+        | inr h ↦ (numbers_of_kinds m p x proper ready os value plan q).are j y h.is ∙ sym (given_at_place ks p j h.within)
       ];
     }
 
     places_of_bits : AllOfBits places
     places_of_bits j y e = elim (known_at_place j y e) [
       | inl h ↦ let is = q.variables j h.its_value h.within h.stands in typed_bits is.term (a h.its_value) (types_found a t computing.typed h.its_value is.term is.of_value) y h.is
-      | inr h ↦ numbers_of_bits m p x passing proper ready os value plan q j y h.is
+      | inr h ↦ numbers_of_bits m p x proper ready os value plan q j y h.is
     ]
 
     -- known constants have their planned numbers
@@ -328,7 +328,7 @@ module _ (m : Module) (p : PatternModel) (x : ℕ) (passing : list_all piece_pas
         let long = outcomes_long t (is_verified t) (λ v. None) q.here q.types m.next p 0 p.values in
         let at = slice_get-get_or start i None (omega (arith, l, long)) in
         let same : get_or start i None ≡ Some y = same_Some _ _ (sym (g.stays i (get_or start i None) at) ∙ e) in
-        let s = starts m p x passing proper ready os value plan q i y (at ∙ ap (λ z. Some z) same) in
+        let s = starts m p x proper ready os value plan q i y (at ∙ ap (λ z. Some z) same) in
         variable_is i s.its_value l s.stands ∙ ap (λ z. Some z) (constant_is d i s.its_value y s.stands s.is_known)
 
     have_numbers : done x ≡ true → HasNumbers q.types q.value_types p q.parts.env (λ v. None) places
@@ -340,14 +340,14 @@ module _ (m : Module) (p : PatternModel) (x : ℕ) (passing : list_all piece_pas
           at_place i (omega (arith, w, n)) ∙ ap (λ z. Some z) (at_number i l ∙ get_or_from_slice_get q.parts.env i (Some y) None e)
     ]
 
-    making_poison : done x ≡ true → a (Result x 0) ≡ None → Making a m.next x done os value
-    making_poison d none =
+    making_poison : list_all new_is_defined p.new ≡ true → done x ≡ true → a (Result x 0) ≡ None → Making a m.next x done os value
+    making_poison defined d none =
         let f = formed_parts p proper.formed in
-        let r = run_there m p x passing proper ready os value plan q kinded defined places places_of_kinds (have_numbers d) in
+        let r = run_there m p x proper ready os value plan q kinded defined places places_of_kinds (have_numbers d) in
         let c = extended a m.next (new_place p) r.0 in
         let shows : ShowsNew q.types q.value_types p q.parts.env c (new_place p) places q.here =
         (λ j v o l s. elim o [
-          | inl i ↦ variable_is j v i s ∙ ap (λ z. Some z) (sym (extended_agrees a m.next (new_place p) r.0 v (old_below m p x passing proper ready os value plan q kinded j v (record { within = i; stands = s }))))
+          | inl i ↦ variable_is j v i s ∙ ap (λ z. Some z) (sym (extended_agrees a m.next (new_place p) r.0 v (old_below m p x proper ready os value plan q kinded j v (record { within = i; stands = s }))))
           | inr i ↦ absurd (omega (arith, i, l))
         ]) in
         let n =
@@ -358,7 +358,7 @@ module _ (m : Module) (p : PatternModel) (x : ℕ) (passing : list_all piece_pas
           agrees = extended_agrees a m.next (new_place p) r.0;
           bare = all_bare all_kinds os its_kinds its_made;
           typed = n.2;
-          ready = new_ready c later m.next os n.0 plain its_unflagged;
+          ready = new_ready c later m.next os n.0 (plain (none_divided p.new defined)) its_unflagged;
           fed = fed;
           numbers = all_numbers all_kinds m.next os its_kinds its_made;
           better = λ i. ap (λ o. refines o (c value)) (extended_agrees a m.next (new_place p) r.0 (Result x 0) root_within ∙ none);
@@ -381,14 +381,14 @@ module _ (m : Module) (p : PatternModel) (x : ℕ) (passing : list_all piece_pas
           | inr b ↦ absurd (true≢false (sym known ∙ ap is_some b.2))
         ]
 
-    known_all : done x ≡ true → is_some (a (Result x 0)) ≡ true → (i : ℕ) (w : Value) → Stands i w q.here → IsKnown w
-    known_all d k =
-        matched_all t (is_verified t) IsKnown (λ f v h s e r i w n. record { there = there_pass f v h s e r i.there w n; known = known_pass f v h s e r i w n })
+    known_all : list_all piece_passes p.old ≡ true → done x ≡ true → is_some (a (Result x 0)) ≡ true → (i : ℕ) (w : Value) → Stands i w q.here → IsKnown w
+    known_all passing d k =
+        matched_all t (is_verified t) passes_poison IsKnown (λ f v h s e r i w n. record { there = there_pass f v h refl e r i.there w n; known = known_pass f v h s e r i w n })
         p x q.here passing proper.named q.is_matched (record { there = d; known = k })
 
     -- the pattern matches there
-    is_found : done x ≡ true → is_some (a (Result x 0)) ≡ true → IsFound m.tree (is_verified m.tree) m.next p x a done
-    is_found d k = record {
+    is_found : list_all piece_passes p.old ≡ true → done x ≡ true → is_some (a (Result x 0)) ≡ true → IsFound m.tree (is_verified m.tree) m.next p x a done
+    is_found passing d k = record {
       here = q.here;
       is_matched = q.is_matched;
       types = q.types;
@@ -396,16 +396,16 @@ module _ (m : Module) (p : PatternModel) (x : ℕ) (passing : list_all piece_pas
       of_kinds = q.value_types;
       are_done = λ i v h s e.
           let g = defining_op_of t (is_verified t) v h e in
-          ap (λ v. done (owner v)) g.value ∙ ap (is_there done) (sym g.value) ∙ (known_all d k i v (standing_stands i v q.here s)).there;
-      are_unbroken = λ i v h s e f. (known_all d k i v (standing_stands i v q.here s)).known;
-      variables = λ i v l s. (known_all d k i v (standing_stands i v q.here s)).known;
+          ap (λ v. done (owner v)) g.value ∙ ap (is_there done) (sym g.value) ∙ (known_all passing d k i v (standing_stands i v q.here s)).there;
+      are_unbroken = λ i v h s e f. (known_all passing d k i v (standing_stands i v q.here s)).known;
+      variables = λ i v l s. (known_all passing d k i v (standing_stands i v q.here s)).known;
     }
 
-    module _ (keeps : AlwaysKeeps (content_with (map kind_standing q.types) p)) where
+    module _ (passing : list_all piece_passes p.old ≡ true) (defined : list_all new_is_defined p.new ≡ true) (keeps : AlwaysKeeps (content_with (map kind_standing q.types) p)) where
       goes_there : done x ≡ true → is_some (a (Result x 0)) ≡ true → Goes m.tree (is_verified m.tree) m.next p x a done os value
       unfolding is_found
       goes_there d k =
-          plans_go t (is_verified t) m.next p x a done proper (record { below = is_below m.next t ready.formed.below; fits = computing.fits; typed = computing.typed }) (is_found d k)
+          plans_go t (is_verified t) m.next p x a done proper (record { below = is_below m.next t ready.formed.below; fits = computing.fits; typed = computing.typed }) (is_found passing d k)
           (news_typed ks (kinds_matched ks p) p.new kinded) keeps os value plan
 
       making_known : done x ≡ true → is_some (a (Result x 0)) ≡ true → Making a m.next x done os value
@@ -416,7 +416,7 @@ module _ (m : Module) (p : PatternModel) (x : ℕ) (passing : list_all piece_pas
             agrees = g.agrees;
             bare = all_bare all_kinds os its_kinds its_made;
             typed = g.typed;
-            ready = new_ready g.after later m.next os g.fits plain its_unflagged;
+            ready = new_ready g.after later m.next os g.fits (plain (none_divided p.new defined)) its_unflagged;
             fed = fed;
             numbers = all_numbers all_kinds m.next os its_kinds its_made;
             better = λ i. subst (λ o. refines o (g.after value) ≡ true) (sym (g.agrees (Result x 0) root_within)) g.refined;
@@ -427,7 +427,7 @@ module _ (m : Module) (p : PatternModel) (x : ℕ) (passing : list_all piece_pas
       making = go (done x) refl
         where
           by_root : (o : Outcome) → a (Result x 0) ≡ o → done x ≡ true → Making a m.next x done os value
-          by_root None e d = making_poison d e
+          by_root None e d = making_poison defined d e
           by_root (Some y) e d = making_known d (ap is_some e)
 
           go : (b : Bool) → done x ≡ b → Making a m.next x done os value
@@ -435,17 +435,17 @@ module _ (m : Module) (p : PatternModel) (x : ℕ) (passing : list_all piece_pas
           go false e = making_still e
 
 -- ---- put together
-module _ (accepted : OwnAreAccepted) (p : PatternModel) (passing : list_all piece_passes p.old ≡ true) (defined : list_all new_is_defined p.new ≡ true) (proper : IsProper p) (m n : Module) (x : ℕ) (ready : IsReady m) (rewrites : own_rewrite p m x ≡ becomes n) where
+module _ (accepted : OwnAreAccepted) (p : PatternModel) (proper : IsProper p) (m n : Module) (x : ℕ) (ready : IsReady m) (rewrites : own_rewrite p m x ≡ becomes n) where
   -- a pattern at an operation of a ready module
   pub record Site : Type 0 where
     pub applied : Applies p m n x
-    pub here : Here m p x passing proper ready applied.made applied.value applied.plan
+    pub here : Here m p x proper ready applied.made applied.value applied.plan
     pub free : Free (map (λ o. Make applied.front o) applied.made ++ give x applied.value) m
 
   pub site_of : Site
   site_of =
       let r = applies p m n x rewrites in
-      record { applied = r; here = found_here m p x passing proper ready r.made r.value r.plan; free = accepted p m x ready.formed _ n r.edits r.becomes_it }
+      record { applied = r; here = found_here m p x proper ready r.made r.value r.plan; free = accepted p m x ready.formed _ n r.edits r.becomes_it }
 
   module _ (s : Site) (kinded : is_kinded_at (map kind_standing s.here.types) p ≡ true) where
     pub passing_ready : IsReady n
@@ -454,7 +454,7 @@ module _ (accepted : OwnAreAccepted) (p : PatternModel) (passing : list_all piec
         let q = s.here in
         let ks = map (λ w. kind_at (map kind_standing q.types) (new_type w)) p.new in
         let f = with_all (kind_in m.tree) m.next None (map (λ k. Some k) ks) in
-        let are = are_made m p x passing proper ready r.made r.value r.plan q kinded in
+        let are = are_made m p x proper ready r.made r.value r.plan q kinded in
         let at = all_at (kind_in m.tree) m.next None (map (λ k. Some k) ks) in
         stays_ready m n x r.front r.made r.value ready s.free r.module_is f (λ w l. all_agree (kind_in m.tree) m.next None (map (λ k. Some k) ks) w l)
         (all_bare f r.made ks are) (record { results = all_results f m.next r.made ks are at; take = all_take f m.next r.made ks are }) (all_risen f m.next r.made ks are)
@@ -466,25 +466,30 @@ module _ (accepted : OwnAreAccepted) (p : PatternModel) (passing : list_all piec
         let q = s.here in
         let ks = map (λ w. kind_at (map kind_standing q.types) (new_type w)) p.new in
         let f = with_all (kind_in m.tree) m.next None (map (λ k. Some k) ks) in
-        let are = are_made m p x passing proper ready r.made r.value r.plan q kinded in
+        let are = are_made m p x proper ready r.made r.value r.plan q kinded in
         let at = all_at (kind_in m.tree) m.next None (map (λ k. Some k) ks) in
         stays_kinds m n x r.front r.made r.value ready s.free r.module_is f (λ w l. all_agree (kind_in m.tree) m.next None (map (λ k. Some k) ks) w l)
         (all_bare f r.made ks are) (record { results = all_results f m.next r.made ks are at; take = all_take f m.next r.made ks are }) (all_risen f m.next r.made ks are) v e
 
-    pub passing_computing : AlwaysKeeps (content_with (map kind_standing s.here.types) p) → (a : Assignment) (done : ℕ → Bool) → Computing a done m.tree → Improves a done m (done_after m.next x done) n.tree
-    passing_computing keeps a done computing =
+    -- outcomes of the new operations are outcomes of the module
+    pub making_improves : (a : Assignment) (done : ℕ → Bool) → Computing a done m.tree → Making a m.next x done s.applied.made s.applied.value → Improves a done m (done_after m.next x done) n.tree
+    making_improves a done computing making =
         let r = s.applied in
-        given_improves m n x a done r.front r.made r.value ready.formed (root_within m p x passing defined proper ready r.made r.value r.plan s.here kinded) s.here.computed computing passing_ready.kinded
-        (making m p x passing defined proper ready r.made r.value r.plan s.here kinded a done computing keeps) s.free r.module_is
+        given_improves m n x a done r.front r.made r.value ready.formed (root_within m p x proper ready r.made r.value r.plan s.here kinded) s.here.computed computing passing_ready.kinded making s.free r.module_is
+
+    pub passing_computing : list_all piece_passes p.old ≡ true → list_all new_is_defined p.new ≡ true → AlwaysKeeps (content_with (map kind_standing s.here.types) p) → (a : Assignment) (done : ℕ → Bool) → Computing a done m.tree → Improves a done m (done_after m.next x done) n.tree
+    passing_computing passing defined keeps a done computing =
+        let r = s.applied in
+        making_improves a done computing (making m p x proper ready r.made r.value r.plan s.here kinded a done computing passing defined keeps)
 
 -- ---- the laws
 pub passing_keep : OwnAreAccepted → PassingKeep
 passing_keep accepted p m n x passing proper ready e keeps =
     let t = and_parts (list_all piece_passes p.old) (list_all new_is_defined p.new) passing in
-    let s = site_of accepted p t.0 t.1 proper m n x ready e in
+    let s = site_of accepted p proper m n x ready e in
     let at : FoundAt p m x = record { here = s.here.here; is_matched = s.here.is_matched; types = s.here.types; are_types = s.here.are_types } in
     let k = keeps at in
-    (passing_ready accepted p t.0 t.1 proper m n x ready e s k.0, passing_computing accepted p t.0 t.1 proper m n x ready e s k.0 k.1)
+    (passing_ready accepted p proper m n x ready e s k.0, passing_computing accepted p proper m n x ready e s k.0 t.0 t.1 k.1)
 
 pub checked_passing_keep : OwnAreAccepted → CheckedPassingKeep
 checked_passing_keep accepted p m n x passing proper ready e most holds within =

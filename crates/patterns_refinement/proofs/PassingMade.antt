@@ -45,7 +45,7 @@ use Rattle.patterns_refinement.specs.Meaning.{Assignment, owner}
 use Rattle.patterns_refinement.specs.Applied.{IsProper, form_fits, extra_kind, kinds_after, kinds_given, kinds_matched, new_fits, news_fit, number_kind, piece_kind}
 use Rattle.patterns_refinement.specs.Better.{is_signed_quotient, kind_in, narrows, takes, takes_its}
 use Rattle.patterns_refinement.specs.Keeping.{IsReady}
-use Rattle.patterns_refinement.specs.Passing.{form_takes, is_always_defined, is_kinded_at, new_is_defined, new_takes, news_take, piece_passes}
+use Rattle.patterns_refinement.specs.Passing.{form_takes, is_always_defined, is_kinded_at, new_is_defined, new_takes, news_take}
 use Rattle.patterns_refinement.proofs.Extremes.{compare_is, compare_out, select_is, select_out}
 use Rattle.patterns_refinement.proofs.Formed.{is_below}
 use Rattle.patterns_refinement.proofs.Forms.{form_rule, rule_for}
@@ -274,8 +274,8 @@ module _ (es : List BitsKind) (env : List Outcome) (of : OfKinds es env) where
   step_there k (form.IndexCast c i) d width t l = resized c k i width t l.0
 
 -- ---- the new operations of a plan
-module _ (m : Module) (p : PatternModel) (x : ℕ) (passing : list_all piece_passes p.old ≡ true) (proper : IsProper p) (ready : IsReady m) (os : List Operation) (value : Value) (plan : planned m.tree (is_verified m.tree) m.next p x ≡ Some (os, value))
-    (q : Here m p x passing proper ready os value plan) (kinded : is_kinded_at (map kind_standing q.types) p ≡ true) where
+module _ (m : Module) (p : PatternModel) (x : ℕ) (proper : IsProper p) (ready : IsReady m) (os : List Operation) (value : Value) (plan : planned m.tree (is_verified m.tree) m.next p x ≡ Some (os, value))
+    (q : Here m p x proper ready os value plan) (kinded : is_kinded_at (map kind_standing q.types) p ≡ true) where
   abbrev ks : List BitsKind
   ks = map kind_standing q.types
 
@@ -378,7 +378,7 @@ module _ (m : Module) (p : PatternModel) (x : ℕ) (passing : list_all piece_pas
         (form_made all_kinds r.form built.0 built.1 (kind_at ks r.ty) es named (kind_there q.types q.value_types p q.parts.env no_outcomes r.ty built.1 built.3) test.0 test.1
         (operands_kinds (operands_of r.form) built.0 (omega (arith, low)) high built.2 places))
     one_made (new.Constant i v) o low high built named st t =
-        let numbers = numbers_of_kinds m p x passing proper ready os value plan q in
+        let numbers = numbers_of_kinds m p x proper ready os value plan q in
         let l = slice_get_within q.parts.env i (Some built.0) built.2 in
         let n = numbers.long in
         let is : built.0.0 ≡ kind_at ks v =
@@ -386,7 +386,7 @@ module _ (m : Module) (p : PatternModel) (x : ℕ) (passing : list_all piece_pas
         ∙ same_kinds (kind_at es i) (kind_at ks v) t in
         subst (λ o. MadeOne all_kinds o (kind_at ks v)) built.4
         (constant_made all_kinds built.1 built.0.1 (kind_at ks v) (kind_there q.types q.value_types p q.parts.env no_outcomes v built.1 built.3)
-        (subst (λ k. is_bits k built.0.1 ≡ true) is (numbers_of_bits m p x passing proper ready os value plan q i built.0 built.2)))
+        (subst (λ k. is_bits k built.0.1 ≡ true) is (numbers_of_bits m p x proper ready os value plan q i built.0 built.2)))
 
   all_made_so : (ws : List NewValue) (us : List Operation) (es : List BitsKind) → AreBuilt q.types q.parts.env q.parts.last ws us → list_all is_named ws ≡ true → news_stand p (new_ends p) ws ≡ true → length es + length ws ≡ new_ends p → new_place p ≤ length es
       → news_take ks es ws ≡ true → es ++ map its_kind ws ≡ whole → AllMade all_kinds us (map its_kind ws)

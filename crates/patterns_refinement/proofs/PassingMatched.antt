@@ -1,4 +1,4 @@
--- The bindings of a match of a pattern without `select`, in a ready module.
+-- The bindings of a match of a pattern in a ready module.
 use Rattle.std.proofs.Common.{◌≡◌, ℕ, zero, suc, ◌+◌, ◌-◌, ◌<◌, refl, ap, sym, ◌∙◌, subst, List, [], ◌∷◌, ◌++◌, length, map, Bool, true, false, true≢false, ◌&&◌, eqb, Option, Some, None, slice_get, ◌⊎◌, inl, inr, arith}
 use Rattle.ir_tree.specs.Ids.{find}
 use Rattle.std.specs.Prelude.{codes, is_some, if◌then◌else◌, option_map}
@@ -51,7 +51,7 @@ use Rattle.patterns_refinement.specs.Meaning.{Assignment, makes_by, of_two, resu
 use Rattle.patterns_refinement.specs.Applied.{AreOfKinds, IsProper, extra_kind, kinds_after, kinds_given, matched}
 use Rattle.patterns_refinement.specs.Better.{are_its_bits, is_kind, is_kinded, kind_in, narrows, takes, is_arithmetic_there}
 use Rattle.patterns_refinement.specs.Keeping.{IsReady}
-use Rattle.patterns_refinement.specs.Passing.{passes_poison, piece_passes}
+use Rattle.patterns_refinement.specs.Passing.{passes_poison}
 use Rattle.patterns_refinement.proofs.Beginning.{outcomes_at, outcomes_long}
 use Rattle.patterns_refinement.proofs.Forms.{by_constant, fold_kind, form_rule, defining_op_of, defining_op_type, kind_is, named_is, rule_for}
 use Rattle.patterns_refinement.proofs.Going.{AreTyped, IsPlanned, formed_parts, has_type, made_parts, matched_parts, planned_as, planned_there, typed_at, typed_parts}
@@ -64,16 +64,25 @@ use Rattle.patterns_refinement.proofs.Verified.{HasKind, verified_has_kind}
 use Rattle.patterns_refinement.proofs.Trees.{each_found}
 use Rattle.patterns_refinement.specs.Observing.{is_computed}
 
--- ---- a property that passes from a value to the operands of its defining operation holds of all bound values
-abbrev pub Passes : Operation → (Header → Bool) → (Value → Type 0) → Type 0
-Passes t verified Q =
-    (f : Expression) (v : Value) (h : Header) → passes_poison f ≡ true → defining_op_head t verified v ≡ Some h → rule_of h.name ≡ Some (rule_for f) → Q v → (w : Value) → In w h.operands → Q w
+-- ---- a property that passes from a value to the operands of its defining operation holds of all bound values, if
+-- the forms of all matched operations pass it on
+abbrev pub Passes : Operation → (Header → Bool) → (Expression → Bool) → (Value → Type 0) → Type 0
+Passes t verified good Q =
+    (f : Expression) (v : Value) (h : Header) → good f ≡ true → defining_op_head t verified v ≡ Some h → rule_of h.name ≡ Some (rule_for f) → Q v → (w : Value) → In w h.operands → Q w
 
-module _ (t : Operation) (verified : Header → Bool) (Q : Value → Type 0) (passes : Passes t verified Q) where
+-- all forms
+abbrev pub any_form : Expression → Bool
+any_form f = true
+
+pub any_forms : (os : List PatternOp) → list_all (λ (o : PatternOp). any_form o.form) os ≡ true
+any_forms [] = refl
+any_forms (o ∷ os) = any_forms os
+
+module _ (t : Operation) (verified : Header → Bool) (good : Expression → Bool) (Q : Value → Type 0) (passes : Passes t verified good Q) where
   abbrev pub AllAre : Standing Value → Type 0
   AllAre b = (i : ℕ) (v : Value) → Stands i v b → Q v
 
-  piece_all : (k : ℕ) (p : PatternOp) (b c : Standing Value) → piece_passes p ≡ true → has_name p.form ≡ true → op_matches t verified (k, p) b ≡ Some c → AllAre b → AllAre c
+  piece_all : (k : ℕ) (p : PatternOp) (b c : Standing Value) → good p.form ≡ true → has_name p.form ≡ true → op_matches t verified (k, p) b ≡ Some c → AllAre b → AllAre c
   piece_all k p b c s n e all i w at =
       let u = given_some (standing k b) (λ v. value_matched t verified p v b) c e in
       let g = given_some (defining_op_head t verified u.0) (λ h. header_matched t verified p h b) c u.2 in
@@ -86,16 +95,16 @@ module _ (t : Operation) (verified : Header → Bool) (Q : Value → Type 0) (pa
 
   abbrev AllPass : List (ℕ × PatternOp) → Type 0
   AllPass [] = Unit {0}
-  AllPass (q ∷ ps) = ((piece_passes q.1 ≡ true) × (has_name q.1.form ≡ true)) × AllPass ps
+  AllPass (q ∷ ps) = ((good q.1.form ≡ true) × (has_name q.1.form ≡ true)) × AllPass ps
 
-  pass_after : (ps : List (ℕ × PatternOp)) (q : ℕ × PatternOp) → AllPass ps → (piece_passes q.1 ≡ true) × (has_name q.1.form ≡ true) → AllPass (ps ++ (q ∷ []))
+  pass_after : (ps : List (ℕ × PatternOp)) (q : ℕ × PatternOp) → AllPass ps → (good q.1.form ≡ true) × (has_name q.1.form ≡ true) → AllPass (ps ++ (q ∷ []))
   pass_after [] q s e = (e, tt)
   pass_after (p ∷ ps) q s e = (s.0, pass_after ps q s.1 e)
 
-  pass_placed : (k : ℕ) (ps : List PatternOp) → list_all piece_passes ps ≡ true → list_all (λ (o : PatternOp). has_name o.form) ps ≡ true → AllPass (placed k ps)
+  pass_placed : (k : ℕ) (ps : List PatternOp) → list_all (λ (o : PatternOp). good o.form) ps ≡ true → list_all (λ (o : PatternOp). has_name o.form) ps ≡ true → AllPass (placed k ps)
   pass_placed k [] e n = tt
   pass_placed k (p ∷ ps) e n =
-      let q = and_parts (piece_passes p) (list_all piece_passes ps) e in
+      let q = and_parts (good p.form) (list_all (λ (o : PatternOp). good o.form) ps) e in
       let r = and_parts (has_name p.form) (list_all (λ (o : PatternOp). has_name o.form) ps) n in
       pass_after (placed (k + 1) ps) (k, p) (pass_placed (k + 1) ps q.1 r.1) (q.0, r.0)
 
@@ -110,7 +119,7 @@ module _ (t : Operation) (verified : Header → Bool) (Q : Value → Type 0) (pa
   none_stands (x ∷ xs) zero v e = none-some v (same_Some _ _ e)
   none_stands (x ∷ xs) (suc i) v e = none_stands xs i v e
 
-  pub matched_all : (p : PatternModel) (x : ℕ) (b : Standing Value) → list_all piece_passes p.old ≡ true → list_all (λ (o : PatternOp). has_name o.form) p.old ≡ true → matched t verified p x ≡ Some b → Q (Result x 0) → AllAre b
+  pub matched_all : (p : PatternModel) (x : ℕ) (b : Standing Value) → list_all (λ (o : PatternOp). good o.form) p.old ≡ true → list_all (λ (o : PatternOp). has_name o.form) p.old ≡ true → matched t verified p x ≡ Some b → Q (Result x 0) → AllAre b
   matched_all p x b s n e q =
       let g = given_some (bound same_value p.root (Result x 0) (nothing (places p))) (λ b. ops_match t verified (placed (old_place p) p.old) b) b e in
       pieces_all (placed (old_place p) p.old) g.0 b (pass_placed (old_place p) p.old s n) g.2
@@ -158,12 +167,22 @@ module _ (h : Header) (k : BitsKind) where
   index_kind c (j ∷ []) e = λ z. some_resized c k j e z && true
   index_kind c (j ∷ l ∷ js) e = absurd (true≢false (sym e))
 
-  pub operands_of_kinds : (f : Expression) (js : List (Option BitsKind)) → passes_poison f ≡ true → takes (rule_for f) h k js ≡ true → list_all is_some js ≡ true
-  operands_of_kinds (form.Binary o i j) js s e = two_kinds o js e
-  operands_of_kinds (form.Compare q i j) js s e = compared_kinds js e
-  operands_of_kinds (form.Select c i j) js s e = absurd (true≢false (sym s))
-  operands_of_kinds (form.IntegerCast c i) js s e = resized_kind c js e
-  operands_of_kinds (form.IndexCast c i) js s e = index_kind c js e
+  selected_kinds : (js : List (Option BitsKind)) → takes how.Select h k js ≡ true → list_all is_some js ≡ true
+  selected_kinds [] e = absurd (true≢false (sym e))
+  selected_kinds (c ∷ []) e = absurd (true≢false (sym e))
+  selected_kinds (c ∷ i ∷ []) e = absurd (true≢false (sym e))
+  selected_kinds (c ∷ i ∷ j ∷ []) e =
+      let q = and_parts (is_kind (kind.Int 1) c) (is_kind k i && is_kind k j) e in
+      let r = and_parts (is_kind k i) (is_kind k j) q.1 in
+      (λ z. some_kind (kind.Int 1) c q.0 z && (some_kind k i r.0 z && (some_kind k j r.1 z && true)))
+  selected_kinds (c ∷ i ∷ j ∷ l ∷ js) e = absurd (true≢false (sym e))
+
+  operands_of_kinds : (f : Expression) (js : List (Option BitsKind)) → takes (rule_for f) h k js ≡ true → list_all is_some js ≡ true
+  operands_of_kinds (form.Binary o i j) js e = two_kinds o js e
+  operands_of_kinds (form.Compare q i j) js e = compared_kinds js e
+  operands_of_kinds (form.Select c i j) js e = selected_kinds js e
+  operands_of_kinds (form.IntegerCast c i) js e = resized_kind c js e
+  operands_of_kinds (form.IndexCast c i) js e = index_kind c js e
 
 -- operands are known if the outcome is
 known_compared : (p : Predicate) (x y z : Outcome) → is_some z ≡ true → compare_outcome p x y ≡ Some z → (is_some x ≡ true) × (is_some y ≡ true)
@@ -220,7 +239,7 @@ module _ (t : Operation) (verified : Header → Bool) (n : ℕ) (p : PatternMode
 
 -- ---- the defining operation of a value in a ready module
 module _ (m : Module) (ready : IsReady m) (v : Value) (h : Header) (e : defining_op_head m.tree (is_verified m.tree) v ≡ Some h) where
-  defining_op_kinded : is_kinded m.tree h ≡ true
+  pub defining_op_kinded : is_kinded m.tree h ≡ true
   defining_op_kinded =
       let g = defining_op_of m.tree (is_verified m.tree) v h e in
       subst (λ h. is_kinded m.tree h ≡ true) g.heads (each_found (λ h. is_kinded m.tree h ≡ true) g.id m.tree ready.kinded g.here g.found).0
@@ -257,7 +276,7 @@ constant_fits m ready v y term k e of is =
     )
 
 -- ---- a pattern with a plan
-module _ (m : Module) (p : PatternModel) (x : ℕ) (passing : list_all piece_passes p.old ≡ true) (proper : IsProper p) (ready : IsReady m) (made : List Operation) (value : Value) (plan : planned m.tree (is_verified m.tree) m.next p x ≡ Some (made, value)) where
+module _ (m : Module) (p : PatternModel) (x : ℕ) (proper : IsProper p) (ready : IsReady m) (made : List Operation) (value : Value) (plan : planned m.tree (is_verified m.tree) m.next p x ≡ Some (made, value)) where
   abbrev t : Operation
   t = m.tree
 
@@ -290,6 +309,7 @@ module _ (m : Module) (p : PatternModel) (x : ℕ) (passing : list_all piece_pas
     pub computed : is_computed m.tree (Result x 0) ≡ true
     pub rooted : Rooted types
     pub value_types : AreOfKinds types
+    pub bound_kinds : (i : ℕ) (w : Value) → Stands i w here → is_some (kind_in m.tree w) ≡ true
     pub variables : (i : ℕ) (w : Value) → i < length p.values → Stands i w here → IsTypedAs w (kind_at (kinds_first types) i)
 
   -- the defining operation of a matched value
@@ -336,10 +356,10 @@ module _ (m : Module) (p : PatternModel) (x : ℕ) (passing : list_all piece_pas
       subst (λ v. is_some (kind_in t v) ≡ true) (one_stands (old_place p + i) w.its_value v b w.stands s) (ap (λ o. is_some (given o kind_of)) w.of_value ∙ ap is_some w.of)
 
   -- the operands of an operation whose result has a kind have kinds
-  kinds_pass : Passes m.tree (is_verified m.tree) (λ w. is_some (kind_in m.tree w) ≡ true)
+  kinds_pass : Passes m.tree (is_verified m.tree) any_form (λ w. is_some (kind_in m.tree w) ≡ true)
   kinds_pass f v h s e r q w i =
       let k = defining_op_kinds m ready v h e f r in
-      each_mapped (kind_in t) is_some h.operands (operands_of_kinds h k.kind f (map (kind_in t) h.operands) s k.operands) w i
+      each_mapped (kind_in t) is_some h.operands (operands_of_kinds h k.kind f (map (kind_in t) h.operands) k.operands) w i
 
   variables_typed : (b : Standing Value) (ts : Standing TypeTerm) → AreTyped t verified m.next p b ts → AreOfKinds ts → (i : ℕ) (w : Value) → i < length p.values → Stands i w b → IsTypedAs w (kind_at (kinds_first ts) i)
   variables_typed b ts are value_types i w l s =
@@ -366,7 +386,8 @@ module _ (m : Module) (p : PatternModel) (x : ℕ) (passing : list_all piece_pas
       let root = matched_at s.0 r.0 (p.root - old_place p) found.pattern_ops are (omega (arith, f.root, k.root)) in
       let place : p.root ≡ old_place p + (p.root - old_place p) = omega (arith, k.root) in
       let rooted = root_kind s.0 r.0 (Result x 0) (p.root - old_place p) root (subst (λ z. Stands z (Result x 0) s.0) place found.root) in
-      let value_types = all_of_kinds t verified m.next p s.0 r.0 r.1 (matched_all t verified (λ w. is_some (kind_in m.tree w) ≡ true) kinds_pass p x s.0 passing proper.named s.1 rooted) in
+      let bound_kinds = matched_all t verified any_form (λ w. is_some (kind_in m.tree w) ≡ true) kinds_pass p x s.0 (any_forms p.old) proper.named s.1 rooted in
+      let value_types = all_of_kinds t verified m.next p s.0 r.0 r.1 bound_kinds in
       record {
         here = s.0;
         types = r.0;
@@ -379,6 +400,7 @@ module _ (m : Module) (p : PatternModel) (x : ℕ) (passing : list_all piece_pas
             (one_stands (old_place p + (p.root - old_place p)) root.its_value (Result x 0) s.0 root.stands (subst (λ z. Stands z (Result x 0) s.0) place found.root)) root.computed;
         rooted = root_at s.0 r.0 root;
         value_types = value_types;
+        bound_kinds = bound_kinds;
         variables = variables_typed s.0 r.0 are value_types;
       }
 

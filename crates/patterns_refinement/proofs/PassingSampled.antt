@@ -99,12 +99,12 @@ unfolding planned log_of first_below own_edits own_rewrite looks.is_verified fol
 sample_is_doubled = (ready, computes, refl, keeps_at)
 
 -- ---- the module is narrow
-small : AllSmall 2 (i2 ∷ [])
-small = alone_small 2 i2 (λ k e. subst (λ k. is_narrow 2 k ≡ true) (same_Some (kind.Int 2) k e) refl)
+small : AllSmall (is_narrow 2) (i2 ∷ [])
+small = alone_small (is_narrow 2) i2 (λ k e. subst (λ k. is_narrow 2 k ≡ true) (same_Some (kind.Int 2) k e) refl)
 
 narrow : IsNarrow 2 doubled
 narrow =
-    narrow_of 2 doubled
+    narrow_of (is_narrow 2) doubled
     (record { results = ((λ k ty e. absurd (none-some ty e)), (((small, tt), ((small, tt), ((small, tt), tt))), tt)); arguments = (((λ k ty e. absurd (none-some ty e)), (tt, (tt, (tt, tt)))), tt) })
 
 -- the check, at one bit and at two

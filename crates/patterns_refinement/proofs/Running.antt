@@ -54,11 +54,14 @@ where_tried false r n e = none_never n e
 pub own_of : (p : PatternModel) (m n : Module) (x : ℕ) → attempted (OfOwn p) m x ≡ becomes n → own_rewrite p m x ≡ becomes n
 own_of p m n x e = where_tried _ (own_rewrite p m x) n e
 
+pub own_grows : (p : PatternModel) (m n : Module) (x : ℕ) → own_rewrite p m x ≡ becomes n → m.next ≤ n.next
+own_grows p m n x e =
+    let q = applies p m n x e in
+    subst (λ (n : Module). m.next ≤ n.next) q.module_is (all_grow (map (λ o. Make q.front o) q.made ++ give x q.value) m)
+
 attempt_grows : (t : RuleOrPatternModel) (m n : Module) (x : ℕ) → attempted t m x ≡ becomes n → m.next ≤ n.next
 attempt_grows (OfRule r) m n x e = rewrite_grows r m n x e
-attempt_grows (OfOwn p) m n x e =
-    let q = applies p m n x (own_of p m n x e) in
-    subst (λ (n : Module). m.next ≤ n.next) q.module_is (all_grow (map (λ o. Make q.front o) q.made ++ give x q.value) m)
+attempt_grows (OfOwn p) m n x e = own_grows p m n x (own_of p m n x e)
 
 -- ---- runs that keep an invariant of modules
 module _ (I : Module → Type 0) (ts : List RuleOrPatternModel) (keep : (t : RuleOrPatternModel) → In t ts → (m n : Module) (x : ℕ) → I m → IsReady m → attempted t m x ≡ becomes n → I n × KeptAt m n x) where

@@ -136,9 +136,9 @@ mapped_has : (t : ℕ) (os : List PatternOp) → list_all (piece_has t) os ≡ t
 mapped_has t [] e = refl
 mapped_has t (o ∷ os) e = let p = and_parts (piece_has t o) (list_all (piece_has t) os) e in (λ i. p.0 i && mapped_has t os p.1 i)
 
-uniform_at : OwnAreAccepted → (p : PatternModel) (u : Uniform p) (proper : IsProper p) (m n : Module) (x : ℕ) → IsReady m → own_rewrite p m x ≡ becomes n → KeepsAt p m x
+pub uniform_at : OwnAreAccepted → (p : PatternModel) (u : Uniform p) (proper : IsProper p) (m n : Module) (x : ℕ) → IsReady m → own_rewrite p m x ≡ becomes n → KeepsAt p m x
 uniform_at accepted p u proper m n x ready e at =
-    let s = site_of accepted p (strict_passes p.old u.strict) (total_defined p.new u.total) proper m n x ready e in
+    let s = site_of accepted p proper m n x ready e in
     let here : FoundAt p m x = record { here = s.here.here; is_matched = s.here.is_matched; types = s.here.types; are_types = s.here.are_types } in
     let root = s.here.rooted in
     let ty : root.ty ≡ u.ty = eqb-true root.ty u.ty (all_at (λ v. v == u.ty) (map PatternOp.ty p.old) (p.root - old_place p) root.ty (mapped_has u.ty p.old u.olds) root.at) in

@@ -1,5 +1,5 @@
 -- Patterns that a check found to hold, and whose check covers all widths, refine what modules compute.
-use Rattle.std.proofs.Common.{◌≡◌, ℕ, zero, suc, refl, sym, subst, List, [], ◌∷◌, map, true, true≢false, Option, Some, None, slice_get, inl, inr, arith}
+use Rattle.std.proofs.Common.{◌≡◌, ◌≤◌, ℕ, zero, suc, refl, sym, subst, List, [], ◌∷◌, map, true, true≢false, Option, Some, None, slice_get, inl, inr, arith}
 use Rattle.std.specs.List.{list_all}
 use Rattle.std.proofs.lemmas.Bool.{and_from, and_parts, or_cases}
 use Rattle.std.proofs.lemmas.List.{length-map}
@@ -12,13 +12,15 @@ use Rattle.user_patterns_data.specs.declared.pattern.Expression.{Expression}
 use Rattle.user_patterns_data.specs.declared.pattern.Expression.TheVariants as form
 use Rattle.user_patterns_data.specs.declared.pattern.PatternType.{PatternType}
 use Rattle.user_patterns_data.specs.declared.pattern.PatternOp.{PatternOp}
-use Rattle.user_patterns_data.specs.Fitting.{kind_at}
+use Rattle.user_patterns_check.specs.declared.verdict.Verdict.TheVariants as verdict
+use Rattle.user_patterns_check.specs.Families.{IsVerdict}
+use Rattle.user_patterns_data.specs.Fitting.{content_at, kind_at}
 use Rattle.user_patterns_data.specs.Shapes.{PatternModel}
-use Rattle.user_patterns_data.specs.WellFormed.{new_ends, old_begins}
+use Rattle.user_patterns_data.specs.WellFormed.{is_well_formed, new_ends, old_begins}
 use Rattle.user_patterns_widths.specs.Polynomials.{Polynomial}
-use Rattle.user_patterns_widths.specs.AllWidths.{Formal, first_type, form_is_bitwise, formal, formal_extras, formal_news, formal_numbers, formal_olds, formal_values, has_one_type, has_type, is_bit_by_bit, is_none_asked, is_one_polynomial, is_some_type, is_variable, is_variable_type, new_is_bitwise, number_is_bitwise, piece_is_bitwise, extra_is_bitwise, sides_are_one}
+use Rattle.user_patterns_widths.specs.AllWidths.{Formal, first_type, form_is_bitwise, formal, formal_extras, formal_news, formal_numbers, formal_olds, formal_values, holds_at_all_widths, has_one_type, has_type, is_bit_by_bit, is_none_asked, is_one_polynomial, is_some_type, is_variable, is_variable_type, new_is_bitwise, number_is_bitwise, piece_is_bitwise, extra_is_bitwise, sides_are_one}
 use Rattle.user_patterns_widths.specs.Lasting.{HoldsAtAllWidths, RefinesAtAllWidths, PolynomialsKeep}
-use Rattle.user_patterns_build.specs.CanBuild.{has_name}
+use Rattle.user_patterns_build.specs.CanBuild.{can_build, has_name}
 use Rattle.user_patterns_apply.specs.Own.{OwnAreAccepted}
 use Rattle.patterns_refinement.specs.Applied.{IsProper, extra_kind, is_typed, kinds_after, kinds_given, kinds_matched}
 use Rattle.patterns_refinement.specs.Strict.{RegisteredKeep, HoldingKeep, StrictKeep, is_asked_of, is_strict, is_strict_at, is_strict_form, new_is_total, piece_is_strict}
@@ -146,14 +148,16 @@ uniform_strict p e keeps = go (first_type p.old) e
 pub strict_keep : OwnAreAccepted → StrictKeep
 strict_keep accepted p e proper keeps = uniform_keeps accepted p (uniform_strict p e keeps) proper
 
-pub holding_keep : OwnAreAccepted → PolynomialsKeep → HoldsAtAllWidths → HoldingKeep
-holding_keep accepted polynomials holds p e proper most low verdict =
-    uniform_keeps accepted p
-    (elim (or_cases (is_one_polynomial p) (is_bit_by_bit p) e) [
+-- a pattern that a check found to hold, and whose sides are one polynomial or are computed bit by bit
+pub holding_uniform : PolynomialsKeep → HoldsAtAllWidths → (p : PatternModel) → holds_at_all_widths p ≡ true → IsProper p → (most : ℕ) → 1 ≤ most → IsVerdict (content_at p) p.types most verdict.Holds → Uniform p
+holding_uniform polynomials holds p e proper most low right =
+    elim (or_cases (is_one_polynomial p) (is_bit_by_bit p) e) [
       | inl i ↦ uniform_polynomial p i (polynomials (unasked p) i)
-      | inr i ↦ uniform_bits p i proper (holds p e most low verdict)
-    ])
-    proper
+      | inr i ↦ uniform_bits p i proper (holds p e most low right)
+    ]
+
+pub holding_keep : OwnAreAccepted → PolynomialsKeep → HoldsAtAllWidths → HoldingKeep
+holding_keep accepted polynomials holds p e proper most low right = uniform_keeps accepted p (holding_uniform polynomials holds p e proper most low right) proper
 
 -- ---- patterns of a registry: all matched operations have names
 strict_named : (os : List PatternOp) → list_all piece_is_strict os ≡ true → list_all (λ (o : PatternOp). has_name o.form) os ≡ true
@@ -182,21 +186,22 @@ bitwise_strict (o ∷ os) e =
     one (form.IntegerCast c i) e = absurd (true≢false (sym e))
     one (form.IndexCast c i) e = absurd (true≢false (sym e))
 
+pub registered_proper : PolynomialsKeep → (p : PatternModel) → is_well_formed p ≡ true → can_build p ≡ true → holds_at_all_widths p ≡ true → IsProper p
+registered_proper polynomials p formed buildable e = record {
+  formed = formed;
+  buildable = buildable;
+  named = strict_named p.old
+      (elim (or_cases (is_one_polynomial p) (is_bit_by_bit p) e) [
+        | inl i ↦ (uniform_polynomial p i (polynomials (unasked p) i)).strict
+        | inr i ↦
+            let a = and_parts (has_one_type p) _ i in
+            let b = and_parts (is_none_asked p.type_constraints) _ a.1 in
+            let c = and_parts (list_all extra_is_bitwise p.extra) _ b.1 in
+            let d = and_parts (list_all number_is_bitwise p.given) _ c.1 in
+            bitwise_strict p.old (and_parts (list_all piece_is_bitwise p.old) (list_all new_is_bitwise p.new) d.1).0
+      ]);
+}
+
 pub registered_keep : OwnAreAccepted → PolynomialsKeep → HoldsAtAllWidths → RegisteredKeep
-registered_keep accepted polynomials holds p formed buildable e most low verdict =
-    holding_keep accepted polynomials holds p e
-    (record {
-      formed = formed;
-      buildable = buildable;
-      named = strict_named p.old
-          (elim (or_cases (is_one_polynomial p) (is_bit_by_bit p) e) [
-            | inl i ↦ (uniform_polynomial p i (polynomials (unasked p) i)).strict
-            | inr i ↦
-                let a = and_parts (has_one_type p) _ i in
-                let b = and_parts (is_none_asked p.type_constraints) _ a.1 in
-                let c = and_parts (list_all extra_is_bitwise p.extra) _ b.1 in
-                let d = and_parts (list_all number_is_bitwise p.given) _ c.1 in
-                bitwise_strict p.old (and_parts (list_all piece_is_bitwise p.old) (list_all new_is_bitwise p.new) d.1).0
-          ]);
-    })
-    most low verdict
+registered_keep accepted polynomials holds p formed buildable e most low right =
+    holding_keep accepted polynomials holds p e (registered_proper polynomials p formed buildable e) most low right

@@ -17,9 +17,12 @@ pub mod Passing
 pub mod MixedRuns
 pub mod Refining
 pub mod RefiningSamples
+pub mod UsedTypes
 pub mod Narrow
 pub mod ByForm
 pub mod StrictSamples
+pub mod ForOutcomes
+pub mod ForOutcomesSamples
 pub mod PassingSamples
 pub mod Told
 pub mod Remainders

@@ -2,7 +2,7 @@
 -- tested. In such a module the check of a pattern that passes poison on is enough for refinement, without a premise
 -- at an operation. The same holds for runs of such patterns and rules.
 use Rattle.std.specs.Prelude.{◌≡◌, ◌≤◌, ℕ, List, map, eqb, nat_le, Bool, true, false, ◌&&◌, ◌||◌, Some}
-use Rattle.std.specs.List.{list_all, list_any}
+use Rattle.std.specs.List.{list_any}
 use Rattle.ir_types.specs.declared.bits.BitsKind.{BitsKind}
 use Rattle.ir_types.specs.declared.bits.BitsKind.TheVariants as kind
 use Rattle.ir_tree.specs.declared.value.Value.{Value}
@@ -13,19 +13,11 @@ use Rattle.patterns_base.specs.Rewrites.{becomes, rewrite_of}
 use Rattle.patterns_base.specs.Canonicalization.{End, canonicalization_of, ended}
 use Rattle.user_patterns_check.specs.declared.verdict.Verdict.TheVariants as verdict
 use Rattle.user_patterns_check.specs.Families.{AreWidths, IsVerdict}
-use Rattle.user_patterns_data.specs.declared.pattern.TypeConstraint.{TypeConstraint}
-use Rattle.user_patterns_data.specs.declared.pattern.TypeConstraint.TheVariants as asked
-use Rattle.user_patterns_data.specs.declared.pattern.ExtraConstant.{ExtraConstant}
-use Rattle.user_patterns_data.specs.declared.pattern.ExtraConstant.TheVariants as extra
 use Rattle.user_patterns_data.specs.declared.pattern.PatternType.{PatternType}
 use Rattle.user_patterns_data.specs.declared.pattern.PatternType.TheVariants as sort
-use Rattle.user_patterns_data.specs.declared.pattern.ConstantExpression.{ConstantExpression}
-use Rattle.user_patterns_data.specs.declared.pattern.ConstantExpression.TheVariants as number
-use Rattle.user_patterns_data.specs.declared.pattern.NewValue.{NewValue}
 use Rattle.user_patterns_data.specs.declared.pattern.PatternOp.{PatternOp}
 use Rattle.user_patterns_data.specs.Fitting.{content_at, fits, kinds_with}
 use Rattle.user_patterns_data.specs.Shapes.{PatternModel}
-use Rattle.user_patterns_build.specs.CanBuild.{new_type}
 use Rattle.user_patterns_build.specs.Unified.{first_same}
 use Rattle.user_patterns_build.specs.Unified as united
 use Rattle.user_patterns_apply.specs.Own.{own_rewrite}
@@ -38,6 +30,7 @@ use Rattle.patterns_refinement.specs.Runs.{kept_rules}
 use Rattle.patterns_refinement.specs.Canonical.{IsPlain}
 use Rattle.patterns_refinement.specs.MixedRuns.{KeptThrough}
 use Rattle.patterns_refinement.specs.Passing.{KeptAt, is_kinded_at, is_passing}
+use Rattle.patterns_refinement.specs.UsedTypes.{uses_only}
 
 -- ---- modules
 
@@ -45,9 +38,13 @@ abbrev pub is_narrow : ℕ → BitsKind → Bool
 is_narrow most (kind.Int w) = nat_le 1 w && nat_le w most
 is_narrow most kind.Index = false
 
+-- the kinds of the module's values are of a set
+abbrev pub HaveKinds : (BitsKind → Bool) → Module → Type 0
+HaveKinds good m = (v : Value) (k : BitsKind) → kind_in m.tree v ≡ Some k → good k ≡ true
+
 -- a module without `index` whose integers have at most `most` bits
 abbrev pub IsNarrow : ℕ → Module → Type 0
-IsNarrow most m = (v : Value) (k : BitsKind) → kind_in m.tree v ≡ Some k → is_narrow most k ≡ true
+IsNarrow most m = HaveKinds (is_narrow most) m
 
 -- ---- patterns
 
@@ -65,32 +62,8 @@ module _ (most : ℕ) (p : PatternModel) where
   is_settled t = is_settled_as t (united.kind_in p.value_types t)
 
   -- each type that the pattern uses is settled
-  abbrev pub extra_settled : ExtraConstant → Bool
-  extra_settled (extra.Literal l) = is_settled l.ty
-  extra_settled (extra.SameAs i) = true
-
-  abbrev pub number_settled : ConstantExpression → Bool
-  number_settled (number.Literal l) = is_settled l.ty
-  number_settled (number.Width t) = is_settled t
-  number_settled (number.Binary o i j) = true
-  number_settled (number.Compare q i j) = true
-  number_settled (number.Log2 i) = true
-  number_settled (number.Require i) = true
-
-  abbrev pub asked_settled : TypeConstraint → Bool
-  asked_settled (asked.Narrower s t) = is_settled s && is_settled t
-  asked_settled (asked.Integer t) = is_settled t
-
-  abbrev pub piece_settled : PatternOp → Bool
-  piece_settled o = is_settled o.ty
-
-  abbrev pub new_settled : NewValue → Bool
-  new_settled w = is_settled (new_type w)
-
   abbrev pub all_settled : Bool
-  all_settled =
-      list_all is_settled p.values && (list_all extra_settled p.extra && (list_all asked_settled p.type_constraints
-      && (list_all number_settled p.given && (list_all piece_settled p.old && list_all new_settled p.new))))
+  all_settled = uses_only is_settled p
 
   -- a pattern that passes poison on, that a check up to `most` bits found to hold, whose types are settled, and whose
   -- new operations take their operands at all widths up to `most` at which it may be applied

@@ -1,0 +1,228 @@
+-- A match in a module in range, of a pattern whose form passes the tests: its kinds are kinds of all types that the
+-- pattern uses, and the new values take their operands.
+use Rattle.std.proofs.Common.{◌≡◌, ℕ, zero, suc, ◌+◌, ◌<◌, refl, ap, sym, ◌∙◌, subst, List, [], ◌∷◌, length, map, Bool, true, false, true≢false, ◌||◌, eqb, Some, slice_get, inl, inr, arith}
+use Rattle.std.specs.Prelude.{if◌then◌else◌, nat_lt}
+use Rattle.std.specs.List.{list_all, list_any}
+use Rattle.std.proofs.lemmas.Bool.{and_from, and_parts, ltb-true, or_cases}
+use Rattle.std.proofs.lemmas.Option.{none-some, same_Some, slice_get-get_or, slice_get_within}
+use Rattle.ir_types.specs.declared.bits.BitsKind.{BitsKind}
+use Rattle.ir_types.specs.declared.bits.BitsKind.TheVariants as kind
+use Rattle.ir_types.specs.Bits.{type_of, width_of}
+use Rattle.ir_types.specs.Reasons.{is_width}
+use Rattle.ir_types.specs.Terms.{TypeTerm}
+use Rattle.ir_types.proofs.WordNumbers.{all_at}
+use Rattle.ir_tree.specs.declared.value.Value.{Value}
+use Rattle.ir_tree.specs.Meaning.{Operation}
+use Rattle.ir_tree_laws.specs.Values.{type_of_value}
+use Rattle.ir_tree_laws.proofs.Reasoned.{some_there}
+use Rattle.ir_event.specs.Modules.{Module}
+use Rattle.dialects_int.specs.Folds.{kind_of}
+use Rattle.patterns_laws.proofs.KnownFolds.{given_some, kind_back}
+use Rattle.patterns_base.specs.Looks.{is_verified}
+use Rattle.user_patterns_check.specs.Outcomes.{Outcome, given}
+use Rattle.user_patterns_claims.specs.Outcomes.{AreKindsOf, AreOutcomes, HoldsAtAllWidths, IsOutcome, are_kinds, keeps_outcomes}
+use Rattle.user_patterns_data.specs.declared.pattern.PatternType.{PatternType}
+use Rattle.user_patterns_data.specs.declared.pattern.PatternType.TheVariants as sort
+use Rattle.user_patterns_data.specs.declared.pattern.NewValue.{NewValue}
+use Rattle.user_patterns_data.specs.declared.pattern.NewValue.TheVariants as new
+use Rattle.user_patterns_data.specs.declared.pattern.PatternOp.{PatternOp}
+use Rattle.user_patterns_data.specs.Fitting.{kind_at}
+use Rattle.user_patterns_data.specs.Matching.{Standing, standing, types_at, written}
+use Rattle.user_patterns_data.specs.Planning.{kind_standing, new_place, old_place, planned}
+use Rattle.user_patterns_data.specs.Shapes.{PatternModel}
+use Rattle.user_patterns_build.specs.CanBuild.{new_type}
+use Rattle.user_patterns_build.specs.Unified as united
+use Rattle.patterns_refinement.specs.Applied.{IsProper}
+use Rattle.patterns_refinement.specs.Keeping.{IsReady}
+use Rattle.patterns_refinement.specs.Passing.{is_kinded_at}
+use Rattle.patterns_refinement.specs.UsedTypes.{uses_only}
+use Rattle.patterns_refinement.specs.ByForm.{is_kinded_by_form}
+use Rattle.patterns_refinement.specs.ForOutcomes.{IsInRange, KeepsForOutcomes, has_width, is_concrete, is_had, numbered, numbered_type, numbered_types}
+use Rattle.patterns_refinement.proofs.ByForm.{kind_by, kinded_by_kinds}
+use Rattle.patterns_refinement.proofs.Forms.{kind_is}
+use Rattle.patterns_refinement.proofs.Going.{typed_at, typed_parts}
+use Rattle.patterns_refinement.proofs.MatchedTypes.{any_at, written_is}
+use Rattle.patterns_refinement.proofs.NarrowTypes.{content_same, fits_same, kinded_same}
+use Rattle.patterns_refinement.proofs.PassingMade.{AreBuilt, all_builds}
+use Rattle.patterns_refinement.proofs.PassingMatched.{Here, types_from}
+use Rattle.patterns_refinement.proofs.Standing.{IsTyped, Stands, standing_stands, stands_standing}
+
+-- ---- types by number
+module _ (at : ℕ → BitsKind) where
+  abbrev numbered_kinds : ℕ → List PatternType → List BitsKind
+  numbered_kinds i ss = map (kind_by at) (numbered_types i ss)
+
+  numbered_at : (i : ℕ) (ss : List PatternType) (t : ℕ) → t < length ss → kind_at (numbered_kinds i ss) t ≡ kind_by at (numbered_type (i + t) (united.kind_in ss t))
+  numbered_at i [] t l = absurd (omega (arith, l))
+  numbered_at i (s ∷ ss) zero l = ap (λ z. kind_by at (numbered_type z s)) (same i)
+    where
+      same : (i : ℕ) → i ≡ i + 0
+      same i = omega arith
+  numbered_at i (s ∷ ss) (suc t) l = numbered_at (i + 1) ss t (omega (arith, l)) ∙ ap (λ z. kind_by at (numbered_type z (united.kind_in ss t))) (same i t)
+    where
+      same : (i t : ℕ) → i + 1 + t ≡ i + suc t
+      same i t = omega arith
+
+  kinds_of : (i : ℕ) (ss : List PatternType) → AreKindsOf ss (numbered_kinds i ss)
+  kinds_of i [] = tt
+  kinds_of i (sort.Concrete k ∷ ss) = (refl, kinds_of (i + 1) ss)
+  kinds_of i (sort.Variable v ∷ ss) = kinds_of (i + 1) ss
+
+  kinds_wide : ((v : ℕ) → is_width (width_of (at v)) ≡ true) → (i : ℕ) (ss : List PatternType) → list_all has_width ss ≡ true → are_kinds (numbered_kinds i ss) ≡ true
+  kinds_wide wide i [] e = refl
+  kinds_wide wide i (s ∷ ss) e =
+      let q = and_parts (has_width s) (list_all has_width ss) e in
+      and_from (is_width (width_of (kind_by at (numbered_type i s)))) (are_kinds (numbered_kinds (i + 1) ss)) (one s q.0) (kinds_wide wide (i + 1) ss q.1)
+    where
+      one : (s : PatternType) → has_width s ≡ true → is_width (width_of (kind_by at (numbered_type i s))) ≡ true
+      one (sort.Concrete k) e = e
+      one (sort.Variable v) e = wide i
+
+-- the kind, or i1 if its width isn't valid
+abbrev filled : BitsKind → BitsKind
+filled k = if is_width (width_of k) then k else kind.Int 1
+
+filled_wide : (k : BitsKind) → is_width (width_of (filled k)) ≡ true
+filled_wide k = go (is_width (width_of k)) refl
+  where
+    go : (b : Bool) → is_width (width_of k) ≡ b → is_width (width_of (if b then k else kind.Int 1)) ≡ true
+    go true e = e
+    go false e = refl
+
+filled_same : (k : BitsKind) → is_width (width_of k) ≡ true → filled k ≡ k
+filled_same k e = ap (λ b. if b then k else kind.Int 1) e
+
+-- ---- the types of new values are bound
+module _ (ts : Standing TypeTerm) (env : List Outcome) (d : Standing Value) where
+  built_types : (ws : List NewValue) (os : List Operation) → AreBuilt ts env d ws os → (t : ℕ) → list_any (eqb t) (map new_type ws) ≡ true → (term : TypeTerm) × Stands t term ts
+  built_types ws os built t e = let r = any_at t (map new_type ws) e in one ws os built r.0 t r.1
+    where
+      its : (w : NewValue) (o : Operation) → (term : TypeTerm) → standing (new_type w) ts ≡ Some term → (t : ℕ) → Some (new_type w) ≡ Some t → (term : TypeTerm) × Stands t term ts
+      its w o term s t i = (term, subst (λ z. Stands z term ts) (same_Some _ _ i) (standing_stands (new_type w) term ts s))
+
+      one : (ws : List NewValue) (os : List Operation) → AreBuilt ts env d ws os → (i t : ℕ) → slice_get (map new_type ws) i ≡ Some t → (term : TypeTerm) × Stands t term ts
+      one [] [] built i t s = absurd (none-some t s)
+      one [] (o ∷ os) built i t s = absurd built
+      one (w ∷ ws) [] built i t s = absurd built
+      one (new.Operation r ∷ ws) (o ∷ os) built zero t s = its (new.Operation r) o built.0.1 built.0.3 t s
+      one (new.Constant j v ∷ ws) (o ∷ os) built zero t s = its (new.Constant j v) o built.0.1 built.0.3 t s
+      one (w ∷ ws) (o ∷ os) built (suc i) t s = one ws os built.1 i t s
+
+-- ---- a match
+module _ (p : PatternModel) (m : Module) (x : ℕ) (proper : IsProper p) (ready : IsReady m) (range : IsInRange m) (os : List Operation) (value : Value) (plan : planned m.tree (is_verified m.tree) m.next p x ≡ Some (os, value))
+    (q : Here m p x proper ready os value plan) (widths : list_all has_width p.value_types ≡ true) where
+  abbrev ks : List BitsKind
+  ks = map kind_standing q.types
+
+  abbrev good : ℕ → Bool
+  good t = is_width (width_of (kind_at (map kind_standing q.types) t))
+
+  -- ---- bound types
+  written_wide : (ss : List PatternType) → list_all has_width ss ≡ true → (j : ℕ) (term : TypeTerm) (k : BitsKind) → Stands j term (map written ss) → kind_of term ≡ Some k → is_width (width_of k) ≡ true
+  written_wide [] e j term k s i = absurd (none-some (Some term) s)
+  written_wide (s ∷ ss) e (suc j) term k at i = written_wide ss (and_parts (has_width s) (list_all has_width ss) e).1 j term k at i
+  written_wide (sort.Concrete l ∷ ss) e zero term k at i =
+      let same : type_of l ≡ term = same_Some _ _ (same_Some _ _ at) in
+      let kinds : l ≡ k = same_Some _ _ (sym (kind_back l) ∙ ap kind_of same ∙ i) in
+      subst (λ k. is_width (width_of k) ≡ true) kinds (and_parts (is_width (width_of l)) (list_all has_width ss) e).0
+  written_wide (sort.Variable v ∷ ss) e zero term k at i = absurd (none-some term (same_Some _ _ at))
+
+  of_value : (term : TypeTerm) (k : BitsKind) → (i : ℕ) × (v : Value) × Stands i v q.here × (type_of_value v m.tree ≡ Some term) → kind_of term ≡ Some k → is_width (width_of k) ≡ true
+  of_value term k h e = range h.1 k (ap (λ o. given o kind_of) h.3 ∙ e)
+
+  bound_wide : (j : ℕ) (term : TypeTerm) → Stands j term q.types → is_width (width_of (kind_at (map kind_standing q.types) j)) ≡ true
+  bound_wide j term s =
+      let k = some_there (kind_of term) (q.value_types j term (stands_standing j term q.types s)) in
+      let g = given_some (types_at m.tree (is_verified m.tree) 0 p.values q.here (map written p.value_types)) (types_at m.tree (is_verified m.tree) (old_place p) (map PatternOp.ty p.old) q.here) q.types q.are_types in
+      let wide : is_width (width_of k.0) ≡ true =
+      elim (types_from m.tree (is_verified m.tree) m.next p (old_place p) (map PatternOp.ty p.old) q.here g.0 q.types g.2 j term s) [
+        | inl n ↦ elim (types_from m.tree (is_verified m.tree) m.next p 0 p.values q.here (map written p.value_types) g.0 g.1 j term n) [
+          | inl w ↦ written_wide p.value_types widths j term k.0 w k.1
+          | inr h ↦ of_value term k.0 h k.1
+        ]
+        | inr h ↦ of_value term k.0 h k.1
+      ] in
+      subst (λ k. is_width (width_of k) ≡ true) (sym (kind_is q.types j term k.0 s k.1)) wide
+
+  typed_wide : (i t : ℕ) → IsTyped m.tree (is_verified m.tree) i t q.here q.types → good t ≡ true
+  typed_wide i t w = bound_wide t w.term w.type_stands
+
+  -- a type of a value is bound
+  abbrev is_valued : ℕ → Bool
+  is_valued t = list_any (eqb t) p.values || (list_any (eqb t) (map PatternOp.ty p.old) || list_any (eqb t) (map new_type p.new))
+
+  valued_wide : (t : ℕ) → is_valued t ≡ true → good t ≡ true
+  valued_wide t e =
+      let are = typed_parts m.tree (is_verified m.tree) m.next p q.here q.types q.are_types in
+      elim (or_cases (list_any (eqb t) p.values) (list_any (eqb t) (map PatternOp.ty p.old) || list_any (eqb t) (map new_type p.new)) e) [
+        | inl i ↦
+            let r = any_at t p.values i in
+            let a = typed_at m.tree (is_verified m.tree) 0 p.values q.here q.types are.variables r.0 (slice_get_within p.values r.0 t r.1) in
+            subst (λ t. good t ≡ true) (same_Some a.0 t (sym a.1 ∙ r.1)) (typed_wide (0 + r.0) a.0 a.2)
+        | inr n ↦ elim (or_cases (list_any (eqb t) (map PatternOp.ty p.old)) (list_any (eqb t) (map new_type p.new)) n) [
+          | inl i ↦
+              let r = any_at t (map PatternOp.ty p.old) i in
+              let a = typed_at m.tree (is_verified m.tree) (old_place p) (map PatternOp.ty p.old) q.here q.types are.pattern_ops r.0 (slice_get_within (map PatternOp.ty p.old) r.0 t r.1) in
+              subst (λ t. good t ≡ true) (same_Some a.0 t (sym a.1 ∙ r.1)) (typed_wide (old_place p + r.0) a.0 a.2)
+          | inr i ↦
+              let built = (all_builds q.types q.parts.env q.parts.last m.next (new_place p) p.new q.here os q.parts.made).built in
+              let b = built_types q.types q.parts.env q.parts.last p.new os built t i in
+              bound_wide t b.0 b.1
+        ]
+      ]
+
+  -- a type that the pattern has is concrete, or bound
+  had_wide : (t : ℕ) → is_had p t ≡ true → good t ≡ true
+  had_wide t e = elim (or_cases (is_concrete (united.kind_in p.value_types t)) (is_valued t) parts.1) [ inl i ↦ by_type (united.kind_in p.value_types t) refl i | inr i ↦ valued_wide t i ]
+    where
+      parts : (nat_lt t (length p.value_types) ≡ true) × ((is_concrete (united.kind_in p.value_types t) || is_valued t) ≡ true)
+      parts = and_parts (nat_lt t (length p.value_types)) _ e
+
+      within : t < length p.value_types
+      within = ltb-true t (length p.value_types) parts.0
+
+      by_type : (s : PatternType) → united.kind_in p.value_types t ≡ s → is_concrete s ≡ true → good t ≡ true
+      by_type (sort.Concrete k) i c =
+          let at : slice_get p.value_types t ≡ Some (sort.Concrete k) = slice_get-get_or p.value_types t (sort.Concrete kind.Index) within ∙ ap (λ z. Some z) i in
+          subst (λ k. is_width (width_of k) ≡ true) (sym (written_is p m x proper ready os value plan q t k within i)) (all_at has_width p.value_types t (sort.Concrete k) widths at)
+      by_type (sort.Variable v) i c = absurd (true≢false (sym c))
+
+  -- ---- kinds of all types
+  abbrev kind_for : ℕ → BitsKind
+  kind_for v = filled (kind_at (map kind_standing q.types) v)
+
+  abbrev all_kinds : List BitsKind
+  all_kinds = numbered_kinds kind_for 0 p.value_types
+
+  had_same : (t : ℕ) → is_had p t ≡ true → kind_at (map kind_standing q.types) t ≡ kind_at all_kinds t
+  had_same t e =
+      let l = ltb-true t (length p.value_types) (and_parts (nat_lt t (length p.value_types)) _ e).0 in
+      go (united.kind_in p.value_types t) refl ∙ sym (numbered_at kind_for 0 p.value_types t l)
+    where
+      no_more : (t : ℕ) → 0 + t ≡ t
+      no_more t = omega arith
+
+      go : (s : PatternType) → united.kind_in p.value_types t ≡ s → kind_at ks t ≡ kind_by kind_for (numbered_type (0 + t) (united.kind_in p.value_types t))
+      go (sort.Concrete k) i = written_is p m x proper ready os value plan q t k (ltb-true t (length p.value_types) (and_parts (nat_lt t (length p.value_types)) _ e).0) i ∙ sym (ap (λ s. kind_by kind_for (numbered_type (0 + t) s)) i)
+      go (sort.Variable v) i = sym (ap (λ s. kind_by kind_for (numbered_type (0 + t) s)) i ∙ ap kind_for (no_more t) ∙ filled_same (kind_at ks t) (had_wide t e))
+
+  module _ (uses : uses_only (is_had p) p ≡ true) where
+    -- outcomes at equal kinds
+    still : (tys : List ℕ) (i : ℕ) (outs : List Outcome) → list_all (is_had p) tys ≡ true → AreOutcomes p (map kind_standing q.types) i tys outs → AreOutcomes p all_kinds i tys outs
+    still [] i [] u h = tt
+    still [] i (o ∷ outs) u h = absurd h
+    still (ty ∷ tys) i [] u h = absurd h
+    still (ty ∷ tys) i (o ∷ outs) u h =
+        let r = and_parts (is_had p ty) (list_all (is_had p) tys) u in
+        (subst (λ k. IsOutcome k o) (had_same ty r.0) h.0, h.1, still tys (i + 1) outs r.1 h.2)
+
+    pub keeps_for : HoldsAtAllWidths p → KeepsForOutcomes p (map kind_standing q.types)
+    keeps_for holds outs are =
+        ap (λ s. keeps_outcomes s outs) (content_same (is_had p) p ks all_kinds had_same uses)
+        ∙ holds all_kinds (kinds_wide kind_for (λ v. filled_wide (kind_at ks v)) 0 p.value_types widths) (kinds_of kind_for 0 p.value_types) outs
+        (still p.values 0 outs (and_parts (list_all (is_had p) p.values) _ uses).0 are)
+
+    pub kinded_there : is_kinded_by_form (numbered p) ≡ true → is_kinded_at (map kind_standing q.types) p ≡ true
+    kinded_there form =
+        kinded_same (is_had p) p ks all_kinds had_same uses
+        ∙ kinded_by_kinds (numbered p) form kind_for (λ v l. filled_wide (kind_at ks v)) (sym (fits_same (is_had p) p ks all_kinds had_same uses) ∙ q.parts.widths)
