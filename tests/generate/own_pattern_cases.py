@@ -383,7 +383,7 @@ UNTRIED = [
      "arith.divui(%a, 1) => arith.divui(%a, 1)", {"": "holds", " width 2": "unrefuted 2"}),
     ("signed-remainder-as-itself", "A signed remainder that is matched and made is unrefuted.",
      "arith.remsi(%a, 3) => arith.remsi(%a, 3)", {"": "unrefuted 8"}),
-    ("unsigned-remainder-as-itself", "An unsigned remainder by a literal is proved at all widths, also if it is made again.",
+    ("unsigned-remainder-as-itself", "An unsigned remainder by a literal is proved at all widths, if it is made again.",
      "arith.remui(%a, 3) => arith.remui(%a, 3)", {"": "holds", " width 2": "unrefuted 2"}),
     ("unsigned-remainder-by-a-variable", "An unsigned remainder that is matched and made is unrefuted.",
      "arith.remui(%a, %b) => arith.remui(%a, %b)", {"": "unrefuted 8"}),
