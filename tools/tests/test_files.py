@@ -80,7 +80,9 @@ class Files(unittest.TestCase):
         ends = [referred(part + DIVIDER + SCRIPT) for part in whole]
         wanted = DIVIDER.decode().join(out for _, out in ends)
         script = self.named("a.script", SCRIPT)
-        self.assertEqual(self.ran(module, "--split-input-file", "-s", script), (max(it for it, _ in ends), wanted, ""))
+        status, out, told = self.ran(module, "--split-input-file", "-s", script)
+        self.assertEqual((status, out), (max(it for it, _ in ends), wanted))
+        self.assertEqual(told.partition(" ")[0], f"{module}:7:1:")
         both = DIVIDER.join(parts[:2])
         status, out, told = self.ran("--split-input-file", "--format", "json", "-e", "erase #1", given=both)
         self.assertEqual((status, told, out.count('{"divider":true}\n')), (1, "", 1))
@@ -90,7 +92,7 @@ class Files(unittest.TestCase):
         """The message names the file, the line and the column, in each module of a file and behind a script."""
         module = self.named("m.mlir", b'"a"(')
         status, out, told = self.ran(module, "-e", "print")
-        self.assertEqual((status, told), (3, f"{module}:1:5: 2 Unexpected: found the end of the text, expected another "
+        self.assertEqual((status, told), (3, f"{module}:2:1: 2 Unexpected: found the end of the text, expected another "
                                           'token: an operation is %r = "name"(%x) <{..}> ({..}) {..} : (i32) -> i32\n'))
         self.assertTrue(out.startswith("module refused "))
         self.assertEqual(self.ran("-e", "print", given=b'"a"(')[2], "")

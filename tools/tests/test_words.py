@@ -261,7 +261,8 @@ class ThroughOpt(unittest.TestCase):
                 it = subprocess.run([sys.executable, ROOT / "tools/session.py", name], input="ids\n", text=True,
                                     capture_output=True, check=False)
             told = pathlib.Path(folder, "words")
-            return it.stdout.replace(folder + "/", ""), it.returncode, told.exists() and told.read_text()
+            said = (it.stdout + it.stderr).replace(folder + "/", "")
+            return said, it.returncode, told.exists() and told.read_text()
 
     def test_what_is_not_generic(self):
         said, status, given = self.opened("pretty\n", "echo '\"test.a\"() : () -> ()'")
