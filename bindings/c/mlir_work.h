@@ -283,7 +283,7 @@ bool mlir_work_first_use(mlir_work_session *session, const mlir_work_value *valu
 #define MLIR_WORK_NO_MEMORY (UINT64_MAX - 1)
 
 /* Writes the operations of the module in pre-order, an operation before the operations inside it. Returns how many the
-   module has, MLIR_WORK_NO_MEMORY, or MLIR_WORK_NONE if the handle is closed. */
+   module has, MLIR_WORK_NO_MEMORY, or MLIR_WORK_NONE if the handle is closed. To count takes no memory. */
 uint64_t mlir_work_operations(mlir_work_session *session, uint32_t *operations, size_t capacity);
 
 /* Writes the uses of a value, each once and in any order. Returns how many the value has; takes time proportional to

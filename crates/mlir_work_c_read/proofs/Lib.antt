@@ -1,2 +1,2 @@
-mod Nodes
 mod Found
+mod Nodes

@@ -73,10 +73,13 @@ pub fn type_of(world: &World, value: Value) -> Option<u32>
 /// Writes the operations of the module in pre-order, as many as there is space for, and returns how many the module
 /// has.
 ///
-/// Refusals: `Memory`, and nothing is written.
+/// Refusals: `Memory`, and nothing is written. To count takes no memory.
 pub fn write_operations(world: &World, into: &mut [u32]) -> Result<usize, Refusal>
     ensures { WritesAll world.now into.old into.new result }
 {
+    if into.is_empty() {
+        return Ok(world.store.op_count() as usize);
+    }
     let ops = match world.store.operations() {
         Ok(ops) => ops,
         Err(refusal) => return Err(refusal),

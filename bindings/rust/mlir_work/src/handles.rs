@@ -260,8 +260,13 @@ impl<'a> ValueHandle<'a> {
 
     /// Returns its uses, each once, in any order: the operations, and the numbers of their operands.
     pub fn uses(self) -> impl ExactSizeIterator<Item = (Operation<'a>, u32)> {
-        let mut uses = vec![sys::Use::default(); self.fill(&mut [])];
-        self.fill(&mut uses);
+        let mut near = [sys::Use::default(); 8];
+        let count = self.fill(&mut near);
+        let mut uses = near[..count.min(near.len())].to_vec();
+        if count > near.len() {
+            uses.resize(count, sys::Use::default());
+            self.fill(&mut uses);
+        }
         let session = self.session;
         uses.into_iter().map(move |it| (session.operation(it.operation), it.operand))
     }
