@@ -1,4 +1,5 @@
 //! From the reply to a check to the module: laws of patterns that a registry notes as `holds` without a width.
+ghost use Rattle.registry_refinement.specs.Commands.{ApplyCommandRefines, RewriteCommandRefines};
 ghost use Rattle.registry_refinement.specs.Noted.{NotedApplyRefines, NotedAreProved, NotedRewriteRefines};
 ghost use Rattle.registry_refinement.specs.Noted.{NotesAreTrue, WrongIsNeverNoted};
 
@@ -25,6 +26,15 @@ pub fn noted_patterns_refine()
 {
     noted_patterns_are_proved();
     proved_patterns_refine();
+}
+
+/// After the commands `apply` and `rewrite` of a session by such patterns and listed rules, whatever the reply is, the
+/// session's module refines the module before.
+pub fn noted_commands_refine()
+    ensures apply { ApplyCommandRefines }
+    ensures rewrite { RewriteCommandRefines }
+{
+    noted_patterns_refine();
 }
 
 /// No session notes `select(c, a, false) => andi(c, a)` as `holds`, which is wrong if `a` is poison.
