@@ -50,7 +50,7 @@ answers_held f s t (Replied reply) shows a = goes_held f s t reply shows a
 answers_held f s t (TextRefusedAt refusal offset) shows a = absurd a
 
 -- ---- a module that stays as it was
-still : (m n : Module) → IsReady m → IsInRange m → n ≡ m → IsRefinement m n
+pub still : (m n : Module) → IsReady m → IsInRange m → n ≡ m → IsRefinement m n
 still m n ready range e =
     subst (λ n. IsRefinement m n) (sym e) (ready, range, kept_is_refined m m ready (mixed_runs_keep [] (λ t i. absurd i) 0 m m ready refl))
 
@@ -104,7 +104,7 @@ rule_listed : (o : Option Rule) (l : Listed) → option_map (λ r. record { atte
 rule_listed None l e = absurd (none-some l e)
 rule_listed (Some r) l e = (r, refl, ap (λ (l : Listed). l.attempt) (same_Some _ _ e))
 
-own_noted : (b : RegistryModel) (name : RuleName) (k : Kept) → pattern_named name b ≡ Some k → IsNotedName (Some k) name → IsNotedIn b (OfOwn k.shape)
+pub own_noted : (b : RegistryModel) (name : RuleName) (k : Kept) → pattern_named name b ≡ Some k → IsNotedName (Some k) name → IsNotedIn b (OfOwn k.shape)
 own_noted b (Numbered n) k e noted = absurd (none-some k e)
 own_noted b (Worded word) k e noted = (word, k, e, noted.0, refl, noted.1)
 

@@ -2,6 +2,7 @@
 ghost use Rattle.registry_refinement.specs.Commands.{ApplyCommandRefines, RewriteCommandRefines};
 ghost use Rattle.registry_refinement.specs.Noted.{NotedApplyRefines, NotedAreProved, NotedRewriteRefines};
 ghost use Rattle.registry_refinement.specs.Noted.{NotesAreTrue, WrongIsNeverNoted};
+ghost use Rattle.registry_refinement.specs.Sessions.{ApplyLineRefines, LinesKeepReached, RewriteLinesRefine};
 
 use patterns_refinement::proved::{proved_patterns_refine, samples_hold_for_all_outcomes};
 use user_patterns_registry::laws::what_is_defined_is_ready;
@@ -35,6 +36,16 @@ pub fn noted_commands_refine()
     ensures rewrite { RewriteCommandRefines }
 {
     noted_patterns_refine();
+}
+
+/// Each line of a session keeps its registry reached (`reached`). After a line `apply` that names such a pattern, and
+/// after a line `rewrite` that names such patterns and listed rules, the session's module refines the module before.
+pub fn lines_of_noted_patterns_refine()
+    ensures reached { LinesKeepReached }
+    ensures apply { ApplyLineRefines }
+    ensures rewrite { RewriteLinesRefine }
+{
+    noted_commands_refine();
 }
 
 /// No session notes `select(c, a, false) => andi(c, a)` as `holds`, which is wrong if `a` is poison.
