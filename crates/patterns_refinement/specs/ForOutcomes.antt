@@ -55,7 +55,7 @@ OutcomesKeepThere =
 
 -- ---- modules
 
--- Each integer of the module has 1 to 128 bits. This is true of all modules of a context.
+-- Each integer of the module has 1 to 128 bits. A context refuses other integer types.
 abbrev pub IsInRange : Module → Type 0
 IsInRange m = HaveKinds (λ k. is_width (width_of k)) m
 

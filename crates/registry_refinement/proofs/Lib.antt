@@ -1,2 +1,4 @@
 pub mod Reached
 pub mod Proving
+pub mod Commanded
+pub mod Sessions

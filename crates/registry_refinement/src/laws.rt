@@ -1,6 +1,8 @@
 //! From the reply to a check to the module: laws of patterns that a registry notes as `holds` without a width.
+ghost use Rattle.registry_refinement.specs.Commands.{ApplyCommandRefines, RewriteCommandRefines};
 ghost use Rattle.registry_refinement.specs.Noted.{NotedApplyRefines, NotedAreProved, NotedRewriteRefines};
 ghost use Rattle.registry_refinement.specs.Noted.{NotesAreTrue, WrongIsNeverNoted};
+ghost use Rattle.registry_refinement.specs.Sessions.{ApplyLineRefines, LinesKeepReached, RewriteLinesRefine};
 
 use patterns_refinement::proved::{proved_patterns_refine, samples_hold_for_all_outcomes};
 use user_patterns_registry::laws::what_is_defined_is_ready;
@@ -25,6 +27,25 @@ pub fn noted_patterns_refine()
 {
     noted_patterns_are_proved();
     proved_patterns_refine();
+}
+
+/// After the commands `apply` and `rewrite` of a session by such patterns and listed rules, whatever the reply is, the
+/// session's module refines the module before.
+pub fn noted_commands_refine()
+    ensures apply { ApplyCommandRefines }
+    ensures rewrite { RewriteCommandRefines }
+{
+    noted_patterns_refine();
+}
+
+/// Each line of a session keeps its registry reached (`reached`). After a line `apply` that names such a pattern, and
+/// after a line `rewrite` that names such patterns and listed rules, the session's module refines the module before.
+pub fn lines_of_noted_patterns_refine()
+    ensures reached { LinesKeepReached }
+    ensures apply { ApplyLineRefines }
+    ensures rewrite { RewriteLinesRefine }
+{
+    noted_commands_refine();
 }
 
 /// No session notes `select(c, a, false) => andi(c, a)` as `holds`, which is wrong if `a` is poison.
