@@ -1,26 +1,24 @@
 -- Lines of a session that apply noted patterns.
-use Rattle.std.proofs.Common.{◌≡◌, ◌∙◌, ℕ, zero, suc, Bool, true, false, List, Option, Some, None, refl, sym, ap, subst}
+use Rattle.std.proofs.Common.{◌≡◌, ℕ, zero, suc, Bool, true, false, List, Option, Some, None, refl, sym, ap, subst}
 use Rattle.std.specs.Prelude.{if◌then◌else◌, option_map}
-use Rattle.rewriter_machine.specs.Machine as call
 use Rattle.rewriter_machine.specs.Machine.{Nothing, State, Transformation}
-use Rattle.rewriter_machine.specs.Commands.{AppliesRule, Apply, Ask, Asked, Follows, Misplaced, Response, RuleName}
+use Rattle.rewriter_machine.specs.Commands.{AppliesRule, Apply, Follows, Response, RuleName}
 use Rattle.greedy.specs.PatternSet.{OfOwn}
 use Rattle.patterns_refinement.specs.Keeping.{IsReady}
 use Rattle.patterns_refinement.specs.ForOutcomes.{IsInRange}
-use Rattle.user_patterns_registry.specs.Registry.{RegistryModel, Kept}
-use Rattle.mlir_work_script.specs.Commands.{Spoken, Nothing as Empty, Bad, Obey, Ordered, Registered}
+use Rattle.user_patterns_registry.specs.Registry.{RegistryModel}
+use Rattle.mlir_work_script.specs.Commands.{Nothing as Empty, Bad, Obey, Ordered, Registered}
 use Rattle.mlir_work_script.specs.RegistryCommands.{RegistryCommand}
 use Rattle.mlir_work_script.specs.SessionCommands.{Rewrite, SessionCommand, Trace}
 use Rattle.mlir_work_registry.specs.Notices.{Notice}
 use Rattle.mlir_work_registry.specs.Registries.{Registries}
-use Rattle.mlir_work_transforms.specs.RuleLists.{mixing, names_own, pattern_named}
+use Rattle.mlir_work_transforms.specs.RuleLists.{names_own, pattern_named}
 use Rattle.mlir_work_session.specs.Machine.{SessionSetting}
-use Rattle.mlir_work_session.specs.Output.{Replies}
 use Rattle.mlir_work_session.specs.RuleLists.{ListCommand, Mixes, RunsListCommand, list_command_change, list_command_if}
 use Rattle.mlir_work_session.specs.Sittings.{RunsPatternCommand, Sitting}
 use Rattle.registry_refinement.specs.Noted.{IsReached, Leads}
-use Rattle.registry_refinement.specs.Commands.{AreNotedNames, ApplyCommandRefines, IsNotedName, IsRefinement, RewriteCommandRefines}
-use Rattle.registry_refinement.specs.Sessions.{ApplyLineRefines, LinesKeepReached, RewriteLineRefines, RewriteLinesRefine}
+use Rattle.registry_refinement.specs.Commands.{AreNotedNames, ApplyCommandRefines, IsRefinement, RewriteCommandRefines}
+use Rattle.registry_refinement.specs.Sessions.{ApplyLineRefines, LinesKeepReached, RewriteLinesRefine}
 use Rattle.registry_refinement.proofs.Commanded.{own_noted, still}
 
 -- ---- one more registry command

@@ -1,5 +1,5 @@
 -- The lines of a session that apply patterns which its registry notes as `holds`.
-use Rattle.std.specs.Prelude.{◌≡◌, ℕ, List, Bool, true, Option, Some}
+use Rattle.std.specs.Prelude.{◌≡◌, ℕ, List, true, Option, Some}
 use Rattle.rewriter_machine.specs.Commands.{Apply, RuleName}
 use Rattle.patterns_refinement.specs.Keeping.{IsReady}
 use Rattle.patterns_refinement.specs.ForOutcomes.{IsInRange}
