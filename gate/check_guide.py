@@ -70,7 +70,6 @@ COMMANDS = {
     "gate/check_examples.py": Typed(", 0 faults"),
     "tools/page.py examples/fold.mlir examples/fold.script -o replay.html": Typed(""),
     "tools/page.py MODULE SCRIPT": Typed("<!doctype html>", line="tools/page.py module.mlir s && head -1 replay.html"),
-    "mlir-opt --mlir-print-op-generic FILE.mlir > module.mlir": Typed("", wants="mlir-opt"),
     "mlir-opt --allow-unregistered-dialect --mlir-print-op-generic FILE.mlir > module.mlir":
         Typed("", wants="mlir-opt"),
     RUN: Typed("\n2 ok #12\n"),
@@ -79,7 +78,6 @@ COMMANDS = {
         Typed("%0 = arith.muli %arg0, %c42_i32 : i32", line=f"{RUN} | sed -n '/^\"builtin.module\"/,$p' | mlir-opt",
               wants="mlir-opt"),
     "tr '\\n' ' '": Typed('"a"() : () -> () "b"() : () -> () ', given='"a"() : () -> ()\n"b"() : () -> ()\n'),
-    "(head -c 28 FILE; echo x) | LC_ALL=C awk 'END { print NR, length($0) }'": Typed("1 29\n"),
     "tr -d '\\r' <FILE": Typed("// What is known"),
     "./run --brief examples/fold.mlir -s examples/fold.script -e 'report dead' -e print": Typed("func.return"),
 }

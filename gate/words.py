@@ -116,12 +116,30 @@ def verifier():
     return [{"number": int(number), "word": f"V{number}", "about": title} for number, title in found]
 
 
+def messages():
+    """The sentences of the messages on refused texts: on modules, by the words of refusals; on constructs, by their
+    words; on what `--opaque` accepts; and on patterns."""
+    code = source(f"{FRONT}/messages.rt")
+    causes = dict(re.findall(r'UnsupportedConstruct::(\w+) => b"([\w-]+)"',
+                             source("crates/mlir_work_notes/src/unsupported.rt")))
+    found = []
+    for name, of in (("wanted", "module"), ("unsupported_expected", "construct"), ("wanted_of_pattern", "pattern")):
+        arms = part(code, f"fn {name}(", "\n}\n")
+        for word, text in re.findall(r'(?:\w+::(\w+)|_) =>\s*b"((?:[^"\\]|\\.)*)"', arms):
+            found.append({"of": of, "word": causes.get(word, word) or "other" * (of == "construct"), "about": text})
+    arrow = re.search(r'b"->".as_slice\(\).*?b"(.*?)"', code, re.S)[1]
+    opaque = re.search(r'b"( is not modelled: .*?)"', code, re.S)[1]
+    found += [{"of": "pattern", "word": "->", "about": arrow}, {"of": "opaque", "word": "", "about": opaque}]
+    return [{**row, "about": re.sub(r"\\(.)", r"\1", row["about"])} for row in found]
+
+
 def table():
     """The table of these sources."""
     text = help_text()
     return {"options": options(text), "commands": commands(text), "words": stand_ins(text), "kinds": kinds(text),
             "refusals": named_variants("crates/ir_types/src/refusal.rt", "Refusal"),
-            "rules": named_variants("crates/patterns_base/src/rule.rt", "Rule"), "verifier": verifier()}
+            "rules": named_variants("crates/patterns_base/src/rule.rt", "Rule"), "verifier": verifier(),
+            "messages": messages()}
 
 
 def written(found):

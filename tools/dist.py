@@ -31,7 +31,7 @@ LOADED, ELF, WIDE = 1, b"\x7fELF", 2
 def stripped(program):
     """Returns a 64-bit program without the bytes after its last segment: symbols and section headers."""
     if program[:4] != ELF or program[4] != WIDE:
-        sys.exit("it is no program of 64 bits")
+        sys.exit("found another file, expected a 64-bit ELF program")
     at, = struct.unpack_from("<Q", program, 32)
     size, count = struct.unpack_from("<HH", program, 54)
     end = at + size * count
@@ -67,7 +67,8 @@ def built():
     of_sources = sources.digest()
     found = sources.built(of_sources)
     if not found:
-        sys.exit("nothing was built here of these sources: `MLIR_WORK_BUILD=1 ./run --help` proves and builds it")
+        sys.exit("found no program that was built here of these sources: `MLIR_WORK_BUILD=1 ./run --help` proves and "
+                 "builds one")
     return stripped(found.read_bytes()), of_sources
 
 
@@ -84,7 +85,8 @@ def agree_on_version():
     """Exits if the built program has another version than CHANGELOG.md."""
     ran = subprocess.run([sources.BUILT, "--version"], capture_output=True, text=True, check=False)
     if not ran.returncode and ran.stdout.split()[1:] != [version()]:
-        sys.exit(f"the program says {ran.stdout.strip()}, and CHANGELOG.md {version()}")
+        sys.exit(f"found version {ran.stdout.strip()} of the program, expected {version()} as in CHANGELOG.md: correct "
+                 "crates/mlir_work_cli/src/text.rt")
 
 
 def packed(made):
@@ -134,8 +136,8 @@ def stop_where_they_differ(word, made, shipped):
     if made != shipped:
         pairs = enumerate(zip(made, shipped))
         place = next((at for at, (one, other) in pairs if one != other), min(len(made), len(shipped)))
-        sys.exit(f"dist/ says that it is of these sources, but what was built of them is another {word}: "
-                 f"{len(made)} bytes and {len(shipped)}, first different at byte {place}")
+        sys.exit(f"found a {word} of {len(made)} bytes built of these sources, expected the {len(shipped)} bytes of "
+                 f"dist/: byte {place} is the first different one; run tools/dist.sh")
 
 
 def main():

@@ -22,7 +22,7 @@ def start(*words):
     given = [*words, *sys.argv[1:]]
     if given == ["--version"]:
         found = sources.program()
-        print(sources.version(found) if found else "no program is of these sources")
+        print(sources.version(found) if found else "found no program of these sources: `./run --help` builds one")
         sys.exit()
     provide()
     sys.exit(main.main(given))

@@ -74,14 +74,14 @@ def main():
     folder.mkdir(parents=True, exist_ok=True)
     archive = joined(sys.argv[2], folder) if len(sys.argv) == 3 else found(folder)
     if not archive:
-        sys.exit("no library is of these sources: `rt lib` in crates/mlir_work_c proves and builds it")
+        sys.exit("found no library of these sources: `rt lib` in crates/mlir_work_c proves and builds it")
     if archive != folder / ARCHIVE:
         archive = shutil.copy(archive, folder / ARCHIVE)
     print(archive)
     if shutil.which("gcc"):
         print(shared(archive, folder))
     else:
-        print(f"there is no gcc, so no {SHARED} is made", file=sys.stderr)
+        print(f"found no gcc, so {SHARED} isn't made: install gcc", file=sys.stderr)
 
 
 if __name__ == "__main__":

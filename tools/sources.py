@@ -109,9 +109,10 @@ def unpacked(word="program"):
     try:
         made = lzma.decompress(packed.read_bytes())
     except lzma.LZMAError as fault:
-        sys.exit(f"dist/{packed.name} can't be unpacked: {fault}")
+        sys.exit(f"found a damaged dist/{packed.name} ({fault}): check the file out again")
     if digest_of(made) != entries(MANIFEST).get(word):
-        sys.exit(f"dist/{packed.name} isn't the {word} of dist/MANIFEST: its SHA-256 is {digest_of(made)}")
+        sys.exit(f"found SHA-256 {digest_of(made)} in dist/{packed.name}, expected the {word} of dist/MANIFEST: check "
+                 "both files out again")
     return made
 
 
@@ -168,7 +169,7 @@ def record(of_sources, made=None):
     of_program = digest_of(made.read_bytes())
     stamp = made.with_suffix(".stamp")
     if stamp.is_file() and not stamp.read_text().endswith(of_program):
-        sys.exit(f"{stamp.relative_to(ROOT)} is of something else than stands beside it")
+        sys.exit(f"found a stamp of another file in {stamp.relative_to(ROOT)}: build the file again with `rt`")
     record_of(made).write_text(f"sources: {of_sources}\nprogram: {of_program}\n")
 
 
@@ -176,7 +177,7 @@ def record_all():
     """Writes the records of the program and the library, if they were built."""
     there = [(it, top) for it, top in ((BUILT, TOP), (BUILT_LIBRARY, LIBRARY_TOP)) if it.is_file()]
     if not there:
-        sys.exit("nothing was built here")
+        sys.exit("found nothing that was built here: `MLIR_WORK_BUILD=1 ./run --help` builds the program")
     for made, top in there:
         record(digest(top), made)
 
@@ -204,12 +205,12 @@ def main():
     elif sys.argv[1:] == ["--program"]:
         found = program()
         if not found:
-            sys.exit("no program is of these sources: `./run --help` builds one")
+            sys.exit("found no program of these sources: `./run --help` builds one")
         print(found)
     elif sys.argv[1:] == ["--library"]:
         found = library() or built_library()
         if not found:
-            sys.exit("no library is of these sources: `rt lib` in crates/mlir_work_c proves and builds it")
+            sys.exit("found no library of these sources: `rt lib` in crates/mlir_work_c proves and builds it")
         print(found)
     elif sys.argv[1:2] == ["--version"] and len(sys.argv) == 3:
         print(version(sys.argv[2]))

@@ -272,8 +272,102 @@ typedef struct mlir_work_use {
 } mlir_work_use;
 
 /* Returns whether a value is used, and writes one of its uses to `use`. After that operand is set to another value, the
-   call returns another use. If the value isn't used, `use` is unchanged. `report uses` lists all uses. */
+   call returns another use. If the value isn't used, `use` is unchanged. */
 bool mlir_work_first_use(mlir_work_session *session, const mlir_work_value *value, mlir_work_use *use);
+
+/* Reads of operations. They change nothing. A call that fills an array or a buffer writes as many items as there is
+   space for, from the first item on, and returns how many there are: with a capacity of 0 it only counts. If it returns
+   more than the capacity, call it again with more space. */
+
+/* The result of a call that fills an array or a buffer, if memory ran out. Nothing was written. */
+#define MLIR_WORK_NO_MEMORY (UINT64_MAX - 1)
+
+/* Writes the operations of the module in pre-order, an operation before the operations inside it. Returns how many the
+   module has, MLIR_WORK_NO_MEMORY, or MLIR_WORK_NONE if the handle is closed. To count takes no memory. */
+uint64_t mlir_work_operations(mlir_work_session *session, uint32_t *operations, size_t capacity);
+
+/* Writes the uses of a value, each once and in any order. Returns how many the value has; takes time proportional to
+   them. The order stays the same until the next edit. */
+size_t mlir_work_uses(mlir_work_session *session, const mlir_work_value *value, mlir_work_use *uses, size_t capacity);
+
+/* How many operands, results, properties, discardable attributes and regions an operation has. A region has at most one
+   block. */
+typedef struct mlir_work_count {
+  size_t operands;
+  size_t results;
+  size_t properties;
+  size_t attributes;
+  size_t regions;
+} mlir_work_count;
+
+/* Returns whether the module has an operation, and writes its counts. If there is none, `counts` is unchanged. */
+bool mlir_work_counts(mlir_work_session *session, uint32_t operation, mlir_work_count *counts);
+
+/* Returns how many arguments the block of a region has, or MLIR_WORK_NONE if there is no such region or block. */
+uint64_t mlir_work_argument_count(mlir_work_session *session, uint32_t operation, uint32_t region);
+
+/* Returns in which region of its parent an operation is. */
+uint64_t mlir_work_region_of(mlir_work_session *session, uint32_t operation);
+
+/* Names, types and attributes are interned: a session has a number for each. Two names of a session are equal exactly
+   if their numbers are equal, and so are two types and two attributes. A number keeps its meaning until the session is
+   closed: neither an edit nor a rollback changes or releases it. Another session has other numbers. */
+
+/* Returns the number of the name of an operation, as of "arith.addi". */
+uint64_t mlir_work_name_of(mlir_work_session *session, uint32_t operation);
+
+/* Returns the number of the type of a value, or MLIR_WORK_NONE if the module has no such value. */
+uint64_t mlir_work_value_type(mlir_work_session *session, const mlir_work_value *value);
+
+/* An entry of the properties or the discardable attributes of an operation. */
+typedef struct mlir_work_entry {
+  uint32_t key;       /* the number of a name */
+  uint32_t attribute; /* the number of an attribute */
+} mlir_work_entry;
+
+/* Return whether an operation has property, or discardable attribute, number `index`, in the order of the keys, and
+   write the entry. If there is none, `entry` is unchanged. */
+bool mlir_work_property_at(mlir_work_session *session, uint32_t operation, size_t index, mlir_work_entry *entry);
+bool mlir_work_attribute_at(mlir_work_session *session, uint32_t operation, size_t index, mlir_work_entry *entry);
+
+/* Return the number of the property, or discardable attribute, of an operation at a key, or MLIR_WORK_NONE if there is
+   none. The key is the number of a name. */
+uint64_t mlir_work_property_by_key(mlir_work_session *session, uint32_t operation, uint32_t key);
+uint64_t mlir_work_attribute_by_key(mlir_work_session *session, uint32_t operation, uint32_t key);
+
+/* Returns the number of the name with this text, or MLIR_WORK_NONE if the session has no such name: then no operation
+   has that name or key. Takes time proportional to the names of the session, so call it once a name. */
+uint64_t mlir_work_find_name(mlir_work_session *session, const uint8_t *text, size_t text_length);
+
+/* Write the text of a name, a type or an attribute, as a printed module has it, without a terminating 0. They return
+   its length, MLIR_WORK_NONE if the session has no such number, or MLIR_WORK_NO_MEMORY; a name needs no memory. */
+uint64_t mlir_work_name_text(mlir_work_session *session, uint32_t name, uint8_t *into, size_t into_length);
+uint64_t mlir_work_type_text(mlir_work_session *session, uint32_t type, uint8_t *into, size_t into_length);
+uint64_t mlir_work_attribute_text(mlir_work_session *session, uint32_t attribute, uint8_t *into, size_t into_length);
+
+/* Returns the operation after another one in pre-order, among `root` and the operations inside it, or MLIR_WORK_NONE at
+   the end. A walk begins with `root`. To erase or move an operation during a walk, ask for the next one first. (This
+   function is part of the header, not of the library, and isn't proved.) */
+static inline uint64_t mlir_work_walk_next(mlir_work_session *session, uint32_t operation, uint32_t root) {
+  uint64_t region = 0;
+  for (;;) {
+    mlir_work_count counts;
+    uint64_t found;
+    if (!mlir_work_counts(session, operation, &counts))
+      return MLIR_WORK_NONE;
+    for (; region < counts.regions; region++)
+      if ((found = mlir_work_first(session, operation, (uint32_t)region)) != MLIR_WORK_NONE)
+        return found;
+    if (operation == root)
+      return MLIR_WORK_NONE;
+    if ((found = mlir_work_next(session, operation)) != MLIR_WORK_NONE)
+      return found;
+    region = mlir_work_region_of(session, operation) + 1; /* the regions of the parent that are still ahead */
+    if ((found = mlir_work_parent(session, operation)) == MLIR_WORK_NONE)
+      return MLIR_WORK_NONE;
+    operation = (uint32_t)found;
+  }
+}
 
 #ifdef __cplusplus
 }

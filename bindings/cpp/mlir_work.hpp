@@ -1,4 +1,5 @@
-// RAII for C++: a session closes itself, a refusal is an exception, and a mark rolls back unless it is kept.
+// C++ over mlir_work.h: a session closes itself, a refusal is an exception, a mark rolls back unless it is kept, and
+// operations, values, regions and blocks are light handles with ranges.
 // docs/EMBED.md shows how to build and use it. The rules for threads and lifetimes are in mlir_work.h.
 #pragma once
 
@@ -7,6 +8,8 @@
 #include <algorithm>
 #include <cstddef>
 #include <cstdint>
+#include <iterator>
+#include <new>
 #include <optional>
 #include <random>
 #include <stdexcept>
@@ -17,19 +20,387 @@
 
 namespace workbench {
 
-using Operation = std::uint32_t;
-using Value = mlir_work_value;
 using Spot = mlir_work_spot;
-using Use = mlir_work_use;
 
-inline Value result(Operation operation, std::uint32_t place = 0) { return {operation, MLIR_WORK_RESULT, place}; }
-inline Value argument(Operation operation, std::uint32_t region, std::uint32_t place) {
+inline mlir_work_value result(std::uint32_t operation, std::uint32_t place = 0) {
+  return {operation, MLIR_WORK_RESULT, place};
+}
+inline mlir_work_value argument(std::uint32_t operation, std::uint32_t region, std::uint32_t place) {
   return {operation, region, place};
 }
-inline Spot before(Operation operation) { return {MLIR_WORK_BEFORE, operation, 0}; }
-inline Spot after(Operation operation) { return {MLIR_WORK_AFTER, operation, 0}; }
-inline Spot start(Operation operation, std::uint32_t region = 0) { return {MLIR_WORK_START, operation, region}; }
-inline Spot end(Operation operation, std::uint32_t region = 0) { return {MLIR_WORK_END, operation, region}; }
+inline Spot before(std::uint32_t operation) { return {MLIR_WORK_BEFORE, operation, 0}; }
+inline Spot after(std::uint32_t operation) { return {MLIR_WORK_AFTER, operation, 0}; }
+inline Spot start(std::uint32_t operation, std::uint32_t region = 0) { return {MLIR_WORK_START, operation, region}; }
+inline Spot end(std::uint32_t operation, std::uint32_t region = 0) { return {MLIR_WORK_END, operation, region}; }
+
+class Session;
+class Operation;
+class Operations;
+class Region;
+class Block;
+
+// A range of `count` items; item k is `get(k)`, which is called when the item is read.
+template <class Get> class Indexed {
+public:
+  class iterator {
+  public:
+    using iterator_category = std::input_iterator_tag;
+    using value_type = decltype(std::declval<Get>()(std::size_t{}));
+    using difference_type = std::ptrdiff_t;
+    using pointer = void;
+    using reference = value_type;
+
+    iterator(const Get *get, std::size_t place) : get_(get), place_(place) {}
+    value_type operator*() const { return (*get_)(place_); }
+    iterator &operator++() { return ++place_, *this; }
+    void operator++(int) { ++place_; }
+    bool operator==(const iterator &other) const { return place_ == other.place_; }
+    bool operator!=(const iterator &other) const { return place_ != other.place_; }
+
+  private:
+    const Get *get_;
+    std::size_t place_;
+  };
+
+  Indexed(std::size_t count, Get get) : count_(count), get_(get) {}
+  iterator begin() const { return {&get_, 0}; }
+  iterator end() const { return {&get_, count_}; }
+  std::size_t size() const { return count_; }
+  bool empty() const { return count_ == 0; }
+  // Throws std::out_of_range.
+  auto operator[](std::size_t place) const {
+    if (place >= count_)
+      throw std::out_of_range("there is no such item");
+    return get_(place);
+  }
+
+private:
+  std::size_t count_;
+  Get get_;
+};
+
+// An interned name, type or attribute of a session. Two of a session are compared by their numbers.
+template <std::uint64_t (*Read)(mlir_work_session *, std::uint32_t, std::uint8_t *, std::size_t)> class Interned {
+public:
+  Interned(mlir_work_session *held, std::uint32_t number) : held_(held), number_(number) {}
+
+  std::uint32_t number() const { return number_; }
+  // Returns the text as a printed module has it. Throws std::bad_alloc.
+  std::string text() const {
+    std::uint8_t near[64];
+    const std::uint64_t length = read(near, sizeof near);
+    if (length <= sizeof near)
+      return std::string(reinterpret_cast<const char *>(near), static_cast<std::size_t>(length));
+    std::string all(static_cast<std::size_t>(length), '\0');
+    read(reinterpret_cast<std::uint8_t *>(all.data()), all.size());
+    return all;
+  }
+  friend bool operator==(const Interned &one, const Interned &other) { return one.number_ == other.number_; }
+  friend bool operator!=(const Interned &one, const Interned &other) { return !(one == other); }
+  friend bool operator==(const Interned &one, std::string_view text) { return one.text() == text; }
+  friend bool operator!=(const Interned &one, std::string_view text) { return !(one == text); }
+
+private:
+  std::uint64_t read(std::uint8_t *into, std::size_t length) const {
+    const std::uint64_t found = Read(held_, number_, into, length);
+    if (found >= MLIR_WORK_NO_MEMORY)
+      throw std::bad_alloc();
+    return found;
+  }
+
+  mlir_work_session *held_;
+  std::uint32_t number_;
+};
+
+using Name = Interned<mlir_work_name_text>;
+using Type = Interned<mlir_work_type_text>;
+using Attribute = Interned<mlir_work_attribute_text>;
+
+// An entry of the properties or the discardable attributes of an operation.
+struct Entry {
+  Name key;
+  Attribute attribute;
+};
+
+class Uses;
+
+// A result of an operation, or an argument of a block.
+class Value {
+public:
+  Value(mlir_work_session *held, const mlir_work_value &numbers) : held_(held), numbers_(numbers) {}
+
+  operator const mlir_work_value &() const { return numbers_; }
+  bool is_result() const { return numbers_.region == MLIR_WORK_RESULT; }
+  std::uint32_t place() const { return numbers_.place; }
+  // The operation that has the result, or whose region has the block.
+  Operation owner() const;
+  // Throws std::out_of_range if the value is no longer in the module.
+  Type type() const;
+  // All uses, each once, in any order, as they are now: the uses may be changed while the range is read.
+  Uses uses() const;
+  bool is_used() const {
+    mlir_work_use use;
+    return mlir_work_first_use(held_, &numbers_, &use);
+  }
+  friend bool operator==(const Value &one, const Value &other) {
+    const mlir_work_value &a = one.numbers_, &b = other.numbers_;
+    return a.operation == b.operation && a.region == b.region && a.place == b.place;
+  }
+  friend bool operator!=(const Value &one, const Value &other) { return !(one == other); }
+
+private:
+  mlir_work_session *held_;
+  mlir_work_value numbers_;
+};
+
+// An operation of a session, by its number. It converts to the number, so each call of Session accepts it. Handles are
+// small and copied freely. A handle of an operation that was erased reads nothing: its ranges are empty. Don't move the
+// session, or assign to it, while handles refer to it.
+class Operation {
+  template <bool (*At)(mlir_work_session *, std::uint32_t, std::size_t, mlir_work_entry *)>
+  auto entries(std::size_t count) const {
+    return Indexed(count, [held = held_, number = number_](std::size_t place) {
+      mlir_work_entry entry{};
+      At(held, number, place, &entry);
+      return Entry{Name(held, entry.key), Attribute(held, entry.attribute)};
+    });
+  }
+
+public:
+  Operation(mlir_work_session *held, std::uint32_t number) : held_(held), number_(number) {}
+
+  std::uint32_t number() const { return number_; }
+  operator std::uint32_t() const { return number_; }
+  bool exists() const { return mlir_work_has(held_, number_); }
+  // Throws std::out_of_range if the operation was erased.
+  Name name() const { return {held_, known(mlir_work_name_of(held_, number_))}; }
+
+  auto operands() const {
+    return Indexed(counts().operands, [held = held_, number = number_](std::size_t place) {
+      mlir_work_value value{};
+      mlir_work_operand(held, number, place, &value);
+      return Value(held, value);
+    });
+  }
+  auto results() const {
+    return Indexed(counts().results, [held = held_, number = number_](std::size_t place) {
+      return Value(held, result(number, static_cast<std::uint32_t>(place)));
+    });
+  }
+  auto regions() const;
+  auto properties() const { return entries<mlir_work_property_at>(counts().properties); }
+  auto attributes() const { return entries<mlir_work_attribute_at>(counts().attributes); }
+  // The property at a key, or else the discardable attribute.
+  std::optional<Attribute> attribute(std::string_view key) const {
+    const std::uint64_t name =
+        mlir_work_find_name(held_, reinterpret_cast<const std::uint8_t *>(key.data()), key.size());
+    return name == MLIR_WORK_NONE ? std::nullopt : attribute(Name(held_, static_cast<std::uint32_t>(name)));
+  }
+  std::optional<Attribute> attribute(const Name &key) const {
+    std::uint64_t found = mlir_work_property_by_key(held_, number_, key.number());
+    if (found == MLIR_WORK_NONE)
+      found = mlir_work_attribute_by_key(held_, number_, key.number());
+    return found == MLIR_WORK_NONE ? std::nullopt : std::optional(Attribute(held_, static_cast<std::uint32_t>(found)));
+  }
+
+  std::optional<Operation> parent() const { return of(mlir_work_parent(held_, number_)); }
+  std::optional<Operation> next() const { return of(mlir_work_next(held_, number_)); }
+  std::optional<Operation> previous() const { return of(mlir_work_previous(held_, number_)); }
+  // The number of its region in the parent.
+  std::optional<std::uint32_t> region() const {
+    const std::uint64_t found = mlir_work_region_of(held_, number_);
+    return found == MLIR_WORK_NONE ? std::nullopt : std::optional(static_cast<std::uint32_t>(found));
+  }
+  // The operation and the operations inside it, in pre-order, as they are now. An operation that is erased during the
+  // walk is left out.
+  Operations walk() const;
+
+private:
+  friend class Session;
+  friend class Value;
+  friend class Region;
+  friend class Block;
+
+  mlir_work_count counts() const {
+    mlir_work_count counts{};
+    mlir_work_counts(held_, number_, &counts);
+    return counts;
+  }
+  static std::uint32_t known(std::uint64_t number) {
+    if (number == MLIR_WORK_NONE)
+      throw std::out_of_range("it is no longer in the module");
+    return static_cast<std::uint32_t>(number);
+  }
+  std::optional<Operation> of(std::uint64_t number) const {
+    return number == MLIR_WORK_NONE ? std::nullopt
+                                    : std::optional(Operation(held_, static_cast<std::uint32_t>(number)));
+  }
+
+  mlir_work_session *held_;
+  std::uint32_t number_;
+};
+
+// A use: the operation that uses a value, and the number of its operand.
+struct Use {
+  Operation owner;
+  std::uint32_t operand;
+};
+
+// The uses of a value. A few of them are kept without an allocation.
+class Uses {
+public:
+  class iterator {
+  public:
+    using iterator_category = std::input_iterator_tag;
+    using value_type = Use;
+    using difference_type = std::ptrdiff_t;
+    using pointer = void;
+    using reference = Use;
+
+    iterator(mlir_work_session *held, const mlir_work_use *at) : held_(held), at_(at) {}
+    Use operator*() const { return {Operation(held_, at_->operation), at_->operand}; }
+    iterator &operator++() { return ++at_, *this; }
+    void operator++(int) { ++at_; }
+    bool operator==(const iterator &other) const { return at_ == other.at_; }
+    bool operator!=(const iterator &other) const { return at_ != other.at_; }
+
+  private:
+    mlir_work_session *held_;
+    const mlir_work_use *at_;
+  };
+
+  Uses(mlir_work_session *held, const mlir_work_value &value)
+      : held_(held), count_(mlir_work_uses(held, &value, near_, std::size(near_))) {
+    if (count_ > std::size(near_)) {
+      far_.resize(count_);
+      mlir_work_uses(held, &value, far_.data(), count_);
+    }
+  }
+  iterator begin() const { return {held_, first()}; }
+  iterator end() const { return {held_, first() + count_}; }
+  std::size_t size() const { return count_; }
+  bool empty() const { return count_ == 0; }
+
+private:
+  const mlir_work_use *first() const { return far_.empty() ? near_ : far_.data(); }
+
+  mlir_work_session *held_;
+  mlir_work_use near_[8];
+  std::size_t count_;
+  std::vector<mlir_work_use> far_;
+};
+
+inline Operation Value::owner() const { return {held_, numbers_.operation}; }
+inline Type Value::type() const { return {held_, Operation::known(mlir_work_value_type(held_, &numbers_))}; }
+inline Uses Value::uses() const { return {held_, numbers_}; }
+
+// A range of operations, as they are when it is made. An operation that is erased meanwhile is left out.
+class Operations {
+public:
+  class iterator {
+  public:
+    using iterator_category = std::input_iterator_tag;
+    using value_type = Operation;
+    using difference_type = std::ptrdiff_t;
+    using pointer = void;
+    using reference = Operation;
+
+    iterator(mlir_work_session *held, const std::uint32_t *at, const std::uint32_t *end)
+        : held_(held), at_(at), end_(end) {
+      skip();
+    }
+    Operation operator*() const { return {held_, *at_}; }
+    iterator &operator++() { return ++at_, skip(), *this; }
+    void operator++(int) { ++*this; }
+    bool operator==(const iterator &other) const { return at_ == other.at_; }
+    bool operator!=(const iterator &other) const { return at_ != other.at_; }
+
+  private:
+    void skip() {
+      while (at_ != end_ && !mlir_work_has(held_, *at_))
+        ++at_;
+    }
+
+    mlir_work_session *held_;
+    const std::uint32_t *at_, *end_;
+  };
+
+  Operations(mlir_work_session *held, std::vector<std::uint32_t> numbers) : held_(held), numbers_(std::move(numbers)) {}
+  iterator begin() const { return {held_, numbers_.data(), numbers_.data() + numbers_.size()}; }
+  iterator end() const {
+    const std::uint32_t *past = numbers_.data() + numbers_.size();
+    return {held_, past, past};
+  }
+
+private:
+  mlir_work_session *held_;
+  std::vector<std::uint32_t> numbers_;
+};
+
+inline Operations Operation::walk() const {
+  std::vector<std::uint32_t> numbers;
+  for (std::uint64_t at = exists() ? number_ : MLIR_WORK_NONE; at != MLIR_WORK_NONE;
+       at = mlir_work_walk_next(held_, static_cast<std::uint32_t>(at), number_))
+    numbers.push_back(static_cast<std::uint32_t>(at));
+  return Operations(held_, std::move(numbers));
+}
+
+// The block of a region.
+class Block {
+public:
+  Block(mlir_work_session *held, std::uint32_t owner, std::uint32_t region)
+      : held_(held), owner_(owner), region_(region) {}
+
+  Operation owner() const { return {held_, owner_}; }
+  Region region() const;
+  auto arguments() const {
+    const std::uint64_t count = mlir_work_argument_count(held_, owner_, region_);
+    return Indexed(count == MLIR_WORK_NONE ? 0 : static_cast<std::size_t>(count),
+                   [held = held_, owner = owner_, region = region_](std::size_t place) {
+                     return Value(held, argument(owner, region, static_cast<std::uint32_t>(place)));
+                   });
+  }
+  // Its operations, as they are now. An operation that is erased meanwhile is left out.
+  Operations operations() const {
+    std::vector<std::uint32_t> numbers;
+    for (std::uint64_t at = mlir_work_first(held_, owner_, region_); at != MLIR_WORK_NONE;
+         at = mlir_work_next(held_, static_cast<std::uint32_t>(at)))
+      numbers.push_back(static_cast<std::uint32_t>(at));
+    return Operations(held_, std::move(numbers));
+  }
+  std::optional<Operation> first() const { return owner().of(mlir_work_first(held_, owner_, region_)); }
+  std::optional<Operation> last() const { return owner().of(mlir_work_last(held_, owner_, region_)); }
+
+private:
+  mlir_work_session *held_;
+  std::uint32_t owner_, region_;
+};
+
+// A region of an operation. It has at most one block.
+class Region {
+public:
+  Region(mlir_work_session *held, std::uint32_t owner, std::uint32_t place)
+      : held_(held), owner_(owner), place_(place) {}
+
+  Operation owner() const { return {held_, owner_}; }
+  std::uint32_t place() const { return place_; }
+  std::optional<Block> block() const {
+    return mlir_work_argument_count(held_, owner_, place_) == MLIR_WORK_NONE
+               ? std::nullopt
+               : std::optional(Block(held_, owner_, place_));
+  }
+
+private:
+  mlir_work_session *held_;
+  std::uint32_t owner_, place_;
+};
+
+inline Region Block::region() const { return {held_, owner_, region_}; }
+inline auto Operation::regions() const {
+  return Indexed(counts().regions, [held = held_, number = number_](std::size_t place) {
+    return Region(held, number, static_cast<std::uint32_t>(place));
+  });
+}
 
 // A line or a module was refused. The session is unchanged.
 class Refused : public std::runtime_error {
@@ -127,47 +498,63 @@ public:
     return found;
   }
 
-  // Edits by numbers. They throw Refused.
-  void set_operand(Operation operation, std::uint32_t operand, const Value &value) {
+  // Edits by numbers, or by handles. They throw Refused.
+  void set_operand(std::uint32_t operation, std::uint32_t operand, const mlir_work_value &value) {
     mlir_work_answer answer;
     mlir_work_set_operand(&held_, operation, operand, &value, &answer);
     accepted(answer);
   }
-  void replace(const Value &old_value, const Value &new_value) {
+  void replace(const mlir_work_value &old_value, const mlir_work_value &new_value) {
     mlir_work_answer answer;
     mlir_work_replace(&held_, &old_value, &new_value, &answer);
     accepted(answer);
   }
-  void erase(Operation operation) {
+  void erase(std::uint32_t operation) {
     mlir_work_answer answer;
     mlir_work_erase(&held_, operation, &answer);
     accepted(answer);
   }
-  void move(Operation operation, const Spot &spot) {
+  void move(std::uint32_t operation, const Spot &spot) {
     mlir_work_answer answer;
     mlir_work_move(&held_, operation, &spot, &answer);
     accepted(answer);
   }
 
-  // Queries by numbers.
-  bool has(Operation operation) { return mlir_work_has(&held_, operation); }
+  // Handles. An operation or a value need not exist.
+  Operation operation(std::uint32_t number) { return {&held_, number}; }
+  Value value(const mlir_work_value &numbers) { return {&held_, numbers}; }
+  // All operations in pre-order, the root first, as they are now. Throws std::bad_alloc.
+  Operations walk() {
+    std::vector<std::uint32_t> numbers(static_cast<std::size_t>(all(nullptr, 0)));
+    all(numbers.data(), numbers.size());
+    return {&held_, std::move(numbers)};
+  }
+  // The name with this text, if the session has it. Compare it with the names of operations, or pass it as a key.
+  std::optional<Name> name(std::string_view text) {
+    const std::uint64_t found = mlir_work_find_name(&held_, bytes(text), text.size());
+    return found == MLIR_WORK_NONE ? std::nullopt : std::optional(Name(&held_, static_cast<std::uint32_t>(found)));
+  }
+
+  // Queries by numbers, or by handles.
+  bool has(std::uint32_t operation) { return mlir_work_has(&held_, operation); }
   std::optional<Operation> root() { return found(mlir_work_root(&held_)); }
-  std::optional<Operation> parent(Operation operation) { return found(mlir_work_parent(&held_, operation)); }
-  std::optional<Operation> next(Operation operation) { return found(mlir_work_next(&held_, operation)); }
-  std::optional<Operation> previous(Operation operation) { return found(mlir_work_previous(&held_, operation)); }
-  std::optional<Operation> first(Operation operation, std::uint32_t region = 0) {
+  std::optional<Operation> parent(std::uint32_t operation) { return found(mlir_work_parent(&held_, operation)); }
+  std::optional<Operation> next(std::uint32_t operation) { return found(mlir_work_next(&held_, operation)); }
+  std::optional<Operation> previous(std::uint32_t operation) { return found(mlir_work_previous(&held_, operation)); }
+  std::optional<Operation> first(std::uint32_t operation, std::uint32_t region = 0) {
     return found(mlir_work_first(&held_, operation, region));
   }
-  std::optional<Operation> last(Operation operation, std::uint32_t region = 0) {
+  std::optional<Operation> last(std::uint32_t operation, std::uint32_t region = 0) {
     return found(mlir_work_last(&held_, operation, region));
   }
-  std::optional<Value> operand(Operation operation, std::size_t place) {
-    Value value;
-    return mlir_work_operand(&held_, operation, place, &value) ? std::optional<Value>(value) : std::nullopt;
+  std::optional<Value> operand(std::uint32_t operation, std::size_t place) {
+    mlir_work_value value;
+    return mlir_work_operand(&held_, operation, place, &value) ? std::optional(Value(&held_, value)) : std::nullopt;
   }
-  std::optional<Use> first_use(const Value &value) {
-    Use use;
-    return mlir_work_first_use(&held_, &value, &use) ? std::optional<Use>(use) : std::nullopt;
+  std::optional<Use> first_use(const mlir_work_value &value) {
+    mlir_work_use use;
+    return mlir_work_first_use(&held_, &value, &use) ? std::optional(Use{operation(use.operation), use.operand})
+                                                     : std::nullopt;
   }
 
 private:
@@ -176,8 +563,15 @@ private:
       throw Refused(told);
     return told;
   }
-  static std::optional<Operation> found(std::uint64_t number) {
-    return number == MLIR_WORK_NONE ? std::nullopt : std::optional<Operation>(static_cast<Operation>(number));
+  std::optional<Operation> found(std::uint64_t number) {
+    return number == MLIR_WORK_NONE ? std::nullopt : std::optional(operation(static_cast<std::uint32_t>(number)));
+  }
+  std::uint64_t all(std::uint32_t *numbers, std::size_t capacity) {
+    std::uint32_t none;
+    const std::uint64_t count = mlir_work_operations(&held_, numbers ? numbers : &none, capacity);
+    if (count == MLIR_WORK_NO_MEMORY)
+      throw std::bad_alloc();
+    return count == MLIR_WORK_NONE ? 0 : count;
   }
   static const std::uint8_t *bytes(std::string_view text) {
     return reinterpret_cast<const std::uint8_t *>(text.data() ? text.data() : "");

@@ -1,4 +1,5 @@
-"""Packs the package for `pip install ./bindings/python` (PEP 517, PEP 660), without a tool that has to be fetched.
+"""Packs the package for `pip install ./bindings/python` (PEP 517, PEP 660), without a tool that has to be fetched. The
+wheel has the shared library of the workbench if there is one: next to the package, or made from dist/ in a checkout.
 
 usage: bindings/python/backend.py FOLDER     writes the files of the package into a folder"""
 import base64
@@ -6,14 +7,18 @@ import hashlib
 import io
 import pathlib
 import re
+import subprocess
 import sys
+import sysconfig
 import tarfile
+import tempfile
 import zipfile
 
 HERE = pathlib.Path(__file__).resolve().parent
 ABOUT = (HERE / "pyproject.toml").read_text()
 NAME = "mlir_work"
 KEPT = (".py", ".html", ".css", ".js")
+SHARED = "libmlir_work.so"
 # The earliest time that an archive can record. With a fixed time, equal files give equal archives.
 WHEN = (1980, 1, 1, 0, 0, 0)
 
@@ -37,20 +42,41 @@ def metadata():
     return "".join(line + "\n" for line in lines).encode()
 
 
+def pages():
+    """Returns the folder of the pages: next to the command line in an installed package, docs/ in a checkout."""
+    packed_pages = HERE / NAME / "cli/docs"
+    return packed_pages if packed_pages.is_dir() else HERE.parents[1] / "docs"
+
+
 def files():
-    """Returns the files of the package, by their names in an archive. A checkout has a link to the pages in docs/, of
-    which the command line reads those that are listed in data.py."""
-    pages = HERE / NAME / "cli/docs"
+    """Returns the files of the package, by their names in an archive. Of the pages it has those that the command line
+    reads, which data.py lists."""
     read = re.search(r'PAGES = \((.*?)\)', (HERE / NAME / "cli/data.py").read_text(), re.S)[1]
     found = [it for it in (HERE / NAME).rglob("*") if it.suffix in KEPT or it.name == "py.typed"]
-    found = [it for it in found if pages not in it.parents] + [pages / it for it in re.findall('"(.*?)"', read)]
-    return {it.relative_to(HERE).as_posix(): it.read_bytes() for it in sorted(found)}
+    inside = {it.relative_to(HERE).as_posix(): it.read_bytes() for it in found}
+    inside |= {f"{NAME}/cli/docs/{it}": (pages() / it).read_bytes() for it in re.findall('"(.*?)"', read)}
+    return dict(sorted(inside.items()))
+
+
+def shared():
+    """Returns the bytes of the shared library, or None if there is none and none can be made."""
+    beside, maker = HERE / NAME / SHARED, HERE.parent.parent / "tools/library.py"
+    if beside.is_file():
+        return beside.read_bytes()
+    with tempfile.TemporaryDirectory() as room:
+        made = pathlib.Path(room, SHARED)
+        if maker.is_file():
+            subprocess.run([sys.executable, str(maker), room], capture_output=True, check=False)
+        return made.read_bytes() if made.is_file() else None
 
 
 def packed(folder, inside):
-    """Writes a wheel of some files, and returns its name."""
-    about, name = f"{title()}.dist-info", f"{title()}-py3-none-any.whl"
-    wheel = b"Wheel-Version: 1.0\nGenerator: mlir_work\nRoot-Is-Purelib: true\nTag: py3-none-any\n"
+    """Writes a wheel of some files, and returns its name. A wheel with the shared library is for this platform only."""
+    is_bound = f"{NAME}/{SHARED}" in inside
+    tag = f"py3-none-{re.sub('[-.]', '_', sysconfig.get_platform()) if is_bound else 'any'}"
+    about, name = f"{title()}.dist-info", f"{title()}-{tag}.whl"
+    wheel = "Wheel-Version: 1.0\nGenerator: mlir_work\n"
+    wheel = f"{wheel}Root-Is-Purelib: {'false' if is_bound else 'true'}\nTag: {tag}\n".encode()
     whole = {**inside, f"{about}/METADATA": metadata(), f"{about}/WHEEL": wheel,
              f"{about}/entry_points.txt": f"[console_scripts]\nmlir-work = {said('mlir-work')}\n".encode()}
     record = ""
@@ -68,7 +94,8 @@ def packed(folder, inside):
 
 def build_wheel(wheel_directory, config_settings=None, metadata_directory=None):
     """Writes a wheel of the package, and returns its name."""
-    return packed(wheel_directory, files())
+    library = shared()
+    return packed(wheel_directory, {**files(), **({f"{NAME}/{SHARED}": library} if library else {})})
 
 
 def build_editable(wheel_directory, config_settings=None, metadata_directory=None):

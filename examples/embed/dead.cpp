@@ -23,7 +23,7 @@ int main(int argc, char **argv) {
       if (rows.empty())
         break;
       // The last row is of an operation that none of the others uses: `#N`.
-      session.erase(static_cast<workbench::Operation>(std::stoul(rows.back().substr(1))));
+      session.erase(static_cast<std::uint32_t>(std::stoul(rows.back().substr(1))));
       ++erased;
     }
     std::cout << session.text("print") << "// " << erased << " erased\n";

@@ -40,6 +40,9 @@ COMMUTE = "addi muli andi ori xori maxsi minsi maxui minui".split()
 MIRRORED = dict(zip("eq ne slt sle sgt sge ult ule ugt uge".split(), "eq ne sgt sge slt sle ugt uge ult ule".split()))
 NEGATED = dict(zip("eq ne slt sle sgt sge ult ule ugt uge".split(), "ne eq sge sgt sle slt uge ugt ule ult".split()))
 LEAST = {"minsi": "slt", "maxsi": "sgt", "minui": "ult", "maxui": "ugt"}
+# What may have a literal on the right in an automaton, and the literals.
+BY_LITERAL = "muli shli shrui shrsi divui remui divsi remsi".split()
+LITERALS = (1, 1, 2, 2, 3, 4, 5, 6, 7, 8, 10, 16)
 # What an extension and a truncation may be moved through.
 THROUGH = {"extsi": "andi ori xori".split(), "extui": "andi ori xori".split(),
            "trunci": "addi subi muli andi ori xori".split()}
@@ -90,6 +93,26 @@ def of_pair(word, a, b):
         yield inverted(pair("ori", inverted(a), inverted(b)))
 
 
+def of_literal(word, a, number):
+    """Terms that are an operation on a value and a literal, or the same but for a number or poison."""
+    if word in ("shli", "shrui") and 0 < number < 8:
+        yield pair("muli" if word == "shli" else "divui", a, literal(2 ** number, a))
+        yield pair(word, pair(word, a, literal(1, a)), literal(number - 1, a))
+    if word in ("muli", "divui", "remui") and number in (2, 4, 8):
+        bits = number.bit_length() - 1
+        yield (pair("andi", a, literal(number - 1, a)) if word == "remui" else
+               pair("shli" if word == "muli" else "shrui", a, literal(bits, a)))
+    if word == "remui" and number > 0:
+        yield pair("subi", a, pair("muli", pair("divui", a, literal(number, a)), literal(number, a)))
+    if word == "divui" and number in (4, 6, 8, 10):
+        yield pair(word, pair(word, a, literal(2, a)), literal(number // 2, a))
+    if word == "shrsi" and number > 0:
+        yield inverted(pair(word, inverted(a), literal(number, a)))
+        yield pair(word, pair(word, a, literal(1, a)), literal(number - 1, a))
+    if word in ("divsi", "remsi") and number == 1:
+        yield a if word == "divsi" else literal(0, a)
+
+
 def of_comparison(predicate, a, b):
     yield compared(MIRRORED[predicate], b, a)
     yield inverted(compared(NEGATED[predicate], a, b))
@@ -121,11 +144,22 @@ def replacements(term, y, c):
         return [*of_comparison(predicate, *parts)] * 3 + found
     if word == "select":
         return [*of_choice(*parts)] * 3 + found
+    if word in BY_LITERAL and parts[1][0] == "n" and type(parts[1][1]) is int:
+        found += [*of_literal(word, parts[0], parts[1][1])] * 3
     return [*(of_cast(word, *parts, own) if word in THROUGH else of_pair(word, *parts))] * 3 + found
 
 
 class LawMaker(pattern_checks.Maker):
     """Makes a pattern whose new side is its old one by some laws."""
+
+    def by_literals(self, term):
+        """A term in which some operands on the right are literals."""
+        if len(term) < 4:
+            return term
+        parts = [self.by_literals(part) for part in term[2]]
+        if term[0] in BY_LITERAL and self.chance.random() < 0.6:
+            parts[1] = literal(self.chance.choice(LITERALS), parts[0])
+        return *term[:2], parts, term[3]
 
     def known(self, letter):
         """A variable of a type, or none."""
@@ -167,7 +201,7 @@ class LawMaker(pattern_checks.Maker):
     def pattern(self):
         """Both sides, and conditions."""
         old, _, conditions = super().pattern()
-        new = old
+        new = old = self.by_literals(old)
         for _ in range(self.chance.choice([1, 1, 2, 3])):
             new = self.at_some(new, self.replaced)
         if self.chance.random() < 0.2:

@@ -10,12 +10,12 @@ from tests.compare import refusals  # noqa: F401
 from tools import launch
 
 
-def referred(text):
-    """The status of a run by oracle, and the text that it writes."""
+def referred(text, *more):
+    """The status of a run by oracle with more options, and the text that it writes."""
     from oracle import aliases, own, rules
     reader = aliases.Reader if program.OPAQUE in program.ASKED else rules.Reader
     files = [file for option, file in zip(program.ASKED, program.ASKED[1:]) if option == program.PATTERNS]
-    status, out = own.run(text, book=own.book_of(files), reader=reader)
+    status, out = own.run(text, book=own.book_of(files), reader=reader, explained=program.EXPLAIN in more)
     return status, out.decode()
 
 

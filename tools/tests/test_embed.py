@@ -6,6 +6,7 @@ import pathlib
 import re
 import shutil
 import subprocess
+import sys
 import tempfile
 import unittest
 
@@ -21,6 +22,11 @@ SANITIZED = ["-fsanitize=address,undefined", "-fno-sanitize-recover=all"]
 REFUSING = ["-Wl,--wrap=malloc,--wrap=realloc,--wrap=free"]
 MEMCHECK = ["valgrind", "--quiet", "--error-exitcode=99", "--leak-check=full", "--errors-for-leak-kinds=all"]
 EXAMPLES = ROOT / "examples"
+# Modules before and after `mlir-opt -loop-invariant-code-motion`, in the form in which `print` shows them.
+LICM = sorted((ROOT / "tests/golden/embed/licm").glob("*.mlir"))
+MLIR_OPT = shutil.which("mlir-opt-22") or shutil.which("mlir-opt")
+# The first lines that the first two programs of docs/EMBED.md write of examples/fold.mlir.
+IN_PYTHON, IN_CPP = b"arith.constant i32 is used by #4 arith.muli\n", b"arith.constant is used by arith.muli #4\n"
 CHAIN = ('%0 = "arith.constant"() <{value = 1 : i32}> : () -> i32\n'
          '%1 = "arith.addi"(%0, %0) <{overflowFlags = #arith.overflow<none>}> : (i32, i32) -> i32\n')
 
@@ -46,7 +52,7 @@ class Library(unittest.TestCase):
 
     def built(self, source, *more):
         """A program of a source file and the library."""
-        made = self.folder / (pathlib.Path(source).stem + "-".join(["", *more]).replace("/", "_"))
+        made = self.folder / (pathlib.Path(source).name + "-".join(["", *more]).replace("/", "_"))
         compiler = CPP if source.endswith(".cpp") else C
         ran([*compiler, *STRICT, *more, "-o", made, ROOT / source, self.archive])
         return made
@@ -70,6 +76,8 @@ class Library(unittest.TestCase):
     def test_memcheck(self):
         self.assertEqual(ran([*MEMCHECK, self.built("tests/golden/embed/handles.c")]), b"")
         self.assertEqual(ran([*MEMCHECK, self.built("tests/golden/embed/marks.cpp")]), b"")
+        self.assertEqual(ran([*MEMCHECK, self.built("tests/golden/embed/reads.c")]), b"")
+        ran([*MEMCHECK, self.built("examples/embed/licm.cpp"), LICM[0]])
         script = (EXAMPLES / "fold.script").read_bytes()
         ran([*MEMCHECK, self.built("examples/embed/replies.c"), EXAMPLES / "fold.mlir"], script)
         ran([*MEMCHECK, self.built("examples/embed/dead.cpp"), self.module()])
@@ -91,9 +99,71 @@ class Library(unittest.TestCase):
             out = ran([self.built("examples/embed/dead.cpp", *more), self.module()]).decode()
             self.assertEqual(out, '"builtin.module"() ({\n^bb0:\n}) : () -> ()\n// 2 erased\n')
 
+    def test_reads(self):
+        """Operations, entries, uses and texts are read by numbers; what isn't there is answered as the header says."""
+        for more in ((), SANITIZED):
+            self.assertEqual(ran([self.built("tests/golden/embed/reads.c", *more)]), b"")
+
+    def test_headers(self):
+        """The header compiles without a warning as C99, C11 and C++17, with gcc, and with clang if it is installed."""
+        source = self.folder / "header.c"
+        source.write_text('#include "mlir_work.h"\nint main(void) { return (int)mlir_work_version() - 1; }\n')
+        for compiler, language, standard in (("gcc", "c", "c99"), ("gcc", "c", "c11"), ("g++", "c++", "c++17"),
+                                             ("clang", "c", "c99"), ("clang++", "c++", "c++17")):
+            if shutil.which(compiler):
+                with self.subTest(compiler=compiler, standard=standard):
+                    ran([compiler, f"-std={standard}", *STRICT, "-fsyntax-only", "-x", language, source])
+
+    def shared(self):
+        """The shared object, for Python."""
+        return library.shared(self.archive, self.folder)
+
+    def python(self, *words, text=b""):
+        """What a Python program writes that uses the library."""
+        there = {**os.environ, "MLIR_WORK_LIBRARY": str(self.shared()), "PYTHONPATH": str(ROOT / "bindings/python")}
+        it = subprocess.run([sys.executable, *map(str, words)], input=text, env=there, capture_output=True, check=False)
+        self.assertEqual((it.returncode, it.stderr), (0, b""))
+        return it.stdout
+
+    def test_licm(self):
+        """Loop-invariant code motion over the handles of C, C++ and Python moves what mlir-opt moves."""
+        self.assertGreaterEqual(len(LICM), 20)
+        in_c, in_cpp = self.built("examples/embed/licm.c"), self.built("examples/embed/licm.cpp")
+        for module in LICM:
+            wanted, text = module.with_suffix(".after").read_bytes(), module.read_bytes()
+            with self.subTest(module=module.stem):
+                self.assertEqual(ran([in_c], text), wanted)
+                self.assertEqual(ran([in_cpp, module]), wanted)
+                self.assertEqual(self.python(EXAMPLES / "python/licm.py", module), wanted)
+
+    @unittest.skipUnless(MLIR_OPT, "mlir-opt isn't installed: the stored results aren't compared with it")
+    def test_licm_of_mlir_opt(self):
+        """The stored results are those of mlir-opt."""
+        for module in LICM:
+            words = [MLIR_OPT, "-loop-invariant-code-motion", "--mlir-print-op-generic"]
+            made = subprocess.run(words, input=module.read_bytes(), capture_output=True, check=True).stdout
+            _, out = program.written(joined(made, b"print\n"))
+            with self.subTest(module=module.stem):
+                self.assertEqual(out[out.index('"builtin.module"'):], module.with_suffix(".after").read_text())
+
+    def test_first_programs_of_the_page(self):
+        """The first two programs of docs/EMBED.md run."""
+        page = (ROOT / "docs/EMBED.md").read_text()
+        blocks = dict(reversed(re.findall(r"^```(python|cpp)\n(.*?)^```$", page, re.M | re.S)))
+        (self.folder / "uses.py").write_text(blocks["python"])
+        out = self.python(self.folder / "uses.py", EXAMPLES / "fold.mlir")
+        self.assertTrue(out.startswith(IN_PYTHON), out)
+        (self.folder / "uses.cpp").write_text(blocks["cpp"])
+        built = self.folder / "uses"
+        ran([*CPP, *STRICT, "-o", built, self.folder / "uses.cpp", self.archive])
+        out = ran([built], (EXAMPLES / "fold.mlir").read_bytes())
+        self.assertTrue(out.startswith(IN_CPP), out)
+        for block in blocks.values():
+            self.assertLessEqual(block.count("\n"), 13)
+
     def test_hoist(self):
         """Operations that don't depend on a loop move out of it by handles, as LICM moves them, and others are refused;
-        the report about one value has its rows alone."""
+        the uses of the first one are those inside and outside of the loop."""
         for more in ((), SANITIZED):
             out = ran([self.built("tests/golden/embed/hoist.cpp", *more), ROOT / "tests/golden/embed/hoist.before"])
             self.assertEqual(out, (ROOT / "tests/golden/embed/hoist.after").read_bytes())
@@ -121,6 +191,44 @@ class Library(unittest.TestCase):
         self.assertEqual({name for name in found if name + "(" in header}, found)
         self.assertGreater(len(found), 10)
 
+    def installed(self):
+        """The folder into which the program and the library are installed."""
+        prefix = self.folder / "prefix"
+        if not prefix.exists():
+            there = {**os.environ, "MLIR_WORK_ARCHIVE": str(self.archive)}
+            ran_there = subprocess.run([ROOT / "tools/install.sh", prefix], env=there, capture_output=True, check=False)
+            self.assertEqual(ran_there.returncode, 0, ran_there.stderr)
+        return prefix
+
+    @unittest.skipUnless(shutil.which("pkg-config"), "there is no pkg-config")
+    def test_pkg_config(self):
+        """A program is built with the flags that pkg-config prints for the installed library."""
+        prefix = self.installed()
+        there = {**os.environ, "PKG_CONFIG_PATH": str(prefix / "lib/pkgconfig")}
+        flags = subprocess.run(["pkg-config", "--cflags", "--libs", "mlir_work"], env=there, capture_output=True,
+                               text=True, check=True).stdout.split()
+        made = self.folder / "by_pkg_config"
+        ran(["g++", "-std=c++17", "-o", made, EXAMPLES / "embed/dead.cpp", *flags, f"-Wl,-rpath,{prefix}/lib"])
+        self.assertTrue(ran([made, self.module()]).endswith(b"// 2 erased\n"))
+
+    @unittest.skipUnless(shutil.which("cmake"), "there is no cmake")
+    def test_cmake(self):
+        """A program is built with each target of the CMake package."""
+        project = self.folder / "project"
+        project.mkdir()
+        (project / "CMakeLists.txt").write_text(
+            "cmake_minimum_required(VERSION 3.10)\nproject(p CXX)\nset(CMAKE_CXX_STANDARD 17)\n"
+            "find_package(mlir_work 1.0 REQUIRED)\n"
+            + "".join(f"add_executable({name} {EXAMPLES}/embed/dead.cpp)\n"
+                      f"target_link_libraries({name} PRIVATE mlir_work::{target})\n"
+                      for name, target in (("one", "mlir_work"), ("two", "shared"))))
+        for words in (["cmake", "-S", project, "-B", project / "out", f"-DCMAKE_PREFIX_PATH={self.installed()}"],
+                      ["cmake", "--build", project / "out"]):
+            it = subprocess.run(list(map(str, words)), capture_output=True, text=True, check=False)
+            self.assertEqual(it.returncode, 0, it.stdout + it.stderr)
+        for name in ("one", "two"):
+            self.assertTrue(ran([project / "out" / name, self.module()]).endswith(b"// 2 erased\n"))
+
     @unittest.skipUnless(shutil.which("cargo"), "there is no cargo")
     def test_rust(self):
         room = self.folder / "rust"
@@ -130,10 +238,15 @@ class Library(unittest.TestCase):
         shutil.copy(self.archive, held / "libmlir_work.a")
         there = {**os.environ, "MLIR_WORK_LIB": str(held), "CARGO_TARGET_DIR": str(self.folder / "target")}
         for words in (["test", "--offline", "--quiet"],
+                      ["run", "--offline", "--quiet", "--example", "licm", "--", LICM[0]],
                       ["run", "--offline", "--quiet", "--example", "dead", "--", self.module()]):
             it = subprocess.run(["cargo", *map(str, words)], cwd=room, env=there, capture_output=True, text=True,
                                 check=False)
             self.assertEqual(it.returncode, 0, it.stdout + it.stderr)
+        for module in LICM:
+            with self.subTest(module=module.stem):
+                self.assertEqual(ran([self.folder / "target/debug/examples/licm", module]),
+                                 module.with_suffix(".after").read_bytes())
         self.assertEqual(it.stdout, '"builtin.module"() ({\n^bb0:\n}) : () -> ()\n// 2 erased\n')
 
 

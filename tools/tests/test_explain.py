@@ -8,6 +8,7 @@ import unittest.mock
 import support
 from support import ROOT, check_examples, explain, forms, mistakes, program
 
+from mlir_work.cli import messages
 from mlir_work.script import counted
 
 STRENGTH = ROOT / "examples/strength.mlir"
@@ -83,8 +84,8 @@ class Misspelt(unittest.TestCase):
 class Words(unittest.TestCase):
     def test_each_refusal_has_a_sentence(self):
         page = (ROOT / "docs/REFUSALS.md").read_text()
-        self.assertEqual(set(mistakes.sentences()), set(map(int, re.findall(r"^### (\d+) ", page, re.M))))
-        self.assertTrue(all(mistakes.sentences().values()))
+        self.assertEqual(set(messages.of_page()), set(map(int, re.findall(r"^### (\d+) ", page, re.M))))
+        self.assertTrue(all(sentence for sentence, _ in messages.of_page().values()))
 
     def test_a_word_of_a_form_that_is_not_known(self):
         known = {"go": ["go #N [limit N]", "go (left|right) OTHER"]}
@@ -139,7 +140,7 @@ class Explained(unittest.TestCase):
         self.assertEqual([line for line in lines if "note:" in line], [explain.BEHIND])
 
     def test_hints(self):
-        for line, words in {"set-attr #1 sym_name f": 'quotes: "f"', "replace %v8.0 %v10.0": "one by one"}.items():
+        for line, words in {"set-attr #1 sym_name f": 'quotes, as "f"', "replace %v8.0 %v10.0": "one by one"}.items():
             self.assertIn(words, explained(STRENGTH.read_bytes(), line.encode())[1][0])
 
     def test_a_divider_in_the_module(self):

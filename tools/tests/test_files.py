@@ -46,7 +46,8 @@ class Files(unittest.TestCase):
 
     def test_module(self):
         module = self.named("m.mlir", MODULE)
-        self.check_runs(MODULE, module)
+        self.assertEqual(self.ran(module), (0, "", f"{module}: read a module of 2 operations: add a command, as -e "
+                                            "'print ids', or --help\n"))
         self.check_runs(MODULE + DIVIDER + b"print\n", module, "-e", "print")
         self.check_runs(MODULE + DIVIDER + b"print\n", "-e", "print", given=MODULE)
         self.check_runs(MODULE + DIVIDER + b"print\n", "-", "-e", "print", given=MODULE)
@@ -79,39 +80,59 @@ class Files(unittest.TestCase):
         ends = [referred(part + DIVIDER + SCRIPT) for part in whole]
         wanted = DIVIDER.decode().join(out for _, out in ends)
         script = self.named("a.script", SCRIPT)
-        self.assertEqual(self.ran(module, "--split-input-file", "-s", script), (max(it for it, _ in ends), wanted, ""))
+        status, out, told = self.ran(module, "--split-input-file", "-s", script)
+        self.assertEqual((status, out), (max(it for it, _ in ends), wanted))
+        self.assertEqual(told.partition(" ")[0], f"{module}:7:1:")
         both = DIVIDER.join(parts[:2])
         status, out, told = self.ran("--split-input-file", "--format", "json", "-e", "erase #1", given=both)
         self.assertEqual((status, told, out.count('{"divider":true}\n')), (1, "", 1))
         self.check_runs(MODULE, "--split-input-file", given=MODULE)
 
     def test_refused_module(self):
+        """The message names the file, the line and the column, in each module of a file and behind a script."""
         module = self.named("m.mlir", b'"a"(')
         status, out, told = self.ran(module, "-e", "print")
-        self.assertEqual((status, told), (3, ""))
+        self.assertEqual((status, told), (3, f"{module}:2:1: 2 Unexpected: found the end of the text, expected another "
+                                          'token: an operation is %r = "name"(%x) <{..}> ({..}) {..} : (i32) -> i32\n'))
         self.assertTrue(out.startswith("module refused "))
+        self.assertEqual(self.ran("-e", "print", given=b'"a"(')[2], "")
+        script = self.named("a.script", SCRIPT)
+        text = MODULE + b"\n\t\"\xc3\xa9\"(%x#1) : (i1) -> ()\n"
+        for parts in ([text], [MODULE, text], [MODULE, b"", MODULE[:-1] + b"\n", text]):
+            module = self.named("m.mlir", DIVIDER.join(parts))
+            flags = ["--split-input-file"] * (len(parts) > 1)
+            status, _, told = self.ran(module, *flags, "-s", script)
+            line = DIVIDER.join(parts).count(b"\n")
+            self.assertEqual((status, told.partition(" ")[0]), (3, f"{module}:{line}:7:"))
+            self.assertIn("found `%x`, expected a value defined above", told)
+        for flags in (["--format", "json"], ["-o", str(self.folder / "out")], ["--explain"]):
+            self.assertTrue(self.ran(module, "--split-input-file", *flags, "-e", "print")[2].startswith(module))
 
     def test_output(self):
         module, out = self.named("m.mlir", MODULE), self.folder / "out"
         out.write_bytes(b"x" * 10000)
         self.assertEqual(self.ran(module, "-e", "print", "-o", str(out)), (0, "", ""))
         self.assertEqual(out.read_text(), referred(MODULE + DIVIDER + b"print\n")[1])
-        self.check_runs(MODULE, module, "-o", "-")
+        self.check_runs(MODULE + DIVIDER + b"print\n", module, "-e", "print", "-o", "-")
         self.assertEqual(self.ran("-o", str(out), given=MODULE + DIVIDER + b"print"), (0, "", ""))
         self.assertEqual(out.read_text(), referred(MODULE + DIVIDER + b"print")[1])
 
     def test_what_is_not_there(self):
         module, none = self.named("m.mlir", MODULE), str(self.folder / "none")
-        for words, name in (((none,), none), ((module, "-s", none), none), ((str(self.folder),), str(self.folder))):
-            self.assertEqual(self.ran(*words), (2, "", f"error: {name}: it can't be read\n"))
+        missing = "found no such file: correct the name"
+        unreadable = "this file can't be read: name a file that you may read"
+        for words, name, why in (((none,), none, missing), ((module, "-s", none), none, missing),
+                                 ((str(self.folder),), str(self.folder), unreadable)):
+            self.assertEqual(self.ran(*words), (2, "", f"error: {name}: {why}\n"))
         there = f"{none}/out"
-        self.assertEqual(self.ran(module, "-o", there), (2, "", f"error: {there}: it can't be written\n"))
+        self.assertEqual(self.ran(module, "-o", there),
+                         (2, "", f"error: {there}: this file can't be written: name one that you may write\n"))
 
     def test_too_long(self):
         long = self.folder / "long"
         with open(long, "wb") as file:
             file.truncate(33_554_433)
-        self.assertEqual(self.ran(str(long)), (2, "", f"error: {long}: it is longer than an input may be\n"))
+        self.assertEqual(self.ran(str(long)), (2, "", f"error: {long}: this file is longer than 32 MiB: split it\n"))
 
     def test_not_with_interactive(self):
         module = self.named("m.mlir", MODULE)

@@ -13,7 +13,7 @@ import unittest
 import support
 from support import ROOT, program, session
 
-from mlir_work.cli import completion, main, ways
+from mlir_work.cli import completion, main, messages, ways
 from oracle import json_lines, own
 
 MODULE = b"""%a = "t.a"() : () -> i8
@@ -102,11 +102,25 @@ ANSWERED = (b"1 ok\nzero arith.addi(%a, 0) => %a // not checked\n"
             b"double arith.addi(%a, %a) => arith.shli(%a, 1) // fails 1\n")
 
 
+# What the program says of a file that isn't there, of one that can't be read, and of one that is too long.
+MISSING, UNREADABLE = "found no such file: correct the name", "this file can't be read: name a file that you may read"
+TOO_LONG = "this file is longer than 32 MiB: split it"
+
+
 def has_patterns():
     try:
         return support.words()[0][0] != sys.executable and program.has_option("--patterns")
     except program.Fault:
         return False
+
+
+def message(file, text, told):
+    """The program's message on a refused line of a file. `told` is what oracle says of it."""
+    number, refusal, word, at = re.fullmatch(r"line (\d+): refused (\d+) (\w+) at (\d+)", told).groups()
+    line = text.split(b"\n")[int(number) - 1]
+    column = len(line) - len(line.lstrip(b" \t\r")) + int(at) + 1
+    why = messages.of_pattern(line.strip(b" \t\r"), int(at), word)
+    return f"{file}:{number}:{column}: {refusal} {word}: {why}\n"
 
 
 def has_files():
@@ -205,7 +219,7 @@ class Patterns(Case):
         for title, (texts, wrong, told) in REFUSED.items():
             with self.subTest(title):
                 flags, files = self.flags(texts)
-                wanted = 2, b"", f"error: {files[wrong]}: {told}\n"
+                wanted = 2, b"", message(files[wrong], texts[wrong], told)
                 for more in ([], ["--brief", "--limit", "5", "--opaque"], ["--interactive"], ["--format", "json"]):
                     self.assertEqual(self.ran(*flags, *more, given=MODULE), wanted)
 
@@ -252,10 +266,10 @@ class Patterns(Case):
         goal = f"--refused=pattern {ZERO.decode().strip()} = 4"
         self.assertEqual(self.main("reduce", *flags, goal, module, "-o", smaller)[0], 0)
         self.assertEqual(self.main("reduce", goal, module, "-o", smaller)[0], 1)
-        for name, told in ((self.named("wrong", ZERO + ZERO), "line 2: refused 4 Redefined at 0"),
-                           ("none", "it can't be read")):
+        for name, told in ((self.named("wrong", ZERO + ZERO), ":2:1: 4 Redefined: found `zero`, expected a new name: "
+                            "rename one of the two patterns"), ("none", ": found no such file: correct the name")):
             self.assertEqual(self.main("explain", "--patterns", name, module, script),
-                             (2, "", f"mlir-work: {name}: {told}\n"))
+                             (2, "", f"mlir-work: {name}{told}\n"))
 
     def test_prompt(self):
         """Typed lines may name the patterns, in both ways to ask the program."""
@@ -318,12 +332,13 @@ class Patterns(Case):
                             ([none, there], none), (["-"], "-"), ([""], ""), ([f"{there}/b"], f"{there}/b")):
             flags = [word for name in words for word in ("--patterns", name)]
             for more in ([], ["--interactive"], ["--format", "json"]):
-                self.assertEqual(self.ran(*flags, *more, given=ZERO), (2, b"", f"error: {name}: it can't be read\n"))
+                why = MISSING if name in (none, "-", "") else UNREADABLE
+                self.assertEqual(self.ran(*flags, *more, given=ZERO), (2, b"", f"error: {name}: {why}\n"))
 
     def test_all_are_read_before_the_first_is_defined(self):
         flags, files = self.flags([b"5", ZERO])
         os.unlink(files[1])
-        self.assertEqual(self.ran(*flags), (2, b"", f"error: {files[1]}: it can't be read\n"))
+        self.assertEqual(self.ran(*flags), (2, b"", f"error: {files[1]}: {MISSING}\n"))
 
     def test_too_long(self):
         """A file may have as many bytes as an input, and a pattern as many as a text: both sides."""
@@ -334,7 +349,9 @@ class Patterns(Case):
                               (b"\n" + ZERO[:-1].ljust(most_of_one + 1, b"/"),
                                f"line 2: refused 11 TooMany at {most_of_one}")):
             file = self.named("long", written)
-            wanted = (2, b"", f"error: {file}: {told}\n") if told else (*own.run(text, book=book), "")
+            wanted = (*own.run(text, book=book), "")
+            if told:
+                wanted = 2, b"", message(file, written, told) if "line" in told else f"error: {file}: {TOO_LONG}\n"
             self.assertEqual(self.ran("--brief", "--patterns", file, given=text), wanted)
             if told:
                 with self.assertRaises(own.BookRefused) as fault:
@@ -350,8 +367,8 @@ class Patterns(Case):
             self.named(name, ZERO)
             self.assertEqual(self.ran("--brief", "--patterns", name, given=text), wanted)
             self.named(name, b"\n5")
-            self.assertEqual(self.ran("--patterns", name), (2, b"",
-                                                           f"error: {name}: line 2: refused 2 Unexpected at 0\n"))
+            self.assertEqual(self.ran("--patterns", name),
+                             (2, b"", message(name, b"\n5", "line 2: refused 2 Unexpected at 0")))
 
     def test_a_pipe(self):
         there = self.folder / "pipe"
@@ -365,7 +382,7 @@ class Patterns(Case):
 
     def test_nothing_is_read_where_a_line_is_refused(self):
         flags, files = self.flags([ZERO, ZERO])
-        told = f"error: {files[1]}: line 1: refused 4 Redefined at 0\n"
+        told = message(files[1], ZERO, "line 1: refused 4 Redefined at 0")
         with open(self.named("m.mlir", MODULE), "rb") as module:
             for more in ([], ["--interactive"], ["--format", "json"]):
                 self.assertEqual(self.ran(*flags, *more, given=module), (2, b"", told))
@@ -410,8 +427,9 @@ class Files(Case):
         flags, _ = self.flags([ZERO, DOUBLE])
         ends = [own.run(part + DIVIDER + lines, book=book_of([ZERO, DOUBLE])) for part in parts]
         self.assertEqual([status for status, _ in ends], [0, 0, 3, 0, 0])
-        self.assertEqual(self.ran("--brief", "--split-input-file", *flags, module, "-s", lines_file),
-                         (3, DIVIDER.join(out for _, out in ends), ""))
+        status, out, told = self.ran("--brief", "--split-input-file", *flags, module, "-s", lines_file)
+        self.assertEqual((status, out), (3, DIVIDER.join(out for _, out in ends)))
+        self.assertEqual(told.partition(" ")[0], f"{module}:{len(MODULE.splitlines()) + 5}:1:")
         ends = [own.run(part + DIVIDER + lines, book=book_of([ZERO, DOUBLE]), explained=True) for part in parts]
         told = b'{"divider":true}\n'.join(json_lines.json_of(out) for _, out in ends)
         self.assertEqual(self.ran("--brief", "--split-input-file", "--format", "json", *flags, "-s", lines_file,
@@ -420,7 +438,7 @@ class Files(Case):
     def test_output(self):
         module, out = self.named("m.mlir", MODULE), self.folder / "out"
         flags, files = self.flags([ZERO, b"\n\n" + ZERO])
-        told = f"error: {files[1]}: line 3: refused 4 Redefined at 0\n"
+        told = message(files[1], b"\n\n" + ZERO, "line 3: refused 4 Redefined at 0")
         asked = [module, "-e", "rewrite zero", "-o", str(out)]
         self.assertEqual(self.ran(*asked, *flags), (2, b"", told))
         self.assertFalse(out.exists())
@@ -435,19 +453,19 @@ class Files(Case):
     def test_patterns_come_first(self):
         """A wrong pattern is reported before a missing module or script, and standard input isn't read."""
         flags, files = self.flags([b"5"])
-        told = f"error: {files[0]}: line 1: refused 2 Unexpected at 0\n"
+        told = message(files[0], b"5", "line 1: refused 2 Unexpected at 0")
         none = str(self.folder / "none")
         for words in ([none], ["-s", none], [none, "-s", none, "-o", f"{none}/a"], ["-"], ["--split-input-file"]):
             with open(self.named("m.mlir", MODULE), "rb") as module:
                 self.assertEqual(self.ran(*words, *flags, given=module), (2, b"", told))
                 self.assertEqual(os.lseek(module.fileno(), 0, os.SEEK_CUR), 0)
-        self.assertEqual(self.ran(none, "--patterns", none + "2")[2], f"error: {none}2: it can't be read\n")
+        self.assertEqual(self.ran(none, "--patterns", none + "2")[2], f"error: {none}2: {MISSING}\n")
 
     def test_one_file_for_both(self):
         """A script isn't a file of patterns: each of its lines would be one."""
         lines = self.named("a.script", b"// both\nrewrite zero\n")
         self.assertEqual(self.ran("--patterns", lines, "-s", lines, given=MODULE),
-                         (2, b"", f"error: {lines}: line 2: refused 2 Unexpected at 8\n"))
+                         (2, b"", message(lines, b"// both\nrewrite zero\n", "line 2: refused 2 Unexpected at 8")))
 
     @unittest.skipUnless(os.path.exists("/dev/full"), "there is no /dev/full")
     def test_full(self):

@@ -16,6 +16,7 @@ from support import ROOT, listing, program
 
 import browser
 from mlir_work.cli import generic, page, replay
+from mlir_work.rewrites import Rewrite, rewrite_of
 from mlir_work.script import is_counted
 
 NAMES = sorted(file.stem for file in (ROOT / "examples").glob("*.mlir"))
@@ -131,6 +132,29 @@ class Steps(unittest.TestCase):
                 self.assertEqual(steps[-1].reply, f"rewrite {count} of {count}: {reply}")
                 self.assertEqual(steps[-1].state.lines, replay.keyed(listing.listed(module, [line.decode()])))
 
+    def test_each_rewrite_has_its_rule(self):
+        """The rewrites of the steps are those of the trace, and the page has their rules and the operations' texts."""
+        module, _ = example("canon")
+        told = support.replies(program.asked(module, ["canon trace"]))[0][1]
+        for line in (b"canon", b"canon trace", b"canon limit 1"):
+            steps = filled(module, line)[1:]
+            found = [it for step in steps for it in step.rewrites]
+            self.assertEqual(found, [rewrite_of(it) for it in told[:len(steps)]])
+        data = page.Data().all("x", filled(module, b"canon"))
+        self.assertEqual(data["steps"][1]["by"],
+                         [["10 regroup-constants", 6, '%v6.0 = "arith.addi"(%v5.0, %v3.0) <{overflowFlags = '
+                           '#arith.overflow<none>}> : (i32, i32) -> i32']])
+        steps = filled(module, b"apply 10 #6\napply 10 #6\ncanon at #3")
+        self.assertEqual([step.rewrites for step in steps], [[], [Rewrite(10, "regroup-constants", 6)], [], []])
+
+    def test_rewrites_at_an_operation(self):
+        """A `canon` at one operation is shown by steps at this operation."""
+        module = b'%a = "a"() : () -> i8\n' + b'%z = "arith.constant"() <{value = 0 : i8}> : () -> i8\n' \
+            b'%x = "arith.addi"(%z, %a) : (i8, i8) -> i8\n"b"(%x) : (i8) -> ()\n'
+        steps = filled(module, b"canon at #3")
+        self.assertEqual(steps[-1].state.lines, replay.keyed(listing.listed(module, ["canon at #3"])))
+        self.assertGreater(len(steps), 2)
+
     def test_unproved_patterns(self):
         """A step that rewrites by a pattern that no check proves says so, and so does the page."""
         module, _ = example("canon")
@@ -192,10 +216,10 @@ class Steps(unittest.TestCase):
     def test_refused(self):
         module, _ = example("fold")
         (_, refused, unknown, bytes_), data = filled(module, b"erase #2\nerase 8\n\xff\n"), page.Data()
-        words = "A value of the operation, or of one inside it, is used outside it"
+        words = "found uses by #4, expected none: erase the users first, or `replace` the value"
         self.assertEqual(refused.says(), (words, None, None))
         self.assertEqual(unknown.says()[1], 6)
-        self.assertEqual(data.step(bytes_, True)["line"], "\\xff")
+        self.assertEqual(data.step(bytes_, bytes_.state)["line"], "\\xff")
 
 
 class Written(unittest.TestCase):
@@ -283,7 +307,7 @@ class Called(unittest.TestCase):
         (self.folder / "bad").write_text('"a"(%x) : (i1) -> ()\n')
         status, told = self.call("bad")
         self.assertEqual(status, 3)
-        self.assertIn("bad:1:5: 3 UnknownValue: The", told)
+        self.assertIn("bad:1:5: 3 UnknownValue: found `%x`", told)
         self.assertFalse((self.folder / "replay.html").exists())
         self.assertEqual(self.call("none")[0], 4)
         self.assertEqual(self.call()[0], 2)
@@ -359,6 +383,14 @@ class Clicked(unittest.TestCase):
         self.assertEqual(self.texts("#module .come .other"), ["%v17.0", ", ", "%v17.0", "%v17.0"])
         self.assertEqual(self.texts("#rows .go"), ["−%v6.0 #7 1", "−%v6.0 #7 2", "−%v6.0 #8 1"])
         self.assertEqual(self.texts(".tab[aria-selected=true] .many"), ["19"])
+
+    def test_rules(self):
+        """A step of a `canon` shows its rule and the operation, and the list names the rule."""
+        number = next(at for at, step in enumerate(self.steps) if step.rewrites and step.part)
+        self.here.open(f"{self.address}#step={number}")
+        rule, operation, text = page.rewrite_row(self.steps[number].rewrites[0], self.steps[number - 1].state)
+        self.assertEqual(self.texts("#told .by"), [f"{rule} at #{operation} {text}"])
+        self.assertTrue(any(name.startswith(f"{rule}  ") for name in self.texts("#steps .part .name")))
 
     def test_reports(self):
         self.here.open(self.address + "#step=5")

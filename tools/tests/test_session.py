@@ -152,7 +152,7 @@ class Typed(unittest.TestCase):
 
     def test_a_script_that_is_too_long(self):
         here = session.Session(b"")
-        with unittest.mock.patch.object(program, "written", lambda text: (1, "1 refused 60 BadCommand\n")):
+        with unittest.mock.patch.object(program, "written", lambda text, *_: (1, "1 refused 60 BadCommand\n")):
             self.assertEqual(here.begin(b"begin\ncommit\n")[0], 1)
         self.assertEqual(here.kept(), [])
 

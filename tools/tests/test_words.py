@@ -147,7 +147,7 @@ class Edited(unittest.TestCase):
             script.write_text("// begin here\nbegin\n\nerase #99\nset-attr #1 k 1\nreport dead\n")
             said = self.said("set-attr #1 a 1", f"source {script}")
             self.assertEqual(said[:4], ["1 ok", "2 refused 20 NoSuchOp", "3 ok", "4 ok"])
-            self.assertTrue(said[4].startswith(f"{script}:4:1: 20 NoSuchOp"))
+            self.assertTrue(said[4].startswith(f"{script}:4:7: 20 NoSuchOp"))
             self.assertEqual(self.here.kept(), ["set-attr #1 a 1", "begin", "set-attr #1 k 1"])
             self.assertEqual(self.here.refusals, 1)
             self.assertEqual(self.here.marks(), [("here", 2)])
@@ -219,18 +219,19 @@ class CommandLine(unittest.TestCase):
         for word, more in (("frob", "\n"), ("redcue", "; did you mean `reduce`?\n")):
             it = self.ran(word)
             self.assertEqual((it.returncode, it.stdout), (2, ""))
-            end = f"found `{word}`, expected a command ({', '.join(main.COMMANDS)}) or the file of a module{more}"
+            end = f"found `{word}`, expected a command ({', '.join(main.commands())}) or the file of a module{more}"
             self.assertTrue(it.stderr.endswith(end), it.stderr)
         self.assertIn("write one of open, reduce", self.ran().stderr)
         it = self.ran("none.mlir")
-        self.assertEqual((it.returncode, it.stderr), (4, "mlir-work: none.mlir: No such file or directory\n"))
+        told = "mlir-work: none.mlir: No such file or directory: correct the name\n"
+        self.assertEqual((it.returncode, it.stderr), (4, told))
 
     def test_status(self):
         name = str(ROOT / "examples/fold.mlir")
         for text, status in (("dead\n", 0), ("erase #99\n", 1), ("dead #99\nquit\n", 1), ("", 0)):
             self.assertEqual(self.ran(name, text=text).returncode, status)
         self.assertEqual(self.ran("open", "/none/m").returncode, 4)
-        self.assertEqual(self.ran("explain", name, "-", text="erase #99\n").stdout[:7], "-:1:1: ")
+        self.assertEqual(self.ran("explain", name, "-", text="erase #99\n").stdout[:7], "-:1:7: ")
 
     def test_lines_that_go_on(self):
         it = self.ran(str(ROOT / "examples/fold.mlir"), text='insert end #0 0 "a"() ({ // one\n}) : () -> ()\ndead\n')
@@ -260,7 +261,8 @@ class ThroughOpt(unittest.TestCase):
                 it = subprocess.run([sys.executable, ROOT / "tools/session.py", name], input="ids\n", text=True,
                                     capture_output=True, check=False)
             told = pathlib.Path(folder, "words")
-            return it.stdout.replace(folder + "/", ""), it.returncode, told.exists() and told.read_text()
+            said = (it.stdout + it.stderr).replace(folder + "/", "")
+            return said, it.returncode, told.exists() and told.read_text()
 
     def test_what_is_not_generic(self):
         said, status, given = self.opened("pretty\n", "echo '\"test.a\"() : () -> ()'")

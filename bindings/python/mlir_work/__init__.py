@@ -7,6 +7,7 @@
 
 docs/EMBED.md has a tour."""
 from .errors import Error, ModuleRefused, ProcessLost, Refused, SessionClosed, Stays
+from .handles import BlockHandle, OperationHandle, RegionHandle, UseHandle, ValueHandle
 from .library import Library
 from .operations import Operation
 from .patterns import Checked, Pattern
@@ -18,7 +19,8 @@ from .session import Session
 from .values import Argument, Result, Value, after, before, end, quoted, start
 from .way import Way
 
-__all__ = ["KINDS", "Argument", "Canonicalized", "Checked", "Constant", "Dead", "Diagnostic", "Effect", "Error",
-           "Library", "ModuleRefused", "Operation", "Pattern", "Process", "ProcessLost", "Refused", "Reply", "Result",
-           "Reason", "Rewrite", "Row", "Session", "SessionClosed", "Stays", "Symbol", "Traced", "Unproved",
-           "Unreached", "Use", "Value", "Way", "after", "before", "end", "quoted", "start"]
+__all__ = ["Argument", "BlockHandle", "Canonicalized", "Checked", "Constant", "Dead", "Diagnostic", "Effect", "Error",
+           "KINDS", "Library", "ModuleRefused", "Operation", "OperationHandle", "Pattern", "Process", "ProcessLost",
+           "Reason", "Refused", "RegionHandle", "Reply", "Result", "Rewrite", "Row", "Session", "SessionClosed",
+           "Stays", "Symbol", "Traced", "Unproved", "Unreached", "Use", "UseHandle", "Value", "ValueHandle", "Way",
+           "after", "before", "end", "quoted", "start"]

@@ -9,6 +9,7 @@ from typing import List, Optional, Union
 
 from .command import VARIABLE as PROGRAM
 from .errors import Error, ModuleRefused, SessionClosed
+from .reader import Reader, declare
 from .reply import Reply
 from .way import Way, check_limit
 
@@ -65,6 +66,7 @@ def _calls(path: str) -> ctypes.CDLL:
         call.argtypes, call.restype = takes, gives
     if hasattr(calls, "mlir_work_open_opaque"):  # an older library has no such call
         calls.mlir_work_open_opaque.argtypes, calls.mlir_work_open_opaque.restype = opens, None
+    declare(calls, handle)
     return calls
 
 
@@ -151,6 +153,9 @@ class Library(Way):
             return ""
         self._status = 1
         return "" if expected is None else f"{self._count} expected {expected} {_WORDS[expected]}\n"
+
+    def reader(self) -> Optional[Reader]:
+        return Reader(self._calls, self._held) if hasattr(self._calls, "mlir_work_operations") else None
 
     def close(self) -> Optional[int]:
         self._calls.mlir_work_close(self._held)

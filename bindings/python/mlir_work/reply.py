@@ -5,7 +5,8 @@ from typing import Iterator, List, NamedTuple, Optional, Tuple
 from .errors import ModuleRefused, Refused, Stays
 
 _REFUSED = re.compile(r"refused (\d+) (\w+)(?: at (\d+))?(?: #(\d+))?.*", re.S)
-_MODULE_REFUSED = re.compile(r"module refused (\d+) (\w+)(?: at (\d+))?\n")
+_MODULE_REFUSED = re.compile(r"module refused (\d+) (\w+)(?: at (\d+))?(?: about [^\n]*)?\n")
+_ABOUT = re.compile(r'"(?:[^"\\]|\\.)*"|\S+')
 _NUMBER = re.compile(r"\w+ #?(\d+)")
 _UNPROVED = re.compile(r"^unproved (\S+) (.+)$", re.M)
 _STAYS = re.compile(r"^stays #(\d+) (?:(\d+) (\S+) )?(\S+)$", re.M)
@@ -46,6 +47,16 @@ class Reply(NamedTuple):
     def is_refused(self) -> bool:
         """Whether the line was refused."""
         return self.outcome == "refused"
+
+    @property
+    def brief(self) -> str:
+        """The reply without what an explained refusal is about."""
+        return self.text.partition(" about ")[0] if self.is_refused else self.text
+
+    @property
+    def about(self) -> Tuple[str, ...]:
+        """The operations, values and types that an explained refusal is about."""
+        return tuple(_ABOUT.findall(self.text.partition(" about ")[2])) if self.is_refused else ()
 
     @property
     def lines(self) -> List[str]:

@@ -2,15 +2,18 @@
 import contextlib
 import re
 import threading
+from operator import index
 from types import TracebackType
 from typing import Iterable, Iterator, List, Literal, Optional, Sequence, SupportsIndex, Tuple, Type, Union, overload
 
 from .command import Program
 from .errors import Error, Refused, SessionClosed
+from .handles import OperationHandle, ValueHandle
 from .library import Library, is_preferred
 from .operations import Operation, read
 from .patterns import Checked, Pattern, checked_of, patterns_of
 from .process import Process
+from .reader import Reader
 from .reply import Reply, Unproved
 from .rewrites import Canonicalized, Reason, Rewrite, Traced, canonicalized_of, reasons_of, stood_of, traced_of
 from .rows import KINDS, Constant, Dead, Diagnostic, Effect, Row, Symbol, Unreached, Use, rows_of
@@ -19,8 +22,8 @@ from .values import Value, key_text, op_text
 from .way import Way, check_limit
 
 Text = Union[str, bytes]
-ValueText = Union[Value, str]
-Subject = Union[int, Operation, Value, str]
+ValueText = Union[Value, ValueHandle, str]
+Subject = Union[int, Operation, OperationHandle, Value, ValueHandle, str]
 Files = Union[File, Iterable[File]]
 _WORD = re.compile(rb"[^ \t]*")
 # The prefix of a command with an expected refusal.
@@ -60,7 +63,7 @@ def _target(mode: str, legal: Iterable[str], illegal: Iterable[str], dynamic: It
 
 def _named(of: Subject) -> str:
     """Returns the name of an operation or a value in a command."""
-    return op_text(of) if isinstance(of, (int, Operation)) else str(of)
+    return op_text(of) if isinstance(of, (int, Operation, OperationHandle)) else str(of)
 
 
 def _limited(limit: Optional[int]) -> str:
@@ -106,6 +109,7 @@ class Session:
         self._way: Way = _way_to(program, timeout) if way is None else way
         self._thread = threading.get_ident()
         self._listing: Optional[List[Operation]] = None
+        self._reader: Optional[Reader] = None
         self.marks, self.refused, self.closed = 0, 0, False
         """How many marks are open; how many commands were refused; whether it is closed."""
         self.status: Optional[int] = None
@@ -184,12 +188,15 @@ class Session:
             raise
         return replies
 
-    def _line(self, line: Text) -> bytes:
-        """Returns a line as bytes, or nothing for an empty line and a comment."""
+    def _must_be_usable(self) -> None:
         if self.closed:
             raise SessionClosed("the session is closed")
         if threading.get_ident() != self._thread:
             raise RuntimeError("a session can only be used in the thread that opened it: open one in each thread")
+
+    def _line(self, line: Text) -> bytes:
+        """Returns a line as bytes, or nothing for an empty line and a comment."""
+        self._must_be_usable()
         data = _bytes(line).strip(BLANKS)
         if b"\n" in data:
             raise ValueError("a line contains a line feed: run each line by itself")
@@ -253,6 +260,31 @@ class Session:
 
     def __iter__(self) -> Iterator[Operation]:
         return iter(self.operations())
+
+    def walk(self) -> Iterator[OperationHandle]:
+        """Visits the operations in pre-order, the root first, as handles that read the module through the library. The
+        operations are those at the time of the call; one that was erased meanwhile is left out. Raises Error if the
+        session isn't over the library: `operations` reads printed text and works everywhere."""
+        reader = self._read()
+        return (OperationHandle(reader, it) for it in reader.operations() if reader.has(it))
+
+    @property
+    def root(self) -> OperationHandle:
+        """The root as a handle. Raises Error if the session isn't over the library."""
+        reader = self._read()
+        return OperationHandle(reader, reader.root())
+
+    def operation(self, number: SupportsIndex) -> OperationHandle:
+        """Returns a handle of an operation by its number. Raises Error if the session isn't over the library."""
+        return OperationHandle(self._read(), index(number))
+
+    def _read(self) -> Reader:
+        self._must_be_usable()
+        if self._reader is None:
+            self._reader = self._way.reader()
+        if self._reader is None:
+            raise Error("handles need the library (MLIR_WORK_LIBRARY): `operations()` works without it")
+        return self._reader
 
     # Edits.
 

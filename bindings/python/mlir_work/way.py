@@ -2,6 +2,7 @@
 import abc
 from typing import Iterable, List, Optional
 
+from .reader import Reader
 from .reply import Reply
 
 MOST_LIMIT = 1_000_000
@@ -35,6 +36,10 @@ class Way(abc.ABC):
     def close(self) -> Optional[int]:
         """Ends after all lines are answered, and returns the status, if there is one. A closed connection stays
         closed."""
+
+    def reader(self) -> Optional[Reader]:
+        """Returns what reads operations by numbers, or None if this connection has no such calls."""
+        return None
 
     def abandon(self) -> None:
         """Ends at once, without waiting for answers."""

@@ -16,6 +16,8 @@ const STANDARD: &str = "-";
 pub(crate) enum Fault<'a> {
     /// Memory ran out.
     Memory,
+    /// There is no such file.
+    Missing(&'a str),
     /// The file can't be opened or read.
     Unreadable(&'a str),
     /// The file is longer than an input may be.
@@ -25,13 +27,26 @@ pub(crate) enum Fault<'a> {
 /// A file of user patterns: its name and its text.
 #[derive(Drop)]
 pub(crate) struct PatternFile<'a> {
-    name: &'a str,
-    text: Vec<u8>,
+    pub(crate) name: &'a str,
+    pub(crate) text: Vec<u8>,
 }
 
 /// Returns the output file, or `None` for standard output.
 pub(crate) fn output_of<'a>(given: &CommandLine<'a>) -> Option<&'a str> {
     match given.output {
+        Some(name) => {
+            if name == STANDARD {
+                return None;
+            }
+            Some(name)
+        }
+        None => None,
+    }
+}
+
+/// Returns the file of the module, if the command line names one other than standard input.
+pub(crate) fn module_file<'a>(given: &CommandLine<'a>) -> Option<&'a str> {
+    match given.module {
         Some(name) => {
             if name == STANDARD {
                 return None;
@@ -65,7 +80,12 @@ fn read<'a, R: io::Read>(
 fn text_of_file<'a>(rt: &HostRuntime, name: &'a str) -> Result<Vec<u8>, Fault<'a>> {
     match fs::open(rt, name) {
         Ok(mut file) => read(rt.alloc(), &mut file, name),
-        Err(_) => Err(Fault::Unreadable(name)),
+        Err(error) => {
+            if error.kind() == io::ErrorKind::NotFound {
+                return Err(Fault::Missing(name));
+            }
+            Err(Fault::Unreadable(name))
+        }
     }
 }
 
@@ -173,16 +193,16 @@ pub(crate) fn pattern_files<'a>(
     Ok(files)
 }
 
-/// Returns the registry of the patterns of these files. If a line is refused, returns the file's name and the line's
-/// error.
-pub(crate) fn registry_from_files<'a>(
+/// Returns the registry of the patterns of these files. If a line is refused, returns the number of the file, from 0,
+/// and the line's error.
+pub(crate) fn registry_from_files(
     alloc: Global,
-    files: &[PatternFile<'a>],
-) -> Result<PatternRegistry, (&'a str, PatternFileError)> {
+    files: &[PatternFile<'_>],
+) -> Result<PatternRegistry, (usize, PatternFileError)> {
     let mut registry = PatternRegistry::new(alloc);
-    for file in files {
+    for (number, file) in files.iter().enumerate() {
         if let Err(unparsed) = read_patterns(alloc, &mut registry, &file.text) {
-            return Err((file.name, unparsed));
+            return Err((number, unparsed));
         }
     }
     Ok(registry)

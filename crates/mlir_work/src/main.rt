@@ -4,25 +4,29 @@
 mod files;
 
 use crate::files::{
-    Fault, PatternFile, inputs, names_any, output_of, pattern_files, rebuild_registry,
+    Fault, PatternFile, inputs, module_file, names_any, output_of, pattern_files, rebuild_registry,
     registry_from_files,
 };
 use clap::Error;
 use clap::error::ErrorKind;
 use mlir_work_analyses::any_analysis::all_listeners;
+use mlir_work_cli::count::op_count;
 use mlir_work_cli::dry_run::Bytes;
 use mlir_work_cli::error::PatternError;
+use mlir_work_cli::input::split;
 use mlir_work_cli::json::run_as_json;
 use mlir_work_cli::live::run_live;
+use mlir_work_cli::messages::{module_message, pattern_message, summary};
 use mlir_work_cli::options::{CommandLine, Format, options_of};
+use mlir_work_cli::positions::line_feeds;
 use mlir_work_cli::reading::PatternFileError;
-use mlir_work_cli::run::{Options, run_watched};
+use mlir_work_cli::run::{Options, run_watched, tree_of};
 use mlir_work_cli::sink::Sink;
 use mlir_work_cli::source::Source;
 use mlir_work_cli::watched::Watched;
 use mlir_work_cli::writing::write;
 use std::alloc::{AllocError, Global};
-use std::io::BufWriter;
+use std::io::{BufWriter, Write};
 use std::process::ExitCode;
 use std::random::RandomSource;
 use std::{env, fs, io};
@@ -73,26 +77,87 @@ fn answer_words(rt: &HostRuntime, error: &Error) -> u8 {
 fn refuse_input(rt: &HostRuntime, fault: &Fault<'_>) -> u8 {
     match fault {
         Fault::Memory => return no_memory(rt),
+        Fault::Missing(name) => {
+            let _ = eprintln!(rt; "error: {name}: found no such file: correct the name");
+        }
         Fault::Unreadable(name) => {
-            let _ = eprintln!(rt; "error: {name}: it can't be read");
+            let _ = eprintln!(rt;
+                "error: {name}: this file can't be read: name a file that you may read"
+            );
         }
         Fault::TooLong(name) => {
-            let _ = eprintln!(rt; "error: {name}: it is longer than an input may be");
+            let _ = eprintln!(rt; "error: {name}: this file is longer than 32 MiB: split it");
         }
     }
     2
 }
 
-/// Prints why a line of a pattern file was refused. Returns the status.
-fn refuse_pattern(rt: &HostRuntime, name: &str, unparsed: &PatternFileError) -> u8 {
-    let PatternError::Refused(fault) = unparsed.error else {
-        return no_memory(rt);
+/// Writes a message to standard error. Nothing can be done if that fails.
+fn tell(rt: &HostRuntime, message: &[u8]) {
+    let mut end = rt.stderr();
+    let _ = end.write_all(message);
+}
+
+/// Prints where and why a line of a pattern file was refused. Returns the status.
+fn refuse_pattern(
+    rt: &HostRuntime,
+    patterns: &[PatternFile<'_>],
+    number: usize,
+    unparsed: &PatternFileError,
+) -> Result<u8, AllocError> {
+    let (PatternError::Refused(fault), Some(file)) = (unparsed.error, patterns.get(number)) else {
+        return Ok(no_memory(rt));
     };
     let refusal = fault.refusal.refusal();
-    let (line, at) = (unparsed.line, unparsed.at);
-    let (number, word) = (refusal.number(), refusal.word());
-    let _ = eprintln!(rt; "error: {name}: line {line}: refused {number} {word} at {at}");
-    2
+    let message = pattern_message(
+        rt.alloc(),
+        file.name,
+        &file.text,
+        unparsed.line,
+        unparsed.at,
+        refusal,
+    )?;
+    tell(rt, &message);
+    Ok(2)
+}
+
+/// Prints where and why the module of a file was refused, or how many operations it has if there is no command.
+/// `first` is the line of the file at which the input begins.
+fn comment(
+    rt: &HostRuntime,
+    given: &CommandLine<'_>,
+    first: usize,
+    input: &[u8],
+) -> Result<(), AllocError> {
+    let Some(name) = module_file(given) else {
+        return Ok(());
+    };
+    let (text, script) = split(input);
+    match tree_of(rt.alloc(), key_of(rt), given.options.opaque, text) {
+        Ok((_, tree)) => {
+            if script.is_empty() {
+                let count = op_count(&tree).saturating_sub(1);
+                tell(rt, &summary(rt.alloc(), name, count)?);
+            }
+        }
+        Err(unparsed) => tell(
+            rt,
+            &module_message(rt.alloc(), name, first, text, &unparsed)?,
+        ),
+    }
+    Ok(())
+}
+
+/// Returns whether a run calls for a comment: its module was refused, or it has no command.
+fn wants_comment(input: &[u8], status: u8) -> bool {
+    let (_, script) = split(input);
+    status == 3 || status == 0 && script.is_empty()
+}
+
+/// Returns the line of a file at which the next module begins, after the divider.
+fn line_after(first: usize, input: &[u8]) -> usize {
+    let (text, _) = split(input);
+    first.saturating_add(line_feeds(text)).saturating_add(1)
 }
 
 /// Runs the input of a reader with the program's analyses, in the order of their kinds, and user patterns. Returns
@@ -155,16 +220,19 @@ fn run_inputs<W: io::Write + Drop>(
 ) -> Result<u8, AllocError> {
     let mut writer = watched(rt.alloc(), writer)?;
     let mut worst = 0;
-    let mut is_first = true;
+    let mut line = 1;
     for input in inputs {
-        if !is_first && !put_divider(given, &mut writer) {
+        if line > 1 && !put_divider(given, &mut writer) {
             return Ok(4);
         }
-        is_first = false;
         let mut reader = Bytes {
             rest: input.as_slice(),
         };
         let status = run_one(rt, given, patterns, &mut reader, &mut writer)?;
+        if wants_comment(input, status) {
+            comment(rt, given, line, input)?;
+        }
+        line = line_after(line, input);
         if status > worst {
             worst = status;
         }
@@ -191,7 +259,9 @@ fn run_named(
     match fs::create(rt, name) {
         Ok(file) => run_inputs(rt, given, patterns, &inputs, file),
         Err(_) => {
-            let _ = eprintln!(rt; "error: {name}: it can't be written");
+            let _ = eprintln!(rt;
+                "error: {name}: this file can't be written: name one that you may write"
+            );
             Ok(2)
         }
     }
@@ -246,7 +316,7 @@ fn run_given(rt: &HostRuntime, given: &CommandLine<'_>) -> Result<u8, AllocError
     };
     match registry_from_files(rt.alloc(), &patterns) {
         Ok(_) => run_with(rt, given, &patterns),
-        Err((name, unparsed)) => Ok(refuse_pattern(rt, name, &unparsed)),
+        Err((number, unparsed)) => refuse_pattern(rt, &patterns, number, &unparsed),
     }
 }
 

@@ -7,4 +7,5 @@ pub mod Answers
 pub mod Stepped
 pub mod Opened
 pub mod Queries
+pub mod Reading
 pub mod Talks

@@ -14,6 +14,10 @@ no_region = 4294967295
 abbrev pub no_number : ℕ
 no_number = 18446744073709551615
 
+-- the number for memory that ran out
+abbrev pub no_memory : ℕ
+no_memory = 18446744073709551614
+
 -- the value of a C struct
 abbrev pub value_of : ValueNumbers → Value
 value_of n =
@@ -33,7 +37,7 @@ point_of_numbers n =
     else if n.kind == 3 then Some (End n.operation n.region)
     else None
 
--- the id of an operation as a number, if there is one
+-- a number, if there is one
 abbrev pub number_of : Option ℕ → ℕ
 number_of None = no_number
 number_of (Some op) = op

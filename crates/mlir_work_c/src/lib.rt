@@ -5,8 +5,8 @@
 //!   analyses and its pattern registry. Each line has the effect that it has in a script.
 //! - `open` opens a session, `edits` and `session_queries` edit and inspect its module without texts, and `answer`
 //!   has the numbers of an answer.
-//! - `calls`, `editing` and `queries` are the C functions. `handle`, `handle_slot` and `raw_box` store a session
-//!   in a C struct.
+//! - `calls`, `editing`, `queries` and `reading` are the C functions. `handle`, `handle_slot` and `raw_box` store a
+//!   session in a C struct.
 #![tactic(auto)]
 
 pub mod answer;
@@ -20,5 +20,6 @@ mod numbers;
 pub mod open;
 pub mod queries;
 pub mod raw_box;
+pub mod reading;
 pub mod session;
 pub mod session_queries;

@@ -2,7 +2,7 @@
 ghost use Rattle.std.specs.Prelude.{◌≡◌};
 ghost use Rattle.std.specs.Option.{option_map};
 ghost use Rattle.mlir_work_script_base.specs.InsertionPoints.{insertion_point_of};
-ghost use Rattle.mlir_work_c.specs.Numbers.{no_number, number_of as told, numbers_of, point_of_numbers, value_of};
+ghost use Rattle.mlir_work_c.specs.Numbers.{no_memory, no_number, number_of as told, numbers_of, point_of_numbers, value_of};
 
 use ir_event::trees::value::Value;
 use ir_event::types::ids::OpId;
@@ -16,14 +16,6 @@ pub struct ValueNumbers {
     pub operation: u32,
     pub region: u32,
     pub place: u32,
-}
-
-/// A use: the operation and the index of its operand.
-#[repr(C)]
-#[derive(Clone, Copy)]
-pub struct UseNumbers {
-    pub operation: u32,
-    pub operand: u32,
 }
 
 /// An insertion point: directly before (0) or after (1) an operation, or at the start (2) or the end (3) of the block
@@ -87,6 +79,33 @@ pub(crate) fn number_of(op: Option<OpId>) -> u64
         Some(op) => u64::from(op.number()),
         None => no_number(),
     }
+}
+
+/// Returns a number, or 2^64 - 1 for `None`.
+pub(crate) fn number_or_none(number: Option<u32>) -> u64
+    ensures { result ≡ told number }
+{
+    match number {
+        Some(number) => u64::from(number),
+        None => no_number(),
+    }
+}
+
+/// Returns a count, or 2^64 - 1 for `None`.
+pub(crate) fn count_or_none(count: Option<usize>) -> u64
+    ensures { result ≡ told count }
+{
+    match count {
+        Some(count) => count as u64,
+        None => no_number(),
+    }
+}
+
+/// Returns the number for memory that ran out.
+pub(crate) fn no_memory() -> u64
+    ensures { result ≡ no_memory }
+{
+    18446744073709551614
 }
 
 /// Returns the number for `None`.

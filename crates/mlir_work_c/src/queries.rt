@@ -8,10 +8,11 @@ ghost use Rattle.mlir_work_c.specs.Numbers.{number_of as told, value_of as told_
 ghost use Rattle.mlir_work_c.specs.Queries.{tree_of};
 
 use crate::handle::Handle;
-use crate::numbers::{UseNumbers, ValueNumbers, no_number, number_of, numbers_of, value_of};
+use crate::numbers::{ValueNumbers, no_number, number_of, numbers_of, value_of};
 use crate::session::Session;
 use ir_event::trees::value::Value;
 use ir_event::types::ids::OpId;
+use mlir_work_c_read::numbers::UseNumbers;
 use std::alloc::Global;
 
 /// Returns whether an operation is in the module.

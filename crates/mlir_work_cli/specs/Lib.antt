@@ -2,3 +2,5 @@ pub mod Json
 pub mod Inputs
 pub mod Patterns
 pub mod Readings
+pub mod Positions
+pub mod Messages

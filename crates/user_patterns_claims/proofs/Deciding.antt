@@ -10,6 +10,8 @@ use Rattle.ir_types.specs.Bits.{is_bits, width_of}
 use Rattle.ir_types.specs.Reasons.{is_width}
 use Rattle.dialects_int.specs.Folds.{Known}
 use Rattle.ir_types.specs.Limits.{most_width}
+use Rattle.dialects_int.specs.declared.operations.Arithmetic.{Arithmetic}
+use Rattle.dialects_int.specs.declared.operations.Arithmetic.TheVariants as op
 use Rattle.user_patterns_check.specs.declared.step.Step.{Step}
 use Rattle.user_patterns_check.specs.Contents.{Content}
 use Rattle.user_patterns_check.specs.Checks.{bound, keeps, new_refines, old_ran, old_refined, refines, shown}
@@ -31,11 +33,11 @@ use Rattle.user_patterns_claims.specs.declared.instruction.Instruction.{Instruct
 use Rattle.user_patterns_claims.specs.declared.operand.Operand.{Operand}
 use Rattle.user_patterns_claims.specs.Outcomes.{AreKindsOf, AreOutcomes, IsNumberIf, OutcomesDecide, are_kinds, keeps_outcomes}
 use Rattle.user_patterns_claims.specs.Settled.{AreClaimsTrue, ClaimsDecide, IsReached}
-use Rattle.user_patterns_claims.specs.Translation.{Goal, Sides, State, all_translated, claim_from, claim_types, first_state, form_instruction, extra_instruction, given_instructions, goal_from, goal_of, narrower_types, new_instruction, new_instructions, number_instruction, old_instructions, piece_instruction, sides, variables}
+use Rattle.user_patterns_claims.specs.Translation.{Goal, Sides, State, all_translated, claim_from, claim_types, extra_instruction, first_state, form_instruction, given_instructions, goal_from, goal_of, narrower_types, new_instruction, new_instructions, number_instruction, old_form, old_instruction, old_instructions, operand_at, sides, variables}
 use Rattle.user_patterns_claims.proofs.Pieces.{many}
 use Rattle.user_patterns_claims.proofs.Operands.{Stands, stands_still}
 use Rattle.user_patterns_claims.proofs.Typing.{claim_kinds}
-use Rattle.user_patterns_claims.proofs.Instructions.{AllGo, Holds, Reached, all_go, found, instruction_fits, instruction_step, is_require, ones_still}
+use Rattle.user_patterns_claims.proofs.Instructions.{AllGo, Holds, Reached, all_go, found, instruction_fits, instruction_step, is_partial, ones_still}
 use Rattle.user_patterns_claims.proofs.BothSides.{ClaimsSome, sides_claim}
 use Rattle.user_patterns_claims.proofs.VariableOutcomes.{are_narrower, conditions_hold, VariablesHold, first_holds, fit, masks_of, number_of, set_low, set_of, variables_hold}
 
@@ -61,11 +63,22 @@ module _ (ks : List BitsKind) where
   form_alike t (op_form.IntegerCast c i) = refl
   form_alike t (op_form.IndexCast c i) = refl
 
-  piece_alike : (o : matched.PatternOp) → piece_step ks o ≡ instruction_step ks (piece_instruction o)
-  piece_alike o = form_alike o.ty o.form
+  pair_alike : (o : Arithmetic) (t i j : ℕ) → form_step (kind_at ks t) (op_form.Binary o i j) ≡ instruction_step ks (old_form t (op_form.Binary o i j))
+  pair_alike op.DivideSigned t i j = refl
+  pair_alike _ t i j = refl
+
+  old_form_alike : (t : ℕ) (f : registry.Expression) → form_step (kind_at ks t) f ≡ instruction_step ks (old_form t f)
+  old_form_alike t (op_form.Binary o i j) = pair_alike o t i j
+  old_form_alike t (op_form.Compare q i j) = refl
+  old_form_alike t (op_form.Select c i j) = refl
+  old_form_alike t (op_form.IntegerCast c i) = refl
+  old_form_alike t (op_form.IndexCast c i) = refl
+
+  piece_alike : (o : matched.PatternOp) → piece_step ks o ≡ instruction_step ks (old_instruction o)
+  piece_alike o = old_form_alike o.ty o.form
 
   new_alike : (n : NewValue) → new_step ks n ≡ instruction_step ks (new_instruction n)
-  new_alike (new.Operation o) = piece_alike o
+  new_alike (new.Operation o) = form_alike o.ty o.form
   new_alike (new.Constant i t) = refl
 
   all_alike : {X : Type 0} (f : X → Step) (g : X → Instruction) → ((x : X) → f x ≡ instruction_step ks (g x)) → (xs : List X) → map f xs ≡ map (instruction_step ks) (map g xs)
@@ -78,7 +91,7 @@ module _ (ks : List BitsKind) where
       ∙ sym (map-append (instruction_step ks) (map extra_instruction p.extra) (map number_instruction p.given))
 
   old_alike : (p : PatternModel) → Content.old (content_with ks p) ≡ map (instruction_step ks) (old_instructions p)
-  old_alike p = all_alike (piece_step ks) piece_instruction piece_alike p.old
+  old_alike p = all_alike (piece_step ks) old_instruction piece_alike p.old
 
   new_same : (p : PatternModel) → Content.new (content_with ks p) ≡ map (instruction_step ks) (new_instructions p)
   new_same p = all_alike (new_step ks) new_instruction new_alike p.new
@@ -104,18 +117,29 @@ module _ (ks : List BitsKind) where
       and_from (instruction_fits ks (extra_instruction (extra.Literal n))) _ h.0 (given_fit l m h.1 f)
   given_fit (extra.SameAs i ∷ l) m e f = given_fit l m e f
 
-  form_plain : (t : ℕ) (f : registry.Expression) → (instruction_fits ks (form_instruction t f) ≡ true) × (is_require (form_instruction t f) ≡ false)
+  form_plain : (t : ℕ) (f : registry.Expression) → (instruction_fits ks (form_instruction t f) ≡ true) × (is_partial (form_instruction t f) ≡ false)
   form_plain t (op_form.Binary o i j) = (refl, refl)
   form_plain t (op_form.Compare q i j) = (refl, refl)
   form_plain t (op_form.Select c i j) = (refl, refl)
   form_plain t (op_form.IntegerCast c i) = (refl, refl)
   form_plain t (op_form.IndexCast c i) = (refl, refl)
 
-  old_fit : (l : List matched.PatternOp) → list_all (instruction_fits ks) (map piece_instruction l) ≡ true
-  old_fit [] = refl
-  old_fit (o ∷ l) = and_from (instruction_fits ks (piece_instruction o)) _ (form_plain o.ty o.form).0 (old_fit l)
+  pair_fits : (o : Arithmetic) (t i j : ℕ) → instruction_fits ks (old_form t (op_form.Binary o i j)) ≡ true
+  pair_fits op.DivideSigned t i j = refl
+  pair_fits _ t i j = refl
 
-  new_plain : (n : NewValue) → (instruction_fits ks (new_instruction n) ≡ true) × (is_require (new_instruction n) ≡ false)
+  old_form_fits : (t : ℕ) (f : registry.Expression) → instruction_fits ks (old_form t f) ≡ true
+  old_form_fits t (op_form.Binary o i j) = pair_fits o t i j
+  old_form_fits t (op_form.Compare q i j) = refl
+  old_form_fits t (op_form.Select c i j) = refl
+  old_form_fits t (op_form.IntegerCast c i) = refl
+  old_form_fits t (op_form.IndexCast c i) = refl
+
+  old_fit : (l : List matched.PatternOp) → list_all (instruction_fits ks) (map old_instruction l) ≡ true
+  old_fit [] = refl
+  old_fit (o ∷ l) = and_from (instruction_fits ks (old_instruction o)) _ (old_form_fits o.ty o.form) (old_fit l)
+
+  new_plain : (n : NewValue) → (instruction_fits ks (new_instruction n) ≡ true) × (is_partial (new_instruction n) ≡ false)
   new_plain (new.Operation o) = form_plain o.ty o.form
   new_plain (new.Constant i t) = (refl, refl)
 
@@ -123,7 +147,7 @@ module _ (ks : List BitsKind) where
   new_fit [] = refl
   new_fit (n ∷ l) = and_from (instruction_fits ks (new_instruction n)) _ (new_plain n).0 (new_fit l)
 
-  new_total : (l : List NewValue) → list_any is_require (map new_instruction l) ≡ false
+  new_total : (l : List NewValue) → list_any is_partial (map new_instruction l) ≡ false
   new_total [] = refl
   new_total (n ∷ l) = (λ r. (new_plain n).1 r || new_total l r)
 
@@ -193,14 +217,14 @@ module _ (p : PatternModel) (ks : List BitsKind) (aligned : AreKindsOf p.value_t
     Go may s r o = AllGo W most vs p.value_types ks aligned wide ns narrow may s r o
 
     result_shown : (c d : State) (env : List Outcome) (x : Operand) (q : Outcome) → Stands W vs js refl c.exprs x q → Reached W most vs p.value_types ks aligned wide c d env
-        → IsReached (given (slice_get (State.operands d) p.result) (λ y. goal_from p d x y)) → new_refines q (slice_get env p.result) ≡ true
+        → IsReached (given (operand_at (State.operands d) p.result) (λ y. goal_from p d x y)) → new_refines q (slice_get env p.result) ≡ true
     result_shown c d env x q s go reach =
-        let y = peel (slice_get (State.operands d) p.result) (λ y. goal_from p d x y) reach in
+        let y = peel (operand_at (State.operands d) p.result) (λ y. goal_from p d x y) reach in
         let f = found W most vs p.value_types ks aligned wide d.exprs d.operands env p.result y.0 go.holds.all y.1 in
         ap (new_refines q) f.is ∙ refined d env x y.0 q f.outcome go.holds (stands_still W vs js refl c.exprs d.exprs x q go.grown s) f.stands y.2
 
-    new_ran : (c : State) (x : Operand) (q : Outcome) → Stands W vs js refl c.exprs x q → (o : Option State) (r : Option (List Outcome)) → Go (list_any is_require (new_instructions p)) c r o
-        → IsReached (given o (λ d. given (slice_get (State.operands d) p.result) (λ y. goal_from p d x y))) → new_refines q (shown p.result r) ≡ true
+    new_ran : (c : State) (x : Operand) (q : Outcome) → Stands W vs js refl c.exprs x q → (o : Option State) (r : Option (List Outcome)) → Go (list_any is_partial (new_instructions p)) c r o
+        → IsReached (given o (λ d. given (operand_at (State.operands d) p.result) (λ y. goal_from p d x y))) → new_refines q (shown p.result r) ≡ true
     new_ran c x q s None r g reach = absurd reach
     new_ran c x q s (Some d) None g reach = absurd (true≢false (sym g ∙ new_total ks p.new))
     new_ran c x q s (Some d) (Some env) g reach = result_shown c d env x q s g reach
@@ -208,12 +232,12 @@ module _ (p : PatternModel) (ks : List BitsKind) (aligned : AreKindsOf p.value_t
     -- the old ones
     abbrev after_old : State → Option Goal
     after_old c =
-        given (slice_get (State.operands c) p.root) (λ x.
-        given (all_translated p.value_types ns (new_instructions p) c) (λ d. given (slice_get (State.operands d) p.result) (λ y. goal_from p d x y)))
+        given (operand_at (State.operands c) p.root) (λ x.
+        given (all_translated p.value_types ns (new_instructions p) c) (λ d. given (operand_at (State.operands d) p.result) (λ y. goal_from p d x y)))
 
     root_refined : (b c : State) (env : List Outcome) → Reached W most vs p.value_types ks aligned wide b c env → IsReached (after_old c) → old_refined content env (slice_get env p.root) ≡ true
     root_refined b c env go reach =
-        let x = peel (slice_get (State.operands c) p.root) (λ x. given (all_translated p.value_types ns (new_instructions p) c) (λ d. given (slice_get (State.operands d) p.result) (λ y. goal_from p d x y))) reach in
+        let x = peel (operand_at (State.operands c) p.root) (λ x. given (all_translated p.value_types ns (new_instructions p) c) (λ d. given (operand_at (State.operands d) p.result) (λ y. goal_from p d x y))) reach in
         let f = found W most vs p.value_types ks aligned wide c.exprs c.operands env p.root x.0 go.holds.all x.1 in
         ap (old_refined content env) f.is
         ∙ ap (λ ss. new_refines f.outcome (shown p.result (run ss env))) (new_same ks p)
@@ -233,7 +257,7 @@ module _ (p : PatternModel) (ks : List BitsKind) (aligned : AreKindsOf p.value_t
     given_ran may a (Some b) None g reach = refl
     given_ran may a (Some b) (Some env) g reach =
         ap (λ ss. old_ran content (run ss env)) (old_alike ks p)
-        ∙ old_ran_on (list_any is_require (old_instructions p)) b (all_translated p.value_types ns (old_instructions p) b) (run (map (instruction_step ks) (old_instructions p)) env)
+        ∙ old_ran_on (list_any is_partial (old_instructions p)) b (all_translated p.value_types ns (old_instructions p) b) (run (map (instruction_step ks) (old_instructions p)) env)
         (all_go W most vs p.value_types ks aligned wide ns narrow (old_instructions p) b env g.holds (old_fit ks p.old)) reach
 
     abbrev after_variables : State → Option Goal
@@ -245,7 +269,7 @@ module _ (p : PatternModel) (ks : List BitsKind) (aligned : AreKindsOf p.value_t
         let start = variables_hold W most vs p ks aligned wide p.values os [] 0 (masks_of js) first_state (first_holds W most vs p ks aligned wide) refl are refl in
         let holds : Holds W most vs p.value_types ks aligned wide a.0 os = subst (λ (o : Option State). VariablesHold W most vs p ks aligned wide o os) a.1 start in
         ap (λ ss. old_ran content (given (run ss os) (run content.old))) (given_alike ks p)
-        ∙ given_ran (list_any is_require (given_instructions p)) a.0 (all_translated p.value_types ns (given_instructions p) a.0) (run (map (instruction_step ks) (given_instructions p)) os)
+        ∙ given_ran (list_any is_partial (given_instructions p)) a.0 (all_translated p.value_types ns (given_instructions p) a.0) (run (map (instruction_step ks) (given_instructions p)) os)
         (all_go W most vs p.value_types ks aligned wide ns narrow (given_instructions p) a.0 os holds fit_given) a.2
 
   pub keeps_all : AreClaimsTrue p → keeps_outcomes content os ≡ true

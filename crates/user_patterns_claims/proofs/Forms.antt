@@ -1,5 +1,5 @@
 -- The values of expressions, by form.
-use Rattle.std.proofs.Common.{◌≡◌, ℕ, ◌<◌, ◌%◌, ◌^◌, ◌==◌, List, Bool, true, false, not, nat_lt, nat_le, bit_and, bit_or, bit_xor, if◌then◌else◌, ℤ, refl, ap, arith, Option, Some, None}
+use Rattle.std.proofs.Common.{◌≡◌, ℕ, suc, ◌<◌, ◌/◌, ◌%◌, ◌^◌, ◌==◌, List, Bool, true, false, not, nat_lt, nat_le, bit_and, bit_or, bit_xor, if◌then◌else◌, ℤ, refl, ap, arith, Option, Some, None}
 use Rattle.std.specs.Prelude.{int_lt, int_le}
 use Rattle.std.proofs.lemmas.Bool.Decides.{nat_tests}
 use Rattle.std.proofs.lemmas.Int.{ints}
@@ -73,8 +73,17 @@ module _ (W : ℕ) (vs ws : List ℕ) where
   pub put_cut : (ps : List Expr) → Base W vs ws ps → (i t u x : ℕ) → IsBelow W (at ws t) → Is W vs ws ps i u x → Makes W vs ws ps (put ps t (form.Cut i)) t (x % 2 ^ at ws t)
   put_cut ps b i t u x low p = made W vs ws ps t (form.Cut i) (x % 2 ^ at ws t) b.right low (inside W vs ws ps i u x p) (λ r. p.value r % 2 ^ at ws t)
 
-  pub put_number : (ps : List Expr) → Base W vs ws ps → (t n : ℕ) → IsBelow W (at ws t) → n < 2 ^ at ws t → Makes W vs ws ps (put ps t (form.Literal n)) t (wrapped (at ws t) (literal_number false n))
-  put_number ps b t n low l = made W vs ws ps t (form.Literal n) (wrapped (at ws t) (literal_number false n)) b.right low l refl
+  pub put_number : (ps : List Expr) → Base W vs ws ps → (t n : ℕ) → IsBelow W (at ws t) → Makes W vs ws ps (put ps t (form.Literal n)) t (wrapped (at ws t) (literal_number false n))
+  put_number ps b t n low = made W vs ws ps t (form.Literal n) (wrapped (at ws t) (literal_number false n)) b.right low tt refl
+
+  pub put_negative : (ps : List Expr) → Base W vs ws ps → (t n : ℕ) → IsBelow W (at ws t) → n < 2 ^ at ws t → Makes W vs ws ps (put ps t (form.Negative n)) t (wrapped (at ws t) (literal_number true n))
+  put_negative ps b t n low l = made W vs ws ps t (form.Negative n) (wrapped (at ws t) (literal_number true n)) b.right low l refl
+
+  pub put_equal : (ps : List Expr) → Base W vs ws ps → (i j t u x y : ℕ) → Is W vs ws ps i t x → Is W vs ws ps j u y → Makes W vs ws ps (put ps 0 (form.Same i j)) 0 (truth (x == y))
+  put_equal ps b i j t u x y p q = made W vs ws ps 0 (form.Same i j) (truth (x == y)) b.right b.zero_is.low (inside W vs ws ps i t x p, inside W vs ws ps j u y q) (λ r. truth (p.value r == q.value r))
+
+  pub put_quotient : (ps : List Expr) → Base W vs ws ps → (i t n x : ℕ) → Is W vs ws ps i t x → Makes W vs ws ps (put ps t (form.Quotient i n)) t (x / suc n)
+  put_quotient ps b i t n x p = made W vs ws ps t (form.Quotient i n) (x / suc n) b.right p.low (has W vs ws ps i t x p) (λ r. p.value r / suc n)
 
   -- the negation of a truth
   pub makes_not : (ps : List Expr) (m : Made) (c : Bool) → Base W vs ws ps → Makes W vs ws ps m 0 (truth c) → Makes W vs ws ps (negated m) 0 (truth (not c))

@@ -1,7 +1,11 @@
 -- Translated instructions compute what the steps of a pattern compute.
-use Rattle.std.proofs.Common.{◌≡◌, ◌∙◌, ℕ, zero, suc, ◌^◌, ◌<◌, ◌≤◌, ◌==◌, List, [], ◌∷◌, ◌++◌, map, Bool, true, false, ◌||◌, nat_lt, if◌then◌else◌, Option, Some, None, slice_get, refl, sym, ap, subst, arith}
+use Rattle.std.proofs.Common.{◌≡◌, ◌∙◌, inl, inr, ℕ, zero, suc, ◌+◌, ◌-◌, ◌*◌, ◌%◌, bit_and, bit_xor, ◌^◌, ◌<◌, ◌≤◌, ◌==◌, List, [], ◌∷◌, ◌++◌, map, Bool, true, false, true≢false, ◌||◌, nat_lt, if◌then◌else◌, Option, Some, None, slice_get, refl, sym, ap, subst, arith}
 use Rattle.std.specs.List.{list_all, list_any}
-use Rattle.std.proofs.lemmas.Bool.{and_parts, or_left}
+use Rattle.std.proofs.lemmas.Bool.{and_parts, eqb-true, or_left}
+use Rattle.std.proofs.lemmas.Nat.{and_mask, pow_pos}
+use Rattle.std.specs.Int.Bits.{xor_add_and}
+use Rattle.std.proofs.Math.Nat.{add-mul-mod_self_right, mod-eq_of_lt, mod_self}
+use Rattle.std.proofs.Math.Pow.{pow-lt}
 use Rattle.std.proofs.lemmas.Bool.Decides.{nat_tests}
 use Rattle.std.proofs.lemmas.Option.{none-some, same_Some}
 use Rattle.ir_types.specs.declared.bits.BitsKind.{BitsKind}
@@ -11,11 +15,13 @@ use Rattle.ir_types.specs.Readings.{literal_number, wrapped}
 use Rattle.ir_types.proofs.Widths.{literal_low}
 use Rattle.ir_types.specs.Reasons.{is_width}
 use Rattle.dialects_int.specs.declared.operations.Arithmetic.TheVariants as op
-use Rattle.dialects_int.specs.Arithmetic.{truth}
+use Rattle.dialects_int.specs.Arithmetic.{difference_of, truth}
+use Rattle.dialects_int.proofs.Widths.{difference_is}
 use Rattle.user_patterns_check.specs.declared.step.Step.{Step}
 use Rattle.user_patterns_check.specs.declared.step.Step.TheVariants as step
 use Rattle.user_patterns_check.specs.Outcomes as outcomes
-use Rattle.user_patterns_check.specs.Outcomes.{Outcome, compare_outcome, given, pair_outcome, resize_outcome, run, select_outcome, step_of}
+use Rattle.user_patterns_check.specs.Outcomes.{Outcome, compare_outcome, given, log_of, log_outcome, pair_outcome, resize_outcome, run, select_outcome, step_of}
+use Rattle.user_patterns_check.proofs.Found.{below_some}
 use Rattle.user_patterns_data.specs.declared.pattern.PatternType.{PatternType}
 use Rattle.user_patterns_data.specs.declared.pattern.Literal.{Literal}
 use Rattle.user_patterns_data.specs.Fitting.{again_step, is_literal_of, kind_at, width_step, written_step}
@@ -30,11 +36,11 @@ use Rattle.user_patterns_claims.specs.declared.operand.Operand.{Operand}
 use Rattle.user_patterns_claims.specs.declared.operand.Poison.{Poison}
 use Rattle.user_patterns_claims.specs.declared.operand.Poison.TheVariants as poison
 use Rattle.user_patterns_claims.specs.Outcomes.{AreKindsOf, are_kinds}
-use Rattle.user_patterns_claims.specs.Translation.{Result, State, all_translated, compare_result, literal_form, literal_result, number_state, pair_result, power_there, put, required, resize_result, result_of, select_result, top_power, translated, type_at, with_condition, with_fitting, with_number, with_result, with_some}
-use Rattle.user_patterns_claims.proofs.Pieces.{Base, Grown, Is, base_on, grown_next, made, makes_same, piece_types, same, values}
-use Rattle.user_patterns_claims.proofs.Forms.{put_less, put_number}
+use Rattle.user_patterns_claims.specs.Translation.{Result, State, all_translated, compare_result, divide_result, literal_form, literal_result, log_state, number_state, operand_at, pair_result, power_made, power_there, put, required, resize_result, result_of, select_result, top_power, translated, type_at, unchanged, unknown, with_condition, with_fitting, with_number, with_result, with_some}
+use Rattle.user_patterns_claims.proofs.Pieces.{Base, Grown, Is, base_on, grown_next, made, makes_next, makes_same, piece_types, same, values}
+use Rattle.user_patterns_claims.proofs.Forms.{put_less, put_number, put_subtract, put_xor}
 use Rattle.user_patterns_claims.proofs.Flags.{PoisonIs}
-use Rattle.user_patterns_claims.proofs.Operands.{Gives, GivesSome, Stands, again, compare_gives, outcome_by, pair_gives, resize_gives, select_gives, stands_still, width_is}
+use Rattle.user_patterns_claims.proofs.Operands.{Divides, Gives, GivesSome, Stands, again, compare_gives, divide_gives, outcome_by, pair_gives, resize_gives, select_gives, stands_still, width_is}
 use Rattle.user_patterns_claims.proofs.Typing.{top_low, top_some, TypeIs, claim_kinds, literal_is, type_is}
 
 -- the step of an instruction
@@ -42,6 +48,7 @@ abbrev pub instruction_step : List BitsKind → Instruction → Step
 instruction_step ks (instruction.Number l) = written_step ks l
 instruction_step ks (instruction.Copy i) = again_step i
 instruction_step ks (instruction.Pair o i j) = step.Binary o i j
+instruction_step ks (instruction.Divide i j) = step.Binary op.DivideSigned i j
 instruction_step ks (instruction.Compare q i j) = step.Compare q i j
 instruction_step ks (instruction.Select c i j) = step.Select c i j
 instruction_step ks (instruction.Resize c t i) = step.IntegerCast c (kind_at ks t) i
@@ -53,9 +60,40 @@ abbrev pub instruction_fits : List BitsKind → Instruction → Bool
 instruction_fits ks (instruction.Number l) = is_literal_of ks l
 instruction_fits ks _ = true
 
-abbrev pub is_require : Instruction → Bool
-is_require (instruction.Require i) = true
-is_require _ = false
+-- whether an instruction may be undefined although claims express it
+abbrev pub is_partial : Instruction → Bool
+is_partial (instruction.Require i) = true
+is_partial (instruction.Log i) = true
+is_partial (instruction.Divide i j) = true
+is_partial _ = false
+
+-- ---- powers of two
+
+-- 2^k - 1 is less than the exclusive disjunction of 2^k and 2^k - 1
+power_is : (w k : ℕ) → k < w → nat_lt (difference_of w (2 ^ k) 1) (bit_xor (2 ^ k) (difference_of w (2 ^ k) 1)) ≡ true
+power_is w k l =
+    let p = pow_pos k in
+    let g = pow-lt l in
+    let e : 2 ^ k + (2 ^ w - 1) ≡ (2 ^ k - 1) + 1 * 2 ^ w = omega (arith, p, g) in
+    let less : difference_of w (2 ^ k) 1 ≡ 2 ^ k - 1 = difference_is w (2 ^ k) 1 (omega (arith, p, g)) ∙ ap (λ n. n % 2 ^ w) e ∙ add-mul-mod_self_right (2 ^ k - 1) 1 (2 ^ w) ∙ mod-eq_of_lt (omega (arith, g)) in
+    let none : bit_and (2 ^ k) (2 ^ k - 1) ≡ 0 = and_mask (2 ^ k) k ∙ mod_self (2 ^ k) in
+    let sum = xor_add_and (2 ^ k) (2 ^ k - 1) in
+    (λ i. nat_lt (less i) (bit_xor (2 ^ k) (less i))) ∙ surely (2 ^ k - 1) (bit_xor (2 ^ k) (2 ^ k - 1)) (omega (arith, none, sum, p))
+  where
+    surely : (a b : ℕ) → a < b → nat_lt a b ≡ true
+    surely a b h = grind (arith, nat_tests)
+
+-- a number with a logarithm is a power of two
+log_is : (w a k : ℕ) → log_of w a ≡ Some k → (k < w) × (a ≡ 2 ^ k)
+unfolding log_of
+log_is w a k e =
+    let r = below_some (λ j. if a == 2 ^ j then Some j else None) w k e in
+    let h = hit r.0 (a == 2 ^ r.0) refl r.2 in
+    (subst (λ (j : ℕ). j < w) h.0 r.1, h.1 ∙ ap (λ j. 2 ^ j) h.0)
+  where
+    hit : (j : ℕ) (b : Bool) → (a == 2 ^ j) ≡ b → (if b then Some j else None) ≡ Some k → (j ≡ k) × (a ≡ 2 ^ j)
+    hit j true f g = (same_Some j k g, eqb-true a (2 ^ j) f)
+    hit j false f g = absurd (none-some k g)
 
 module _ (W : ℕ) (most : most_width ≤ W) (vs : List ℕ) (value_types : List PatternType) (ks : List BitsKind) (aligned : AreKindsOf value_types ks) (wide : are_kinds ks ≡ true) where
   abbrev pub js : List BitsKind
@@ -67,10 +105,14 @@ module _ (W : ℕ) (most : most_width ≤ W) (vs : List ℕ) (value_types : List
   abbrev pub StandsFor : List Expr → Operand → Outcome → Type 0
   StandsFor ps o x = Stands W vs js refl ps o x
 
-  -- operands represent outcomes
+  -- operands represent outcomes, if they are known
+  abbrev pub StandsIf : Bool → List Expr → Operand → Outcome → Type 0
+  StandsIf true ps o x = StandsFor ps o x
+  StandsIf false ps o x = Unit {0}
+
   abbrev pub AllStand : List Expr → List Operand → List Outcome → Type 0
   AllStand ps [] [] = Unit {0}
-  AllStand ps (o ∷ os) (x ∷ xs) = StandsFor ps o x × AllStand ps os xs
+  AllStand ps (o ∷ os) (x ∷ xs) = StandsIf o.known ps o x × AllStand ps os xs
   AllStand ps _ _ = ⊥
 
   -- the expressions at these places are 1
@@ -83,13 +125,21 @@ module _ (W : ℕ) (most : most_width ≤ W) (vs : List ℕ) (value_types : List
     pub all : AllStand s.exprs s.operands env
     pub ones : AllOnes s.exprs s.conditions
 
+  if_still : (ps qs : List Expr) (o : Operand) (x : Outcome) → Grown W vs ws ps qs → (b : Bool) → StandsIf b ps o x → StandsIf b qs o x
+  if_still ps qs o x g true s = stands_still W vs js refl ps qs o x g s
+  if_still ps qs o x g false s = tt
+
+  if_stands : (ps : List Expr) (o : Operand) (x : Outcome) → StandsFor ps o x → (b : Bool) → StandsIf b ps o x
+  if_stands ps o x s true = s
+  if_stands ps o x s false = tt
+
   all_still : (ps qs : List Expr) (os : List Operand) (xs : List Outcome) → Grown W vs ws ps qs → AllStand ps os xs → AllStand qs os xs
   all_still ps qs [] [] g a = tt
   all_still ps qs [] (x ∷ xs) g a = absurd a
   all_still ps qs (o ∷ os) [] g a = absurd a
-  all_still ps qs (o ∷ os) (x ∷ xs) g a = (stands_still W vs js refl ps qs o x g a.0, all_still ps qs os xs g a.1)
+  all_still ps qs (o ∷ os) (x ∷ xs) g a = (if_still ps qs o x g o.known a.0, all_still ps qs os xs g a.1)
 
-  all_more : (ps : List Expr) (os : List Operand) (xs : List Outcome) (o : Operand) (x : Outcome) → AllStand ps os xs → StandsFor ps o x → AllStand ps (os ++ o ∷ []) (xs ++ x ∷ [])
+  all_more : (ps : List Expr) (os : List Operand) (xs : List Outcome) (o : Operand) (x : Outcome) → AllStand ps os xs → StandsIf o.known ps o x → AllStand ps (os ++ o ∷ []) (xs ++ x ∷ [])
   all_more ps [] [] o x a s = (s, tt)
   all_more ps [] (y ∷ xs) o x a s = absurd a
   all_more ps (p ∷ os) [] o x a s = absurd a
@@ -109,10 +159,14 @@ module _ (W : ℕ) (most : most_width ≤ W) (vs : List ℕ) (value_types : List
     pub is : x ≡ Some outcome
     pub stands : StandsFor ps o outcome
 
-  pub found : (ps : List Expr) (os : List Operand) (xs : List Outcome) (i : ℕ) (o : Operand) → AllStand ps os xs → slice_get os i ≡ Some o → Found ps o (slice_get xs i)
+  pub found : (ps : List Expr) (os : List Operand) (xs : List Outcome) (i : ℕ) (o : Operand) → AllStand ps os xs → operand_at os i ≡ Some o → Found ps o (slice_get xs i)
   found ps [] xs i o a e = absurd (none-some o e)
   found ps (p ∷ os) [] i o a e = absurd a
-  found ps (p ∷ os) (x ∷ xs) zero o a e = record { outcome = x; is = refl; stands = subst (λ (q : Operand). StandsFor ps q x) (same_Some p o e) a.0 }
+  found ps (p ∷ os) (x ∷ xs) zero o a e = here p.known a.0 e
+    where
+      here : (b : Bool) → StandsIf b ps p x → (if b then Some p else None) ≡ Some o → Found ps o (Some x)
+      here true s f = record { outcome = x; is = refl; stands = subst (λ (q : Operand). StandsFor ps q x) (same_Some p o f) s }
+      here false s f = absurd (none-some o f)
   found ps (p ∷ os) (x ∷ xs) (suc i) o a e = found ps os xs i o a.1 e
 
   -- the state after a step
@@ -132,7 +186,7 @@ module _ (W : ℕ) (most : most_width ≤ W) (vs : List ℕ) (value_types : List
         grown = g;
         holds = record {
           base = base_on W vs ws s.exprs r.0 h.base g;
-          all = all_more r.0 s.operands env r.1 x (all_still s.exprs r.0 s.operands env g h.all) a;
+          all = all_more r.0 s.operands env r.1 x (all_still s.exprs r.0 s.operands env g h.all) (if_stands r.0 r.1 x a r.1.known);
           ones = ones_still s.exprs r.0 s.conditions g h.ones;
         };
       }
@@ -149,17 +203,17 @@ module _ (W : ℕ) (most : most_width ≤ W) (vs : List ℕ) (value_types : List
 
   module _ (s : State) (env : List Outcome) (h : Holds s env) where
     with_operand : {X : Type 0} (P : Option Outcome → Option X → Type 0) → ((r : Option Outcome) → P r None) → (i : ℕ) (f : Operand → Option X) (g : Outcome → Option Outcome)
-        → ((o : Operand) (x : Outcome) → StandsFor s.exprs o x → P (g x) (f o)) → P (given (slice_get env i) g) (given (slice_get s.operands i) f)
-    with_operand P none i f g each = go (slice_get s.operands i) refl
+        → ((o : Operand) (x : Outcome) → StandsFor s.exprs o x → P (g x) (f o)) → P (given (slice_get env i) g) (given (operand_at s.operands i) f)
+    with_operand P none i f g each = go (operand_at s.operands i) refl
       where
-        go : (o : Option Operand) → slice_get s.operands i ≡ o → P (given (slice_get env i) g) (given o f)
+        go : (o : Option Operand) → operand_at s.operands i ≡ o → P (given (slice_get env i) g) (given o f)
         go None e = none (given (slice_get env i) g)
         go (Some o) e =
             let a = found s.exprs s.operands env i o h.all e in
             subst (λ (x : Option Outcome). P (given x g) (f o)) (sym a.is) (each o a.outcome a.stands)
 
     by_operand : (i : ℕ) (f : Operand → Option Result) (g : Outcome → Option Outcome) → ((o : Operand) (x : Outcome) → StandsFor s.exprs o x → GivesHere s.exprs (g x) (f o))
-        → GivesHere s.exprs (given (slice_get env i) g) (given (slice_get s.operands i) f)
+        → GivesHere s.exprs (given (slice_get env i) g) (given (operand_at s.operands i) f)
     by_operand i f g each = with_operand (GivesHere s.exprs) (λ r. tt) i f g each
 
     with_type : {X : Type 0} (P : Option X → Type 0) → P None → (t : ℕ) (f : ℕ → Option X) → ((u : ℕ) → TypeIs W value_types ks t u → P (f u)) → P (given (type_at value_types t) f)
@@ -187,7 +241,7 @@ module _ (W : ℕ) (most : most_width ≤ W) (vs : List ℕ) (value_types : List
       where
         right : (b : Bool) (w : ℕ) → l.magnitude < 2 ^ w → IsRight W ws (piece_types s.exprs) w (if b then form.Negative l.magnitude else form.Literal l.magnitude)
         right true w g = g
-        right false w g = g
+        right false w g = tt
 
         value : (b : Bool) (w : ℕ) → piece_value ws vs w (if b then form.Negative l.magnitude else form.Literal l.magnitude) (values W vs ws s.exprs) ≡ wrapped w (literal_number b l.magnitude)
         value true w = refl
@@ -212,7 +266,7 @@ module _ (W : ℕ) (most : most_width ≤ W) (vs : List ℕ) (value_types : List
         let low : p < 2 ^ w = subst (λ (n : ℕ). p < 2 ^ n) (sym w_is) (omega (arith, below, least)) in
         let b = base_on W vs ws s.exprs r.0 h.base g.grown in
         let m = put r.0 u (form.Literal p) in
-        let one = makes_same W vs ws r.0 m u (wrapped w (literal_number false p)) p (sym (literal_low w p low)) (put_number W vs ws r.0 b u p t.low low) in
+        let one = makes_same W vs ws r.0 m u (wrapped w (literal_number false p)) p (sym (literal_low w p low)) (put_number W vs ws r.0 b u p t.low) in
         let c = base_on W vs ws r.0 m.0 b one.grown in
         let n = power_there m in
         let last = makes_same W vs ws m.0 n 0 (truth (nat_lt 0 p)) 1 (ap truth (positive p (top_some l.magnitude l.magnitude))) (put_less W vs ws m.0 c 0 m.1 0 u 0 p c.zero_is one.is) in
@@ -222,7 +276,7 @@ module _ (W : ℕ) (most : most_width ≤ W) (vs : List ℕ) (value_types : List
           grown = all;
           holds = record {
             base = base_on W vs ws s.exprs n.0 h.base all;
-            all = all_more n.0 s.operands env r.1 g.outcome (all_still s.exprs n.0 s.operands env all h.all) (stands_still W vs js refl r.0 n.0 r.1 g.outcome more g.stands);
+            all = all_more n.0 s.operands env r.1 g.outcome (all_still s.exprs n.0 s.operands env all h.all) (if_stands n.0 r.1 g.outcome (stands_still W vs js refl r.0 n.0 r.1 g.outcome more g.stands) r.1.known);
             ones = ones_more n.0 s.conditions n.1 (ones_still s.exprs n.0 s.conditions all h.ones) last.is;
           };
         }
@@ -258,7 +312,7 @@ module _ (W : ℕ) (most : most_width ≤ W) (vs : List ℕ) (value_types : List
           grown = g;
           holds = record {
             base = base_on W vs ws s.exprs m.0 h.base g;
-            all = all_more m.0 s.operands env o (Some (kind_at js o.ty, n)) (all_still s.exprs m.0 s.operands env g h.all) (stands_still W vs js refl s.exprs m.0 o (Some (kind_at js o.ty, n)) g a);
+            all = all_more m.0 s.operands env o (Some (kind_at js o.ty, n)) (all_still s.exprs m.0 s.operands env g h.all) (if_stands m.0 o (Some (kind_at js o.ty, n)) (stands_still W vs js refl s.exprs m.0 o (Some (kind_at js o.ty, n)) g a) o.known);
             ones = ones_more m.0 s.conditions m.1 (ones_still s.exprs m.0 s.conditions g h.ones) one.is;
           };
         }
@@ -278,50 +332,125 @@ module _ (W : ℕ) (most : most_width ≤ W) (vs : List ℕ) (value_types : List
         go poison.Always e = tt
         go (poison.When k) e = tt
 
+    -- a logarithm, which isn't known: the number is a power of two
+    power_visited : (o : Operand) (n k : ℕ) → Is W vs ws s.exprs o.value o.ty n → (k < at ws o.ty) × (n ≡ 2 ^ k) → (x : Outcome)
+        → Reached s (with_condition s unknown (power_made o.value o.ty s.exprs)) (env ++ x ∷ [])
+    power_visited o n k is power x =
+        let i = o.value in
+        let t = o.ty in
+        let w = at ws t in
+        let p = pow_pos k in
+        let one = put s.exprs t (form.Literal 1) in
+        let small : 1 < 2 ^ w = (let l = is.low.0 in let g = pow-lt {i = 0} {j = w} l in omega (arith, g)) in
+        let one_made = makes_same W vs ws s.exprs one t (wrapped w (literal_number false 1)) 1 (sym (literal_low w 1 small)) (put_number W vs ws s.exprs h.base t 1 is.low) in
+        let b1 = base_on W vs ws s.exprs one.0 h.base one_made.grown in
+        let n1 = one_made.grown.kept i t n is in
+        let less = put one.0 t (form.Subtract i one.1) in
+        let d = difference_of w n 1 in
+        let less_made = put_subtract W vs ws one.0 b1 i one.1 t n 1 n1 one_made.is in
+        let b2 = base_on W vs ws one.0 less.0 b1 less_made.grown in
+        let bits = put less.0 t (form.ExclusiveOr i less.1) in
+        let bits_made = put_xor W vs ws less.0 b2 i less.1 t n d (less_made.grown.kept i t n n1) less_made.is in
+        let b3 = base_on W vs ws less.0 bits.0 b2 bits_made.grown in
+        let m = power_made i t s.exprs in
+        let test = nat_lt d (bit_xor n d) in
+        let yes : test ≡ true = ap (λ v. nat_lt (difference_of w v 1) (bit_xor v (difference_of w v 1))) power.1 ∙ power_is w k power.0 in
+        let last = makes_same W vs ws bits.0 m 0 (truth test) 1 (ap truth yes) (put_less W vs ws bits.0 b3 less.1 bits.1 t t d (bit_xor n d) (bits_made.grown.kept less.1 t d less_made.is) bits_made.is) in
+        let made_all = makes_next W vs ws s.exprs one m t 0 1 1 one_made (makes_next W vs ws one.0 less m t 0 d 1 less_made (makes_next W vs ws less.0 bits m t 0 (bit_xor n d) 1 bits_made last)) in
+        let g = made_all.grown in
+        record {
+          grown = g;
+          holds = record {
+            base = base_on W vs ws s.exprs m.0 h.base g;
+            all = all_more m.0 s.operands env unknown x (all_still s.exprs m.0 s.operands env g h.all) tt;
+            ones = ones_more m.0 s.conditions m.1 (ones_still s.exprs m.0 s.conditions g h.ones) made_all.is;
+          };
+        }
+
+    log_goes : (o : Operand) (x : Outcome) → StandsFor s.exprs o x → Goes true s env (log_outcome x) (log_state s o o.poison)
+    log_goes o x a = go o.poison a.poison_is
+      where
+        known : (r : Option ℕ) → log_of (width_of (kind_at js o.ty)) a.number ≡ r
+            → Goes true s env (given r (λ k. Some (Some (kind_at js o.ty, k)))) (Some (with_condition s unknown (power_made o.value o.ty s.exprs)))
+        known None e = refl
+        known (Some k) e =
+            let l = log_is (width_of (kind_at js o.ty)) a.number k e in
+            power_visited o a.number k a.number_is (subst (λ (v : ℕ). k < v) (sym (width_is js o.ty)) l.0, l.1) (Some (kind_at js o.ty, k))
+
+        go : (f : Poison) → PoisonIs W vs ws s.exprs f a.poisoned → Goes true s env (log_outcome x) (log_state s o f)
+        go poison.Never e =
+            let i : x ≡ Some (kind_at js o.ty, a.number) = a.is ∙ ap (outcome_by (kind_at js o.ty) a.number) e in
+            subst (λ (y : Outcome). Goes true s env (log_outcome y) (Some (with_condition s unknown (power_made o.value o.ty s.exprs)))) (sym i) (known (log_of (width_of (kind_at js o.ty)) a.number) refl)
+        go poison.Always e = tt
+        go (poison.When k) e = tt
+
+    -- a signed division
+    abbrev DivideGoes : Option Outcome → Option Result → Type 0
+    DivideGoes r q = Goes true s env r (with_some s q)
+
+    divide_goes : (x y : Operand) (p q : Outcome) → StandsFor s.exprs x p → StandsFor s.exprs y q → DivideGoes (pair_outcome op.DivideSigned p q) (unchanged s.exprs (divide_result x y))
+    divide_goes x y p q a b = on (divide_result x y) (divide_gives W vs js refl s.exprs h.base x y p q a b)
+      where
+        on : (d : Option Operand) → Divides W vs js refl s.exprs h.base x y p q a b (pair_outcome op.DivideSigned p q) d → DivideGoes (pair_outcome op.DivideSigned p q) (unchanged s.exprs d)
+        on None i = tt
+        on (Some d) i = elim i [
+          | inl e ↦ (subst (λ (r : Option Outcome). Goes true s env r (Some (with_result s (s.exprs, d)))) (sym e) refl)
+          | inr g ↦ (gives_goes true s env (pair_outcome op.DivideSigned p q) (s.exprs, d) h g)
+        ]
+
+    divides_at : (i j : ℕ) → DivideGoes (given (slice_get env i) (λ x. given (slice_get env j) (λ y. pair_outcome op.DivideSigned x y)))
+        (given (operand_at s.operands i) (λ x. given (operand_at s.operands j) (λ y. unchanged s.exprs (divide_result x y))))
+    divides_at i j =
+        with_operand s env h DivideGoes (λ r. tt) i (λ x. given (operand_at s.operands j) (λ y. unchanged s.exprs (divide_result x y))) (λ x. given (slice_get env j) (λ y. pair_outcome op.DivideSigned x y))
+        (λ x p a. with_operand s env h DivideGoes (λ r. tt) j (λ y. unchanged s.exprs (divide_result x y)) (λ y. pair_outcome op.DivideSigned p y) (λ y q b. divide_goes x y p q a b))
+
   copied : (o : Option Outcome) → given o (λ x. given o (λ y. pair_outcome op.And x y)) ≡ given o Some
   copied None = refl
   copied (Some x) = again x
 
   -- ---- one instruction
   module _ (ns : List Narrower) (narrow : AreNarrower ws ns) where
-    gives : (n : Instruction) (s : State) (env : List Outcome) → Holds s env → instruction_fits ks n ≡ true → GivesHere s.exprs (step_of (instruction_step ks n) env) (result_of value_types ns n s.operands s.exprs)
-    gives (instruction.Number l) s env h fit = tt
-    gives (instruction.Copy i) s env h fit =
-        subst (λ (r : Option Outcome). GivesHere s.exprs r (given (slice_get s.operands i) (λ x. Some (s.exprs, x)))) (sym (copied (slice_get env i)))
+    gives : (n : Instruction) (s : State) (env : List Outcome) → Holds s env → instruction_fits ks n ≡ true → is_partial n ≡ false → GivesHere s.exprs (step_of (instruction_step ks n) env) (result_of value_types ns n s.operands s.exprs)
+    gives (instruction.Number l) s env h fit total = tt
+    gives (instruction.Copy i) s env h fit total =
+        subst (λ (r : Option Outcome). GivesHere s.exprs r (given (operand_at s.operands i) (λ x. Some (s.exprs, x)))) (sym (copied (slice_get env i)))
         (by_operand s env h i (λ x. Some (s.exprs, x)) Some (λ o x a. record { outcome = x; is = refl; grown = same W vs ws s.exprs h.base.right; stands = a }))
-    gives (instruction.Pair o i j) s env h fit =
-        by_operand s env h i (λ x. given (slice_get s.operands j) (λ y. pair_result o x y s.exprs)) (λ x. given (slice_get env j) (λ y. pair_outcome o x y))
+    gives (instruction.Pair o i j) s env h fit total =
+        by_operand s env h i (λ x. given (operand_at s.operands j) (λ y. pair_result o x y s.exprs)) (λ x. given (slice_get env j) (λ y. pair_outcome o x y))
         (λ x p a. by_operand s env h j (λ y. pair_result o x y s.exprs) (λ y. pair_outcome o p y) (λ y q b. pair_gives W vs js refl s.exprs h.base x y p q a b o))
-    gives (instruction.Compare o i j) s env h fit =
-        by_operand s env h i (λ x. given (slice_get s.operands j) (λ y. compare_result o x y s.exprs)) (λ x. given (slice_get env j) (λ y. compare_outcome o x y))
+    gives (instruction.Compare o i j) s env h fit total =
+        by_operand s env h i (λ x. given (operand_at s.operands j) (λ y. compare_result o x y s.exprs)) (λ x. given (slice_get env j) (λ y. compare_outcome o x y))
         (λ x p a. by_operand s env h j (λ y. compare_result o x y s.exprs) (λ y. compare_outcome o p y) (λ y q b. compare_gives W vs js refl s.exprs h.base x y p q a b o))
-    gives (instruction.Select c i j) s env h fit =
-        by_operand s env h c (λ d. given (slice_get s.operands i) (λ x. given (slice_get s.operands j) (λ y. select_result d x y s.exprs)))
+    gives (instruction.Select c i j) s env h fit total =
+        by_operand s env h c (λ d. given (operand_at s.operands i) (λ x. given (operand_at s.operands j) (λ y. select_result d x y s.exprs)))
         (λ d. given (slice_get env i) (λ x. given (slice_get env j) (λ y. select_outcome d x y)))
-        (λ d r k. by_operand s env h i (λ x. given (slice_get s.operands j) (λ y. select_result d x y s.exprs)) (λ x. given (slice_get env j) (λ y. select_outcome r x y))
+        (λ d r k. by_operand s env h i (λ x. given (operand_at s.operands j) (λ y. select_result d x y s.exprs)) (λ x. given (slice_get env j) (λ y. select_outcome r x y))
         (λ x p a. by_operand s env h j (λ y. select_result d x y s.exprs) (λ y. select_outcome r p y) (λ y q b. select_gives W vs js refl s.exprs h.base x y p q a b d r k)))
-    gives (instruction.Resize c u i) s env h fit =
+    gives (instruction.Resize c u i) s env h fit total =
         by_operand s env h i (λ x. given (type_at value_types u) (λ t. resize_result ns c t x s.exprs)) (λ x. resize_outcome c (kind_at ks u) x)
         (λ x p a. with_type s env h (GivesHere s.exprs (resize_outcome c (kind_at ks u) p)) tt u (λ t. resize_result ns c t x s.exprs)
         (λ t is. subst (λ (k : BitsKind). GivesHere s.exprs (resize_outcome c k p) (resize_result ns c t x s.exprs)) is.same
         (resize_gives W vs js refl s.exprs h.base ns narrow t is.low c x p a (ap (λ k. is_width (width_of k)) is.same ∙ is.wide))))
-    gives (instruction.Require i) s env h fit = tt
-    gives (instruction.Width t) s env h fit = tt
-    gives (instruction.Log i) s env h fit = tt
+    gives (instruction.Divide i j) s env h fit total = absurd (true≢false total)
+    gives (instruction.Require i) s env h fit total = tt
+    gives (instruction.Width t) s env h fit total = tt
+    gives (instruction.Log i) s env h fit total = tt
 
-    plain : (n : Instruction) (s : State) (env : List Outcome) → Holds s env → instruction_fits ks n ≡ true → Goes false s env (step_of (instruction_step ks n) env) (with_some s (result_of value_types ns n s.operands s.exprs))
-    plain n s env h fit = some_goes false s env (step_of (instruction_step ks n) env) (result_of value_types ns n s.operands s.exprs) h (gives n s env h fit)
+    plain : (n : Instruction) (s : State) (env : List Outcome) → Holds s env → instruction_fits ks n ≡ true → is_partial n ≡ false → Goes false s env (step_of (instruction_step ks n) env) (with_some s (result_of value_types ns n s.operands s.exprs))
+    plain n s env h fit total = some_goes false s env (step_of (instruction_step ks n) env) (result_of value_types ns n s.operands s.exprs) h (gives n s env h fit total)
 
-    pub goes : (n : Instruction) (s : State) (env : List Outcome) → Holds s env → instruction_fits ks n ≡ true → Goes (is_require n) s env (step_of (instruction_step ks n) env) (translated value_types ns n s)
+    pub goes : (n : Instruction) (s : State) (env : List Outcome) → Holds s env → instruction_fits ks n ≡ true → Goes (is_partial n) s env (step_of (instruction_step ks n) env) (translated value_types ns n s)
+    unfolding translated
     goes (instruction.Number l) s env h fit = with_type s env h (Goes false s env (step_of (written_step ks l) env)) tt l.ty (λ t. Some (number_state s l t)) (λ u t. number_goes s env h l u t fit)
-    goes (instruction.Copy i) s env h fit = plain (instruction.Copy i) s env h fit
-    goes (instruction.Pair o i j) s env h fit = plain (instruction.Pair o i j) s env h fit
-    goes (instruction.Compare o i j) s env h fit = plain (instruction.Compare o i j) s env h fit
-    goes (instruction.Select c i j) s env h fit = plain (instruction.Select c i j) s env h fit
-    goes (instruction.Resize c u i) s env h fit = plain (instruction.Resize c u i) s env h fit
+    goes (instruction.Copy i) s env h fit = plain (instruction.Copy i) s env h fit refl
+    goes (instruction.Pair o i j) s env h fit = plain (instruction.Pair o i j) s env h fit refl
+    goes (instruction.Divide i j) s env h fit = divides_at s env h i j
+    goes (instruction.Compare o i j) s env h fit = plain (instruction.Compare o i j) s env h fit refl
+    goes (instruction.Select c i j) s env h fit = plain (instruction.Select c i j) s env h fit refl
+    goes (instruction.Resize c u i) s env h fit = plain (instruction.Resize c u i) s env h fit refl
     goes (instruction.Require i) s env h fit = with_operand s env h (Goes true s env) (λ r. tt) i (λ x. required s x x.poison) outcomes.required (λ o x a. require_goes s env h o x a)
     goes (instruction.Width t) s env h fit = tt
-    goes (instruction.Log i) s env h fit = tt
+    goes (instruction.Log i) s env h fit = with_operand s env h (Goes true s env) (λ r. tt) i (λ x. log_state s x x.poison) log_outcome (λ o x a. log_goes s env h o x a)
 
     -- ---- all
     abbrev pub AllGo : Bool → State → Option (List Outcome) → Option State → Type 0
@@ -339,20 +468,20 @@ module _ (W : ℕ) (most : most_width ≤ W) (vs : List ℕ) (value_types : List
     later may b s mid (Some env) (Some next) g a = record { grown = grown_next W vs ws s.exprs mid.exprs next.exprs g a.grown; holds = a.holds }
 
     pub all_go : (is : List Instruction) (s : State) (env : List Outcome) → Holds s env → list_all (instruction_fits ks) is ≡ true
-        → AllGo (list_any is_require is) s (run (map (instruction_step ks) is) env) (all_translated value_types ns is s)
+        → AllGo (list_any is_partial is) s (run (map (instruction_step ks) is) env) (all_translated value_types ns is s)
     all_go [] s env h fit = record { grown = same W vs ws s.exprs h.base.right; holds = h }
     all_go (n ∷ is) s env h fit =
         let f = and_parts (instruction_fits ks n) (list_all (instruction_fits ks) is) fit in
         on (λ mid xs k. all_go is mid xs k f.1) (step_of (instruction_step ks n) env) (translated value_types ns n s) (goes n s env h f.0)
       where
-        on : ((mid : State) (xs : List Outcome) → Holds mid xs → AllGo (list_any is_require is) mid (run (map (instruction_step ks) is) xs) (all_translated value_types ns is mid))
-            → (r : Option Outcome) (o : Option State) → Goes (is_require n) s env r o
-            → AllGo (is_require n || list_any is_require is) s (given r (λ v. run (map (instruction_step ks) is) (env ++ v ∷ []))) (given o (all_translated value_types ns is))
+        on : ((mid : State) (xs : List Outcome) → Holds mid xs → AllGo (list_any is_partial is) mid (run (map (instruction_step ks) is) xs) (all_translated value_types ns is mid))
+            → (r : Option Outcome) (o : Option State) → Goes (is_partial n) s env r o
+            → AllGo (is_partial n || list_any is_partial is) s (given r (λ v. run (map (instruction_step ks) is) (env ++ v ∷ []))) (given o (all_translated value_types ns is))
         on ih r None a = tt
         on ih None (Some mid) a = none_left (all_translated value_types ns is mid)
           where
-            none_left : (o : Option State) → AllGo (is_require n || list_any is_require is) s None o
+            none_left : (o : Option State) → AllGo (is_partial n || list_any is_partial is) s None o
             none_left None = tt
-            none_left (Some next) = or_left (is_require n) (list_any is_require is) a
+            none_left (Some next) = or_left (is_partial n) (list_any is_partial is) a
         on ih (Some x) (Some mid) a =
-            later (list_any is_require is) (is_require n) s mid (run (map (instruction_step ks) is) (env ++ x ∷ [])) (all_translated value_types ns is mid) a.grown (ih mid (env ++ x ∷ []) a.holds)
+            later (list_any is_partial is) (is_partial n) s mid (run (map (instruction_step ks) is) (env ++ x ∷ [])) (all_translated value_types ns is mid) a.grown (ih mid (env ++ x ∷ []) a.holds)

@@ -1,12 +1,15 @@
 pub mod Pieces
 pub mod Forms
+pub mod Ranges
 pub mod Multiples
+pub mod Shifting
 pub mod Flags
 pub mod Operands
 pub mod Typing
 pub mod Instructions
 pub mod BothSides
 pub mod VariableOutcomes
+pub mod Plain
 pub mod Deciding
 pub mod Chaining
 pub mod Answering

@@ -1,5 +1,5 @@
 -- Operands that represent outcomes, and the translation of operations on them.
-use Rattle.std.proofs.Common.{◌≡◌, ◌∙◌, ℕ, zero, suc, ◌%◌, ◌^◌, ◌<◌, ◌==◌, List, [], ◌∷◌, map, Bool, true, false, true≢false, ◌||◌, ◌&&◌, not, nat_lt, if◌then◌else◌, Option, Some, None, ◌⊎◌, inl, inr, bit_and, refl, sym, ap, subst, arith}
+use Rattle.std.proofs.Common.{◌≡◌, ◌∙◌, ℕ, zero, suc, ◌%◌, ◌^◌, ◌<◌, ◌≤◌, ◌==◌, List, [], ◌∷◌, map, Bool, true, false, true≢false, ◌||◌, ◌&&◌, not, nat_lt, if◌then◌else◌, Option, Some, None, ◌⊎◌, inl, inr, bit_and, refl, sym, ap, subst, arith}
 use Rattle.std.specs.Int.Bits.{and_self}
 use Rattle.std.proofs.lemmas.Bool.{and_parts, eqb-true}
 use Rattle.std.proofs.lemmas.Bool.Decides.{nat_tests}
@@ -14,7 +14,9 @@ use Rattle.dialects_int.specs.declared.operations.Cast.{Cast}
 use Rattle.dialects_int.specs.declared.operations.Cast.TheVariants as cast
 use Rattle.dialects_int.specs.Arithmetic.{cast_of, choice_of, comparison_of, sign_extended, truncated, truth, value_of, zero_extended}
 use Rattle.dialects_int.proofs.KnownOperands.{same_itself}
-use Rattle.user_patterns_check.specs.Outcomes.{Outcome, compare_outcome, divides, given, is_some_number, checked, pair_outcome, resize_any, resize_outcome, select_outcome}
+use Rattle.dialects_int.proofs.PairLaws.{one_ignored}
+use Rattle.ir_types.proofs.Widths.{literal_low}
+use Rattle.user_patterns_check.specs.Outcomes.{Outcome, checked, compare_outcome, divides, given, is_signed_remainder, is_some_number, no_value, pair_outcome, resize_any, resize_outcome, select_outcome}
 use Rattle.ir_types.specs.Readings.{literal_number, wrapped}
 use Rattle.user_patterns_data.specs.declared.pattern.Literal.{Literal}
 use Rattle.user_patterns_data.specs.Fitting.{kind_at}
@@ -24,10 +26,13 @@ use Rattle.width_claims.specs.declared.width.Narrower.{Narrower}
 use Rattle.width_claims.specs.PieceValues.{at}
 use Rattle.width_claims.specs.Right.{AreNarrower, IsBelow}
 use Rattle.user_patterns_claims.specs.declared.operand.Poison.{Poison}
+use Rattle.user_patterns_claims.specs.declared.operand.Poison.TheVariants as poison
 use Rattle.user_patterns_claims.specs.declared.operand.Operand.{Operand}
-use Rattle.user_patterns_claims.specs.Translation.{Flagged, Made, Result, cast_value, chosen_poison, compare_result, compare_value, either, first_there, is_narrower, left_literal, literal_times, operands_value, pair_result, pair_value, put, resize_result, result, right_literal, select_made, select_poison, select_result, strict, with_literal}
-use Rattle.user_patterns_claims.proofs.Pieces.{Base, Grown, Is, Makes, base_on, same, grown_next}
-use Rattle.user_patterns_claims.proofs.Forms.{PairMakes, compare_makes, pair_makes, put_cut, put_resize, put_select}
+use Rattle.user_patterns_claims.specs.Translation.{Flagged, Made, Result, cast_value, chosen_poison, compare_result, compare_value, divide_by, divide_result, either, first_result, first_there, is_narrower, is_number, is_shift, left_literal, literal_times, operand, operands_value, other_result, pair_result, pair_value, put, resize_result, result, right_literal, select_made, select_poison, select_result, shift, shift_by, shift_result, shifted, strict, too_far, with_literal}
+use Rattle.user_patterns_claims.proofs.Pieces.{Base, Grown, Is, Makes, base_on, grown_next, makes_next, makes_same, same}
+use Rattle.user_patterns_claims.proofs.Ranges.{value_below}
+use Rattle.user_patterns_claims.proofs.Shifting.{Shifts, ShiftsSome, far_is, shifts}
+use Rattle.user_patterns_claims.proofs.Forms.{PairMakes, compare_makes, pair_makes, put_cut, put_equal, put_number, put_resize, put_select}
 use Rattle.user_patterns_claims.proofs.Multiples.{LiteralMakes, TurnedMakes, times_value, with_makes}
 use Rattle.user_patterns_claims.proofs.Flags.{Flags, PoisonIs, also_is, chosen_is, either_is, or_false, poison_kept}
 
@@ -51,26 +56,59 @@ pub again : (x : Outcome) → pair_outcome op.And x x ≡ Some x
 again None = refl
 again (Some x) = ap (λ b. if b then Some (Some (x.0, bit_and x.1 x.1)) else None) (same_itself x.0) ∙ ap (λ n. Some (Some (x.0, n))) (and_self x.1)
 
-undivided : (o : Arithmetic) (k : BitsKind) (u v r : ℕ) → divides o ≡ false → value_of o (width_of k) u v ≡ Some r → (b c : Bool)
+undivided : (o : Arithmetic) (k : BitsKind) (u v r : ℕ) → divides o ≡ false → checked o k v (value_of o (width_of k) u v) ≡ Some (Some (k, r)) → (b c : Bool)
     → pair_outcome o (outcome_by k u b) (outcome_by k v c) ≡ Some (outcome_by k r (b || c))
 undivided o k u v r t e true c = ap (λ d. if d && not (is_some_number (outcome_by k v c)) then None else Some None) t
 undivided o k u v r t e false true = ap (λ d. if d then None else Some None) t
-undivided o k u v r t e false false = ap (λ d. if d then checked o k v (value_of o (width_of k) u v) else None) (same_itself k) ∙ ap (checked o k v) e
+undivided o k u v r t e false false = ap (λ d. if d then checked o k v (value_of o (width_of k) u v) else None) (same_itself k) ∙ e
 
 -- a division by a known number that isn't 0
-divided : (o : Arithmetic) (k : BitsKind) (u v r : ℕ) → (v == 0) ≡ false → value_of o (width_of k) u v ≡ Some r → (b : Bool) → pair_outcome o (outcome_by k u b) (Some (k, v)) ≡ Some (outcome_by k r b)
+divided : (o : Arithmetic) (k : BitsKind) (u v r : ℕ) → (v == 0) ≡ false → checked o k v (value_of o (width_of k) u v) ≡ Some (Some (k, r)) → (b : Bool) → pair_outcome o (outcome_by k u b) (Some (k, v)) ≡ Some (outcome_by k r b)
 divided o k u v r t e true = ap (λ d. if divides o && not (not d) then None else Some None) t ∙ ap (λ d. if d then None else Some None) (and_false (divides o))
   where
     and_false : (d : Bool) → (d && false) ≡ false
     and_false true = refl
     and_false false = refl
-divided o k u v r t e false = ap (λ d. if d then checked o k v (value_of o (width_of k) u v) else None) (same_itself k) ∙ ap (checked o k v) e
+divided o k u v r t e false = ap (λ d. if d then checked o k v (value_of o (width_of k) u v) else None) (same_itself k) ∙ e
 
-pair_of : (o : Arithmetic) (k : BitsKind) (u v r : ℕ) (b c : Bool) → (divides o ≡ false) ⊎ (((v == 0) ≡ false) × (c ≡ false)) → value_of o (width_of k) u v ≡ Some r
+pair_of : (o : Arithmetic) (k : BitsKind) (u v r : ℕ) (b c : Bool) → (divides o ≡ false) ⊎ (((v == 0) ≡ false) × (c ≡ false)) → checked o k v (value_of o (width_of k) u v) ≡ Some (Some (k, r))
     → pair_outcome o (outcome_by k u b) (outcome_by k v c) ≡ Some (outcome_by k r (b || c))
 pair_of o k u v r b c (inl t) e = undivided o k u v r t e b c
 pair_of o k u v r b c (inr t) e =
     ap (λ d. pair_outcome o (outcome_by k u b) (outcome_by k v d)) t.1 ∙ divided o k u v r t.0 e b ∙ ap (λ d. Some (outcome_by k r d)) (sym (ap (λ d. b || d) t.1 ∙ or_false b))
+
+-- a shift, which is poison if the amount is the width or more
+shift_of : (o : Arithmetic) (k : BitsKind) (u v r : ℕ) (b : Bool) → divides o ≡ false → is_signed_remainder o ≡ false → value_of o (width_of k) u v ≡ (if nat_lt v (width_of k) then Some r else None)
+    → pair_outcome o (outcome_by k u b) (Some (k, v)) ≡ Some (outcome_by k r (b || not (nat_lt v (width_of k))))
+shift_of o k u v r true t m e = ap (λ d. if d && not (is_some_number (Some (k, v))) then None else Some None) t
+shift_of o k u v r false t m e = ap (λ d. if d then checked o k v (value_of o (width_of k) u v) else None) (same_itself k) ∙ ap (checked o k v) e ∙ go (nat_lt v (width_of k))
+  where
+    go : (c : Bool) → checked o k v (if c then Some r else None) ≡ Some (outcome_by k r (not c))
+    go true = refl
+    go false = ap (λ d. if d && not (v == 0) then Some (Some (k, 0)) else no_value o) m ∙ ap (λ d. if d then None else Some None) t
+
+-- the signed quotient by 1 is the dividend, where it is defined
+quotient_of_one : (k : BitsKind) (u : ℕ) (b : Bool) → 1 ≤ width_of k → u < 2 ^ width_of k
+    → (pair_outcome op.DivideSigned (outcome_by k u b) (Some (k, 1)) ≡ None) ⊎ (pair_outcome op.DivideSigned (outcome_by k u b) (Some (k, 1)) ≡ Some (outcome_by k u b))
+quotient_of_one k u true some below = inr refl
+quotient_of_one k u false some below = go (value_of op.DivideSigned (width_of k) u 1) refl
+  where
+    first : pair_outcome op.DivideSigned (Some (k, u)) (Some (k, 1)) ≡ checked op.DivideSigned k 1 (value_of op.DivideSigned (width_of k) u 1)
+    first = ap (λ d. if d then checked op.DivideSigned k 1 (value_of op.DivideSigned (width_of k) u 1) else None) (same_itself k)
+
+    go : (r : Option ℕ) → value_of op.DivideSigned (width_of k) u 1 ≡ r
+        → (pair_outcome op.DivideSigned (Some (k, u)) (Some (k, 1)) ≡ None) ⊎ (pair_outcome op.DivideSigned (Some (k, u)) (Some (k, 1)) ≡ Some (Some (k, u)))
+    go None e = inl (first ∙ ap (checked op.DivideSigned k 1) e)
+    go (Some v) e = inr (first ∙ ap (checked op.DivideSigned k 1) e ∙ ap (λ n. Some (Some (k, n))) (one_ignored op.DivideSigned (width_of k) u v some below refl e))
+
+literal_one : (w : ℕ) (l : Literal) → l.magnitude < 2 ^ w → is_number 1 l ≡ true → wrapped w (literal_number l.negative l.magnitude) ≡ 1
+literal_one w l low e =
+    let f = and_parts (not l.negative) (l.magnitude == 1) e in
+    (λ r. wrapped w (literal_number (positive l.negative f.0 r) l.magnitude)) ∙ sym (literal_low w l.magnitude low) ∙ eqb-true l.magnitude 1 f.1
+  where
+    positive : (c : Bool) → not c ≡ true → c ≡ false
+    positive true g = absurd (true≢false (sym g))
+    positive false g = refl
 
 compare_of : (q : Predicate) (k : BitsKind) (u v : ℕ) (b c : Bool) → compare_outcome q (outcome_by k u b) (outcome_by k v c) ≡ Some (outcome_by (kind.Int 1) (truth (comparison_of (width_of k) q u v)) (b || c))
 compare_of q k u v true c = refl
@@ -171,7 +209,7 @@ module _ (W : ℕ) (vs : List ℕ) (js : List BitsKind) (first : kind_at js 0 �
       record IsMade (o : Arithmetic) (m : Made) : Type 0 where
         total : (divides o ≡ false) ⊎ (((u.number == 0) ≡ false) × (u.poisoned ≡ false))
         value : ℕ
-        value_is : value_of o (at widths x.ty) s.number u.number ≡ Some value
+        value_is : (k : BitsKind) → checked o k u.number (value_of o (at widths x.ty) s.number u.number) ≡ Some (Some (k, value))
         makes : Makes W vs widths ps m x.ty value
 
       abbrev IsMadeSome : Arithmetic → Option Made → Type 0
@@ -184,7 +222,7 @@ module _ (W : ℕ) (vs : List ℕ) (js : List BitsKind) (first : kind_at js 0 �
 
       plain_made : (e : (x.ty == y.ty) ≡ true) (o : Arithmetic) (m : Option Made) → PairMakes W vs widths ps base x.value y.value x.ty s.number u.number s.number_is (of_type e) o m → IsMadeSome o m
       plain_made e o None i = tt
-      plain_made e o (Some m) i = record { total = inl i.total; value = i.value; value_is = i.value_is; makes = i.makes }
+      plain_made e o (Some m) i = record { total = inl i.total; value = i.value; value_is = λ k. ap (checked o k u.number) i.value_is; makes = i.makes }
 
       right_made : (e : (x.ty == y.ty) ≡ true) (o : Arithmetic) (l : Option Literal) → WrittenIs l (at widths x.ty) u.number u.poisoned → IsMadeSome o (given l (λ l. with_literal o x.ty x.value l ps))
       right_made e o None w = tt
@@ -204,29 +242,136 @@ module _ (W : ℕ) (vs : List ℕ) (js : List BitsKind) (first : kind_at js 0 �
         where
           on : (m : Option Made) → TurnedMakes W vs widths x.ty y.value u.number l s.number w.0 w.1 ps base (of_type e) o m → IsMadeSome o m
           on None i = tt
-          on (Some m) i = record { total = inl i.total; value = i.value; value_is = i.value_is; makes = i.makes }
+          on (Some m) i = record { total = inl i.total; value = i.value; value_is = λ k. ap (checked o k u.number) i.value_is; makes = i.makes }
+
+      written_of : (x.ty == y.ty) ≡ true → WrittenIs y.written (at widths x.ty) u.number u.poisoned
+      written_of e = subst (λ (t : ℕ). WrittenIs y.written (at widths t) u.number u.poisoned) (sym (eqb-true x.ty y.ty e)) u.written_is
 
       operands_made : (e : (x.ty == y.ty) ≡ true) (o : Arithmetic) → IsMadeSome o (operands_value o x y ps)
       unfolding operands_value
       operands_made e o =
           first_made o (right_literal o x y ps) (first_there (left_literal o x y ps) (pair_value o x.ty x.value y.value ps))
-          (right_made e o y.written (subst (λ (t : ℕ). WrittenIs y.written (at widths t) u.number u.poisoned) (sym (eqb-true x.ty y.ty e)) u.written_is))
+          (right_made e o y.written (written_of e))
           (first_made o (left_literal o x y ps) (pair_value o x.ty x.value y.value ps) (left_made e o x.written s.written_is)
           (plain_made e o (pair_value o x.ty x.value y.value ps) (pair_makes W vs widths ps base x.value y.value x.ty s.number u.number s.number_is (of_type e) o)))
 
-      pair_made : (e : (x.ty == y.ty) ≡ true) (o : Arithmetic) (m : Option Made) → IsMadeSome o m → GivesSome ps (pair_outcome o p q) (given m (λ m. Some (strict m x.ty x.poison y.poison)))
-      pair_made e o None i = tt
-      pair_made e o (Some m) i =
+      other_made : (e : (x.ty == y.ty) ≡ true) (o : Arithmetic) (m : Option Made) → IsMadeSome o m → GivesSome ps (pair_outcome o p q) (given m (λ m. Some (strict m x.ty x.poison y.poison)))
+      other_made e o None i = tt
+      other_made e o (Some m) i =
           gives_strict ps base (pair_outcome o p q) m x.ty i.value x.poison y.poison s.poisoned u.poisoned i.makes s.poison_is u.poison_is
           ((λ r. pair_outcome o (s.is r) (same_kind_of e r))
-          ∙ pair_of o (kind_at js x.ty) s.number u.number i.value s.poisoned u.poisoned i.total (ap (λ w. value_of o w s.number u.number) (sym (width_is js x.ty)) ∙ i.value_is))
+          ∙ pair_of o (kind_at js x.ty) s.number u.number i.value s.poisoned u.poisoned i.total
+          (ap (λ w. checked o (kind_at js x.ty) u.number (value_of o w s.number u.number)) (sym (width_is js x.ty)) ∙ i.value_is (kind_at js x.ty)))
+
+      -- the truth that a shift is poison
+      far_makes : (qs : List Expr) (n : ℕ) → Base W vs widths qs → Makes W vs widths qs (too_far n x.ty qs) 0 (truth (not (nat_lt n (at widths x.ty))))
+      far_makes qs n b =
+          let w = at widths x.ty in
+          let m = put qs x.ty (form.Literal (2 ^ n)) in
+          let a = put_number W vs widths qs b x.ty (2 ^ n) s.number_is.low in
+          let c = base_on W vs widths qs m.0 b a.grown in
+          let power = wrapped w (literal_number false (2 ^ n)) in
+          let equal = put_equal W vs widths m.0 c 0 m.1 0 x.ty 0 power c.zero_is a.is in
+          makes_next W vs widths qs m (too_far n x.ty qs) x.ty 0 power (truth (not (nat_lt n w))) a
+          (makes_same W vs widths m.0 (too_far n x.ty qs) 0 (truth (0 == power)) (truth (not (nat_lt n w))) (ap truth (far_is w n)) equal)
+
+      shift_strict : (o : Arithmetic) (n : ℕ) (m : Made) → Shifts W vs widths x.ty s.number n ps o m → pair_outcome o p q ≡ pair_outcome o (outcome_by (kind_at js x.ty) s.number s.poisoned) (Some (kind_at js x.ty, n))
+          → Gives ps (pair_outcome o p q) (shift_result x.ty x.poison m (too_far n x.ty m.0))
+      shift_strict o n m i both =
+          let k = kind_at js x.ty in
+          let far = too_far n x.ty m.0 in
+          let b = base_on W vs widths ps m.0 base i.makes.grown in
+          let a = far_makes m.0 n b in
+          let c = base_on W vs widths m.0 far.0 b a.grown in
+          let up = grown_next W vs widths ps m.0 far.0 i.makes.grown a.grown in
+          let w = width_is js x.ty in
+          let gives = gives_strict far.0 c (pair_outcome o p q) (far.0, m.1) x.ty i.value x.poison (poison.When far.1) s.poisoned (not (nat_lt n (at widths x.ty)))
+          (record { grown = same W vs widths far.0 c.right; is = a.grown.kept m.1 x.ty i.value i.makes.is })
+          (poison_kept W vs widths ps far.0 x.poison s.poisoned up s.poison_is) a.is
+          (both ∙ shift_of o k s.number n i.value s.poisoned i.total i.remains ((λ r. value_of o (sym w r) s.number n) ∙ i.value_is ∙ (λ r. if nat_lt n (w r) then Some i.value else None))
+          ∙ (λ r. Some (outcome_by k i.value (s.poisoned || not (nat_lt n (sym w r)))))) in
+          record {
+            outcome = gives.outcome;
+            is = gives.is;
+            grown = grown_next W vs widths ps far.0 (shift_result x.ty x.poison m far).0 up gives.grown;
+            stands = gives.stands;
+          }
+
+      shift_gives : (e : (x.ty == y.ty) ≡ true) (o : Arithmetic) → GivesSome ps (pair_outcome o p q) (shift o x y ps)
+      shift_gives e o = on y.written (written_of e)
+        where
+          by : (l : Literal) → WrittenIs (Some l) (at widths x.ty) u.number u.poisoned → l.negative ≡ false → (m : Option Made) → ShiftsSome W vs widths x.ty s.number l.magnitude ps o m
+              → GivesSome ps (pair_outcome o p q) (given m (λ m. Some (shift_result x.ty x.poison m (too_far l.magnitude x.ty m.0))))
+          by l w positive None i = tt
+          by l w positive (Some m) i =
+              let number : u.number ≡ l.magnitude = w.0 ∙ (λ r. wrapped (at widths x.ty) (literal_number (positive r) l.magnitude)) ∙ sym (literal_low (at widths x.ty) l.magnitude w.1) in
+              shift_strict o l.magnitude m i
+              ((λ r. pair_outcome o (s.is r) (same_kind_of e r)) ∙ (λ r. pair_outcome o (outcome_by (kind_at js x.ty) s.number s.poisoned) (outcome_by (kind_at js x.ty) (number r) (w.2 r))))
+
+          fits : (l : Literal) → WrittenIs (Some l) (at widths x.ty) u.number u.poisoned → (c : Bool) → is_shift l ≡ c
+              → GivesSome ps (pair_outcome o p q) (if c then given (shifted o l.magnitude x.ty x.value ps) (λ m. Some (shift_result x.ty x.poison m (too_far l.magnitude x.ty m.0))) else None)
+          fits l w false f = tt
+          fits l w true f =
+              let h = and_parts (not l.negative) (nat_lt 0 l.magnitude && nat_lt l.magnitude 32) f in
+              by l w (positive l.negative h.0) (shifted o l.magnitude x.ty x.value ps) (shifts W vs widths x.ty l.magnitude x.value s.number ps base s.number_is o)
+            where
+              positive : (c : Bool) → not c ≡ true → c ≡ false
+              positive true g = absurd (true≢false (sym g))
+              positive false g = refl
+
+          on : (l : Option Literal) → WrittenIs l (at widths x.ty) u.number u.poisoned → GivesSome ps (pair_outcome o p q) (given l (λ l. shift_by o x l ps))
+          on None w = tt
+          on (Some l) w = fits l w (is_shift l) refl
 
       pub pair_gives : (o : Arithmetic) → GivesSome ps (pair_outcome o p q) (pair_result o x y ps)
       pair_gives o = go (x.ty == y.ty) refl
         where
-          go : (b : Bool) → (x.ty == y.ty) ≡ b → GivesSome ps (pair_outcome o p q) (if b then given (operands_value o x y ps) (λ m. Some (strict m x.ty x.poison y.poison)) else None)
+          earlier : (a b : Option Result) → GivesSome ps (pair_outcome o p q) a → GivesSome ps (pair_outcome o p q) b → GivesSome ps (pair_outcome o p q) (first_result a b)
+          earlier None b g h = h
+          earlier (Some r) b g h = g
+
+          go : (b : Bool) → (x.ty == y.ty) ≡ b → GivesSome ps (pair_outcome o p q) (if b then first_result (shift o x y ps) (other_result o x y ps) else None)
           go false e = tt
-          go true e = pair_made e o (operands_value o x y ps) (operands_made e o)
+          go true e = earlier (shift o x y ps) (other_result o x y ps) (shift_gives e o) (other_made e o (operands_value o x y ps) (operands_made e o))
+
+      -- a signed division that is undefined, or has a quotient
+      abbrev pub Divides : Option Outcome → Option Operand → Type 0
+      Divides r None = Unit {0}
+      Divides r (Some d) = (r ≡ None) ⊎ Gives ps r (ps, d)
+
+      pub divide_gives : Divides (pair_outcome op.DivideSigned p q) (divide_result x y)
+      divide_gives = go (x.ty == y.ty) refl
+        where
+          by_one : (e : (x.ty == y.ty) ≡ true) → u.number ≡ 1 → u.poisoned ≡ false → Divides (pair_outcome op.DivideSigned p q) (Some (operand x.value x.poison x.ty))
+          by_one e one known =
+              let k = kind_at js x.ty in
+              let w = width_is js x.ty in
+              let some = s.number_is.low.0 in
+              let below = value_below W vs widths ps x.value x.ty s.number base.right s.number_is in
+              let both : pair_outcome op.DivideSigned p q ≡ pair_outcome op.DivideSigned (outcome_by k s.number s.poisoned) (Some (k, 1)) =
+              (λ r. pair_outcome op.DivideSigned (s.is r) (same_kind_of e r)) ∙ (λ r. pair_outcome op.DivideSigned (outcome_by k s.number s.poisoned) (outcome_by k (one r) (known r))) in
+              elim (quotient_of_one k s.number s.poisoned (subst (λ (n : ℕ). 1 ≤ n) w some) (subst (λ (n : ℕ). s.number < 2 ^ n) w below)) [
+                | inl f ↦ inl (both ∙ f)
+                | inr f ↦ inr (record {
+                  outcome = outcome_by k s.number s.poisoned;
+                  is = both ∙ f;
+                  grown = same W vs widths ps base.right;
+                  stands = record { number = s.number; poisoned = s.poisoned; number_is = s.number_is; poison_is = s.poison_is; is = refl; written_is = tt };
+                })
+              ]
+
+          with_one : (e : (x.ty == y.ty) ≡ true) (l : Literal) → WrittenIs (Some l) (at widths x.ty) u.number u.poisoned → (c : Bool) → is_number 1 l ≡ c
+              → Divides (pair_outcome op.DivideSigned p q) (if c then Some (operand x.value x.poison x.ty) else None)
+          with_one e l w false f = tt
+          with_one e l w true f = by_one e (w.0 ∙ literal_one (at widths x.ty) l w.1 f) w.2
+
+          on : (e : (x.ty == y.ty) ≡ true) (l : Option Literal) → WrittenIs l (at widths x.ty) u.number u.poisoned → Divides (pair_outcome op.DivideSigned p q) (given l (divide_by x))
+          on e None w = tt
+          on e (Some l) w = with_one e l w (is_number 1 l) refl
+
+          go : (b : Bool) → (x.ty == y.ty) ≡ b → Divides (pair_outcome op.DivideSigned p q) (if b then given y.written (divide_by x) else None)
+          go false e = tt
+          go true e = on e y.written (written_of e)
 
       pub compare_gives : (o : Predicate) → GivesSome ps (compare_outcome o p q) (compare_result o x y ps)
       compare_gives o = go (x.ty == y.ty) refl

@@ -1,5 +1,5 @@
 -- The outcomes of variables, and the widths of a claim's types.
-use Rattle.std.proofs.Common.{◌≡◌, ◌∙◌, ℕ, ◌+◌, ◌-◌, ◌*◌, ◌/◌, ◌%◌, ◌^◌, ◌<◌, ◌≤◌, List, [], ◌∷◌, ◌++◌, length, length-append, map, Bool, true, false, true≢false, ◌&&◌, nat_lt, if◌then◌else◌, Option, Some, None, refl, sym, ap, subst, arith}
+use Rattle.std.proofs.Common.{◌≡◌, ◌∙◌, ℕ, ◌+◌, ◌*◌, ◌/◌, ◌%◌, ◌^◌, ◌<◌, ◌≤◌, List, [], ◌∷◌, ◌++◌, length, length-append, map, Bool, true, false, true≢false, ◌&&◌, nat_lt, if◌then◌else◌, Option, Some, None, refl, sym, ap, subst, arith}
 use Rattle.std.specs.Prelude.{is_none}
 use Rattle.std.specs.List.{list_all}
 use Rattle.std.proofs.lemmas.Bool.{and_parts}
@@ -50,11 +50,11 @@ fit_next W pre m rest tys us f =
 -- the type of a kind
 abbrev FitsOne : ℕ → List ℕ → ℕ → Width → ℕ → Type 0
 FitsOne W vs v width.Free w = IsBelow W w × (at vs v ≡ mask w)
-FitsOne W vs v (width.Fixed m) w = IsBelow W w × (m ≡ mask w)
+FitsOne W vs v (width.Fixed u) w = IsBelow W w × (u ≡ w)
 
 fit_cons : (W : ℕ) (vs : List ℕ) (v : ℕ) (t : Width) (w : ℕ) (tys : List Width) (us : List ℕ) → FitsOne W vs v t w → FitWidths W vs (v + 1) tys us → FitWidths W vs v (t ∷ tys) (w ∷ us)
 fit_cons W vs v width.Free w tys us f rest = (f.0, f.1, rest)
-fit_cons W vs v (width.Fixed m) w tys us f rest = (f.0, f.1, rest)
+fit_cons W vs v (width.Fixed u) w tys us f rest = (f.0, f.1, rest)
 
 fit_more : (W : ℕ) → most_width ≤ W → (all value_types : List PatternType) (ks : List BitsKind) (i : ℕ) (pre : List ℕ) → AreKindsOf value_types ks → are_kinds ks ≡ true
     → FitWidths W (pre ++ masks_of (kinds_from all i value_types ks)) (length pre) (types_from all i value_types) (map width_of (kinds_from all i value_types ks))
@@ -74,7 +74,7 @@ fit_more W most all (ty.Concrete k ∷ value_types) (j ∷ ks) i pre a w =
     one : (b : Bool) → is_width (width_of j) ≡ true
         → FitsOne W (pre ++ (mask (width_of (kind_if b j)) ∷ masks_of (kinds_from all (i + 1) value_types ks))) (length pre) (width_if b (ty.Concrete k)) (width_of (kind_if b j))
     one true g = (width_low W 1 most refl, refl)
-    one false g = (width_low W (width_of j) most g, ap (λ c. 2 ^ width_of c - 1) (sym a.0))
+    one false g = (width_low W (width_of j) most g, ap width_of (sym a.0))
 fit_more W most all (ty.Variable v ∷ value_types) (j ∷ ks) i pre a w =
     let h = and_parts (is_width (width_of j)) (are_kinds ks) w in
     let c = is_repeated i all (ty.Variable v) in
@@ -243,11 +243,9 @@ module _ (W : ℕ) (most : most_width ≤ W) (vs : List ℕ) (p : PatternModel) 
   unfolding wrapped
   first_holds =
       let low = width_low W 1 most refl in
-      let low_number : 1 < 2 ^ at us 0 = omega arith in
-      let zero_right : 0 < 2 ^ at us 0 = omega arith in
       record {
         base = record {
-          right = (low, zero_right, (low, low_number, tt));
+          right = (low, tt, (low, tt, tt));
           zero_is = record { below = omega arith; type = refl; value = zero_value; low = low };
           one_is = record { below = omega arith; type = refl; value = one_value; low = low };
         };

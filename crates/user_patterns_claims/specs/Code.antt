@@ -33,6 +33,11 @@ abbrev pub IsResultIf : Option Result → List Expr → Option Operand → Type 
 IsResultIf None new r = r ≡ None
 IsResultIf (Some q) new r = (new ≡ q.0) × (r ≡ Some q.1)
 
+-- the same, or the old expressions and no operand
+abbrev pub IsResultOr : Option Result → List Expr → List Expr → Option Operand → Type 0
+IsResultOr None old new r = (new ≡ old) × (r ≡ None)
+IsResultOr (Some q) old new r = (new ≡ q.0) × (r ≡ Some q.1)
+
 -- a state as three lists, and the lists after a call that returns whether there is a state
 abbrev pub state : List Expr → List Operand → List ℕ → State
 state ps os hs = record { exprs = ps; operands = os; conditions = hs }
@@ -40,6 +45,11 @@ state ps os hs = record { exprs = ps; operands = os; conditions = hs }
 abbrev pub IsStateIf : Option State → List Expr → List Operand → List ℕ → Bool → Type 0
 IsStateIf None ps os hs done = done ≡ false
 IsStateIf (Some s) ps os hs done = (done ≡ true) × (ps ≡ s.exprs) × (os ≡ s.operands) × (hs ≡ s.conditions)
+
+-- one more operand, if there is a result
+abbrev pub IsPlain : Option Result → List Operand → List Expr → List Operand → Bool → Type 0
+IsPlain None old ps os done = done ≡ false
+IsPlain (Some r) old ps os done = (done ≡ true) × (ps ≡ r.0) × (os ≡ old ++ (r.1 ∷ []))
 
 -- the widths of types from number i on, if the call returns that all are there
 abbrev pub AreWidths : List PatternType → ℕ → List PatternType → List Width → List Width → Bool → Type 0

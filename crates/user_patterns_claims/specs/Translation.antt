@@ -1,6 +1,6 @@
 -- A pattern as claims. Each place of the pattern has an expression that computes its value, and a flag for its
 -- poison. There is one claim for each set of poison variables.
-use Rattle.std.specs.Prelude.{ℕ, zero, suc, ◌+◌, ◌-◌, ◌*◌, ◌/◌, ◌%◌, ◌^◌, ◌==◌, List, [], ◌∷◌, ◌++◌, map, length, Bool, false, ◌&&◌, ◌||◌, not, eqb, nat_le, nat_lt, if◌then◌else◌, Option, Some, None, slice_get}
+use Rattle.std.specs.Prelude.{ℕ, zero, suc, ◌+◌, ◌-◌, ◌*◌, ◌/◌, ◌%◌, ◌^◌, ◌==◌, List, [], ◌∷◌, ◌++◌, map, length, Bool, true, false, ◌&&◌, ◌||◌, not, eqb, nat_le, nat_lt, if◌then◌else◌, Option, Some, None, slice_get}
 use Rattle.std.specs.List.{list_any}
 use Rattle.ir_types.specs.declared.bits.BitsKind.{BitsKind}
 use Rattle.ir_types.specs.declared.bits.BitsKind.TheVariants as kind
@@ -74,7 +74,7 @@ type_at ks t = given (slice_get ks t) (λ k. type_if (is_repeated t ks k) t k)
 
 -- the widths of a claim's types; a type without a number is i1 there
 abbrev pub width_at : PatternType → Width
-width_at (ty.Concrete k) = width.Fixed (2 ^ width_of k - 1)
+width_at (ty.Concrete k) = width.Fixed (width_of k)
 width_at (ty.Variable v) = width.Free
 
 abbrev pub width_if : Bool → PatternType → Width
@@ -175,14 +175,35 @@ multiple l t i ps = if l.negative then opposite t (times l.magnitude l.magnitude
 abbrev pub is_number : ℕ → Literal → Bool
 is_number n l = not l.negative && (l.magnitude == n)
 
+-- the quotient of the value at a place by n, if n is from 1 to 2^32
+abbrev pub quotient : ℕ → ℕ → ℕ → List Expr → Option Made
+quotient n t i ps =
+    if n == 1 then Some (ps, i) else if n == 0 then None else if nat_le n 4294967296 then Some (put ps t (form.Quotient i (n - 1))) else None
+
+abbrev pub quotient_by : Literal → ℕ → ℕ → List Expr → Option Made
+quotient_by l t i ps = if l.negative then None else quotient l.magnitude t i ps
+
+-- the value without a product
+abbrev pub without : ℕ → ℕ → Made → Made
+without t i m = put m.0 t (form.Subtract i m.1)
+
+-- the remainder: the value without the product of the quotient and the divisor
+abbrev pub remainder : ℕ → ℕ → ℕ → Made → Made
+remainder n t i m = without t i (times n n t m.1 m.0)
+
+abbrev pub remainder_by : Literal → ℕ → ℕ → List Expr → Option Made
+remainder_by l t i ps =
+    if is_number 1 l then Some (put ps t (form.Literal 0)) else given (quotient_by l t i ps) (λ m. Some (remainder l.magnitude t i m))
+
 -- an operation on a value of a type and a literal
 abbrev pub with_literal : Arithmetic → ℕ → ℕ → Literal → List Expr → Option Made
 with_literal op.Multiply t i l ps = Some (multiple l t i ps)
 with_literal op.ShiftLeft t i l ps = if is_number 0 l then Some (put ps t (form.Cut i)) else None
 with_literal op.ShiftRightUnsigned t i l ps = if is_number 0 l then Some (ps, i) else None
 with_literal op.ShiftRightSigned t i l ps = if is_number 0 l then Some (put ps t (form.Resize t i)) else None
-with_literal op.DivideUnsigned t i l ps = if is_number 1 l then Some (ps, i) else None
-with_literal op.RemainderUnsigned t i l ps = if is_number 1 l then Some (put ps t (form.Literal 0)) else None
+with_literal op.DivideUnsigned t i l ps = quotient_by l t i ps
+with_literal op.RemainderUnsigned t i l ps = remainder_by l t i ps
+with_literal op.RemainderSigned t i l ps = if is_number 1 l then Some (put ps t (form.Literal 0)) else None
 with_literal _ t i l ps = None
 
 -- a literal times a value
@@ -222,7 +243,18 @@ chosen_poison c f g ps = flag_by (put ps 0 (form.Select c (flag_place f) (flag_p
 -- ---- operands
 
 abbrev pub operand : ℕ → Poison → ℕ → Operand
-operand i f t = record { value = i; poison = f; ty = t; written = None }
+operand i f t = record { value = i; poison = f; ty = t; written = None; known = true }
+
+-- an operand that no expression computes
+abbrev pub unknown : Operand
+unknown = record { value = 0; poison = poison.Never; ty = 0; written = None; known = false }
+
+-- the operand at a place, if an expression computes it
+abbrev pub if_known : Operand → Option Operand
+if_known o = if o.known then Some o else None
+
+abbrev pub operand_at : List Operand → ℕ → Option Operand
+operand_at os i = given (slice_get os i) if_known
 
 -- the expressions, and an operand
 abbrev pub Result : Type 0
@@ -248,8 +280,77 @@ left_literal o x y ps = given x.written (λ l. literal_times o x.ty y.value l ps
 unfoldable pub operands_value : Arithmetic → Operand → Operand → List Expr → Option Made
 operands_value o x y ps = first_there (right_literal o x y ps) (first_there (left_literal o x y ps) (pair_value o x.ty x.value y.value ps))
 
+-- ---- shifts by a literal
+
+-- a value shifted to the right by n bits: its quotient by 2^n
+abbrev pub right_of : ℕ → ℕ → Made → Made
+right_of n t m = put m.0 t (form.Quotient m.1 (2 ^ n - 1))
+
+-- a value whose bits are exchanged if the truth at place c is 1; the value at place m is -1
+abbrev pub exchanged_if : ℕ → ℕ → ℕ → Made → Made
+exchanged_if c t i m = put m.0 t (form.Select c m.1 i)
+
+abbrev pub exchanged : ℕ → ℕ → ℕ → Made → Made
+exchanged c m t r = exchanged_if c t r.1 (put r.0 t (form.ExclusiveOr r.1 m))
+
+-- a signed value shifted to the right: if it is negative, its bits are exchanged before and after
+abbrev pub by_sign : ℕ → ℕ → ℕ → ℕ → Made → Made
+by_sign m n t i c = exchanged c.1 m t (right_of n t (exchanged c.1 m t (c.0, i)))
+
+abbrev pub with_ones : ℕ → ℕ → ℕ → ℕ → Made → Made
+with_ones n t i z m = by_sign m.1 n t i (put m.0 0 (form.LessSigned t i z))
+
+abbrev pub with_zero : ℕ → ℕ → ℕ → Made → Made
+with_zero n t i z = with_ones n t i z.1 (put z.0 t (form.Negative 1))
+
+abbrev pub right_signed : ℕ → ℕ → ℕ → List Expr → Made
+right_signed n t i ps = with_zero n t i (put ps t (form.Literal 0))
+
+abbrev pub shifted : Arithmetic → ℕ → ℕ → ℕ → List Expr → Option Made
+shifted op.ShiftLeft n t i ps = Some (times (2 ^ n) (2 ^ n) t i ps)
+shifted op.ShiftRightUnsigned n t i ps = Some (right_of n t (ps, i))
+shifted op.ShiftRightSigned n t i ps = Some (right_signed n t i ps)
+shifted _ n t i ps = None
+
+-- the shift is poison if 2^n isn't a number of the type
+abbrev pub is_none : Made → Made
+is_none m = put m.0 0 (form.Same 0 m.1)
+
+abbrev pub too_far : ℕ → ℕ → List Expr → Made
+too_far n t ps = is_none (put ps t (form.Literal (2 ^ n)))
+
+abbrev pub shift_result : ℕ → Poison → Made → Made → Result
+shift_result t f m far = strict (far.0, m.1) t f (poison.When far.1)
+
+-- the literals from 1 to 31
+abbrev pub is_shift : Literal → Bool
+is_shift l = not l.negative && (nat_lt 0 l.magnitude && nat_lt l.magnitude 32)
+
+abbrev pub shift_by : Arithmetic → Operand → Literal → List Expr → Option Result
+shift_by o x l ps =
+    if is_shift l then given (shifted o l.magnitude x.ty x.value ps) (λ m. Some (shift_result x.ty x.poison m (too_far l.magnitude x.ty m.0))) else None
+
+abbrev pub shift : Arithmetic → Operand → Operand → List Expr → Option Result
+shift o x y ps = given y.written (λ l. shift_by o x l ps)
+
+-- ---- operations on operands
+
+abbrev pub first_result : Option Result → Option Result → Option Result
+first_result None r = r
+first_result (Some q) r = Some q
+
+abbrev pub other_result : Arithmetic → Operand → Operand → List Expr → Option Result
+other_result o x y ps = given (operands_value o x y ps) (λ m. Some (strict m x.ty x.poison y.poison))
+
 abbrev pub pair_result : Arithmetic → Operand → Operand → List Expr → Option Result
-pair_result o x y ps = if x.ty == y.ty then given (operands_value o x y ps) (λ m. Some (strict m x.ty x.poison y.poison)) else None
+pair_result o x y ps = if x.ty == y.ty then first_result (shift o x y ps) (other_result o x y ps) else None
+
+-- the quotient of a signed division by 1, where it is defined
+abbrev pub divide_by : Operand → Literal → Option Operand
+divide_by x l = if is_number 1 l then Some (operand x.value x.poison x.ty) else None
+
+abbrev pub divide_result : Operand → Operand → Option Operand
+divide_result x y = if x.ty == y.ty then given y.written (divide_by x) else None
 
 abbrev pub compare_result : Predicate → Operand → Operand → List Expr → Option Result
 compare_result q x y ps = if x.ty == y.ty then Some (strict (compare_value q x.ty x.value y.value ps) 0 x.poison y.poison) else None
@@ -293,8 +394,26 @@ abbrev pub required : State → Operand → Poison → Option State
 required s x poison.Never = Some (with_condition s x (put s.exprs 0 (form.Less 0 x.value)))
 required s x _ = None
 
+-- a number n is a power of two if and only if n - 1 is less than the exclusive disjunction of n and n - 1
+abbrev pub power_test : ℕ → Made → Made
+power_test i m = put m.0 0 (form.Less i m.1)
+
+abbrev pub power_bits : ℕ → ℕ → Made → Made
+power_bits i t m = power_test m.1 (put m.0 t (form.ExclusiveOr i m.1))
+
+abbrev pub power_less : ℕ → ℕ → Made → Made
+power_less i t m = power_bits i t (put m.0 t (form.Subtract i m.1))
+
+abbrev pub power_made : ℕ → ℕ → List Expr → Made
+power_made i t ps = power_less i t (put ps t (form.Literal 1))
+
+-- the operand of a logarithm must be a power of two, and the logarithm isn't known
+abbrev pub log_state : State → Operand → Poison → Option State
+log_state s x poison.Never = Some (with_condition s unknown (power_made x.value x.ty s.exprs))
+log_state s x _ = None
+
 abbrev pub literal_made : Made → Literal → ℕ → Result
-literal_made m l t = (m.0, record { value = m.1; poison = poison.Never; ty = t; written = Some l })
+literal_made m l t = (m.0, record { value = m.1; poison = poison.Never; ty = t; written = Some l; known = true })
 
 abbrev pub literal_result : Literal → List Expr → ℕ → Result
 literal_result l ps t = literal_made (put ps t (literal_form l)) l t
@@ -317,22 +436,27 @@ with_number small s l t r = if small then with_result s r else with_fitting s r 
 abbrev pub number_state : State → Literal → ℕ → State
 number_state s l t = with_number (nat_lt l.magnitude 2) s l t (literal_result l s.exprs t)
 
+abbrev pub unchanged : List Expr → Option Operand → Option Result
+unchanged ps r = given r (λ x. Some (ps, x))
+
 module _ (ks : List PatternType) (ns : List Narrower) where
   -- the operand of an instruction
   abbrev pub result_of : Instruction → List Operand → List Expr → Option Result
   result_of (instruction.Number l) os ps = None
-  result_of (instruction.Copy i) os ps = given (slice_get os i) (λ x. Some (ps, x))
-  result_of (instruction.Pair o i j) os ps = given (slice_get os i) (λ x. given (slice_get os j) (λ y. pair_result o x y ps))
-  result_of (instruction.Compare q i j) os ps = given (slice_get os i) (λ x. given (slice_get os j) (λ y. compare_result q x y ps))
-  result_of (instruction.Select c i j) os ps = given (slice_get os c) (λ b. given (slice_get os i) (λ x. given (slice_get os j) (λ y. select_result b x y ps)))
-  result_of (instruction.Resize c u i) os ps = given (slice_get os i) (λ x. given (type_at ks u) (λ t. resize_result ns c t x ps))
+  result_of (instruction.Copy i) os ps = given (operand_at os i) (λ x. Some (ps, x))
+  result_of (instruction.Pair o i j) os ps = given (operand_at os i) (λ x. given (operand_at os j) (λ y. pair_result o x y ps))
+  result_of (instruction.Divide i j) os ps = given (operand_at os i) (λ x. given (operand_at os j) (λ y. unchanged ps (divide_result x y)))
+  result_of (instruction.Compare q i j) os ps = given (operand_at os i) (λ x. given (operand_at os j) (λ y. compare_result q x y ps))
+  result_of (instruction.Select c i j) os ps = given (operand_at os c) (λ b. given (operand_at os i) (λ x. given (operand_at os j) (λ y. select_result b x y ps)))
+  result_of (instruction.Resize c u i) os ps = given (operand_at os i) (λ x. given (type_at ks u) (λ t. resize_result ns c t x ps))
   result_of (instruction.Require i) os ps = None
   result_of (instruction.Width t) os ps = None
   result_of (instruction.Log i) os ps = None
 
-  abbrev pub translated : Instruction → State → Option State
+  unfoldable pub translated : Instruction → State → Option State
   translated (instruction.Number l) s = given (type_at ks l.ty) (λ t. Some (number_state s l t))
-  translated (instruction.Require i) s = given (slice_get s.operands i) (λ x. required s x x.poison)
+  translated (instruction.Require i) s = given (operand_at s.operands i) (λ x. required s x x.poison)
+  translated (instruction.Log i) s = given (operand_at s.operands i) (λ x. log_state s x x.poison)
   translated n s = with_some s (result_of n s.operands s.exprs)
 
   abbrev pub all_translated : List Instruction → State → Option State
@@ -359,18 +483,23 @@ form_instruction t (op_form.Select c i j) = instruction.Select c i j
 form_instruction t (op_form.IntegerCast c i) = instruction.Resize c t i
 form_instruction t (op_form.IndexCast c i) = instruction.Resize c t i
 
-abbrev pub piece_instruction : matched.PatternOp → Instruction
-piece_instruction p = form_instruction p.ty p.form
+-- an old division may be undefined: then the new side may compute anything
+abbrev pub old_form : ℕ → registry.Expression → Instruction
+old_form t (op_form.Binary op.DivideSigned i j) = instruction.Divide i j
+old_form t f = form_instruction t f
+
+abbrev pub old_instruction : matched.PatternOp → Instruction
+old_instruction p = old_form p.ty p.form
 
 abbrev pub new_instruction : NewValue → Instruction
-new_instruction (new.Operation p) = piece_instruction p
+new_instruction (new.Operation p) = form_instruction p.ty p.form
 new_instruction (new.Constant i t) = instruction.Copy i
 
 abbrev pub given_instructions : PatternModel → List Instruction
 given_instructions p = map extra_instruction p.extra ++ map number_instruction p.given
 
 abbrev pub old_instructions : PatternModel → List Instruction
-old_instructions p = map piece_instruction p.old
+old_instructions p = map old_instruction p.old
 
 abbrev pub new_instructions : PatternModel → List Instruction
 new_instructions p = map new_instruction p.new
@@ -464,6 +593,6 @@ goal_of p set =
     given (variables p 0 p.values set first_state) (λ a.
     given (all_translated p.value_types ns (given_instructions p) a) (λ b.
     given (all_translated p.value_types ns (old_instructions p) b) (λ c.
-    given (slice_get (State.operands c) p.root) (λ x.
+    given (operand_at (State.operands c) p.root) (λ x.
     given (all_translated p.value_types ns (new_instructions p) c) (λ d.
-    given (slice_get (State.operands d) p.result) (λ y. goal_from p d x y))))))
+    given (operand_at (State.operands d) p.result) (λ y. goal_from p d x y))))))

@@ -11,6 +11,8 @@ pub enum Instruction {
     Copy(usize),
     /// `arith.addi` and other binary operations.
     Pair(Arithmetic, usize, usize),
+    /// `arith.divsi` of the old side, which may be undefined there.
+    Divide(usize, usize),
     /// `arith.cmpi`.
     Compare(Predicate, usize, usize),
     /// `arith.select`.

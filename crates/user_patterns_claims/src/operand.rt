@@ -11,11 +11,12 @@ pub enum Poison {
 }
 
 /// The value at a place of a pattern: the place of its expression, when it is poison, the number of its type, and its
-/// literal if it is one.
+/// literal if it is one. A logarithm isn't known: no expression computes it.
 #[derive(Clone, Copy)]
 pub struct Operand {
     pub value: usize,
     pub poison: Poison,
     pub ty: usize,
     pub written: Option<Literal>,
+    pub known: bool,
 }

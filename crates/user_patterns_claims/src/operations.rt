@@ -1,14 +1,16 @@
 //! Translates operations on operands.
-ghost use Rattle.std.specs.Prelude.{IfOk};
+ghost use Rattle.std.specs.Prelude.{◌≡◌, IfOk};
 ghost use Rattle.user_patterns_claims.specs.Code.{IsFlagged, IsMadeIf, IsMadeOr, IsResult, IsResultIf};
-ghost use Rattle.user_patterns_claims.specs.Translation.{compare_result, left_literal, operands_value, pair_result, resize_result, right_literal, select_made, select_poison, select_result, strict};
+ghost use Rattle.user_patterns_claims.specs.Translation.{compare_result, divide_by, divide_result, left_literal, operands_value, other_result, pair_result, resize_result, right_literal, select_made, select_poison, select_result, strict};
 
 use crate::operand::{Operand, Poison};
 use crate::poison::{chosen_poison, either};
-use crate::products::{literal_times, with_literal};
+use crate::products::{is_number, literal_times, with_literal};
+use crate::shifts::shift;
 use crate::values::{cast_value, compare_value, pair_value, push_expr};
 use dialects_int::operations::{Arithmetic, Cast, Predicate};
 use std::alloc::AllocError;
+use user_patterns_data::pattern::Literal;
 use width_claims::form::{Expr, Form};
 use width_claims::width::Narrower;
 
@@ -28,6 +30,7 @@ fn strict(
         poison,
         ty,
         written: None,
+        known: true,
     })
 }
 
@@ -80,6 +83,22 @@ fn operands_value(
     pair_value(operation, x.ty, x.value, y.value, exprs)
 }
 
+/// Appends an operation on two operands that isn't a shift by a literal, if claims can express it.
+fn other_result(
+    operation: &Arithmetic,
+    x: &Operand,
+    y: &Operand,
+    exprs: &mut Vec<Expr>,
+) -> Result<Option<Operand>, AllocError>
+    ensures { IfOk result (IsResultIf (other_result operation.now x.now y.now exprs.old.items) exprs.new.items) }
+{
+    let Some(value) = operands_value(operation, x, y, exprs)? else {
+        return Ok(None);
+    };
+    let operand = strict(value, x.ty, &x.poison, &y.poison, exprs)?;
+    Ok(Some(operand))
+}
+
 /// Appends `arith.addi` or another binary operation on two operands of a type.
 pub fn pair_result(
     operation: &Arithmetic,
@@ -92,11 +111,39 @@ pub fn pair_result(
     if x.ty != y.ty {
         return Ok(None);
     }
-    let Some(value) = operands_value(operation, x, y, exprs)? else {
-        return Ok(None);
-    };
-    let operand = strict(value, x.ty, &x.poison, &y.poison, exprs)?;
-    Ok(Some(operand))
+    if let Some(operand) = shift(operation, x, y, exprs)? {
+        return Ok(Some(operand));
+    }
+    other_result(operation, x, y, exprs)
+}
+
+/// Returns the quotient of a signed division by a literal, where it is defined, if the literal is 1.
+fn divide_by(x: &Operand, literal: &Literal) -> Option<Operand>
+    ensures { result ≡ divide_by x.now literal.now }
+{
+    if !is_number(1, literal) {
+        return None;
+    }
+    Some(Operand {
+        value: x.value,
+        poison: x.poison,
+        ty: x.ty,
+        written: None,
+        known: true,
+    })
+}
+
+/// Returns the quotient of `arith.divsi` on two operands of a type, where it is defined, if claims can express it.
+pub fn divide_result(x: &Operand, y: &Operand) -> Option<Operand>
+    ensures { result ≡ divide_result x.now y.now }
+{
+    if x.ty != y.ty {
+        return None;
+    }
+    match &y.written {
+        Some(literal) => divide_by(x, literal),
+        None => None,
+    }
 }
 
 /// Appends `arith.cmpi` on two operands of a type.
@@ -145,6 +192,7 @@ fn select_made(
         poison,
         ty: x.ty,
         written: None,
+        known: true,
     })
 }
 
@@ -183,5 +231,6 @@ pub fn resize_result(
         poison: x.poison,
         ty,
         written: None,
+        known: true,
     }))
 }

@@ -3,6 +3,7 @@ ghost use Rattle.std.specs.Prelude.{◌≡◌, IfOk};
 ghost use Rattle.user_patterns_claims.specs.Code.{IsMade, IsMadeOr};
 ghost use Rattle.user_patterns_claims.specs.Translation.{is_number, literal_times, multiple, one_more, opposite, times, with_literal};
 
+use crate::quotients::{quotient_by, remainder_by};
 use crate::values::push_expr;
 use dialects_int::operations::Arithmetic;
 use std::alloc::AllocError;
@@ -27,7 +28,7 @@ fn one_more(
 }
 
 /// Appends the product of a value and a number by doubling and adding. The number is at most `most`.
-fn times(
+pub fn times(
     most: u128,
     n: u128,
     ty: usize,
@@ -76,7 +77,7 @@ fn multiple(
 }
 
 /// Returns whether the literal is the number `n`.
-fn is_number(n: u128, literal: &Literal) -> bool
+pub fn is_number(n: u128, literal: &Literal) -> bool
     ensures { result ≡ is_number n literal.now }
 {
     !literal.negative && literal.magnitude == n
@@ -109,10 +110,9 @@ pub fn with_literal(
             }
             push_expr(exprs, ty, Form::Resize(ty, i))?
         }
-        Arithmetic::DivideUnsigned => {
-            return Ok(if is_number(1, literal) { Some(i) } else { None });
-        }
-        Arithmetic::RemainderUnsigned => {
+        Arithmetic::DivideUnsigned => return quotient_by(literal, ty, i, exprs),
+        Arithmetic::RemainderUnsigned => return remainder_by(literal, ty, i, exprs),
+        Arithmetic::RemainderSigned => {
             if !is_number(1, literal) {
                 return Ok(None);
             }

@@ -1,13 +1,13 @@
 //! Translates instructions to expressions.
-ghost use Rattle.std.specs.Prelude.{◌≡◌, ◌≤◌, IfOk, Some, slice_get};
+ghost use Rattle.std.specs.Prelude.{◌≡◌, ◌≤◌, IfOk, Some};
 ghost use Rattle.user_patterns_check.specs.Outcomes.{given};
-ghost use Rattle.user_patterns_claims.specs.Code.{IsCondition, IsResult, IsResultIf, IsStateIf, state};
+ghost use Rattle.user_patterns_claims.specs.Code.{IsCondition, IsPlain, IsResult, IsResultIf, IsStateIf, state};
 ghost use Rattle.width_claims.specs.declared.form.Form.TheVariants as form;
-ghost use Rattle.user_patterns_claims.specs.Translation.{compare_result, literal_result, number_state, pair_result, power_there, put, required, resize_result, result_of, select_result, top_power, translated, type_at};
+ghost use Rattle.user_patterns_claims.specs.Translation.{compare_result, divide_result, if_known, literal_result, log_state, number_state, operand_at, pair_result, power_made, power_there, put, required, resize_result, result_of, select_result, top_power, translated, type_at};
 
 use crate::instruction::Instruction;
 use crate::operand::{Operand, Poison};
-use crate::operations::{compare_result, pair_result, resize_result, select_result};
+use crate::operations::{compare_result, divide_result, pair_result, resize_result, select_result};
 use crate::types::type_at;
 use crate::values::{literal_form, push_expr};
 use dialects_int::operations::{Arithmetic, Cast, Predicate};
@@ -16,12 +16,18 @@ use user_patterns_data::pattern::{Literal, PatternType};
 use width_claims::form::{Expr, Form};
 use width_claims::width::Narrower;
 
-/// Returns the operand at `place`, if there is one.
+fn if_known(operand: &Operand) -> Option<Operand>
+    ensures { result ≡ if_known operand.now }
+{
+    if operand.known { Some(*operand) } else { None }
+}
+
+/// Returns the operand at `place`, if an expression computes it.
 pub fn operand_at(operands: &[Operand], place: usize) -> Option<Operand>
-    ensures { result ≡ slice_get operands.now place }
+    ensures { result ≡ operand_at operands.now place }
 {
     match operands.get(place) {
-        Some(operand) => Some(*operand),
+        Some(operand) => if_known(operand),
         None => None,
     }
 }
@@ -40,6 +46,7 @@ fn literal_result(
         poison: Poison::Never,
         ty,
         written: Some(*literal),
+        known: true,
     })
 }
 
@@ -116,7 +123,7 @@ fn pair_at(
     operands: &[Operand],
     exprs: &mut Vec<Expr>,
 ) -> Result<Option<Operand>, AllocError>
-    ensures { IfOk result (IsResultIf (given (slice_get operands.now i) (λ x. given (slice_get operands.now j) (λ y. pair_result operation.now x y exprs.old.items))) exprs.new.items) }
+    ensures { IfOk result (IsResultIf (given (operand_at operands.now i) (λ x. given (operand_at operands.now j) (λ y. pair_result operation.now x y exprs.old.items))) exprs.new.items) }
 {
     let Some(x) = operand_at(operands, i) else {
         return Ok(None);
@@ -127,6 +134,14 @@ fn pair_at(
     pair_result(operation, &x, &y, exprs)
 }
 
+fn divide_at(i: usize, j: usize, operands: &[Operand]) -> Option<Operand>
+    ensures { result ≡ given (operand_at operands.now i) (λ x. given (operand_at operands.now j) (divide_result x)) }
+{
+    let x = operand_at(operands, i)?;
+    let y = operand_at(operands, j)?;
+    divide_result(&x, &y)
+}
+
 fn compare_at(
     predicate: &Predicate,
     i: usize,
@@ -134,7 +149,7 @@ fn compare_at(
     operands: &[Operand],
     exprs: &mut Vec<Expr>,
 ) -> Result<Option<Operand>, AllocError>
-    ensures { IfOk result (IsResultIf (given (slice_get operands.now i) (λ x. given (slice_get operands.now j) (λ y. compare_result predicate.now x y exprs.old.items))) exprs.new.items) }
+    ensures { IfOk result (IsResultIf (given (operand_at operands.now i) (λ x. given (operand_at operands.now j) (λ y. compare_result predicate.now x y exprs.old.items))) exprs.new.items) }
 {
     let Some(x) = operand_at(operands, i) else {
         return Ok(None);
@@ -152,7 +167,7 @@ fn select_at(
     operands: &[Operand],
     exprs: &mut Vec<Expr>,
 ) -> Result<Option<Operand>, AllocError>
-    ensures { IfOk result (IsResultIf (given (slice_get operands.now c) (λ b. given (slice_get operands.now i) (λ x. given (slice_get operands.now j) (λ y. select_result b x y exprs.old.items)))) exprs.new.items) }
+    ensures { IfOk result (IsResultIf (given (operand_at operands.now c) (λ b. given (operand_at operands.now i) (λ x. given (operand_at operands.now j) (λ y. select_result b x y exprs.old.items)))) exprs.new.items) }
 {
     let Some(condition) = operand_at(operands, c) else {
         return Ok(None);
@@ -199,6 +214,7 @@ fn result_of(
         Instruction::Number(_) => Ok(None),
         Instruction::Copy(i) => Ok(operand_at(operands, *i)),
         Instruction::Pair(operation, i, j) => pair_at(operation, *i, *j, operands, exprs),
+        Instruction::Divide(i, j) => Ok(divide_at(*i, *j, operands)),
         Instruction::Compare(predicate, i, j) => compare_at(predicate, *i, *j, operands, exprs),
         Instruction::Select(c, i, j) => select_at(*c, *i, *j, operands, exprs),
         Instruction::Resize(cast, ty, i) => {
@@ -237,7 +253,7 @@ fn require_at(
     operands: &mut Vec<Operand>,
     conditions: &mut Vec<usize>,
 ) -> Result<bool, AllocError>
-    ensures { IfOk result (IsStateIf (given (slice_get operands.old.items i) (λ x. required (state exprs.old.items operands.old.items conditions.old.items) x x.poison)) exprs.new.items operands.new.items conditions.new.items) }
+    ensures { IfOk result (IsStateIf (given (operand_at operands.old.items i) (λ x. required (state exprs.old.items operands.old.items conditions.old.items) x x.poison)) exprs.new.items operands.new.items conditions.new.items) }
 {
     let Some(x) = operand_at(operands.as_slice(), i) else {
         return Ok(false);
@@ -245,23 +261,72 @@ fn require_at(
     required(&x, exprs, operands, conditions)
 }
 
-/// Appends the operand of an instruction. Returns whether claims can express it.
-pub fn translate(
+/// Appends the condition that a number is a power of two.
+fn power_made(
+    i: usize,
+    ty: usize,
+    exprs: &mut Vec<Expr>,
+    conditions: &mut Vec<usize>,
+) -> Result<(), AllocError>
+    ensures { IfOk result (IsCondition (power_made i ty exprs.old.items) conditions.old.items exprs.new.items conditions.new.items) }
+{
+    let one = push_expr(exprs, ty, Form::Literal(1))?;
+    let less = push_expr(exprs, ty, Form::Subtract(i, one))?;
+    let bits = push_expr(exprs, ty, Form::ExclusiveOr(i, less))?;
+    let place = push_expr(exprs, 0, Form::Less(less, bits))?;
+    conditions.push(place)?;
+    Ok(())
+}
+
+/// Appends a logarithm, which isn't known, and the condition that it is one.
+fn log_state(
+    x: &Operand,
+    exprs: &mut Vec<Expr>,
+    operands: &mut Vec<Operand>,
+    conditions: &mut Vec<usize>,
+) -> Result<bool, AllocError>
+    ensures { IfOk result (IsStateIf (log_state (state exprs.old.items operands.old.items conditions.old.items) x.now x.now.poison) exprs.new.items operands.new.items conditions.new.items) }
+{
+    match x.poison {
+        Poison::Never => {
+            power_made(x.value, x.ty, exprs, conditions)?;
+            operands.push(Operand {
+                value: 0,
+                poison: Poison::Never,
+                ty: 0,
+                written: None,
+                known: false,
+            })?;
+            Ok(true)
+        }
+        Poison::Always | Poison::When(_) => Ok(false),
+    }
+}
+
+fn log_at(
+    i: usize,
+    exprs: &mut Vec<Expr>,
+    operands: &mut Vec<Operand>,
+    conditions: &mut Vec<usize>,
+) -> Result<bool, AllocError>
+    ensures { IfOk result (IsStateIf (given (operand_at operands.old.items i) (λ x. log_state (state exprs.old.items operands.old.items conditions.old.items) x x.poison)) exprs.new.items operands.new.items conditions.new.items) }
+{
+    let Some(x) = operand_at(operands.as_slice(), i) else {
+        return Ok(false);
+    };
+    log_state(&x, exprs, operands, conditions)
+}
+
+/// Appends the operand of an instruction that has no condition. Returns whether claims can express it.
+fn plain_at(
     instruction: &Instruction,
     value_types: &[PatternType],
     narrower: &[Narrower],
     exprs: &mut Vec<Expr>,
     operands: &mut Vec<Operand>,
-    conditions: &mut Vec<usize>,
 ) -> Result<bool, AllocError>
-    ensures { IfOk result (IsStateIf (translated value_types.now narrower.now instruction.now (state exprs.old.items operands.old.items conditions.old.items)) exprs.new.items operands.new.items conditions.new.items) }
+    ensures { IfOk result (λ done. IsPlain (result_of value_types.now narrower.now instruction.now operands.old.items exprs.old.items) operands.old.items exprs.new.items operands.new.items done) }
 {
-    if let Instruction::Number(literal) = instruction {
-        return number_at(literal, value_types, exprs, operands, conditions);
-    }
-    if let Instruction::Require(i) = instruction {
-        return require_at(*i, exprs, operands, conditions);
-    }
     let made = result_of(
         value_types,
         narrower,
@@ -274,4 +339,32 @@ pub fn translate(
     };
     operands.push(operand)?;
     Ok(true)
+}
+
+/// Appends the operand of an instruction. Returns whether claims can express it.
+#[tactic(auto, unfolding(crate::specs::Translation::translated))]
+pub fn translate(
+    instruction: &Instruction,
+    value_types: &[PatternType],
+    narrower: &[Narrower],
+    exprs: &mut Vec<Expr>,
+    operands: &mut Vec<Operand>,
+    conditions: &mut Vec<usize>,
+) -> Result<bool, AllocError>
+    ensures { IfOk result (IsStateIf (translated value_types.now narrower.now instruction.now (state exprs.old.items operands.old.items conditions.old.items)) exprs.new.items operands.new.items conditions.new.items) }
+{
+    match instruction {
+        Instruction::Number(literal) => {
+            number_at(literal, value_types, exprs, operands, conditions)
+        }
+        Instruction::Require(i) => require_at(*i, exprs, operands, conditions),
+        Instruction::Log(i) => log_at(*i, exprs, operands, conditions),
+        Instruction::Copy(_)
+        | Instruction::Pair(_, _, _)
+        | Instruction::Divide(_, _)
+        | Instruction::Compare(_, _, _)
+        | Instruction::Select(_, _, _)
+        | Instruction::Resize(_, _, _)
+        | Instruction::Width(_) => plain_at(instruction, value_types, narrower, exprs, operands),
+    }
 }

@@ -7,7 +7,6 @@ ghost use Rattle.user_patterns_claims.specs.Translation.{is_one_bit, is_repeated
 
 use ir_types::bits::{BitsKind, width};
 use ir_types::limits::MOST_WIDTH;
-use ir_types::readings::mask;
 use std::alloc::AllocError;
 use user_patterns_data::pattern::{PatternType, TypeConstraint};
 use width_claims::width::{Narrower, Width};
@@ -96,7 +95,7 @@ fn width_at(kind: &PatternType) -> Option<Width>
             if bits == 0 || bits > MOST_WIDTH {
                 return None;
             }
-            Some(Width::Fixed(mask(bits)))
+            Some(Width::Fixed(bits))
         }
     }
 }

@@ -46,6 +46,7 @@ fn with_variable(
         poison,
         ty,
         written: None,
+        known: true,
     })?;
     Ok(())
 }

@@ -1,11 +1,12 @@
 //! Translates the instructions of a pattern in order.
 ghost use Rattle.std.specs.Prelude.{◌≡◌, IfOk, map};
 ghost use Rattle.user_patterns_claims.specs.Code.{IsReachedState, state};
-ghost use Rattle.user_patterns_claims.specs.Translation.{all_translated, form_instruction, extra_instruction, new_instruction, number_instruction, piece_instruction};
+ghost use Rattle.user_patterns_claims.specs.Translation.{all_translated, form_instruction, extra_instruction, new_instruction, number_instruction, old_instruction};
 
 use crate::instruction::Instruction;
 use crate::operand::Operand;
 use crate::translate::translate;
+use dialects_int::operations::Arithmetic;
 use std::alloc::AllocError;
 use user_patterns_data::pattern::{
     ConstantExpression, Expression, ExtraConstant, NewValue, PatternOp, PatternType,
@@ -47,17 +48,20 @@ fn form_instruction(ty: usize, form: &Expression) -> Instruction
     }
 }
 
-fn piece_instruction(expr: &PatternOp) -> Instruction
-    ensures { result ≡ piece_instruction expr.now }
+fn old_instruction(expr: &PatternOp) -> Instruction
+    ensures { result ≡ old_instruction expr.now }
 {
-    form_instruction(expr.ty, &expr.form)
+    match &expr.form {
+        Expression::Binary(Arithmetic::DivideSigned, i, j) => Instruction::Divide(*i, *j),
+        form => form_instruction(expr.ty, form),
+    }
 }
 
 fn new_instruction(new: &NewValue) -> Instruction
     ensures { result ≡ new_instruction new.now }
 {
     match new {
-        NewValue::Operation(expr) => piece_instruction(expr),
+        NewValue::Operation(expr) => form_instruction(expr.ty, &expr.form),
         NewValue::Constant(i, _) => Instruction::Copy(*i),
     }
 }
@@ -129,12 +133,12 @@ pub fn all_old(
     operands: &mut Vec<Operand>,
     conditions: &mut Vec<usize>,
 ) -> Result<bool, AllocError>
-    ensures { IfOk result (IsReachedState (all_translated value_types.now narrower.now (map piece_instruction old.now) (state exprs.old.items operands.old.items conditions.old.items)) exprs.new.items operands.new.items conditions.new.items) }
+    ensures { IfOk result (IsReachedState (all_translated value_types.now narrower.now (map old_instruction old.now) (state exprs.old.items operands.old.items conditions.old.items)) exprs.new.items operands.new.items conditions.new.items) }
 {
     let [first, tail @ ..] = old else {
         return Ok(true);
     };
-    let instruction = piece_instruction(first);
+    let instruction = old_instruction(first);
     let done = translate(
         &instruction,
         value_types,

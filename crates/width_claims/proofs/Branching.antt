@@ -83,7 +83,9 @@ joined_below s ss g y l m = go (reads_bit s) l
 unread_next : (s : Step) (c g h : ℕ) (bs : List ℕ) → reads_bit s ≡ false → next_of s c g bs ≡ next_of s c h bs
 unread_next (step.Variable i) c g h bs e = absurd (true≢false e)
 unread_next (step.Select t i j) c g h bs e = absurd (true≢false e)
+unread_next (step.Quotient i n) c g h bs e = absurd (true≢false e)
 unread_next (step.Literal n) c g h bs e = refl
+unread_next (step.Ones u) c g h bs e = refl
 unread_next (step.Add i j) c g h bs e = refl
 unread_next (step.Subtract i j) c g h bs e = refl
 unread_next (step.Equal i j) c g h bs e = refl
@@ -94,7 +96,9 @@ unread_next _ c g h bs e = refl
 unread_bit : (s : Step) (c g h : ℕ) (bs : List ℕ) → reads_bit s ≡ false → bit_of s c g bs ≡ bit_of s c h bs
 unread_bit (step.Variable i) c g h bs e = absurd (true≢false e)
 unread_bit (step.Select t i j) c g h bs e = absurd (true≢false e)
+unread_bit (step.Quotient i n) c g h bs e = absurd (true≢false e)
 unread_bit (step.Literal n) c g h bs e = refl
+unread_bit (step.Ones u) c g h bs e = refl
 unread_bit (step.And i j) c g h bs e = refl
 unread_bit (step.Or i j) c g h bs e = refl
 unread_bit (step.ExclusiveOr i j) c g h bs e = refl
@@ -182,7 +186,7 @@ module _ (s : Step) (ss : List Step) (g : ℕ) (b : Branch) (bs : List ℕ) (bit
   bits_on = bits_then s kept g bs
 
   digit_small : digit < radix s
-  digit_small = next_small s kept g bs bits (kept_small s b.state (radix s) refl)
+  digit_small = next_small s kept g bs bits (guess_less s g few) (kept_small s b.state (radix s) refl)
 
   lost_on : (y : ℕ) → is_lost (s ∷ ss) (after (s ∷ ss) b.state (joined s g y) bs) ≡ (loses s digit || is_lost ss (after ss on.state y bits_on))
   lost_on y = ap (is_lost (s ∷ ss)) (after_joined s ss b.state g y bs few) ∙ lost_joined s ss digit (after ss on.state y bits_on) digit_small
@@ -342,9 +346,9 @@ pub guess_small : (s : Step) (ss : List Step) (b : Branch) (g : ℕ) → IsSmall
 guess_small s ss b g small few = (step_small s ss b g 0 small few (radix_some s)).0
 
 -- the digit that a step keeps is below its radix
-pub digit_below : (s : Step) (n c g d : ℕ) (bs cs : List ℕ) → AreBits bs → c ≡ n % radix s → d ≡ next_of s c g cs → cs ≡ bs → d < radix s
-digit_below s n c g d bs cs bits e f same =
-    subst (λ (k : ℕ). k < radix s) (sym (f ∙ ap (next_of s c g) same)) (next_small s c g bs bits (subst (λ (k : ℕ). k < radix s) (sym e) (kept_small s n (radix s) refl)))
+pub digit_below : (s : Step) (n c g d : ℕ) (bs cs : List ℕ) → AreBits bs → g < 2 → c ≡ n % radix s → d ≡ next_of s c g cs → cs ≡ bs → d < radix s
+digit_below s n c g d bs cs bits h e f same =
+    subst (λ (k : ℕ). k < radix s) (sym (f ∙ ap (next_of s c g) same)) (next_small s c g bs bits h (subst (λ (k : ℕ). k < radix s) (sym e) (kept_small s n (radix s) refl)))
 
 -- the transitions from a whole state
 pub walked_all : (ss : List Step) (b : Branch) (old new : List Transition) (bs cs : List ℕ) (complete : Bool) → b.letter ≡ 0 → b.bit ≡ 1 → b.target ≡ 0 → b.weight ≡ 1 → bs ≡ [] → old ≡ []

@@ -53,6 +53,7 @@ module _ (W : ℕ) (vs : List ℕ) where
   block_free m ms pl n t (form.Resize u i) ns ts = refl
   block_free m ms pl n t (form.Zeros i) ns ts = refl
   block_free m ms pl n t (form.Cut i) ns ts = refl
+  block_free m ms pl n t (form.Quotient i k) ns ts = refl
 
   emitted_free : (ms : List ℕ) (ps : List Expr) (pl : List ℕ) (n t : ℕ) (ns : List ℕ) (ts : List Bool) → supposed W vs (emitted ms ps pl n t) ns ts ≡ true
   emitted_free ms [] pl n t ns ts = refl
@@ -162,10 +163,10 @@ module _ (W : ℕ) (vs : List ℕ) where
   types_stand (width.Fixed k ∷ ks) ds [] ms ns ts n t v b f = absurd f
   types_stand (width.Fixed k ∷ ks) ds (w ∷ us) ms ns ts n t v b f =
       let is = type_mask w f.0 in
-      let m = k % 2 ^ W in
+      let m = mask k % 2 ^ W in
       let ns1 = ns ++ m ∷ [] in
       let many = b.many in
-      let mask_is : m ≡ mask w = ap (λ q. q % 2 ^ W) f.1 ∙ mod-eq_of_lt is.low in
+      let mask_is : m ≡ mask w = ap (λ q. mask q % 2 ^ W) f.1 ∙ mod-eq_of_lt is.low in
       let stay : (i : ℕ) → i < n → at ns1 i ≡ at ns i = λ i l. old ns m i (omega (arith, l, many)) in
       let next = mask_more ds ms ns ns1 ts ts n t (n + 1) t w b stay (longer ns m n many) b.end_truth (omega arith) (last ns m n many ∙ mask_is) in
       let rest = types_stand ks (ds ++ w ∷ []) us (ms ++ n ∷ []) ns1 ts (n + 1) t (v + 1) next f.2 in (

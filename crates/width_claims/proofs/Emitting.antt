@@ -1,9 +1,9 @@
 -- The emitted steps compute numbers that represent the values.
-use Rattle.std.proofs.Common.{◌≡◌, ◌∙◌, ℕ, ◌+◌, ◌-◌, ◌%◌, ◌^◌, ◌<◌, ◌≤◌, ◌==◌, ◌++◌, ◌⊎◌, inl, inr, List, [], ◌∷◌, length, length-append, Bool, true, false, nat_lt, if◌then◌else◌, bit_and, bit_or, bit_xor, pos, ◌-ℤ◌, refl, sym, ap, subst, arith}
+use Rattle.std.proofs.Common.{◌≡◌, ◌∙◌, ℕ, suc, ◌+◌, ◌-◌, ◌/◌, ◌%◌, ◌^◌, ◌<◌, ◌≤◌, ◌==◌, ◌++◌, ◌⊎◌, inl, inr, List, [], ◌∷◌, length, length-append, Bool, true, false, nat_lt, if◌then◌else◌, bit_and, bit_or, bit_xor, pos, ◌-ℤ◌, refl, sym, ap, subst, arith}
 use Rattle.std.proofs.lemmas.List.{get_or_append_left}
 use Rattle.std.proofs.Math.Seq.{get_or-append_seam}
 use Rattle.std.proofs.lemmas.Nat.{and_le_l, or_lt, xor_lt, pow_pos, and_mask}
-use Rattle.std.proofs.Math.Nat.{mod-eq_of_lt, mod-lt}
+use Rattle.std.proofs.Math.Nat.{div-le_self, mod-eq_of_lt, mod-lt}
 use Rattle.std.proofs.Math.Pow.{pow-lt}
 use Rattle.ir_types.specs.Readings.{literal_number, signed_of, wrapped}
 use Rattle.ir_types.proofs.ReadingLaws.{bits_below}
@@ -184,8 +184,8 @@ module _ (W : ℕ) (vs ws ms : List ℕ) where
       does_value : (i : ℕ) → DoesForm w m (form.Value i)
       does_value i = does_masked ns ts n t (at vs i % 2 ^ W) m w (at vs i % 2 ^ w) s.many s.end_truth inside there (and_mask (at vs i % 2 ^ W) w ∙ shorter (at vs i) W w narrow)
 
-      does_literal : (k : ℕ) → k < 2 ^ w → DoesForm w m (form.Literal k)
-      does_literal k l = does_masked ns ts n t (k % 2 ^ W) m w (wrapped w (literal_number false k)) s.many s.end_truth inside there (masks_literal W w k narrow l)
+      does_literal : (k : ℕ) → DoesForm w m (form.Literal k)
+      does_literal k = does_masked ns ts n t (k % 2 ^ W) m w (wrapped w (literal_number false k)) s.many s.end_truth inside there (masks_literal W w k narrow)
 
       does_add : (i j : ℕ) → Is w i → Is w j → DoesForm w m (form.Add i j)
       does_add i j x y =
@@ -230,6 +230,9 @@ module _ (W : ℕ) (vs ws ms : List ℕ) where
 
       does_cut : (u i : ℕ) → Is u i → DoesForm w m (form.Cut i)
       does_cut u i x = does_one ns ts n t (bit_and (at ns (at pl i)) (at ns m)) (at env i % 2 ^ w) s.many s.end_truth ((λ r. bit_and (x.there r) (there r)) ∙ masks_cut w (at env i))
+
+      does_quotient : (i k : ℕ) → Is w i → DoesForm w m (form.Quotient i k)
+      does_quotient i k x = does_one ns ts n t (at ns (at pl i) / suc k) (at env i / suc k) s.many s.end_truth (λ r. x.there r / suc k)
 
       does_negative : (k : ℕ) → k < 2 ^ w → DoesForm w m (form.Negative k)
       does_negative k l =
@@ -419,7 +422,7 @@ module _ (W : ℕ) (vs ws ms : List ℕ) where
       -- each form
       does : (f : Form) → IsRight W ws tys w f → DoesForm w m f
       does (form.Value i) r = does_value i
-      does (form.Literal k) r = does_literal k r
+      does (form.Literal k) r = does_literal k
       does (form.Negative k) r = does_negative k r
       does (form.Add i j) r = does_add i j (is w i r.0) (is w j r.1)
       does (form.Subtract i j) r = does_subtract i j (is w i r.0) (is w j r.1)
@@ -433,6 +436,7 @@ module _ (W : ℕ) (vs ws ms : List ℕ) where
       does (form.Signs u i) r = does_signs u i r.0 r.1 (is (at ws u) i r.2)
       does (form.Resize u i) r = does_resize u i r.0 (is (at ws u) i r.1)
       does (form.Zeros i) r = does_zeros (at ws (at tys i)) i r.1 (is_own i r.0)
+      does (form.Quotient i k) r = does_quotient i k (is w i r)
       does (form.Cut i) r = does_cut (at ws (at tys i)) i (is_own i r)
 
       truth_low : (b : Bool) → truth b < 2 ^ w
@@ -463,6 +467,7 @@ module _ (W : ℕ) (vs ws ms : List ℕ) where
       low_of (form.Signs u i) r = signs_low (at ws u) w (at env i)
       low_of (form.Resize u i) r = signs_low (at ws u) w (at env i)
       low_of (form.Zeros i) r = zeros_low w (at env i)
+      low_of (form.Quotient i k) r = let l = (is w i r).low in let h = div-le_self (at env i) (suc k) in omega (arith, l, h)
       low_of (form.Cut i) r = mod-lt (at env i) (pow_pos w)
 
   -- ---- all expressions

@@ -9,12 +9,15 @@ use Rattle.std.proofs.Math.Nat.{div-div-eq-div-mul, div-le_self, mod-eq_of_lt, p
 use Rattle.width_claims.specs.declared.step.Step.{Step}
 use Rattle.width_claims.specs.declared.step.Step.TheVariants as step
 use Rattle.width_claims.specs.Steps.{is_number, number_at, supposed_of, truth_at, truth_of, value_of}
-use Rattle.width_claims.specs.BitSerial.{agrees, reads_bit, first_digit, bit_of, less_still, loses, next_of, radix, same_still, end_truth}
+use Rattle.width_claims.specs.BitSerial.{agrees, bit_of, end_truth, first_digit, less_still, loses, next_of, next_quotient, radix, reads_bit, same_still}
+use Rattle.width_claims.proofs.Quotients.{after_below, after_first, after_next, not_too_great, ones_bit, quotient_after, quotient_right}
 use Rattle.width_claims.proofs.Numbers.{bit_within, carry_below, difference_bit, less, less_bits, low_below, same, same_bits, sum_bit, sum_next}
 
 -- the value after the first k bits
 abbrev pub kept : ℕ → Step → ℕ → List ℕ → ℕ
 kept k (step.Literal n) v ns = n / 2 ^ k
+kept k (step.Ones u) v ns = u - k
+kept k (step.Quotient i n) v ns = quotient_after k n v (number_at ns i)
 kept k (step.Add i j) v ns = (number_at ns i % 2 ^ k + number_at ns j % 2 ^ k) / 2 ^ k
 kept k (step.Subtract i j) v ns = less (number_at ns i % 2 ^ k) (number_at ns j % 2 ^ k)
 kept k (step.Select t i j) v ns = same (v % 2 ^ k) (number_at ns i % 2 ^ k) + 2 * same (v % 2 ^ k) (number_at ns j % 2 ^ k)
@@ -46,6 +49,8 @@ less_small a b = grind (arith, nat_tests)
 
 pub kept_below : (k : ℕ) (s : Step) (v : ℕ) (ns : List ℕ) → kept k s v ns < radix s
 kept_below k (step.Literal n) v ns = let h = div-le_self n (2 ^ k) in omega (arith, h)
+kept_below k (step.Ones u) v ns = omega arith
+kept_below k (step.Quotient i n) v ns = after_below k n v (number_at ns i)
 kept_below k (step.Add i j) v ns = carry_below (number_at ns i) (number_at ns j) k
 kept_below k (step.Subtract i j) v ns = less_small (number_at ns i % 2 ^ k) (number_at ns j % 2 ^ k)
 kept_below k (step.Select t i j) v ns =
@@ -60,6 +65,8 @@ kept_below k _ v ns = omega arith
 -- ---- before the first bit
 pub kept_first : (s : Step) (v : ℕ) (ns : List ℕ) → kept 0 s v ns ≡ first_digit s
 kept_first (step.Literal n) v ns = omega arith
+kept_first (step.Ones u) v ns = omega arith
+kept_first (step.Quotient i n) v ns = after_first n v (number_at ns i)
 kept_first (step.Add i j) v ns = omega arith
 kept_first (step.Subtract i j) v ns = none (number_at ns i) (number_at ns j)
   where
@@ -89,6 +96,8 @@ module _ (w : ℕ) (vs : List ℕ) (k : ℕ) (within : k < w) where
       → bit_of s (kept k s (value_of w vs s ns ts) ns) g (bits k ns) ≡ bit_at (value_of w vs s ns ts) k
   bit_is (step.Variable i) g ns ts is low guess = guess refl
   bit_is (step.Literal n) g ns ts is low guess = sym (bit_within n k w within)
+  bit_is (step.Ones u) g ns ts is low guess = ones_bit u k ∙ sym (bit_within (2 ^ u - 1) k w within)
+  bit_is (step.Quotient i n) g ns ts is low guess = guess refl
   bit_is (step.And i j) g ns ts is low guess = (λ t. min (bit_there k ns i t) (bit_there k ns j t)) ∙ sym (bit_at_and (number_at ns i) (number_at ns j) k)
   bit_is (step.Or i j) g ns ts is low guess = (λ t. max (bit_there k ns i t) (bit_there k ns j t)) ∙ sym (bit_at_or (number_at ns i) (number_at ns j) k)
   bit_is (step.ExclusiveOr i j) g ns ts is low guess = (λ t. (bit_there k ns i t + bit_there k ns j t) % 2) ∙ sym (bit_at_xor (number_at ns i) (number_at ns j) k)
@@ -106,6 +115,9 @@ module _ (w : ℕ) (vs : List ℕ) (k : ℕ) (within : k < w) where
   pub next_is : (s : Step) (g : ℕ) (ns : List ℕ) (ts : List Bool) → (reads_bit s ≡ true → g ≡ bit_at (value_of w vs s ns ts) k)
       → next_of s (kept k s (value_of w vs s ns ts) ns) g (bits k ns) ≡ kept (suc k) s (value_of w vs s ns ts) ns
   next_is (step.Literal n) g ns ts guess = div-div-eq-div-mul n (2 ^ k) 2 ∙ ap (λ m. n / m) (sym (pow-suc 2 k))
+  next_is (step.Ones u) g ns ts guess = omega arith
+  next_is (step.Quotient i n) g ns ts guess =
+      (λ t. next_quotient n (quotient_after k n (number_at ns i / suc n) (number_at ns i)) (guess refl t) (bit_there k ns i t)) ∙ after_next k n (number_at ns i)
   next_is (step.Add i j) g ns ts guess = (λ t. (bit_there k ns i t + bit_there k ns j t + kept k (step.Add i j) 0 ns) / 2) ∙ sym (sum_next (number_at ns i) (number_at ns j) k)
   next_is (step.Subtract i j) g ns ts guess = (λ t. less_still (kept k (step.Subtract i j) 0 ns) (bit_there k ns i t) (bit_there k ns j t)) ∙ sym (less_bits (number_at ns i) (number_at ns j) k)
   next_is (step.Select t i j) g ns ts guess =
@@ -126,6 +138,8 @@ module _ (w : ℕ) (vs : List ℕ) where
   pub value_low : (s : Step) (ns : List ℕ) (ts : List Bool) → AreLow w ns → value_of w vs s ns ts < 2 ^ w
   value_low (step.Variable i) ns ts low = low_below (number_at vs i) w
   value_low (step.Literal n) ns ts low = low_below n w
+  value_low (step.Ones u) ns ts low = low_below (2 ^ u - 1) w
+  value_low (step.Quotient i n) ns ts low = let h = div-le_self (number_at ns i) (suc n) in let l = low i in omega (arith, h, l)
   value_low (step.And i j) ns ts low = let h = and_le_l (number_at ns i) (number_at ns j) in let l = low i in omega (arith, h, l)
   value_low (step.Or i j) ns ts low = or_lt w (number_at ns i) (number_at ns j) (low i) (low j)
   value_low (step.ExclusiveOr i j) ns ts low = xor_lt w (number_at ns i) (number_at ns j) (low i) (low j)
@@ -197,12 +211,14 @@ module _ (w : ℕ) (vs : List ℕ) where
   same_supposed : (a b m : ℕ) → (a == b) ≡ true → same (a % m) (b % m) ≡ 1
   same_supposed a b m e = ap (λ c. same (a % m) (c % m)) (sym (eqb-true a b e)) ∙ same_self (a % m)
 
-  pub agrees_is : (s : Step) (ns : List ℕ) (ts : List Bool) → supposed_of s ns ≡ true → agrees s (kept w s (value_of w vs s ns ts) ns) ts ≡ true
-  agrees_is (step.Select t i j) ns ts e = selects (truth_at ts t) (2 ^ w) (number_at ns i) (number_at ns j)
-  agrees_is (step.Suppose i j) ns ts e = ap (λ c. c == 1) (same_supposed (number_at ns i) (number_at ns j) (2 ^ w) e)
-  agrees_is _ ns ts e = refl
+  pub agrees_is : (s : Step) (ns : List ℕ) (ts : List Bool) → AreLow w ns → supposed_of s ns ≡ true → agrees s (kept w s (value_of w vs s ns ts) ns) ts ≡ true
+  agrees_is (step.Quotient i n) ns ts low e = quotient_right w n (number_at ns i) (low i)
+  agrees_is (step.Select t i j) ns ts low e = selects (truth_at ts t) (2 ^ w) (number_at ns i) (number_at ns j)
+  agrees_is (step.Suppose i j) ns ts low e = ap (λ c. c == 1) (same_supposed (number_at ns i) (number_at ns j) (2 ^ w) e)
+  agrees_is _ ns ts low e = refl
 
   pub loses_not : (k : ℕ) (s : Step) (ns : List ℕ) (ts : List Bool) → supposed_of s ns ≡ true → loses s (kept k s (value_of w vs s ns ts) ns) ≡ false
   loses_not k (step.Select t i j) ns ts e = still_one (truth_at ts t) (2 ^ k) (number_at ns i) (number_at ns j)
+  loses_not k (step.Quotient i n) ns ts e = not_too_great k n (number_at ns i / suc n) (number_at ns i)
   loses_not k (step.Suppose i j) ns ts e = ap (λ c. c == 0) (same_supposed (number_at ns i) (number_at ns j) (2 ^ k) e)
   loses_not k _ ns ts e = refl

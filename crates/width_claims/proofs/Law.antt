@@ -129,7 +129,7 @@ module _ (w : ℕ) (vs : List ℕ) where
       let d = digit (kept w s v ns) (radix s) (state_at w ss ms us) (kept_below w s v ns) in
       let h = and_parts (supposed_of s ns) (supposed w vs ss ms us) e in
       (λ i. agrees s (d.0 i) ts && all_agree ss (d.1 i) (end_truths_then s (d.0 i) ts))
-      ∙ (λ i. agrees_is w vs s ns ts h.0 i && all_agree ss (state_at w ss ms us) (end_there s ns ts low i))
+      ∙ (λ i. agrees_is w vs s ns ts low h.0 i && all_agree ss (state_at w ss ms us) (end_there s ns ts low i))
       ∙ guesses_agree ss ms us (low_then s ns ts low) h.1
 
   pub never_lost : (k : ℕ) (ss : List Step) (ns : List ℕ) (ts : List Bool) → supposed w vs ss ns ts ≡ true → is_lost ss (state_at k ss ns ts) ≡ false

@@ -5,6 +5,7 @@ pub mod Claiming
 pub mod Walking
 pub mod Branching
 pub mod Numbers
+pub mod Quotients
 pub mod Invariant
 pub mod Law
 pub mod Small

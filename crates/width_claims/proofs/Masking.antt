@@ -10,7 +10,7 @@ use Rattle.std.proofs.Math.Nat.{add-mod, add-mul-mod_self_right, div-eq_of_lt, m
 use Rattle.std.proofs.Math.Pow.{mod-mod-pow, pow-lt}
 use Rattle.ir_types.specs.Readings.{signed_of, wrapped}
 use Rattle.ir_types.proofs.ReadingLaws.{unsigned_back}
-use Rattle.ir_types.proofs.Widths.{halves, literal_high, literal_low}
+use Rattle.ir_types.proofs.Widths.{halves, literal_high}
 use Rattle.dialects_int.specs.Arithmetic.{comparison_of, difference_of, product_of, sign_extended, sum_of, zero_extended}
 use Rattle.dialects_int.proofs.Widths.{difference_is}
 use Rattle.dialects_int.proofs.Quotients.{signed_cases}
@@ -52,7 +52,8 @@ masks_difference W w a b h l =
     ∙ add-mul-mod_self_right (a + (2 ^ w - b)) m.0 (2 ^ w) ∙ sym (difference_is w a b l)
 
 pub masks_literal : MasksLiteral
-masks_literal W w n h l = and_mask (n % 2 ^ W) w ∙ shorter n W w h ∙ mod-eq_of_lt l ∙ literal_low w n l
+unfolding wrapped
+masks_literal W w n h = and_mask (n % 2 ^ W) w ∙ shorter n W w h
 
 pub masks_negative : MasksNegative
 unfolding difference_of

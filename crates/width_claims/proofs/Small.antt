@@ -11,6 +11,7 @@ use Rattle.width_claims.specs.declared.step.Step.TheVariants as step
 use Rattle.width_claims.specs.Steps.{is_number, number_at}
 use Rattle.width_claims.specs.BitSerial.{AreBits, accepts, agrees, all_agree, first_digit, next_state, bit_of, bits_then, Ended, less_still, letters, next_of, radix, state_count, same_still, start, end_truths, end_truths_then}
 use Rattle.width_claims.specs.AllWidths.{IsDecided}
+use Rattle.width_claims.proofs.Quotients.{next_below, quotient_below, quotient_some}
 use Rattle.width_claims.proofs.Law.{accepted_at_all_widths}
 
 pub uncons : {X : Type 0} (xs : List X) (d : X) → 1 ≤ length xs → xs ≡ get_or xs 0 d ∷ take (length xs - 1) (drop 1 xs)
@@ -25,6 +26,8 @@ tail_shorter (x ∷ xs) l = let h = ap length (uncons (x ∷ xs) x l) in omega (
 
 pub radix_some : (s : Step) → 0 < radix s
 radix_some (step.Literal n) = omega arith
+radix_some (step.Ones w) = omega arith
+radix_some (step.Quotient i n) = quotient_some n
 radix_some (step.Add i j) = omega arith
 radix_some (step.Subtract i j) = omega arith
 radix_some (step.Select t i j) = omega arith
@@ -56,6 +59,8 @@ digits_below c r p q l h =
 
 begins_small : (s : Step) → first_digit s < radix s
 begins_small (step.Literal n) = omega arith
+begins_small (step.Ones w) = omega arith
+begins_small (step.Quotient i n) = quotient_below n 0 0 (n + 1) (omega arith) (omega arith) (omega arith)
 begins_small (step.Select t i j) = omega arith
 begins_small (step.Equal i j) = omega arith
 begins_small (step.Suppose i j) = omega arith
@@ -88,6 +93,8 @@ max_small p q l h = omega (arith, l, h)
 bit_small : (s : Step) (c g : ℕ) (bs : List ℕ) → AreBits bs → g < 2 → bit_of s c g bs < 2
 bit_small (step.Variable i) c g bs are l = l
 bit_small (step.Literal n) c g bs are l = omega arith
+bit_small (step.Ones w) c g bs are l = omega arith
+bit_small (step.Quotient i n) c g bs are l = l
 bit_small (step.And i j) c g bs are l = min_small (number_at bs i) (number_at bs j) (are i)
 bit_small (step.Or i j) c g bs are l = max_small (number_at bs i) (number_at bs j) (are i) (are j)
 bit_small (step.ExclusiveOr i j) c g bs are l = omega arith
@@ -96,18 +103,20 @@ bit_small (step.Subtract i j) c g bs are l = omega arith
 bit_small (step.Select t i j) c g bs are l = l
 bit_small _ c g bs are l = omega arith
 
-pub next_small : (s : Step) (c g : ℕ) (bs : List ℕ) → AreBits bs → c < radix s → next_of s c g bs < radix s
-next_small (step.Literal n) c g bs are l = omega (arith, l)
-next_small (step.Add i j) c g bs are l = let x = are i in let y = are j in omega (arith, l, x, y)
-next_small (step.Subtract i j) c g bs are l = less_small c (number_at bs i) (number_at bs j) l (are j)
-next_small (step.Select t i j) c g bs are l =
+pub next_small : (s : Step) (c g : ℕ) (bs : List ℕ) → AreBits bs → g < 2 → c < radix s → next_of s c g bs < radix s
+next_small (step.Literal n) c g bs are h l = omega (arith, l)
+next_small (step.Ones w) c g bs are h l = omega (arith, l)
+next_small (step.Quotient i n) c g bs are h l = next_below n c g (number_at bs i) l h
+next_small (step.Add i j) c g bs are h l = let x = are i in let y = are j in omega (arith, l, x, y)
+next_small (step.Subtract i j) c g bs are h l = less_small c (number_at bs i) (number_at bs j) l (are j)
+next_small (step.Select t i j) c g bs are h l =
     let x = same_small (c % 2) g (number_at bs i) (omega arith) in
     let y = same_small (c / 2) g (number_at bs j) (omega (arith, l)) in
     omega (arith, x, y)
-next_small (step.Equal i j) c g bs are l = same_small c (number_at bs i) (number_at bs j) l
-next_small (step.Less i j) c g bs are l = less_small c (number_at bs i) (number_at bs j) l (are j)
-next_small (step.Suppose i j) c g bs are l = same_small c (number_at bs i) (number_at bs j) l
-next_small _ c g bs are l = omega arith
+next_small (step.Equal i j) c g bs are h l = same_small c (number_at bs i) (number_at bs j) l
+next_small (step.Less i j) c g bs are h l = less_small c (number_at bs i) (number_at bs j) l (are j)
+next_small (step.Suppose i j) c g bs are h l = same_small c (number_at bs i) (number_at bs j) l
+next_small _ c g bs are h l = omega arith
 
 bits_after : (bs : List ℕ) (b : ℕ) → AreBits bs → b < 2 → AreBits (bs ++ b ∷ [])
 bits_after [] b are l zero = l

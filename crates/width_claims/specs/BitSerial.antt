@@ -1,14 +1,33 @@
 -- Steps, bit by bit from the lowest. Each step keeps one small number from bit to bit. The numbers of all steps form
 -- the state, which has a digit for each step. The bits of a letter are those of the variables and of the selected
 -- values. The latter are guesses, and the end shows whether they were right.
-use Rattle.std.specs.Prelude.{◌≡◌, ◌<◌, ℕ, ◌+◌, ◌*◌, ◌/◌, ◌%◌, ◌==◌, min, max, List, [], ◌∷◌, ◌++◌, Bool, true, false, ◌&&◌, ◌||◌, not, if◌then◌else◌, Option, Some, None}
+use Rattle.std.specs.Prelude.{◌≡◌, ◌<◌, ℕ, ◌+◌, ◌-◌, ◌*◌, ◌/◌, ◌%◌, ◌==◌, nat_lt, min, max, List, [], ◌∷◌, ◌++◌, Bool, true, false, ◌&&◌, ◌||◌, not, if◌then◌else◌, Option, Some, None}
 use Rattle.width_claims.specs.declared.step.Step.{Step}
 use Rattle.width_claims.specs.declared.step.Step.TheVariants as step
 use Rattle.width_claims.specs.Steps.{differ, is_number, number_at, truth_at}
 
+-- A quotient by suc n keeps three numbers: the carry of the product of quotient and divisor plus the remainder, 1 if
+-- the remainder's bits so far are less than the divisor's, and the rest of the divisor.
+abbrev pub quotient_kept : ℕ → ℕ → ℕ → ℕ → ℕ
+quotient_kept n carry less rest = carry + (n + 2) * (less + 2 * rest)
+
+abbrev pub kept_carry : ℕ → ℕ → ℕ
+kept_carry n c = c % (n + 2)
+
+abbrev pub kept_less : ℕ → ℕ → ℕ
+kept_less n c = c / (n + 2) % 2
+
+abbrev pub kept_rest : ℕ → ℕ → ℕ
+kept_rest n c = c / (n + 2) / 2
+
+abbrev pub quotient_radix : ℕ → ℕ
+quotient_radix n = (n + 2) * (2 * (n + 2))
+
 -- the number of values that a step may keep, and the first of them
 abbrev pub radix : Step → ℕ
 radix (step.Literal n) = n + 1
+radix (step.Ones w) = w + 1
+radix (step.Quotient i n) = quotient_radix n
 radix (step.Add i j) = 2
 radix (step.Subtract i j) = 2
 radix (step.Select t i j) = 4
@@ -19,6 +38,8 @@ radix _ = 1
 
 abbrev pub first_digit : Step → ℕ
 first_digit (step.Literal n) = n
+first_digit (step.Ones w) = w
+first_digit (step.Quotient i n) = quotient_kept n 0 0 (n + 1)
 first_digit (step.Select t i j) = 3
 first_digit (step.Equal i j) = 1
 first_digit (step.Suppose i j) = 1
@@ -37,6 +58,7 @@ start (s ∷ ss) = first_digit s + radix s * start ss
 -- whether a step's bit is one of the letter's
 abbrev pub reads_bit : Step → Bool
 reads_bit (step.Variable i) = true
+reads_bit (step.Quotient i n) = true
 reads_bit (step.Select t i j) = true
 reads_bit _ = false
 
@@ -49,6 +71,8 @@ letters (s ∷ ss) = if reads_bit s then 2 * letters ss else letters ss
 abbrev pub bit_of : Step → ℕ → ℕ → List ℕ → ℕ
 bit_of (step.Variable i) c g bs = g
 bit_of (step.Literal n) c g bs = c % 2
+bit_of (step.Ones w) c g bs = min c 1
+bit_of (step.Quotient i n) c g bs = g
 bit_of (step.And i j) c g bs = min (number_at bs i) (number_at bs j)
 bit_of (step.Or i j) c g bs = max (number_at bs i) (number_at bs j)
 bit_of (step.ExclusiveOr i j) c g bs = (number_at bs i + number_at bs j) % 2
@@ -69,9 +93,21 @@ same_still c p q = if p == q then c else 0
 abbrev pub less_still : ℕ → ℕ → ℕ → ℕ
 less_still c p q = if p == q then c else q
 
+-- what a quotient keeps for the next bit, given the sum of the carry and of the divisor if its own bit is 1, the
+-- remainder's bit, and the rest of the divisor
+abbrev pub quotient_next : ℕ → ℕ → ℕ → ℕ → ℕ → ℕ
+quotient_next n less sum r rest = quotient_kept n ((sum + r) / 2) (less_still less r (rest % 2)) (rest / 2)
+
+-- the remainder's bit is such that it and the sum give the dividend's bit x
+abbrev pub next_quotient : ℕ → ℕ → ℕ → ℕ → ℕ
+next_quotient n c g x =
+    quotient_next n (kept_less n c) (g * (n + 1) + kept_carry n c) ((x + (g * (n + 1) + kept_carry n c)) % 2) (kept_rest n c)
+
 -- the value that a step keeps for the next bit
 abbrev pub next_of : Step → ℕ → ℕ → List ℕ → ℕ
 next_of (step.Literal n) c g bs = c / 2
+next_of (step.Ones w) c g bs = c - 1
+next_of (step.Quotient i n) c g bs = next_quotient n c g (number_at bs i)
 next_of (step.Add i j) c g bs = (number_at bs i + number_at bs j + c) / 2
 next_of (step.Subtract i j) c g bs = less_still c (number_at bs i) (number_at bs j)
 next_of (step.Select t i j) c g bs = same_still (c % 2) g (number_at bs i) + 2 * same_still (c / 2) g (number_at bs j)
@@ -92,8 +128,17 @@ after [] n x bs = 0
 after (s ∷ ss) n x bs =
     next_of s (n % radix s) (x % 2) bs + radix s * after ss (n / radix s) (letter_then s x) (bits_then s (n % radix s) (x % 2) bs)
 
+-- the remainder is at least the divisor, whatever its next bits are: its bits aren't less, and no divisor is left
+abbrev pub is_too_great : ℕ → ℕ → Bool
+is_too_great n c = nat_lt c (n + 2)
+
+-- nothing is carried, and the remainder is less than the divisor
+abbrev pub is_quotient : ℕ → ℕ → Bool
+is_quotient n c = (kept_carry n c == 0) && not (is_too_great n c)
+
 -- a state in which a guess or an assumption has failed for good; one such state represents all of them
 abbrev pub loses : Step → ℕ → Bool
+loses (step.Quotient i n) c = is_too_great n c
 loses (step.Select t i j) c = c == 0
 loses (step.Suppose i j) c = c == 0
 loses _ c = false
@@ -131,6 +176,7 @@ end_truths (s ∷ ss) n ts = end_truths ss (n / radix s) (end_truths_then s (n %
 abbrev pub agrees : Step → ℕ → List Bool → Bool
 agrees (step.Select t i j) c ts = if truth_at ts t then c % 2 == 1 else c / 2 == 1
 agrees (step.Suppose i j) c ts = c == 1
+agrees (step.Quotient i n) c ts = is_quotient n c
 agrees _ c ts = true
 
 abbrev pub all_agree : List Step → ℕ → List Bool → Bool

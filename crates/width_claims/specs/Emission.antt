@@ -63,6 +63,7 @@ block_of m ms pl n t (form.Resize u i) =
     (n + 5) (n + 6) (t + 1)
 block_of m ms pl n t (form.Zeros i) = block [] (at pl i) n t
 block_of m ms pl n t (form.Cut i) = block (step.And (at pl i) m ∷ []) n (n + 1) t
+block_of m ms pl n t (form.Quotient i k) = block (step.Quotient (at pl i) k ∷ []) n (n + 1) t
 
 -- the steps of all expressions, and the places of their values
 abbrev pub emitted : List ℕ → List Expr → List ℕ → ℕ → ℕ → List Step
@@ -94,22 +95,22 @@ abbrev pub type_steps : ℕ → List Width → ℕ → List Step
 type_steps v [] n = []
 type_steps v (width.Free ∷ ks) n =
     step.Variable v ∷ step.Add n 1 ∷ step.And n (n + 1) ∷ step.Suppose (n + 2) 0 ∷ step.And n 1 ∷ step.Suppose (n + 3) 1 ∷ type_steps (v + 1) ks (n + 4)
-type_steps v (width.Fixed m ∷ ks) n = step.Literal m ∷ type_steps (v + 1) ks (n + 1)
+type_steps v (width.Fixed w ∷ ks) n = step.Ones w ∷ type_steps (v + 1) ks (n + 1)
 
 abbrev pub mask_places : List Width → List ℕ → ℕ → List ℕ
 mask_places [] ms n = ms
 mask_places (width.Free ∷ ks) ms n = mask_places ks (ms ++ (n ∷ [])) (n + 4)
-mask_places (width.Fixed m ∷ ks) ms n = mask_places ks (ms ++ (n ∷ [])) (n + 1)
+mask_places (width.Fixed w ∷ ks) ms n = mask_places ks (ms ++ (n ∷ [])) (n + 1)
 
 abbrev pub type_numbers : List Width → ℕ → ℕ
 type_numbers [] n = n
 type_numbers (width.Free ∷ ks) n = type_numbers ks (n + 4)
-type_numbers (width.Fixed m ∷ ks) n = type_numbers ks (n + 1)
+type_numbers (width.Fixed w ∷ ks) n = type_numbers ks (n + 1)
 
 abbrev pub type_truths : List Width → ℕ → ℕ
 type_truths [] t = t
 type_truths (width.Free ∷ ks) t = type_truths ks (t + 2)
-type_truths (width.Fixed m ∷ ks) t = type_truths ks t
+type_truths (width.Fixed w ∷ ks) t = type_truths ks t
 
 -- the assumptions that types are narrower than others, as numbers that must be 1
 abbrev pub narrow_steps : List ℕ → List Narrower → ℕ → ℕ → List Step

@@ -1,5 +1,5 @@
 -- The values of expressions, if each type has a width.
-use Rattle.std.specs.Prelude.{ℕ, ◌%◌, ◌^◌, ◌==◌, List, [], ◌∷◌, ◌++◌, true, false, nat_lt, get_or, bit_and, bit_or, bit_xor}
+use Rattle.std.specs.Prelude.{ℕ, suc, ◌/◌, ◌%◌, ◌^◌, ◌==◌, List, [], ◌∷◌, ◌++◌, true, false, nat_lt, get_or, bit_and, bit_or, bit_xor}
 use Rattle.ir_types.specs.Readings.{literal_number, wrapped}
 use Rattle.dialects_int.specs.declared.operations.Predicate.TheVariants as predicate
 use Rattle.dialects_int.specs.Arithmetic.{choice_of, comparison_of, difference_of, sign_extended, sum_of, truth, zero_extended}
@@ -28,6 +28,7 @@ piece_value ws vs w (form.Signs u i) env = sign_extended (at ws u) w (at env i)
 piece_value ws vs w (form.Resize u i) env = sign_extended (at ws u) w (at env i)
 piece_value ws vs w (form.Zeros i) env = zero_extended w (at env i)
 piece_value ws vs w (form.Cut i) env = at env i % 2 ^ w
+piece_value ws vs w (form.Quotient i n) env = at env i / suc n
 
 abbrev pub piece_values : List ℕ → List ℕ → List Expr → List ℕ → List ℕ
 piece_values ws vs [] env = env

@@ -26,10 +26,10 @@ IsBelow W w = (1 ≤ w) × (w ≤ W)
 abbrev pub Has : List ℕ → List ℕ → ℕ → ℕ → Type 0
 Has ws tys w i = (i < length tys) × (at ws (at tys i) ≡ w)
 
--- the operands of a form have the widths that it needs, and a literal is in range of its type
+-- the operands of a form have the widths that it needs, and a literal with a minus is in range of its type
 abbrev pub IsRight : ℕ → List ℕ → List ℕ → ℕ → Form → Type 0
 IsRight W ws tys w (form.Value i) = Unit {0}
-IsRight W ws tys w (form.Literal n) = n < 2 ^ w
+IsRight W ws tys w (form.Literal n) = Unit {0}
 IsRight W ws tys w (form.Negative n) = n < 2 ^ w
 IsRight W ws tys w (form.Add i j) = Has ws tys w i × Has ws tys w j
 IsRight W ws tys w (form.Subtract i j) = Has ws tys w i × Has ws tys w j
@@ -44,6 +44,7 @@ IsRight W ws tys w (form.Signs u i) = IsBelow W (at ws u) × (at ws u ≤ w) × 
 IsRight W ws tys w (form.Resize u i) = IsBelow W (at ws u) × Has ws tys (at ws u) i
 IsRight W ws tys w (form.Zeros i) = (i < length tys) × (at ws (at tys i) ≤ w)
 IsRight W ws tys w (form.Cut i) = i < length tys
+IsRight W ws tys w (form.Quotient i n) = Has ws tys w i
 
 abbrev pub AreRight : ℕ → List ℕ → List Expr → List ℕ → Type 0
 AreRight W ws [] tys = Unit {0}
@@ -80,7 +81,7 @@ Emits =
 abbrev pub FitWidths : ℕ → List ℕ → ℕ → List Width → List ℕ → Type 0
 FitWidths W vs v [] [] = Unit {0}
 FitWidths W vs v (width.Free ∷ ks) (w ∷ ws) = IsBelow W w × (at vs v ≡ mask w) × FitWidths W vs (v + 1) ks ws
-FitWidths W vs v (width.Fixed m ∷ ks) (w ∷ ws) = IsBelow W w × (m ≡ mask w) × FitWidths W vs (v + 1) ks ws
+FitWidths W vs v (width.Fixed u ∷ ks) (w ∷ ws) = IsBelow W w × (u ≡ w) × FitWidths W vs (v + 1) ks ws
 FitWidths W vs v _ _ = ⊥
 
 -- types are narrower than others

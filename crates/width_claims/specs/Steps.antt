@@ -1,5 +1,5 @@
 -- The results of steps at a width: numbers below 2^w, and truths.
-use Rattle.std.specs.Prelude.{ℕ, ◌+◌, ◌-◌, ◌%◌, ◌^◌, ◌==◌, List, [], ◌∷◌, ◌++◌, Bool, true, false, ◌&&◌, not, nat_lt, if◌then◌else◌, bit_and, bit_or, bit_xor, get_or}
+use Rattle.std.specs.Prelude.{ℕ, suc, ◌+◌, ◌-◌, ◌/◌, ◌%◌, ◌^◌, ◌==◌, List, [], ◌∷◌, ◌++◌, Bool, true, false, ◌&&◌, not, nat_lt, if◌then◌else◌, bit_and, bit_or, bit_xor, get_or}
 use Rattle.width_claims.specs.declared.step.Step.{Step}
 use Rattle.width_claims.specs.declared.step.Step.TheVariants as step
 
@@ -28,6 +28,8 @@ is_number _ = true
 abbrev pub value_of : ℕ → List ℕ → Step → List ℕ → List Bool → ℕ
 value_of w vs (step.Variable i) ns ts = number_at vs i % 2 ^ w
 value_of w vs (step.Literal n) ns ts = n % 2 ^ w
+value_of w vs (step.Ones v) ns ts = (2 ^ v - 1) % 2 ^ w
+value_of w vs (step.Quotient i n) ns ts = number_at ns i / suc n
 value_of w vs (step.And i j) ns ts = bit_and (number_at ns i) (number_at ns j)
 value_of w vs (step.Or i j) ns ts = bit_or (number_at ns i) (number_at ns j)
 value_of w vs (step.ExclusiveOr i j) ns ts = bit_xor (number_at ns i) (number_at ns j)

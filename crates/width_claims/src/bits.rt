@@ -1,7 +1,7 @@
 //! From one bit to the next.
 ghost use Rattle.std.specs.Prelude.{◌≡◌, ◌+◌, ◌*◌, ◌/◌, ◌%◌, ◌<◌, OnOk};
 ghost use Rattle.width_claims.specs.Steps.{number_at};
-ghost use Rattle.width_claims.specs.BitSerial.{AreBits, bit_of, bits_then, less_still, next_of, radix, same_still};
+ghost use Rattle.width_claims.specs.BitSerial.{AreBits, bit_of, bits_then, less_still, next_of, next_quotient, quotient_radix, radix, same_still};
 
 use crate::digits::is_number;
 use crate::step::Step;
@@ -38,6 +38,8 @@ fn bit(step: &Step, kept: u128, guess: u128, bits: &[u128]) -> u128
     match step {
         Step::Variable(_) => guess,
         Step::Literal(_) => kept % 2,
+        Step::Ones(_) => kept.min(1),
+        Step::Quotient(_, _) => guess,
         Step::And(i, j) => bit_at(bits, *i).min(bit_at(bits, *j)),
         Step::Or(i, j) => bit_at(bits, *i).max(bit_at(bits, *j)),
         Step::ExclusiveOr(i, j) => (bit_at(bits, *i) + bit_at(bits, *j)) % 2,
@@ -56,11 +58,14 @@ fn bit(step: &Step, kept: u128, guess: u128, bits: &[u128]) -> u128
 /// Returns what a step keeps for the next bit.
 pub fn next(step: &Step, kept: u128, guess: u128, bits: &[u128]) -> u128
     requires kept { kept < radix step.now }
+    requires guess { guess < 2 }
     requires bits { AreBits bits.now }
     ensures { result ≡ next_of step.now kept guess bits.now }
 {
     match step {
         Step::Literal(_) => kept / 2,
+        Step::Ones(_) => kept.saturating_sub(1),
+        Step::Quotient(i, n) => next_quotient(*n, kept, guess, bit_at(bits, *i)),
         Step::Add(i, j) => (bit_at(bits, *i) + bit_at(bits, *j) + kept) / 2,
         Step::Subtract(i, j) => less_still(kept, bit_at(bits, *i), bit_at(bits, *j)),
         Step::Select(_, i, j) => selected(kept, guess, bit_at(bits, *i), bit_at(bits, *j)),
@@ -75,6 +80,23 @@ pub fn next(step: &Step, kept: u128, guess: u128, bits: &[u128]) -> u128
         | Step::Both(_, _)
         | Step::Differ(_, _) => 0,
     }
+}
+
+/// Returns what a quotient by `n` plus 1 keeps for the next bit, if `x` is the bit of the dividend.
+fn next_quotient(n: u32, kept: u128, guess: u128, x: u128) -> u128
+    requires kept { kept < quotient_radix n }
+    requires guess { guess < 2 }
+    requires bit { x < 2 }
+    ensures { result ≡ next_quotient n kept guess x }
+{
+    let divisor = n as u128 + 1;
+    let carries = divisor + 1;
+    let flags = kept / carries;
+    let sum = guess * divisor + kept % carries;
+    let rest = flags / 2;
+    let remainder = (x + sum) % 2;
+    let less = less_still(flags % 2, remainder, rest % 2);
+    (sum + remainder) / 2 + carries * (less + 2 * (rest / 2))
 }
 
 /// Returns what a choice keeps for the next bit: whether the guess is still equal to each arm.

@@ -194,5 +194,8 @@ pub fn block(
         ),
         Form::Zeros(i) => push_steps(steps, &[], at(places, *i), n, t),
         Form::Cut(i) => push_steps(steps, &[Step::And(at(places, *i), m)], n, n + 1, t),
+        Form::Quotient(i, k) => {
+            push_steps(steps, &[Step::Quotient(at(places, *i), *k)], n, n + 1, t)
+        }
     }
 }

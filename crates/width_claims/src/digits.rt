@@ -1,7 +1,7 @@
 //! What a step keeps from bit to bit.
-ghost use Rattle.std.specs.Prelude.{◌≡◌, ◌*◌, ◌/◌, ◌%◌, ◌<◌, ◌^◌, IfSome};
+ghost use Rattle.std.specs.Prelude.{◌≡◌, ◌+◌, ◌*◌, ◌/◌, ◌%◌, ◌<◌, ◌^◌, IfSome};
 ghost use Rattle.width_claims.specs.Steps.{is_number};
-ghost use Rattle.width_claims.specs.BitSerial.{reads_bit, first_digit, letters, radix, state_count, start};
+ghost use Rattle.width_claims.specs.BitSerial.{first_digit, letters, quotient_kept, quotient_radix, radix, reads_bit, state_count, start};
 ghost use Rattle.width_claims.specs.Transitions.{guesses};
 
 use crate::step::Step;
@@ -19,6 +19,8 @@ pub fn is_number(step: &Step) -> bool
         | Step::Differ(_, _) => false,
         Step::Variable(_)
         | Step::Literal(_)
+        | Step::Ones(_)
+        | Step::Quotient(_, _)
         | Step::And(_, _)
         | Step::Or(_, _)
         | Step::ExclusiveOr(_, _)
@@ -33,8 +35,9 @@ pub fn reads_bit(step: &Step) -> bool
     ensures { result ≡ reads_bit step.now }
 {
     match step {
-        Step::Variable(_) | Step::Select(_, _, _) => true,
+        Step::Variable(_) | Step::Quotient(_, _) | Step::Select(_, _, _) => true,
         Step::Literal(_)
+        | Step::Ones(_)
         | Step::And(_, _)
         | Step::Or(_, _)
         | Step::ExclusiveOr(_, _)
@@ -56,6 +59,24 @@ pub fn guesses(step: &Step) -> u32
     if reads_bit(step) { 2 } else { 1 }
 }
 
+/// Returns the number of values that a quotient by `n` plus 1 may keep.
+fn quotient_radix(n: u32) -> u128
+    ensures is { result ≡ quotient_radix n }
+    ensures some { 0 < result }
+    ensures small { result < 2 ^ 128 }
+{
+    let carries = n as u128 + 2;
+    carries * (2 * carries)
+}
+
+/// Returns the value that a quotient by `n` plus 1 keeps before the first bit: the whole divisor.
+fn first_of_quotient(n: u32) -> u128
+    ensures { result ≡ quotient_kept n 0 0 (n + 1) }
+{
+    let divisor = n as u128 + 1;
+    (divisor + 1) * (2 * divisor)
+}
+
 /// Returns the number of values that a step may keep.
 pub fn radix(step: &Step) -> u128
     requires { radix step.now < 2 ^ 128 }
@@ -63,6 +84,8 @@ pub fn radix(step: &Step) -> u128
 {
     match step {
         Step::Literal(n) => *n + 1,
+        Step::Ones(w) => *w as u128 + 1,
+        Step::Quotient(_, n) => quotient_radix(*n),
         Step::Add(_, _)
         | Step::Subtract(_, _)
         | Step::Equal(_, _)
@@ -110,6 +133,8 @@ pub fn digit(step: &Step, state: u128) -> u128
 {
     match step {
         Step::Literal(n) => remainder(state, *n + 1),
+        Step::Ones(w) => remainder(state, *w as u128 + 1),
+        Step::Quotient(_, n) => remainder(state, quotient_radix(*n)),
         Step::Add(_, _)
         | Step::Subtract(_, _)
         | Step::Equal(_, _)
@@ -133,6 +158,8 @@ pub fn without_digit(step: &Step, state: u128) -> u128
 {
     match step {
         Step::Literal(n) => quotient(state, *n + 1),
+        Step::Ones(w) => quotient(state, *w as u128 + 1),
+        Step::Quotient(_, n) => quotient(state, quotient_radix(*n)),
         Step::Add(_, _)
         | Step::Subtract(_, _)
         | Step::Equal(_, _)
@@ -155,6 +182,8 @@ pub fn first_digit(step: &Step) -> u128
 {
     match step {
         Step::Literal(n) => *n,
+        Step::Ones(w) => *w as u128,
+        Step::Quotient(_, n) => first_of_quotient(*n),
         Step::Select(_, _, _) => 3,
         Step::Equal(_, _) | Step::Suppose(_, _) => 1,
         Step::Variable(_)
@@ -176,6 +205,12 @@ fn radix_of(step: &Step) -> Option<u128>
 {
     if let Step::Literal(n) = step {
         return n.checked_add(1);
+    }
+    if let Step::Ones(w) = step {
+        return Some(*w as u128 + 1);
+    }
+    if let Step::Quotient(_, n) = step {
+        return Some(quotient_radix(*n));
     }
     Some(radix(step))
 }

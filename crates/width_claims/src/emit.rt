@@ -52,8 +52,8 @@ pub fn emit_types(
             ])?;
             emit_types(v + 1, tail, steps, masks, n + 4, t + 2)
         }
-        Width::Fixed(m) => {
-            steps.extend_from_slice(&[Step::Literal(*m)])?;
+        Width::Fixed(w) => {
+            steps.extend_from_slice(&[Step::Ones(*w)])?;
             emit_types(v + 1, tail, steps, masks, n + 1, t)
         }
     }

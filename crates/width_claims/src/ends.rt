@@ -1,7 +1,7 @@
 //! What a state says after the last bit.
 ghost use Rattle.std.specs.Prelude.{◌≡◌, ◌<◌, ◌^◌, IfOk, OnOk};
 ghost use Rattle.width_claims.specs.Steps.{differ, truth_at};
-ghost use Rattle.width_claims.specs.BitSerial.{Ended, agrees, loses, state_count, end_truth, end_truths_then};
+ghost use Rattle.width_claims.specs.BitSerial.{Ended, agrees, end_truth, end_truths_then, is_quotient, is_too_great, loses, state_count};
 
 use crate::digits::{digit, is_number, without_digit};
 use crate::step::Step;
@@ -17,14 +17,30 @@ pub fn truth_at(truths: &[bool], place: usize) -> bool
     }
 }
 
+/// Whether the remainder of a quotient by `n` plus 1 is at least the divisor, whatever its next bits are.
+fn is_too_great(n: u32, kept: u128) -> bool
+    ensures { result ≡ is_too_great n kept }
+{
+    kept < n as u128 + 2
+}
+
+/// Whether a quotient by `n` plus 1 is right: nothing is carried, and the remainder is less than the divisor.
+fn is_quotient(n: u32, kept: u128) -> bool
+    ensures { result ≡ is_quotient n kept }
+{
+    kept % (n as u128 + 2) == 0 && !is_too_great(n, kept)
+}
+
 /// Whether a guess is wrong for good, or a supposition broken.
 pub fn loses(step: &Step, kept: u128) -> bool
     ensures { result ≡ loses step.now kept }
 {
     match step {
         Step::Select(_, _, _) | Step::Suppose(_, _) => kept == 0,
+        Step::Quotient(_, n) => is_too_great(*n, kept),
         Step::Variable(_)
         | Step::Literal(_)
+        | Step::Ones(_)
         | Step::And(_, _)
         | Step::Or(_, _)
         | Step::ExclusiveOr(_, _)
@@ -56,6 +72,8 @@ fn end_truth(step: &Step, kept: u128, truths: &[bool]) -> bool
         Step::Differ(i, j) => differ(truth_at(truths, *i), truth_at(truths, *j)),
         Step::Variable(_)
         | Step::Literal(_)
+        | Step::Ones(_)
+        | Step::Quotient(_, _)
         | Step::And(_, _)
         | Step::Or(_, _)
         | Step::ExclusiveOr(_, _)
@@ -78,8 +96,10 @@ fn agrees(step: &Step, kept: u128, truths: &[bool]) -> bool
             }
         }
         Step::Suppose(_, _) => kept == 1,
+        Step::Quotient(_, n) => is_quotient(*n, kept),
         Step::Variable(_)
         | Step::Literal(_)
+        | Step::Ones(_)
         | Step::And(_, _)
         | Step::Or(_, _)
         | Step::ExclusiveOr(_, _)

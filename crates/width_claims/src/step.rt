@@ -8,6 +8,10 @@ pub enum Step {
     Variable(usize),
     /// A literal.
     Literal(u128),
+    /// The number whose lowest bits are ones, this many of them.
+    Ones(u32),
+    /// The quotient of a number by a divisor, which is this number plus 1.
+    Quotient(usize, u32),
     /// The bitwise conjunction of two numbers.
     And(usize, usize),
     /// The bitwise disjunction of two numbers.

@@ -1,37 +1,24 @@
-// Moves operations without effects out of the loops of a function, over the library: an operation that uses a value of
-// its loop is refused, and stays. Prints the module, and before it the rows of the first value that was moved.
+// Moves operations of arith out of the loops of a function by handles, without reading text: an operation that uses a
+// value of its loop is refused, and stays. Prints the module, and before it the uses of the first value that was moved.
 #include "mlir_work.hpp"
-#include <cstdlib>
 #include <fstream>
 #include <iostream>
 #include <iterator>
 #include <optional>
-#include <set>
 
 using namespace workbench;
 
-// The operations of which the effects report has a row: they may read, write, allocate or do what isn't known.
-static std::set<Operation> with_effects(Session &session) {
-  std::set<Operation> found;
-  for (const auto &row : session.rows("effects"))
-    found.insert(std::stoul(row[0].substr(1)));
-  return found;
-}
-
-// Moves what it can out of a loop, and says which operation was moved first.
-static std::optional<Operation> hoist(Session &session, Operation loop, const std::set<Operation> &impure) {
+// Moves what it can out of a loop, and returns the operation that was moved first.
+static std::optional<Operation> hoist(Session &session, const Operation &loop) {
   std::optional<Operation> first;
-  for (auto it = session.first(loop); it;) {
-    const auto next = session.next(*it);
-    if (next && !impure.count(*it)) {
-      try {
-        session.move(*it, before(loop));
-        if (!first)
-          first = it;
-      } catch (const Refused &) {
-      }
+  for (const Operation op : loop.regions()[0].block()->operations()) {
+    if (op.name().text().rfind("arith.", 0) != 0)
+      continue;
+    try {
+      session.move(op, before(loop));
+      first = first ? first : op;
+    } catch (const Refused &) {
     }
-    it = next;
   }
   return first;
 }
@@ -39,14 +26,15 @@ static std::optional<Operation> hoist(Session &session, Operation loop, const st
 int main(int, char **argv) {
   std::ifstream file(argv[1], std::ios::binary);
   Session session(std::string{std::istreambuf_iterator<char>(file), {}});
-  const auto impure = with_effects(session);
+  const auto loop = session.name("scf.for");
   std::optional<Operation> first;
-  for (auto op = session.first(*session.first(*session.root())); op; op = session.next(*op))
-    if (session.first(*op))
-      if (const auto moved = hoist(session, *op, impure); moved && !first)
+  for (const Operation op : session.walk())
+    if (loop && op.name() == *loop)
+      if (const auto moved = hoist(session, op); moved && !first)
         first = moved;
   if (first)
-    std::cout << session.text("report uses of %v" + std::to_string(*first) + ".0");
+    for (const Use use : first->results()[0].uses())
+      std::cout << "%v" << first->number() << ".0 #" << use.owner.number() << " " << use.operand << "\n";
   for (const auto &row : session.rows("diagnostics"))
     std::cout << "a row of diagnostics: " << row[0] << "\n";
   std::cout << session.text("print");

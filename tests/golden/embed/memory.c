@@ -161,6 +161,36 @@ static int turn(unsigned long number, bool rest, bool *is_over) {
   return wrong;
 }
 
+/* A read whose memory is refused says so and writes nothing, and the next one is answered. */
+static int reads(void) {
+  mlir_work_session session = MLIR_WORK_CLOSED;
+  mlir_work_answer answer;
+  uint8_t text[64];
+  uint32_t operations[64];
+  off = true;
+  open_one(&session, &answer);
+  const long before = held;
+  for (int which = 0; which < 3; which++) {
+    uint64_t got = MLIR_WORK_NO_MEMORY;
+    for (refused = 1; got == MLIR_WORK_NO_MEMORY; refused++) {
+      memset(text, '.', sizeof text);
+      memset(operations, '.', sizeof operations);
+      count = 0, off = false;
+      got = which == 0   ? mlir_work_operations(&session, operations, 64)
+            : which == 1 ? mlir_work_type_text(&session, 0, text, sizeof text)
+                         : mlir_work_attribute_text(&session, 0, text, sizeof text);
+      off = true;
+      if (held != before || (got == MLIR_WORK_NO_MEMORY && (text[0] != '.' || operations[0] != 0x2e2e2e2e)))
+        return fprintf(stderr, "read %d, allocation %lu: something is left, or was written\n", which, refused);
+    }
+    if (refused == 2 || got > 64)
+      return fprintf(stderr, "read %d: no allocation was refused, or it isn't answered\n", which);
+  }
+  refused = 0;
+  mlir_work_close(&session);
+  return held ? fprintf(stderr, "%ld blocks are left by reads\n", held) : 0;
+}
+
 int main(int argc, char **argv) {
   mlir_work_session session = MLIR_WORK_CLOSED;
   mlir_work_answer answer;
@@ -174,6 +204,8 @@ int main(int argc, char **argv) {
   mlir_work_close(&session);
   if (held)
     return fprintf(stderr, "%ld blocks are left where none is refused\n", held) > 0;
+  if (reads())
+    return 1;
   for (int rest = 0; rest < 2; rest++) {
     bool is_over = false;
     for (unsigned long number = 1; !is_over; number++, turns++)

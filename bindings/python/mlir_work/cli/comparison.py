@@ -313,6 +313,7 @@ def arguments(parser):
     parser.add_argument(program.OPAQUE, dest="reads_opaque", action="store_true",
                         help="keep unknown types and attributes as their texts, like `mlir_work --opaque`; operations "
                              "on them give `unknown`")
+    program.split_argument(parser)
 
 
 def summary(found, number, is_interrupted=False):

@@ -2,7 +2,7 @@
 import pathlib
 
 HERE = pathlib.Path(__file__).resolve().parent
-# In a checkout this is a link to docs/. An installed package has only PAGES.
-DOCS = HERE / "docs"
+# An installed package has PAGES next to this file. A checkout has them in docs/ at its top.
+DOCS = HERE / "docs" if (HERE / "docs").is_dir() else HERE.parents[3] / "docs"
 WEB = HERE / "web"
-PAGES = ("CANONICALIZE.md", "CONVERT.md", "REFUSALS.md", "REPORTS.md", "VERIFIER.md", "commands.json")
+PAGES = ("CANONICALIZE.md", "CONVERT.md", "PATTERNS.md", "REFUSALS.md", "REPORTS.md", "VERIFIER.md", "commands.json")

@@ -1,17 +1,19 @@
 """Runs a script over a module and explains each refusal.
 
-For each refused line it prints `FILE:LINE:COLUMN: NUMBER WORD: ` and the sentence of docs/REFUSALS.md, the line, and a
-caret if the fault has a place. For a line that isn't a command it prints the form of the closest command. Below these
-lines it prints the operation that a refusal names, as `ids` at the prompt shows it, and the reason of a `convert trace`
-why the operation stays. Columns count bytes from 1. The status is the program's."""
+For each refused line it prints `FILE:LINE:COLUMN: NUMBER WORD: ` and what was found, what was expected and what to do,
+the line, and a caret if the fault has a place. For a line that isn't a command it prints the form of the closest
+command. Below these lines it prints the operation that a refusal names, as `ids` at the prompt shows it, and the reason
+of a `convert trace` why the operation stays. Columns count bytes from 1. The status is the program's."""
 import re
 import sys
 
 from ..script import BLANKS, DIVIDER, counted, joined
-from . import mistakes, program
+from . import generic, messages, mistakes, program
 from .forms import looks
 from .listing import MADE, listed
 
+# The number with which unsupported constructs are refused.
+LEFT_OUT = 13
 BEHIND = "    note: this insert used no operation number: later inserts have lower numbers than if it were accepted"
 
 
@@ -35,10 +37,11 @@ def module_refused(name, module, refused):
 
 def text_refused(name, module, refused):
     """Returns the lines that say why a text is refused, and where."""
-    says = f"{refused.number} {refused.word}: {mistakes.sentence(refused.number)}"
+    title = f"{refused.number} {refused.word}"
     if refused.at is None:
-        return [f"{name}: {says}"]
+        return [f"{name}: {title}: {messages.general(refused.number)}"]
     offset = min(refused.at, len(module))
+    says = f"{title}: {messages.of_module(module, offset, refused.number, refused.word)}"
     before = module[:offset]
     line = module.split(b"\n")[before.count(b"\n")]
     return told(name, before.count(b"\n") + 1, line, mistakes.Fault(offset - before.rfind(b"\n") - 1, says))
@@ -81,9 +84,15 @@ def commands_refused(name, parts, first, replies, kept=()):
 
 
 def explained(names):
-    """Runs the files. Returns the status, and the lines that explain what was refused."""
+    """Runs the files. Returns the status, and the lines that explain what was refused. If the module has an unsupported
+    construct, such as a custom form, mlir-opt converts it first."""
     module, script, first = program.inputs(names)
-    done = program.ran(joined(module, script))
+    done = program.ran(joined(module, script), *program.explaining())
+    if done.refused and done.refused.number == LEFT_OUT:
+        made, said = generic.tried(names[0], module)
+        print(*said, sep="\n", end="\n" * bool(said), file=sys.stderr)
+        if made is not None:
+            module, done = made, program.ran(joined(made, script), *program.explaining())
     if done.refused:
         return done.status, module_refused(names[0], module, done.refused)
     return done.status, commands_refused(names[-1], (module, script), first, done.replies())
@@ -91,7 +100,8 @@ def explained(names):
 
 def arguments(parser):
     """Adds the arguments of the command."""
-    parser.add_argument("module", metavar="MODULE", help="a file with a module in generic form")
+    parser.add_argument("module", metavar="MODULE", 
+                        help="a file with a module; if it isn't in generic form, mlir-opt converts it")
     parser.add_argument("script", metavar="SCRIPT", nargs="?",
                         help="a file with a script; without it, the script is in MODULE, after a line `// -----`")
     program.arguments(parser)

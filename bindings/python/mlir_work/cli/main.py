@@ -5,9 +5,11 @@ import importlib
 import os
 import sys
 
-from . import program
+from . import program, run
 
 NAME = "mlir-work"
+# The command that runs the program for scripts. It has the program's options.
+RUN = "run"
 # Each command, its description, and its module.
 COMMANDS = {
     "open": ("open a prompt on a module, which answers each typed command at once", "prompt"),
@@ -18,7 +20,10 @@ COMMANDS = {
 }
 STATUS = """exit status: 0 if nothing was refused, 1 if a command was refused, 2 if the command line or a file of
 patterns is wrong, 3 if the module was refused, 4 if a read or a write failed, 130 after Ctrl-C. `mlir-work FILE` is
-short for `mlir-work open FILE`."""
+short for `mlir-work open FILE`. --opaque, --patterns FILE and --split-input-file may also be before the command.
+mlir-opt, if it is installed, converts each module that isn't in generic form."""
+# Options that may be before a command, and whether they take a word.
+GLOBAL = {program.OPAQUE: False, program.PATTERNS: True, program.SPLIT: False}
 
 
 class Version(argparse.Action):
@@ -40,6 +45,8 @@ def parser():
                                epilog=getattr(part, "EPILOG", None))
         part.arguments(own)
         own.set_defaults(run=part.run)
+    parts.add_parser(RUN, help="run a script over a module, as `mlir_work` does (`mlir-work run --help`)",
+                     add_help=False)
     return whole
 
 
@@ -48,31 +55,78 @@ def is_unknown(word):
     return os.path.basename(word) == word and "." not in word and not os.path.exists(word)
 
 
+def commands():
+    """Returns all commands."""
+    return [*COMMANDS, RUN]
+
+
 def unknown(word):
     """Returns the message for a word that is neither a command nor a file."""
-    near = difflib.get_close_matches(word, COMMANDS, 1)
+    near = difflib.get_close_matches(word, commands(), 1)
     more = f"; did you mean `{near[0]}`?" if near else ""
-    return f"found `{word}`, expected a command ({', '.join(COMMANDS)}) or the file of a module{more}"
+    return f"found `{word}`, expected a command ({', '.join(commands())}) or the file of a module{more}"
+
+
+def reordered(words):
+    """Returns the words of a command line with the command first, and options that are before it after it."""
+    place = 0
+    while place < len(words) and words[place].partition("=")[0] in GLOBAL:
+        place += 2 if GLOBAL[words[place].partition("=")[0]] and "=" not in words[place] else 1
+    return [*words[place:place + 1], *words[:place], *words[place + 1:]]
+
+
+def numbered(name, place):
+    """Returns the name of an output file for the module at a place in a file with several modules, from 1."""
+    stem, end = os.path.splitext(name)
+    return f"{stem}-{place}{end}"
+
+
+def over_parts(given):
+    """Runs a command over each module of its file, or of its two files. Returns the largest status."""
+    names = [getattr(given, it) for it in ("module", "before", "after") if hasattr(given, it)]
+    parts = [program.parts(name) for name in names]
+    if len(set(map(len, parts))) > 1:
+        raise program.Wrong(f"found {len(parts[0])} modules in {names[0]} and {len(parts[1])} in {names[1]}, expected "
+                            "as many in both")
+    keys = [it for it in ("out", "output") if getattr(given, it, None)]
+    outputs, worst = {key: getattr(given, key) for key in keys}, 0
+    for place, those in enumerate(zip(*parts), 1):
+        program.PART.update(zip(names, those))
+        if place > 1:
+            print("// -----", flush=True)
+        for key in keys:
+            setattr(given, key, numbered(outputs[key], place))
+        worst = max(worst, given.run(given))
+    program.PART.clear()
+    return worst
 
 
 def why(fault):
     """Returns the message of a fault: for a file, its name and what is wrong with it."""
     is_of_file = isinstance(fault, OSError) and fault.filename is not None and fault.strerror
-    return f"{os.fsdecode(fault.filename)}: {fault.strerror}" if is_of_file else str(fault)
+    if not is_of_file:
+        return str(fault)
+    more = ": correct the name" * isinstance(fault, FileNotFoundError)
+    return f"{os.fsdecode(fault.filename)}: {fault.strerror}{more}"
 
 
 def main(words):
     """Runs the command that the words name, and returns its status."""
+    words = reordered(words)
+    if words[:1] == ["help"] and not os.path.exists("help"):
+        words = [*words[1:2], "--help"]
     if not words:
-        parser().error(f"a command is missing: write one of {', '.join(COMMANDS)}")
-    if words[0] not in COMMANDS and not words[0].startswith("-"):
+        parser().error(f"a command is missing: write one of {', '.join(commands())}, or the file of a module")
+    if words[0] not in commands() and not words[0].startswith("-"):
         if is_unknown(words[0]):
             parser().error(unknown(words[0]))
         words = ["open", *words]
     try:
+        if words[0] == RUN:
+            return run.main(words[1:])
         given = parser().parse_args(words)
         program.ask(getattr(given, "opaque", False), getattr(given, "patterns", ()))
-        return given.run(given)
+        return over_parts(given) if getattr(given, "is_split", False) else given.run(given)
     except BrokenPipeError:
         os.dup2(os.open(os.devnull, os.O_WRONLY), sys.stdout.fileno())
         return 4

@@ -12,6 +12,8 @@ from . import main as command_line
 from . import table, words
 
 PROMPT, PROGRAM = "mlir-work", "mlir_work"
+RUN = f"{PROMPT} {command_line.RUN}"
+ABOUT_RUN = f"run a script over a module, as `{PROGRAM}` does, with the options below"
 # The choices of the option --format.
 FORMATS = "text json"
 
@@ -70,11 +72,14 @@ def man(text, version):
     usage, _, rest = rest.partition("\n")
     found = [f'.TH MLIR_WORK 1 "" "mlir_work {version}"', ".SH NAME",
              f"{PROGRAM} \\- {plain(' '.join(about.split('.')[0].split()).replace('Edits', 'edits'))}",
-             ".SH SYNOPSIS", plain(usage), *(f".br\n{plain(part.usage())}" for part in parts()),
+             ".SH SYNOPSIS", plain(usage), f".br\n{plain(usage.replace(PROGRAM, RUN))}",
+             *(f".br\n{plain(part.usage())}" for part in parts()),
              ".SH DESCRIPTION", plain(about.strip()), ".PP",
              plain(f"{PROMPT} open opens a prompt on a module: it answers one command after another, and `help` there "
                    f"lists them. {PROMPT} FILE is the same."),
-             ".SH MLIR-WORK", ".nf", plain("\n\n".join(part.rows() for part in parts())), ".fi",
+             ".SH MLIR-WORK", ".nf",
+             plain("\n\n".join([*(part.rows() for part in parts()), f"{RUN} [OPTIONS] [MODULE]\n    {ABOUT_RUN}"])),
+             ".fi",
              ".SH AT THE PROMPT", ".nf", plain("\n".join(words.rows(76))), ".fi"]
     for part in rest.strip("\n").split("\n\n"):
         title = re.match(r"([A-Z][\w ]*):\n|(?=(Commands), )", part)
@@ -90,6 +95,7 @@ def bash(*_):
     of_program = " ".join(f"--{word}" for word, *_ in options())
     cases = "\n".join(f"        {part.word}) options='{' '.join(names[-1] for names, *_ in part.options)}' ;;"
                       for part in parts())
+    cases += f"\n        {command_line.RUN}) options='{of_program}' ;;"
     return f"""_{PROGRAM}() {{
     case ${{COMP_WORDS[COMP_CWORD-1]}} in
     --limit) ;;
@@ -104,7 +110,7 @@ _{PROGRAM}_prompt() {{
 {cases}
     esac
     if [ "$COMP_CWORD" = 1 ]; then
-        COMPREPLY=($(compgen -W "{' '.join(command_line.COMMANDS)}" -- "$word"; compgen -f -- "$word"))
+        COMPREPLY=($(compgen -W "{' '.join(command_line.commands())}" -- "$word"; compgen -f -- "$word"))
     elif [[ $word == -* ]]; then
         COMPREPLY=($(compgen -W "$options" -- "$word"))
     fi
@@ -129,8 +135,10 @@ def zsh(*_):
     quoted = [of_zsh(about) for *_, about in options()]
     rows = [f"  '--{word}[{about}]{':' + takes if takes else ''}{f':({FORMATS})' if takes == 'FORMAT' else ''}'"
             for (word, takes, _), about in zip(options(), quoted)]
-    commands = " ".join(f"'{part.word}:{of_zsh(part.about)}'" for part in parts())
-    cases = "\n".join(f"    {part.word}) _arguments {zsh_options(part)} '*:file:_files' ;;" for part in parts())
+    commands = " ".join(f"'{word}:{of_zsh(about)}'" for word, about in [
+        *((part.word, part.about) for part in parts()), (command_line.RUN, ABOUT_RUN)])
+    cases = "\n".join([*(f"    {part.word}) _arguments {zsh_options(part)} '*:file:_files' ;;" for part in parts()),
+                       f"    {command_line.RUN}) _arguments {' '.join(map(str.strip, rows))} '*:file:_files' ;;"])
     return f"""#compdef {PROGRAM} {PROMPT}
 if [[ $service = {PROMPT} ]]; then
   if (( CURRENT == 2 )); then

@@ -1,14 +1,11 @@
 """Explains refusals: the meaning, the place of the fault, and the command that was probably meant.
 
-The sentences come from docs/REFUSALS.md, so a new refusal needs no change here. forms.py has the forms of commands, and
-targets.py checks a `convert`."""
+messages.py has the sentences, forms.py the forms of commands, and targets.py checks a `convert`."""
 import difflib
-import functools
 import re
 
-from . import targets
+from . import messages, targets
 from .forms import PARTS, Fault, first_word, forms, kinds, misfit, shown, text_begins
-from .data import DOCS
 
 # Words that users may type, and the commands with another name that they mean.
 MEANT = {"abort": "rollback", "add": "insert", "canonicalize": "canon", "define": "pattern", "delete": "erase",
@@ -17,19 +14,6 @@ MEANT = {"abort": "rollback", "add": "insert", "canonicalize": "canon", "define"
 # The same for words of the prompt.
 MEANT_THERE = {"?": "help", "exit": "quit", "info": "help", "list": "ids", "load": "source", "ls": "ids", "man": "help",
                "output": "write", "q": "quit", "read": "source", "search": "find", "u": "undo", "verify": "diagnostics"}
-
-
-@functools.lru_cache(maxsize=None)
-def sentences():
-    """Returns the first sentence of each section of docs/REFUSALS.md, by its number."""
-    page = (DOCS / "REFUSALS.md").read_text()
-    found = re.findall(r"^### (\d+) \w+\n\n(.*?)(?:\n\n|\Z)", page, re.M | re.S)
-    return {int(number): " ".join(text.split()) for number, text in found}
-
-
-def sentence(number):
-    """Returns the sentence of a number, without the full stop at its end."""
-    return sentences().get(number, "docs/REFUSALS.md has the refusals").rstrip(".")
 
 
 def unknown(word, own=()):
@@ -57,7 +41,7 @@ def hint(number, line, column):
     """Returns a further sentence for the most frequent mistakes, or an empty text."""
     words = line.split()
     if number == 13 and words[0] == "set-attr" and re.fullmatch(r"\w+", line[column:].strip()):
-        return f'. Write a string in quotes: "{line[column:].strip()}"'
+        return f', as "{line[column:].strip()}"'
     if number == 3 and words[0] == "insert":
         return ". Commands don't use the names in the module's text: " + PARTS["VALUE"][1]
     if number == 23 and words[0] == "replace":
@@ -65,10 +49,18 @@ def hint(number, line, column):
     return ""
 
 
+def of_text(it, line, column):
+    """Returns why the text of a command is refused at a byte of its line. A pattern has sentences of its own."""
+    text = line.encode("latin-1").rstrip(b" \t\r")
+    if first_word(line)[0] == "pattern":
+        return messages.of_pattern(text, column, it.word)
+    return messages.of_module(text, column, it.number, it.word)
+
+
 def unfit(line, title):
     """Returns the fault in the target of a conversion, after the title of its refusal."""
     column, words = targets.unfit(line) or (None, "")
-    return Fault(column, ": ".join(filter(None, (title, words or sentence(54)))))
+    return Fault(column, ": ".join(filter(None, (title, words or messages.general(54)))))
 
 
 def explained(reply, line, own=()):
@@ -77,12 +69,32 @@ def explained(reply, line, own=()):
     it, line = reply.refusal(), line.decode("latin-1")
     title = f"{it.number} {it.word}" + ("" if it.operation is None else f" #{it.operation}")
     if it.number == 60:
-        fault = misspelt(line, own) or Fault(None, sentence(60))
+        fault = misspelt(line, own) or Fault(None, messages.general(60))
         return Fault(fault.column, f"{title}: {fault.words}")
     if it.number == 54:
         return unfit(line, title)
     column = None if it.at is None else text_begins(line) + it.at
-    return Fault(column, f"{title}: {sentence(it.number)}{hint(it.number, line, column or 0)}")
+    if column is not None and it.number <= messages.LAST_OF_TEXT:
+        why = of_text(it, line, column)
+    else:
+        why = messages.of_command(it.number, line.split(), reply.about)
+    if it.number == 26:
+        column = named_at(line)
+    elif column is None and reply.about:
+        column = where(line, reply.about[2 if it.number == 24 else 0])
+    return Fault(column, f"{title}: {why}{hint(it.number, line, column or 0)}")
+
+
+def where(line, word):
+    """Returns the byte of the last place at which a line has a word, or None."""
+    found = [it.start() for it in re.finditer(rf"(?<!\S){re.escape(word)}(?!\S)", line)]
+    return found[-1] if found else None
+
+
+def named_at(line):
+    """Returns the byte at which a line names a rule, a pattern or a key."""
+    it = re.match(r"[ \t]*(?:(?:why|drop-attr)[ \t]+#\d+|canon[ \t]+only|\S+)[ \t]+", line)
+    return it.end() if it else None
 
 
 def pointed(line, column):

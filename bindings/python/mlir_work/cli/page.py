@@ -73,9 +73,11 @@ class Data:
         self.lines, self.rows = Table(), {kind: Table() for kind in kinds()}
         self.last, self.last_rows = [], {kind: [] for kind in kinds()}
 
-    def step(self, step, is_same):
-        """Returns a step, as its differences."""
+    def step(self, step, before):
+        """Returns a step, as its differences to the state before it."""
         told = {"line": plain(step.line), "reply": step.reply}
+        if step.rewrites:
+            told["by"] = [rewrite_row(it, before) for it in step.rewrites[:MOST_NAMED]]
         if step.notes:
             told["notes"] = [plain(note) for note in step.notes]
         if step.part:
@@ -84,7 +86,7 @@ class Data:
             told["says"], told["column"], told["about"] = step.says()
         if step.unproved:
             told["unproved"] = [plain(line) for line in step.unproved]
-        if not is_same:
+        if step.state is not before:
             self.changes(step.state, told)
         return told
 
@@ -120,11 +122,20 @@ class Data:
         """Returns all data, as the page reads them. A line is a text, the operation that it belongs to, and whether it
         begins there."""
         befores = [None, *(step.state for step in steps)]
-        told = [self.step(step, step.state is before) for step, before in zip(steps, befores)]
+        told = [self.step(step, before) for step, before in zip(steps, befores)]
         keys = [key for key, _ in self.lines.all()]
         return {"title": title, "kinds": kinds(), "steps": told, "texts": [text for _, text in self.lines.all()],
                 "owners": [owner(key) for key in keys], "heads": [int(isinstance(key, str)) for key in keys],
                 "rows": {kind: rows.all() for kind, rows in self.rows.items()}, "rules": rules()}
+
+
+def rewrite_row(rewrite, before):
+    """Returns a rewrite as the page reads it: the rule or the pattern, the operation, and its text before the
+    rewrite."""
+    rule = f"{rewrite.rule} {rewrite.word}" if rewrite.rule else rewrite.word
+    lines = before.lines if before else []
+    text = next((text for key, text in lines if key == str(rewrite.operation)), "")
+    return [rule, rewrite.operation, plain(text.strip())]
 
 
 def owner(key):

@@ -62,6 +62,14 @@ def commands():
     return found
 
 
+def grammar(word):
+    """Returns the grammar of patterns, for words about patterns."""
+    if word not in ("pattern", "patterns", "grammar", "check"):
+        return []
+    lines = sections("PATTERNS.md")["The language"].splitlines()
+    return ["Grammar of patterns:", *(line[2:] for line in lines if line.startswith("    "))]
+
+
 def own(word):
     """Returns the form of a word of the prompt, and its description."""
     those = [it[word] for it in (words.WORDS, words.NAMED) if word in it]
@@ -76,6 +84,6 @@ def about(text):
         return []
     found = [refusals().get(word) if kind != "rules" else None, rules().get(word) if kind != "refusals" else None]
     if not kind:
-        found += [commands().get(word), own(word), kinds().get(word)]
+        found += [commands().get(word), own(word), kinds().get(word), grammar(word)]
     found = [lines for lines in found if lines]
     return [line for place, lines in enumerate(found) for line in [""] * bool(place) + lines]

@@ -1,5 +1,6 @@
 """Runs the program on a module and a script, and reads its output."""
 import pathlib
+import re
 import subprocess
 import sys
 import tempfile
@@ -9,9 +10,11 @@ from ..process import Process
 from ..reply import Transcript, decoded
 from ..script import has_divider, joined, parted, patterns_in
 
-OPAQUE, PATTERNS = "--opaque", "--patterns"
+OPAQUE, PATTERNS, EXPLAIN, SPLIT = "--opaque", "--patterns", "--explain", "--split-input-file"
 # Options from the command line, which each run of the program gets.
 ASKED = []
+# With --split-input-file, the module that a command reads in place of the file of this name.
+PART = {}
 # The status of a command that Ctrl-C ended, as in shells.
 INTERRUPTED = 130
 
@@ -37,6 +40,11 @@ def asked_for():
     return started().with_words(*ASKED)
 
 
+def explaining():
+    """Returns the option with which the program says what a refusal is about, if it has that option."""
+    return [EXPLAIN] * has_option(EXPLAIN)
+
+
 def has_option(option):
     """Whether the program's help names an option. Raises `Fault` if the program can't be started."""
     program = started()
@@ -48,7 +56,7 @@ def has_option(option):
 
 def process(module):
     """Returns a process of the program that holds a module. Raises `ModuleRefused` and `ProcessLost`."""
-    program = asked_for()
+    program = asked_for().with_words(*explaining())
     held = Process(program.words, program.more)
     held.open(module)
     return held
@@ -60,6 +68,13 @@ def arguments(parser):
                         help="keep unknown types and attributes as their texts, like `mlir_work --opaque`")
     parser.add_argument(PATTERNS, metavar="FILE", action="append", default=[],
                         help="a file of user patterns, a line each, which are defined first; may be repeated")
+    split_argument(parser)
+
+
+def split_argument(parser):
+    """Adds the option that runs a command over each module of a file."""
+    parser.add_argument(SPLIT, dest="is_split", action="store_true",
+                        help="run the command over each module of the file between lines `// -----`")
 
 
 def ask(is_opaque, files=()):
@@ -83,10 +98,25 @@ def named_from_the_start():
     return [line.split()[0].decode("utf-8", "replace") for line in patterns_in(files)]
 
 
+def read(name):
+    """Returns the bytes of a file, or of standard input for the name `-`."""
+    return sys.stdin.buffer.read() if name == "-" else pathlib.Path(name).read_bytes()
+
+
+def parts(name):
+    """Returns the modules of a file between lines that are dividers. Each begins with empty lines for those above it,
+    so that its lines have their numbers in the file."""
+    found, lines = [], 0
+    for text in re.split(rb"(?m)^// -----\n", read(name)):
+        found.append(b"\n" * lines + text)
+        lines += text.count(b"\n") + 1
+    return found
+
+
 def inputs(names):
     """Returns the module and the script of one or two files, and the line at which the script begins in the last file.
     The name `-` is standard input. Raises `Fault` if a divider ends the module of two files."""
-    texts = [sys.stdin.buffer.read() if name == "-" else pathlib.Path(name).read_bytes() for name in names]
+    texts = [PART[name] if name in PART else read(name) for name in names]
     if len(texts) == 1:
         return parted(texts[0])
     if has_divider(texts[0]):
@@ -95,10 +125,10 @@ def inputs(names):
     return (*texts, 1)
 
 
-def written(text):
-    """Returns the status of a run over an input, with --brief, and its output. The input is a file, since a pipe
-    accepts only a few kilobytes at a time."""
-    program = asked_for()
+def written(text, *more):
+    """Returns the status of a run over an input, with --brief and more options, and its output. The input is a file,
+    since a pipe accepts only a few kilobytes at a time."""
+    program = asked_for().with_words(*more)
     with tempfile.TemporaryFile() as given:
         given.write(text)
         given.seek(0)
@@ -110,9 +140,9 @@ def written(text):
     return it.returncode, decoded(it.stdout)
 
 
-def ran(text):
-    """Returns the output of a run over an input."""
-    return Transcript(*written(text))
+def ran(text, *more):
+    """Returns the output of a run over an input, with more options."""
+    return Transcript(*written(text, *more))
 
 
 def answered(module, script):

@@ -202,7 +202,7 @@ def opened(given, screen):
         names, typed, first = [given.module, str(taken.path)], taken.script, 3
     session, done = begun(given.module, text, typed, screen)
     if session.seen is None:
-        screen.say(explain.module_refused(given.module, session.module, done.refused))
+        print(*explain.module_refused(given.module, session.module, done.refused), sep="\n", file=sys.stderr)
         return done.status, script
     screen.say(done.lines)
     screen.say(explain.commands_refused(names[-1], (session.module, typed), first, done.replies()))

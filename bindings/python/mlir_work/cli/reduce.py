@@ -60,7 +60,7 @@ class Refusal:
 
     def is_shown(self, answer):
         """Whether the reply is this refusal."""
-        words = answer.text.split()
+        words = answer.brief.split()
         return words[:1] == ["refused"] and set(self.reason) <= set(words)
 
     renamed = Row.renamed

@@ -7,19 +7,21 @@ import itertools
 import re
 
 from ..reply import Reply
-from ..rewrites import stood_of
+from ..rewrites import Rewrite, rewrite_of, stood_of
 from ..script import is_counted, joined
-from . import mistakes
+from . import mistakes, table
 from .forms import kinds, looks
 from .listing import COMMAND, Listing
-from .program import asked, ran
+from .program import asked, explaining, ran
 from .ways import REFUSED
 
 # Commands that change neither the module nor a report, but must be run again.
 KEEPS = {"begin", "commit", "pattern", "check"}
 REWRITES = {"converged", "limit", "converted"}
-# A command that rewrites, without its limit and `trace`.
-REWRITING = re.compile(r"rewrite[ \t]+[^ \t]+|canon(?:[ \t]+only[ \t]+[^ \t]+)?")
+# A command that rewrites, without its limit and `trace`. One that names an operation can't be traced.
+REWRITING = re.compile(r"rewrite[ \t]+[^ \t]+|canon(?:[ \t]+only[ \t]+[^ \t]+|[ \t]+(at)[ \t]+#\d+)?")
+TRACE = re.compile(r"[ \t]+trace(?![^ \t])")
+APPLY = re.compile(r"apply[ \t]+(\S+)[ \t]+#(\d+)")
 # A traced conversion. After all its rules, RECONCILE reconciles the casts.
 TOLD_CONVERSION = re.compile(r"convert[ \t]+trace[ \t]")
 RECONCILE = "convert partial"
@@ -40,11 +42,13 @@ class State:
 class Step:
     """A line of a script, or a part of it, such as rewrite 2 of 14 (`part`). `reply` is the reply, `notes` are the
     comments above the line, and `run` are the lines to run for it, if they change the module or a report. A refused
-    line has the lines below its reply in `told`. `unproved` are the lines that name patterns which no check proves."""
+    line has the lines below its reply in `told`, and what its refusal is about in `about`. `unproved` are the lines
+    that name patterns which no check proves. `rewrites` are the rewrites of the step, once it has a state."""
 
-    def __init__(self, line, reply, notes=(), run=(), part=None, told=(), unproved=()):
+    def __init__(self, line, reply, notes=(), run=(), part=None, told=(), unproved=(), about=()):
         self.line, self.reply, self.notes, self.run, self.part = line, reply, list(notes), list(run), part
-        self.state, self.told, self.unproved = None, told, list(unproved)
+        self.state, self.told, self.unproved, self.about = None, told, list(unproved), about
+        self.rewrites = []
 
     @property
     def is_same(self):
@@ -59,7 +63,7 @@ class Step:
     def says(self):
         """Returns why the line was refused, the byte at which it is wrong or None, and the operation that the refusal
         names or None."""
-        reply = Reply(self.reply)
+        reply = Reply(" about ".join([self.reply, " ".join(self.about)] if self.about else [self.reply]))
         fault = mistakes.explained(reply, self.line.encode("utf-8", "surrogateescape"))
         words = [fault.words.partition(": ")[2], *(it for it in self.told if it.startswith("stays "))]
         return "; ".join(words), fault.column, reply.refusal().operation
@@ -78,17 +82,18 @@ def rewrites(line, reply, most):
     by = REWRITING.match(line)
     is_told = reply.outcome in REWRITES and (by or TOLD_CONVERSION.match(line))
     count = reply.number if is_told else 0
+    head = by.group() + " trace" * (not by[1]) if by else ""
     if count < 2:
-        return [[line]]
+        return [[head + TRACE.sub("", line[by.end():], count=1) if by else line]]
     if not by:
         return conversion(reply, most)
-    return [[f"{by.group()} limit 1"]] * min(count, most) + [[f"{by.group()} limit {count - most}"]] * (count > most)
+    return [[f"{head} limit 1"]] * min(count, most) + [[f"{head} limit {count - most}"]] * (count > most)
 
 
 def of_line(line, reply, notes, most):
     """Returns the steps of a line of a script."""
     if reply.is_refused or line.split()[0] in looks():
-        return [Step(line, reply.text, notes, told=reply.lines)]
+        return [Step(line, reply.brief, notes, told=reply.lines, about=reply.about)]
     parts, unproved = rewrites(line, reply, most), [it for it in reply.lines if it.startswith("unproved ")]
     if len(parts) == 1:
         return [Step(line, reply.text, notes, parts[0], unproved=unproved)]
@@ -112,7 +117,7 @@ def shortened(steps, most):
 def read(module, script, most=MOST):
     """Returns the steps of a script, without states, and None. The first step is the module before the script. If the
     module is refused, returns no steps, and why."""
-    done = ran(joined(module, script))
+    done = ran(joined(module, script), *explaining())
     if done.refused:
         return [], done.refused
     told, steps, notes = done.replies(), [Step("", "the module before the script")], []
@@ -126,21 +131,36 @@ def read(module, script, most=MOST):
     return shortened(steps, max(most, 1)), None
 
 
+def rewrites_of(line, reply):
+    """Returns the rewrites that a line made: those of its trace, or that of an `apply`."""
+    by = APPLY.match(line)
+    if not by:
+        return [rewrite_of(it) for it in reply.lines if it.startswith("rewrote ")]
+    if reply.number != 1:
+        return []
+    known = {str(row["number"]): row["word"] for row in table.rows("rules")}
+    word = known.get(by[1], by[1])
+    number = next((int(it) for it, name in known.items() if name == word), None)
+    return [Rewrite(number, word, int(by[2]))]
+
+
 def states(module, before, steps):
-    """Yields for each of some steps the module after it, and the rows of each report, or the reply if the report is
-    refused. `before` are the lines before the first step."""
-    lines, wanted = list(before), []
+    """Yields for each of some steps the module after it; the rows of each report, or the reply if the report is
+    refused; and the rewrites of the step. `before` are the lines before the first step."""
+    lines, wanted, own = list(before), [], []
     for _, run in steps:
+        own.append((len(lines), run))
         lines += run
         asks = [*(f"report {kind}" for kind in kinds()), COMMAND]
         wanted += range(len(lines), len(lines) + len(asks))
         lines += asks
     replies = list(asked(module, lines).replies())
     found = iter([replies[place] if place < len(replies) else REFUSED for place in wanted])
-    for _ in steps:
+    for begin, run in own:
         reports = list(itertools.islice(found, len(kinds())))
-        rows = {kind: it.text if it.text != "ok" else it.lines for kind, it in zip(kinds(), reports)}
-        yield Listing(next(found).shown), rows
+        rows = {kind: it.brief if it.text != "ok" else it.lines for kind, it in zip(kinds(), reports)}
+        made = [it for line, reply in zip(run, replies[begin:]) for it in rewrites_of(line, reply)]
+        yield Listing(next(found).shown), rows, made
 
 
 def keyed(listing):
@@ -177,8 +197,9 @@ def fill(module, steps):
     """Gives each step its state. A step that changes nothing has the state of the step before."""
     before, once = [], Once()
     for piece in pieces(steps, module.count(b'"(')):
-        for (step, _), (listing, rows) in zip(piece, states(module, before, piece)):
+        for (step, _), (listing, rows, made) in zip(piece, states(module, before, piece)):
             step.state = State(once.list("", keyed(listing)), {kind: once.list(kind, it) for kind, it in rows.items()})
+            step.rewrites = made
         before += [line for _, run in piece for line in run]
     for last, step in zip(steps, steps[1:]):
         step.state = step.state or last.state

@@ -62,7 +62,7 @@ class Session:
         """Runs a script and adds its lines to the session. Returns the output of the run."""
         run = Transcript(0, "")
         if script or not self.listing().texts:
-            run = program.ran(joined(self.module, script))
+            run = program.ran(joined(self.module, script), *program.explaining())
         if not run.refused:
             self.take(script, run.replies())
             self.start, self.seen, self.refusals = self.kept(), self.listing(), int(run.status == 1)
@@ -299,13 +299,13 @@ class Session:
             return self.no(str(fault))
         kept = self.kept()
         before = "".join(line + "\n" for line in kept).encode("utf-8", "surrogateescape")
-        run = program.ran(joined(self.module, before + script))
+        run = program.ran(joined(self.module, before + script), *program.explaining())
         replies = list(itertools.islice(run.replies(), len(kept), None))
         told = explain.commands_refused(name, (self.module, script), 1, replies, kept)
         self.undone = []
         self.take(script, replies)
         self.refusals += bool(told)
-        return [*(line for number, it in enumerate(replies, 1) for line in (f"{number} {it.text}", *it.lines)), *told]
+        return [*(line for number, it in enumerate(replies, 1) for line in (f"{number} {it.brief}", *it.lines)), *told]
 
     def write(self, name, pretty):
         """Writes the module into a file."""

@@ -7,7 +7,12 @@
 //! # Ok::<(), mlir_work::Refused>(())
 //! ```
 
+mod handles;
+
+pub use handles::{interned, Attribute, Entry, Interned, Name, Operation, Region, Type, ValueHandle};
+
 use mlir_work_sys as sys;
+use std::cell::UnsafeCell;
 use std::collections::hash_map::RandomState;
 use std::error::Error;
 use std::fmt;
@@ -147,10 +152,11 @@ const NO_MARK: u32 = 35;
 /// The signature of the calls that open a session.
 type Open = unsafe extern "C" fn(*mut sys::Handle, *const u8, usize, u64, u32, *mut sys::Answer);
 
-/// A module with its marks and its analyses. It isn't `Send`, because of the pointer in its handle.
+/// A module with its marks and its analyses. It isn't `Send`, because of the pointer in its handle, and isn't `Sync`.
 #[derive(Debug)]
 pub struct Session {
-    held: sys::Handle,
+    /// A call of the library takes the session out of the handle and puts it back, also if it only reads.
+    held: UnsafeCell<sys::Handle>,
     marks: usize,
 }
 
@@ -167,12 +173,12 @@ impl Session {
 
     fn open_by(call: Open, module: &[u8], limit: u32) -> Result<Session, Refused> {
         let key = RandomState::new().build_hasher().finish();
-        let mut session = Session { held: sys::CLOSED, marks: 0 };
+        let session = Session { held: UnsafeCell::new(sys::CLOSED), marks: 0 };
         let mut answer = sys::Answer::default();
         // SAFETY: the handle is closed, and the pointer of a slice isn't null.
         unsafe {
             assert_eq!(sys::mlir_work_version(), sys::VERSION, "libmlir_work.a has another version");
-            call(&mut session.held, module.as_ptr(), module.len(), key, limit, &mut answer);
+            call(session.handle(), module.as_ptr(), module.len(), key, limit, &mut answer);
         }
         outcome(&answer).map(|_| session)
     }
@@ -187,7 +193,7 @@ impl Session {
         let answer = self.say(line.as_ref())?;
         let mut bytes = vec![0; answer.shown as usize];
         // SAFETY: the handle was opened, and a slice's pointer isn't null.
-        let count = unsafe { sys::mlir_work_read(&mut self.held, 0, bytes.as_mut_ptr(), bytes.len()) };
+        let count = unsafe { sys::mlir_work_read(self.handle(), 0, bytes.as_mut_ptr(), bytes.len()) };
         bytes.truncate(count);
         Ok(String::from_utf8_lossy(&bytes).into_owned())
     }
@@ -243,73 +249,78 @@ impl Session {
     }
 
     /// Returns whether an operation is in the module.
-    pub fn has(&mut self, operation: u32) -> bool {
+    pub fn has(&self, operation: u32) -> bool {
         // SAFETY: as above.
-        unsafe { sys::mlir_work_has(&mut self.held, operation) }
+        unsafe { sys::mlir_work_has(self.handle(), operation) }
     }
 
     /// Returns the root: the module's own operation, which contains all others.
-    pub fn root(&mut self) -> Option<u32> {
+    pub fn root(&self) -> Option<u32> {
         // SAFETY: as above.
-        found(unsafe { sys::mlir_work_root(&mut self.held) })
+        found(unsafe { sys::mlir_work_root(self.handle()) })
     }
 
     /// Returns the parent operation.
-    pub fn parent(&mut self, operation: u32) -> Option<u32> {
+    pub fn parent(&self, operation: u32) -> Option<u32> {
         // SAFETY: as above.
-        found(unsafe { sys::mlir_work_parent(&mut self.held, operation) })
+        found(unsafe { sys::mlir_work_parent(self.handle(), operation) })
     }
 
     /// Returns the next operation in the same block.
-    pub fn next(&mut self, operation: u32) -> Option<u32> {
+    pub fn next(&self, operation: u32) -> Option<u32> {
         // SAFETY: as above.
-        found(unsafe { sys::mlir_work_next(&mut self.held, operation) })
+        found(unsafe { sys::mlir_work_next(self.handle(), operation) })
     }
 
     /// Returns the previous operation in the same block.
-    pub fn previous(&mut self, operation: u32) -> Option<u32> {
+    pub fn previous(&self, operation: u32) -> Option<u32> {
         // SAFETY: as above.
-        found(unsafe { sys::mlir_work_previous(&mut self.held, operation) })
+        found(unsafe { sys::mlir_work_previous(self.handle(), operation) })
     }
 
     /// Returns the first operation in the block of a region.
-    pub fn first(&mut self, operation: u32, region: u32) -> Option<u32> {
+    pub fn first(&self, operation: u32, region: u32) -> Option<u32> {
         // SAFETY: as above.
-        found(unsafe { sys::mlir_work_first(&mut self.held, operation, region) })
+        found(unsafe { sys::mlir_work_first(self.handle(), operation, region) })
     }
 
     /// Returns the last operation in the block of a region.
-    pub fn last(&mut self, operation: u32, region: u32) -> Option<u32> {
+    pub fn last(&self, operation: u32, region: u32) -> Option<u32> {
         // SAFETY: as above.
-        found(unsafe { sys::mlir_work_last(&mut self.held, operation, region) })
+        found(unsafe { sys::mlir_work_last(self.handle(), operation, region) })
     }
 
     /// Returns an operand of an operation, by its number.
-    pub fn operand(&mut self, operation: u32, place: usize) -> Option<Value> {
+    pub fn operand(&self, operation: u32, place: usize) -> Option<Value> {
         let mut value = sys::Value::default();
         // SAFETY: as above.
-        let is_there = unsafe { sys::mlir_work_operand(&mut self.held, operation, place, &mut value) };
+        let is_there = unsafe { sys::mlir_work_operand(self.handle(), operation, place, &mut value) };
         is_there.then(|| Value::of(value))
     }
 
     /// Returns one of the uses of a value: the operation, and the number of its operand.
-    pub fn first_use(&mut self, value: Value) -> Option<(u32, u32)> {
+    pub fn first_use(&self, value: Value) -> Option<(u32, u32)> {
         let mut user = sys::Use::default();
         // SAFETY: as above.
-        let is_there = unsafe { sys::mlir_work_first_use(&mut self.held, &value.numbers(), &mut user) };
+        let is_there = unsafe { sys::mlir_work_first_use(self.handle(), &value.numbers(), &mut user) };
         is_there.then_some((user.operation, user.operand))
     }
 
-    fn answered(&mut self, call: impl FnOnce(&mut sys::Handle, &mut sys::Answer)) -> Result<(), Refused> {
+    /// Returns the handle for a call. No call runs inside another one, and no other thread has the session.
+    fn handle(&self) -> *mut sys::Handle {
+        self.held.get()
+    }
+
+    fn answered(&mut self, call: impl FnOnce(*mut sys::Handle, &mut sys::Answer)) -> Result<(), Refused> {
         let mut answer = sys::Answer::default();
-        call(&mut self.held, &mut answer);
+        call(self.handle(), &mut answer);
         outcome(&answer).map(|_| ())
     }
 
     fn say(&mut self, line: &[u8]) -> Result<sys::Answer, Refused> {
         let mut answer = sys::Answer::default();
         // SAFETY: the handle was opened, and a slice's pointer isn't null.
-        unsafe { sys::mlir_work_command(&mut self.held, line.as_ptr(), line.len(), &mut answer) };
+        unsafe { sys::mlir_work_command(self.handle(), line.as_ptr(), line.len(), &mut answer) };
         let told = outcome(&answer)?;
         match command_word(line) {
             b"begin" if told == Outcome::Done => self.marks += 1,
@@ -358,7 +369,7 @@ impl Drop for Mark<'_> {
 impl Drop for Session {
     fn drop(&mut self) {
         // SAFETY: a handle may be closed at any time.
-        unsafe { sys::mlir_work_close(&mut self.held) }
+        unsafe { sys::mlir_work_close(self.handle()) }
     }
 }
 

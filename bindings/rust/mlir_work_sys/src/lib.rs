@@ -59,6 +59,31 @@ pub struct Use {
     pub operand: u32,
 }
 
+/// How many operands, results, properties, discardable attributes and regions an operation has.
+#[repr(C)]
+#[derive(Clone, Copy, Debug, Default, PartialEq, Eq)]
+pub struct Count {
+    pub operands: usize,
+    pub results: usize,
+    pub properties: usize,
+    pub attributes: usize,
+    pub regions: usize,
+}
+
+/// An entry: the number of its key, which is a name, and of its attribute.
+#[repr(C)]
+#[derive(Clone, Copy, Debug, Default, PartialEq, Eq)]
+pub struct Entry {
+    pub key: u32,
+    pub attribute: u32,
+}
+
+/// The result of a call that fills an array or a buffer, if memory ran out.
+pub const NO_MEMORY: u64 = u64::MAX - 1;
+
+/// The signature of the calls that write the text of an interned number.
+pub type Text = unsafe extern "C" fn(*mut Handle, u32, *mut u8, usize) -> u64;
+
 extern "C" {
     pub fn mlir_work_version() -> u32;
     pub fn mlir_work_open(
@@ -99,4 +124,19 @@ extern "C" {
     pub fn mlir_work_last(session: *mut Handle, operation: u32, region: u32) -> u64;
     pub fn mlir_work_operand(session: *mut Handle, operation: u32, operand: usize, value: *mut Value) -> bool;
     pub fn mlir_work_first_use(session: *mut Handle, value: *const Value, user: *mut Use) -> bool;
+    pub fn mlir_work_operations(session: *mut Handle, operations: *mut u32, capacity: usize) -> u64;
+    pub fn mlir_work_uses(session: *mut Handle, value: *const Value, uses: *mut Use, capacity: usize) -> usize;
+    pub fn mlir_work_counts(session: *mut Handle, operation: u32, counts: *mut Count) -> bool;
+    pub fn mlir_work_argument_count(session: *mut Handle, operation: u32, region: u32) -> u64;
+    pub fn mlir_work_region_of(session: *mut Handle, operation: u32) -> u64;
+    pub fn mlir_work_name_of(session: *mut Handle, operation: u32) -> u64;
+    pub fn mlir_work_value_type(session: *mut Handle, value: *const Value) -> u64;
+    pub fn mlir_work_property_at(session: *mut Handle, operation: u32, index: usize, entry: *mut Entry) -> bool;
+    pub fn mlir_work_attribute_at(session: *mut Handle, operation: u32, index: usize, entry: *mut Entry) -> bool;
+    pub fn mlir_work_property_by_key(session: *mut Handle, operation: u32, key: u32) -> u64;
+    pub fn mlir_work_attribute_by_key(session: *mut Handle, operation: u32, key: u32) -> u64;
+    pub fn mlir_work_find_name(session: *mut Handle, text: *const u8, text_length: usize) -> u64;
+    pub fn mlir_work_name_text(session: *mut Handle, name: u32, into: *mut u8, into_length: usize) -> u64;
+    pub fn mlir_work_type_text(session: *mut Handle, ty: u32, into: *mut u8, into_length: usize) -> u64;
+    pub fn mlir_work_attribute_text(session: *mut Handle, attribute: u32, into: *mut u8, into_length: usize) -> u64;
 }

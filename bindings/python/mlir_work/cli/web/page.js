@@ -455,7 +455,8 @@ function listSteps() {
 function partName(step) {
   const told = [["made", "+"], ["changed", "~"], ["gone", "−"]]
     .flatMap(([what, sign]) => (step.ops?.[what] || []).map(op => `${sign}#${op}`));
-  return `${step.part[0]}  ${told.join(" ")}${step.ops?.more ? " .." : ""}`;
+  const first = step.by?.length === 1 ? step.by[0][0] : step.part[0];
+  return `${first}  ${told.join(" ")}${step.ops?.more ? " .." : ""}`;
 }
 
 function select(row) {
@@ -506,6 +507,8 @@ function tell(step) {
   const line = make("div", "line", make("pre", "", ...(step.line ? withRefs(step.line) : ["Module before the script"])),
     make("span", `reply${step.says ? " refused" : ""}`, ...(step.line ? withRefs(step.reply) : [])));
   const found = [...(step.notes || []).map(note => make("div", "note", note)), line];
+  for (const [rule, op, text] of step.by || [])
+    found.push(make("div", "by", make("span", "rule", rule), " at ", ref(op), " ", ...withRefs(text)));
   if (step.unproved) found.push(make("div", "says", step.unproved.join("; ")));
   if (step.says) {
     const caret = `${" ".repeat(Math.max(step.column || 0, 0))}^`;

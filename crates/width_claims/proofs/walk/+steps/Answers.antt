@@ -15,7 +15,7 @@ walk_step-push_transition-requires t c = guess_small c.args.step.now c.args.tail
 pub walk_step-branch_after-after-requires : goal.walk_step-branch_after-after-requires
 walk_step-branch_after-after-requires t c =
     step_small c.args.step.now c.args.tail.now c.args.branch.now c.args.guess c.next-next.result c.requires.small c.requires.guess
-    (digit_below c.args.step.now c.args.branch.now.state c.digit-kept.result c.args.guess c.next-next.result c.args.bits.now.items _ c.requires.bits c.digit-kept.ensures c.next-next.ensures c.as_slice.ensures.value)
+    (digit_below c.args.step.now c.args.branch.now.state c.digit-kept.result c.args.guess c.next-next.result c.args.bits.now.items _ c.requires.bits (guess_less c.args.step.now c.args.guess c.requires.guess) c.digit-kept.ensures c.next-next.ensures c.as_slice.ensures.value)
 
 pub walk_step-walk-requires : goal.walk_step-walk-requires
 walk_step-walk-requires t c = (
@@ -24,6 +24,6 @@ walk_step-walk-requires t c = (
     subst (λ (bs : List ℕ). AreBits bs) (sym c.in_ok-push_bit.ensures) (bits_more c.args.step.now c.digit-kept.result c.args.guess c.args.bits.now.items c.requires.bits (guess_less c.args.step.now c.args.guess c.requires.guess)),
     subst (λ (b : Branch). IsSmall c.args.tail.now b) (sym c.branch_after-after.ensures)
         (tail_small c.args.step.now c.args.tail.now c.args.branch.now c.args.guess c.next-next.result c.requires.small c.requires.guess
-        (digit_below c.args.step.now c.args.branch.now.state c.digit-kept.result c.args.guess c.next-next.result c.args.bits.now.items _ c.requires.bits c.digit-kept.ensures c.next-next.ensures c.as_slice.ensures.value)),
+        (digit_below c.args.step.now c.args.branch.now.state c.digit-kept.result c.args.guess c.next-next.result c.args.bits.now.items _ c.requires.bits (guess_less c.args.step.now c.args.guess c.requires.guess) c.digit-kept.ensures c.next-next.ensures c.as_slice.ensures.value)),
   ),
 )

@@ -1,0 +1,340 @@
+//! The C functions that read operations, their entries and their uses, and the texts of interned numbers. They change
+//! nothing.
+ghost use Rattle.std.specs.Prelude.{◌≡◌, option_map};
+ghost use Rattle.mlir_work_c.specs.Asked.{asked};
+ghost use Rattle.mlir_work_c.specs.Calls.{IsHeld};
+ghost use Rattle.mlir_work_c.specs.Numbers.{number_of as told, value_of as told_value};
+ghost use Rattle.mlir_work_c.specs.Reading.{MayWrite, Writes, WritesItems, WritesOperations, WritesUsesOf, argument_count_in, attribute_in, attribute_of_key_in, attribute_text_in, counts_in, entry_numbers, name_in, name_number_in, name_text_in, property_in, property_of_key_in, region_in, type_in, type_text_in};
+
+use crate::handle::Handle;
+use crate::numbers::{ValueNumbers, count_or_none, no_memory, no_number, number_or_none, value_of};
+use ir_event::types::ids::{AttrId, NameId, OpId, TypeId};
+use mlir_work_c_read::entries::{attribute_at, attribute_by_key, property_at, property_by_key};
+use mlir_work_c_read::numbers::{Counts, EntryNumbers, UseNumbers};
+use mlir_work_c_read::operations::{
+    argument_count, counts_of, name_of, region_of, type_of, write_operations,
+};
+use mlir_work_c_read::texts::{attribute_text, find_name, name_text, type_text, write_text};
+use mlir_work_c_read::uses::write_uses;
+use std::alloc::Global;
+
+/// Writes the operations of the module in pre-order, as many as there is space for. Returns how many the module has.
+#[unsafe(no_mangle)]
+pub extern "C" fn mlir_work_operations(alloc: Global, held: &mut Handle, into: &mut [u32]) -> u64
+    requires kept { IsHeld held.old.slot.value }
+    ensures same { held.new.slot.value ≡ held.old.slot.value }
+    ensures told { WritesOperations held.old.slot.value into.old into.new result }
+{
+    let Some(found) = held.take(alloc) else {
+        return no_number();
+    };
+    let count = write_operations(found.bench.world(), into);
+    held.open_with(found);
+    match count {
+        Ok(count) => count as u64,
+        Err(_) => no_memory(),
+    }
+}
+
+/// Returns the region of its parent in which an operation is.
+#[unsafe(no_mangle)]
+pub extern "C" fn mlir_work_region_of(alloc: Global, held: &mut Handle, operation: u32) -> u64
+    requires kept { IsHeld held.old.slot.value }
+    ensures same { held.new.slot.value ≡ held.old.slot.value }
+    ensures told { result ≡ told (asked (region_in operation) held.old.slot.value) }
+{
+    let Some(found) = held.take(alloc) else {
+        return no_number();
+    };
+    let region = region_of(found.bench.world(), OpId::new(operation));
+    held.open_with(found);
+    number_or_none(region)
+}
+
+/// Returns the number of the name of an operation.
+#[unsafe(no_mangle)]
+pub extern "C" fn mlir_work_name_of(alloc: Global, held: &mut Handle, operation: u32) -> u64
+    requires kept { IsHeld held.old.slot.value }
+    ensures same { held.new.slot.value ≡ held.old.slot.value }
+    ensures told { result ≡ told (asked (name_in operation) held.old.slot.value) }
+{
+    let Some(found) = held.take(alloc) else {
+        return no_number();
+    };
+    let name = name_of(found.bench.world(), OpId::new(operation));
+    held.open_with(found);
+    number_or_none(name)
+}
+
+/// Gets the counts of an operation. Returns whether the operation exists.
+#[unsafe(no_mangle)]
+pub extern "C" fn mlir_work_counts(
+    alloc: Global,
+    held: &mut Handle,
+    operation: u32,
+    counts: &mut Counts,
+) -> bool
+    requires kept { IsHeld held.old.slot.value }
+    ensures same { held.new.slot.value ≡ held.old.slot.value }
+    ensures told { Writes (asked (counts_in operation) held.old.slot.value) counts.old counts.new result }
+{
+    let Some(found) = held.take(alloc) else {
+        return false;
+    };
+    let told = counts_of(found.bench.world(), OpId::new(operation));
+    held.open_with(found);
+    let Some(told) = told else {
+        return false;
+    };
+    *counts = told;
+    true
+}
+
+/// Returns the number of arguments of the block of a region.
+#[unsafe(no_mangle)]
+pub extern "C" fn mlir_work_argument_count(
+    alloc: Global,
+    held: &mut Handle,
+    operation: u32,
+    region: u32,
+) -> u64
+    requires kept { IsHeld held.old.slot.value }
+    ensures same { held.new.slot.value ≡ held.old.slot.value }
+    ensures told { result ≡ told (asked (argument_count_in operation region) held.old.slot.value) }
+{
+    let Some(found) = held.take(alloc) else {
+        return no_number();
+    };
+    let count = argument_count(found.bench.world(), OpId::new(operation), region);
+    held.open_with(found);
+    count_or_none(count)
+}
+
+/// Returns the number of the type of a value.
+#[unsafe(no_mangle)]
+pub extern "C" fn mlir_work_value_type(
+    alloc: Global,
+    held: &mut Handle,
+    value: &ValueNumbers,
+) -> u64
+    requires kept { IsHeld held.old.slot.value }
+    ensures same { held.new.slot.value ≡ held.old.slot.value }
+    ensures told { result ≡ told (asked (type_in (told_value value.now)) held.old.slot.value) }
+{
+    let Some(found) = held.take(alloc) else {
+        return no_number();
+    };
+    let ty = type_of(found.bench.world(), value_of(value));
+    held.open_with(found);
+    number_or_none(ty)
+}
+
+/// Gets a property of an operation by its index. Returns whether the property exists.
+#[unsafe(no_mangle)]
+pub extern "C" fn mlir_work_property_at(
+    alloc: Global,
+    held: &mut Handle,
+    operation: u32,
+    index: usize,
+    entry: &mut EntryNumbers,
+) -> bool
+    requires kept { IsHeld held.old.slot.value }
+    ensures same { held.new.slot.value ≡ held.old.slot.value }
+    ensures told { Writes (option_map entry_numbers (asked (property_in operation index) held.old.slot.value)) entry.old entry.new result }
+{
+    let Some(found) = held.take(alloc) else {
+        return false;
+    };
+    let told = property_at(found.bench.world(), OpId::new(operation), index);
+    held.open_with(found);
+    let Some((key, attr)) = told else {
+        return false;
+    };
+    *entry = EntryNumbers {
+        key: key.number(),
+        attribute: attr.number(),
+    };
+    true
+}
+
+/// Gets a discardable attribute of an operation by its index. Returns whether the attribute exists.
+#[unsafe(no_mangle)]
+pub extern "C" fn mlir_work_attribute_at(
+    alloc: Global,
+    held: &mut Handle,
+    operation: u32,
+    index: usize,
+    entry: &mut EntryNumbers,
+) -> bool
+    requires kept { IsHeld held.old.slot.value }
+    ensures same { held.new.slot.value ≡ held.old.slot.value }
+    ensures told { Writes (option_map entry_numbers (asked (attribute_in operation index) held.old.slot.value)) entry.old entry.new result }
+{
+    let Some(found) = held.take(alloc) else {
+        return false;
+    };
+    let told = attribute_at(found.bench.world(), OpId::new(operation), index);
+    held.open_with(found);
+    let Some((key, attr)) = told else {
+        return false;
+    };
+    *entry = EntryNumbers {
+        key: key.number(),
+        attribute: attr.number(),
+    };
+    true
+}
+
+/// Returns the number of the property of an operation at a key.
+#[unsafe(no_mangle)]
+pub extern "C" fn mlir_work_property_by_key(
+    alloc: Global,
+    held: &mut Handle,
+    operation: u32,
+    key: u32,
+) -> u64
+    requires kept { IsHeld held.old.slot.value }
+    ensures same { held.new.slot.value ≡ held.old.slot.value }
+    ensures told { result ≡ told (asked (property_of_key_in operation key) held.old.slot.value) }
+{
+    let Some(found) = held.take(alloc) else {
+        return no_number();
+    };
+    let attr = property_by_key(found.bench.world(), OpId::new(operation), NameId::new(key));
+    held.open_with(found);
+    number_or_none(attr)
+}
+
+/// Returns the number of the discardable attribute of an operation at a key.
+#[unsafe(no_mangle)]
+pub extern "C" fn mlir_work_attribute_by_key(
+    alloc: Global,
+    held: &mut Handle,
+    operation: u32,
+    key: u32,
+) -> u64
+    requires kept { IsHeld held.old.slot.value }
+    ensures same { held.new.slot.value ≡ held.old.slot.value }
+    ensures told { result ≡ told (asked (attribute_of_key_in operation key) held.old.slot.value) }
+{
+    let Some(found) = held.take(alloc) else {
+        return no_number();
+    };
+    let attr = attribute_by_key(found.bench.world(), OpId::new(operation), NameId::new(key));
+    held.open_with(found);
+    number_or_none(attr)
+}
+
+/// Writes the uses of a value, as many as there is space for. Returns how many the value has.
+#[unsafe(no_mangle)]
+pub extern "C" fn mlir_work_uses(
+    alloc: Global,
+    held: &mut Handle,
+    value: &ValueNumbers,
+    into: &mut [UseNumbers],
+) -> usize
+    requires kept { IsHeld held.old.slot.value }
+    ensures same { held.new.slot.value ≡ held.old.slot.value }
+    ensures told { WritesUsesOf (told_value value.now) held.old.slot.value into.old into.new result }
+{
+    let Some(found) = held.take(alloc) else {
+        return 0;
+    };
+    let count = write_uses(found.bench.world(), value_of(value), into);
+    held.open_with(found);
+    count
+}
+
+/// Returns the number of the name with this text.
+#[unsafe(no_mangle)]
+pub extern "C" fn mlir_work_find_name(alloc: Global, held: &mut Handle, text: &[u8]) -> u64
+    requires kept { IsHeld held.old.slot.value }
+    ensures same { held.new.slot.value ≡ held.old.slot.value }
+    ensures told { result ≡ told (asked (name_number_in text.now) held.old.slot.value) }
+{
+    let Some(found) = held.take(alloc) else {
+        return no_number();
+    };
+    let name = find_name(&found.bench.world().ctx, text);
+    held.open_with(found);
+    number_or_none(name)
+}
+
+/// Writes the text of a name, as many bytes as there is space for. Returns its length.
+#[unsafe(no_mangle)]
+pub extern "C" fn mlir_work_name_text(
+    alloc: Global,
+    held: &mut Handle,
+    name: u32,
+    into: &mut [u8],
+) -> u64
+    requires kept { IsHeld held.old.slot.value }
+    ensures same { held.new.slot.value ≡ held.old.slot.value }
+    ensures told { WritesItems (asked (name_text_in name) held.old.slot.value) into.old into.new result }
+{
+    let Some(found) = held.take(alloc) else {
+        return no_number();
+    };
+    let length = match name_text(&found.bench.world().ctx, NameId::new(name)) {
+        Some(text) => write_text(text, into) as u64,
+        None => no_number(),
+    };
+    held.open_with(found);
+    length
+}
+
+/// Writes a text, as many bytes as there is space for. Returns its length, or 2^64 - 1 for `None`.
+fn write_some(text: Option<Vec<u8>>, into: &mut [u8]) -> u64
+    ensures { WritesItems (option_map (λ v. v.items) text) into.old into.new result }
+{
+    match text {
+        Some(text) => write_text(&text, into) as u64,
+        None => no_number(),
+    }
+}
+
+/// Writes the text of a type, as many bytes as there is space for. Returns its length.
+#[unsafe(no_mangle)]
+pub extern "C" fn mlir_work_type_text(
+    alloc: Global,
+    held: &mut Handle,
+    ty: u32,
+    into: &mut [u8],
+) -> u64
+    requires kept { IsHeld held.old.slot.value }
+    ensures same { held.new.slot.value ≡ held.old.slot.value }
+    ensures told { MayWrite (asked (type_text_in ty) held.old.slot.value) into.old into.new result }
+{
+    let Some(found) = held.take(alloc) else {
+        return no_number();
+    };
+    let made = type_text(alloc, &found.bench.world().ctx, TypeId::new(ty));
+    held.open_with(found);
+    let Ok(text) = made else {
+        return no_memory();
+    };
+    write_some(text, into)
+}
+
+/// Writes the text of an attribute, as many bytes as there is space for. Returns its length.
+#[unsafe(no_mangle)]
+pub extern "C" fn mlir_work_attribute_text(
+    alloc: Global,
+    held: &mut Handle,
+    attribute: u32,
+    into: &mut [u8],
+) -> u64
+    requires kept { IsHeld held.old.slot.value }
+    ensures same { held.new.slot.value ≡ held.old.slot.value }
+    ensures told { MayWrite (asked (attribute_text_in attribute) held.old.slot.value) into.old into.new result }
+{
+    let Some(found) = held.take(alloc) else {
+        return no_number();
+    };
+    let made = attribute_text(alloc, &found.bench.world().ctx, AttrId::new(attribute));
+    held.open_with(found);
+    let Ok(text) = made else {
+        return no_memory();
+    };
+    write_some(text, into)
+}

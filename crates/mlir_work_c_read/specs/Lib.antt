@@ -1,0 +1,5 @@
+pub mod Entries
+pub mod Filled
+pub mod Operations
+pub mod Texts
+pub mod Uses

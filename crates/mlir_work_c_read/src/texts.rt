@@ -1,0 +1,83 @@
+//! Texts of interned names, types and attributes, and the number of a name.
+ghost use Rattle.std.specs.Prelude.{◌≡◌, IfOk, length, option_map};
+ghost use Rattle.mlir_work_c_read.specs.Filled.{over};
+ghost use Rattle.mlir_work_c_read.specs.Texts.{attribute_text, name_number, name_text, type_text};
+
+use ir_event::types::context::Context;
+use ir_event::types::ids::{AttrId, NameId, TypeId};
+use ir_event::world::World;
+use ir_text::attributes::print_attr;
+use ir_text::types::print_type;
+use std::alloc::{AllocError, Global};
+
+/// Returns the text of an interned name, or `None` if the context has no such name.
+pub fn name_text(ctx: &Context, name: NameId) -> Option<&[u8]>
+    ensures { option_map (λ t. t.now) result ≡ name_text name ctx.now }
+{
+    if !ctx.has_name(name) {
+        return None;
+    }
+    Some(ctx.name_bytes(name))
+}
+
+/// Returns the text of an interned type as a printed module has it, or `None` if the context has no such type.
+///
+/// Errors: memory runs out.
+pub fn type_text(alloc: Global, ctx: &Context, ty: TypeId) -> Result<Option<Vec<u8>>, AllocError>
+    ensures { IfOk result (λ t. option_map (λ v. v.items) t ≡ type_text ty ctx.now) }
+{
+    if !ctx.has_type(ty) {
+        return Ok(None);
+    }
+    let mut text = Vec::new(alloc);
+    match print_type(ctx, &mut text, ty) {
+        Ok(()) => Ok(Some(text)),
+        Err(e) => Err(e),
+    }
+}
+
+/// Returns the text of an interned attribute as a printed module has it, or `None` if the context has no such
+/// attribute.
+///
+/// Errors: memory runs out.
+pub fn attribute_text(
+    alloc: Global,
+    ctx: &Context,
+    attr: AttrId,
+) -> Result<Option<Vec<u8>>, AllocError>
+    ensures { IfOk result (λ t. option_map (λ v. v.items) t ≡ attribute_text attr ctx.now) }
+{
+    if !ctx.has_attr(attr) {
+        return Ok(None);
+    }
+    let mut text = Vec::new(alloc);
+    match print_attr(ctx, &mut text, attr) {
+        Ok(()) => Ok(Some(text)),
+        Err(e) => Err(e),
+    }
+}
+
+/// Returns the number of the name with this text, or `None` if the context has no such name. Takes time proportional to the names.
+pub fn find_name(ctx: &Context, text: &[u8]) -> Option<u32>
+    ensures { result ≡ name_number text.now ctx.now }
+{
+    ctx.sound();
+    let mut number = 0;
+    'names: while ctx.has_name(NameId::new(number)) {
+        if text == ctx.name_bytes(NameId::new(number)) {
+            return Some(number);
+        }
+        number += 1;
+    }
+    None
+}
+
+/// Writes a text, as many bytes as there is space for, and returns its length.
+pub fn write_text(text: &[u8], into: &mut [u8]) -> usize
+    ensures written { into.new ≡ over text.now into.old }
+    ensures count { result ≡ length text.now }
+{
+    let count = text.len().min(into.len());
+    into[..count].copy_from_slice(&text[..count]);
+    text.len()
+}

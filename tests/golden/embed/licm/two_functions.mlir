@@ -1,0 +1,26 @@
+"builtin.module"() ({
+  "func.func"() <{function_type = (index, i32, i32, memref<?xi32>) -> (), sym_name = "g"}> ({
+  ^bb0(%arg0: index, %arg1: i32, %arg2: i32, %arg3: memref<?xi32>):
+    %0 = "arith.constant"() <{value = 0 : index}> : () -> index
+    %1 = "arith.constant"() <{value = 1 : index}> : () -> index
+    "scf.for"(%0, %arg0, %1) ({
+    ^bb0(%arg4: index):
+      %2 = "arith.andi"(%arg1, %arg2) : (i32, i32) -> i32
+      "memref.store"(%2, %arg3, %arg4) : (i32, memref<?xi32>, index) -> ()
+      "scf.yield"() : () -> ()
+    }) : (index, index, index) -> ()
+    "func.return"() : () -> ()
+  }) : () -> ()
+  "func.func"() <{function_type = (index, i32, i32, memref<?xi32>) -> (), sym_name = "f"}> ({
+  ^bb0(%arg5: index, %arg6: i32, %arg7: i32, %arg8: memref<?xi32>):
+    %3 = "arith.constant"() <{value = 0 : index}> : () -> index
+    %4 = "arith.constant"() <{value = 1 : index}> : () -> index
+    "scf.for"(%3, %arg5, %4) ({
+    ^bb0(%arg9: index):
+      %5 = "arith.ori"(%arg6, %arg7) : (i32, i32) -> i32
+      "memref.store"(%5, %arg8, %arg9) : (i32, memref<?xi32>, index) -> ()
+      "scf.yield"() : () -> ()
+    }) : (index, index, index) -> ()
+    "func.return"() : () -> ()
+  }) : () -> ()
+}) : () -> ()

@@ -1,0 +1,207 @@
+/* Reads operations, entries, uses and texts by numbers: what is there, what isn't, arrays that are too short, closed
+   handles, and numbers after a rollback. It says nothing and ends with 0 if all answers are right. */
+#include "mlir_work.h"
+
+#include <stdio.h>
+#include <stdlib.h>
+#include <string.h>
+
+static int faults;
+
+static void want(bool is_right, const char *what, int line) {
+  if (!is_right) {
+    printf("line %d: %s\n", line, what);
+    faults++;
+  }
+}
+
+#define WANT(it) want((it), #it, __LINE__)
+
+static const char module[] =
+    "\"func.func\"() <{function_type = (i32, i32) -> i32, sym_name = \"f\"}> ({\n"
+    "^bb0(%a: i32, %b: i32):\n"
+    "  %0 = \"arith.constant\"() <{value = 5 : i32}> {tag = \"t\", zone = 7 : i8} : () -> i32\n"
+    "  %1 = \"arith.addi\"(%a, %0) <{overflowFlags = #arith.overflow<none>}> : (i32, i32) -> i32\n"
+    "  %2:2 = \"test.pair\"(%1, %1, %0) ({}, {\n"
+    "  ^bb0(%c: i64):\n"
+    "    \"test.inner\"(%1, %c) : (i32, i64) -> ()\n"
+    "  }) : (i32, i32, i32) -> (i1, i64)\n"
+    "  \"func.return\"(%1) : (i32) -> ()\n"
+    "}) : () -> ()\n";
+
+enum { ROOT, FUNC, CONSTANT, ADD, PAIR, INNER, RETURN, ALL };
+
+static mlir_work_session s = MLIR_WORK_CLOSED;
+
+static mlir_work_value result(uint32_t operation, uint32_t place) {
+  mlir_work_value value = {operation, MLIR_WORK_RESULT, place};
+  return value;
+}
+
+static mlir_work_value argument(uint32_t operation, uint32_t region, uint32_t place) {
+  mlir_work_value value = {operation, region, place};
+  return value;
+}
+
+typedef uint64_t reads(mlir_work_session *, uint32_t, uint8_t *, size_t);
+
+/* Whether a number has this text; a buffer that is too short gets its beginning. */
+static bool is_text(reads *read, uint64_t number, const char *wanted) {
+  uint8_t all[64], some[4] = {'.', '.', '.', '.'}, none;
+  const uint64_t length = strlen(wanted);
+  const uint32_t it = (uint32_t)number;
+  return number < MLIR_WORK_NO_MEMORY && read(&s, it, all, sizeof all) == length && !memcmp(all, wanted, length) &&
+         read(&s, it, some, 2) == length && !memcmp(some, wanted, length < 2 ? length : 2) && some[2] == '.' &&
+         read(&s, it, &none, 0) == length;
+}
+
+static bool is_type(mlir_work_value value, const char *wanted) {
+  return is_text(mlir_work_type_text, mlir_work_value_type(&s, &value), wanted);
+}
+
+static uint64_t name(const char *text) { return mlir_work_find_name(&s, (const uint8_t *)text, strlen(text)); }
+
+static void run(const char *line) {
+  mlir_work_answer answer;
+  mlir_work_command(&s, (const uint8_t *)line, strlen(line), &answer);
+  WANT(answer.outcome == MLIR_WORK_OK || answer.outcome == MLIR_WORK_MADE || answer.outcome == MLIR_WORK_CONVERGED);
+}
+
+static void open_module(void) {
+  mlir_work_answer answer;
+  mlir_work_open(&s, (const uint8_t *)module, sizeof module - 1, 7, 1000, &answer);
+  WANT(answer.outcome == MLIR_WORK_OK);
+}
+
+static void operations(void) {
+  uint32_t all[ALL + 1], some[3] = {99, 99, 99};
+  uint64_t at = ROOT;
+  WANT(mlir_work_operations(&s, all, ALL + 1) == ALL);
+  for (uint32_t k = 0; k < ALL; k++) {
+    WANT(all[k] == k && at == k);
+    at = mlir_work_walk_next(&s, (uint32_t)at, ROOT);
+  }
+  WANT(at == MLIR_WORK_NONE);
+  WANT(mlir_work_operations(&s, some, 2) == ALL && some[0] == 0 && some[1] == 1 && some[2] == 99);
+  WANT(mlir_work_operations(&s, some, 0) == ALL && some[0] == 0);
+  WANT(mlir_work_walk_next(&s, PAIR, PAIR) == INNER && mlir_work_walk_next(&s, INNER, PAIR) == MLIR_WORK_NONE);
+  WANT(mlir_work_walk_next(&s, 99, ROOT) == MLIR_WORK_NONE);
+  WANT(mlir_work_region_of(&s, INNER) == 1 && mlir_work_region_of(&s, ADD) == 0);
+  WANT(mlir_work_region_of(&s, ROOT) == MLIR_WORK_NONE && mlir_work_region_of(&s, 99) == MLIR_WORK_NONE);
+}
+
+static void counts(void) {
+  mlir_work_count it = {9, 9, 9, 9, 9};
+  WANT(!mlir_work_counts(&s, 99, &it) && it.operands == 9 && it.regions == 9);
+  WANT(mlir_work_counts(&s, PAIR, &it));
+  WANT(it.operands == 3 && it.results == 2 && it.properties == 0 && it.attributes == 0 && it.regions == 2);
+  WANT(mlir_work_counts(&s, CONSTANT, &it));
+  WANT(it.operands == 0 && it.results == 1 && it.properties == 1 && it.attributes == 2 && it.regions == 0);
+  WANT(mlir_work_argument_count(&s, FUNC, 0) == 2 && mlir_work_argument_count(&s, PAIR, 1) == 1);
+  WANT(mlir_work_argument_count(&s, ROOT, 0) == 0);
+  WANT(mlir_work_argument_count(&s, PAIR, 0) == MLIR_WORK_NONE); /* it has no block */
+  WANT(mlir_work_argument_count(&s, PAIR, 2) == MLIR_WORK_NONE);
+  WANT(mlir_work_argument_count(&s, PAIR, UINT32_MAX) == MLIR_WORK_NONE);
+  WANT(mlir_work_argument_count(&s, 99, 0) == MLIR_WORK_NONE);
+}
+
+static void texts(void) {
+  const mlir_work_value missing[] = {{ADD, MLIR_WORK_RESULT, 1}, {99, MLIR_WORK_RESULT, 0}, {FUNC, 0, 2}, {FUNC, 1, 0}};
+  uint8_t byte = '.';
+  WANT(is_text(mlir_work_name_text, mlir_work_name_of(&s, ADD), "arith.addi"));
+  WANT(is_text(mlir_work_name_text, mlir_work_name_of(&s, ROOT), "builtin.module"));
+  WANT(mlir_work_name_of(&s, 99) == MLIR_WORK_NONE);
+  WANT(name("arith.addi") == mlir_work_name_of(&s, ADD) && name("test.pair") == mlir_work_name_of(&s, PAIR));
+  WANT(name("test.inner") != name("test.pair") && name("test.none") == MLIR_WORK_NONE);
+  WANT(is_type(result(ADD, 0), "i32") && is_type(result(PAIR, 1), "i64") && is_type(argument(PAIR, 1, 0), "i64"));
+  for (size_t k = 0; k < sizeof missing / sizeof *missing; k++)
+    WANT(mlir_work_value_type(&s, &missing[k]) == MLIR_WORK_NONE);
+  const mlir_work_value one = result(ADD, 0), other = argument(FUNC, 0, 1), wide = result(PAIR, 1);
+  WANT(mlir_work_value_type(&s, &one) == mlir_work_value_type(&s, &other));
+  WANT(mlir_work_value_type(&s, &one) != mlir_work_value_type(&s, &wide));
+  WANT(mlir_work_name_text(&s, UINT32_MAX, &byte, 1) == MLIR_WORK_NONE && byte == '.');
+  WANT(mlir_work_type_text(&s, UINT32_MAX, &byte, 1) == MLIR_WORK_NONE && byte == '.');
+  WANT(mlir_work_attribute_text(&s, UINT32_MAX, &byte, 1) == MLIR_WORK_NONE && byte == '.');
+}
+
+static void entries(void) {
+  mlir_work_entry it = {9, 9};
+  WANT(!mlir_work_property_at(&s, CONSTANT, 1, &it) && !mlir_work_property_at(&s, 99, 0, &it));
+  WANT(!mlir_work_attribute_at(&s, CONSTANT, SIZE_MAX, &it) && it.key == 9 && it.attribute == 9);
+  WANT(mlir_work_property_at(&s, CONSTANT, 0, &it) && it.key == name("value"));
+  WANT(is_text(mlir_work_attribute_text, it.attribute, "5 : i32"));
+  WANT(mlir_work_property_by_key(&s, CONSTANT, it.key) == it.attribute);
+  WANT(mlir_work_attribute_by_key(&s, CONSTANT, it.key) == MLIR_WORK_NONE);
+  WANT(mlir_work_attribute_at(&s, CONSTANT, 0, &it) && it.key == name("tag"));
+  WANT(is_text(mlir_work_attribute_text, it.attribute, "\"t\""));
+  WANT(mlir_work_attribute_at(&s, CONSTANT, 1, &it) && it.key == name("zone"));
+  WANT(mlir_work_attribute_by_key(&s, CONSTANT, (uint32_t)name("zone")) == it.attribute);
+  WANT(mlir_work_property_by_key(&s, CONSTANT, (uint32_t)name("zone")) == MLIR_WORK_NONE);
+  WANT(mlir_work_property_by_key(&s, 99, (uint32_t)name("value")) == MLIR_WORK_NONE);
+  WANT(mlir_work_property_by_key(&s, CONSTANT, UINT32_MAX) == MLIR_WORK_NONE);
+}
+
+static void uses(void) {
+  const mlir_work_value sum = result(ADD, 0), unused = result(PAIR, 0), missing = result(99, 0);
+  mlir_work_use all[5], some[3] = {{9, 9}, {9, 9}, {9, 9}};
+  bool seen[ALL][3] = {{false}};
+  WANT(mlir_work_uses(&s, &sum, all, 5) == 4);
+  for (size_t k = 0; k < 4; k++)
+    seen[all[k].operation][all[k].operand] = true;
+  WANT(seen[PAIR][0] && seen[PAIR][1] && seen[INNER][0] && seen[RETURN][0]);
+  WANT(mlir_work_uses(&s, &sum, some, 2) == 4 && some[2].operation == 9);
+  WANT(!memcmp(all, some, 2 * sizeof *some));
+  WANT(mlir_work_uses(&s, &sum, some, 0) == 4 && mlir_work_uses(&s, &unused, some, 3) == 0);
+  WANT(mlir_work_uses(&s, &missing, some, 3) == 0);
+}
+
+/* A number keeps its meaning through edits and a rollback, also if only the edits that were undone needed it. */
+static void numbers(void) {
+  const uint64_t addi = mlir_work_name_of(&s, ADD);
+  run("begin");
+  run("insert before #6 %x = \"test.new\"() {fresh = 77 : i77} : () -> i77");
+  const mlir_work_value made = result(7, 0);
+  const uint64_t fresh = mlir_work_name_of(&s, 7), type = mlir_work_value_type(&s, &made), key = name("fresh");
+  const uint64_t attribute = mlir_work_attribute_by_key(&s, 7, (uint32_t)key);
+  run("erase #7");
+  run("rollback");
+  WANT(mlir_work_name_of(&s, 7) == MLIR_WORK_NONE && mlir_work_name_of(&s, ADD) == addi);
+  for (int k = 0; k < 2; k++) {
+    WANT(is_text(mlir_work_name_text, fresh, "test.new") && is_text(mlir_work_name_text, key, "fresh"));
+    WANT(is_text(mlir_work_type_text, type, "i77") && is_text(mlir_work_attribute_text, attribute, "77 : i77"));
+    run(k ? "canon" : "insert before #6 \"test.other\"() {later = 88 : i88} : () -> ()");
+  }
+}
+
+static void closed(void) {
+  mlir_work_count count = {9, 9, 9, 9, 9};
+  mlir_work_entry entry = {9, 9};
+  mlir_work_use use = {9, 9};
+  mlir_work_value value = result(ADD, 0);
+  uint32_t operation = 99;
+  uint8_t byte = '.';
+  WANT(mlir_work_operations(&s, &operation, 1) == MLIR_WORK_NONE && mlir_work_walk_next(&s, 0, 0) == MLIR_WORK_NONE);
+  WANT(mlir_work_region_of(&s, ADD) == MLIR_WORK_NONE && mlir_work_name_of(&s, ADD) == MLIR_WORK_NONE);
+  WANT(!mlir_work_counts(&s, ADD, &count) && mlir_work_argument_count(&s, FUNC, 0) == MLIR_WORK_NONE);
+  WANT(mlir_work_value_type(&s, &value) == MLIR_WORK_NONE && mlir_work_uses(&s, &value, &use, 1) == 0);
+  WANT(!mlir_work_property_at(&s, CONSTANT, 0, &entry) && !mlir_work_attribute_at(&s, CONSTANT, 0, &entry));
+  WANT(mlir_work_property_by_key(&s, 0, 0) == MLIR_WORK_NONE && mlir_work_attribute_by_key(&s, 0, 0) == MLIR_WORK_NONE);
+  WANT(name("arith.addi") == MLIR_WORK_NONE && mlir_work_name_text(&s, 0, &byte, 1) == MLIR_WORK_NONE);
+  WANT(mlir_work_type_text(&s, 0, &byte, 1) == MLIR_WORK_NONE);
+  WANT(mlir_work_attribute_text(&s, 0, &byte, 1) == MLIR_WORK_NONE);
+  WANT(operation == 99 && byte == '.' && count.results == 9 && entry.key == 9 && use.operand == 9);
+}
+
+int main(void) {
+  closed();
+  open_module();
+  operations();
+  counts();
+  texts();
+  entries();
+  uses();
+  numbers();
+  mlir_work_close(&s);
+  closed();
+  return faults != 0;
+}
