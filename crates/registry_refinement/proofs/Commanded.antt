@@ -10,15 +10,20 @@ use Rattle.rewriter_machine.specs.Machine as call
 use Rattle.rewriter_machine.specs.Machine.{Answer, Fault, Goes, Outcome, Reply, Shows, State, Transformation, due_change}
 use Rattle.rewriter_machine.specs.Commands.{Numbered, Replied, Response, RuleName, TextRefusedAt, Worded}
 use Rattle.patterns_base.specs.declared.rule.Rule.{Rule}
-use Rattle.patterns_base.specs.Canonicalization.{Canonical, End, ended, stopped}
+use Rattle.patterns_base.specs.Canonicalization.{Canonical, End, canonicalization_of, ended, stopped}
 use Rattle.patterns_base.specs.Rewrites.{Rewrite, becomes, none, refused, rewrite_of}
 use Rattle.user_patterns_apply.specs.Own.{own_rewrite}
-use Rattle.greedy.specs.Changes.{rewriting}
+use Rattle.greedy.specs.Changes.{canonicalizing, rewriting}
 use Rattle.greedy.specs.Changes as changes
 use Rattle.greedy.specs.Rewriting.{rewriting_of}
-use Rattle.greedy.specs.PatternSet.{RuleOrPatternModel, OfOwn, OfRule, by_attempts}
+use Rattle.greedy.specs.PatternSet.{RuleOrPatternModel, OfOwn, OfRule, by_attempts, by_rules}
 use Rattle.patterns_refinement.specs.Keeping.{IsReady}
-use Rattle.patterns_refinement.specs.ForOutcomes.{IsInRange, applied}
+use Rattle.patterns_refinement.specs.Runs.{KeptAreKept, kept_rules}
+use Rattle.patterns_refinement.specs.Canonical.{CanonicalizationKeeps, IsPlain}
+use Rattle.patterns_refinement.specs.Refining.{CanonRefines}
+use Rattle.patterns_refinement.specs.ForOutcomes.{CanonStaysInRange, IsInRange, RulesStayInRange, applied}
+use Rattle.patterns_refinement.proofs.Listed.{led}
+use Rattle.patterns_refinement.proofs.Running.{rules_under}
 use Rattle.patterns_refinement.proofs.MixedRunning.{mixed_runs_keep}
 use Rattle.patterns_refinement.proofs.Refining.{kept_is_refined}
 use Rattle.user_patterns_registry.specs.Registry.{RegistryModel, Kept}
@@ -26,7 +31,7 @@ use Rattle.mlir_work_transforms.specs.Applying.{made_of}
 use Rattle.mlir_work_transforms.specs.Rewriting.{canonical_named}
 use Rattle.mlir_work_transforms.specs.RuleLists.{Listed, all_listed, attempts_in, listed_named, mixing, or_rule, pattern_named}
 use Rattle.registry_refinement.specs.Noted.{IsNotedIn, NotedApplyRefines, NotedRewriteRefines}
-use Rattle.registry_refinement.specs.Commands.{Answers, ApplyCommandRefines, AreNotedNames, IsNotedName, IsRefinement, RewriteCommandRefines, application}
+use Rattle.registry_refinement.specs.Commands.{Answers, ApplyCommandRefines, AreNotedNames, CanonCommandRefines, IsNotedName, IsRefinement, RewriteCommandRefines, RulesCommandRefines, application}
 
 -- ---- the module after a call for a transformation
 abbrev Made : Type 0
@@ -153,3 +158,23 @@ rewrite_command_refines refines b reached names noted limit f mixes s t response
           let r = run_made (rewriting_of (by_attempts (attempts_in x.listed)) limit s.held) t.held made.0 made.1 in
           refines b reached (attempts_in x.listed) (all_noted b names x.listed noted x.are) limit s.held t.held r.count r.end ready range r.is
     ]
+
+pub rules_command_refines : KeptAreKept → RulesStayInRange → RulesCommandRefines
+rules_command_refines kept stays rs are limit s t response shows ready range a = elim (answers_held (rewriting (by_rules rs) limit) s t response shows a) [
+  | inl e ↦ still s.held t.held ready range e
+  | inr made ↦
+      let r = run_made (rewriting_of (by_rules rs) limit s.held) t.held made.0 made.1 in
+      let l = led rs limit r.count s.held t.held r.end r.is in
+      let w =
+      rules_under IsInRange rs (λ r j m n x range ready e. let k = kept rs are r j in (stays r (are r j) m n x ready range e, (k.0 m n x ready e, (λ a done c. k.1 m n x a done ready c e)))) l.0 s.held t.held range ready l.1 in
+      (w.1.0, w.0, kept_is_refined s.held t.held ready w.1)
+]
+
+pub canon_command_refines : CanonicalizationKeeps → CanonStaysInRange → CanonRefines → CanonCommandRefines
+canon_command_refines keeps stays refines limit s t response shows ready range plain a = elim (answers_held (canonicalizing limit) s t response shows a) [
+  | inl e ↦ (still s.held t.held ready range e, subst IsPlain (sym e) plain)
+  | inr made ↦
+      let r = run_made (canonicalization_of limit s.held) t.held made.0 made.1 in
+      let k = keeps limit s.held t.held r.count r.end ready plain r.is in
+      ((k.0, stays limit s.held t.held r.count r.end ready plain range r.is, refines limit s.held t.held r.count r.end ready plain r.is), k.1)
+]

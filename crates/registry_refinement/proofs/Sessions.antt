@@ -1,11 +1,17 @@
--- Lines of a session that apply noted patterns.
-use Rattle.std.proofs.Common.{◌≡◌, ◌∙◌, ℕ, zero, suc, Bool, true, false, List, Option, Some, None, refl, sym, ap, subst}
-use Rattle.std.specs.Prelude.{if◌then◌else◌, option_map}
+-- Lines of a session that apply noted patterns and listed rules.
+use Rattle.std.proofs.Common.{◌≡◌, ◌∙◌, ℕ, zero, suc, Bool, true, false, ◌||◌, true≢false, List, [], ◌∷◌, Option, Some, None, refl, sym, ap, subst, inl, inr}
+use Rattle.std.specs.Prelude.{if◌then◌else◌, is_some, option_and_then, option_map}
+use Rattle.std.proofs.lemmas.Option.{none-some, same_Some}
+use Rattle.ir_event.specs.tree_laws.Members.{In}
 use Rattle.rewriter_machine.specs.Machine as call
-use Rattle.rewriter_machine.specs.Machine.{Nothing, State, Transformation}
-use Rattle.rewriter_machine.specs.Commands.{AppliesRule, Apply, Ask, Asked, Follows, Misplaced, Response, RuleName}
-use Rattle.greedy.specs.PatternSet.{OfOwn}
+use Rattle.rewriter_machine.specs.Machine.{Nothing, Shows, State, Transformation}
+use Rattle.rewriter_machine.specs.Commands.{AppliesRule, Apply, Ask, Asked, Canon, Follows, Misplaced, Response, RuleName}
+use Rattle.patterns_base.specs.declared.rule.Rule.{Rule}
+use Rattle.greedy.specs.Changes.{canonicalizing, rewriting}
+use Rattle.greedy.specs.PatternSet.{OfOwn, OfRule, by_rules}
 use Rattle.patterns_refinement.specs.Keeping.{IsReady}
+use Rattle.patterns_refinement.specs.Runs.{kept_rules}
+use Rattle.patterns_refinement.specs.Canonical.{IsPlain}
 use Rattle.patterns_refinement.specs.ForOutcomes.{IsInRange}
 use Rattle.user_patterns_registry.specs.Registry.{RegistryModel, Kept}
 use Rattle.mlir_work_script.specs.Commands.{Spoken, Nothing as Empty, Bad, Obey, Ordered, Registered}
@@ -13,14 +19,16 @@ use Rattle.mlir_work_script.specs.RegistryCommands.{RegistryCommand}
 use Rattle.mlir_work_script.specs.SessionCommands.{Rewrite, SessionCommand, Trace}
 use Rattle.mlir_work_registry.specs.Notices.{Notice}
 use Rattle.mlir_work_registry.specs.Registries.{Registries}
+use Rattle.mlir_work_transforms.specs.Applying.{applying, rule_named}
+use Rattle.mlir_work_transforms.specs.Rewriting.{canonical_named, rewriting_named, rules_named}
 use Rattle.mlir_work_transforms.specs.RuleLists.{mixing, names_own, pattern_named}
-use Rattle.mlir_work_session.specs.Machine.{SessionSetting}
+use Rattle.mlir_work_session.specs.Machine.{RunsCommand, RunsSessionCommand, SessionSetting, limit_or}
 use Rattle.mlir_work_session.specs.Output.{Replies}
 use Rattle.mlir_work_session.specs.RuleLists.{ListCommand, Mixes, RunsListCommand, list_command_change, list_command_if}
 use Rattle.mlir_work_session.specs.Sittings.{RunsPatternCommand, Sitting}
 use Rattle.registry_refinement.specs.Noted.{IsReached, Leads}
-use Rattle.registry_refinement.specs.Commands.{AreNotedNames, ApplyCommandRefines, IsNotedName, IsRefinement, RewriteCommandRefines}
-use Rattle.registry_refinement.specs.Sessions.{ApplyLineRefines, LinesKeepReached, RewriteLineRefines, RewriteLinesRefine}
+use Rattle.registry_refinement.specs.Commands.{AreNotedNames, ApplyCommandRefines, CanonCommandRefines, IsNotedName, IsRefinement, RewriteCommandRefines, RulesCommandRefines}
+use Rattle.registry_refinement.specs.Sessions.{ApplyLineRefines, CanonLinesRefine, IsAppliedName, LinesKeepReached, RewriteLinesRefine}
 use Rattle.registry_refinement.proofs.Commanded.{own_noted, still}
 
 -- ---- one more registry command
@@ -35,32 +43,116 @@ lines_keep_reached setting s t (Obey command) notice shows reached r = subst IsR
 lines_keep_reached setting s t (Ordered command) notice shows reached r = subst IsReached (sym r.3) reached
 lines_keep_reached setting s t (Registered command) notice shows reached r = (suc reached.0, leads_on reached.0 _ s.registry t.registry command notice shows reached.1 r.0)
 
--- ---- a pattern at an operation
+-- ---- a transformation that may be missing
+one_change : (o : Option Transformation) (asked : Asked) (s t : State) (response : Response) (shows : Shows) → IsReady s.held → IsInRange s.held → AppliesRule o asked → Follows s asked response shows t
+    → ((f : Transformation) → o ≡ Some f → Follows s (Ask (call.Change f)) response shows t → IsRefinement s.held t.held) → IsRefinement s.held t.held
+one_change None asked s t response shows ready range a follows refines =
+    let f = subst (λ asked. Follows s asked response shows t) a follows in
+    still s.held t.held ready range (ap (λ (u : State). u.held) f.2)
+one_change (Some f) asked s t response shows ready range a follows refines = refines f refl (subst (λ asked. Follows s asked response shows t) a follows)
+
+-- ---- `apply`
+rule_change : (o : Option Rule) (x : ℕ) (f : Transformation) → option_map (λ r. applying r x) o ≡ Some f → (r : Rule) × (o ≡ Some r) × (applying r x ≡ f)
+rule_change None x f e = absurd (none-some f e)
+rule_change (Some r) x f e = (r, refl, same_Some _ _ e)
+
 pub apply_line_refines : ApplyCommandRefines → ApplyLineRefines
-apply_line_refines refines setting s t name x k notice shows reached named noted ready range r =
-    let named_it : option_map (λ k. (k, x)) (pattern_named name s.registry) ≡ Some (k, x) = ap (option_map (λ k. (k, x))) named in
-    let applies = subst (λ o. RunsPatternCommand setting.session_options o s.state (Apply name x) r.0 shows t.state) named_it r.2 in
-    refines s.registry reached (OfOwn k.shape) (own_noted s.registry name k named noted) x s.state t.state r.0 Nothing ready range applies.0
-
--- ---- a list of patterns and rules
-list_refines : RewriteCommandRefines → (setting : SessionSetting) (registry : RegistryModel) → IsReached registry → (x : ListCommand) → AreNotedNames registry x.names
-    → (s t : State) (response : Response) (bytes : List ℕ) → IsReady s.held → IsInRange s.held → Mixes setting.session_options registry x s response bytes t → IsRefinement s.held t.held
-list_refines refines setting registry reached x noted s t response bytes ready range m = go (list_command_change setting.session_options registry x) refl m.asks
+apply_line_refines refines s name x noted setting t notice shows reached ready range r = go (pattern_named name s.registry) refl noted r.2
   where
-    go : (o : Option Transformation) → list_command_change setting.session_options registry x ≡ o → AppliesRule o m.asked → IsRefinement s.held t.held
-    go None e a = let f = subst (λ asked. Follows s asked response Nothing t) a m.follows in still s.held t.held ready range (ap (λ (u : State). u.held) f.2)
-    go (Some f) e a = refines registry reached x.names noted _ f e s t response Nothing ready range (subst (λ asked. Follows s asked response Nothing t) a m.follows)
+    go : (o : Option Kept) → pattern_named name s.registry ≡ o → IsAppliedName o name → RunsPatternCommand setting.session_options (option_map (λ k. (k, x)) o) s.state (Apply name x) r.0 shows t.state
+        → IsRefinement s.state.held t.state.held
+    go (Some k) named noted applies = refines s.registry reached (OfOwn k.shape) (own_noted s.registry name k named noted) x s.state t.state r.0 Nothing ready range applies.0
+    go None named noted runs =
+        one_change (option_map (λ r. applying r x) (rule_named name)) runs.asked s.state t.state r.0 runs.shows ready range runs.asks runs.follows
+        (λ f e follows.
+        let g = rule_change (rule_named name) x f e in
+        refines s.registry reached (OfRule g.0) (noted g.0 g.1) x s.state t.state r.0 runs.shows ready range (subst (λ f. Follows s.state (Ask (call.Change f)) r.0 runs.shows t.state) (sym g.2) follows))
 
-by_list : RewriteCommandRefines → (tells : Bool) (setting : SessionSetting) (s t : Sitting) (command : SessionCommand) (names : List RuleName) (limit : Option ℕ) (response : Response) (bytes : List ℕ)
-    → IsReached s.registry → names_own s.registry names ≡ true → AreNotedNames s.registry names → IsReady s.state.held → IsInRange s.state.held
-    → RunsListCommand setting s.registry (list_command_if (names_own s.registry names) (record { names = names; limit = limit; tells = tells })) s.state command response bytes t.state → IsRefinement s.state.held t.state.held
-by_list refines tells setting s t command names limit response bytes reached own noted ready range r =
-    let x : ListCommand = record { names = names; limit = limit; tells = tells } in
-    let named : list_command_if (names_own s.registry names) x ≡ Some x = ap (λ b. if b then Some x else None) own in
-    list_refines refines setting s.registry reached x noted s.state t.state response bytes ready range (subst (λ o. RunsListCommand setting s.registry o s.state command response bytes t.state) named r)
+-- ---- `rewrite`
+neither : (b c : Bool) → (b || c) ≡ false → (b ≡ false) × (c ≡ false)
+neither true c e = absurd (true≢false e)
+neither false c e = (refl, e)
 
-pub rewrite_lines_refine : RewriteCommandRefines → RewriteLinesRefine
-rewrite_lines_refine refines = (
-  (λ setting s t names limit notice shows reached own noted ready range r. by_list refines false setting s t (Rewrite names limit) names limit r.0 shows reached own noted ready range r.2),
-  (λ setting s t names limit notice shows reached own noted ready range r. by_list refines true setting s t (Trace (Some names) limit) names limit r.0 shows reached own noted ready range r.2),
+no_pattern : (o : Option Kept) → is_some o ≡ false → o ≡ None
+no_pattern None e = refl
+no_pattern (Some k) e = absurd (true≢false e)
+
+record Ruled (name : RuleName) (o : Option (List Rule)) (rs : List Rule) : Type 0 where
+  pub first : Rule
+  pub named : canonical_named name ≡ Some first
+  pub rest : List Rule
+  pub are : o ≡ Some rest
+  pub whole : first ∷ rest ≡ rs
+
+ruled : (name : RuleName) (o : Option (List Rule)) (rs : List Rule) → option_and_then (λ r. option_map (λ rs. r ∷ rs) o) (canonical_named name) ≡ Some rs → Ruled name o rs
+ruled name o rs e = go (canonical_named name) refl o refl e
+  where
+    go : (a : Option Rule) → canonical_named name ≡ a → (u : Option (List Rule)) → o ≡ u → option_and_then (λ r. option_map (λ rs. r ∷ rs) u) a ≡ Some rs → Ruled name o rs
+    go None i u j e = absurd (none-some rs e)
+    go (Some r) i None j e = absurd (none-some rs e)
+    go (Some r) i (Some rest) j e = record { first = r; named = i; rest = rest; are = j; whole = same_Some _ _ e }
+
+rules_kept : (b : RegistryModel) (names : List RuleName) (rs : List Rule) → names_own b names ≡ false → AreNotedNames b names → rules_named names ≡ Some rs → (r : Rule) → In r rs → In r kept_rules
+rules_kept b [] rs own noted e r i = absurd (subst (In r) (sym (same_Some _ _ e)) i)
+rules_kept b (name ∷ names) rs own noted e r i =
+    let q = ruled name (rules_named names) rs e in
+    let n = neither (is_some (pattern_named name b)) (names_own b names) own in
+    elim (subst (In r) (sym q.whole) i) [
+      | inl s ↦ subst (λ r. In r kept_rules) (sym s) (subst (λ o. IsNotedName o name) (no_pattern (pattern_named name b) n.0) (noted name (inl refl)) q.first q.named)
+      | inr j ↦ rules_kept b names q.rest n.1 (λ n k. noted n (inr k)) q.are r j
+    ]
+
+rules_change : (o : Option (List Rule)) (limit : ℕ) (f : Transformation) → option_map (λ rs. rewriting (by_rules rs) limit) o ≡ Some f → (rs : List Rule) × (o ≡ Some rs) × (rewriting (by_rules rs) limit ≡ f)
+rules_change None limit f e = absurd (none-some f e)
+rules_change (Some rs) limit f e = (rs, refl, same_Some _ _ e)
+
+module _ (refines : RewriteCommandRefines) (by_list : RulesCommandRefines) (setting : SessionSetting) (s t : Sitting) (names : List RuleName) (limit : Option ℕ) (noted : AreNotedNames s.registry names)
+    (reached : IsReached s.registry) (ready : IsReady s.state.held) (range : IsInRange s.state.held) (response : Response) where
+  abbrev most : ℕ
+  most = limit_or setting.session_options.limit limit
+
+  -- a list of rules only
+  rules_refine : names_own s.registry names ≡ false → (asked : Asked) (shows : Shows) → AppliesRule (rewriting_named names most) asked → Follows s.state asked response shows t.state → IsRefinement s.state.held t.state.held
+  rules_refine own asked shows a follows =
+      one_change (rewriting_named names most) asked s.state t.state response shows ready range a follows
+      (λ f e follows.
+      let g = rules_change (rules_named names) most f e in
+      by_list g.0 (rules_kept s.registry names g.0 own noted g.1) most s.state t.state response shows ready range (subst (λ f. Follows s.state (Ask (call.Change f)) response shows t.state) (sym g.2) follows))
+
+  -- a list with a pattern
+  mixed_refines : (tells : Bool) (bytes : List ℕ) → Mixes setting.session_options s.registry (record { names = names; limit = limit; tells = tells }) s.state response bytes t.state → IsRefinement s.state.held t.state.held
+  mixed_refines tells bytes m =
+      one_change (mixing s.registry names most) m.asked s.state t.state response Nothing ready range m.asks m.follows
+      (λ f e follows. refines s.registry reached names noted most f e s.state t.state response Nothing ready range follows)
+
+pub rewrite_lines_refine : RewriteCommandRefines → RulesCommandRefines → RewriteLinesRefine
+rewrite_lines_refine refines by_list s names limit noted = (plain, traced)
+  where
+    plain : (setting : SessionSetting) (t : Sitting) (notice : Notice) (shows : List ℕ) → IsReached s.registry → IsReady s.state.held → IsInRange s.state.held
+        → Replies setting s (Ordered (Rewrite names limit)) notice shows t → IsRefinement s.state.held t.state.held
+    plain setting t notice shows reached ready range r = go (names_own s.registry names) refl r.2
+      where
+        go : (b : Bool) → names_own s.registry names ≡ b
+            → RunsListCommand setting s.registry (list_command_if b (record { names = names; limit = limit; tells = false })) s.state (Rewrite names limit) r.0 shows t.state → IsRefinement s.state.held t.state.held
+        go true own m = mixed_refines refines by_list setting s t names limit noted reached ready range r.0 false shows m
+        go false own m = rules_refine refines by_list setting s t names limit noted reached ready range r.0 own m.asked m.shows m.asks m.follows
+
+    traced : (setting : SessionSetting) (t : Sitting) (notice : Notice) (shows : List ℕ) → IsReached s.registry → IsReady s.state.held → IsInRange s.state.held
+        → Replies setting s (Ordered (Trace (Some names) limit)) notice shows t → IsRefinement s.state.held t.state.held
+    traced setting t notice shows reached ready range r = go (names_own s.registry names) refl r.2
+      where
+        go : (b : Bool) → names_own s.registry names ≡ b
+            → RunsListCommand setting s.registry (list_command_if b (record { names = names; limit = limit; tells = true })) s.state (Trace (Some names) limit) r.0 shows t.state → IsRefinement s.state.held t.state.held
+        go true own m = mixed_refines refines by_list setting s t names limit noted reached ready range r.0 true shows m
+        go false own m = rules_refine refines by_list setting s t names limit noted reached ready range r.0 own m.asked m.shows m.asks m.follows
+
+-- ---- `canon`
+pub canon_lines_refine : CanonCommandRefines → CanonLinesRefine
+canon_lines_refine refines s limit plain = (
+  (λ setting t notice shows reached ready range r.
+      let c = r.2 in
+      (refines (limit_or setting.session_options.limit limit) s.state t.state r.0 c.shows ready range plain (subst (λ asked. Follows s.state asked r.0 c.shows t.state) c.asks c.follows)).0),
+  (λ setting t notice shows reached ready range r.
+      let c = r.2 in
+      (refines (limit_or setting.session_options.limit limit) s.state t.state r.0 c.shows ready range plain (subst (λ asked. Follows s.state asked r.0 c.shows t.state) c.asks c.follows)).0),
 )

@@ -1,4 +1,5 @@
--- The commands `apply` and `rewrite` of a session, by patterns that its registry notes as `holds` and by listed rules.
+-- The commands `apply`, `rewrite` and `canon` of a session, by patterns that its registry notes as `holds` and by listed
+-- rules.
 use Rattle.std.specs.Prelude.{◌≡◌, ℕ, List, true, Option, Some, None}
 use Rattle.ir_event.specs.Modules.{Module}
 use Rattle.ir_event.specs.tree_laws.Members.{In}
@@ -6,9 +7,11 @@ use Rattle.rewriter_machine.specs.Machine as call
 use Rattle.rewriter_machine.specs.Machine.{Shows, State, Transformation}
 use Rattle.rewriter_machine.specs.Commands.{Ask, Follows, Response, RuleName}
 use Rattle.patterns_base.specs.declared.rule.Rule.{Rule}
-use Rattle.greedy.specs.PatternSet.{RuleOrPatternModel, OfOwn, OfRule}
+use Rattle.greedy.specs.Changes.{canonicalizing, rewriting}
+use Rattle.greedy.specs.PatternSet.{RuleOrPatternModel, OfOwn, OfRule, by_rules}
 use Rattle.patterns_refinement.specs.Keeping.{IsReady}
 use Rattle.patterns_refinement.specs.Runs.{kept_rules}
+use Rattle.patterns_refinement.specs.Canonical.{IsPlain}
 use Rattle.patterns_refinement.specs.Refining.{IsRefinedBy}
 use Rattle.patterns_refinement.specs.ForOutcomes.{IsInRange}
 use Rattle.user_patterns_registry.specs.declared.check_result.CheckSummary.TheVariants as said
@@ -55,3 +58,17 @@ RewriteCommandRefines =
     (b : RegistryModel) → IsReached b → (names : List RuleName) → AreNotedNames b names → (limit : ℕ) (f : Transformation) → mixing b names limit ≡ Some f
     → (s t : State) (response : Response) (shows : Shows) → IsReady s.held → IsInRange s.held → Answers f s response shows t
     → IsRefinement s.held t.held
+
+-- the same after `rewrite` by listed rules
+abbrev pub RulesCommandRefines : Type 0
+RulesCommandRefines =
+    (rs : List Rule) → ((r : Rule) → In r rs → In r kept_rules) → (limit : ℕ)
+    → (s t : State) (response : Response) (shows : Shows) → IsReady s.held → IsInRange s.held → Answers (rewriting (by_rules rs) limit) s response shows t
+    → IsRefinement s.held t.held
+
+-- the same after `canon`, if the module has no unrealized casts, and no loops and conditionals of `scf`; then it has
+-- none afterwards
+abbrev pub CanonCommandRefines : Type 0
+CanonCommandRefines =
+    (limit : ℕ) (s t : State) (response : Response) (shows : Shows) → IsReady s.held → IsInRange s.held → IsPlain s.held
+    → Answers (canonicalizing limit) s response shows t → IsRefinement s.held t.held × IsPlain t.held

@@ -1,10 +1,17 @@
 //! From the reply to a check to the module: laws of patterns that a registry notes as `holds` without a width.
-ghost use Rattle.registry_refinement.specs.Commands.{ApplyCommandRefines, RewriteCommandRefines};
+ghost use Rattle.registry_refinement.specs.Commands.{ApplyCommandRefines, CanonCommandRefines};
+ghost use Rattle.registry_refinement.specs.Commands.{RewriteCommandRefines, RulesCommandRefines};
 ghost use Rattle.registry_refinement.specs.Noted.{NotedApplyRefines, NotedAreProved, NotedRewriteRefines};
 ghost use Rattle.registry_refinement.specs.Noted.{NotesAreTrue, WrongIsNeverNoted};
-ghost use Rattle.registry_refinement.specs.Sessions.{ApplyLineRefines, LinesKeepReached, RewriteLinesRefine};
+ghost use Rattle.registry_refinement.specs.Sessions.{ApplyLineRefines, CanonLinesRefine};
+ghost use Rattle.registry_refinement.specs.Sessions.{LinesKeepReached, RewriteLinesRefine};
 
-use patterns_refinement::proved::{proved_patterns_refine, samples_hold_for_all_outcomes};
+use patterns_refinement::proved::{
+    modules_stay_in_range, proved_patterns_refine, samples_hold_for_all_outcomes,
+};
+use patterns_refinement::refined::observed_operations_are_refined;
+use patterns_refinement::rule_refinement::canonicalization_keeps_what_is_computed;
+use patterns_refinement::rule_refinement::listed_rules_keep_what_is_computed;
 use user_patterns_registry::laws::what_is_defined_is_ready;
 use user_patterns_widths::laws::polynomials_keep;
 
@@ -29,23 +36,30 @@ pub fn noted_patterns_refine()
     proved_patterns_refine();
 }
 
-/// After the commands `apply` and `rewrite` of a session by such patterns and listed rules, whatever the reply is, the
-/// session's module refines the module before.
-pub fn noted_commands_refine()
+/// After the commands `apply` and `rewrite` of a session by such patterns and listed rules, and after `canon` of a module
+/// without unrealized casts and `scf`, whatever the reply is, the session's module refines the module before.
+pub fn commands_refine()
     ensures apply { ApplyCommandRefines }
     ensures rewrite { RewriteCommandRefines }
+    ensures rules { RulesCommandRefines }
+    ensures canon { CanonCommandRefines }
 {
     noted_patterns_refine();
+    listed_rules_keep_what_is_computed();
+    modules_stay_in_range();
+    canonicalization_keeps_what_is_computed();
+    observed_operations_are_refined();
 }
 
-/// Each line of a session keeps its registry reached (`reached`). After a line `apply` that names such a pattern, and
-/// after a line `rewrite` that names such patterns and listed rules, the session's module refines the module before.
-pub fn lines_of_noted_patterns_refine()
+/// Each line of a session keeps its registry reached (`reached`). After a line `apply`, `rewrite` or `canon` by such
+/// patterns and rules, the session's module refines the module before.
+pub fn lines_refine()
     ensures reached { LinesKeepReached }
     ensures apply { ApplyLineRefines }
     ensures rewrite { RewriteLinesRefine }
+    ensures canon { CanonLinesRefine }
 {
-    noted_commands_refine();
+    commands_refine();
 }
 
 /// No session notes `select(c, a, false) => andi(c, a)` as `holds`, which is wrong if `a` is poison.
