@@ -4,7 +4,8 @@ use Rattle.patterns_base.specs.Rewrites.{none}
 use Rattle.greedy.specs.Outcomes.{Applied, Refuses}
 use Rattle.greedy.specs.Rewriting.{next_by}
 use Rattle.greedy.specs.Ruled.{pattern_set_of}
-use Rattle.greedy.specs.Work.{CoversBut, Right, Rewritten}
+use Rattle.ir_event.specs.Modules.{Module}
+use Rattle.greedy.specs.Work.{AreApart, CoversBut, Right, Rewritten}
 use Rattle.greedy.proofs.Trials.{pattern_set_lawful}
 use Rattle.greedy.proofs.Noting.{noted_more}
 use Rattle.greedy.proofs.Scans.{took, took_none, said, said_none, said_refuses, all_none, rewrote}
@@ -27,6 +28,16 @@ renew-requires-clause-rewritten g c =
       nearby = c.in-Some-preceding.ensures.some;
     } in
     subst (λ p. Rewritten x c.in-Some-preceding.before p n) (sym was) at
+
+pub is_apart-apart-requires : goal.is_apart-apart-requires
+is_apart-apart-requires g c = c.in-Some.ensures.work.falls
+
+pub renew-requires-clause-apart : goal.renew-requires-clause-apart
+renew-requires-clause-apart g c = λ e.
+    let m = g.R.GreedyRewriter.held c.waiting.bench in
+    let noted = c.in-Ok-Some.ensures.noted (λ i. c.requires.marked (sym c.waiting.invariant.1.0 ∙ i)) in
+    let was : g.R.GreedyRewriter.before c.apply_first.new.bench c.journal_len-from.result ≡ m = ap (g.R.GreedyRewriter.before c.apply_first.new.bench) c.journal_len-from.ensures ∙ noted.1 in
+    subst (λ (p : Module). AreApart c.in-Some.op c.pop.new.work.again.items p.tree) (sym was) (c.is_apart-apart.ensures e)
 
 pub returns-in-Ok-clause-ok : goal.returns-in-Ok-clause-ok
 returns-in-Ok-clause-ok g c =
