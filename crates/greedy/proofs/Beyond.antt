@@ -1,5 +1,5 @@
 -- Operations after everything inside another operation, and lists of operations that are apart from it.
-use Rattle.std.proofs.Common.{◌≡◌, refl, ap, sym, ◌∙◌, subst, ℕ, suc, ◌-◌, Bool, true, false, true≢false, cond, eqb, eq-eqb, List, [], ◌∷◌, ◌++◌, append_assoc, arith, filter, length, Option, Some, None, inl, inr, slice_get}
+use Rattle.std.proofs.Common.{◌≡◌, refl, ap, sym, ◌∙◌, subst, ℕ, suc, ◌-◌, Bool, true, true≢false, cond, eqb, eq-eqb, List, [], ◌∷◌, ◌++◌, append_assoc, arith, filter, length, Option, Some, None, inl, inr, slice_get}
 use Rattle.std.specs.List.{IsDistinct}
 use Rattle.std.proofs.lemmas.Bool.{false_from_ne_true}
 use Rattle.std.proofs.lemmas.Option.{same_Some}
@@ -59,9 +59,6 @@ module _ (t : Operation) (d : HasDistinctIds t) where
     | inr k ↦ not_itself t d y (subst (λ v. precedes v y t ≡ true) k (b z w))
   ])
 
-pub apart_none : (x : ℕ) (t : Operation) → AreApart x [] t
-apart_none x t z h = absurd (true≢false (sym h))
-
 -- the last entry of a list
 pub last_split : (xs : List ℕ) (x : ℕ) → slice_get xs (length xs - 1) ≡ Some x → (ys : List ℕ) × (xs ≡ ys ++ x ∷ [])
 last_split [] x e = absurd cc
@@ -70,14 +67,6 @@ last_split (y ∷ z ∷ zs) x e =
     let one : length (y ∷ z ∷ zs) - 1 ≡ suc (length (z ∷ zs) - 1) = omega arith in
     let w = last_split (z ∷ zs) x (ap (slice_get (y ∷ z ∷ zs)) (sym one) ∙ e) in
     (y ∷ w.0, ap (λ l. y ∷ l) w.1)
-
-pub last_none : (xs : List ℕ) → slice_get xs (length xs - 1) ≡ None → xs ≡ []
-last_none [] e = refl
-last_none (y ∷ []) e = absurd cc
-last_none (y ∷ z ∷ zs) e =
-    let one : length (y ∷ z ∷ zs) - 1 ≡ suc (length (z ∷ zs) - 1) = omega arith in
-    let nil : z ∷ zs ≡ [] = last_none (z ∷ zs) (ap (slice_get (y ∷ z ∷ zs)) (sym one) ∙ e) in
-    absurd cc
 
 -- a filter that every entry passes
 pub kept_all : (p : ℕ → Bool) (xs : List ℕ) → ((z : ℕ) → is_listed z xs ≡ true → p z ≡ true) → filter p xs ≡ xs

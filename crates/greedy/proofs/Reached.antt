@@ -1,14 +1,13 @@
 -- Block ends and the operations that an event reaches, as they are listed.
-use Rattle.std.proofs.Common.{◌≡◌, refl, ap, sym, ◌∙◌, subst, ℕ, ◌+◌, ◌<◌, ◌≤◌, true, true≢false, ◌||◌, eqb, eq-eqb, eqb-true, List, [], ◌∷◌, length, Option, Some, None, inl, inr, ◌⊎◌, arith}
+use Rattle.std.proofs.Common.{◌≡◌, ap, sym, ◌∙◌, subst, ℕ, ◌+◌, ◌<◌, ◌≤◌, true, true≢false, ◌||◌, eqb, eq-eqb, eqb-true, List, [], ◌∷◌, length, Option, Some, None, inl, inr, ◌⊎◌, arith}
 use Rattle.std.specs.Prelude.{option_map}
-use Rattle.ir_event.specs.trees.declared.value.Value.{Value}
 use Rattle.ir_event.specs.trees.declared.value.Value.TheVariants.{Result, Arg}
 use Rattle.ir_event.specs.store.Using.{is_use}
 use Rattle.ir_event.specs.trees.declared.place.Place.{Place}
-use Rattle.ir_event.specs.trees.Tree.{Op, op, RegionsOf, no_regions, region, regions, region_count}
+use Rattle.ir_event.specs.trees.Tree.{Op, regions, region_count}
 use Rattle.ir_event.specs.trees.Ids.{HasDistinctIds, find}
 use Rattle.ir_event.specs.trees.Places.{place_of}
-use Rattle.ir_event.specs.store.Nodes.{Node, node_of, regions_arguments}
+use Rattle.ir_event.specs.store.Nodes.{Node, node_of}
 use Rattle.ir_event.specs.tree_laws.Reads.{last_at}
 use Rattle.ir_event.proofs.of_tree_laws.Listed.{bool_cases, either, both}
 use Rattle.greedy.specs.Reached.{is_end, ends, at_end}
@@ -110,22 +109,6 @@ one_of_two R y z x q = elim q.1 [
   | inr h ↦ elim h [ inl i ↦ inr (subst (λ u. R u x) i q.2) | inr none ↦ absurd none ]
 ]
 
--- ---- the defining operations of the values that an event moves, by its kind
+-- ---- a value with a use
 pub used_some : (u : ℕ × ℕ) (us : List (ℕ × ℕ)) → is_use u.0 u.1 us ≡ true → us ≡ [] → ⊥
 used_some u us h e = true≢false (sym h ∙ ap (is_use u.0 u.1) e)
-
-pub gained_only : (R S : Value → ℕ → Type 0) (vs : List Value) (x : ℕ) → OneOf R vs x ⊎ OneOf S [] x → OneOf R vs x
-gained_only R S vs x (inl q) = q
-gained_only R S vs x (inr q) = absurd q.1
-
-pub lost_only : (R S : Value → ℕ → Type 0) (vs : List Value) (x : ℕ) → OneOf R [] x ⊎ OneOf S vs x → OneOf S vs x
-lost_only R S vs x (inl q) = absurd q.1
-lost_only R S vs x (inr q) = q
-
-pub lost_and_gained : (R S : Value → ℕ → Type 0) (new old : Value) (x : ℕ) → OneOf R (new ∷ []) x ⊎ OneOf S (old ∷ []) x → S old x ⊎ R new x
-lost_and_gained R S new old x (inl q) = inr (one_alone R new x q)
-lost_and_gained R S new old x (inr q) = inl (one_alone S old x q)
-
-pub neither_moved : (R S : Value → ℕ → Type 0) (x : ℕ) → OneOf R [] x ⊎ OneOf S [] x → ⊥
-neither_moved R S x (inl q) = q.1
-neither_moved R S x (inr q) = q.1

@@ -54,6 +54,8 @@ pub record Taken (x passed : ℕ) (again : List ℕ) (passed2 : ℕ) (again2 : L
   pub first : (z : ℕ) → precedes z x t ≡ true → waits passed again t z ≡ false
   pub others : (z : ℕ) → has_id z t ≡ true → waits passed again t z ≡ true → (z ≡ x) ⊎ (waits passed2 again2 t z ≡ true)
   pub work : IsWork passed2 again2 t
+  -- the passed operation stays the same, or it came before x
+  pub nearby : (passed2 ≡ passed) ⊎ (precedes passed x t ≡ true)
   pub fewer : left passed2 again2 t < left passed again t
 
 -- no operation waits

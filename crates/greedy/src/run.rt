@@ -1,8 +1,10 @@
 //! The greedy driver.
 ghost use Rattle.std.specs.Prelude.{◌≡◌, ◌≢◌, ◌⊎◌, ◌≤◌, ℕ, IfOk, IfErr, OnErr, OnOk, MatchResult, is_some, List, [], ◌++◌, ◌∷◌};
-ghost use Rattle.std.specs.Prelude.{true, false};
+ghost use Rattle.std.specs.Prelude.{true, false, IfSome, IfNone};
 ghost use Rattle.ir_event.specs.types.declared.refusal.Refusal.TheVariants.{Memory as NoMemory};
 ghost use Rattle.ir_event.specs.trees.Ids.{has_id};
+ghost use Rattle.ir_event.specs.trees.Tree.{head};
+ghost use Rattle.ir_event.specs.tree_laws.Reads.{precedes};
 ghost use Rattle.patterns_base.specs.Canonicalization.{greedy_rules};
 ghost use Rattle.patterns.specs.Rows.{AreCanonical};
 ghost use Rattle.greedy.specs.Outcomes.{Applied, ComeTo, IsCanonical, IsReason, IsReasonBy, IsRewriting, Refuses, Stop};
@@ -87,6 +89,20 @@ fn renew<R: GreedyRewriter>(
     }
 }
 
+/// Returns an operation that precedes `op`, which was taken from the worklist, or `None` if `op` is the root. `passed` is
+/// the passed operation of the worklist before, and `now` the one after. If they differ, `passed` precedes `op`.
+fn preceding_of<R: GreedyRewriter>(bench: &R, passed: OpId, now: OpId, op: OpId) -> Option<OpId>
+    requires there { has_id op (R.held bench.now).tree ≡ true }
+    requires near { (now ≡ passed) ⊎ (precedes passed op (R.held bench.now).tree ≡ true) }
+    ensures some { IfSome result (λ p. precedes p op (R.held bench.now).tree ≡ true) }
+    ensures none { IfNone result (op ≡ (head (R.held bench.now).tree).id) }
+{
+    if now == passed {
+        return bench.preceding(op);
+    }
+    Some(passed)
+}
+
 /// Makes one rewrite: at the first operation in pre-order at which an entry of the pattern set applies, with the first
 /// such entry. Returns the record of the rewrite, or `None` if no entry applies at any operation.
 fn one<R: GreedyRewriter>(
@@ -111,9 +127,12 @@ fn one<R: GreedyRewriter>(
     ensures journal { Noted (R.transaction bench.old) (R.transaction bench.new) }
     ensures onward { R.onward bench.old bench.new }
 {
+    let mut last = work.passed;
     'waiting: while let Some(op) = pop(bench, work) {
         bench.is_formed();
-        if let Some(before) = bench.preceding(op) {
+        let passed = last;
+        last = work.passed;
+        if let Some(before) = preceding_of(bench, passed, last, op) {
             *examined = examined.saturating_add(1);
             let from = bench.journal_len();
             let next = bench.next_id();

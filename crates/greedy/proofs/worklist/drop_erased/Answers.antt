@@ -2,7 +2,7 @@ use Rattle.std.proofs.Common.{rules, ◌≡◌, sym, ap, subst, ◌∙◌, filte
 use Rattle.std.proofs.lemmas.Fn.{filter_same}
 use Rattle.ir_event.specs.tree_laws.Reads.{precedes}
 use Rattle.greedy.specs.Work.{IsWork, StillWaits}
-use Rattle.greedy.proofs.Works.{there_in, passed_stays, waits_on, back_work, waits_back}
+use Rattle.greedy.proofs.Works.{passed_stays, waits_on, back_work, waits_back}
 use Rattle.greedy.proofs.worklist.drop_erased.Goals as goal
 
 pub returns-then-in_tree-clause-work : goal.returns-then-in_tree-clause-work
