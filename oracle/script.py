@@ -23,9 +23,9 @@ MOST_MARKS = 16
 FIRST = {"report", "print", "set-operand", "move", "set-attr", "drop-attr", "resync", "detach"}
 EDITS = FIRST | {"erase", "insert", "replace"}
 ALL = EDITS | {"begin", "commit", "rollback", "sweep", "canon", "convert", "apply", "attach", "rewrite", "pattern",
-               "patterns", "check", "why"}
+               "patterns", "check", "forget", "why"}
 # These leave the module, and have no listing, but where they are refused as no command.
-LOOKS = {"report", "print", "pattern", "patterns", "check", "why"}
+LOOKS = {"report", "print", "pattern", "patterns", "check", "forget", "why"}
 REFUSALS = {**rules.WORDS, **WORDS}
 NUMBERS = {word: number for number, word in REFUSALS.items()}
 MOST_LIMIT, LIMIT = 1000000, 1000
@@ -302,6 +302,12 @@ class Run:
         rows = [f"{patterns.text_of(it)} // {self.verdicts.get(name, 'not checked')}\n" for name, it in
                 self.book.items()]
         return "", "".join(rows)
+
+    def forget(self, text):
+        need(re.fullmatch("[^0-9 \t][^ \t]*", text))
+        edits.refuse(26, text not in self.book)
+        self.book, self.verdicts = ({name: it for name, it in held.items() if name != text}
+                                    for held in (self.book, self.verdicts))
 
     def check(self, text):
         words = re.split("[ \t]+", text)

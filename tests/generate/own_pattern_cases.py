@@ -649,6 +649,31 @@ def applied(whole, title):
         whole(text.encode() + asked(*lines, *tried))
 
 
+def registry(whole, title):
+    """Patterns that are forgotten, in a session whose registry is listed."""
+    one, two = "pattern one arith.addi(%a, 0) => %a", "pattern two arith.andi(%a, 255) => %a"
+    title("forget-first", "The first pattern is forgotten, and the second one stays with its check.")
+    whole(asked(one, two, "check one", "check two", "forget one", "patterns"))
+    title("forget-last", "The last pattern is forgotten, and the first one stays with its check.")
+    whole(asked(one, two, "check one", "forget two", "patterns"))
+    title("forget-check-too", "A pattern that is forgotten and defined again is not checked.")
+    whole(asked(one, "check one", "patterns", "forget one", "patterns", one, "patterns"))
+    title("forget-for-another-text", "A forgotten name can get another text, which is the last one in the list.")
+    whole(asked(one, two, "forget one", one.replace("addi", "subi"), "patterns", "check one"))
+    title("forget-unknown-name", "A name that no pattern has is refused, also after it was forgotten.")
+    whole(asked("forget one", one, "forget two", "forget one", "forget one", "patterns", "expect 26 forget one"))
+    title("forget-rule-name", "A rule can't be forgotten by its word.")
+    whole(over("forget drop-zero", "forget erase-dead", "apply drop-zero #4"))
+    title("forget-wrong-words", "`forget` takes one name, which doesn't begin with a digit.")
+    whole(asked(one, "forget", "forget one two", "forget 4", "forget #1", "forget one,two", " \tforget \t one \t",
+                "patterns"))
+    title("forget-used-pattern", "A forgotten pattern isn't applied, and isn't part of a list.")
+    whole(over("pattern shift arith.muli(%a, c) => arith.shli(%a, log2(c))", "begin", "apply shift #3", "rollback",
+               "forget shift", "apply shift #3", "rewrite 1,shift", "check shift", "print"))
+    title("forget-under-marks", "A rollback doesn't bring a forgotten pattern back.")
+    whole(over(one, "begin", "forget one", "rollback", "patterns"))
+
+
 def by_chance(whole, title):
     """Scripts about patterns that fit their modules."""
     title("random", "Random scripts define, check and apply patterns that fit their random modules.")
@@ -770,7 +795,7 @@ def unproved(case):
         case(words, text.encode(), answer(words, text.encode()), title=(f"unproved-{name}", sentence))
 
 
-PARTS = (rows, texts, beginnings, checks, listed, applied, rewritten, by_chance, rewritten_by_chance)
+PARTS = (rows, texts, beginnings, checks, listed, applied, registry, rewritten, by_chance, rewritten_by_chance)
 
 
 def all_cases(whole, begin, case, title):

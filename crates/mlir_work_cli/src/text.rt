@@ -142,6 +142,7 @@ Patterns of one's own, which no rollback takes away (docs/PATTERNS.md):
                              edge values and values by chance are tried alone,
                              at types of W bits, of the half of it and of a
                              quarter; W is 128 at most
+  forget NAME                the pattern of that name is removed
 
 Marks, of which 16 may be open:
   begin                      a mark is made of the module
