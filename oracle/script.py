@@ -245,11 +245,20 @@ class Run:
         rule = rule_of(name)
         return self.book.get(name, None if rule is None or rule > MOST_TRIED else rule)
 
+    def meant(self, item):
+        """The rules and patterns of an item of a list: of a range of rule numbers, of `canon`, or of one name."""
+        ends = re.fullmatch("([0-9]+)-([0-9]+)", item)
+        if ends:
+            first, last = map(number, ends.groups())
+            need(1 <= first <= last <= MOST_TRIED)
+            return range(first, last + 1)
+        return range(1, MOST_TRIED + 1) if item == "canon" and item not in self.book else [self.named(item)]
+
     def rewrite(self, text):
         words = re.split("[ \t]+", text)
-        names = words[0].split(",")
-        need("" not in names)
-        asked = [self.named(name) for name in names]
+        items = words[0].split(",")
+        need("" not in items)
+        asked = [it for item in items for it in self.meant(item)]
         is_traced = words[1:2] == ["trace"]
         limit = self.limited(words[1 + is_traced:])
         edits.refuse(26, None in asked)

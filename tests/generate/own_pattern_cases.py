@@ -674,6 +674,38 @@ def registry(whole, title):
     whole(over(one, "begin", "forget one", "rollback", "patterns"))
 
 
+def lists(whole, title):
+    """Lists of rules and patterns: ranges, and the word `canon`."""
+    shift = "pattern shift arith.muli(%a, c) => arith.shli(%a, log2(c))"
+    back = "pattern back arith.subi(arith.addi(%a, %b), %b) => %a"
+    title("list-range", "A range stands for its rule numbers, and one of a single rule for this rule.")
+    whole(over(back, "begin", "rewrite back,1-3 trace", "rollback", "begin", "rewrite back,1,2,3 trace", "rollback",
+               "rewrite back,1-1 trace", "print"))
+    title("list-range-of-rules", "A list of ranges alone rewrites by these rules.")
+    sums = """%a = "arith.constant"() <{value = 3 : i8}> : () -> i8
+%x = "t.a"() : () -> i8
+%b = "arith.addi"(%a, %a) : (i8, i8) -> i8
+%c = "arith.addi"(%b, %x) : (i8, i8) -> i8
+"t.u"(%c) : (i8) -> ()
+""".encode()
+    whole(sums + asked("begin", "rewrite 1-24 trace", "rollback", "begin", "rewrite 3-9,1,2-2 trace limit 2",
+                       "rollback", "canon only 1-2 trace", "rewrite 3-3 trace", "print"))
+    title("list-canon", "`canon` in a list stands for the rules 1 to 24.")
+    whole(over(back, "begin", "rewrite canon,back trace", "rollback", "begin", "rewrite 1-24,back trace", "rollback",
+               "begin", "rewrite canon", "rollback", "canon only back,canon trace", "print"))
+    title("list-order", "The order of a list decides what is applied first.")
+    whole(over(shift, "pattern eight arith.muli(%a, 8) => arith.shli(%a, 3)", "begin",
+               "rewrite shift,eight,canon trace", "rollback", "rewrite eight,shift,canon trace"))
+    title("list-with-a-pattern-named-canon", "If a pattern is named `canon`, the word stands for this pattern alone.")
+    whole(over("pattern canon arith.muli(%a, c) => arith.shli(%a, log2(c))", back, "begin", "rewrite canon trace",
+               "rollback", "begin", "rewrite 1-24,canon trace", "rollback", "forget canon", "rewrite canon trace"))
+    title("list-wrong-ranges", "A range begins and ends with a rule from 1 to 24, and doesn't go down.")
+    whole(over("rewrite 0-3", "rewrite 1-25", "rewrite 24-30", "rewrite 3-1", "rewrite 1-", "rewrite -3",
+               "rewrite 1-3-5", "rewrite 1--3", "rewrite 1-x", "rewrite 1-4294967297", "rewrite 1-3,", "rewrite ,1-3",
+               "rewrite 001-0003", "rewrite 1-3,nope", "rewrite canon,nope", "rewrite canons", "apply canon #3",
+               "why #3 canon", "apply 1-3 #3", "convert partial rules 25-27"))
+
+
 def by_chance(whole, title):
     """Scripts about patterns that fit their modules."""
     title("random", "Random scripts define, check and apply patterns that fit their random modules.")
@@ -795,7 +827,7 @@ def unproved(case):
         case(words, text.encode(), answer(words, text.encode()), title=(f"unproved-{name}", sentence))
 
 
-PARTS = (rows, texts, beginnings, checks, listed, applied, registry, rewritten, by_chance, rewritten_by_chance)
+PARTS = (rows, texts, beginnings, checks, listed, applied, registry, lists, rewritten, by_chance, rewritten_by_chance)
 
 
 def all_cases(whole, begin, case, title):

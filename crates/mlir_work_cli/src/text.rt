@@ -169,7 +169,8 @@ Operations are numbered in the order of the text, and the module around them is
   OPERATION  one line in generic form; it names values of the module as above
   RULE       the number of a rule, or its word, as 4 or drop-zero; or the name
              of a pattern
-  RULES      rules with commas and no blanks, as 4,drop-one
+  RULES      rules with commas and no blanks, as 4,drop-one; 4-9 are the rules
+             4 to 9, and `canon` is all from 1 to 24
   REFUSAL    the number of a refusal, or its word, as 22 or HasUses
   KEY        a bare identifier or a string literal; it is one of the properties
              where it is inherent to the operation or they have it, else one of
