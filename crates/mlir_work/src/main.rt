@@ -2,11 +2,13 @@
 #![tactic(auto)]
 
 mod files;
+mod messages;
 
 use crate::files::{
     Fault, PatternFile, inputs, module_file, names_any, output_of, pattern_files, rebuild_registry,
     registry_from_files,
 };
+use crate::messages::{module_message, pattern_message, summary};
 use clap::Error;
 use clap::error::ErrorKind;
 use mlir_work_analyses::any_analysis::all_listeners;
@@ -16,7 +18,6 @@ use mlir_work_cli::error::PatternError;
 use mlir_work_cli::input::split;
 use mlir_work_cli::json::run_as_json;
 use mlir_work_cli::live::run_live;
-use mlir_work_cli::messages::{module_message, pattern_message, summary};
 use mlir_work_cli::options::{CommandLine, Format, options_of};
 use mlir_work_cli::positions::line_feeds;
 use mlir_work_cli::reading::PatternFileError;

@@ -3,4 +3,3 @@ pub mod Inputs
 pub mod Patterns
 pub mod Readings
 pub mod Positions
-pub mod Messages

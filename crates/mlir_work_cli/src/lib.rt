@@ -4,13 +4,12 @@
 //! - `inputs` builds one input from the files and commands of the command line.
 //! - `reading` reads a file of user patterns, one a line, into the pattern registry.
 //! - `json` writes the output of a run as JSON.
-//! - `messages` says where and why a file was refused, and `positions` finds lines, columns and tokens.
+//! - `positions` finds lines, columns and tokens of a text.
 #![tactic(auto)]
 
 pub mod input_laws;
 pub mod inputs;
 pub mod json;
-pub mod messages;
 pub mod options;
 pub mod pattern_file_laws;
 pub mod positions;
@@ -18,6 +17,9 @@ pub mod reading;
 mod text;
 
 pub use ir_event::trees::count;
+pub use ir_event::types::refusal;
+pub use mlir_work_notes::unsupported;
 pub use mlir_work_run::{dry_run, input, live, run, sink, source, watched, writing};
+pub use mlir_work_script_base::words;
 pub use user_patterns_registry::registry;
 pub use user_patterns_text::error;

@@ -9,14 +9,14 @@ use mlir_work_script_base::lines::split_line;
 const MOST_SHOWN: usize = 60;
 
 /// Returns the part of a text before a byte.
-pub(crate) fn front(text: &[u8], offset: usize) -> &[u8]
+pub fn front(text: &[u8], offset: usize) -> &[u8]
     ensures { result.now ≡ front text.now offset }
 {
     &text[..offset.min(text.len())]
 }
 
 /// Returns a line of a text by its number, from 1, without its line feed. It is empty if there is no such line.
-pub(crate) fn line_at(text: &[u8], number: usize) -> &[u8]
+pub fn line_at(text: &[u8], number: usize) -> &[u8]
     ensures { result.now ≡ line_at text.now number }
 {
     let mut rest = text;
@@ -31,7 +31,7 @@ pub(crate) fn line_at(text: &[u8], number: usize) -> &[u8]
 }
 
 /// Returns how many spaces, tabs and carriage returns a line begins with.
-pub(crate) fn indentation(line: &[u8]) -> usize
+pub fn indentation(line: &[u8]) -> usize
     ensures { result ≡ indentation line.now }
 {
     line.iter()
@@ -47,7 +47,7 @@ pub fn line_feeds(text: &[u8]) -> usize
 }
 
 /// Returns the column that follows a text, from 1. It counts the bytes after the last line feed.
-pub(crate) fn column_of(text: &[u8]) -> usize
+pub fn column_of(text: &[u8]) -> usize
     ensures { result ≡ column_from 1 text.now }
 {
     let mut column = 1;
@@ -165,7 +165,7 @@ fn token_len(text: &[u8]) -> usize
 
 /// Returns the token at a byte of a text, at most 60 bytes of it. It is empty at the end of the text, and at a byte
 /// that isn't printable.
-pub(crate) fn token_at(text: &[u8], offset: usize) -> &[u8]
+pub fn token_at(text: &[u8], offset: usize) -> &[u8]
     ensures { result.now ≡ token_at text.now offset }
 {
     let Some(rest) = text.get(offset..) else {
