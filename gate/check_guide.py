@@ -5,9 +5,9 @@ In README.md, docs/TRUST.md, docs/GUIDE.md, docs/REFUSALS.md, docs/FROM_MLIR_OPT
 an indented line or a span in backticks. Each one has a row in COMMANDS. A command without a row is a fault, and so is
 a row without a command. In these pages and in docs/COOKBOOK.md a block of `sh` before a block of `text` is run, and has
 to write that text to standard output and standard error. In docs/COOKBOOK.md, docs/EMBED.md and
-docs/LISTENER_TUTORIAL.md the blocks of `console` are run, and all output is compared; a task of the cookbook takes at
-most ten typed lines. (tools/tests/test_pages.py runs the sessions of docs/GUIDE.md.) If the program has no
-`--interactive`, tools/tests/live.py takes its place for docs/EMBED.md.
+docs/LISTENER_TUTORIAL.md the blocks of `console` are run, and have to show standard output, or both ends; a task of the
+cookbook takes at most ten typed lines. (tools/tests/test_pages.py runs the sessions of docs/GUIDE.md.) If the program
+has no `--interactive`, tools/tests/live.py takes its place for docs/EMBED.md.
 
 usage: gate/check_guide.py [--all]     with --all also those that take minutes, since they build
 
@@ -185,7 +185,8 @@ def cooked(text, folder):
                 continue
             it = run(line, Typed("", given="".join(it + "\n" for it in given)), folder)
             print(f"typed: {line}")
-            if it.returncode not in (0, 1, 3) or not is_written(it.stdout.splitlines(), wanted):
+            ends = it.stdout, it.stdout + it.stderr
+            if it.returncode not in (0, 1, 3) or not any(is_written(end.splitlines(), wanted) for end in ends):
                 yield f"`{line}` writes {it.stdout[-600:]!r} {it.stderr.strip()[-300:]}"
 
 

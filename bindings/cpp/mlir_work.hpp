@@ -190,7 +190,8 @@ public:
   auto regions() const;
   auto properties() const { return entries<mlir_work_property_at>(counts().properties); }
   auto attributes() const { return entries<mlir_work_attribute_at>(counts().attributes); }
-  // The property at a key, or else the discardable attribute.
+  // The property at a key, or else the discardable attribute. A key that is a text is looked up among all names of the
+  // session; in a long loop pass a Name.
   std::optional<Attribute> attribute(std::string_view key) const {
     const std::uint64_t name =
         mlir_work_find_name(held_, reinterpret_cast<const std::uint8_t *>(key.data()), key.size());

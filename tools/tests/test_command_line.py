@@ -101,6 +101,8 @@ class CommandLine(unittest.TestCase):
             self.assertEqual((text.count('"func.func"'), text.count("\n// -----\n")), (2, 1))
             file = run.in_generic_form([str(self.folder / "c.mlir")], 0, folder)[0]
             self.assertEqual(pathlib.Path(file).read_text().count('"func.func"'), 1)
+        status, said, told = self.ran("run", "c.mlir", **tool)
+        self.assertEqual((status, said, told.count("c.mlir: "), "tmp" in told), (0, "", told.count("\n"), False))
         status, said, told = self.ran("run", "--brief", text=f"{CUSTOM}// -----\nreport dead\n", **tool)
         self.assertEqual((status, said, told), (0, "1 ok\n", "-: in generic form, as mlir-opt-22 prints it\n"))
 

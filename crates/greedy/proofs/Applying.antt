@@ -46,7 +46,7 @@ use Rattle.greedy.specs.Listing.{Lists, Stayed, Touched}
 use Rattle.greedy.proofs.Ending.{last_ends}
 use Rattle.greedy.proofs.Reaching.{all_far}
 use Rattle.greedy.proofs.Tracked.{effects_stay}
-use Rattle.greedy.proofs.Usings.{unused_stays}
+use Rattle.greedy.proofs.Usings.{unused_alike}
 use Rattle.greedy.proofs.Lasting.{lasts_stay, unreached_all, last_in, same_lasts}
 use Rattle.greedy.proofs.Unlisted.{found_surroundings, surroundings_found, there_found, found_there, outer_some, last_header, verified_alike, eligible_alike, heads_alike, head_id, shows_alike}
 use Rattle.std.proofs.lemmas.Bool.{false_from_ne_true}
@@ -249,7 +249,7 @@ module _ (shown : ℕ → List Value) (c : ContextModel) (es : List Event) (m n 
         let same : o ≡ w.0 = cc in
         let sets : effects own_of o ≡ effects own_of p = ap (effects own_of) same ∙ w.2 in
         let unused : is_unused (head o).id t ≡ is_unused (head p).id u =
-        ap (λ z. is_unused z t) id_of ∙ unused_stays shown c es m n leads x (λ e i v j g. away (lists.found_defining_ops e i v j x g)) ∙ ap (λ z. is_unused z u) (sym id_of ∙ ap (λ (z : Header). z.id) heads) in
+        ap (λ z. is_unused z t) id_of ∙ unused_alike shown c es m n leads dn x (λ e i v j g. away (lists.found_gained e i v j x g)) (λ e i v j g. elim (lists.found_lost e i v j x g) [ inl k ↦ absurd (away k) | inr k ↦ k ]) ∙ ap (λ z. is_unused z u) (sym id_of ∙ ap (λ (z : Header). z.id) heads) in
         λ i. unused i && (not (is_kept (heads i).name) && may_be_missed (sets i))
 
     suited : (r : Rule) → eligible r t (head o) ≡ eligible r u (head p)

@@ -1,19 +1,19 @@
 -- Lemmas about rewriters under the driver.
 use Rattle.std.proofs.Common.{◌≡◌, refl, ap, sym, ◌∙◌, subst, ℕ, ◌+◌, ◌<◌, ◌≤◌, Bool, true, false, true≢false, ◌||◌, ◌&&◌, cond, eqb, eq-eqb, eqb-true, List, [], ◌∷◌, length, length-append, inl, inr, ◌⊎◌, arith, le-leb}
-use Rattle.std.specs.Prelude.{All, map, reverse, nat_le, ◌≢◌}
+use Rattle.std.specs.Prelude.{All, map, option_map, reverse, nat_le, ◌≢◌, Option, Some, None}
 use Rattle.std.specs.List.{IsDistinct, list_any}
 use Rattle.std.proofs.Math.Seq.{drop-length}
 use Rattle.std.proofs.lemmas.Bool.{leb-true, cases_Bool}
 use Rattle.ir_event.specs.types.Sound.{Holds}
 use Rattle.ir_event.specs.types.Terms.{name_term, type_term, attr_term}
 use Rattle.ir_event.specs.trees.Tree.{OpOf, op, head, regions, region_count, Op}
-use Rattle.ir_event.specs.trees.Ids.{ids, regions_ids, has_id, HasDistinctIds}
+use Rattle.ir_event.specs.trees.Ids.{find, ids, regions_ids, has_id, HasDistinctIds}
 use Rattle.ir_event.specs.trees.Limits.{head_fits, op_fits, items_fit, all_arguments_pass, most_regions}
-use Rattle.ir_event.specs.trees.Meaning.{meaning, isolated_in}
+use Rattle.ir_event.specs.trees.Meaning.{Operation, meaning, isolated_in}
 use Rattle.ir_event.specs.trees.WellFormed.{ModuleOf, IsWellFormed}
-use Rattle.ir_event.proofs.of_trees.Mapped.{map_ids}
+use Rattle.ir_event.proofs.of_trees.Mapped.{map_find, map_ids}
 use Rattle.ir_event.proofs.of_trees.Returns.{absent_first}
-use Rattle.ir_event.specs.tree_laws.Reads.{precedes, comes_after}
+use Rattle.ir_event.specs.tree_laws.Reads.{precedes, comes_after, is_within}
 use Rattle.ir_event.proofs.of_tree_laws.Listed.{both}
 use Rattle.ir_event.proofs.of_tree_laws.Members.{stand, itself, found_stands}
 use Rattle.ir_event.proofs.of_tree_laws.Formed.{from_formed, ids_below}
@@ -25,6 +25,7 @@ use Rattle.patterns.specs.rewriter.Moves.{all_noted}
 use Rattle.patterns.specs.rewriter.declared.mark.JournalMark.{JournalMark}
 use Rattle.greedy.proofs.Listed.{after_at, after_past, second_there}
 use Rattle.greedy.specs.Benches.{Formed, Onward}
+use Rattle.greedy.specs.Orders.{IsBeyond}
 use Rattle.greedy.specs.Following.{HasFewRegions, comes_next, following}
 
 -- ---- the module with terms, and the module with interned numbers
@@ -42,6 +43,19 @@ held_has h x = ap (list_any (λ y. eqb y x)) (held_ids h)
 
 pub held_precedes : (h : TransactionModel) (a b : ℕ) → precedes a b (module_held h).tree ≡ precedes a b h.store.module_of.tree
 held_precedes h a b = ap (comes_after a b) (held_ids h)
+
+-- find, and the ids of what is found
+found_ids : (f : Option Op) (g : Op → Operation) → ((o : Op) → ids (g o) ≡ ids o) → (y : ℕ) → is_within y (option_map g f) ≡ is_within y f
+found_ids None g same y = refl
+found_ids (Some o) g same y = ap (list_any (λ z. eqb z y)) (same o)
+
+pub held_within : (h : TransactionModel) (x y : ℕ) → is_within y (find x (module_held h).tree) ≡ is_within y (find x h.store.module_of.tree)
+held_within h x y =
+    ap (is_within y) (map_find (name_term h.ctx) (type_term h.ctx) (attr_term h.ctx) x h.store.module_of.tree)
+    ∙ found_ids (find x h.store.module_of.tree) (meaning h.ctx) (map_ids (name_term h.ctx) (type_term h.ctx) (attr_term h.ctx)) y
+
+pub held_beyond : (h : TransactionModel) (x y : ℕ) → IsBeyond x y h.store.module_of.tree → IsBeyond x y (module_held h).tree
+held_beyond h x y b z w = held_precedes h z y ∙ b z (sym (held_within h x z) ∙ w)
 
 pub held_formed : (h : TransactionModel) → IsWellFormed (isolated_in h.ctx) h.store.module_of → Formed (module_held h)
 held_formed h w = record { distinct = subst (IsDistinct eqb) (sym (held_ids h)) w.distinct; below = subst (All (λ y. y < h.store.module_of.next)) (sym (held_ids h)) w.below }

@@ -2,9 +2,9 @@
 -- operations, and the old operations that remain keep their order.
 use Rattle.std.proofs.Common.{◌≡◌, refl, ap, sym, ◌∙◌, subst, ℕ, inl, inr, ◌⊎◌, Bool, true, false, eqb, eq-eqb, List, [], ◌∷◌, ◌++◌, true≢false}
 use Rattle.std.specs.List.{IsDistinct}
-use Rattle.ir_event.specs.trees.Ids.{ids, HasDistinctIds}
+use Rattle.ir_event.specs.trees.Ids.{ids, find, HasDistinctIds}
 use Rattle.ir_event.proofs.of_trees.Returns.{halves}
-use Rattle.ir_event.specs.tree_laws.Reads.{comes_after}
+use Rattle.ir_event.specs.tree_laws.Reads.{comes_after, is_within}
 use Rattle.ir_event.proofs.of_tree_laws.Listed.{bool_cases}
 use Rattle.ir_event.specs.Modules.{Module}
 use Rattle.greedy.specs.Orders.{Orderly}
@@ -30,11 +30,11 @@ in_either x (z ∷ xs) ys h = elim (bool_cases (eqb z x)) [
 ]
 
 -- no element is in both of two disjoint parts
-apart : (x : ℕ) (xs ys : List ℕ) → IsDistinct eqb (xs ++ ys) → Listed x xs → Listed x ys → ⊥
+pub apart : (x : ℕ) (xs ys : List ℕ) → IsDistinct eqb (xs ++ ys) → Listed x xs → Listed x ys → ⊥
 apart x xs ys d h k = true≢false (sym k ∙ (halves xs ys d).disjoint x h)
 
 -- the order of two in a list of two parts
-crossing : (a b : ℕ) (xs ys : List ℕ) → Listed a xs → Listed b ys → comes_after a b (xs ++ ys) ≡ true
+pub crossing : (a b : ℕ) (xs ys : List ℕ) → Listed a xs → Listed b ys → comes_after a b (xs ++ ys) ≡ true
 crossing a b [] ys h k = absurd (true≢false (sym h))
 crossing a b (z ∷ xs) ys h k = elim (bool_cases (eqb z a)) [
   | inl e ↦ after_at a b z (xs ++ ys) e ∙ right_in b xs ys k
@@ -106,11 +106,19 @@ module _ (a b : ℕ) where
       other c zs xs h n = elim (in_either c zs xs h) [ inl k ↦ k | inr k ↦ absurd (n k) ]
 
 pub stretch_orderly : (x : ℕ) (m n : Module) (front inner back kept : List ℕ) → HasDistinctIds m.tree → HasDistinctIds n.tree → ids m.tree ≡ front ++ ((x ∷ inner) ++ back) → ids n.tree ≡ front ++ (kept ++ back)
+    → ((y : ℕ) → is_within y (find x m.tree) ≡ is_listed y (x ∷ inner))
     → ((a b : ℕ) → Listed a (x ∷ inner) → Listed b (x ∷ inner) → Listed a kept → Listed b kept → comes_after a b kept ≡ comes_after a b (x ∷ inner)) → Orderly x m n
-stretch_orderly x m n front inner back kept dm dn em en f = record {
+stretch_orderly x m n front inner back kept dm dn em en within f = record {
   stays = λ y h.
       let k : comes_after y x (front ++ (x ∷ (inner ++ back))) ≡ true = ap (comes_after y x) (sym em) ∙ h in
       ap (is_listed y) en ∙ left_in y front (kept ++ back) (in_front y k);
+  outside = λ y h k. ap (is_listed y) en ∙ elim (in_either y front ((x ∷ inner) ++ back) (ap (is_listed y) (sym em) ∙ h)) [
+    | inl e ↦ left_in y front (kept ++ back) e
+    | inr e ↦ elim (in_either y (x ∷ inner) back e) [
+      | inl i ↦ absurd (true≢false (sym i ∙ sym (within y) ∙ k))
+      | inr i ↦ right_in y front (kept ++ back) (right_in y kept back i)
+    ]
+  ];
   order = λ a b am bm an bn.
       ap (comes_after a b) en ∙ same_back a b front ((x ∷ inner) ++ back) (kept ++ back) ddm ddn (ap (is_listed a) (sym em) ∙ am) (ap (is_listed b) (sym em) ∙ bm) (ap (is_listed a) (sym en) ∙ an) (ap (is_listed b) (sym en) ∙ bn)
       (λ a2 b2 a3 b3. same_front a b back (x ∷ inner) kept (halves front ((x ∷ inner) ++ back) ddm).right (halves front (kept ++ back) ddn).right a2 b2 a3 b3 (f a b)) ∙ sym (ap (comes_after a b) em);

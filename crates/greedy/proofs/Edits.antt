@@ -4,7 +4,7 @@ use Rattle.std.specs.List.{IsDistinct}
 use Rattle.ir_event.specs.types.Terms.{TypeTerm, AttrTerm}
 use Rattle.ir_event.specs.trees.declared.place.Place.{Place}
 use Rattle.ir_event.specs.trees.Tree.{HeadOf, op, no_regions, regions}
-use Rattle.ir_event.specs.trees.Ids.{ids, HasDistinctIds}
+use Rattle.ir_event.specs.trees.Ids.{ids, find, HasDistinctIds}
 use Rattle.ir_event.specs.trees.Edits.{each_head, at, put_operand, put_values, change_part, change_entry}
 use Rattle.ir_event.specs.trees.Places.{put, without, shifted}
 use Rattle.ir_event.specs.trees.Meaning.{Operation}
@@ -12,7 +12,7 @@ use Rattle.ir_event.proofs.of_trees.Gained.{Apart, gained_ids}
 use Rattle.ir_event.proofs.of_trees.Heads.{Alike, head_ids, alike_operand, alike_values, alike_entry}
 use Rattle.ir_event.proofs.of_trees.Left.{left_distinct}
 use Rattle.ir_event.proofs.of_trees.Returns.{cons_distinct, nil_distinct}
-use Rattle.ir_event.specs.tree_laws.Reads.{comes_after}
+use Rattle.ir_event.specs.tree_laws.Reads.{comes_after, is_within}
 use Rattle.ir_event.specs.tree_laws.Reasons.{with_id}
 use Rattle.ir_event.specs.Modules.{Module}
 use Rattle.rewriter_machine.specs.Contents.{Edit, tests, edited, all_edited}
@@ -32,8 +32,8 @@ pub record Stays (front stretch back : List ℕ) (n : Operation) : Type 0 where
   pub distinct : HasDistinctIds n
   pub order : (a b : ℕ) → Listed a stretch → Listed b stretch → Listed a kept → Listed b kept → comes_after a b kept ≡ comes_after a b stretch
 
-pub stays_orderly : (x : ℕ) (m n : Module) (front rest back : List ℕ) → HasDistinctIds m.tree → ids m.tree ≡ front ++ ((x ∷ rest) ++ back) → Stays front (x ∷ rest) back n.tree → Orderly x m n
-stays_orderly x m n front rest back d e s = stretch_orderly x m n front rest back s.kept d s.distinct e s.is s.order
+pub stays_orderly : (x : ℕ) (m n : Module) (front rest back : List ℕ) → HasDistinctIds m.tree → ids m.tree ≡ front ++ ((x ∷ rest) ++ back) → ((y : ℕ) → is_within y (find x m.tree) ≡ is_listed y (x ∷ rest)) → Stays front (x ∷ rest) back n.tree → Orderly x m n
+stays_orderly x m n front rest back d e within s = stretch_orderly x m n front rest back s.kept d s.distinct e s.is within s.order
 
 ids_below : Module → Type 0
 ids_below m = (z : ℕ) → Listed z (ids m.tree) → z < m.next

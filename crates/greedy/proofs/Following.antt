@@ -1,6 +1,6 @@
 -- The operations after an operation in pre-order.
-use Rattle.std.proofs.Common.{◌≡◌, refl, ap, sym, ◌∙◌, subst, ℕ, zero, suc, ◌+◌, ◌≤◌, ◌<◌, Bool, true, false, true≢false, cond, ◌||◌, eqb, eq-eqb, eqb-true, List, [], ◌∷◌, ◌++◌, append_assoc, arith, length, map, Option, Some, None, inl, inr}
-use Rattle.std.specs.Prelude.{option_map, option_and_then}
+use Rattle.std.proofs.Common.{◌≡◌, refl, ap, sym, ◌∙◌, subst, ℕ, zero, suc, ◌+◌, ◌≤◌, ◌<◌, Bool, true, false, true≢false, cond, ◌||◌, eqb, eq-eqb, eqb-true, List, [], ◌∷◌, ◌++◌, append_assoc, arith, length, map, Option, Some, None, inl, inr, ◌⊎◌}
+use Rattle.std.specs.Prelude.{option_map, option_and_then, nat_lt, not, ◌&&◌}
 use Rattle.std.specs.List.{list_any, IsDistinct}
 use Rattle.std.proofs.lemmas.Map.Keys.{IsDistinct-tail}
 use Rattle.ir_event.specs.trees.declared.place.Place.{Place}
@@ -13,16 +13,19 @@ use Rattle.ir_event.specs.store.Nodes.{NodeOf, node_of}
 use Rattle.ir_event.specs.tree_laws.Values.{region_at}
 use Rattle.ir_event.specs.trees.Tree.{ops_of}
 use Rattle.ir_event.specs.tree_laws.Reads.{ops_at, ops_in, last_id, id_before, is_among, goes_before, list_of, in_list, is_before, prev_of, parent_of, precedes, comes_after}
-use Rattle.ir_event.specs.tree_laws.Stands.{StepOf, StandOf, stand_id, stand_in, place_in, stands, regions_stands, region_stands, ops_stands, stand_of}
+use Rattle.ir_event.specs.tree_laws.Stands.{StepOf, StandOf, stand_id, stand_in, place_in, stands, regions_stands, region_stands, ops_stands, stand_of, dominated_by}
+use Rattle.ir_event.specs.trees.declared.value.Value.TheVariants.{Result}
+use Rattle.ir_event.specs.trees.Sites.{arguments, results_of, shows}
 use Rattle.ir_event.specs.tree_laws.Members.{In}
-use Rattle.ir_event.proofs.of_tree_laws.Listed.{bool_cases, in_parts}
+use Rattle.ir_event.proofs.of_tree_laws.Listed.{bool_cases, both, either, in_parts}
 use Rattle.ir_event.proofs.of_tree_laws.Readings.{step, stands_ids}
 use Rattle.ir_event.proofs.of_tree_laws.Members.{stand, member, stand_of_member, stand_found, joined_ops, within, ops_child, has_around}
 use Rattle.ir_event.proofs.of_tree_laws.Put.{child}
 use Rattle.ir_event.proofs.of_tree_laws.Neighbours.{prev_there}
 use Rattle.ir_event.proofs.of_tree_laws.Around.{around_there, place_of_member, member_of_place}
 use Rattle.ir_event.proofs.of_tree_laws.Values.{shape, joined_more}
-use Rattle.greedy.proofs.Order.{rises}
+use Rattle.greedy.proofs.Order.{after_from_rank, rises}
+use Rattle.greedy.proofs.Listed.{first_there, second_there}
 use Rattle.greedy.specs.Following.{first_id, comes_next, following, regions_from, first_inside, trailing, after_of, height_of, HasFewRegions, count_of}
 use Rattle.ir_event.proofs.of_types.Truths.{append_none, list_later}
 use Rattle.ir_event.proofs.of_trees.Facts.{ids_head}
@@ -67,7 +70,7 @@ module _ {N T A : Type 0} where
   cut_more more xs s c = (more ++ c.0, ap (λ l. more ++ l) c.1 ∙ sym (append_assoc more c.0 (ids s.here ++ trailing s.path)))
 
   mutual
-    cut_op : (b : List (StepOf N T A)) (t : OpOf N T A) (s : StandOf N T A) → In s (stands b t) → Cut (ids t ++ trailing b) s
+    pub cut_op : (b : List (StepOf N T A)) (t : OpOf N T A) (s : StandOf N T A) → In s (stands b t) → Cut (ids t ++ trailing b) s
     cut_op b (op h rs) s (inl e) = ([], ap (λ (z : StandOf N T A). ids z.here ++ trailing z.path) (sym e))
     cut_op b (op h rs) s (inr k) = cut_more (h.id ∷ []) (regions_ids rs ++ trailing b) s (cut_regions (op h rs) b 0 rs s refl k)
 
@@ -385,6 +388,73 @@ module _ {N T A : Type 0} where
         placed : (f : Option Place) → place_of y t ≡ f → precedes y x t ≡ true
         placed None f = absurd (true≢false (sym e ∙ ap (λ (g : Option Place). in_list (goes_before y x) (option_and_then (λ (p : Place). ops_at p.parent p.region t) g)) f))
         placed (Some place) f = let w = member_of_place y place t f in go w.0 place w.0.path refl w.1 w.2 w.3
+
+    joined_split : (f : List (OpOf N T A)) (u : OpOf N T A) (g : List (OpOf N T A)) (os : OpsOf N T A) → joined_ops (f ++ u ∷ g) os ≡ joined_ops f (next u (joined_ops g os))
+    joined_split [] u g os = refl
+    joined_split (x ∷ f) u g os = ap (next x) (joined_split f u g os)
+
+    -- the operation of a list that defines a value
+    shown_by : (y k : ℕ) (front : List (OpOf N T A)) → list_any (λ o. shows (Result y k) (results_of o)) front ≡ true
+        → (f : List (OpOf N T A)) × (u : OpOf N T A) × (g : List (OpOf N T A)) × (front ≡ f ++ u ∷ g) × ((head u).id ≡ y)
+    shown_by y k [] h = absurd (true≢false (sym h))
+    shown_by y k (o ∷ os) h = elim (bool_cases (shows (Result y k) (results_of o))) [
+      | inl e ↦ ([], o, os, refl, sym (eqb-true y (head o).id (both (eqb y (head o).id) (nat_lt k (length (head o).results)) e).0))
+      | inr e ↦
+          let w = shown_by y k os (sym (ap (λ b. b || list_any (λ (q : OpOf N T A). shows (Result y k) (results_of q)) os) e) ∙ h) in
+          (o ∷ w.0, w.1, w.2, ap (λ l. o ∷ l) w.3, w.4)
+    ]
+
+    -- an operation that defines a value visible at the end of a path comes before the parent, or is earlier in the block
+    pub record Earlier (y : ℕ) (o : OpOf N T A) (a : StepOf N T A) : Type 0 where
+      pub precedes_it : precedes y (head o).id t ≡ true
+      pub next_one : Option ℕ
+      pub place : place_of y t ≡ Some (record { parent = (head a.parent).id; region = a.region; before = next_one })
+
+    earlier : (y k : ℕ) (o : OpOf N T A) (a : StepOf N T A) (p : List (StepOf N T A)) → In (stand o (a ∷ p)) (stands [] t) → list_any (λ q. shows (Result y k) (results_of q)) a.front ≡ true → Earlier y o a
+    earlier y k o a p mem h =
+        let w = shown_by y k a.front h in
+        let rest = joined_ops w.2 (next o a.rest) in
+        let b = step a.parent a.region a.args w.0 rest in
+        let u = stand w.1 (b ∷ p) in
+        let shaped : region_at a.region (regions a.parent) ≡ Some (block a.args (joined_ops w.0 (next w.1 rest))) =
+        shape t o a p mem ∙ ap (λ l. Some (block a.args l)) (ap (λ f. joined_ops f (next o a.rest)) w.3 ∙ joined_split w.0 w.1 w.2 (next o a.rest)) in
+        let there : In u (stands [] t) = within a.parent p u (child a.parent p a.region a.args (joined_ops w.0 (next w.1 rest)) u shaped (ops_child a.parent p a.region a.args [] w.0 w.1 rest)) [] t (around_there t o a p mem).1 in
+        let x_in : list_any (λ z. eqb z (head o).id) (ops_ids rest) ≡ true = inside_joined (head o).id w.2 o a.rest (own_listed o) in
+        record {
+          precedes_it = subst (λ z. precedes z (head o).id t ≡ true) w.4 (comes_later u (head o).id there
+              (any_right (head o).id (regions_ids (regions w.1)) (trailing u.path) (any_left (head o).id (ops_ids rest) (regions_ids (regions_from (a.region + 1) (regions a.parent)) ++ trailing p) x_in)));
+          next_one = first_op rest;
+          place = ap (λ z. place_of z t) (sym w.4) ∙ place_of_member t d w.1 b p there;
+        }
+
+    over : (y x z : ℕ) → precedes y x t ≡ true → precedes x z t ≡ true → precedes y z t ≡ true
+    over y x z h k = after_from_rank y z (ids t) (first_there y x (ids t) h) (second_there x z (ids t) k) (omega (arith, rises y x (ids t) d h, rises x z (ids t) d k))
+
+    parent_before : (o : OpOf N T A) (a : StepOf N T A) (p : List (StepOf N T A)) → In (stand o (a ∷ p)) (stands [] t) → precedes (head a.parent).id (head o).id t ≡ true
+    parent_before o a p mem = parent_precedes (head o).id (head a.parent).id (ap (option_map (λ (z : Place). z.parent)) (place_of_member t d o a p mem))
+
+    module _ (isolated : N → Bool) (y k : ℕ) where
+      -- a value visible at the end of a path
+      by_path : (o : OpOf N T A) (a : StepOf N T A) (p : List (StepOf N T A)) → In (stand o (a ∷ p)) (stands [] t) → dominated_by isolated (a ∷ p) (Result y k) ≡ true → Earlier y o a ⊎ (dominated_by isolated p (Result y k) ≡ true)
+      by_path o a p mem e = elim (either (list_any (λ q. shows (Result y k) (results_of q)) a.front) (shows (Result y k) (arguments (head a.parent).id a.region (length a.args)) || not (isolated (head a.parent).name) && dominated_by isolated p (Result y k)) e) [
+        | inl i ↦ inl (earlier y k o a p mem i)
+        | inr i ↦ inr (both (not (isolated (head a.parent).name)) (dominated_by isolated p (Result y k)) i).1
+      ]
+
+      -- the operation that defines it comes before
+      pub dominates : (o : OpOf N T A) (p : List (StepOf N T A)) → In (stand o p) (stands [] t) → dominated_by isolated p (Result y k) ≡ true → precedes y (head o).id t ≡ true
+      dominates o [] mem e = absurd (true≢false (sym e))
+      dominates o (a ∷ p) mem e = elim (by_path o a p mem e) [
+        | inl i ↦ i.precedes_it
+        | inr i ↦ over y (head a.parent).id (head o).id (dominates a.parent p (around_there t o a p mem).1 i) (parent_before o a p mem)
+      ]
+
+      -- it comes before the parent, or it is in the same block
+      pub dominates_parent : (o : OpOf N T A) (a : StepOf N T A) (p : List (StepOf N T A)) → In (stand o (a ∷ p)) (stands [] t) → dominated_by isolated (a ∷ p) (Result y k) ≡ true → (precedes y (head a.parent).id t ≡ true) ⊎ Earlier y o a
+      dominates_parent o a p mem e = elim (by_path o a p mem e) [
+        | inl i ↦ inr i
+        | inr i ↦ inl (dominates a.parent p (around_there t o a p mem).1 i)
+      ]
 
     -- of two operations, only one comes before the other
     pub not_after : (x y : ℕ) → precedes x y t ≡ true → precedes y x t ≡ false

@@ -1,5 +1,5 @@
 -- The list of operations after events, assembled from its parts.
-use Rattle.std.proofs.Common.{◌≡◌, refl, ap, sym, ◌∙◌, subst, ℕ, true, false, true≢false, ◌||◌, ◌&&◌, eqb, List, [], ◌∷◌, length, drop, Option, Some, None, inl, inr}
+use Rattle.std.proofs.Common.{◌≡◌, refl, ap, sym, ◌∙◌, subst, ℕ, true, false, true≢false, cond, ◌||◌, ◌&&◌, eqb, List, [], ◌∷◌, ◌++◌, length, drop, Option, Some, None, inl, inr, ◌⊎◌}
 use Rattle.std.specs.Prelude.{option_map}
 use Rattle.std.specs.List.{list_any, IsDistinct}
 use Rattle.ir_event.specs.types.Things.{ContextModel}
@@ -7,11 +7,16 @@ use Rattle.ir_event.specs.types.Terms.{name_term, type_term, attr_term}
 use Rattle.ir_event.specs.trees.Tree.{Op}
 use Rattle.ir_event.specs.trees.Ids.{HasDistinctIds, ids}
 use Rattle.ir_event.specs.trees.Meaning.{meaning}
-use Rattle.ir_event.proofs.of_trees.Mapped.{map_ids}
+use Rattle.ir_event.proofs.of_trees.Mapped.{map_ids, map_uses}
+use Rattle.ir_event.specs.trees.declared.value.Value.{Value}
+use Rattle.ir_event.specs.trees.declared.value.Value.TheVariants.{Result, Arg}
+use Rattle.ir_event.specs.trees.Uses.{uses_of}
+use Rattle.effects.specs.Dead.{is_unused}
+use Rattle.effects.proofs.Unused.{used_result}
 use Rattle.ir_event.specs.store.Nodes.{NodeOf}
 use Rattle.ir_event.specs.tree_laws.Members.{In}
 use Rattle.std.proofs.Math.Seq.{drop-append_seam}
-use Rattle.ir_event.proofs.of_tree_laws.Listed.{either, in_parts, neither}
+use Rattle.ir_event.proofs.of_tree_laws.Listed.{bool_cases, either, in_parts, neither}
 use Rattle.ir_event.specs.declared.event.Event.{Event}
 use Rattle.ir_event.specs.declared.event.Event.TheVariants.{Put, Take, SetOperand, SetEntry, Shift}
 use Rattle.ir_event.specs.declared.world.World.{World}
@@ -19,16 +24,21 @@ use Rattle.ir_event.specs.Modules.{Module, module_in}
 use Rattle.listeners_support.specs.Surroundings.{SurroundingsOf, OuterOf, surroundings}
 use Rattle.listeners_support.specs.Mapped.{map_node, map_outer, map_surroundings}
 use Rattle.listeners_support.proofs.Meanings.{mapped_surroundings}
-use Rattle.greedy.specs.Listing.{Lists, Touched}
-use Rattle.greedy.specs.Near.{Leads}
+use Rattle.greedy.specs.Listing.{ListsUpTo, Touched, TouchedUpTo, entries_after}
+use Rattle.greedy.specs.Near.{lost_values, Leads}
 use Rattle.greedy.specs.Reached.{ends, ends_of, is_end, reaches, any_reaches}
-use Rattle.greedy.specs.LocalContext.{Uses, is_listed, operands_of}
+use Rattle.greedy.specs.LocalContext.{Uses, defining_op, is_listed, operands_of}
 use Rattle.greedy.proofs.Applying.{touched_all}
 use Rattle.greedy.specs.Adding.{Adds, Grown, OneOf}
-use Rattle.greedy.specs.Parts.{IsAround, IsReached, IsBeside, puts_last, any_puts_last}
+use Rattle.greedy.specs.Parts.{IsAround, IsReached, IsBeside, IsSeer, puts_last, any_puts_last}
 use Rattle.greedy.specs.Shown.{shown_operands}
 use Rattle.greedy.proofs.Adding.{grown_more, in_listed, listed_in}
 use Rattle.greedy.proofs.Climbing.{same_climbs}
+use Rattle.greedy.proofs.Beyond.{then_after}
+use Rattle.greedy.proofs.Cuts.{in_either, left_in, right_in}
+use Rattle.greedy.proofs.Using.{handed_on, user_after}
+use Rattle.std.proofs.lemmas.Bool.{false_from_ne_true}
+use Rattle.ir_event.specs.tree_laws.Reads.{comes_after, precedes}
 
 -- ---- reading the tree of terms agrees with reading the tree of interned numbers
 module _ {N T A M U B : Type 0} (f : N → M) (g : T → U) (h : A → B) where
@@ -74,34 +84,67 @@ module _ (c : ContextModel) (t : Op) where
         | inr k ↦ (let w = one_reaches es n.1 y k in (w.0, inr w.1, w.2))
       ]
 
--- ---- all parts the users of results, by interned numbers
+-- ---- the operations after an operation
+pub after_listed : (a x : ℕ) (xs : List ℕ) → is_listed x (entries_after a xs) ≡ comes_after a x xs
+after_listed a x [] = refl
+after_listed a x (y ∷ xs) = elim (eqb y a) as (λ b. is_listed x (cond b xs (entries_after a xs)) ≡ cond b (is_listed x xs) (comes_after a x xs)) [ true ↦ refl | false ↦ after_listed a x xs ]
+
+-- ---- all parts, by interned numbers
 abbrev used_by : World → ℕ → ℕ → Type 0
 used_by w y x = Uses x y w.store.module_of.tree
 
-module _ (w : World) (es : List Event) (inner : any_puts_last es ≡ false) (none reached seen second users listed : List ℕ) (n : ℕ) (from : n ≡ length reached)
+abbrev seer_of : World → ℕ → ℕ → ℕ → Type 0
+seer_of w passed y x = IsSeer w.store.module_of.tree passed y x
+
+module _ (w : World) (es : List Event) (inner : any_puts_last es ≡ false) (passed : ℕ) (none reached seen second users listed : List ℕ) (n : ℕ) (from : n ≡ length reached)
     (at_reached : Adds (OneOf (IsReached w.store.module_of.tree) es) none reached)
-    (at_seen : Adds (OneOf (used_by w) (drop 0 reached)) reached seen)
+    (at_seen : Adds (OneOf (seer_of w passed) (drop 0 reached)) reached seen)
     (at_around : Adds (OneOf (IsAround w.store.module_of.tree) seen) seen second)
-    (at_users : Adds (OneOf (used_by w) (drop n second)) second users)
+    (at_users : Adds (OneOf (seer_of w passed) (drop n second)) second users)
     (at_beside : Adds (OneOf (IsBeside w) es) users listed) where
+  abbrev t : Op
+  t = w.store.module_of.tree
+
+  d : HasDistinctIds t
+  d = w.formed.distinct
+
+  -- the list, and all operations after `passed`
+  abbrev all : List ℕ
+  all = listed ++ entries_after passed (ids (module_in w).tree)
+
+  in_all : (x : ℕ) → is_listed x listed ≡ true → is_listed x all ≡ true
+  in_all x h = left_in x listed (entries_after passed (ids (module_in w).tree)) h
+
+  after_all : (x : ℕ) → precedes passed x t ≡ true → is_listed x all ≡ true
+  after_all x h = right_in x listed (entries_after passed (ids (module_in w).tree))
+      (after_listed passed x (ids (module_in w).tree) ∙ ap (comes_after passed x) (map_ids (name_term w.ctx) (type_term w.ctx) (attr_term w.ctx) t) ∙ h)
+
   reached_one : (y : ℕ) → any_reaches es y (module_in w).tree ≡ true → is_listed y reached ≡ true
-  reached_one y h = at_reached.added y (one_reaches w.ctx w.store.module_of.tree es inner y h)
+  reached_one y h = at_reached.added y (one_reaches w.ctx t es inner y h)
 
   -- operations that are seen stay listed
   stays : (x : ℕ) → is_listed x seen ≡ true → is_listed x listed ≡ true
   stays x h = at_beside.kept x (at_users.kept x (at_around.kept x h))
 
   used : (x y : ℕ) → Uses x y (module_in w).tree → used_by w y x
-  used x y u = same_uses w.ctx w.store.module_of.tree x y u
+  used x y u = same_uses w.ctx t x y u
 
-  user_one : (y x : ℕ) → is_listed y reached ≡ true → used_by w y x → is_listed x seen ≡ true
-  user_one y x h u = at_seen.added x (y, listed_in y reached h, u)
+  -- a user of an operation after `passed` comes after `passed`
+  later_user : (y x : ℕ) → precedes passed y t ≡ true → used_by w y x → precedes passed x t ≡ true
+  later_user y x p u = then_after t d passed y x p (user_after w y x u)
+
+  -- a user is found from its operation, or comes after `passed`
+  seer_or_later : (y x : ℕ) → used_by w y x → seer_of w passed y x ⊎ (precedes passed x t ≡ true)
+  seer_or_later y x u = elim (bool_cases (precedes passed y t)) [ inl p ↦ inr (later_user y x p u) | inr p ↦ inl (inl (u, p)) ]
+
+  user_one : (y x : ℕ) → is_listed y reached ≡ true → used_by w y x → (is_listed x seen ≡ true) ⊎ (precedes passed x t ≡ true)
+  user_one y x h u = elim (seer_or_later y x u) [ inl s ↦ inl (at_seen.added x (y, listed_in y reached h, s)) | inr p ↦ inr p ]
 
   -- the users of the first operations are seen, and the users of the new ones are listed next
-  user_next : (y x : ℕ) → is_listed y seen ≡ true → used_by w y x → is_listed x listed ≡ true
+  user_next : (y x : ℕ) → is_listed y seen ≡ true → used_by w y x → is_listed x all ≡ true
   user_next y x h u = elim (in_parts y reached more.0 (subst (In y) more.1 (listed_in y second (at_around.kept y h)))) [
-    | inl i ↦ stays x (user_one y x (in_listed y reached i) u)
-    | inr i ↦ at_beside.kept x (at_users.added x (y, subst (In y) (sym trailing) i, u))
+    | inl i ↦ elim (user_one y x (in_listed y reached i) u) [ inl k ↦ in_all x (stays x k) | inr p ↦ after_all x p ]
+    | inr i ↦ elim (seer_or_later y x u) [ inl s ↦ in_all x (at_beside.kept x (at_users.added x (y, subst (In y) (sym trailing) i, s))) | inr p ↦ after_all x p ]
   ]
     where
       more : Grown reached second
@@ -110,22 +153,47 @@ module _ (w : World) (es : List Event) (inner : any_puts_last es ≡ false) (non
       trailing : drop n second ≡ more.0
       trailing = (λ j. drop (from j) (more.1 j)) ∙ drop-append_seam reached more.0
 
-  around_one : (y x : ℕ) → is_listed y seen ≡ true → ends x y (module_in w).tree ≡ true → is_listed x listed ≡ true
-  around_one y x h k = at_beside.kept x (at_users.kept x (at_around.added x (y, listed_in y seen h, sym (same_ends w.ctx w.store.module_of.tree x y) ∙ k)))
+  around_one : (y x : ℕ) → is_listed y seen ≡ true → ends x y (module_in w).tree ≡ true → is_listed x all ≡ true
+  around_one y x h k = in_all x (at_beside.kept x (at_users.kept x (at_around.added x (y, listed_in y seen h, sym (same_ends w.ctx t x y) ∙ k))))
 
-  pub all_listed : Lists (shown_operands w.store) es listed (module_in w).tree
+  -- the parent of a user that ends a block
+  around_user : (z l x : ℕ) → is_listed z reached ≡ true → used_by w z l → ends x l (module_in w).tree ≡ true → is_listed x all ≡ true
+  around_user z l x h u k = elim (bool_cases (precedes passed z t)) [
+    | inr p ↦ around_one l x (at_seen.added l (z, listed_in z reached h, inl (u, p))) k
+    | inl p ↦ elim (handed_on w z l x u (sym (same_ends w.ctx t x l) ∙ k)) [
+      | inl b ↦ after_all x (then_after t d passed z x p b)
+      | inr g ↦ in_all x (stays x (at_seen.added x (z, listed_in z reached h, inr (p, g))))
+    ]
+  ]
+
+  -- a value that lost a use has none left, or is still used
+  lost_one : (e : Event) → In e es → (v : Value) → In v (lost_values (shown_operands w.store) e) → (y : ℕ) → defining_op v ≡ Some y → (us : List (ℕ × ℕ)) → uses_of v t ≡ us
+      → (is_listed y all ≡ true) ⊎ (is_unused y (module_in w).tree ≡ false)
+  lost_one e h v k y g [] none = inl (in_all y (at_beside.added y (e, h, inl (inr (v, k, (g, none))))))
+  lost_one e h (Arg a r j) k y g (u ∷ us) some = absurd cc
+  lost_one e h (Result a j) k y g (u ∷ us) some =
+      let same : a ≡ y = cc in
+      inr (subst (λ z. is_unused z (module_in w).tree ≡ false) same (sym (used_result a j (module_in w).tree (λ none.
+      let bad : u ∷ us ≡ [] = sym some ∙ sym (map_uses (name_term w.ctx) (type_term w.ctx) (attr_term w.ctx) (Result a j) t) ∙ none in
+      absurd cc))))
+
+  pub all_listed : ListsUpTo passed (shown_operands w.store) es listed (module_in w).tree
   all_listed = record {
     seers = record {
-      itself = λ y h. stays y (at_seen.kept y (reached_one y h));
-      users = λ y x h u. stays x (user_one y x (reached_one y h) (used x y u));
-      users_of_users = λ z y x h u v. user_next y x (user_one z y (reached_one z h) (used y z u)) (used x y v);
+      itself = λ y h. in_all y (stays y (at_seen.kept y (reached_one y h)));
+      users = λ y x h u. elim (user_one y x (reached_one y h) (used x y u)) [ inl k ↦ in_all x (stays x k) | inr p ↦ after_all x p ];
+      users_of_users = λ z y x h u v. elim (user_one z y (reached_one z h) (used y z u)) [
+        | inl k ↦ user_next y x k (used x y v)
+        | inr p ↦ after_all x (later_user y x p (used x y v))
+      ];
     };
     around = record {
       around = λ l x h e. around_one l x (at_seen.kept l (reached_one l h)) e;
-      around_users = λ z l x h u e. around_one l x (user_one z l (reached_one z h) (used l z u)) e;
+      around_users = λ z l x h u e. around_user z l x (reached_one z h) (used l z u) e;
     };
-    found_defining_ops = λ e h v k y g. at_beside.added y (e, h, inl (v, k, g));
-    climbs = λ e h o k n y c. at_beside.added y (e, h, inr (o, k, (n, same_climbs w.ctx w.store.module_of.tree n y o c)));
+    found_gained = λ e h v k y g. in_all y (at_beside.added y (e, h, inl (inl (v, k, g))));
+    found_lost = λ e h v k y g. lost_one e h v k y g (uses_of v t) refl;
+    climbs = λ e h o k n y c. in_all y (at_beside.added y (e, h, inr (o, k, (n, same_climbs w.ctx t n y o c))));
   }
 
 -- ---- all operations
@@ -135,8 +203,15 @@ all_touched w listed e m x h none =
     absurd (true≢false (sym is ∙ none))
 
 -- the theorem, applied to the list of operations near the events
-pub near_touched : (w : World) (es : List Event) (listed : List ℕ) → Lists (shown_operands w.store) es listed (module_in w).tree → (m : Module) → Leads (shown_operands w.store) w.ctx es m (module_in w) → Touched m (module_in w) listed
-near_touched w es listed k m l = touched_all (shown_operands w.store) w.ctx es m (module_in w) l distinct listed k
+pub near_touched : (w : World) (es : List Event) (passed : ℕ) (listed : List ℕ) → ListsUpTo passed (shown_operands w.store) es listed (module_in w).tree → (m : Module) → Leads (shown_operands w.store) w.ctx es m (module_in w) → TouchedUpTo passed m (module_in w) listed
+near_touched w es passed listed k m l x h u p = touched_all (shown_operands w.store) w.ctx es m (module_in w) l distinct (listed ++ later) k x h
+    (false_from_ne_true (is_listed x (listed ++ later)) (λ i. elim (in_either x listed later i) [
+      | inl j ↦ true≢false (sym j ∙ u)
+      | inr j ↦ true≢false (sym j ∙ after_listed passed x (ids (module_in w).tree) ∙ p)
+    ]))
   where
+    later : List ℕ
+    later = entries_after passed (ids (module_in w).tree)
+
     distinct : HasDistinctIds (module_in w).tree
     distinct = subst (IsDistinct eqb) (sym (map_ids (name_term w.ctx) (type_term w.ctx) (attr_term w.ctx) w.store.module_of.tree)) w.formed.distinct

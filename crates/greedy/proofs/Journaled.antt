@@ -7,14 +7,14 @@ use Rattle.ir_event.specs.declared.world.World.{World}
 use Rattle.ir_event.specs.Modules.{Module, module_in, module_meaning}
 use Rattle.rewriter_machine.specs.Journals.{IsJournal}
 use Rattle.patterns.specs.rewriter.Held.{TransactionModel, module_at, module_held}
-use Rattle.greedy.specs.Listing.{Touched}
+use Rattle.greedy.specs.Listing.{TouchedUpTo}
 use Rattle.greedy.specs.Near.{Leads}
 use Rattle.greedy.specs.Shown.{shown_operands}
 use Rattle.greedy.proofs.Leading.{leads_from}
 
-pub journal_touched : (w : World) (h : TransactionModel) (from : ℕ) (es : List Event) (listed : List ℕ) → w.ctx ≡ h.ctx → w.store ≡ h.store → es ≡ drop from h.journal → IsJournal h.ctx h.journal h.store
-    → ((m : Module) → Leads (shown_operands w.store) w.ctx es m (module_in w) → Touched m (module_in w) listed) → Touched (module_at from h) (module_held h) listed
-journal_touched w h from es listed ec est el j f = subst (λ n. Touched (module_at from h) n listed) same (f (module_at from h) back)
+pub journal_touched : (w : World) (h : TransactionModel) (from passed : ℕ) (es : List Event) (listed : List ℕ) → w.ctx ≡ h.ctx → w.store ≡ h.store → es ≡ drop from h.journal → IsJournal h.ctx h.journal h.store
+    → ((m : Module) → Leads (shown_operands w.store) w.ctx es m (module_in w) → TouchedUpTo passed m (module_in w) listed) → TouchedUpTo passed (module_at from h) (module_held h) listed
+journal_touched w h from passed es listed ec est el j f = subst (λ n. TouchedUpTo passed (module_at from h) n listed) same (f (module_at from h) back)
   where
     leading : ContextModel → Stored → List Event → Type 0
     leading c s l = Leads (shown_operands s) c l (module_at from h) (module_meaning c s.module_of)

@@ -11,6 +11,7 @@ use Rattle.ir_event.specs.trees.Ids.{ids, regions_ids, HasDistinctIds, find, op_
 use Rattle.ir_event.specs.trees.Limits.{most_ops, most_next}
 use Rattle.ir_event.specs.trees.Places.{place_of}
 use Rattle.ir_event.specs.trees.Meaning.{Operation}
+use Rattle.ir_event.specs.tree_laws.Reads.{is_within}
 use Rattle.ir_event.proofs.of_tree_laws.Around.{present_stand}
 use Rattle.ir_event.proofs.of_tree_laws.Formed.{ids_below}
 use Rattle.ir_event.proofs.of_tree_laws.Shift.{own_distinct}
@@ -29,7 +30,7 @@ use Rattle.greedy.specs.Orders.{Orderly}
 use Rattle.greedy.proofs.Cuts.{left_in, right_in}
 use Rattle.greedy.proofs.Edits.{names, still_stays, opens_stays, stays_orderly}
 use Rattle.greedy.proofs.Nearby.{Near, widths}
-use Rattle.greedy.proofs.Listed.{Listed}
+use Rattle.greedy.proofs.Listed.{Listed, is_listed}
 use Rattle.greedy.proofs.Rootless.{unplaced}
 use Rattle.patterns.specs.facts.Soundness.{IsNear}
 use Rattle.patterns.specs.facts.Near.{AreNear, Opens, Still}
@@ -89,7 +90,7 @@ module _ (m : Module) (d : HasDistinctIds m.tree) (below : All (λ y. y < m.next
 
   pub edits_orderly : (es : List Edit) (o : Operation) (place : Place) → find x m.tree ≡ Some o → front_of x m.tree ≡ Some place → AreNear place o es → Orderly x m (all_edited es m)
   edits_orderly es o place f p (inl s) =
-      stays_orderly x m (all_edited es m) b.front (regions_ids (regions o)) b.back d (b.is ∙ ap (λ l. b.front ++ (l ++ b.back)) own)
+      stays_orderly x m (all_edited es m) b.front (regions_ids (regions o)) b.back d (b.is ∙ ap (λ l. b.front ++ (l ++ b.back)) own) (λ y. ap (is_within y) f ∙ ap (is_listed y) own)
       (still_stays x b.front b.back (regions_ids (regions o)) place (front_before x m.tree place p) m.next old es m [] (λ z h. absurd (true≢false (sym h))) (omega arith) under
       (subst (λ l. Near x l b.back [] (regions_ids (regions o)) [] m.tree) (sym (append-nil b.front)) (start x m.tree o d f id b)) (subst (λ y. Still y place es) id s))
     where
@@ -105,7 +106,7 @@ module _ (m : Module) (d : HasDistinctIds m.tree) (below : All (λ y. y < m.next
       old : (z : ℕ) → Listed z (x ∷ regions_ids (regions o)) → z < m.next
       old z h = under z (subst (Listed z) (sym (b.is ∙ ap (λ l. b.front ++ (l ++ b.back)) own)) (right_in z b.front ((x ∷ regions_ids (regions o)) ++ b.back) (left_in z (x ∷ regions_ids (regions o)) b.back h)))
   edits_orderly es o place f p (inr s) =
-      stays_orderly x m (all_edited es m) w.front (w.inner ++ (widths (wide s.first s.rest) ++ w.outer)) w.back d w.is
+      stays_orderly x m (all_edited es m) w.front (w.inner ++ (widths (wide s.first s.rest) ++ w.outer)) w.back d w.is (λ y. ap (is_within y) f ∙ ap (is_listed y) w.own)
       (opens_stays x w.front w.back w.inner w.outer place (front_before x m.tree place p) (wide s.first s.rest) es m (subst (IsDistinct eqb) w.own (own_distinct x m.tree o d f)) w.near (subst (λ l. Opens x place l es) (before_last s.first s.rest) (subst (λ y. Opens y place (ended_by s.first s.rest).before es) id s.opens)))
     where
       id : (head o).id ≡ x

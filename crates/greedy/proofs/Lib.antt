@@ -39,4 +39,5 @@ pub mod Law
 pub mod Trials
 pub mod Attempting
 mod Following
+mod Beyond
 mod Traces

@@ -22,7 +22,8 @@ use Rattle.greedy.specs.Outcomes.{Applied, Refuses}
 use Rattle.greedy.specs.Rewriting.{first_by, next_by}
 use Rattle.greedy.specs.Work.{waits, IsWork, Right, CoversBut, StillWaits, Taken, NoneWaits}
 use Rattle.greedy.specs.LocalContext.{is_listed}
-use Rattle.greedy.specs.Listing.{Touched}
+use Rattle.std.proofs.lemmas.Bool.{false_from_ne_true, or_left}
+use Rattle.greedy.specs.Listing.{TouchedUpTo}
 use Rattle.greedy.specs.PatternSet.{PatternSetModel}
 use Rattle.greedy.specs.Trials.{StaysAway}
 use Rattle.greedy.proofs.Listed.{first_there, listed_at, listed_more, listed_past}
@@ -122,7 +123,7 @@ module _ (pattern_set : PatternSetModel) where
 
   -- ---- after a rewrite at operation x, every operation at which something may apply waits
   pub renewed : (m n : Module) (x : ℕ) (listed : List ℕ) (p : ℕ) (a : List ℕ) (p2 : ℕ) (a2 : List ℕ) (p3 : ℕ) (a3 : List ℕ) (p4 : ℕ) (a4 : List ℕ)
-      → StaysAway pattern_set → Touched m n listed → CoversBut pattern_set x p a m
+      → StaysAway pattern_set → TouchedUpTo p2 m n listed → CoversBut pattern_set x p a m
       → StillWaits p a m.tree p2 a2 n.tree → StillWaits p2 a2 n.tree p3 a3 n.tree → (has_id x n.tree ≡ true → waits p3 a3 n.tree x ≡ true)
       → StillWaits p3 a3 n.tree p4 a4 n.tree → ((z : ℕ) → is_listed z listed ≡ true → has_id z n.tree ≡ true → waits p4 a4 n.tree z ≡ true)
       → IsWork p4 a4 n.tree → Right pattern_set p4 a4 n
@@ -131,7 +132,7 @@ module _ (pattern_set : PatternSetModel) where
     covers = λ z h v. elim (bool_cases (is_listed z listed)) [
       | inl e ↦ absurd (true≢false (sym (all z e h) ∙ v))
       | inr e ↦
-          let s = touched z h e in
+          let s = touched z h e (false_from_ne_true (precedes p2 z n.tree) (λ k. true≢false (sym (s3 z h h (s2 z h h (or_left (precedes p2 z n.tree) (is_listed z a2) k))) ∙ v))) in
           elim (bool_cases (waits p a m.tree z)) [
             | inl k ↦ absurd (true≢false (sym (s3 z h h (s2 z h h (s1 z s.was h k))) ∙ v))
             | inr k ↦ elim (but z s.was k) [

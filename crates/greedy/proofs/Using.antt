@@ -4,7 +4,7 @@ use Rattle.std.specs.Prelude.{option_map, option_and_then, is_some, slice_get}
 use Rattle.ir_event.specs.trees.declared.value.Value.{Value}
 use Rattle.ir_event.specs.trees.declared.value.Value.TheVariants.{Result, Arg}
 use Rattle.ir_event.specs.trees.Tree.{Op, op, head}
-use Rattle.ir_event.specs.trees.Ids.{find}
+use Rattle.ir_event.specs.trees.Ids.{find, has_id, ids}
 use Rattle.ir_event.specs.trees.Meaning.{isolated_in}
 use Rattle.ir_event.specs.trees.Uses.{same_value, operand_uses, uses_of}
 use Rattle.ir_event.specs.store.Nodes.{Node, node_of}
@@ -12,9 +12,11 @@ use Rattle.ir_event.specs.store.Using.{is_use, same_use, AreUses}
 use Rattle.ir_event.specs.tree_laws.Values.{has_value}
 use Rattle.ir_event.specs.tree_laws.Stands.{StandOf, stand_id, stands, stand_of, dominated_by}
 use Rattle.ir_event.specs.tree_laws.Members.{In}
-use Rattle.ir_event.proofs.of_tree_laws.Listed.{both_hold, bool_cases, all_each}
+use Rattle.ir_event.proofs.of_tree_laws.Listed.{any_one, both_hold, bool_cases, all_each}
 use Rattle.ir_event.proofs.of_tree_laws.Readings.{stands_uses}
-use Rattle.ir_event.proofs.of_tree_laws.Members.{member}
+use Rattle.ir_event.proofs.of_tree_laws.Members.{member, same_stand, stand, stand_found}
+use Rattle.std.specs.List.{list_any}
+use Rattle.effects.specs.Dead.{is_result_of}
 use Rattle.ir_event.proofs.of_tree_laws.HeadForm.{in_gather}
 use Rattle.ir_event.proofs.of_tree_laws.Values.{seen_by}
 use Rattle.ir_event.proofs.of_tree_laws.Formed.{from_formed}
@@ -22,7 +24,13 @@ use Rattle.ir_event.specs.declared.world.World.{World}
 use Rattle.listeners_support.specs.Surroundings.{surround}
 use Rattle.greedy.specs.LocalContext.{Uses, defining_op, operands_of}
 use Rattle.greedy.specs.Adding.{Adding, Adds}
-use Rattle.greedy.specs.Parts.{IsIn, IsUser}
+use Rattle.greedy.specs.Parts.{IsHanded, IsIn, IsSeer, IsUser}
+use Rattle.greedy.proofs.Listed.{first_there, second_there}
+use Rattle.greedy.specs.Reached.{ends}
+use Rattle.greedy.proofs.BlockEnds.{ending}
+use Rattle.greedy.proofs.Following.{dominates, dominates_parent}
+use Rattle.listeners_support.proofs.Points.{last_is}
+use Rattle.ir_event.specs.tree_laws.Reads.{precedes}
 use Rattle.greedy.proofs.Adding.{adding_none, adding_more, adding_done}
 use Rattle.ir_event.proofs.of_trees.Replaced.{same_value_refl}
 
@@ -95,6 +103,85 @@ module _ (w : World) where
           let h : In u.0 (head s.here).operands = subst (In u.0) (operands_shown s.here) (subst (λ f. In u.0 (operands_of (option_map (surround w.store.module_of.tree) f))) i u.1) in
           let r = gives_result u.0 y u.2 in
           by_stand s m.0 m.1 u.0 h r.0 r.1
+
+  -- the operand of a user, with the path to the user
+  record Operand (x y : ℕ) : Type 0 where
+    at : StandOf ℕ ℕ ℕ
+    there : In at (stands [] w.store.module_of.tree)
+    id : stand_id at ≡ x
+    number : ℕ
+    visible : dominated_by (isolated_in w.ctx) at.path (Result y number) ≡ true
+
+  operand : (x y : ℕ) → Uses x y w.store.module_of.tree → Operand x y
+  operand x y u = go (stand_of x w.store.module_of.tree) refl
+    where
+      go : (f : Option (StandOf ℕ ℕ ℕ)) → stand_of x w.store.module_of.tree ≡ f → Operand x y
+      go None i = absurd (subst (λ f. In u.0 (operands_of (option_map (surround w.store.module_of.tree) f))) i u.1)
+      go (Some s) i =
+          let m = member x (stands [] w.store.module_of.tree) s i in
+          let h : In u.0 (head s.here).operands = subst (In u.0) (operands_shown s.here) (subst (λ f. In u.0 (operands_of (option_map (surround w.store.module_of.tree) f))) i u.1) in
+          let r = gives_result u.0 y u.2 in
+          let each = (from_formed (isolated_in w.ctx) w.store.module_of.tree w.formed.formed).dominated_by_own s m.0 in
+          record {
+            at = s;
+            there = m.0;
+            id = m.1;
+            number = r.0;
+            visible = subst (λ v. dominated_by (isolated_in w.ctx) s.path v ≡ true) r.1 (all_each (dominated_by (isolated_in w.ctx) s.path) (head s.here).operands each u.0 h);
+          }
+
+  -- a user by its node
+  user_found : (x y : ℕ) → Uses x y w.store.module_of.tree → (o : Op) × (find x w.store.module_of.tree ≡ Some o) × (list_any (is_result_of y) (head o).operands ≡ true)
+  user_found x y u = go (stand_of x w.store.module_of.tree) refl
+    where
+      own : (v : Value) → defining_op v ≡ Some y → is_result_of y v ≡ true
+      own (Result z k) e = let same : z ≡ y = cc in eq-eqb z y same
+      own (Arg z r k) e = absurd cc
+
+      go : (f : Option (StandOf ℕ ℕ ℕ)) → stand_of x w.store.module_of.tree ≡ f → (o : Op) × (find x w.store.module_of.tree ≡ Some o) × (list_any (is_result_of y) (head o).operands ≡ true)
+      go None i = absurd (subst (λ f. In u.0 (operands_of (option_map (surround w.store.module_of.tree) f))) i u.1)
+      go (Some s) i =
+          let m = member x (stands [] w.store.module_of.tree) s i in
+          let h : In u.0 (head s.here).operands = subst (In u.0) (operands_shown s.here) (subst (λ f. In u.0 (operands_of (option_map (surround w.store.module_of.tree) f))) i u.1) in
+          (s.here, ap (λ z. find z w.store.module_of.tree) (sym m.1) ∙ stand_found w.store.module_of.tree w.formed.distinct s m.0, any_one (is_result_of y) (head s.here).operands u.0 h (own u.0 u.2))
+
+  pub not_user_none : (x y : ℕ) → None ≡ option_map node_of (find x w.store.module_of.tree) → Uses x y w.store.module_of.tree → ⊥
+  not_user_none x y e u = let f = user_found x y u in let no : None ≡ Some (node_of f.0) = e ∙ ap (option_map node_of) f.1 in absurd cc
+
+  pub not_user_some : (x y : ℕ) (n : Node) → Some n ≡ option_map node_of (find x w.store.module_of.tree) → list_any (is_result_of y) n.head.operands ≡ false → Uses x y w.store.module_of.tree → ⊥
+  not_user_some x y n e f u =
+      let o = user_found x y u in
+      let some : Some n ≡ Some (node_of o.0) = e ∙ ap (option_map node_of) o.1 in
+      let same : n ≡ node_of o.0 = cc in
+      true≢false (sym o.2 ∙ ap (list_any (is_result_of y)) (sym (ap (λ (m : Node). m.head.operands) same ∙ operands_shown o.0)) ∙ f)
+
+  -- a user comes after the operation that it uses
+  pub user_after : (y x : ℕ) → Uses x y w.store.module_of.tree → precedes y x w.store.module_of.tree ≡ true
+  user_after y x u =
+      let o = operand x y u in
+      subst (λ z. precedes y z w.store.module_of.tree ≡ true) o.id (dominates w.store.module_of.tree w.formed.distinct (isolated_in w.ctx) y o.number o.at.here o.at.path o.there o.visible)
+
+  -- an absent operation has no users, and comes after no operation
+  pub seer_absent : (passed y : ℕ) → has_id y w.store.module_of.tree ≡ false → (x : ℕ) → IsSeer w.store.module_of.tree passed y x → ⊥
+  seer_absent passed y a x (inl u) = true≢false (sym (first_there y x (ids w.store.module_of.tree) (user_after y x u.0)) ∙ a)
+  seer_absent passed y a x (inr h) = true≢false (sym (second_there passed y (ids w.store.module_of.tree) h.0) ∙ a)
+
+  -- a user l that ends a block of x: operation y comes before x, or is in the block
+  pub handed_on : (y l x : ℕ) → Uses l y w.store.module_of.tree → ends x l w.store.module_of.tree ≡ true → (precedes y x w.store.module_of.tree ≡ true) ⊎ IsHanded w.store.module_of.tree y x
+  handed_on y l x u k =
+      let o = operand l y u in
+      let z = ending x l w.store.module_of.tree k in
+      let one : o.at ≡ stand z.here (z.step ∷ z.path) = same_stand w.store.module_of.tree w.formed.distinct o.at (stand z.here (z.step ∷ z.path)) o.there z.there (o.id ∙ sym z.id) in
+      let paths : o.at.path ≡ z.step ∷ z.path = ap (λ (s : StandOf ℕ ℕ ℕ). s.path) one in
+      elim (dominates_parent w.store.module_of.tree w.formed.distinct (isolated_in w.ctx) y o.number z.here z.step z.path z.there (subst (λ p. dominated_by (isolated_in w.ctx) p (Result y o.number) ≡ true) paths o.visible)) [
+        | inl b ↦ inl (subst (λ p. precedes y p w.store.module_of.tree ≡ true) z.parent b)
+        | inr e ↦ inr (
+          record { parent = (head z.step.parent).id; region = z.step.region; before = e.next_one },
+          e.place,
+          z.parent,
+          (l, last_is w.store.module_of.tree w.formed.distinct z.here z.step z.path z.there z.last ∙ ap Some z.id, u),
+        )
+      ]
 
   -- x uses one of the results of operation y, counting a number of results from an index on
   abbrev pub IsUserAmong : ℕ → ℕ → ℕ → ℕ → Type 0

@@ -3,6 +3,7 @@
 use Rattle.std.proofs.Common.{◌≡◌, refl, ap, sym, ◌∙◌, subst, ℕ, zero, suc, Bool, true, false, true≢false, cond, ◌&&◌, not, eqb, eq-eqb, eqb-true, List, [], ◌∷◌, Some, inl, inr, ◌⊎◌, slice_get}
 use Rattle.std.specs.Prelude.{option_map, option_and_then, slice_set}
 use Rattle.std.specs.List.{list_all}
+use Rattle.std.proofs.lemmas.Bool.{false_from_ne_true}
 use Rattle.ir_event.specs.types.Things.{ContextModel}
 use Rattle.ir_event.specs.types.Terms.{TypeTerm, AttrTerm, name_term, attr_term}
 use Rattle.ir_event.specs.trees.declared.place.Place.{Place}
@@ -26,7 +27,7 @@ use Rattle.ir_event.specs.Step.{Step}
 use Rattle.op_registry.specs.Registry.{own_of}
 use Rattle.effects.specs.Dead.{is_result_of, is_unused}
 use Rattle.greedy.specs.LocalContext.{defining_op}
-use Rattle.greedy.specs.Near.{moved_values, Leads, IsShown, Ungiven}
+use Rattle.greedy.specs.Near.{gained_values, lost_values, moved_values, Leads, IsShown, Ungiven}
 use Rattle.greedy.proofs.Still.{Like, Goes, goes_out, goes_in, goes_on, goes_edited, edited_there, edit_id}
 use Rattle.greedy.proofs.Tracked.{operand_id, operand_name, part_name, gone_found}
 use Rattle.ir_event.proofs.Facts.{found_id}
@@ -238,7 +239,7 @@ value_ungiven shown es ds y x v within away own (inr h) =
     let e : h.0 ≡ SetOperand x h.2.0 v h.2.1.0 = h.2.1.1 in
     away h.0 (within h.0 h.1) v (subst (λ vs. In v vs) (ap (moved_values shown) (sym e)) (inl refl))
 
-pub unused_stays : (shown : ℕ → List Value) (c : ContextModel) (es : List Event) (m n : Module) → Leads shown c es m n → (y : ℕ) → Ungiven shown es y → is_unused y n.tree ≡ is_unused y m.tree
+unused_stays : (shown : ℕ → List Value) (c : ContextModel) (es : List Event) (m n : Module) → Leads shown c es m n → (y : ℕ) → Ungiven shown es y → is_unused y n.tree ≡ is_unused y m.tree
 unused_stays shown c [] m n s y away = ap (λ (p : Module). is_unused y p.tree) s.0
 unused_stays shown c (e ∷ es) m n s y away =
     unused_stays shown c es s.0 n s.3 y (λ d i. away d (inr i))
@@ -246,3 +247,107 @@ unused_stays shown c (e ∷ es) m n s y away =
     (λ x place fresh i o f v h. value_ungiven shown (e ∷ es) es y x v (λ d j. inr j) away (λ w k. away e (inl refl) w (subst (λ vs. In w vs) (ap (moved_values shown) (sym i)) k)) (said shown c es s.0 n s.3 x o f v h))
     (λ x place fresh i o f v h. value_ungiven shown (e ∷ es) (e ∷ es) y x v (λ d j. j) away (λ w k. away e (inl refl) w (subst (λ vs. In w vs) (ap (moved_values shown) (sym i)) k)) (said shown c (e ∷ es) m n s x o f v h))
     (λ x k old new i. (away e (inl refl) old (subst (λ vs. In old vs) (ap (moved_values shown) (sym i)) (inl refl)), away e (inl refl) new (subst (λ vs. In new vs) (ap (moved_values shown) (sym i)) (inr (inl refl)))))
+
+moved_split : (shown : ℕ → List Value) (e : Event) (v : Value) → In v (moved_values shown e) → In v (gained_values shown e) ⊎ In v (lost_values shown e)
+moved_split shown (Put x place fresh) v h = inl h
+moved_split shown (Take x place fresh) v h = inr h
+moved_split shown (SetOperand x k old new) v (inl i) = inr (inl i)
+moved_split shown (SetOperand x k old new) v (inr h) = inl h
+moved_split shown (SetEntry x part key old new) v h = absurd h
+moved_split shown (Shift x old new) v h = absurd h
+
+-- ---- an operand after the events was an operand of the operation before, or gained a use
+abbrev Had : Module → ℕ → Value → Type 0
+Had m x v = (q : Operation) × (find x m.tree ≡ Some q) × In v (head q).operands
+
+abbrev Came : (ℕ → List Value) → List Event → Module → ℕ → Value → Type 0
+Came shown es m x v = Had m x v ⊎ ((e : Event) × In e es × In v (gained_values shown e))
+
+goes_had : (z : ℕ) (m p : Module) → HasDistinctIds m.tree → Goes (Like own_of z) z p.tree m.tree → (x : ℕ) → eqb x z ≡ false → (v : Value) → Had p x v → Had m x v
+goes_had z m p dm w x apart v h =
+    let r = found_stands x p.tree h.0 h.1 in
+    let u = w r.0 r.1 (λ i. true≢false (sym (eq-eqb x z (sym r.2 ∙ i)) ∙ apart)) in
+    let same : (head h.0).operands ≡ (head u.0.here).operands = ap (λ (q : Operation). (head q).operands) (sym r.3) ∙ node_operands r.0.here u.0.here u.3.node in
+    (u.0.here, ap (λ j. find j m.tree) (sym (u.2 ∙ r.2)) ∙ stand_found m.tree dm u.0 u.1, subst (λ vs. In v vs) same h.2)
+
+one_came : (shown : ℕ → List Value) (c : ContextModel) (e : Event) (es : List Event) (m p : Module) → Step c e m p → (x : ℕ) (v : Value) → In v (shown x) → Had p x v → Came shown (e ∷ es) m x v
+one_came shown c (Put z place fresh) es m p s x v k h =
+    let t = s.changes in
+    elim (bool_cases (eqb x z)) [
+      | inl i ↦ inr (Put z place fresh, inl refl, subst (λ y. In v (shown y)) (eqb-true x z i) k)
+      | inr i ↦ inl (goes_had z m p s.before.distinct (goes_out own_of z p.tree m.tree s.after.distinct s.before.distinct t.left t.empty) x i v h)
+    ]
+one_came shown c (Take z place fresh) es m p s x v k h =
+    let t = s.changes in
+    elim (bool_cases (eqb x z)) [
+      | inl i ↦ (let r = found_stands x p.tree h.0 h.1 in absurd (gone_found z m.tree p.tree t.left t.inner r.0 r.1 (r.2 ∙ eqb-true x z i)))
+      | inr i ↦ inl (goes_had z m p s.before.distinct (goes_in own_of z m.tree p.tree t.left) x i v h)
+    ]
+one_came shown c (SetOperand z j old new) es m p s x v k h = elim (bool_cases (eqb x z)) [
+  | inl i ↦ (let same = eqb-true x z i in
+      let there = operand_there z j new p.tree h.0 s.changes.is (ap (λ a. find a p.tree) (sym same) ∙ h.1) in
+      elim (set_keeps (head h.0).operands j new old v there h.2) [
+        | inl q ↦ inr (SetOperand z j old new, inl refl, inl q)
+        | inr q ↦ inl (
+          each_head (at z (put_operand j old)) h.0,
+          edited_found z (put_operand j old) (operand_id z j old) (operand_name z j old) p m s.before.distinct s.changes.before x h.0 h.1,
+          subst (λ vs. In v vs) (sym (set_operands z j old h.0 (found_id x p.tree h.0 h.1 ∙ same))) q,
+        )
+      ])
+  | inr i ↦ inl (goes_had z m p s.before.distinct (goes_edited own_of z (put_operand j old) (operand_id z j old) (operand_name z j old) p.tree m.tree s.changes.before) x i v h)
+]
+one_came shown c (SetEntry z part key old new) es m p s x v k h =
+    let g = change_entry key_before (name_term c key) (option_map (attr_term c) old) in
+    inl (
+      each_head (at z (change_part part g)) h.0,
+      edited_found z (change_part part g) (part_id z part g) (part_name z part g) p m s.before.distinct s.changes.before x h.0 h.1,
+      subst (λ vs. In v vs) (sym (edit_operands (at z (change_part part g)) (part_operands z part g) h.0)) h.2,
+    )
+one_came shown c (Shift z old new) es m p s x v k h =
+    let t = s.changes in
+    elim (bool_cases (eqb x z)) [
+      | inl i ↦ (let same = eqb-true x z i in inl (h.0, ap (λ j. find j m.tree) same ∙ sym t.same ∙ ap (λ j. find j p.tree) (sym same) ∙ h.1, h.2))
+      | inr i ↦ inl (goes_had z m p s.before.distinct (goes_on own_of z p.tree m.tree s.after.distinct t.rest t.same) x i v h)
+    ]
+
+came : (shown : ℕ → List Value) (c : ContextModel) (es : List Event) (m n : Module) → Leads shown c es m n → (x : ℕ) (v : Value) → In v (shown x) → Had n x v → Came shown es m x v
+came shown c [] m n s x v k h = inl (subst (λ (p : Module). Had p x v) s.0 h)
+came shown c (e ∷ es) m n s x v k h = elim (came shown c es s.0 n s.3 x v k h) [
+  | inl w ↦ one_came shown c e es m s.0 s.1 x v k w
+  | inr w ↦ inr (w.0, inr w.1, w.2)
+]
+
+-- the store shows the operands of each operation of the last module
+last_shown : (shown : ℕ → List Value) (c : ContextModel) (es : List Event) (m n : Module) → Leads shown c es m n → (x : ℕ) (o : Operation) → find x n.tree ≡ Some o → (head o).operands ≡ shown x
+last_shown shown c [] m n s x o f = s.1 x o f
+last_shown shown c (e ∷ es) m n s x o f = last_shown shown c es s.0 n s.3 x o f
+
+-- no operation uses the results of y if none did before, and no value of y gained a use
+none_gained : (shown : ℕ → List Value) (c : ContextModel) (es : List Event) (m n : Module) → Leads shown c es m n → HasDistinctIds n.tree → (y : ℕ) → ((e : Event) → In e es → (v : Value) → In v (gained_values shown e) → defining_op v ≡ Some y → ⊥)
+    → is_unused y m.tree ≡ true → is_unused y n.tree ≡ true
+none_gained shown c es m n s d y away u =
+    sym (stands_every (free_of y) [] n.tree)
+    ∙ each_all (λ (z : StandOf (List ℕ) TypeTerm AttrTerm). free_of y z.here) (stands [] n.tree) (λ z h. freed y (head z.here).operands (λ v k g.
+    let found = stand_found n.tree d z h in
+    elim (came shown c es m n s (stand_id z) v (subst (λ vs. In v vs) (last_shown shown c es m n s (stand_id z) z.here found) k) (z.here, found, k)) [
+      | inl w ↦ not_free v g (
+          let r = found_stands (stand_id z) m.tree w.0 w.1 in
+          all_each (λ v. not (is_result_of y v)) (head w.0).operands (subst (λ (q : Operation). free_of y q ≡ true) r.3 (all_each (λ (z : StandOf (List ℕ) TypeTerm AttrTerm). free_of y z.here) (stands [] m.tree) (stands_every (free_of y) [] m.tree ∙ u) r.0 r.1)) v w.2)
+      | inr w ↦ away w.0 w.1 v w.2 g
+    ]))
+  where
+    not_free : (v : Value) → defining_op v ≡ Some y → not (is_result_of y v) ≡ true → ⊥
+    not_free (Arg a r j) g h = absurd cc
+    not_free (Result a j) g h = let same : a ≡ y = cc in true≢false (sym h ∙ ap not (eq-eqb a y same))
+
+-- an operation keeps whether its results are used if it defines no value that gains a use, and is still used if it
+-- defines a value that loses one
+pub unused_alike : (shown : ℕ → List Value) (c : ContextModel) (es : List Event) (m n : Module) → Leads shown c es m n → HasDistinctIds n.tree → (y : ℕ) → ((e : Event) → In e es → (v : Value) → In v (gained_values shown e) → defining_op v ≡ Some y → ⊥)
+    → ((e : Event) → In e es → (v : Value) → In v (lost_values shown e) → defining_op v ≡ Some y → is_unused y n.tree ≡ false) → is_unused y n.tree ≡ is_unused y m.tree
+unused_alike shown c es m n s d y gained lost = elim (bool_cases (is_unused y n.tree)) [
+  | inl u ↦ unused_stays shown c es m n s y (λ e i v j g. elim (moved_split shown e v j) [
+    | inl k ↦ gained e i v k g
+    | inr k ↦ true≢false (sym u ∙ lost e i v k g)
+  ])
+  | inr u ↦ u ∙ sym (false_from_ne_true (is_unused y m.tree) (λ h. true≢false (sym (none_gained shown c es m n s d y gained h) ∙ u)))
+]

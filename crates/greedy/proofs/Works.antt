@@ -104,6 +104,7 @@ module _ (t : Operation) (d : HasDistinctIds t) where
         trailing = λ y h. w.trailing y (listed_front y ys x h);
         falls = (falls_front ys x w.falls).0;
       };
+      nearby = inl refl;
       fewer = let n : length (ys ++ x ∷ []) ≡ length ys + 1 = length-end ys in omega (arith, n);
     }
       where
@@ -126,6 +127,7 @@ module _ (t : Operation) (d : HasDistinctIds t) where
           | inr p ↦ absurd (true≢false (sym p))
         ];
         work = record { there = i; inside = λ z h. absurd (true≢false (sym h)); trailing = λ z h. absurd (true≢false (sym h)); falls = tt };
+        nearby = inr (after_from_rank passed y (ids t) h i (omega (arith, n)));
         fewer = omega (arith, n, counted y (ids t) i, counted passed (ids t) h);
       }
     where

@@ -39,6 +39,22 @@ moved_values shown (SetOperand x k old new) = old ∷ new ∷ []
 moved_values shown (SetEntry x part key old new) = []
 moved_values shown (Shift x old new) = []
 
+-- the values that gain a use, if an inserted operation has the shown operands
+abbrev pub gained_values : (ℕ → List Value) → Event → List Value
+gained_values shown (Put x place fresh) = shown x
+gained_values shown (Take x place fresh) = []
+gained_values shown (SetOperand x k old new) = new ∷ []
+gained_values shown (SetEntry x part key old new) = []
+gained_values shown (Shift x old new) = []
+
+-- the values that lose a use, if a removed operation has the shown operands
+abbrev pub lost_values : (ℕ → List Value) → Event → List Value
+lost_values shown (Put x place fresh) = []
+lost_values shown (Take x place fresh) = shown x
+lost_values shown (SetOperand x k old new) = old ∷ []
+lost_values shown (SetEntry x part key old new) = []
+lost_values shown (Shift x old new) = []
+
 -- the shown operands of a removed operation are its operands
 abbrev pub IsShown : (ℕ → List Value) → Event → Module → Type 0
 IsShown shown (Put x place fresh) m = Unit {0}

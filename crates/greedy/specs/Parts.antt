@@ -3,16 +3,18 @@ use Rattle.std.specs.Prelude.{◌≡◌, ◌⊎◌, ℕ, eqb, List, [], ◌∷�
 use Rattle.ir_event.specs.trees.declared.value.Value.{Value}
 use Rattle.ir_event.specs.trees.declared.place.Place.{Place}
 use Rattle.ir_event.specs.trees.Tree.{OpOf}
+use Rattle.ir_event.specs.trees.Places.{place_of}
 use Rattle.ir_event.specs.trees.Uses.{uses_of}
+use Rattle.ir_event.specs.tree_laws.Reads.{last_at, precedes}
 use Rattle.ir_event.specs.store.Using.{is_use}
 use Rattle.ir_event.specs.declared.event.Event.{Event}
 use Rattle.ir_event.specs.declared.event.Event.TheVariants.{Put, Take, SetOperand, SetEntry, Shift}
 use Rattle.ir_event.specs.declared.world.World.{World}
 use Rattle.effects.specs.Effects.{own_by}
 use Rattle.greedy.specs.Reached.{is_end, ends, at_end, reaches}
-use Rattle.greedy.specs.LocalContext.{defining_op}
+use Rattle.greedy.specs.LocalContext.{Uses, defining_op}
 use Rattle.greedy.specs.Climbs.{Climbs}
-use Rattle.greedy.specs.Near.{moved_values, outer_ids}
+use Rattle.greedy.specs.Near.{gained_values, lost_values, outer_ids}
 use Rattle.greedy.specs.Adding.{OneOf}
 use Rattle.greedy.specs.Shown.{shown_operands}
 
@@ -38,6 +40,15 @@ module _ {N T A : Type 0} where
   abbrev pub IsOrAtEnd : ℕ → Place → OpOf N T A → ℕ → Type 0
   IsOrAtEnd y place t x = (eqb y x || at_end place x t) ≡ true
 
+  -- x is the parent of operation y, and the last operation of the block of y uses a result of y
+  abbrev pub IsHanded : OpOf N T A → ℕ → ℕ → Type 0
+  IsHanded t y x = (place : Place) × (place_of y t ≡ Some place) × (place.parent ≡ x)
+      × ((l : ℕ) × (last_at place.parent place.region t ≡ Some l) × Uses l y t)
+
+  -- x uses a result of operation y; or y comes after `passed`, and x is the parent of y, with a user of y at its end
+  abbrev pub IsSeer : OpOf N T A → ℕ → ℕ → ℕ → Type 0
+  IsSeer t passed y x = (Uses x y t × (precedes passed y t ≡ false)) ⊎ ((precedes passed y t ≡ true) × IsHanded t y x)
+
 -- whether an event inserts an operation at the end of a block
 abbrev pub puts_last : Event → Bool
 puts_last (Put x place fresh) = is_end place
@@ -59,9 +70,15 @@ IsReached t e x = (puts_last e ≡ false) × (reaches e x t ≡ true)
 abbrev pub Gives : Value → ℕ → Type 0
 Gives v x = defining_op v ≡ Some x
 
--- x defines a value that gains or loses a use in an event
+-- operation x defines a value without uses
+abbrev pub GivesUnused : {N T A : Type 0} → OpOf N T A → Value → ℕ → Type 0
+GivesUnused t v x = Gives v x × (uses_of v t ≡ [])
+
+-- x defines a value that gains a use in an event, or one that loses a use and has none left
 abbrev pub GivesMoved : World → Event → ℕ → Type 0
-GivesMoved w e x = OneOf Gives (moved_values (shown_operands w.store) e) x
+GivesMoved w e x =
+    OneOf Gives (gained_values (shown_operands w.store) e) x
+    ⊎ OneOf (GivesUnused w.store.module_of.tree) (lost_values (shown_operands w.store) e) x
 
 -- x is operation y or is around it, and every operation from y to below x has recursive memory effects
 abbrev pub IsClimbed : World → ℕ → ℕ → Type 0

@@ -1,8 +1,8 @@
 -- The worklist: the operations at which an entry of the pattern set may apply.
 use Rattle.std.specs.Prelude.{◌≡◌, ◌⊎◌, ◌<◌, ◌+◌, length, ℕ, List, [], ◌∷◌, Bool, true, false, ◌||◌, eqb, if◌then◌else◌}
-use Rattle.ir_event.specs.trees.Ids.{ids, has_id, HasDistinctIds}
+use Rattle.ir_event.specs.trees.Ids.{ids, find, has_id, HasDistinctIds}
 use Rattle.ir_event.specs.trees.Meaning.{Operation}
-use Rattle.ir_event.specs.tree_laws.Reads.{precedes}
+use Rattle.ir_event.specs.tree_laws.Reads.{is_within, precedes}
 use Rattle.ir_event.specs.Modules.{Module}
 use Rattle.patterns_base.specs.Rewrites.{none}
 use Rattle.greedy.specs.Orders.{Orderly}
@@ -54,6 +54,8 @@ pub record Taken (x passed : ℕ) (again : List ℕ) (passed2 : ℕ) (again2 : L
   pub first : (z : ℕ) → precedes z x t ≡ true → waits passed again t z ≡ false
   pub others : (z : ℕ) → has_id z t ≡ true → waits passed again t z ≡ true → (z ≡ x) ⊎ (waits passed2 again2 t z ≡ true)
   pub work : IsWork passed2 again2 t
+  -- the passed operation stays the same, or it came before x
+  pub nearby : (passed2 ≡ passed) ⊎ (precedes passed x t ≡ true)
   pub fewer : left passed2 again2 t < left passed again t
 
 -- no operation waits
@@ -74,6 +76,14 @@ pub record Parted (x : ℕ) (t : Operation) (point back : List ℕ) : Type 0 whe
 abbrev pub CoversBut : PatternSetModel → ℕ → ℕ → List ℕ → Module → Type 0
 CoversBut a x passed again m = (z : ℕ) → has_id z m.tree ≡ true → waits passed again m.tree z ≡ false
     → (z ≡ x) ⊎ (a.comes m z ≡ none)
+
+-- all operations of a list are in a tree
+abbrev pub AllIn : Operation → List ℕ → Type 0
+AllIn t xs = (z : ℕ) → is_listed z xs ≡ true → has_id z t ≡ true
+
+-- no operation of a list is operation x or inside it
+abbrev pub AreApart : ℕ → List ℕ → Operation → Type 0
+AreApart x xs t = (z : ℕ) → is_listed z xs ≡ true → is_within z (find x t) ≡ false
 
 -- a worklist from which operation x was taken, and a rewrite at x from m to n
 pub record Rewritten (x before : ℕ) (m n : Module) : Type 0 where

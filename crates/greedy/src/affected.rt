@@ -2,7 +2,7 @@
 ghost use Rattle.std.specs.Prelude.{◌≡◌, IfOk, IfErr, false};
 ghost use Rattle.ir_event.specs.types.declared.refusal.Refusal.TheVariants.{Memory as NoMemory};
 ghost use Rattle.ir_event.specs.Modules.{Module, module_in};
-ghost use Rattle.greedy.specs.Listing.{Lists, Touched};
+ghost use Rattle.greedy.specs.Listing.{ListsUpTo, Touched, TouchedUpTo};
 ghost use Rattle.greedy.specs.Near.{Leads};
 ghost use Rattle.greedy.specs.Parts.{puts_last, any_puts_last};
 ghost use Rattle.greedy.specs.Shown.{shown_operands};
@@ -10,7 +10,7 @@ ghost use Rattle.greedy.specs.Shown.{shown_operands};
 use crate::block::push_around_listed;
 use crate::neighbours::push_neighbours;
 use crate::reach::push_all_reached;
-use crate::users::push_users_from;
+use crate::users::push_seers_from;
 use ir_event::event::Event;
 use ir_event::types::ids::OpId;
 use ir_event::types::refusal::Refusal;
@@ -47,18 +47,23 @@ fn any_puts_last(events: &[Event]) -> bool
 /// Initial capacity of a list of operations near events.
 const ROOM: usize = 16;
 
-/// Returns the operations near the events. If an event inserts an operation at the end of a block, the result is
-/// unspecified.
-fn near(alloc: Global, world: &World, events: &[Event]) -> Result<Vec<OpId>, AllocError>
+/// Returns the operations near the events. Those after `passed` in pre-order may be left out. If an event inserts an
+/// operation at the end of a block, the result is unspecified.
+fn near(
+    alloc: Global,
+    world: &World,
+    events: &[Event],
+    passed: OpId,
+) -> Result<Vec<OpId>, AllocError>
     ensures { IfOk result (λ v. any_puts_last events.now ≡ false
-        → Lists (shown_operands world.now.store) events.now v.items (module_in world.now).tree) }
+        → ListsUpTo passed (shown_operands world.now.store) events.now v.items (module_in world.now).tree) }
 {
     let mut ops = Vec::with_capacity(alloc, ROOM)?;
     push_all_reached(world, &mut ops, events)?;
     let reached = ops.len();
-    push_users_from(world, &mut ops, 0)?;
+    push_seers_from(world, &mut ops, passed, 0)?;
     push_around_listed(world, &mut ops)?;
-    push_users_from(world, &mut ops, reached)?;
+    push_seers_from(world, &mut ops, passed, reached)?;
     push_neighbours(world, &mut ops, events)?;
     Ok(ops)
 }
@@ -74,22 +79,27 @@ pub fn touched_all(world: &World) -> Result<Vec<OpId>, Refusal>
     world.store.operations()
 }
 
-/// Returns every operation of a world's module at which a rule of canonicalization may apply differently than before
-/// the events that led to that module. The result may hold other operations too. Its length depends on what is near
-/// the events, not on the size of the module. If an event inserts an operation at the end of a block, the result is
-/// every operation of the module. No rule makes such an event.
+/// Returns every operation of a world's module, up to `passed` in pre-order, at which a rule of canonicalization may
+/// apply differently than before the events that led to that module. The result may hold other operations too. Its
+/// length depends on what is near the events, not on the size of the module. If an event inserts an operation at the
+/// end of a block, the result is every operation of the module. No rule makes such an event.
 ///
 /// Errors: `Memory` if memory runs out.
-pub fn touched_by(alloc: Global, world: &World, events: &[Event]) -> Result<Vec<OpId>, Refusal>
+pub fn touched_by(
+    alloc: Global,
+    world: &World,
+    events: &[Event],
+    passed: OpId,
+) -> Result<Vec<OpId>, Refusal>
     ensures ok { IfOk result
         (λ v. (m : Module) → Leads (shown_operands world.now.store) world.now.ctx events.now m (module_in world.now)
-        → Touched m (module_in world.now) v.items) }
+        → TouchedUpTo passed m (module_in world.now) v.items) }
     ensures refused { IfErr result (λ e. e ≡ NoMemory) }
 {
     if any_puts_last(events) {
         return touched_all(world);
     }
-    match near(alloc, world, events) {
+    match near(alloc, world, events, passed) {
         Ok(ops) => Ok(ops),
         Err(_) => Err(Refusal::Memory),
     }

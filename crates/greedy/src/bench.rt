@@ -26,7 +26,7 @@ use crate::pattern_set::RuleOrPattern;
 use crate::rules::RuleSet;
 use crate::run::{run, run_list, run_list_of_patterns_traced, run_list_traced, run_traced};
 use crate::tracer::{NoTracer, Tracer};
-use crate::walk::{following, precedes, preceding};
+use crate::walk::{following, is_beyond, precedes, preceding};
 use ir_event::analysis::Analysis;
 use ir_event::types::ids::OpId;
 use ir_event::types::refusal::Refusal;
@@ -117,6 +117,11 @@ impl<L: Analysis> GreedyRewriter for Bench<L> {
         precedes(&self.world().store, op, other)
     }
 
+    fn is_beyond(&self, op: OpId, other: OpId) -> bool {
+        Bench::is_formed(self);
+        is_beyond(&self.world().store, op, other)
+    }
+
     fn following(&self, op: OpId) -> Option<OpId> {
         Bench::is_formed(self);
         following(&self.world().store, op)
@@ -163,8 +168,8 @@ impl<L: Analysis> GreedyRewriter for Bench<L> {
         }
     }
 
-    fn touched(&self, alloc: Global, from: usize) -> Result<Vec<OpId>, Refusal> {
-        match touched(alloc, self, from) {
+    fn touched(&self, alloc: Global, from: usize, passed: OpId) -> Result<Vec<OpId>, Refusal> {
+        match touched(alloc, self, from, passed) {
             Ok(ops) => Ok(ops),
             Err(refusal) => Err(refusal),
         }

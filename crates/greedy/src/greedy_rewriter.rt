@@ -15,7 +15,8 @@ ghost use Rattle.patterns_base.specs.Canonicalization.{first_rule};
 ghost use Rattle.greedy.specs.Noting.{marked};
 ghost use Rattle.greedy.specs.Outcomes.{Applied, Refuses};
 ghost use Rattle.greedy.specs.Following.{following};
-ghost use Rattle.greedy.specs.Listing.{Touched};
+ghost use Rattle.greedy.specs.Orders.{IsBeyond};
+ghost use Rattle.greedy.specs.Listing.{TouchedUpTo};
 ghost use Rattle.greedy.specs.Ruled.{MayRun, rules_in};
 ghost use Rattle.greedy.specs.PatternSet.{patterns_of, firing_tried, first_tried};
 
@@ -79,6 +80,10 @@ pub trait GreedyRewriter {
     /// Returns whether `op` comes before `other` in pre-order.
     fn precedes(&self, op: OpId, other: OpId) -> bool
         ensures { result ≡ precedes op other (held self.now).tree };
+
+    /// Returns whether `other` comes after `op` and everything inside `op` in pre-order.
+    fn is_beyond(&self, op: OpId, other: OpId) -> bool
+        ensures { result ≡ true → IsBeyond op other (held self.now).tree };
 
     /// Returns the next operation in pre-order, or `None` if `op` is the last.
     fn following(&self, op: OpId) -> Option<OpId>
@@ -145,11 +150,11 @@ pub trait GreedyRewriter {
         ensures journal { Noted (transaction self.old) (transaction self.new) }
         ensures onward { onward self.old self.new };
 
-    /// Returns every operation at which a rule may apply differently than before the events of the journal from index
-    /// `from` on. The result may hold other operations too.
-    fn touched(&self, alloc: Global, from: usize) -> Result<Vec<OpId>, Refusal>
+    /// Returns every operation, up to `passed` in pre-order, at which a rule may apply differently than before the events
+    /// of the journal from index `from` on. The result may hold other operations too.
+    fn touched(&self, alloc: Global, from: usize, passed: OpId) -> Result<Vec<OpId>, Refusal>
         requires { from ≤ events self.now }
-        ensures ok { IfOk result (λ v. Touched (before self.now from) (held self.now) v.items) }
+        ensures ok { IfOk result (λ v. TouchedUpTo passed (before self.now from) (held self.now) v.items) }
         ensures refused { IfErr result (λ e. e ≡ NoMemory) };
 
     /// Opens a mark that isn't counted. If no mark is open, the journal is empty.

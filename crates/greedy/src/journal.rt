@@ -2,7 +2,7 @@
 ghost use Rattle.std.specs.Prelude.{◌≡◌, IfOk, IfErr, drop};
 ghost use Rattle.ir_event.specs.types.declared.refusal.Refusal.TheVariants.{Memory as NoMemory};
 ghost use Rattle.patterns.specs.rewriter.Held.{module_at, module_held};
-ghost use Rattle.greedy.specs.Listing.{Touched};
+ghost use Rattle.greedy.specs.Listing.{TouchedUpTo};
 
 use crate::affected::touched_by;
 use ir_event::analysis::Analysis;
@@ -22,18 +22,25 @@ fn events_from(journal: &[Event], from: usize) -> &[Event]
     }
 }
 
-/// Returns every operation of the rewriter's module at which a rule of canonicalization may apply differently than
-/// before the events of its journal from index `from` on. The result may hold other operations too.
+/// Returns every operation of the rewriter's module, up to `passed` in pre-order, at which a rule of canonicalization
+/// may apply differently than before the events of its journal from index `from` on. The result may hold other
+/// operations too.
 ///
 /// Errors: `Memory` if memory runs out.
 pub fn touched<L: Analysis>(
     alloc: Global,
     bench: &Bench<L>,
     from: usize,
+    passed: OpId,
 ) -> Result<Vec<OpId>, Refusal>
-    ensures ok { IfOk result (λ v. Touched (module_at from bench.now.transaction) (module_held bench.now.transaction) v.items) }
+    ensures ok { IfOk result (λ v. TouchedUpTo passed (module_at from bench.now.transaction) (module_held bench.now.transaction) v.items) }
     ensures refused { IfErr result (λ e. e ≡ NoMemory) }
 {
     bench.is_formed();
-    touched_by(alloc, bench.world(), events_from(bench.journal(), from))
+    touched_by(
+        alloc,
+        bench.world(),
+        events_from(bench.journal(), from),
+        passed,
+    )
 }

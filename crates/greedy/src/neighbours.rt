@@ -1,8 +1,8 @@
-//! Lists the operations next to events: the defining operations of values that gain or lose a use, and the operations
-//! around the places of the events.
+//! Lists the operations next to events: the defining operations of values that gain a use or lose their last use, and
+//! the operations around the places of the events.
 ghost use Rattle.std.specs.Prelude.{OnOk, ◌⊎◌};
 ghost use Rattle.greedy.specs.Adding.{Adds, OneOf};
-ghost use Rattle.greedy.specs.Parts.{Gives, GivesMoved, IsBeside};
+ghost use Rattle.greedy.specs.Parts.{Gives, GivesMoved, GivesUnused, IsBeside};
 ghost use Rattle.greedy.specs.Shown.{shown_operands};
 
 use crate::parents::push_parents;
@@ -24,11 +24,48 @@ fn push_defining_op(ops: &mut Vec<OpId>, value: &Value) -> Result<(), AllocError
     }
 }
 
-/// Pushes the defining operations of two values.
-fn push_both(ops: &mut Vec<OpId>, old: &Value, new: &Value) -> Result<(), AllocError>
-    ensures { OnOk result (Adds (λ x. Gives old.now x ⊎ Gives new.now x) ops.old.items ops.new.items) }
+/// Pushes the defining operation of `value`, if it has one and `value` has no uses.
+fn push_unused(store: &Store, ops: &mut Vec<OpId>, value: &Value) -> Result<(), AllocError>
+    ensures { OnOk result (Adds (GivesUnused store.now.module_of.tree value.now) ops.old.items ops.new.items) }
 {
-    push_defining_op(ops, old)?;
+    match store.first_use(*value) {
+        Some(_) => Ok(()),
+        None => push_defining_op(ops, value),
+    }
+}
+
+/// Pushes the defining operations of the values without uses.
+fn push_all_unused(store: &Store, ops: &mut Vec<OpId>, values: &[Value]) -> Result<(), AllocError>
+    ensures { OnOk result (Adds (OneOf (GivesUnused store.now.module_of.tree) values.now) ops.old.items ops.new.items) }
+{
+    let mut rest = values;
+    'values: while let [value, tail @ ..] = rest {
+        push_unused(store, ops, value)?;
+        rest = tail;
+    }
+    Ok(())
+}
+
+/// Pushes the defining operations of the values without uses among the operands that the store shows for `op`.
+fn push_shown_unused(store: &Store, ops: &mut Vec<OpId>, op: OpId) -> Result<(), AllocError>
+    ensures { OnOk result (Adds (OneOf (GivesUnused store.now.module_of.tree) (shown_operands store.now op)) ops.old.items ops.new.items) }
+{
+    match store.node(op) {
+        Some(node) => push_all_unused(store, ops, node.operands()),
+        None => Ok(()),
+    }
+}
+
+/// Pushes the defining operation of `old`, if `old` has no uses, and that of `new`.
+fn push_replaced(
+    store: &Store,
+    ops: &mut Vec<OpId>,
+    old: &Value,
+    new: &Value,
+) -> Result<(), AllocError>
+    ensures { OnOk result (Adds (λ x. GivesUnused store.now.module_of.tree old.now x ⊎ Gives new.now x) ops.old.items ops.new.items) }
+{
+    push_unused(store, ops, old)?;
     push_defining_op(ops, new)
 }
 
@@ -54,21 +91,22 @@ fn push_shown(store: &Store, ops: &mut Vec<OpId>, op: OpId) -> Result<(), AllocE
     }
 }
 
-/// Pushes the defining operations of the values that gain or lose a use in an event.
+/// Pushes the defining operations of the values that gain a use in an event, and of those that lose one and have no
+/// uses left.
 fn push_moved(world: &World, ops: &mut Vec<OpId>, event: &Event) -> Result<(), AllocError>
     ensures { OnOk result (Adds (GivesMoved world.now event.now) ops.old.items ops.new.items) }
 {
     match event {
         Event::Put { op, .. } => push_shown(&world.store, ops, *op),
-        Event::Take { op, .. } => push_shown(&world.store, ops, *op),
-        Event::SetOperand { old, new, .. } => push_both(ops, old, new),
+        Event::Take { op, .. } => push_shown_unused(&world.store, ops, *op),
+        Event::SetOperand { old, new, .. } => push_replaced(&world.store, ops, old, new),
         Event::SetEntry { .. } => Ok(()),
         Event::Shift { .. } => Ok(()),
     }
 }
 
-/// Pushes the defining operations of the values that gain or lose a use in an event, and the operations around its
-/// places.
+/// Pushes the defining operations of the values that gain a use or lose their last use in an event, and the operations
+/// around its places.
 fn push_beside(world: &World, ops: &mut Vec<OpId>, event: &Event) -> Result<(), AllocError>
     ensures { OnOk result (Adds (IsBeside world.now event.now) ops.old.items ops.new.items) }
 {
@@ -76,8 +114,8 @@ fn push_beside(world: &World, ops: &mut Vec<OpId>, event: &Event) -> Result<(), 
     push_parents(world, ops, event)
 }
 
-/// Pushes the neighbours of each event: the defining operations of values that gain or lose a use, and the operations
-/// around the places of the event.
+/// Pushes the neighbours of each event: the defining operations of values that gain a use or lose their last use, and
+/// the operations around the places of the event.
 pub(crate) fn push_neighbours(
     world: &World,
     ops: &mut Vec<OpId>,

@@ -1,8 +1,10 @@
 //! The greedy driver.
 ghost use Rattle.std.specs.Prelude.{◌≡◌, ◌≢◌, ◌⊎◌, ◌≤◌, ℕ, IfOk, IfErr, OnErr, OnOk, MatchResult, is_some, List, [], ◌++◌, ◌∷◌};
-ghost use Rattle.std.specs.Prelude.{true, false};
+ghost use Rattle.std.specs.Prelude.{true, false, IfSome, IfNone};
 ghost use Rattle.ir_event.specs.types.declared.refusal.Refusal.TheVariants.{Memory as NoMemory};
 ghost use Rattle.ir_event.specs.trees.Ids.{has_id};
+ghost use Rattle.ir_event.specs.trees.Tree.{head};
+ghost use Rattle.ir_event.specs.tree_laws.Reads.{precedes};
 ghost use Rattle.patterns_base.specs.Canonicalization.{greedy_rules};
 ghost use Rattle.patterns.specs.Rows.{AreCanonical};
 ghost use Rattle.greedy.specs.Outcomes.{Applied, ComeTo, IsCanonical, IsReason, IsReasonBy, IsRewriting, Refuses, Stop};
@@ -13,9 +15,9 @@ ghost use Rattle.greedy.specs.PatternSet.{AreAttempts, PatternSetModel, patterns
 ghost use Rattle.greedy.specs.Trials.{StaysAway};
 ghost use Rattle.patterns.specs.rewriter.Moves.{Recorded};
 ghost use Rattle.patterns.specs.runs.Runs.{Noted};
-ghost use Rattle.greedy.specs.Work.{IsWork, Right, CoversBut, Rewritten, StillWaits, waits};
+ghost use Rattle.greedy.specs.Work.{AreApart, IsWork, Right, CoversBut, Rewritten, StillWaits, waits};
 ghost use Rattle.greedy.specs.LocalContext.{is_listed};
-ghost use Rattle.greedy.specs.Listing.{Touched};
+ghost use Rattle.greedy.specs.Listing.{TouchedUpTo};
 ghost use Rattle.greedy.specs.Tracing.{applied_next, trace_of};
 
 use crate::applied_rewrite::AppliedRewrite;
@@ -25,7 +27,7 @@ use crate::outcome::Outcome;
 use crate::pattern_set::{PatternSet, RuleOrPattern};
 use crate::rules::RuleSet;
 use crate::tracer::{NoTracer, Tracer};
-use crate::worklist::{Worklist, drop_erased, pop, push};
+use crate::worklist::{Site, Worklist, drop_erased, is_apart, pop, push};
 use ir_event::types::ids::OpId;
 use ir_event::types::refusal::Refusal;
 use patterns::rules_by_name::RulesByName;
@@ -54,30 +56,30 @@ fn add_all<R: GreedyRewriter>(bench: &R, work: &mut Worklist, ops: &[OpId]) -> R
     Ok(())
 }
 
-/// Updates the worklist after a rewrite at `op`. Every waiting operation still waits, and every operation at which a
-/// rule may apply differently is added. `before` is an operation that precedes `op`.
+/// Updates the worklist after a rewrite at `site`. Every waiting operation still waits, and every operation at which a
+/// rule may apply differently is added.
 fn renew<R: GreedyRewriter>(
     alloc: Global,
     bench: &R,
     work: &mut Worklist,
-    op: OpId,
-    before: OpId,
+    site: &Site,
     from: usize,
 ) -> Result<(), Refusal>
     requires within { from ≤ R.events bench.now }
-    requires rewritten { Rewritten op before (R.before bench.now from) (R.held bench.now) }
+    requires rewritten { Rewritten site.now.op site.now.before (R.before bench.now from) (R.held bench.now) }
     requires work { IsWork work.old.passed work.old.again.items (R.before bench.now from).tree }
+    requires apart { site.now.apart ≡ true → AreApart site.now.op work.old.again.items (R.before bench.now from).tree }
     ensures ok { OnOk result ((a : PatternSetModel) → StaysAway a
-        → CoversBut a op work.old.passed work.old.again.items (R.before bench.now from)
+        → CoversBut a site.now.op work.old.passed work.old.again.items (R.before bench.now from)
         → Right a work.new.passed work.new.again.items (R.held bench.now)) }
     ensures refused { IfErr result (λ e. e ≡ NoMemory) }
 {
-    let listed = match bench.touched(alloc, from) {
+    drop_erased(bench, work, site);
+    let listed = match bench.touched(alloc, from, work.passed) {
         Ok(listed) => listed,
         Err(refusal) => return Err(refusal),
     };
-    drop_erased(bench, work, before);
-    match push(bench, work, op) {
+    match push(bench, work, site.op) {
         Ok(()) => {}
         Err(refusal) => return Err(refusal),
     }
@@ -85,6 +87,20 @@ fn renew<R: GreedyRewriter>(
         Ok(()) => Ok(()),
         Err(refusal) => Err(refusal),
     }
+}
+
+/// Returns an operation that precedes `op`, which was taken from the worklist, or `None` if `op` is the root. `passed` is
+/// the passed operation of the worklist before, and `now` the one after. If they differ, `passed` precedes `op`.
+fn preceding_of<R: GreedyRewriter>(bench: &R, passed: OpId, now: OpId, op: OpId) -> Option<OpId>
+    requires there { has_id op (R.held bench.now).tree ≡ true }
+    requires near { (now ≡ passed) ⊎ (precedes passed op (R.held bench.now).tree ≡ true) }
+    ensures some { IfSome result (λ p. precedes p op (R.held bench.now).tree ≡ true) }
+    ensures none { IfNone result (op ≡ (head (R.held bench.now).tree).id) }
+{
+    if now == passed {
+        return bench.preceding(op);
+    }
+    Some(passed)
 }
 
 /// Makes one rewrite: at the first operation in pre-order at which an entry of the pattern set applies, with the first
@@ -111,12 +127,16 @@ fn one<R: GreedyRewriter>(
     ensures journal { Noted (R.transaction bench.old) (R.transaction bench.new) }
     ensures onward { R.onward bench.old bench.new }
 {
+    let mut last = work.passed;
     'waiting: while let Some(op) = pop(bench, work) {
         bench.is_formed();
-        if let Some(before) = bench.preceding(op) {
+        let passed = last;
+        last = work.passed;
+        if let Some(before) = preceding_of(bench, passed, last, op) {
             *examined = examined.saturating_add(1);
             let from = bench.journal_len();
             let next = bench.next_id();
+            let apart = is_apart(bench, work, op);
             match apply_first(alloc, bench, pattern_set, op) {
                 Ok(Some(by)) => {
                     let applied = AppliedRewrite {
@@ -126,7 +146,7 @@ fn one<R: GreedyRewriter>(
                         until: bench.next_id(),
                         stays: bench.in_tree(op),
                     };
-                    return match renew(alloc, bench, work, op, before, from) {
+                    return match renew(alloc, bench, work, &Site { op, before, apart }, from) {
                         Ok(()) => Ok(Some(applied)),
                         Err(refusal) => Err(refusal),
                     };

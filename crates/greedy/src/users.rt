@@ -1,10 +1,13 @@
 //! Lists the users of operations.
-ghost use Rattle.std.specs.Prelude.{◌≡◌, OnOk, drop};
+ghost use Rattle.std.specs.Prelude.{◌≡◌, OnOk, drop, false};
+ghost use Rattle.std.specs.List.{list_any};
+ghost use Rattle.effects.specs.Dead.{is_result_of};
 ghost use Rattle.greedy.specs.LocalContext.{Uses};
 ghost use Rattle.greedy.specs.Adding.{Adds, OneOf};
-ghost use Rattle.greedy.specs.Parts.{IsIn, IsUser};
+ghost use Rattle.greedy.specs.Parts.{IsHanded, IsIn, IsSeer, IsUser};
 
 use crate::push::push;
+use crate::walk::precedes;
 use ir_event::store::store::Store;
 use ir_event::store::uses::UsesOf;
 use ir_event::trees::value::Value;
@@ -45,21 +48,86 @@ fn push_users(world: &World, ops: &mut Vec<OpId>, op: OpId) -> Result<(), AllocE
     Ok(())
 }
 
-/// Pushes the users of each listed operation, from index `from` on.
-pub(crate) fn push_users_from(
+/// Returns whether `value` is a result of `op`.
+fn is_result(value: &Value, op: OpId) -> bool
+    ensures { result ≡ is_result_of op value.now }
+{
+    match value {
+        Value::Result(other, _) => *other == op,
+        Value::Arg(..) => false,
+    }
+}
+
+/// Returns whether any of the values is a result of `op`.
+fn has_result(values: &[Value], op: OpId) -> bool
+    ensures { result ≡ list_any (is_result_of op) values.now }
+{
+    let mut rest = values;
+    'values: while let [value, tail @ ..] = rest {
+        if is_result(value, op) {
+            return true;
+        }
+        rest = tail;
+    }
+    false
+}
+
+/// Returns whether an operand of `user` is a result of `op`.
+fn is_user(world: &World, user: OpId, op: OpId) -> bool
+    ensures { result ≡ false → Uses user op world.now.store.module_of.tree → ⊥ }
+{
+    match world.shown(user) {
+        None => false,
+        Some(node) => has_result(node.operands(), op),
+    }
+}
+
+/// Pushes the parent of `op` if the last operation of the block of `op` uses a result of `op`.
+fn push_handed(world: &World, ops: &mut Vec<OpId>, op: OpId) -> Result<(), AllocError>
+    ensures { OnOk result (Adds (IsHanded world.now.store.module_of.tree op) ops.old.items ops.new.items) }
+{
+    let Some(place) = world.store.place(op) else {
+        return Ok(());
+    };
+    let Some(last) = world.store.last(place.parent, place.region) else {
+        return Ok(());
+    };
+    if is_user(world, last, op) {
+        return push(ops, place.parent);
+    }
+    Ok(())
+}
+
+/// Pushes the users of `op`, unless `op` comes after `passed` in pre-order. Then all users come after `passed` too, and
+/// only the parent of `op` is pushed, if the last operation of the block uses a result of `op`.
+fn push_seers(world: &World, ops: &mut Vec<OpId>, passed: OpId, op: OpId) -> Result<(), AllocError>
+    ensures { OnOk result (Adds (IsSeer world.now.store.module_of.tree passed op) ops.old.items ops.new.items) }
+{
+    if !world.store.in_tree(op) {
+        return Ok(());
+    }
+    if precedes(&world.store, passed, op) {
+        return push_handed(world, ops, op);
+    }
+    push_users(world, ops, op)
+}
+
+/// Pushes the users of each listed operation, from index `from` on, as far as they may come before `passed`.
+pub(crate) fn push_seers_from(
     world: &World,
     ops: &mut Vec<OpId>,
+    passed: OpId,
     from: usize,
 ) -> Result<(), AllocError>
     ensures { OnOk result (Adds
-        (OneOf (λ y x. Uses x y world.now.store.module_of.tree) (drop from ops.old.items)) ops.old.items
+        (OneOf (IsSeer world.now.store.module_of.tree passed) (drop from ops.old.items)) ops.old.items
         ops.new.items) }
 {
     let count = ops.len();
     let mut place = from;
     'listed: while place < count {
         let op = ops[place];
-        push_users(world, ops, op)?;
+        push_seers(world, ops, passed, op)?;
         place += 1;
     }
     Ok(())

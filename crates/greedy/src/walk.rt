@@ -3,6 +3,7 @@ ghost use Rattle.std.specs.Prelude.{◌≡◌, ◌≤◌, ◌<◌, ◌+◌, true
 ghost use Rattle.ir_event.specs.trees.Ids.{HasDistinctIds, find as the_first, has_id};
 ghost use Rattle.ir_event.specs.trees.Tree.{head};
 ghost use Rattle.ir_event.specs.tree_laws.Reads.{precedes};
+ghost use Rattle.greedy.specs.Orders.{IsBeyond};
 ghost use Rattle.greedy.specs.Following.{HasFewRegions, count_of, first_inside, following as after};
 
 use ir_event::store::store::Store;
@@ -78,6 +79,17 @@ pub(crate) fn preceding(store: &Store, op: OpId) -> Option<OpId>
         return None;
     };
     Some(parent)
+}
+
+/// Returns whether `other` comes after `op` and everything inside `op` in pre-order.
+pub(crate) fn is_beyond(store: &Store, op: OpId, other: OpId) -> bool
+    requires distinct { HasDistinctIds store.now.module_of.tree }
+    ensures { result ≡ true → IsBeyond op other store.now.module_of.tree }
+{
+    let Some(last) = store.last_within(op) else {
+        return true;
+    };
+    precedes(store, last, other)
 }
 
 /// Returns whether `op` comes before `other` in pre-order. Checks first whether they are in the same block, the common

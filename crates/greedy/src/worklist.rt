@@ -1,12 +1,13 @@
 //! The worklist of the driver.
-ghost use Rattle.std.specs.Prelude.{◌≡◌, ◌≢◌, ◌⊎◌, ◌≤◌, ℕ, ◌||◌, length, take, drop, not, IfOk, IfErr, OnErr, OnOk};
+ghost use Rattle.std.specs.Prelude.{◌≡◌, ◌≢◌, ◌⊎◌, ◌≤◌, ℕ, ◌||◌, length, take, drop, filter, not, IfOk, IfErr, OnErr, OnOk};
 ghost use Rattle.std.specs.Prelude.{IfSome, IfNone, MatchOption, true, false};
 ghost use Rattle.ir_event.specs.types.declared.refusal.Refusal.TheVariants.{Memory as NoMemory};
 ghost use Rattle.ir_event.specs.trees.Ids.{HasDistinctIds, has_id};
 ghost use Rattle.ir_event.specs.trees.Tree.{head};
 ghost use Rattle.ir_event.specs.tree_laws.Reads.{precedes};
 ghost use Rattle.ir_event.specs.Modules.{Module};
-ghost use Rattle.greedy.specs.Work.{begins_with, Parted, Rewritten, IsWork, waits, Taken, NoneWaits, StillWaits, Falls};
+ghost use Rattle.greedy.specs.Work.{AllIn, AreApart, begins_with, Parted, Rewritten, IsWork, waits, Taken, NoneWaits, StillWaits};
+ghost use Rattle.greedy.specs.Work.{Falls};
 ghost use Rattle.greedy.specs.LocalContext.{is_listed};
 
 use crate::greedy_rewriter::GreedyRewriter;
@@ -20,6 +21,16 @@ use std::alloc::Global;
 pub(crate) struct Worklist {
     pub(crate) passed: OpId,
     pub(crate) again: Vec<OpId>,
+}
+
+/// An operation that was taken from the worklist, for a rewrite there.
+#[derive(Clone, Copy)]
+pub(crate) struct Site {
+    pub(crate) op: OpId,
+    /// An operation that precedes `op` in pre-order.
+    pub(crate) before: OpId,
+    /// No operation of `again` is inside `op`.
+    pub(crate) apart: bool,
 }
 
 /// Removes the first waiting operation from the worklist and returns it.
@@ -109,22 +120,47 @@ pub(crate) fn push<R: GreedyRewriter>(
     }
 }
 
-/// Drops from the worklist the operations that a rewrite erased. If the operation `passed` was erased, `before`
-/// replaces it; `before` is an operation that precedes the rewrite.
-pub(crate) fn drop_erased<R: GreedyRewriter>(bench: &R, work: &mut Worklist, before: OpId)
-    ensures work { (m : Module) (x : ℕ) → Rewritten x before m (R.held bench.now)
-        → IsWork work.old.passed work.old.again.items m.tree
-        → IsWork work.new.passed work.new.again.items (R.held bench.now).tree }
-    ensures others { (m : Module) (x : ℕ) → Rewritten x before m (R.held bench.now)
-        → IsWork work.old.passed work.old.again.items m.tree
-        → StillWaits work.old.passed work.old.again.items m.tree work.new.passed work.new.again.items
-        (R.held bench.now).tree }
+/// Returns whether no operation of `again` is inside `op`. If false, some may be.
+pub(crate) fn is_apart<R: GreedyRewriter>(bench: &R, work: &Worklist, op: OpId) -> bool
+    requires { Falls (R.held bench.now).tree work.now.again.items }
+    ensures { result ≡ true → AreApart op work.now.again.items (R.held bench.now).tree }
 {
-    work.again.retain(
+    bench.is_formed();
+    match work.again.last() {
+        None => true,
+        Some(first) => bench.is_beyond(op, *first),
+    }
+}
+
+/// Drops from a list the operations that aren't in the module. If `apart`, all are in the module.
+fn drop_missing<R: GreedyRewriter>(bench: &R, ops: &mut Vec<OpId>, apart: bool)
+    requires { apart ≡ true → AllIn (R.held bench.now).tree ops.old.items }
+    ensures { ops.new.items ≡ filter (λ x. has_id x (R.held bench.now).tree) ops.old.items }
+{
+    if apart {
+        return;
+    }
+    ops.retain(
         |op: &OpId| -> bool
             ensures { result ≡ has_id op.now (R.held bench.entry.now).tree }
         { bench.in_tree(*op) },
     );
+}
+
+/// Drops from the worklist the operations that a rewrite at `site` erased. If the operation `passed` was erased,
+/// `site.before` replaces it.
+pub(crate) fn drop_erased<R: GreedyRewriter>(bench: &R, work: &mut Worklist, site: &Site)
+    requires { site.now.apart ≡ true → AllIn (R.held bench.now).tree work.old.again.items }
+    ensures work { (m : Module) (x : ℕ) → Rewritten x site.now.before m (R.held bench.now)
+        → IsWork work.old.passed work.old.again.items m.tree
+        → IsWork work.new.passed work.new.again.items (R.held bench.now).tree }
+    ensures others { (m : Module) (x : ℕ) → Rewritten x site.now.before m (R.held bench.now)
+        → IsWork work.old.passed work.old.again.items m.tree
+        → StillWaits work.old.passed work.old.again.items m.tree work.new.passed work.new.again.items
+        (R.held bench.now).tree }
+{
+    let before = site.before;
+    drop_missing(bench, &mut work.again, site.apart);
     if bench.in_tree(work.passed) {
         return;
     }

@@ -54,16 +54,16 @@ one_line (b ∷ bs) s line a t e h = absurd (omega (arith, ap length e))
 -- ---- lines of a session are lines of a live run
 
 module _ (opaque : Bool) (limit : ℕ) where
-  abbrev setting : Setting
-  setting = setting_of seven_supply (briefly opaque limit)
+  abbrev live_setting : Setting
+  live_setting = setting_of seven_supply (briefly opaque limit)
 
   -- a live run may answer the lines so, and writes the text of these answers
   abbrev IsLived : ℕ → ℕ → Session → List (List ℕ) → List Told → Type 0
-  IsLived read n s lines told = (status : ℕ) × (out : List ℕ) × Lives setting read n (sitting s) lines status out × AreWritten n told status out
+  IsLived read n s lines told = (status : ℕ) × (out : List ℕ) × Lives live_setting read n (sitting s) lines status out × AreWritten n told status out
 
   -- the lines after this one, with any numbers and states
   abbrev Following : ℕ → List (List ℕ) → ℕ → Sitting → ℕ → List ℕ → Type 0
-  Following read lines m u st o = Lives setting read m u lines st o
+  Following read lines m u st o = Lives live_setting read m u lines st o
 
   module _ (read n : ℕ) (s : Session) (line : List ℕ) (lines : List (List ℕ)) (a : Answer) (t : Session) (rest : List Told) (within : s.bytes + length line ≤ read) (same : s.limit ≡ limit) (mode : is_opaque s ≡ opaque) where
     abbrev all_told : List Told
@@ -74,7 +74,7 @@ module _ (opaque : Bool) (limit : ℕ) where
 
     -- this line and the lines after it
     abbrev IsLivedOn : Spoken → Type 0
-    IsLivedOn spoken = (status : ℕ) × (out : List ℕ) × Line (Following read lines) (way_at setting read) n (sitting s) expected spoken status out × AreWritten n all_told status out
+    IsLivedOn spoken = (status : ℕ) × (out : List ℕ) × Line (Following read lines) (way_at live_setting read) n (sitting s) expected spoken status out × AreWritten n all_told status out
 
     least : (setting s line).bytes ≤ read
     least = let below = min-le_left (s.bytes + length line) most_counted in omega (arith, below, within)
@@ -109,7 +109,7 @@ module _ (opaque : Bool) (limit : ℕ) where
     })
 
     -- the answer to a line in a run that has read so many bytes, with this limit
-    wide : (spoken : Spoken) (st : ℕ) (o : List ℕ) → Line (Following read lines) (session_setting seven_supply (setting s line)) n (sitting s) expected spoken st o → Line (Following read lines) (way_at setting read) n (sitting s) expected spoken st o
+    wide : (spoken : Spoken) (st : ℕ) (o : List ℕ) → Line (Following read lines) (session_setting seven_supply (setting s line)) n (sitting s) expected spoken st o → Line (Following read lines) (way_at live_setting read) n (sitting s) expected spoken st o
     wide spoken st o h =
         subst (λ (l : ℕ). Line (Following read lines) (session_setting seven_supply (record { brief = true; bytes = read; limit = l; ends = false; opaque = opaque; explain = false; strict = false })) n (sitting s) expected spoken st o) same
         (subst (λ (b : Bool). Line (Following read lines) (session_setting seven_supply (record { brief = true; bytes = read; limit = s.limit; ends = false; opaque = b; explain = false; strict = false })) n (sitting s) expected spoken st o) mode
@@ -118,7 +118,7 @@ module _ (opaque : Bool) (limit : ℕ) where
     lived_line : (spoken : Spoken) → Said (setting s line) s spoken a t → ((m : ℕ) → IsLived read m t lines rest) → IsLivedOn spoken
     lived_line Nothing h more =
         let later = more n in
-        (later.0, later.1, subst (λ (u : Sitting). Lives setting read n u lines later.0 later.1) h.1.sitting later.2, inl (h.0, later.3))
+        (later.0, later.1, subst (λ (u : Sitting). Lives live_setting read n u lines later.0 later.1) h.1.sitting later.2, inl (h.0, later.3))
     lived_line Bad h more =
         let later = more (n + 1) in
         (_, _, wide Bad _ _ (replied Bad h later), written h.notice h.told later)
@@ -180,15 +180,15 @@ talked_whole opaque limit input s told short few opened talks =
     let within : s.bytes ≤ read = (let e = opened.counted in omega (arith, e)) in
     let h = lived opaque limit lines read 1 s told within opened.limit_is opened.mode (alone_lines (script_text input)) (rw (joined_same (script_text input)) few) talks in
     let silent = silent_boxes (all_shown any_analysis boxes) [] (state s).panel opened.attached.1 attached in
-    let live : Live (setting opaque limit) (all_shown any_analysis boxes) (state s).held read lines h.0 h.1 = record {
+    let live : Live (live_setting opaque limit) (all_shown any_analysis boxes) (state s).held read lines h.0 h.1 = record {
       begun = state s;
       accepted = true;
       front = [];
       later = h.0;
       rest = h.1;
       begins = record { panel = (state s).panel; front = opened.attached.1; attached = attached; state_is = unmarked (state s) opened.unmarked; out_is = sym (append-nil opened.attached.1 ∙ silent) };
-      lives = subst (λ (u : Sitting). Lives (setting opaque limit) read 1 u lines h.0 h.1) (opened_sitting s opened.empty) h.2;
+      lives = subst (λ (u : Sitting). Lives (live_setting opaque limit) read 1 u lines h.0 h.1) (opened_sitting s opened.empty) h.2;
       status_is = refl;
       out_is = refl;
     } in
-    (boxes, h.0, h.1, opened.attached.2, h.3, live_whole (setting opaque limit) (all_shown any_analysis boxes) input h.0 h.1 short few (inr ((state s).held, opened.world, live)))
+    (boxes, h.0, h.1, opened.attached.2, h.3, live_whole (live_setting opaque limit) (all_shown any_analysis boxes) input h.0 h.1 short few (inr ((state s).held, opened.world, live)))

@@ -78,10 +78,17 @@ def standard_input(words):
 
 
 def main(words):
-    """Runs the program with some arguments, and returns its status."""
+    """Runs the program with some arguments, and returns its status. Its messages name the module's own file."""
     command, place = program.started(), place_of_module(words)
-    given = standard_input(words) if place is None or words[place] == "-" else None
+    if place is None or words[place] == "-":
+        it = subprocess.run([*command.words, *words], env=command.environment, check=False,
+                            input=standard_input(words))
+        return it.returncode
     with tempfile.TemporaryDirectory() as folder:
-        if place is not None and words[place] != "-":
-            words = in_generic_form(words, place, folder)
-        return subprocess.run([*command.words, *words], env=command.environment, check=False, input=given).returncode
+        changed = in_generic_form(words, place, folder)
+        it = subprocess.run([*command.words, *changed], env=command.environment, check=False,
+                            stderr=None if changed == words else subprocess.PIPE)
+        if it.stderr:
+            sys.stderr.buffer.write(it.stderr.replace(os.fsencode(changed[place]), os.fsencode(words[place])))
+            sys.stderr.flush()
+        return it.returncode

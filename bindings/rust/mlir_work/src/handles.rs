@@ -141,7 +141,7 @@ impl<'a> Operation<'a> {
         Interned::of(self.session, unsafe { sys::mlir_work_name_of(self.session.handle(), self.number) })
     }
 
-    /// Returns whether it has this name.
+    /// Returns whether it has this name. Reads the text of its name.
     pub fn is(self, name: &str) -> bool {
         self.name().is_some_and(|it| it == *name)
     }
@@ -173,9 +173,15 @@ impl<'a> Operation<'a> {
         self.entries(self.counts().attributes, sys::mlir_work_attribute_at)
     }
 
-    /// Returns its property at a key, or else its discardable attribute.
+    /// Returns its property at a key, or else its discardable attribute. The key is looked up among all names of the
+    /// session; in a long loop use `attribute_at`.
     pub fn attribute(self, key: &str) -> Option<Attribute<'a>> {
-        let (held, key) = (self.session.handle(), self.session.name(key)?.number());
+        self.attribute_at(self.session.name(key)?)
+    }
+
+    /// Returns its property at a key, or else its discardable attribute.
+    pub fn attribute_at(self, key: Name<'_>) -> Option<Attribute<'a>> {
+        let (held, key) = (self.session.handle(), key.number());
         // SAFETY: the session is open.
         unsafe {
             Interned::of(self.session, sys::mlir_work_property_by_key(held, self.number, key))

@@ -1,10 +1,12 @@
-use Rattle.std.proofs.Common.{◌≡◌, refl, sym, ap, subst, ◌∙◌, true, false, Some, None}
+use Rattle.ir_event.specs.tree_laws.Reads.{precedes}
+use Rattle.std.proofs.Common.{◌≡◌, ◌⊎◌, refl, sym, ap, subst, ◌∙◌, true, false, Some, None}
 use Rattle.std.specs.Prelude.{is_some}
 use Rattle.patterns_base.specs.Rewrites.{none}
 use Rattle.greedy.specs.Outcomes.{Applied, Refuses}
 use Rattle.greedy.specs.Rewriting.{next_by}
 use Rattle.greedy.specs.Ruled.{pattern_set_of}
-use Rattle.greedy.specs.Work.{CoversBut, Right, Rewritten}
+use Rattle.ir_event.specs.Modules.{Module}
+use Rattle.greedy.specs.Work.{AreApart, CoversBut, Right, Rewritten}
 use Rattle.greedy.proofs.Trials.{pattern_set_lawful}
 use Rattle.greedy.proofs.Noting.{noted_more}
 use Rattle.greedy.proofs.Scans.{took, took_none, said, said_none, said_refuses, all_none, rewrote}
@@ -21,12 +23,26 @@ renew-requires-clause-rewritten g c =
     let noted = c.in-Ok-Some.ensures.noted (λ e. c.requires.marked (sym c.waiting.invariant.1.0 ∙ e)) in
     let was : g.R.GreedyRewriter.before c.apply_first.new.bench c.journal_len-from.result ≡ m = ap (g.R.GreedyRewriter.before c.apply_first.new.bench) c.journal_len-from.ensures ∙ noted.1 in
     let became = rewrote pattern_set m x true n refl (subst (λ f. Applied (pattern_set.comes m x) (is_some f) m n) c.in-Ok-Some.field-0-is c.in-Ok-Some.ensures.ok) in
-    let at : Rewritten x c.in-Some-preceding.before m n = record {
+    let at : Rewritten x c.in-Some-preceding_of.before m n = record {
       distinct = g.R.GreedyRewriter.distinct m c.is_formed.ensures;
       orderly = (pattern_set_lawful c.args.pattern_set.now c.requires.ruled).orderly m (g.R.GreedyRewriter.distinct m c.is_formed.ensures) (g.R.GreedyRewriter.below m c.is_formed.ensures) x n became;
-      nearby = c.in-Some-preceding.ensures.some;
+      nearby = c.in-Some-preceding_of.ensures.some;
     } in
-    subst (λ p. Rewritten x c.in-Some-preceding.before p n) (sym was) at
+    subst (λ p. Rewritten x c.in-Some-preceding_of.before p n) (sym was) at
+
+pub is_apart-apart-requires : goal.is_apart-apart-requires
+is_apart-apart-requires g c = c.in-Some.ensures.work.falls
+
+pub preceding_of-requires-clause-near : goal.preceding_of-requires-clause-near
+preceding_of-requires-clause-near g c =
+    subst (λ p. (c.pop.new.work.passed ≡ p) ⊎ (precedes p c.in-Some.op (g.R.GreedyRewriter.held c.waiting.bench).tree ≡ true)) (sym c.waiting.invariant.1.1.1.1.1) c.in-Some.ensures.nearby
+
+pub renew-requires-clause-apart : goal.renew-requires-clause-apart
+renew-requires-clause-apart g c = λ e.
+    let m = g.R.GreedyRewriter.held c.waiting.bench in
+    let noted = c.in-Ok-Some.ensures.noted (λ i. c.requires.marked (sym c.waiting.invariant.1.0 ∙ i)) in
+    let was : g.R.GreedyRewriter.before c.apply_first.new.bench c.journal_len-from.result ≡ m = ap (g.R.GreedyRewriter.before c.apply_first.new.bench) c.journal_len-from.ensures ∙ noted.1 in
+    subst (λ (p : Module). AreApart c.in-Some.op c.pop.new.work.again.items p.tree) (sym was) (c.is_apart-apart.ensures e)
 
 pub returns-in-Ok-clause-ok : goal.returns-in-Ok-clause-ok
 returns-in-Ok-clause-ok g c =
@@ -100,23 +116,23 @@ waiting-preserved-in-Ok-None g c =
           subst (λ p. Right pattern_set v.passed v.again.items p) h (took_none pattern_set m c.in-Some.op w.passed w.again.items v.passed v.again.items r c.in-Some.ensures q.0),
           (
             g.R.GreedyRewriter.through _ _ _ c.waiting.invariant.1.1.1.0 c.apply_first.ensures.onward,
-            noted_more _ _ _ c.waiting.invariant.1.1.1.1 c.apply_first.ensures.journal,
+            (noted_more _ _ _ c.waiting.invariant.1.1.1.1.0 c.apply_first.ensures.journal, refl),
           ),
         ),
       ),
     )
 
 pub returns-in-Ok-clause-journal : goal.returns-in-Ok-clause-journal
-returns-in-Ok-clause-journal g c = noted_more _ _ _ c.waiting.invariant.1.1.1.1 c.apply_first.ensures.journal
+returns-in-Ok-clause-journal g c = noted_more _ _ _ c.waiting.invariant.1.1.1.1.0 c.apply_first.ensures.journal
 
 pub returns-in-Err-renew-clause-journal : goal.returns-in-Err-renew-clause-journal
-returns-in-Err-renew-clause-journal g c = noted_more _ _ _ c.waiting.invariant.1.1.1.1 c.apply_first.ensures.journal
+returns-in-Err-renew-clause-journal g c = noted_more _ _ _ c.waiting.invariant.1.1.1.1.0 c.apply_first.ensures.journal
 
 pub returns-in-Err-clause-journal : goal.returns-in-Err-clause-journal
-returns-in-Err-clause-journal g c = noted_more _ _ _ c.waiting.invariant.1.1.1.1 c.apply_first.ensures.journal
+returns-in-Err-clause-journal g c = noted_more _ _ _ c.waiting.invariant.1.1.1.1.0 c.apply_first.ensures.journal
 
 pub returns-clause-journal : goal.returns-clause-journal
-returns-clause-journal g c = c.waiting.invariant.1.1.1.1
+returns-clause-journal g c = c.waiting.invariant.1.1.1.1.0
 
 pub waiting-preserved : goal.waiting-preserved
 waiting-preserved g c =
@@ -126,13 +142,13 @@ waiting-preserved g c =
     let v = c.pop.new.work in
     let h = c.waiting.invariant.0 in
     let r : Right pattern_set w.passed w.again.items m = subst (λ p. Right pattern_set w.passed w.again.items p) (sym h) c.waiting.invariant.1.1.0 in
-    let none_there : pattern_set.comes m c.in-Some.op ≡ none = subst (λ y. pattern_set.comes m y ≡ none) (sym c.in_default-preceding.ensures.none) ((pattern_set_lawful c.args.pattern_set.now c.requires.ruled).root m (g.R.GreedyRewriter.distinct m c.is_formed.ensures)) in (
+    let none_there : pattern_set.comes m c.in-Some.op ≡ none = subst (λ y. pattern_set.comes m y ≡ none) (sym c.in_default-preceding_of.ensures.none) ((pattern_set_lawful c.args.pattern_set.now c.requires.ruled).root m (g.R.GreedyRewriter.distinct m c.is_formed.ensures)) in (
       h,
       (
         c.waiting.invariant.1.0,
         (
           subst (λ p. Right pattern_set v.passed v.again.items p) h (took_none pattern_set m c.in-Some.op w.passed w.again.items v.passed v.again.items r c.in-Some.ensures none_there),
-          c.waiting.invariant.1.1.1,
+          (c.waiting.invariant.1.1.1.0, (c.waiting.invariant.1.1.1.1.0, refl)),
         ),
       ),
     )

@@ -10,7 +10,8 @@ invariant-waiting g l =
     × ((g.R.GreedyRewriter.marks l.bench ≡ g.R.GreedyRewriter.marks l.fn.bench)
     × (Right (pattern_set_of l.fn.pattern_set) l.work.passed l.work.again.items (g.R.GreedyRewriter.held l.fn.bench)
     × (g.R.GreedyRewriter.onward l.fn.bench l.bench
-    × Noted (g.R.GreedyRewriter.transaction l.fn.bench) (g.R.GreedyRewriter.transaction l.bench))))
+    × (Noted (g.R.GreedyRewriter.transaction l.fn.bench) (g.R.GreedyRewriter.transaction l.bench)
+    × (l.last ≡ l.work.passed)))))
 
 abbrev pub decreases-waiting : goal.decreases-waiting
 decreases-waiting g l = left l.work.passed l.work.again.items (g.R.GreedyRewriter.held l.fn.bench).tree

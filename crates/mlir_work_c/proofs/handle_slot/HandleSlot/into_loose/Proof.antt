@@ -17,7 +17,7 @@ use denote.Memory.{lone}
 use denote.RattleType.{RattleType, owns}
 use denote.Signature.{types_at, plain}
 use denote.RawPtr.{Ptr, block_ptr, null_ptr, in_a_block}
-use denote.Steps.{nothing, notified}
+use denote.Steps.{nothing, heard}
 use denote.Triple.Entry.{alive}
 use denote.Triple.Walked.{Stays, stay_dropped, walk_of, Goes-dropped}
 use Rattle.std.specs.Box.Ownership.{box_owns}
@@ -43,7 +43,7 @@ into_loose_spec 𝓤 𝓛 𝓜 𝓡 wired =
     proved_at 𝓛 ended hs c 𝓜 𝓡 (Goes-dropped 𝓛 0 (plain (λ _. slot.the_row)) yes (λ κs x f. refl), (Goes-dropped 𝓛 0 (plain (λ _. Z)) yes (λ κs x f. refl), tt)) #self fn (code.unfolded 𝓤 H 𝓜 𝓡 wired) (λ z are.
     let κs = z.0.0 in let v = z.0.3.0 in let a = z.0.3.1.0 in let Post : Val → SProp 𝓤 = (walk_of 𝓛 ended hs c).post z in let Run : List Val → List Val → SProp 𝓤 = λ us ws. WpFn 𝓤 H 𝓣.C 𝓣.Λ fn (us ++ (ws ++ [])) Post in
     qed 𝓛 ((raw (alive 𝓛 ended.signature z.0.0 z.0.1) ⊛ ‵ (owns (types_at ended.signature.params κs) z.0.3 z.0.4)) ∷ raw ((c κs z.0.3).requires z.1) ∷ []) ∵
-    move ! (1 ∷ []) $ notified ! (IsFull v.value) (λ full. let got = full_is v.value full in let x : R.Denot = got.0 in
+    move ! (1 ∷ []) $ heard ! (IsFull v.value) (λ full. let got = full_is v.value full in let x : R.Denot = got.0 in
     split ! $ move ! (1 ∷ []) $ fsplit ! $ slot_out ! v z.0.4.0 (λ ws. rewrite ! 0 (λ (y : Option R.Denot). ‵ (slot_owns heap_token R v.at y)) got.1 refl $
     in_a_block ! v.at (λ p. box_owns heap_token R p x) (fst∗ 𝓤 (never 𝓤) (sem 𝓛 (heap_token (bare (lone R.mir)) null_ptr))) (λ b o e.
     move ! (1 ∷ []) $ fsplit ! $ handle_tells (al R Z LZ ghosts) ! a z.0.4.1.0 (λ h ea fits.

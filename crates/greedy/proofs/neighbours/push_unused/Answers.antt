@@ -1,0 +1,15 @@
+use Rattle.greedy.specs.Adding.{Adds}
+use Rattle.greedy.specs.Parts.{Gives, GivesUnused}
+use Rattle.greedy.proofs.Adding.{on_ok, adds_as, adds_nothing}
+use Rattle.greedy.proofs.Reached.{used_some}
+use Rattle.greedy.proofs.neighbours.push_unused.Goals as goal
+
+pub returns-in-Some : goal.returns-in-Some
+returns-in-Some c = adds_nothing (GivesUnused c.args.store.now.module_of.tree c.args.value.now) c.args.ops.now.items (λ x g. used_some _ _ c.in-Some.ensures g.1)
+
+pub returns-in-None : goal.returns-in-None
+returns-in-None c =
+    let v = c.args.value.now in
+    let t = c.args.store.now.module_of.tree in
+    on_ok (Adds (Gives v) c.args.ops.now.items c.push_defining_op.new.ops.items) (Adds (GivesUnused t v) c.args.ops.now.items c.push_defining_op.new.ops.items) c.push_defining_op.result
+    (adds_as (GivesUnused t v) (Gives v) c.args.ops.now.items c.push_defining_op.new.ops.items (λ x g. g.0)) c.push_defining_op.ensures
