@@ -23,9 +23,9 @@ MOST_MARKS = 16
 FIRST = {"report", "print", "set-operand", "move", "set-attr", "drop-attr", "resync", "detach"}
 EDITS = FIRST | {"erase", "insert", "replace"}
 ALL = EDITS | {"begin", "commit", "rollback", "sweep", "canon", "convert", "apply", "attach", "rewrite", "pattern",
-               "patterns", "check", "why"}
+               "patterns", "check", "forget", "why"}
 # These leave the module, and have no listing, but where they are refused as no command.
-LOOKS = {"report", "print", "pattern", "patterns", "check", "why"}
+LOOKS = {"report", "print", "pattern", "patterns", "check", "forget", "why"}
 REFUSALS = {**rules.WORDS, **WORDS}
 NUMBERS = {word: number for number, word in REFUSALS.items()}
 MOST_LIMIT, LIMIT = 1000000, 1000
@@ -245,11 +245,20 @@ class Run:
         rule = rule_of(name)
         return self.book.get(name, None if rule is None or rule > MOST_TRIED else rule)
 
+    def meant(self, item):
+        """The rules and patterns of an item of a list: of a range of rule numbers, of `canon`, or of one name."""
+        ends = re.fullmatch("([0-9]+)-([0-9]+)", item)
+        if ends:
+            first, last = map(number, ends.groups())
+            need(1 <= first <= last <= MOST_TRIED)
+            return range(first, last + 1)
+        return range(1, MOST_TRIED + 1) if item == "canon" and item not in self.book else [self.named(item)]
+
     def rewrite(self, text):
         words = re.split("[ \t]+", text)
-        names = words[0].split(",")
-        need("" not in names)
-        asked = [self.named(name) for name in names]
+        items = words[0].split(",")
+        need("" not in items)
+        asked = [it for item in items for it in self.meant(item)]
         is_traced = words[1:2] == ["trace"]
         limit = self.limited(words[1 + is_traced:])
         edits.refuse(26, None in asked)
@@ -302,6 +311,12 @@ class Run:
         rows = [f"{patterns.text_of(it)} // {self.verdicts.get(name, 'not checked')}\n" for name, it in
                 self.book.items()]
         return "", "".join(rows)
+
+    def forget(self, text):
+        need(re.fullmatch("[^0-9 \t][^ \t]*", text))
+        edits.refuse(26, text not in self.book)
+        self.book, self.verdicts = ({name: it for name, it in held.items() if name != text}
+                                    for held in (self.book, self.verdicts))
 
     def check(self, text):
         words = re.split("[ \t]+", text)

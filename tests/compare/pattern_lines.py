@@ -176,6 +176,27 @@ def listed(maker, run):
     return word + maker.choice(["", " trace"]) + f" limit {maker.choice([1, 1, 2, 3, 5, 9, 0])}"
 
 
+def ranged(maker, run):
+    """A line that rewrites by a list with ranges of rules, `canon`, patterns and rules."""
+    ends = [maker.randrange(26) for _ in range(2)]
+    range_text = "-".join(map(str, sorted(ends) if maker.random() < 0.9 else ends))
+    items = [maker.choice([*run.book, "p0", range_text, "canon", "canon", str(maker.randrange(1, 25))])
+             for _ in range(maker.randrange(1, 4))]
+    word = maker.choice(["rewrite", "rewrite", "canon only"]) + f" {','.join(items)}"
+    return word + maker.choice(["", " trace"]) + f" limit {maker.choice([1, 2, 3, 5, 9])}"
+
+
+def registered(maker, run):
+    """A line about all patterns of a run, or one that removes a pattern or rewrites by a list with ranges."""
+    name = maker.choice([*run.book, "p0", "nope"])
+    pick = maker.random()
+    if pick < 0.25:
+        return maker.choice([f"forget {name}"] * 8 + ["forget", f"forget {name} x", "forget 4", "forget all"])
+    if pick < 0.45:
+        return f"pattern {maker.choice(['all', 'canon'])} {maker.choice(book()).partition(' ')[2]}"
+    return "patterns" if pick < 0.55 else ranged(maker, run)
+
+
 def widely_checked(maker, run):
     """A check without a width, or a sampled one, of patterns that the rules in Python try quickly."""
     few = [name for name, it in run.book.items() if len(it.variables) < 2 and len(it.all_types()) < 3]

@@ -142,6 +142,8 @@ def plain_line(maker, scripter):
     part = maker.random()
     if maker.random() < 0.25:
         return rewriting(maker)
+    if maker.random() < 0.05:
+        return pattern_lines.registered(maker, scripter.run)
     if maker.random() < 0.15:
         if scripter.run.book and maker.random() < 0.3:
             return pattern_lines.widely_checked(maker, scripter.run)

@@ -193,8 +193,15 @@ def line_says(line):
 
 
 def tried_says(word):
-    """Whether each item of a list names a rule that may be tried, by its number, or by a word."""
-    return all(number_of(item) in range(1, 25) if item[:1].isdigit() else item for item in word.split(b","))
+    """Whether each item of a list names a rule that may be tried, by its number, or by a word, or is a range of such
+    numbers."""
+    def is_tried(item):
+        if not item[:1].isdigit():
+            return item
+        first, hyphen, last = item.partition(b"-")
+        numbers = [number_of(end) for end in ([first, last] if hyphen else [first])]
+        return all(number in range(1, 25) for number in numbers) and numbers == sorted(numbers)
+    return all(map(is_tried, word.split(b",")))
 
 
 def book_says(text):
@@ -205,6 +212,8 @@ def book_says(text):
         return f"pattern {told(rest)}"
     if name == b"patterns" and not rest:
         return "patterns"
+    if name == b"forget" and rest and len(words) == 1 and not rest[:1].isdigit():
+        return f"forget {told(rest)}"
     if name == b"check" and rest and not words[0][:1].isdigit():
         if len(words) == 1:
             return f"check {told(words[0])} width none"

@@ -7,7 +7,9 @@ ONE = """"func.func"() <{function_type = (TYPE) -> TYPE, sym_name = "f"}> ({
   "func.return"(%m) : (TYPE) -> ()
 }) : () -> ()
 """
-SHIFT = "pattern shift arith.shli(%x, 1) => arith.addi(%x, %x)\n"
+# Claims don't have the width of a type, so a check with this condition tries values alone. The number is 1.
+BY_ONE = "where eq(c, add(1, mul(0, width(c))))\n"
+SHIFT = f"pattern shift arith.shli(%x, c) => arith.addi(%x, %x) {BY_ONE}"
 GOOD = "pattern good arith.addi(%x, 0) => %x\ncheck good\n"
 
 
@@ -48,7 +50,7 @@ UNPROVED = [
         "rewrite double,shift trace limit 4\n", ty="index")),
     ("written-types", ["--brief"], script(
         "A check that holds proves a pattern whose types are all written, whatever types the module has.",
-        "pattern typed arith.shli(%x : i8, 1) => arith.addi(%x, %x)\nrewrite typed limit 1\ncheck typed\n"
+        f"pattern typed arith.shli(%x : i8, c) => arith.addi(%x, %x) {BY_ONE}rewrite typed limit 1\ncheck typed\n"
         "rewrite typed\n", ONE + "%w = \"test.wide\"() : () -> i32\n")),
     ("list", ["--brief"], script(
         "The patterns of a list are named in its order, each once, and before the lines of a trace; rules never are.",

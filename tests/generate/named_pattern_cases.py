@@ -95,7 +95,7 @@ CASES = {
          ("pattern p arith.addi(%a, 0) => %a where eq(false, 0)", "ok"), ("check p", "holds"),
          ("pattern q arith.addi(%a, 0) => %a where ult(1, true), power_of_two(true)", "ok"), ("check q", "empty 8"),
          ("pattern r arith.addi(%a, 0) => %a where eq(true, 2)", "refused 7 BadValue at 41"),
-         ("pattern s arith.addi(%a : i4, 0) => %a where power_of_two(true)", "ok"), ("check s", "holds 4")]),
+         ("pattern s arith.addi(%a : i4, 0) => %a where power_of_two(true)", "ok"), ("check s", "holds")]),
     "literal-of-a-type-beside-it": (
         "A literal that isn't one of its type is refused, also where the type is written at another operand.", "",
         [("pattern p arith.addi(%a, 300 : i8) => %a", "refused 7 BadValue at 17"),
@@ -158,7 +158,7 @@ CASES = {
         "The patterns of the book that cast to index and back apply at types of at most 64 bits.",
         THERE_AND_BACK.replace("iN", "i128"),
         [(f"pattern {BACK}", "ok"), ("rewrite index_cast_back trace", "converged 0|unproved index_cast_back unchecked"),
-         ("check index_cast_back", "holds 8"),
+         ("check index_cast_back", "holds"),
          ("check index_cast_back width 128 sampled", "unrefuted 128"), (f"pattern {BACK_UNSIGNED}", "ok"),
          ("check index_castui_back width 128 sampled", "unrefuted 128"),
          ("check index_castui_back width 65 sampled", "unrefuted 65")]),

@@ -383,7 +383,7 @@ UNTRIED = [
      "arith.divui(%a, 1) => arith.divui(%a, 1)", {"": "holds", " width 2": "unrefuted 2"}),
     ("signed-remainder-as-itself", "A signed remainder that is matched and made is unrefuted.",
      "arith.remsi(%a, 3) => arith.remsi(%a, 3)", {"": "unrefuted 8"}),
-    ("unsigned-remainder-as-itself", "An unsigned remainder by a literal is proved at all widths, if it is made again.",
+    ("unsigned-remainder-as-itself", "An unsigned remainder by a literal that is made again holds.",
      "arith.remui(%a, 3) => arith.remui(%a, 3)", {"": "holds", " width 2": "unrefuted 2"}),
     ("unsigned-remainder-by-a-variable", "An unsigned remainder that is matched and made is unrefuted.",
      "arith.remui(%a, %b) => arith.remui(%a, %b)", {"": "unrefuted 8"}),
@@ -402,8 +402,10 @@ UNTRIED = [
      "arith.shrui(arith.shrui(%a, 1), 2) => arith.shrui(%a, 3)", {"": "fails 3|%a 0 : i3|old 0 : i3|new poison"}),
     ("low-bits-cleared", "Two opposite shifts clear the low bits at all widths.",
      "arith.shli(arith.shrui(%a, 3), 3) => arith.andi(%a, -8)", {"": "holds"}),
-    ("sign-shifted-in", "An arithmetic shift of a complement is the complement of the shift, at all widths.",
-     "arith.shrsi(arith.xori(%a, -1), 2) => arith.xori(arith.shrsi(%a, 2), -1)", {"": "holds"}),
+    ("sign-shifted-in", "An arithmetic shift keeps the sign, at all widths.",
+     "arith.cmpi<slt>(arith.shrsi(%a, 1), 0) => arith.cmpi<slt>(%a, 0)", {"": "holds"}),
+    ("arithmetic-shift-back", "An arithmetic shift and one back clear the lowest bit, at all widths.",
+     "arith.shli(arith.shrsi(%a, 1), 1) => arith.andi(%a, -2)", {"": "holds"}),
     ("quotient-by-one", "A signed quotient by 1 is the dividend at all widths, also at i1, where 1 is -1.",
      "arith.divsi(%a, 1) => %a", {"": "holds"}),
     ("made-quotient-by-one", "A signed quotient by 1 is undefined for -1 at i1.",
@@ -411,7 +413,7 @@ UNTRIED = [
     ("least-value", "A power of two below zero is the least value, at all widths.",
      "arith.minsi(%a, c) => c where power_of_two(c), slt(c, 0)", {"": "holds"}),
     ("no-least-value", "A power of two isn't the least value unless it is below zero.",
-     "arith.minsi(%a, c) => c where power_of_two(c)", {"": "fails 2|%a -2 : i2|c 1 : i2|old -2 : i2|new 1 : i2"}),
+     "arith.minsi(%a, c) => c where power_of_two(c)", {"": "fails 2|%a 0 : i2|c 1 : i2|old 0 : i2|new 1 : i2"}),
     ("made-choice", "A choice that is made alone holds.",
      "arith.andi(%a, 1) => arith.select(arith.cmpi<eq>(arith.andi(%a, 1), 0), 0, 1)", {"": "holds"}),
 ]
@@ -674,6 +676,63 @@ def applied(whole, title):
         whole(text.encode() + asked(*lines, *tried))
 
 
+def registry(whole, title):
+    """Patterns that are forgotten, in a session whose registry is listed."""
+    one, two = "pattern one arith.addi(%a, 0) => %a", "pattern two arith.andi(%a, 255) => %a"
+    title("forget-first", "The first pattern is forgotten, and the second one stays with its check.")
+    whole(asked(one, two, "check one", "check two", "forget one", "patterns"))
+    title("forget-last", "The last pattern is forgotten, and the first one stays with its check.")
+    whole(asked(one, two, "check one", "forget two", "patterns"))
+    title("forget-check-too", "A pattern that is forgotten and defined again is not checked.")
+    whole(asked(one, "check one", "patterns", "forget one", "patterns", one, "patterns"))
+    title("forget-for-another-text", "A forgotten name can get another text, which is the last one in the list.")
+    whole(asked(one, two, "forget one", one.replace("addi", "subi"), "patterns", "check one"))
+    title("forget-unknown-name", "A name that no pattern has is refused, also after it was forgotten.")
+    whole(asked("forget one", one, "forget two", "forget one", "forget one", "patterns", "expect 26 forget one"))
+    title("forget-rule-name", "A rule can't be forgotten by its word.")
+    whole(over("forget drop-zero", "forget erase-dead", "apply drop-zero #4"))
+    title("forget-wrong-words", "`forget` takes one name, which doesn't begin with a digit.")
+    whole(asked(one, "forget", "forget one two", "forget 4", "forget #1", "forget one,two", " \tforget \t one \t",
+                "patterns"))
+    title("forget-used-pattern", "A forgotten pattern isn't applied, and isn't part of a list.")
+    whole(over("pattern shift arith.muli(%a, c) => arith.shli(%a, log2(c))", "begin", "apply shift #3", "rollback",
+               "forget shift", "apply shift #3", "rewrite 1,shift", "check shift", "print"))
+    title("forget-under-marks", "A rollback doesn't bring a forgotten pattern back.")
+    whole(over(one, "begin", "forget one", "rollback", "patterns"))
+
+
+def lists(whole, title):
+    """Lists of rules and patterns: ranges, and the word `canon`."""
+    shift = "pattern shift arith.muli(%a, c) => arith.shli(%a, log2(c))"
+    back = "pattern back arith.subi(arith.addi(%a, %b), %b) => %a"
+    title("list-range", "A range stands for its rule numbers, and one of a single rule for this rule.")
+    whole(over(back, "begin", "rewrite back,1-3 trace", "rollback", "begin", "rewrite back,1,2,3 trace", "rollback",
+               "rewrite back,1-1 trace", "print"))
+    title("list-range-of-rules", "A list of ranges alone rewrites by these rules.")
+    sums = """%a = "arith.constant"() <{value = 3 : i8}> : () -> i8
+%x = "t.a"() : () -> i8
+%b = "arith.addi"(%a, %a) : (i8, i8) -> i8
+%c = "arith.addi"(%b, %x) : (i8, i8) -> i8
+"t.u"(%c) : (i8) -> ()
+""".encode()
+    whole(sums + asked("begin", "rewrite 1-24 trace", "rollback", "begin", "rewrite 3-9,1,2-2 trace limit 2",
+                       "rollback", "canon only 1-2 trace", "rewrite 3-3 trace", "print"))
+    title("list-canon", "`canon` in a list stands for the rules 1 to 24.")
+    whole(over(back, "begin", "rewrite canon,back trace", "rollback", "begin", "rewrite 1-24,back trace", "rollback",
+               "begin", "rewrite canon", "rollback", "canon only back,canon trace", "print"))
+    title("list-order", "The order of a list decides what is applied first.")
+    whole(over(shift, "pattern eight arith.muli(%a, 8) => arith.shli(%a, 3)", "begin",
+               "rewrite shift,eight,canon trace", "rollback", "rewrite eight,shift,canon trace"))
+    title("list-with-a-pattern-named-canon", "If a pattern is named `canon`, the word stands for this pattern alone.")
+    whole(over("pattern canon arith.muli(%a, c) => arith.shli(%a, log2(c))", back, "begin", "rewrite canon trace",
+               "rollback", "begin", "rewrite 1-24,canon trace", "rollback", "forget canon", "rewrite canon trace"))
+    title("list-wrong-ranges", "A range begins and ends with a rule from 1 to 24, and doesn't go down.")
+    whole(over("rewrite 0-3", "rewrite 1-25", "rewrite 24-30", "rewrite 3-1", "rewrite 1-", "rewrite -3",
+               "rewrite 1-3-5", "rewrite 1--3", "rewrite 1-x", "rewrite 1-4294967297", "rewrite 1-3,", "rewrite ,1-3",
+               "rewrite 001-0003", "rewrite 1-3,nope", "rewrite canon,nope", "rewrite canons", "apply canon #3",
+               "why #3 canon", "apply 1-3 #3", "convert partial rules 25-27"))
+
+
 def by_chance(whole, title):
     """Scripts about patterns that fit their modules."""
     title("random", "Random scripts define, check and apply patterns that fit their random modules.")
@@ -795,7 +854,7 @@ def unproved(case):
         case(words, text.encode(), answer(words, text.encode()), title=(f"unproved-{name}", sentence))
 
 
-PARTS = (rows, texts, beginnings, checks, listed, applied, rewritten, by_chance, rewritten_by_chance)
+PARTS = (rows, texts, beginnings, checks, listed, applied, registry, lists, rewritten, by_chance, rewritten_by_chance)
 
 
 def all_cases(whole, begin, case, title):

@@ -13,7 +13,7 @@ from checkout import ROOT
 
 from oracle import everywhere, own, passing, pattern_checks, patterns
 
-MOST_WIDTH, MOST_BITS, LEAST_PROVED = 4, 9, 110
+MOST_WIDTH, MOST_BITS, LEAST_PROVED = 4, 9, 120
 
 
 def faults_of(pattern):

@@ -269,10 +269,17 @@ fn told_pattern(alloc: Global, text: &[u8]) -> Result<String, AllocError> {
     format!(in alloc; "pattern {text}")
 }
 
+/// A line that removes a pattern.
+fn told_forget(alloc: Global, name: &[u8]) -> Result<String, AllocError> {
+    let name = shown(alloc, name)?;
+    format!(in alloc; "forget {name}")
+}
+
 /// An order about patterns.
 fn told_registry_order(alloc: Global, order: &RegistryCommand<'_>) -> Result<String, AllocError> {
     match order {
         RegistryCommand::Define(text) => told_pattern(alloc, text),
+        RegistryCommand::Forget(name) => told_forget(alloc, name),
         RegistryCommand::Patterns => String::from_str(alloc, "patterns"),
         RegistryCommand::Check { name, width } => told_check(alloc, name, *width),
         RegistryCommand::Sample { name, width } => told_sample(alloc, name, *width),

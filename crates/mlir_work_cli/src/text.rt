@@ -143,6 +143,7 @@ User patterns, which a rollback keeps (docs/PATTERNS.md):
                              try only edge values and random values, at types of
                              W bits, of half as many and of a quarter; W is at
                              most 128
+  forget NAME                remove the pattern NAME
 
 Marks, at most 16 open at once:
   begin                      mark the current module
@@ -170,7 +171,8 @@ next.
   OPERATION  one line in generic form, with the names of values as above
   RULE       the number of a rule, or its word, as 4 or drop-zero; or the name
              of a pattern
-  RULES      rules with commas and no blanks, as 4,drop-one
+  RULES      rules with commas and no blanks, as 4,drop-one; 4-9 are the rules
+             4 to 9, and `canon` is all from 1 to 24
   REFUSAL    the number of a refusal, or its word, as 22 or HasUses
   KEY        a bare identifier or a string literal; it names a property if the
              operation's kind has it or the operation lists it, otherwise an

@@ -7,3 +7,4 @@ pub use Rattle.user_patterns_registry.specs.Registry
 pub use Rattle.user_patterns_registry.specs.declared.registry.PatternRegistry
 pub use Rattle.user_patterns_registry.specs.declared.check_result.CheckSummary
 pub use Rattle.user_patterns_registry.specs.Rows
+pub use Rattle.mlir_work_script.specs.RuleLists

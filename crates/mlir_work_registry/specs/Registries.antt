@@ -5,7 +5,7 @@ use Rattle.ir_event.specs.types.declared.refusal.Refusal.TheVariants.{BadLimit, 
 use Rattle.ir_text_tokens.specs.Refusals.{refusal_of}
 use Rattle.rewriter_machine.specs.Commands.{Replied, TextRefusedAt}
 use Rattle.rewriter_machine.specs.Machine.{Done, Refused}
-use Rattle.mlir_work_script.specs.RegistryCommands.{RegistryCommand, Define, Patterns, Check, Sample}
+use Rattle.mlir_work_script.specs.RegistryCommands.{RegistryCommand, Define, Forget, Patterns, Check, Sample}
 use Rattle.user_patterns_text.specs.Refusing.{Outcome}
 use Rattle.user_patterns_widths.specs.Passing.{is_passing}
 use Rattle.user_patterns_registry.specs.CheckResult.{IsCheckResult, IsUntried, asked_width, said_of}
@@ -15,7 +15,7 @@ use Rattle.user_patterns_registry.specs.declared.check_result.CheckResult.{Check
 use Rattle.user_patterns_registry.specs.declared.check_result.CheckResult.TheVariants as judgement
 use Rattle.user_patterns_registry.specs.declared.check_result.CheckSummary.{CheckSummary}
 use Rattle.user_patterns_registry.specs.declared.check_result.CheckSummary.TheVariants as said
-use Rattle.user_patterns_registry.specs.Registry.{RegistryModel, Kept, defined, found, listing_text, noted}
+use Rattle.user_patterns_registry.specs.Registry.{RegistryModel, Kept, defined, forgotten, found, listing_text, noted}
 use Rattle.mlir_work_registry.specs.Notices.{Notice, Plain, Checked}
 
 -- the command is refused and the registry doesn't change
@@ -27,6 +27,11 @@ abbrev pub IsDefined : Outcome RegistryModel → List ℕ → RegistryModel → 
 IsDefined (Ok new) text b notice bytes c = (notice ≡ Plain (Replied Done)) × (bytes ≡ []) × (c ≡ new)
 IsDefined (Err fault) text b notice bytes c =
     (notice ≡ Plain (TextRefusedAt (refusal_of fault.refusal) (length text - fault.left))) × (bytes ≡ []) × (c ≡ b)
+
+-- a named pattern is removed, or no pattern has the name
+abbrev pub Forgets : Option Kept → List ℕ → RegistryModel → Notice → List ℕ → RegistryModel → Type 0
+Forgets None name b notice bytes c = IsRefused NoSuchKey b notice bytes c
+Forgets (Some k) name b notice bytes c = (notice ≡ Plain (Replied Done)) × (bytes ≡ []) × (c ≡ forgotten name b)
 
 -- the rows of a counterexample, if there is one
 abbrev pub judgement_rows : Kept → CheckResult → List ℕ
@@ -78,6 +83,7 @@ Samples (Some k) name w b notice bytes c =
 -- the effect of a registry command if memory doesn't run out
 abbrev pub IsShelved : RegistryCommand → RegistryModel → Notice → List ℕ → RegistryModel → Type 0
 IsShelved (Define text) b notice bytes c = IsDefined (defined b text) text b notice bytes c
+IsShelved (Forget name) b notice bytes c = Forgets (found name b) name b notice bytes c
 IsShelved Patterns b notice bytes c = (notice ≡ Plain (Replied Done)) × (bytes ≡ listing_text b) × (c ≡ b)
 IsShelved (Check name asked) b notice bytes c = Checks (found name b) name asked b notice bytes c
 IsShelved (Sample name w) b notice bytes c = Samples (found name b) name w b notice bytes c

@@ -11,4 +11,5 @@ pub mod response;
 pub mod write_notes;
 pub mod write_replies;
 
+pub use mlir_work_script::rule_lists;
 pub use user_patterns_registry::{check_result, registry, rows};

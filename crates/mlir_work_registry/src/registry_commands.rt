@@ -4,7 +4,7 @@ ghost use Rattle.ir_event.specs.types.declared.refusal.Refusal.TheVariants.{Memo
 ghost use Rattle.ir_text_tokens.specs.Refusals.{refusal_of};
 ghost use Rattle.rewriter_machine.specs.Commands.{Replied, TextRefusedAt};
 ghost use Rattle.rewriter_machine.specs.Machine.{Refused};
-ghost use Rattle.mlir_work_script.specs.RegistryCommands.{Check, Define, Patterns, Sample, registry_order_of};
+ghost use Rattle.mlir_work_script.specs.RegistryCommands.{Check, Define, Forget, Patterns, Sample, registry_order_of};
 ghost use Rattle.user_patterns_registry.specs.CheckResult.{IsRefused, asked_width};
 ghost use Rattle.user_patterns_registry.specs.Sampled.{IsNotSampled};
 ghost use Rattle.user_patterns_registry.specs.Registry.{registry_model, kept_view, noted};
@@ -22,7 +22,9 @@ use user_patterns_registry::check_command::check_pattern;
 use user_patterns_registry::check_result::{CheckResult, CheckSummary};
 use user_patterns_registry::define::define as define_in;
 use user_patterns_registry::listing::{listing, rows};
-use user_patterns_registry::registry::{PatternRegistry, RegisteredPattern, find, record_result};
+use user_patterns_registry::registry::{
+    PatternRegistry, RegisteredPattern, find, forget as forget_in, record_result,
+};
 use user_patterns_registry::sampling::sample;
 use user_patterns_text::error::PatternError;
 use user_patterns_widths::passing::is_passing;
@@ -50,6 +52,18 @@ fn define(alloc: Global, bytes: usize, registry: &mut PatternRegistry, text: &[u
         Err(PatternError::Memory) => Reply::Refused(Refusal::Memory),
         Err(PatternError::Refused(fault)) => refused_at(bytes, text, &fault),
     }
+}
+
+/// Removes a named pattern. Refused with `NoSuchKey` if there is none.
+fn forget(registry: &mut PatternRegistry, name: &[u8]) -> Reply
+    ensures registries { Registries (Forget name.now) (registry_model registry.old) (Plain (response_of result)) [] (registry_model registry.new) }
+    ensures bounded { (bytes : ℕ) → IsBounded bytes (response_of result) }
+{
+    if find(registry, name).is_none() {
+        return Reply::Refused(Refusal::NoSuchKey);
+    }
+    forget_in(registry, name);
+    Reply::Done
 }
 
 /// Lists the patterns of a registry.
@@ -218,6 +232,7 @@ pub fn run_registry_command(
 {
     match registry_command {
         RegistryCommand::Define(text) => replied(alloc, define(alloc, bytes, registry, text)),
+        RegistryCommand::Forget(name) => replied(alloc, forget(registry, name)),
         RegistryCommand::Patterns => patterns(alloc, registry),
         RegistryCommand::Check { name, width } => check(alloc, registry, name, *width),
         RegistryCommand::Sample { name, width } => sample_named(alloc, registry, name, *width),

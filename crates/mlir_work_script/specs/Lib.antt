@@ -1,3 +1,4 @@
+pub mod RuleLists
 pub mod SessionCommands
 pub mod RegistryCommands
 pub mod Expecting

@@ -11,6 +11,8 @@ use Rattle.mlir_work_script.specs.declared.registry_command.RegistryCommand.TheV
 pub data RegistryCommand : Type 0 where
   -- defines the pattern of a text
   Define : List ℕ → RegistryCommand
+  -- removes a pattern
+  Forget : List ℕ → RegistryCommand
   -- lists all patterns
   Patterns : RegistryCommand
   -- checks a pattern up to a maximum width, or up to the default width
@@ -21,6 +23,7 @@ pub data RegistryCommand : Type 0 where
 -- the model of a registry command, read from memory
 abbrev pub registry_order_of : Coded → RegistryCommand
 registry_order_of (code.Define text) = Define text.now
+registry_order_of (code.Forget name) = Forget name.now
 registry_order_of code.Patterns = Patterns
 registry_order_of (code.Check name width) = Check name.now width
 registry_order_of (code.Sample name width) = Sample name.now width
@@ -41,6 +44,10 @@ patterns_in rest = all_told rest (Some Patterns)
 abbrev pub is_name : List ℕ → Bool
 is_name [] = false
 is_name (b ∷ bs) = not (is_ascii_digit b)
+
+-- forget NAME
+abbrev pub forget_in : List ℕ → Option RegistryCommand
+forget_in rest = if is_name (word_of rest) then all_told (after_word rest) (Some (Forget (word_of rest))) else None
 
 -- the text after a width: nothing, or `sampled`
 abbrev pub tried_in : List ℕ → List ℕ → ℕ → Option RegistryCommand
@@ -68,6 +75,7 @@ check_in rest = if is_name (word_of rest) then checked_in (word_of rest) (after_
 abbrev pub registry_order_named : List ℕ → List ℕ → Option RegistryCommand
 registry_order_named name rest =
     if bytes_eq name (codes "pattern") then define_in rest
+    else if bytes_eq name (codes "forget") then forget_in rest
     else if bytes_eq name (codes "patterns") then patterns_in rest
     else if bytes_eq name (codes "check") then check_in rest
     else None

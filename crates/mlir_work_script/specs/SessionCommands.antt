@@ -6,10 +6,11 @@ use Rattle.rewriter_machine.specs.Commands.{RuleName, Target}
 use Rattle.mlir_work_script_base.specs.Clauses.{Clauses, clauses_of, mode_of, no_clauses, target_of, with_clauses}
 use Rattle.mlir_work_script_base.specs.Kinds.{kind_of}
 use Rattle.mlir_work_script_base.specs.Numbers.{number_of}
-use Rattle.mlir_work_script_base.specs.RuleNames.{are_tried, name_of, names_of, rule_in}
+use Rattle.mlir_work_script_base.specs.RuleNames.{name_of, rule_in}
 use Rattle.mlir_work_script_base.specs.Values.{op_of}
 use Rattle.mlir_work_script_base.specs.Subjects.{subject_in}
 use Rattle.mlir_work_script_base.specs.Words.{word_of, words_of, after_word}
+use Rattle.mlir_work_script.specs.RuleLists.{are_items, names_of}
 use Rattle.mlir_work_script.specs.declared.session_command.SessionCommand.{SessionCommand as Coded}
 use Rattle.mlir_work_script.specs.declared.session_command.SessionCommand.TheVariants as code
 use Rattle.mlir_work_script_base.specs.declared.subject.Subject.{Subject}
@@ -95,7 +96,7 @@ ruled_in rules rest =
 
 -- rewrite RULES [trace] [limit N]
 abbrev pub rewrite_in : List ℕ → Option SessionCommand
-rewrite_in rest = if are_tried (word_of rest) then ruled_in (names_of (word_of rest)) (after_word rest) else None
+rewrite_in rest = if are_items (word_of rest) then ruled_in (names_of (word_of rest)) (after_word rest) else None
 
 -- #N [limit N] after at
 abbrev pub at_in : List ℕ → Option SessionCommand

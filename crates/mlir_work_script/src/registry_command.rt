@@ -1,7 +1,7 @@
 //! Parses the commands on the pattern registry of a session.
 ghost use Rattle.std.specs.Prelude.{◌≡◌, option_map};
 ghost use Rattle.mlir_work_script.specs.RegistryCommands.{registry_order_in, registry_order_named, registry_order_of, check_in, checked_in};
-ghost use Rattle.mlir_work_script.specs.RegistryCommands.{define_in, is_name, patterns_in, tried_in, width_in};
+ghost use Rattle.mlir_work_script.specs.RegistryCommands.{define_in, forget_in, is_name, patterns_in, tried_in, width_in};
 
 use mlir_work_script_base::numbers::parse_number;
 use mlir_work_script_base::words::split_word;
@@ -11,6 +11,8 @@ use mlir_work_script_base::words::split_word;
 pub enum RegistryCommand<'a> {
     /// `pattern NAME LEFT => RIGHT` defines a user pattern.
     Define(&'a [u8]),
+    /// `forget NAME` removes a pattern, with the result of its last check.
+    Forget(&'a [u8]),
     /// `patterns` lists each pattern with the result of its last check.
     Patterns,
     /// `check NAME [width W]` checks a pattern.
@@ -57,6 +59,17 @@ fn is_name(word: &[u8]) -> bool
         [] => false,
         [first, ..] => !first.is_ascii_digit(),
     }
+}
+
+/// Parses the argument of `forget NAME`.
+fn forget(rest: &[u8]) -> Option<RegistryCommand<'_>>
+    ensures { option_map registry_order_of result ≡ forget_in rest.now }
+{
+    let (name, left) = split_word(rest);
+    if !is_name(name) || !left.is_empty() {
+        return None;
+    }
+    Some(RegistryCommand::Forget(name))
 }
 
 /// Parses the text after a width: nothing, or `sampled`.
@@ -116,6 +129,9 @@ fn registry_order_named<'a>(name: &[u8], rest: &'a [u8]) -> Option<RegistryComma
 {
     if name == b"pattern".as_slice() {
         return define(rest);
+    }
+    if name == b"forget".as_slice() {
+        return forget(rest);
     }
     if name == b"patterns".as_slice() {
         return patterns(rest);

@@ -3,13 +3,15 @@ ghost use Rattle.std.specs.Prelude.{◌≡◌, None, Some, option_map};
 ghost use Rattle.mlir_work_script.specs.SessionCommands.{attach_in, canon_order_in, ids_in, limit_in, order_in, order_named};
 ghost use Rattle.mlir_work_script.specs.SessionCommands.{convert_order_in, convert_trace_in};
 ghost use Rattle.mlir_work_script.specs.SessionCommands.{at_in, order_of, Rewrite, rewrite_in, rule_or_none, ruled_in, trace_in, why_in, report_in};
-ghost use Rattle.mlir_work_script_base.specs.RuleNames.{name_of, names_of};
+ghost use Rattle.mlir_work_script.specs.RuleLists.{names_of};
+ghost use Rattle.mlir_work_script_base.specs.RuleNames.{name_of};
 
+use crate::rule_lists::are_items;
 use ir_event::types::ids::OpId;
 use mlir_work_script_base::clauses::{Clauses, clauses_in, mode_named};
 use mlir_work_script_base::kind::{Kind, kind_named};
 use mlir_work_script_base::numbers::parse_number;
-use mlir_work_script_base::rule_name::{RuleName, are_tried, rule_named};
+use mlir_work_script_base::rule_name::{RuleName, rule_named};
 use mlir_work_script_base::subject::{Subject, subject_named};
 use mlir_work_script_base::values::op_named;
 use mlir_work_script_base::words::split_word;
@@ -31,7 +33,7 @@ pub enum SessionCommand<'a> {
     /// `rewrite RULES [limit N]` and `canon only RULES [limit N]` apply the named rules until none applies or the
     /// limit is reached.
     Rewrite {
-        /// The rules in the order in which they are tried at an operation, separated by commas.
+        /// The rules in the order in which they are tried at an operation, as `1-3,7,mine` or `canon`.
         rules: &'a [u8],
         /// The rewrite limit, if the line gives one.
         limit: Option<u32>,
@@ -168,7 +170,7 @@ fn rewrite(rest: &[u8]) -> Option<SessionCommand<'_>>
     ensures { option_map order_of result ≡ rewrite_in rest.now }
 {
     let (rules, rest) = split_word(rest);
-    if !are_tried(rules) {
+    if !are_items(rules) {
         return None;
     }
     ruled(rules, rest)

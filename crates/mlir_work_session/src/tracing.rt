@@ -5,7 +5,7 @@ ghost use Rattle.ir_text.specs.Public.{IsFull};
 ghost use Rattle.mlir_work_registry.specs.Replies.{is_accepted};
 ghost use Rattle.mlir_work_script_base.specs.Clauses.{clauses_of, target_of};
 ghost use Rattle.mlir_work_script.specs.SessionCommands.{Trace, TraceConvert};
-ghost use Rattle.mlir_work_script_base.specs.RuleNames.{names_of};
+ghost use Rattle.mlir_work_registry.specs.RuleLists.{names_of};
 ghost use Rattle.mlir_work_transforms.specs.Converting.{conversion};
 ghost use Rattle.mlir_work_transforms.specs.TraceText.{tracing};
 ghost use Rattle.mlir_work_transforms.specs.greedy.Changes.{canonical_reply};

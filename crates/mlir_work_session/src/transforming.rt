@@ -4,7 +4,8 @@ ghost use Rattle.mlir_work_transforms.specs.rewriter.Commands.{Apply, Canon, Con
 ghost use Rattle.mlir_work_transforms.specs.rewriter.Machine.{Transformation};
 ghost use Rattle.mlir_work_transforms.specs.rewriter.Panels.{Shown};
 ghost use Rattle.mlir_work_script.specs.SessionCommands.{Rewrite};
-ghost use Rattle.mlir_work_script_base.specs.RuleNames.{name_of, names_of};
+ghost use Rattle.mlir_work_script_base.specs.RuleNames.{name_of};
+ghost use Rattle.mlir_work_registry.specs.RuleLists.{names_of};
 ghost use Rattle.mlir_work_transforms.specs.Applying.{application};
 ghost use Rattle.mlir_work_transforms.specs.rewriter.RewriterCalls.{AgreesOrStale, state_of};
 ghost use Rattle.mlir_work_script_base.specs.Clauses.{clauses_of, target_of};

@@ -1,15 +1,14 @@
 -- Proofs about the patterns that a list names, one by one.
-use Rattle.std.proofs.Common.{◌≡◌, ◌∙◌, refl, ap, sym, ℕ, List, [], ◌∷◌, ◌++◌, map, Bool, true, false, if◌then◌else◌, ◌||◌, append-nil, append_assoc, Option}
+use Rattle.std.proofs.Common.{◌≡◌, ◌∙◌, refl, ap, sym, ℕ, List, [], ◌∷◌, ◌++◌, map, Bool, true, false, if◌then◌else◌, ◌||◌, append-nil, append_assoc}
 use Rattle.std.specs.List.{list_any}
 use Rattle.std.proofs.lemmas.List.{map-append}
 use Rattle.ir_event.specs.trees.Meaning.{Operation}
-use Rattle.mlir_work_script_base.specs.Items.{items_after}
 use Rattle.mlir_work_registry.specs.Registry.{RegistryModel}
 use Rattle.mlir_work_transforms.specs.RuleLists.{pattern_named}
 use Rattle.mlir_work_transforms.specs.Unproved.{Noted, and_once, and_own, is_noted, noted_after, proves, unproved_line, unproved_text}
 use Rattle.mlir_work_transforms.specs.Views.{noted_view, noted_views}
 use Rattle.mlir_work_transforms.specs.declared.unproved.Noted.{Noted as Coded}
-use Rattle.mlir_work_transforms.proofs.Joined.{named_at}
+use Rattle.mlir_work_transforms.specs.rewriter.Commands.{RuleName}
 
 -- ---- one more pattern
 
@@ -29,14 +28,10 @@ added_once ns more n one there is e same added =
 -- ---- the items of a list
 
 module _ (registry : RegistryModel) where
-  -- the patterns that the items of a list name, appended to those before; an absent list has none
-  abbrev pub noted_items : List Noted → Option (List ℕ) → List Noted
-  noted_items ns list = noted_after registry ns (map named_at (items_after list))
-
-  pub item_noted : (all : List Noted) (item : List ℕ) (left items : List (List ℕ)) (before trailing : List Noted) → items ≡ item ∷ left → trailing ≡ and_own before (pattern_named (named_at item) registry)
-      → noted_after registry before (map named_at items) ≡ all → noted_after registry trailing (map named_at left) ≡ all
-  item_noted all item left items before trailing e added h =
-      ap (λ ns. noted_after registry ns (map named_at left)) added ∙ sym (ap (λ (xs : List (List ℕ)). noted_after registry before (map named_at xs)) e) ∙ h
+  pub item_noted : (all : List Noted) (name : RuleName) (left names : List RuleName) (before trailing : List Noted) → names ≡ name ∷ left → trailing ≡ and_own before (pattern_named name registry)
+      → noted_after registry before names ≡ all → noted_after registry trailing left ≡ all
+  item_noted all name left names before trailing e added h =
+      ap (λ ns. noted_after registry ns left) added ∙ sym (ap (λ (xs : List RuleName). noted_after registry before xs) e) ∙ h
 
 -- ---- the lines
 

@@ -1,5 +1,5 @@
 -- Lists of rules and registered patterns, by name.
-use Rattle.std.specs.Prelude.{ℕ, List, [], ◌∷◌, map, Bool, Option, Some, None, is_some, option_map, option_and_then}
+use Rattle.std.specs.Prelude.{ℕ, List, [], ◌∷◌, map, Bool, Option, Some, None, codes, is_some, option_map, option_and_then}
 use Rattle.std.specs.List.{list_any}
 use Rattle.ir_event.specs.Modules.{Module}
 use Rattle.mlir_work_transforms.specs.greedy.Changes.{rewriting}
@@ -10,6 +10,7 @@ use Rattle.mlir_work_transforms.specs.rewriter.Machine.{Transformation}
 use Rattle.mlir_work_transforms.specs.Rewriting.{canonical_named}
 use Rattle.mlir_work_transforms.specs.TraceText.{trace_text}
 use Rattle.mlir_work_registry.specs.Registry.{RegistryModel, Kept, found}
+use Rattle.mlir_work_registry.specs.RuleLists.{opened}
 
 -- the registered pattern with this name
 abbrev pub pattern_named : RuleName → RegistryModel → Option Kept
@@ -29,11 +30,19 @@ or_rule (Some k) name = Some (record { attempt = OfOwn k.shape; name = k.name })
 abbrev pub listed_named : RegistryModel → RuleName → Option Listed
 listed_named registry name = or_rule (pattern_named name registry) name
 
--- all names of a list resolved, if each can be
+-- all names resolved, if each can be
+abbrev pub each_listed : RegistryModel → List RuleName → Option (List Listed)
+each_listed registry [] = Some []
+each_listed registry (name ∷ names) =
+    option_and_then (λ l. option_map (λ ls. l ∷ ls) (each_listed registry names)) (listed_named registry name)
+
+-- whether a pattern is named `canon`
+abbrev pub has_canon : RegistryModel → Bool
+has_canon registry = is_some (found (codes "canon") registry)
+
+-- all names of a list resolved, if each can be; if no pattern is named `canon`, the word stands for the rules 1 to 24
 abbrev pub all_listed : RegistryModel → List RuleName → Option (List Listed)
-all_listed registry [] = Some []
-all_listed registry (name ∷ names) =
-    option_and_then (λ l. option_map (λ ls. l ∷ ls) (all_listed registry names)) (listed_named registry name)
+all_listed registry names = each_listed registry (opened (has_canon registry) names)
 
 -- whether a name is that of a registered pattern
 abbrev pub names_own : RegistryModel → List RuleName → Bool

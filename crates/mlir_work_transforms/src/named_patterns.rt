@@ -1,12 +1,13 @@
 //! Looks up registered patterns by the rule names of a command.
 ghost use Rattle.std.specs.Prelude.{◌≡◌, is_some, option_map};
-ghost use Rattle.mlir_work_script_base.specs.RuleNames.{name_of, names_of};
+ghost use Rattle.mlir_work_script_base.specs.RuleNames.{name_of};
 ghost use Rattle.mlir_work_registry.specs.Registry.{registry_model, kept_view};
+ghost use Rattle.mlir_work_registry.specs.RuleLists.{names_of};
 ghost use Rattle.mlir_work_transforms.specs.RuleLists.{names_own, pattern_named};
 
 use mlir_work_registry::registry::{PatternRegistry, RegisteredPattern, find};
-use mlir_work_script_base::items::split_item;
-use mlir_work_script_base::rule_name::{RuleName, name_in};
+use mlir_work_registry::rule_lists::{names_in, next_name};
+use mlir_work_script_base::rule_name::RuleName;
 
 /// Returns the registered pattern with this name, or `None`. A rule number never names a pattern.
 pub fn find_pattern<'a>(
@@ -32,13 +33,11 @@ fn is_own(registry: &PatternRegistry, name: &RuleName<'_>) -> bool
 pub fn names_pattern(registry: &PatternRegistry, list: &[u8]) -> bool
     ensures { result ≡ names_own (registry_model registry.now) (names_of list.now) }
 {
-    let mut rest = Some(list);
-    'items: while let Some(items) = rest {
-        let (item, trailing) = split_item(items);
-        if is_own(registry, &name_in(item)) {
+    let mut names = names_in(list, true);
+    'names: while let Some(name) = next_name(&mut names) {
+        if is_own(registry, &name) {
             return true;
         }
-        rest = trailing;
     }
     false
 }

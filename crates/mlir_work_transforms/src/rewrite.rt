@@ -2,14 +2,15 @@
 ghost use Rattle.std.specs.Prelude.{◌≡◌, true, is_some, IfErr, IfOk, IfSome, option_map};
 ghost use Rattle.ir_event.specs.types.declared.refusal.Refusal.TheVariants.{Memory as NoMemory};
 ghost use Rattle.conversion.specs.patterns.Rows.{AreCanonical};
-ghost use Rattle.mlir_work_script_base.specs.RuleNames.{name_of, names_of};
+ghost use Rattle.mlir_work_script_base.specs.RuleNames.{name_of};
+ghost use Rattle.mlir_work_registry.specs.RuleLists.{names_of};
 ghost use Rattle.mlir_work_transforms.specs.Rewriting.{canonical_named, rules_named};
 
 use crate::apply::rule_named;
 use greedy::patterns::rule::Rule;
 use ir_event::types::refusal::Refusal;
-use mlir_work_script_base::items::split_item;
-use mlir_work_script_base::rule_name::{RuleName, name_in};
+use mlir_work_registry::rule_lists::{names_in, next_name};
+use mlir_work_script_base::rule_name::RuleName;
 use std::alloc::Global;
 
 /// Returns the canonicalization rule with this name, or `None`.
@@ -30,13 +31,11 @@ pub fn canonical_named(name: &RuleName<'_>) -> Option<Rule>
 fn are_named(list: &[u8]) -> bool
     ensures { result ≡ is_some (rules_named (names_of list.now)) }
 {
-    let mut rest = Some(list);
-    'items: while let Some(items) = rest {
-        let (item, trailing) = split_item(items);
-        let Some(_) = canonical_named(&name_in(item)) else {
+    let mut names = names_in(list, false);
+    'names: while let Some(name) = next_name(&mut names) {
+        let Some(_) = canonical_named(&name) else {
             return false;
         };
-        rest = trailing;
     }
     true
 }
@@ -54,17 +53,15 @@ pub fn rules_in(alloc: Global, list: &[u8]) -> Result<Option<Vec<Rule>>, Refusal
         return Ok(None);
     }
     let mut rules = Vec::new(alloc);
-    let mut rest = Some(list);
-    'items: while let Some(items) = rest {
-        let (item, trailing) = split_item(items);
-        let Some(rule) = canonical_named(&name_in(item)) else {
+    let mut names = names_in(list, false);
+    'names: while let Some(name) = next_name(&mut names) {
+        let Some(rule) = canonical_named(&name) else {
             return Ok(None);
         };
         match rules.push(rule) {
             Ok(()) => {}
             Err(_) => return Err(Refusal::Memory),
         }
-        rest = trailing;
     }
     Ok(Some(rules))
 }

@@ -1,19 +1,20 @@
 //! Resolves the names of a rule list.
 ghost use Rattle.std.specs.Prelude.{◌≡◌, ◌∷◌, ◌++◌, [], is_some, map, true, IfErr, IfOk, IfSome, OnOk, option_map};
 ghost use Rattle.ir_event.specs.types.declared.refusal.Refusal.TheVariants.{Memory as NoMemory};
-ghost use Rattle.mlir_work_script_base.specs.RuleNames.{name_of, names_of};
+ghost use Rattle.mlir_work_script_base.specs.RuleNames.{name_of};
 ghost use Rattle.mlir_work_transforms.specs.greedy.PatternSet.{AreAttempts, MayAttempt, attempt_of, patterns_of};
 ghost use Rattle.mlir_work_registry.specs.Registry.{registry_model};
-ghost use Rattle.mlir_work_transforms.specs.RuleLists.{all_listed, listed_named};
+ghost use Rattle.mlir_work_registry.specs.RuleLists.{names_left, names_of, opened};
+ghost use Rattle.mlir_work_transforms.specs.RuleLists.{all_listed, has_canon, listed_named};
 ghost use Rattle.mlir_work_transforms.specs.Views.{listed_view, listed_views};
 
 use crate::greedy::pattern_set::RuleOrPattern;
 use crate::named_patterns::find_pattern;
 use crate::rewrite::canonical_named;
 use ir_event::types::refusal::Refusal;
-use mlir_work_registry::registry::PatternRegistry;
-use mlir_work_script_base::items::split_item;
-use mlir_work_script_base::rule_name::{RuleName, name_in};
+use mlir_work_registry::registry::{PatternRegistry, find};
+use mlir_work_registry::rule_lists::{RuleNames, names_in, next_name};
+use mlir_work_script_base::rule_name::RuleName;
 use std::alloc::{AllocError, Global};
 
 /// A rule, or a user pattern with its name.
@@ -42,17 +43,22 @@ fn listed_named<'a>(registry: &'a PatternRegistry, name: &RuleName<'_>) -> Optio
     })
 }
 
+/// Returns the names of a list. If a pattern is named `canon`, this word is a name as any other.
+fn names_listed<'a>(registry: &PatternRegistry, list: &'a [u8]) -> RuleNames<'a>
+    ensures { names_left result ≡ opened (has_canon (registry_model registry.now)) (names_of list.now) }
+{
+    names_in(list, find(registry, b"canon").is_some())
+}
+
 /// Returns whether each item of a list names a rule or a registered pattern.
 fn are_listed(registry: &PatternRegistry, list: &[u8]) -> bool
     ensures { result ≡ is_some (all_listed (registry_model registry.now) (names_of list.now)) }
 {
-    let mut rest = Some(list);
-    'items: while let Some(items) = rest {
-        let (item, trailing) = split_item(items);
-        let Some(_) = listed_named(registry, &name_in(item)) else {
+    let mut names = names_listed(registry, list);
+    'names: while let Some(name) = next_name(&mut names) {
+        let Some(_) = listed_named(registry, &name) else {
             return false;
         };
-        rest = trailing;
     }
     true
 }
@@ -74,17 +80,15 @@ pub fn parse_items<'a>(
         return Ok(None);
     }
     let mut listed = Vec::new(alloc);
-    let mut rest = Some(list);
-    'items: while let Some(items) = rest {
-        let (item, trailing) = split_item(items);
-        let Some(one) = listed_named(registry, &name_in(item)) else {
+    let mut names = names_listed(registry, list);
+    'names: while let Some(name) = next_name(&mut names) {
+        let Some(one) = listed_named(registry, &name) else {
             return Ok(None);
         };
         match listed.push(one) {
             Ok(()) => {}
             Err(_) => return Err(Refusal::Memory),
         }
-        rest = trailing;
     }
     Ok(Some(listed))
 }

@@ -1,7 +1,7 @@
 //! Lists of rules and user patterns, with the names for a trace.
 ghost use Rattle.std.specs.Prelude.{◌≡◌, is_some, true, IfErr, IfOk};
 ghost use Rattle.ir_event.specs.types.declared.refusal.Refusal.TheVariants.{Memory as NoMemory};
-ghost use Rattle.mlir_work_script_base.specs.RuleNames.{names_of as names_said};
+ghost use Rattle.mlir_work_registry.specs.RuleLists.{names_of as names_said};
 ghost use Rattle.mlir_work_registry.specs.Registry.{registry_model};
 ghost use Rattle.mlir_work_transforms.specs.RuleLists.{all_listed};
 ghost use Rattle.mlir_work_transforms.specs.Views.{IsMixed, IsRuleListOf, listed_views};

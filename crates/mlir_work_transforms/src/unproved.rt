@@ -2,9 +2,10 @@
 ghost use Rattle.std.specs.Prelude.{◌≡◌, ◌∷◌, ◌++◌, [], IfOk, OnOk, Some, false};
 ghost use Rattle.std.specs.List.{list_any};
 ghost use Rattle.ir_event.specs.Modules.{module_in};
-ghost use Rattle.mlir_work_script_base.specs.RuleNames.{name_of, names_of};
+ghost use Rattle.mlir_work_script_base.specs.RuleNames.{name_of};
 ghost use Rattle.mlir_work_registry.specs.CheckSummary.TheVariants.{Holds as SaysHolds};
 ghost use Rattle.mlir_work_registry.specs.Registry.{registry_model, kept_view};
+ghost use Rattle.mlir_work_registry.specs.RuleLists.{names_of};
 ghost use Rattle.mlir_work_transforms.specs.RuleLists.{pattern_named};
 ghost use Rattle.mlir_work_transforms.specs.Unproved.{and_once, and_own, is_noted, noted_after, noted_of, proves};
 ghost use Rattle.mlir_work_transforms.specs.Unproved.{unproved_line, unproved_of, unproved_one, unproved_text, verdict_text};
@@ -17,8 +18,8 @@ use ir_event::world::World;
 use mlir_work_registry::check_result::CheckSummary;
 use mlir_work_registry::registry::{PatternRegistry, RegisteredPattern};
 use mlir_work_registry::rows::write_summary;
-use mlir_work_script_base::items::split_item;
-use mlir_work_script_base::rule_name::{RuleName, name_in};
+use mlir_work_registry::rule_lists::{names_in, next_name};
+use mlir_work_script_base::rule_name::RuleName;
 use std::alloc::{AllocError, Global};
 
 /// A pattern with its name, whether all its types are concrete, and the result of its last check.
@@ -80,11 +81,9 @@ fn noted_in<'a>(
     ensures { IfOk result (λ v. noted_views v.items ≡ noted_after (registry_model registry.now) [] (names_of list.now)) }
 {
     let mut noted = Vec::new(alloc);
-    let mut rest = Some(list);
-    'items: while let Some(items) = rest {
-        let (item, trailing) = split_item(items);
-        add_named(&mut noted, registry, &name_in(item))?;
-        rest = trailing;
+    let mut names = names_in(list, true);
+    'names: while let Some(name) = next_name(&mut names) {
+        add_named(&mut noted, registry, &name)?;
     }
     Ok(noted)
 }

@@ -1,3 +1,4 @@
+pub mod Forgetting
 pub mod Registries
 pub mod Halves
 pub mod Ranges

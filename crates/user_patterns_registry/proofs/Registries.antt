@@ -50,11 +50,11 @@ module _ (name : List ℕ) where
   unfolding found
   at_first j ks e = ap (λ (b : Bool). if b then Some j else found name ks) e
 
-  extra_on : (j : Kept) (ks : RegistryModel) → is_named name j ≡ false → found name (j ∷ ks) ≡ found name ks
+  pub extra_on : (j : Kept) (ks : RegistryModel) → is_named name j ≡ false → found name (j ∷ ks) ≡ found name ks
   unfolding found
   extra_on j ks e = ap (λ (b : Bool). if b then Some j else found name ks) e
 
-  not_first : (j : Kept) (ks : RegistryModel) (b : Bool) → is_named name j ≡ b → found name (j ∷ ks) ≡ None → (b ≡ false) × (found name ks ≡ None)
+  pub not_first : (j : Kept) (ks : RegistryModel) (b : Bool) → is_named name j ≡ b → found name (j ∷ ks) ≡ None → (b ≡ false) × (found name ks ≡ None)
   not_first j ks true e h = absurd (none-some j (sym h ∙ at_first j ks e))
   not_first j ks false e h = (refl, sym (extra_on j ks e) ∙ h)
 

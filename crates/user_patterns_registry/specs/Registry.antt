@@ -1,5 +1,5 @@
 -- The pattern registry of a session: patterns by name, in the order of their definitions.
-use Rattle.std.specs.Prelude.{◌≡◌, ℕ, ◌≤◌, Bool, true, false, not, nat_lt, if◌then◌else◌, List, [], ◌∷◌, ◌++◌, codes, length, map, Option, Some, None, is_some, Ok, Err}
+use Rattle.std.specs.Prelude.{◌≡◌, ℕ, ◌≤◌, Bool, true, false, not, nat_lt, if◌then◌else◌, List, [], ◌∷◌, ◌++◌, codes, filter, length, map, Option, Some, None, is_some, Ok, Err}
 use Rattle.std.specs.Str.{bytes_eq}
 use Rattle.std.specs.List.{All}
 use Rattle.ir_text_tokens.specs.declared.refusal.TextRefusal.TheVariants.{Redefined, TooMany, TypeMismatch}
@@ -93,6 +93,12 @@ added registry p = kept_of p >>= λ k. Ok (and_kept registry k)
 unfoldable pub defined : RegistryModel → Text → Outcome RegistryModel
 defined registry text = whole_at text >>= λ p. room_for p.name (begins text) registry >>= λ _. added registry p
 
+-- ---- removed patterns
+
+-- the registry without the pattern of this name; the others keep their order and their summaries
+abbrev pub forgotten : List ℕ → RegistryModel → RegistryModel
+forgotten name registry = filter (λ k. not (is_named name k)) registry
+
 -- ---- recorded checks
 
 abbrev pub with_said : CheckSummary → Kept → Kept
@@ -142,6 +148,22 @@ StaysARegistry = (registry new : RegistryModel) (text : Text) → IsRegistry reg
 -- a registry with a recorded check is a registry
 abbrev pub NotingKeepsARegistry : Type 0
 NotingKeepsARegistry = (registry : RegistryModel) (name : List ℕ) (said : CheckSummary) → IsRegistry registry → IsRegistry (noted name said registry)
+
+-- a registry without one of its patterns is a registry
+abbrev pub ForgettingKeepsARegistry : Type 0
+ForgettingKeepsARegistry = (registry : RegistryModel) (name : List ℕ) → IsRegistry registry → IsRegistry (forgotten name registry)
+
+-- no pattern has the name any more, and the pattern of any other name is the same as before
+pub record IsForgotten (name : List ℕ) (registry new : RegistryModel) : Type 0 where
+  pub gone : found name new ≡ None
+  pub others : (other : List ℕ) → bytes_eq name other ≡ false → found other new ≡ found other registry
+
+abbrev pub ForgetsOne : Type 0
+ForgetsOne = (registry : RegistryModel) (name : List ℕ) → IsForgotten name registry (forgotten name registry)
+
+-- a name that no pattern has is forgotten without a change
+abbrev pub ForgetsNothing : Type 0
+ForgetsNothing = (registry : RegistryModel) (name : List ℕ) → found name registry ≡ None → forgotten name registry ≡ registry
 
 pub record IsAdded (registry new : RegistryModel) : Type 0 where
   pub last : Kept

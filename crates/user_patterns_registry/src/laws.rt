@@ -1,6 +1,6 @@
 //! Laws of registries.
 ghost use Rattle.std.specs.Prelude.{[]};
-ghost use Rattle.user_patterns_registry.specs.Registry.{AddsOne, IsRegistry, NotingKeepsARegistry, StaysARegistry};
+ghost use Rattle.user_patterns_registry.specs.Registry.{AddsOne, ForgetsNothing, ForgetsOne, ForgettingKeepsARegistry, IsRegistry, NotingKeepsARegistry, StaysARegistry};
 
 /// The names in a registry are distinct, it has at most 256 patterns, and each can be applied. The empty registry
 /// satisfies this, and a defined pattern or a recorded check keeps it. A new pattern is the last one, and lookups of
@@ -10,4 +10,13 @@ pub fn what_is_defined_is_ready()
     ensures registry { StaysARegistry }
     ensures noted { NotingKeepsARegistry }
     ensures one { AddsOne }
+{}
+
+/// A registry from which a pattern is removed has distinct names and can be applied, as before. No pattern has the
+/// removed name, and lookups of the other names give the same result as before. Removing an unknown name changes
+/// nothing.
+pub fn forgetting_keeps_the_others()
+    ensures registry { ForgettingKeepsARegistry }
+    ensures one { ForgetsOne }
+    ensures nothing { ForgetsNothing }
 {}

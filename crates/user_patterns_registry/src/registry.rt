@@ -1,6 +1,6 @@
 //! Patterns by name.
-ghost use Rattle.std.specs.Prelude.{◌≡◌, [], map, option_map};
-ghost use Rattle.user_patterns_registry.specs.Registry.{registry_model, found, is_named, kept_view, kept_views, noted, noted_one};
+ghost use Rattle.std.specs.Prelude.{◌≡◌, [], map, not, option_map};
+ghost use Rattle.user_patterns_registry.specs.Registry.{forgotten, registry_model, found, is_named, kept_view, kept_views, noted, noted_one};
 
 use crate::check_result::CheckSummary;
 use crate::rows::NamedVariable;
@@ -85,4 +85,15 @@ pub fn record_result(registry: &mut PatternRegistry, name: &[u8], said: CheckSum
     ensures { registry_model registry.new ≡ noted name.now said (registry_model registry.old) }
 {
     note_in(&mut registry.held, name, said)
+}
+
+/// Removes the pattern of that name, with the summary of its last check. The other patterns stay in their order.
+pub fn forget(registry: &mut PatternRegistry, name: &[u8])
+    ensures { registry_model registry.new ≡ forgotten name.now (registry_model registry.old) }
+{
+    registry.held.retain(
+        |held: &RegisteredPattern| -> bool
+            ensures { result ≡ not (is_named name.entry.now (kept_view held.now)) }
+        { !is_named(held, name) },
+    );
 }

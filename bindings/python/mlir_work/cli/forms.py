@@ -17,7 +17,8 @@ PLACE = rf"(?:before|after)[ \t]+#{NUMBER}|(?:start|end)[ \t]+#{NUMBER}[ \t]+{NU
 KEY = r'"(?:[^"\\]|\\(?:[nt"\\]|[0-9A-Fa-f]{2}))*"|[A-Za-z_][A-Za-z0-9_$.]*'
 NAME = r"[^ \t0-9][^ \t]*"
 RULE = r"0*(?:[1-9]|[12][0-9]|30)(?![^ \t])|[^ \t0-9][^ \t]*"
-TRIED = r"(?:0*(?:[1-9]|1[0-9]|2[0-4])(?![^ \t,])|[^ \t0-9,][^ \t,]*)"
+NUMBER_TRIED = "0*(?:[1-9]|1[0-9]|2[0-4])"
+TRIED = rf"(?:{NUMBER_TRIED}(?:-{NUMBER_TRIED})?(?![^ \t,])|[^ \t0-9,][^ \t,]*)"
 RULES = rf"{TRIED}(?:,{TRIED})*(?![^ \t])"
 # A pattern for each variable word of a form, and a sentence about it.
 PARTS = {
@@ -30,8 +31,8 @@ PARTS = {
     "VALUE": (VALUE, "a value is %vN.K, result K of #N, or %aN.R.K, argument K of the block of its region R"),
     "PLACE": (PLACE, "a place is `before #N`, `after #N`, `start #N R` or `end #N R`"),
     "RULE": (RULE, "a rule is a number from 1 to 30, a word, as drop-zero, or the name of a pattern"),
-    "RULES": (RULES, "rules are numbers from 1 to 24, words, or names of patterns, in the order to try them, with "
-              "commas and no blanks, as 4,drop-one"),
+    "RULES": (RULES, "rules are numbers from 1 to 24, ranges as 4-9, words, or names of patterns, in the order to "
+              "try them, with commas and no blanks, as 4,drop-one"),
     "REFUSAL": (r"[0-9]+|[A-Z][A-Za-z0-9]*", "a refusal is a number or a word, as 22 or HasUses"),
     "KEY": (KEY, 'a key is a bare identifier, or a string as "a b"'),
 }

@@ -3,7 +3,7 @@ use Rattle.std.specs.Prelude.{option_map}
 use Rattle.ir_event.specs.types.declared.refusal.Refusal.TheVariants.{Full, Memory}
 use Rattle.mlir_work_transforms.specs.greedy.Changes.{rewriting}
 use Rattle.mlir_work_transforms.specs.greedy.PatternSet.{by_rules}
-use Rattle.mlir_work_script_base.specs.RuleNames.{names_of}
+use Rattle.mlir_work_registry.specs.RuleLists.{names_of}
 use Rattle.mlir_work_session.specs.Machine.{limit_or, session_setting}
 use Rattle.mlir_work_session.proofs.Fulfilling.{fulfils_forgot, fulfils_told, fulfils_untold, told_named}
 use Rattle.mlir_work_session.proofs.Room.{other_room, rules_rewrite, traced_room}

@@ -1,17 +1,21 @@
 use Rattle.std.proofs.Common.{◌∙◌, ap, sym}
 use Rattle.std.specs.Prelude.{is_some}
-use Rattle.std.specs.Option.{option_copied}
-use Rattle.mlir_work_script_base.specs.Items.{items_after}
-use Rattle.mlir_work_transforms.specs.Rewriting.{canonical_named}
-use Rattle.mlir_work_transforms.proofs.Chosen.{item_names_none, names_on, rules_after}
+use Rattle.mlir_work_script_base.specs.RuleNames.{name_of}
+use Rattle.mlir_work_registry.specs.RuleLists.{names_left}
+use Rattle.mlir_work_transforms.specs.Rewriting.{each_rule}
+use Rattle.mlir_work_transforms.proofs.Chosen.{item_names_none, names_on}
 use Rattle.mlir_work_transforms.proofs.rewrite.are_named.Goals as goal
 
-pub items-preserved : goal.items-preserved
-items-preserved c =
-    names_on _ c.split_item.result.0.now (items_after (option_copied c.split_item.result.1)) _ _ c.split_item.ensures.items (c.in-Some-canonical_named.ensures ∙ ap canonical_named c.name_in.ensures)
-    (c.items.invariant ∙ ap (λ o. is_some (rules_after (option_copied o))) c.in-Some.is)
+pub names-init : goal.names-init
+names-init c = ap (λ ns. is_some (each_rule ns)) (sym c.names_in-names.ensures)
+
+pub names-preserved : goal.names-preserved
+names-preserved c =
+    names_on _ (name_of c.in-Some.name) (names_left c.next_name.new.names) (names_left c.names.names) _ c.in-Some.ensures c.in-Some-canonical_named.ensures c.names.invariant
 
 pub returns-in_default-canonical_named : goal.returns-in_default-canonical_named
 returns-in_default-canonical_named c =
-    sym (c.items.invariant ∙ ap (λ o. is_some (rules_after (option_copied o))) c.in-Some.is
-    ∙ ap (λ o. is_some o) (item_names_none c.split_item.result.0.now (items_after (option_copied c.split_item.result.1)) _ c.split_item.ensures.items (c.in_default-canonical_named.ensures ∙ ap canonical_named c.name_in.ensures)))
+    sym (c.names.invariant ∙ ap (λ o. is_some o) (item_names_none (name_of c.in-Some.name) (names_left c.next_name.new.names) (names_left c.names.names) c.in-Some.ensures c.in_default-canonical_named.ensures))
+
+pub returns : goal.returns
+returns c = sym (c.names.invariant ∙ ap (λ ns. is_some (each_rule ns)) c.in_default.ensures)

@@ -1,7 +1,7 @@
 use Rattle.std.proofs.Common.{◌≡◌, Some, sym}
-use Rattle.mlir_work_script_base.specs.RuleNames.{names_of}
+use Rattle.mlir_work_registry.specs.RuleLists.{names_of, opened}
 use Rattle.mlir_work_registry.specs.Registry.{registry_model}
-use Rattle.mlir_work_transforms.specs.RuleLists.{all_listed}
+use Rattle.mlir_work_transforms.specs.RuleLists.{all_listed, has_canon}
 use Rattle.mlir_work_transforms.specs.Views.{listed_views}
 use Rattle.mlir_work_transforms.proofs.Joined.{all_may}
 use Rattle.mlir_work_transforms.proofs.rule_list.parse_rule_list.Goals as goal
@@ -15,4 +15,4 @@ returns-in-Ok-clause-mixed c =
     let names = names_of c.args.list.now in
     let ls = listed_views c.in-Ok-Some.listed.items in
     let all : all_listed registry names ≡ Some ls = sym (rw c.in-Ok-Some.field-0-is at c.in-Ok-Some.ensures.listed) in
-    (ls, all, rw c.deref.ensures.value at c.in-Ok.ensures, all_may registry names ls all)
+    (ls, all, rw c.deref.ensures.value at c.in-Ok.ensures, all_may registry (opened (has_canon registry) names) ls all)
