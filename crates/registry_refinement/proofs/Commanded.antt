@@ -18,7 +18,7 @@ use Rattle.greedy.specs.Changes as changes
 use Rattle.greedy.specs.Rewriting.{rewriting_of}
 use Rattle.greedy.specs.PatternSet.{RuleOrPatternModel, OfOwn, OfRule, by_attempts, by_rules}
 use Rattle.patterns_refinement.specs.Keeping.{IsReady}
-use Rattle.patterns_refinement.specs.Runs.{KeptAreKept, kept_rules}
+use Rattle.patterns_refinement.specs.Runs.{KeptAreKept}
 use Rattle.patterns_refinement.specs.Canonical.{CanonicalizationKeeps, IsPlain}
 use Rattle.patterns_refinement.specs.Refining.{CanonRefines}
 use Rattle.patterns_refinement.specs.ForOutcomes.{CanonStaysInRange, IsInRange, RulesStayInRange, applied}

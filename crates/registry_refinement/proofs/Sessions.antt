@@ -1,30 +1,29 @@
 -- Lines of a session that apply noted patterns and listed rules.
-use Rattle.std.proofs.Common.{◌≡◌, ◌∙◌, ℕ, zero, suc, Bool, true, false, ◌||◌, true≢false, List, [], ◌∷◌, Option, Some, None, refl, sym, ap, subst, inl, inr}
-use Rattle.std.specs.Prelude.{if◌then◌else◌, is_some, option_and_then, option_map}
+use Rattle.std.proofs.Common.{◌≡◌, ℕ, zero, suc, Bool, true, false, ◌||◌, true≢false, List, [], ◌∷◌, Option, Some, None, refl, sym, ap, subst, inl, inr}
+use Rattle.std.specs.Prelude.{is_some, option_and_then, option_map}
 use Rattle.std.proofs.lemmas.Option.{none-some, same_Some}
 use Rattle.ir_event.specs.tree_laws.Members.{In}
 use Rattle.rewriter_machine.specs.Machine as call
 use Rattle.rewriter_machine.specs.Machine.{Nothing, Shows, State, Transformation}
-use Rattle.rewriter_machine.specs.Commands.{AppliesRule, Apply, Ask, Asked, Canon, Follows, Misplaced, Response, RuleName}
+use Rattle.rewriter_machine.specs.Commands.{AppliesRule, Apply, Ask, Asked, Follows, Response, RuleName}
 use Rattle.patterns_base.specs.declared.rule.Rule.{Rule}
-use Rattle.greedy.specs.Changes.{canonicalizing, rewriting}
+use Rattle.greedy.specs.Changes.{rewriting}
 use Rattle.greedy.specs.PatternSet.{OfOwn, OfRule, by_rules}
 use Rattle.patterns_refinement.specs.Keeping.{IsReady}
 use Rattle.patterns_refinement.specs.Runs.{kept_rules}
-use Rattle.patterns_refinement.specs.Canonical.{IsPlain}
 use Rattle.patterns_refinement.specs.ForOutcomes.{IsInRange}
 use Rattle.user_patterns_registry.specs.Registry.{RegistryModel, Kept}
-use Rattle.mlir_work_script.specs.Commands.{Spoken, Nothing as Empty, Bad, Obey, Ordered, Registered}
+use Rattle.mlir_work_script.specs.Commands.{Nothing as Empty, Bad, Obey, Ordered, Registered}
 use Rattle.mlir_work_script.specs.RegistryCommands.{RegistryCommand}
-use Rattle.mlir_work_script.specs.SessionCommands.{Rewrite, SessionCommand, Trace}
+use Rattle.mlir_work_script.specs.SessionCommands.{Rewrite, Trace}
 use Rattle.mlir_work_registry.specs.Notices.{Notice}
 use Rattle.mlir_work_registry.specs.Registries.{Registries}
 use Rattle.mlir_work_transforms.specs.Applying.{applying, rule_named}
 use Rattle.mlir_work_transforms.specs.Rewriting.{canonical_named, rewriting_named, rules_named}
 use Rattle.mlir_work_transforms.specs.RuleLists.{mixing, names_own, pattern_named}
-use Rattle.mlir_work_session.specs.Machine.{RunsCommand, RunsSessionCommand, SessionSetting, limit_or}
+use Rattle.mlir_work_session.specs.Machine.{SessionSetting, limit_or}
 use Rattle.mlir_work_session.specs.Output.{Replies}
-use Rattle.mlir_work_session.specs.RuleLists.{ListCommand, Mixes, RunsListCommand, list_command_change, list_command_if}
+use Rattle.mlir_work_session.specs.RuleLists.{Mixes, RunsListCommand, list_command_if}
 use Rattle.mlir_work_session.specs.Sittings.{RunsPatternCommand, Sitting}
 use Rattle.registry_refinement.specs.Noted.{IsReached, Leads}
 use Rattle.registry_refinement.specs.Commands.{AreNotedNames, ApplyCommandRefines, CanonCommandRefines, IsNotedName, IsRefinement, RewriteCommandRefines, RulesCommandRefines}

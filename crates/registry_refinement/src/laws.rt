@@ -10,8 +10,9 @@ use patterns_refinement::proved::{
     modules_stay_in_range, proved_patterns_refine, samples_hold_for_all_outcomes,
 };
 use patterns_refinement::refined::observed_operations_are_refined;
-use patterns_refinement::rule_refinement::canonicalization_keeps_what_is_computed;
-use patterns_refinement::rule_refinement::listed_rules_keep_what_is_computed;
+use patterns_refinement::rule_refinement::{
+    canonicalization_keeps_what_is_computed, listed_rules_keep_what_is_computed,
+};
 use user_patterns_registry::laws::what_is_defined_is_ready;
 use user_patterns_widths::laws::polynomials_keep;
 
