@@ -19,12 +19,12 @@ ghost use Rattle.mlir_work_run.specs.Live.{exit_of, halt_of, halted_of, whole_li
 ghost use Rattle.mlir_work_run.specs.Whole.{IsOutput, IsWorldOf, Setting, WhyNot, module_cause, setting_with};
 ghost use Rattle.rewriter_machine.specs.Journals.{TracksRemovedKeys, HasNoStaleIds};
 
+use crate::feed::{LineError, take_line};
+use crate::parts::take_module;
 use crate::run::{Options, ParseError, hold, no_memory, refuse, session_options_of, tree_of};
 use ir_event::analysis::Analysis;
 use ir_event::types::refusal::Refusal;
 use ir_event::world::World;
-use crate::feed::{LineError, take_line};
-use crate::parts::take_module;
 use mlir_work_session::Bench;
 use mlir_work_session::analysis_source::AnalysisSource;
 use mlir_work_session::input::{MAX_INPUT_BYTES, MAX_SCRIPT_BYTES};
