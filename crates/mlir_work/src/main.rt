@@ -269,7 +269,7 @@ fn run_named(
 }
 
 /// Answers each line of standard input at once, with the program's analyses, in the order of their kinds, and user
-/// patterns. Returns the status.
+/// patterns. Returns the status, which is also 4 if a line is too long or memory ran out for one.
 fn answer_lines(
     rt: &HostRuntime,
     options: Options,
@@ -283,7 +283,7 @@ fn answer_lines(
     let mut reader = Watched::new(rt.stdin());
     let mut writer = Watched::new(writer);
     let key = key_of(rt);
-    Ok(run_live(
+    let ran = run_live(
         rt.alloc(),
         key,
         options,
@@ -291,7 +291,8 @@ fn answer_lines(
         &mut writer,
         listeners,
         registry,
-    ))
+    );
+    Ok(ran.unwrap_or(4))
 }
 
 /// Runs as the command line says, with the user patterns that it names. Returns the status.

@@ -1,15 +1,18 @@
 -- Proofs about an input up to a line.
-use Rattle.std.proofs.Common.{◌≡◌, ◌∙◌, sym, ap, subst, refl, ℕ, ◌≤◌, List, [], ◌∷◌, ◌++◌, length, length-append, append_assoc, append-nil, arith, Bool, true, false, ◌&&◌, ◌⊎◌, inl, inr, Option, Some, None}
+use Rattle.std.proofs.Common.{◌≡◌, ◌∙◌, sym, ap, subst, refl, ℕ, ◌≤◌, List, [], ◌∷◌, ◌++◌, length, length-append, append_assoc, append-nil, arith, Bool, true, false, ◌&&◌, ◌⊎◌, inl, inr, Option, Some, None, Result, Ok, Err}
 use Rattle.std.specs.Prelude.{IfSome, codes}
 use Rattle.std.specs.Str.{bytes_eq}
 use Rattle.mlir_work_session.specs.Lines.{is_newline, line_of, after_line}
 use Rattle.mlir_work_session.specs.Panels.{Shown}
 use Rattle.mlir_work_session.specs.Parts.{IsSplit, at_divider, module_from, module_text, script_from, script_text}
+use Rattle.mlir_work_session.specs.Reads.{Intake}
 use Rattle.mlir_work_session.specs.Writes.{Stream, joined}
 use Rattle.mlir_work_session.proofs.Dividing.{divided}
-use Rattle.mlir_work_run.specs.Live.{AreFirst, IsLiveOf, IsWholeUpTo, LiveEndedAt, up_to, whole_lines}
+use Rattle.mlir_work_run.specs.Live.{Anywhere, AreFirst, BeforeTooLong, IsLiveOf, IsUpTo, IsWholeUpTo, LiveEndedAt, MayStop, up_to, whole_lines}
 use Rattle.mlir_work_run.specs.Whole.{Setting}
-use Rattle.mlir_work_run.proofs.Lives.{FirstOf, IsWhole, first_of}
+use Rattle.mlir_work_run.specs.declared.live.Unanswered.{Unanswered}
+use Rattle.mlir_work_run.specs.declared.live.Unanswered.TheVariants.{Memory as LineMemory, TooLong as LineTooLong}
+use Rattle.mlir_work_run.proofs.Lives.{FirstOf, IsWhole, before_lines, first_of, joined_both}
 use Rattle.mlir_work_run.proofs.Within.{joined_same, live_whole}
 
 -- ---- lines
@@ -37,10 +40,6 @@ again_first line lines bs others e (inr (first, is, cut, whole)) ih =
 lines_again : (lines : List (List ℕ)) (bs : List ℕ) (others : List (List ℕ)) → whole_lines bs ≡ lines ++ others → whole_lines (joined lines) ≡ lines
 lines_again [] bs others e = refl
 lines_again (line ∷ lines) bs others e = again_first line lines bs others e (first_of bs) (λ rest k. lines_again lines rest others k)
-
-joined_both : (xs ys : List (List ℕ)) → joined (xs ++ ys) ≡ joined xs ++ joined ys
-joined_both [] ys = refl
-joined_both (x ∷ xs) ys = ap (λ (zs : List ℕ). x ++ zs) (joined_both xs ys) ∙ sym (append_assoc x (joined xs) (joined ys))
 
 -- ---- a module without a script
 
@@ -147,12 +146,18 @@ module _ (setting : Setting) (boxes : List Shown) (input : List ℕ) where
       let b = begins input lines first in
       live_whole setting boxes new status out (let l = b.3 in omega (arith, l, short)) (rw (b.2) few) (rw (b.0, b.1) live)
 
-  so_at : (a b : Stream) (handed : Bool) (status : ℕ) → LiveEndedAt (IsLiveOf setting boxes input) (whole_lines (script_text input)) a b handed status → LiveEndedAt (IsWholeUpTo setting boxes input) (whole_lines (script_text input)) a b handed status
-  so_at a b handed status (inl (final, (o, p, h, on))) = inl (final, (o, live_up_to (whole_lines (script_text input)) status o ([], sym (append-nil (whole_lines (script_text input)))) p, h, on))
-  so_at a b handed status (inr (four, inl (on, inl h))) = inr (four, inl (on, inl h))
-  so_at a b handed status (inr (four, inl (on, inr (lines, st, o, first, p, h)))) = inr (four, inl (on, inr (lines, st, o, first, live_up_to lines st o first p, h)))
-  so_at a b handed status (inr (four, inr (lines, st, o, first, p, h))) = inr (four, inr (lines, st, o, first, live_up_to lines st o first p, h))
+  -- the same of the first lines after which a live run stops
+  stops_so : (May : MayStop) (a b : Stream) → IsUpTo May (IsLiveOf setting boxes input) (whole_lines (script_text input)) a b → IsUpTo May (IsWholeUpTo setting boxes input) (whole_lines (script_text input)) a b
+  stops_so May a b (lines, st, o, first, may, p, h) = (lines, st, o, first, may, live_up_to lines st o first p, h)
 
-pub live_at_whole : (setting : Setting) (boxes : List Shown) (o : Option (List ℕ)) (a b : Stream) (handed : Bool) (status : ℕ) → IfSome o (λ input. LiveEndedAt (IsLiveOf setting boxes input) (whole_lines (script_text input)) a b handed status) → IfSome o (λ input. LiveEndedAt (IsWholeUpTo setting boxes input) (whole_lines (script_text input)) a b handed status)
-live_at_whole setting boxes None a b handed status h = tt
-live_at_whole setting boxes (Some input) a b handed status h = so_at setting boxes input a b handed status h
+  so_at : (left : Intake) (a b : Stream) (handed : Bool) (r : Result ℕ Unanswered) → LiveEndedAt (before_lines input) (IsLiveOf setting boxes input) (whole_lines (script_text input)) left a b handed r → LiveEndedAt (before_lines input) (IsWholeUpTo setting boxes input) (whole_lines (script_text input)) left a b handed r
+  so_at left a b handed (Ok status) (inl (final, (o, p, h, on))) = inl (final, (o, live_up_to (whole_lines (script_text input)) status o ([], sym (append-nil (whole_lines (script_text input)))) p, h, on))
+  so_at left a b handed (Ok status) (inr (four, inl (failed, on, inl h))) = inr (four, inl (failed, on, inl h))
+  so_at left a b handed (Ok status) (inr (four, inl (failed, on, inr h))) = inr (four, inl (failed, on, inr (stops_so Anywhere a b h)))
+  so_at left a b handed (Ok status) (inr (four, inr (lines, st, o, first, p, h))) = inr (four, inr (lines, st, o, first, live_up_to lines st o first p, h))
+  so_at left a b handed (Err LineMemory) (on, h) = (on, stops_so Anywhere a b h)
+  so_at left a b handed (Err LineTooLong) (on, h) = (on, stops_so (BeforeTooLong (before_lines input) (whole_lines (script_text input))) a b h)
+
+pub live_at_whole : (setting : Setting) (boxes : List Shown) (o : Option (List ℕ)) (left : Intake) (a b : Stream) (handed : Bool) (r : Result ℕ Unanswered) → IfSome o (λ input. LiveEndedAt (before_lines input) (IsLiveOf setting boxes input) (whole_lines (script_text input)) left a b handed r) → IfSome o (λ input. LiveEndedAt (before_lines input) (IsWholeUpTo setting boxes input) (whole_lines (script_text input)) left a b handed r)
+live_at_whole setting boxes None left a b handed r h = tt
+live_at_whole setting boxes (Some input) left a b handed r h = so_at setting boxes input left a b handed r h

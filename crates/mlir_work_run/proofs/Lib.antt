@@ -6,3 +6,4 @@ pub mod Within
 pub mod Beginnings
 pub use Rattle.mlir_work_session.proofs.Runs
 pub use Rattle.mlir_work_session.proofs.Wider
+pub mod Feeds

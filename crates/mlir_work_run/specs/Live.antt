@@ -1,8 +1,8 @@
 -- The output of a live run: an answer to the module, and an answer to each line before the next is read.
-use Rattle.std.specs.Prelude.{◌≡◌, ◌≤◌, ℕ, ◌+◌, List, [], ◌∷◌, ◌++◌, length, Bool, true, ◌⊎◌, Result, Ok, Err, if◌then◌else◌, codes}
+use Rattle.std.specs.Prelude.{◌≡◌, ◌≤◌, ◌<◌, ◌^◌, ⊤, ℕ, ◌+◌, List, [], ◌∷◌, ◌++◌, length, Bool, true, ◌⊎◌, Result, Ok, Err, if◌then◌else◌, codes}
 use Rattle.ir_event.specs.Modules.{Module}
-use Rattle.mlir_work_script_base.specs.declared.feed.LineError.{LineError}
-use Rattle.mlir_work_script_base.specs.declared.feed.LineError.TheVariants.{Broken, Memory as OutOfMemory, TooMany}
+use Rattle.mlir_work_run.specs.declared.feed.LineError.{LineError}
+use Rattle.mlir_work_run.specs.declared.feed.LineError.TheVariants.{Broken, Memory as OutOfMemory, TooMany}
 use Rattle.mlir_work_session.specs.Commands.{line_says}
 use Rattle.mlir_work_session.specs.Expecting.{line_expects}
 use Rattle.mlir_work_session.specs.Lines.{is_newline, line_of, onto_first}
@@ -18,6 +18,8 @@ use Rattle.mlir_work_run.specs.Ends.{IsFinal}
 use Rattle.mlir_work_run.specs.Whole.{IsOutput, IsTooMany, IsUnparsed, IsWorldOf, Setting, way_at}
 use Rattle.mlir_work_run.specs.declared.live.Halt.{Halt}
 use Rattle.mlir_work_run.specs.declared.live.Halt.TheVariants.{Read as ReadFailed, Write as WriteFailed, Memory as NoMemory, TooLong}
+use Rattle.mlir_work_run.specs.declared.live.Unanswered.{Unanswered}
+use Rattle.mlir_work_run.specs.declared.live.Unanswered.TheVariants.{Memory as LineMemory, TooLong as LineTooLong}
 
 -- the lines of a text, each with its line feed if it has one
 abbrev pub whole_lines : List ℕ → List (List ℕ)
@@ -84,19 +86,42 @@ abbrev pub halted_of : Result ℕ WriteFault → Result ℕ Halt
 halted_of (Ok status) = Ok status
 halted_of (Err e) = Err WriteFailed
 
--- the exit status: 4 if the run ends before its input does
-abbrev pub exit_of : Result ℕ Halt → ℕ
-exit_of (Ok status) = status
-exit_of (Err e) = 4
+-- the exit status: 4 if a read or a write failed; none if the next line isn't there, since it is too long or memory
+-- ran out
+abbrev pub exit_of : Result ℕ Halt → Result ℕ Unanswered
+exit_of (Ok status) = Ok status
+exit_of (Err ReadFailed) = Ok 4
+exit_of (Err WriteFailed) = Ok 4
+exit_of (Err NoMemory) = Err LineMemory
+exit_of (Err TooLong) = Err LineTooLong
 
 -- the first lines of a list
 abbrev pub AreFirst : List (List ℕ) → List (List ℕ) → Type 0
 AreFirst all lines = (others : List (List ℕ)) × (all ≡ lines ++ others)
 
--- the written bytes answer the first lines
-abbrev pub IsUpTo : (List (List ℕ) → ℕ → List ℕ → Type 0) → List (List ℕ) → Stream → Stream → Type 0
-IsUpTo P all old new =
-    (lines : List (List ℕ)) × (status : ℕ) × (out : List ℕ) × AreFirst all lines × P lines status out × Grows old new out
+-- a run may stop after these lines
+abbrev pub MayStop : Type 1
+MayStop = List (List ℕ) → Type 0
+
+-- a run may stop after any line: a read failed, or memory ran out
+abbrev pub Anywhere : MayStop
+Anywhere lines = ⊤
+
+-- a line is longer than a line may be, or the number of bytes so far doesn't fit into 64 bits; `before` bytes were read
+-- before the lines
+abbrev pub IsTooLong : ℕ → List (List ℕ) → List ℕ → Type 0
+IsTooLong before lines line =
+    (most_script_bytes < length line) ⊎ (2 ^ 64 ≤ before + length (joined lines) + length line)
+
+-- a run may stop before a line that is too long
+abbrev pub BeforeTooLong : ℕ → List (List ℕ) → MayStop
+BeforeTooLong before all lines = (line : List ℕ) × AreFirst all (lines ++ line ∷ []) × IsTooLong before lines line
+
+-- the written bytes answer the first lines, after which the run may stop
+abbrev pub IsUpTo : MayStop → (List (List ℕ) → ℕ → List ℕ → Type 0) → List (List ℕ) → Stream → Stream → Type 0
+IsUpTo May P all old new =
+    (lines : List (List ℕ)) × (status : ℕ) × (out : List ℕ)
+    × AreFirst all lines × May lines × P lines status out × Grows old new out
 
 -- a prefix of an answer to the first lines was written, and then a write failed
 abbrev pub IsCutOff : (List (List ℕ) → ℕ → List ℕ → Type 0) → List (List ℕ) → Stream → Stream → Type 0
@@ -106,25 +131,32 @@ IsCutOff P all old new =
 
 -- all lines were answered as `P` says, and the answers were flushed; or only the first lines were answered, with
 -- flushed answers, because a read failed (maybe before anything was written), memory ran out for the next line, or
--- the line is too long; or a write failed
-abbrev pub LiveEnded : (List (List ℕ) → ℕ → List ℕ → Type 0) → List (List ℕ) → Stream → Stream → Bool → Result ℕ Halt → Type 0
-LiveEnded P all old new handed (Ok status) = (out : List ℕ) × P all status out × Grows old new out × (handed ≡ true)
-LiveEnded P all old new handed (Err ReadFailed) = (handed ≡ true) × (Stays old new ⊎ IsUpTo P all old new)
-LiveEnded P all old new handed (Err NoMemory) = (handed ≡ true) × IsUpTo P all old new
-LiveEnded P all old new handed (Err TooLong) = (handed ≡ true) × IsUpTo P all old new
-LiveEnded P all old new handed (Err WriteFailed) = IsCutOff P all old new
+-- the next line is too long; or a write failed. `before` bytes were read before the lines
+abbrev pub LiveEnded : ℕ → (List (List ℕ) → ℕ → List ℕ → Type 0) → List (List ℕ) → Stream → Stream → Bool → Result ℕ Halt → Type 0
+LiveEnded before P all old new handed (Ok status) = (out : List ℕ) × P all status out × Grows old new out × (handed ≡ true)
+LiveEnded before P all old new handed (Err ReadFailed) = (handed ≡ true) × (Stays old new ⊎ IsUpTo Anywhere P all old new)
+LiveEnded before P all old new handed (Err NoMemory) = (handed ≡ true) × IsUpTo Anywhere P all old new
+LiveEnded before P all old new handed (Err TooLong) = (handed ≡ true) × IsUpTo (BeforeTooLong before all) P all old new
+LiveEnded before P all old new handed (Err WriteFailed) = IsCutOff P all old new
 
--- the same in terms of the exit status
-abbrev pub LiveEndedAt : (List (List ℕ) → ℕ → List ℕ → Type 0) → List (List ℕ) → Stream → Stream → Bool → ℕ → Type 0
-LiveEndedAt P all old new handed status =
+-- the same in terms of the exit status. A read or a write failed if the status is 4
+abbrev pub LiveEndedAt : ℕ → (List (List ℕ) → ℕ → List ℕ → Type 0) → List (List ℕ) → Intake → Stream → Stream → Bool → Result ℕ Unanswered → Type 0
+LiveEndedAt before P all left old new handed (Ok status) =
     (IsFinal status × ((out : List ℕ) × P all status out × Grows old new out × (handed ≡ true)))
     ⊎ ((status ≡ 4)
-    × (((handed ≡ true) × (Stays old new ⊎ IsUpTo P all old new)) ⊎ IsCutOff P all old new))
+    × (((left.failed ≡ true) × (handed ≡ true) × (Stays old new ⊎ IsUpTo Anywhere P all old new)) ⊎ IsCutOff P all old new))
+LiveEndedAt before P all left old new handed (Err LineMemory) = (handed ≡ true) × IsUpTo Anywhere P all old new
+LiveEndedAt before P all left old new handed (Err LineTooLong) = (handed ≡ true) × IsUpTo (BeforeTooLong before all) P all old new
 
--- a read failed only if the run ends for that reason
-abbrev pub LiveRead : Intake → Intake → Result ℕ Halt → Type 0
-LiveRead taken left (Ok status) = left.failed ≡ taken.failed
-LiveRead taken left (Err ReadFailed) = left.failed ≡ true
-LiveRead taken left (Err WriteFailed) = left.failed ≡ taken.failed
-LiveRead taken left (Err NoMemory) = left.failed ≡ taken.failed
-LiveRead taken left (Err TooLong) = left.failed ≡ taken.failed
+-- a read or a write failed only if the run ends for that reason; unless a write failed, the output was flushed
+abbrev pub LiveLeaves : Intake → Intake → Stream → Stream → Bool → Result ℕ Halt → Type 0
+LiveLeaves taken left old new handed (Ok status) =
+    IsFinal status × (left.failed ≡ taken.failed) × (new.failed ≡ old.failed) × (handed ≡ true)
+LiveLeaves taken left old new handed (Err ReadFailed) = (left.failed ≡ true) × (new.failed ≡ old.failed) × (handed ≡ true)
+LiveLeaves taken left old new handed (Err WriteFailed) = (left.failed ≡ taken.failed) × (new.failed ≡ true)
+LiveLeaves taken left old new handed (Err NoMemory) = (left.failed ≡ taken.failed) × (new.failed ≡ old.failed) × (handed ≡ true)
+LiveLeaves taken left old new handed (Err TooLong) = (left.failed ≡ taken.failed) × (new.failed ≡ old.failed) × (handed ≡ true)
+
+-- a read or a write failed
+abbrev pub HasFailedLive : Intake → Stream → Type 0
+HasFailedLive left new = (left.failed ≡ true) ⊎ (new.failed ≡ true)

@@ -2,12 +2,16 @@
 //!
 //! - `run` reads the whole input, a module and a script, and then writes the output.
 //! - `live` answers each line at once and flushes the answer before it reads the next line.
+//! - `feed` takes the next line of an input, and `parts` the text of its module: a line is read only after the output
+//!   was flushed.
 //! - `dry_run` runs on bytes in memory and returns only the status.
 //! - `write_refusal` writes the line for a refused module.
 #![tactic(auto)]
 
 pub mod dry_run;
+pub mod feed;
 pub mod live;
+pub mod parts;
 pub mod run;
 mod write_refusal;
 

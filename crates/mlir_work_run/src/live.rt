@@ -1,7 +1,7 @@
 //! Live runs: each line is answered at once, and the answer is flushed before the next line is read.
 ghost use Rattle.std.specs.Prelude.{◌≡◌, ◌≤◌, ◌+◌, ℕ, List, IfErr, IfOk, IfSome, [], length, true};
 ghost use Rattle.ir_event.specs.Modules.{module_in};
-ghost use Rattle.mlir_work_script_base.specs.Feeding.{waiting};
+ghost use Rattle.mlir_work_run.specs.Feeding.{waiting};
 ghost use Rattle.mlir_work_session.specs.RewriterCalls.{AgreesOrStale, state_of};
 ghost use Rattle.mlir_work_session.specs.Commands.{line_says};
 ghost use Rattle.mlir_work_session.specs.Expecting.{line_expects};
@@ -14,17 +14,17 @@ ghost use Rattle.mlir_work_session.specs.Panels.{Shown, all_shown};
 ghost use Rattle.mlir_work_session.specs.Parts.{module_text, script_text};
 ghost use Rattle.mlir_work_session.specs.Ran.{AttachedOut, RanOut};
 ghost use Rattle.mlir_work_session.specs.Sittings.{sitting_of};
-ghost use Rattle.mlir_work_run.specs.Live.{AreFirst, IsLive, IsLiveOf, IsWholeUpTo, Live, LiveEnded, LiveEndedAt, LiveRead, Lives, divider_bytes};
+ghost use Rattle.mlir_work_run.specs.Live.{AreFirst, HasFailedLive, IsLive, IsLiveOf, IsWholeUpTo, Live, LiveEnded, LiveEndedAt, LiveLeaves, Lives, divider_bytes};
 ghost use Rattle.mlir_work_run.specs.Live.{exit_of, halt_of, halted_of, whole_lines};
 ghost use Rattle.mlir_work_run.specs.Whole.{IsOutput, IsWorldOf, Setting, WhyNot, module_cause, setting_with};
 ghost use Rattle.rewriter_machine.specs.Journals.{TracksRemovedKeys, HasNoStaleIds};
 
+use crate::feed::{LineError, take_line};
+use crate::parts::take_module;
 use crate::run::{Options, ParseError, hold, no_memory, refuse, session_options_of, tree_of};
 use ir_event::analysis::Analysis;
 use ir_event::types::refusal::Refusal;
 use ir_event::world::World;
-use mlir_work_script_base::feed::{LineError, take_line};
-use mlir_work_script_base::parts::take_module;
 use mlir_work_session::Bench;
 use mlir_work_session::analysis_source::AnalysisSource;
 use mlir_work_session::input::{MAX_INPUT_BYTES, MAX_SCRIPT_BYTES};
@@ -51,6 +51,17 @@ pub enum Halt {
     /// A write failed.
     #[error("the output couldn't be written")]
     Write,
+    /// Memory ran out for the next line.
+    #[error("there was no memory for a line")]
+    Memory,
+    /// The next line is too long, or the byte count overflows.
+    #[error("a line is too long")]
+    TooLong,
+}
+
+/// Why a live run has no status.
+#[derive(Clone, Copy, Debug, PartialEq, Eq, Error)]
+pub enum Unanswered {
     /// Memory ran out for the next line.
     #[error("there was no memory for a line")]
     Memory,
@@ -156,10 +167,11 @@ fn answer_lines<L: AnalysisSource, R: Source, W: Sink>(
     requires mode { bench.old.transaction.ctx.opaque ≡ options.opaque }
     requires handed { W.handed writer.old ≡ true }
     requires trailing { divider_bytes ≤ before }
-    ensures ended { IfSome (waiting kept.old.items (R.intake reader.old).remaining) (λ script. LiveEnded
+    ensures ended { IfSome (waiting kept.old.items (R.intake reader.old).remaining) (λ script. LiveEnded before
         (Lives (setting_with L.supply options (registry_model registry.old)) before 1 (sitting_of L.meaning bench.old registry.old)) (whole_lines script)
         (W.stream writer.old) (W.stream writer.new) (W.handed writer.new) result) }
-    ensures read { LiveRead (R.intake reader.old) (R.intake reader.new) result }
+    ensures leaves { LiveLeaves (R.intake reader.old) (R.intake reader.new)
+        (W.stream writer.old) (W.stream writer.new) (W.handed writer.new) result }
 {
     let mut read = before;
     let mut n = 1u64;
@@ -206,11 +218,12 @@ fn answer_bench<L: AnalysisSource, R: Source, W: Sink>(
     requires unmarked { open_marks bench.old.transaction ≡ [] }
     requires mode { bench.old.transaction.ctx.opaque ≡ options.opaque }
     requires trailing { divider_bytes ≤ before }
-    ensures ended { IfSome (waiting kept.old.items (R.intake reader.old).remaining) (λ script. LiveEnded
+    ensures ended { IfSome (waiting kept.old.items (R.intake reader.old).remaining) (λ script. LiveEnded before
         (Live (setting_with L.supply options (registry_model registry)) (all_shown L.meaning boxes.items) (module_held bench.old.transaction) before)
         (whole_lines script)
         (W.stream writer.old) (W.stream writer.new) (W.handed writer.new) result) }
-    ensures read { LiveRead (R.intake reader.old) (R.intake reader.new) result }
+    ensures leaves { LiveLeaves (R.intake reader.old) (R.intake reader.new)
+        (W.stream writer.old) (W.stream writer.new) (W.handed writer.new) result }
 {
     let accepted = match begin_live(options.ends, bench, boxes, writer) {
         Ok(accepted) => accepted,
@@ -248,11 +261,12 @@ fn answer_world<L: AnalysisSource, R: Source, W: Sink>(
     requires tidy { HasNoStaleIds world.store }
     requires mode { world.ctx.opaque ≡ options.opaque }
     requires trailing { divider_bytes ≤ before }
-    ensures ended { IfSome (waiting kept.old.items (R.intake reader.old).remaining) (λ script. LiveEnded
+    ensures ended { IfSome (waiting kept.old.items (R.intake reader.old).remaining) (λ script. LiveEnded before
         (Live (setting_with L.supply options (registry_model registry)) (all_shown L.meaning boxes.items) (module_in world) before)
         (whole_lines script)
         (W.stream writer.old) (W.stream writer.new) (W.handed writer.new) result) }
-    ensures read { LiveRead (R.intake reader.old) (R.intake reader.new) result }
+    ensures leaves { LiveLeaves (R.intake reader.old) (R.intake reader.new)
+        (W.stream writer.old) (W.stream writer.new) (W.handed writer.new) result }
 {
     let mut bench = Bench::from_world(alloc, world);
     answer_bench(
@@ -311,10 +325,11 @@ fn answer_text<L: AnalysisSource, R: Source, W: Sink>(
     boxes: Vec<L>,
     registry: PatternRegistry,
 ) -> Result<u8, Halt>
-    ensures ended { IfSome (waiting kept.old.items (R.intake reader.old).remaining) (λ script. LiveEnded
+    ensures ended { IfSome (waiting kept.old.items (R.intake reader.old).remaining) (λ script. LiveEnded (length text.items + divider_bytes)
         (IsLive (setting_with L.supply options (registry_model registry)) (all_shown L.meaning boxes.items) text.items) (whole_lines script)
         (W.stream writer.old) (W.stream writer.new) (W.handed writer.new) result) }
-    ensures read { LiveRead (R.intake reader.old) (R.intake reader.new) result }
+    ensures leaves { LiveLeaves (R.intake reader.old) (R.intake reader.new)
+        (W.stream writer.old) (W.stream writer.new) (W.handed writer.new) result }
 {
     match taken(alloc, key, options.opaque, text) {
         Ok((world, before)) => {
@@ -338,10 +353,11 @@ pub fn answer_live<L: AnalysisSource, R: Source, W: Sink>(
     boxes: Vec<L>,
     registry: PatternRegistry,
 ) -> Result<u8, Halt>
-    ensures ended { IfSome (R.intake reader.old).remaining (λ input. LiveEnded
+    ensures ended { IfSome (R.intake reader.old).remaining (λ input. LiveEnded (length (module_text input) + divider_bytes)
         (IsLiveOf (setting_with L.supply options (registry_model registry)) (all_shown L.meaning boxes.items) input) (whole_lines (script_text input))
         (W.stream writer.old) (W.stream writer.new) (W.handed writer.new) result) }
-    ensures read { LiveRead (R.intake reader.old) (R.intake reader.new) result }
+    ensures leaves { LiveLeaves (R.intake reader.old) (R.intake reader.new)
+        (W.stream writer.old) (W.stream writer.new) (W.handed writer.new) result }
 {
     match flush(writer) {
         Ok(()) => {}
@@ -366,12 +382,15 @@ pub fn answer_live<L: AnalysisSource, R: Source, W: Sink>(
     )
 }
 
-fn exit_status(ended: Result<u8, Halt>) -> u8
+/// Returns the exit status of a run, or why the next line isn't there.
+fn exit_status(ended: Result<u8, Halt>) -> Result<u8, Unanswered>
     ensures { result ≡ exit_of ended }
 {
     match ended {
-        Ok(status) => status,
-        Err(_) => 4,
+        Ok(status) => Ok(status),
+        Err(Halt::Read | Halt::Write) => Ok(4),
+        Err(Halt::Memory) => Err(Unanswered::Memory),
+        Err(Halt::TooLong) => Err(Unanswered::TooLong),
     }
 }
 
@@ -389,11 +408,11 @@ pub fn live_runs_are_whole()
 {}
 
 /// Runs as `answer_live` does, and returns the exit status: 0 if all lines were accepted, 1 if a command or a
-/// listener was refused, 3 if the module was refused, and 4 if a read or write failed, a line is too long or memory
-/// ran out for a line.
+/// listener was refused, 3 if the module was refused, and 4 only if a read or a write failed.
 ///
-/// With status 4 all earlier answers were written and flushed, or a prefix of them if a write failed. The output
-/// doesn't depend on the key with which names are hashed.
+/// Errors: the next line is too long, or memory ran out for it. All earlier answers were then written and flushed.
+/// With status 4 they were, too, or a prefix of them if a write failed. The output doesn't depend on the key with
+/// which names are hashed.
 pub fn run_live<L: AnalysisSource, R: Source, W: Sink>(
     alloc: Global,
     key: u64,
@@ -402,13 +421,14 @@ pub fn run_live<L: AnalysisSource, R: Source, W: Sink>(
     writer: &mut W,
     boxes: Vec<L>,
     registry: PatternRegistry,
-) -> u8
-    ensures live { IfSome (R.intake reader.old).remaining (λ input. LiveEndedAt
+) -> Result<u8, Unanswered>
+    ensures live { IfSome (R.intake reader.old).remaining (λ input. LiveEndedAt (length (module_text input) + divider_bytes)
         (IsLiveOf (setting_with L.supply options (registry_model registry)) (all_shown L.meaning boxes.items) input) (whole_lines (script_text input))
-        (W.stream writer.old) (W.stream writer.new) (W.handed writer.new) result) }
-    ensures whole { IfSome (R.intake reader.old).remaining (λ input. LiveEndedAt
+        (R.intake reader.new) (W.stream writer.old) (W.stream writer.new) (W.handed writer.new) result) }
+    ensures whole { IfSome (R.intake reader.old).remaining (λ input. LiveEndedAt (length (module_text input) + divider_bytes)
         (IsWholeUpTo (setting_with L.supply options (registry_model registry)) (all_shown L.meaning boxes.items) input) (whole_lines (script_text input))
-        (W.stream writer.old) (W.stream writer.new) (W.handed writer.new) result) }
+        (R.intake reader.new) (W.stream writer.old) (W.stream writer.new) (W.handed writer.new) result) }
+    ensures fault { IfOk result (λ status. status ≡ 4 → HasFailedLive (R.intake reader.new) (W.stream writer.new)) }
 {
     exit_status(answer_live(alloc, key, options, reader, writer, boxes, registry))
 }

@@ -1,11 +1,11 @@
 use Rattle.std.proofs.Common.{◌∙◌, Ok, Err, ap, refl}
-use Rattle.mlir_work_script_base.specs.Feeding.{waiting}
+use Rattle.mlir_work_run.specs.Feeding.{waiting}
 use Rattle.mlir_work_session.specs.RewriterCalls.{state_of}
 use Rattle.mlir_work_session.specs.Held.{module_held}
 use Rattle.mlir_work_session.specs.Panels.{all_shown}
 use Rattle.mlir_work_session.specs.Registry.{registry_model}
 use Rattle.mlir_work_run.specs.Whole.{setting_with}
-use Rattle.mlir_work_run.proofs.Lives.{begun_cut, after_registry}
+use Rattle.mlir_work_run.proofs.Lives.{begun_cut, after_registry, leaves_after, leaves_worse}
 use Rattle.mlir_work_run.proofs.live.answer_bench.Goals as goal
 
 pub returns-in-Err-clause-ended : goal.returns-in-Err-clause-ended
@@ -25,3 +25,14 @@ returns-clause-ended g c =
 
 pub answer_lines-requires-clause-mode : goal.answer_lines-requires-clause-mode
 answer_lines-requires-clause-mode g c = c.begin_live.ensures.mode ∙ c.requires.mode
+
+pub returns-in-Err-clause-leaves : goal.returns-in-Err-clause-leaves
+returns-in-Err-clause-leaves g c = (refl, c.in-Err.ensures.begun.4.1)
+
+pub returns-in-Ok-answer_lines-clause-leaves : goal.returns-in-Ok-answer_lines-clause-leaves
+returns-in-Ok-answer_lines-clause-leaves g c =
+    let here = leaves_worse (g.R.Source.intake c.args.reader.now) (g.R.Source.intake c.answer_lines.new.reader) (g.W.Sink.stream c.begin_live.new.writer) (g.W.Sink.stream c.answer_lines.new.writer) (g.W.Sink.handed c.answer_lines.new.writer) c.in-Ok.accepted c.in-Ok-answer_lines.status c.worse.result c.worse.ensures c.in-Ok-answer_lines.ensures.leaves in
+    leaves_after (g.R.Source.intake c.args.reader.now) (g.R.Source.intake c.args.reader.now) (g.R.Source.intake c.answer_lines.new.reader) (g.W.Sink.stream c.args.writer.now) (g.W.Sink.stream c.begin_live.new.writer) (g.W.Sink.stream c.answer_lines.new.writer) (g.W.Sink.handed c.answer_lines.new.writer) (Ok c.worse.result) refl c.in-Ok.ensures.begun.2.1 here
+
+pub returns-clause-leaves : goal.returns-clause-leaves
+returns-clause-leaves g c = leaves_after (g.R.Source.intake c.args.reader.now) (g.R.Source.intake c.args.reader.now) (g.R.Source.intake c.answer_lines.new.reader) (g.W.Sink.stream c.args.writer.now) (g.W.Sink.stream c.begin_live.new.writer) (g.W.Sink.stream c.answer_lines.new.writer) (g.W.Sink.handed c.answer_lines.new.writer) (Err c.in-Err-answer_lines.halt) refl c.in-Ok.ensures.begun.2.1 c.in-Err-answer_lines.ensures.leaves

@@ -1,14 +1,12 @@
 use Rattle.mlir_work_session.specs.Registry.{registry_model}
-use Rattle.std.proofs.Common.{◌≡◌, ◌∙◌, ◌+◌, ap, arith, length, refl, sym}
-use Rattle.mlir_work_script_base.specs.Feeding.{waiting}
-use Rattle.mlir_work_script_base.specs.declared.feed.LineError.TheVariants.{TooMany}
+use Rattle.std.proofs.Common.{◌≡◌, ◌≤◌, ◌∙◌, ◌+◌, ◌^◌, Err, ap, arith, length, refl, sym}
+use Rattle.mlir_work_run.specs.Feeding.{waiting}
 use Rattle.mlir_work_session.specs.Sittings.{sitting_of}
 use Rattle.mlir_work_session.specs.Limits.{most_script_bytes}
 use Rattle.mlir_work_session.specs.declared.options.SessionOptions.{SessionOptions}
 use Rattle.mlir_work_session.proofs.Runs.{one_number}
-use Rattle.mlir_work_run.specs.declared.live.Halt.TheVariants.{TooLong}
 use Rattle.mlir_work_run.specs.Whole.{setting_with}
-use Rattle.mlir_work_run.proofs.Lives.{lived_cut, lived_end, lived_halts, lived_none, lived_step}
+use Rattle.mlir_work_run.proofs.Lives.{leaves_after, leaves_end, leaves_halts, lived_cut, lived_end, lived_halts, lived_huge, lived_none, lived_step}
 use Rattle.mlir_work_run.proofs.live.answer_lines.Goals as goal
 
 pub lines-init : goal.lines-init
@@ -17,6 +15,7 @@ lines-init g c = record {
   mode = c.requires.mode;
   handed = c.requires.handed;
   count = (let trailing = c.requires.trailing in omega (arith, trailing));
+  wrote = refl;
   failed = refl;
   lived = lived_none (setting_with g.L.AnalysisSource.supply c.args.options (registry_model c.args.registry.now)) c.args.before (sitting_of g.L.Analysis.meaning c.args.bench.now c.args.registry.now) (waiting c.args.kept.now.items (g.R.Source.intake c.args.reader.now).remaining) (g.W.Sink.stream c.args.writer.now);
 }
@@ -25,10 +24,30 @@ pub returns-in-Ok-None-clause-ended : goal.returns-in-Ok-None-clause-ended
 returns-in-Ok-None-clause-ended g c = lived_end (setting_with g.L.AnalysisSource.supply c.args.options (registry_model c.args.registry.now)) c.args.before (sitting_of g.L.Analysis.meaning c.args.bench.now c.args.registry.now) (waiting c.args.kept.now.items (g.R.Source.intake c.args.reader.now).remaining) (waiting c.lines.kept.items (g.R.Source.intake c.lines.reader).remaining) c.lines.read c.lines.n (sitting_of g.L.Analysis.meaning c.lines.bench c.lines.registry) c.lines.accepted (g.W.Sink.handed c.lines.writer) c.status_of.result (g.W.Sink.stream c.args.writer.now) (g.W.Sink.stream c.lines.writer) c.lines.invariant.lived (c.in-Ok-None.ensures.end c.in-Ok-None.field-0-is) c.lines.invariant.handed c.status_of.ensures
 
 pub returns-in-Err-clause-ended : goal.returns-in-Err-clause-ended
-returns-in-Err-clause-ended g c = lived_halts (setting_with g.L.AnalysisSource.supply c.args.options (registry_model c.args.registry.now)) c.args.before (sitting_of g.L.Analysis.meaning c.args.bench.now c.args.registry.now) (waiting c.args.kept.now.items (g.R.Source.intake c.args.reader.now).remaining) (waiting c.lines.kept.items (g.R.Source.intake c.lines.reader).remaining) c.lines.read c.lines.n (sitting_of g.L.Analysis.meaning c.lines.bench c.lines.registry) c.lines.accepted (g.W.Sink.handed c.lines.writer) (g.W.Sink.stream c.args.writer.now) (g.W.Sink.stream c.lines.writer) c.in-Err.stop c.halt_of.result c.lines.invariant.lived c.lines.invariant.handed c.halt_of.ensures
+unfolding most_script_bytes
+returns-in-Err-clause-ended g c = lived_halts (setting_with g.L.AnalysisSource.supply c.args.options (registry_model c.args.registry.now)) c.args.before (sitting_of g.L.Analysis.meaning c.args.bench.now c.args.registry.now) (waiting c.args.kept.now.items (g.R.Source.intake c.args.reader.now).remaining) (waiting c.lines.kept.items (g.R.Source.intake c.lines.reader).remaining) c.lines.read c.lines.n (sitting_of g.L.Analysis.meaning c.lines.bench c.lines.registry) c.lines.accepted (g.W.Sink.handed c.lines.writer) (g.W.Sink.stream c.args.writer.now) (g.W.Sink.stream c.lines.writer) c.in-Err.stop c.halt_of.result c.lines.invariant.lived c.lines.invariant.handed c.halt_of.ensures c.in-Err.ensures.many
 
 pub returns-in_default-clause-ended : goal.returns-in_default-clause-ended
-returns-in_default-clause-ended g c = lived_halts (setting_with g.L.AnalysisSource.supply c.args.options (registry_model c.args.registry.now)) c.args.before (sitting_of g.L.Analysis.meaning c.args.bench.now c.args.registry.now) (waiting c.args.kept.now.items (g.R.Source.intake c.args.reader.now).remaining) (waiting c.lines.kept.items (g.R.Source.intake c.lines.reader).remaining) c.lines.read c.lines.n (sitting_of g.L.Analysis.meaning c.lines.bench c.lines.registry) c.lines.accepted (g.W.Sink.handed c.lines.writer) (g.W.Sink.stream c.args.writer.now) (g.W.Sink.stream c.lines.writer) TooMany TooLong c.lines.invariant.lived c.lines.invariant.handed refl
+returns-in_default-clause-ended g c =
+    let line = c.in-Ok-Some.line.items in
+    let huge : 2 ^ 64 ≤ c.lines.read + length line = (let long = c.len.ensures in omega (arith, c.in_default.ensures, long)) in
+    lived_huge (setting_with g.L.AnalysisSource.supply c.args.options (registry_model c.args.registry.now)) c.args.before (sitting_of g.L.Analysis.meaning c.args.bench.now c.args.registry.now) (waiting c.args.kept.now.items (g.R.Source.intake c.args.reader.now).remaining) (waiting c.lines.kept.items (g.R.Source.intake c.lines.reader).remaining) (waiting c.take_line.new.kept.items (g.R.Source.intake c.take_line.new.reader).remaining)
+    c.lines.read c.lines.n (sitting_of g.L.Analysis.meaning c.lines.bench c.lines.registry) c.lines.accepted (g.W.Sink.handed c.lines.writer) (g.W.Sink.stream c.args.writer.now) (g.W.Sink.stream c.lines.writer) line c.lines.invariant.lived
+    (rw c.in-Ok-Some.field-0-is at c.in-Ok-Some.ensures.line) (rw c.in-Ok-Some.field-0-is at c.in-Ok-Some.ensures.some) huge c.lines.invariant.handed
+
+pub returns-in-Ok-None-clause-leaves : goal.returns-in-Ok-None-clause-leaves
+returns-in-Ok-None-clause-leaves g c = leaves_end (g.R.Source.intake c.args.reader.now) (g.R.Source.intake c.take_line.new.reader) (g.W.Sink.stream c.args.writer.now) (g.W.Sink.stream c.lines.writer) (g.W.Sink.handed c.lines.writer) c.lines.accepted c.status_of.result c.status_of.ensures (c.in-Ok-None.ensures.failed ∙ c.lines.invariant.failed) c.lines.invariant.wrote c.lines.invariant.handed
+
+pub returns-in-Err-clause-leaves : goal.returns-in-Err-clause-leaves
+returns-in-Err-clause-leaves g c =
+    let here = leaves_halts (g.R.Source.intake c.lines.reader) (g.R.Source.intake c.take_line.new.reader) (g.W.Sink.stream c.lines.writer) (g.W.Sink.stream c.lines.writer) (g.W.Sink.handed c.lines.writer) c.in-Err.stop c.halt_of.result c.halt_of.ensures c.in-Err.ensures.broken refl c.lines.invariant.handed in
+    leaves_after (g.R.Source.intake c.args.reader.now) (g.R.Source.intake c.lines.reader) (g.R.Source.intake c.take_line.new.reader) (g.W.Sink.stream c.args.writer.now) (g.W.Sink.stream c.lines.writer) (g.W.Sink.stream c.lines.writer) (g.W.Sink.handed c.lines.writer) (Err c.halt_of.result) c.lines.invariant.failed c.lines.invariant.wrote here
+
+pub returns-in_default-clause-leaves : goal.returns-in_default-clause-leaves
+returns-in_default-clause-leaves g c = (c.in-Ok-Some.ensures.failed ∙ c.lines.invariant.failed, c.lines.invariant.wrote, c.lines.invariant.handed)
+
+pub returns-in-Err-live_step-clause-leaves : goal.returns-in-Err-live_step-clause-leaves
+returns-in-Err-live_step-clause-leaves g c = (c.in-Ok-Some.ensures.failed ∙ c.lines.invariant.failed, c.in-Err-live_step.ensures.answered.3.1)
 
 pub returns-in-Err-live_step-clause-ended : goal.returns-in-Err-live_step-clause-ended
 unfolding most_script_bytes
@@ -51,6 +70,7 @@ lines-preserved g c =
       kept = c.live_step.ensures.kept;
       mode = c.live_step.ensures.mode ∙ c.lines.invariant.mode;
       handed = c.in-Ok.ensures.handed;
+      wrote = told.2.1 ∙ c.lines.invariant.wrote;
       count = (let had = c.lines.invariant.count in let one = one_number c.lines.n c.in-Ok.told in let next = c.next_number-n.ensures in omega (arith, had, one, next, is, some));
       failed = c.in-Ok-Some.ensures.failed ∙ c.lines.invariant.failed;
       lived = rw (c.next_number-n.ensures, c.accepted_so_far-accepted.ensures) (lived_step (setting_with g.L.AnalysisSource.supply c.args.options (registry_model c.args.registry.now)) c.args.before (sitting_of g.L.Analysis.meaning c.args.bench.now c.args.registry.now) (waiting c.args.kept.now.items (g.R.Source.intake c.args.reader.now).remaining) (waiting c.lines.kept.items (g.R.Source.intake c.lines.reader).remaining) (waiting c.take_line.new.kept.items (g.R.Source.intake c.take_line.new.reader).remaining)
