@@ -119,15 +119,15 @@ def verifier():
 def messages():
     """The sentences of the messages on refused texts: on modules, by the words of refusals; on constructs, by their
     words; on what `--opaque` accepts; and on patterns."""
-    code = source(f"{FRONT}/messages.rt")
+    code = source("crates/mlir_work/src/messages.rt")
     causes = dict(re.findall(r'UnsupportedConstruct::(\w+) => b"([\w-]+)"',
                              source("crates/mlir_work_notes/src/unsupported.rt")))
     found = []
     for name, of in (("wanted", "module"), ("unsupported_expected", "construct"), ("wanted_of_pattern", "pattern")):
         arms = part(code, f"fn {name}(", "\n}\n")
-        for word, text in re.findall(r'(?:\w+::(\w+)|_) =>\s*b"((?:[^"\\]|\\.)*)"', arms):
+        for word, text in re.findall(r'(?:\w+::(\w+)|_) =>\s*b?"((?:[^"\\]|\\.)*)"', arms):
             found.append({"of": of, "word": causes.get(word, word) or "other" * (of == "construct"), "about": text})
-    arrow = re.search(r'b"->".as_slice\(\).*?b"(.*?)"', code, re.S)[1]
+    arrow = re.search(r'b"->".as_slice\(\).*?b?"(expected .*?)"', code, re.S)[1]
     opaque = re.search(r'b"( is not modelled: .*?)"', code, re.S)[1]
     found += [{"of": "pattern", "word": "->", "about": arrow}, {"of": "opaque", "word": "", "about": opaque}]
     return [{**row, "about": re.sub(r"\\(.)", r"\1", row["about"])} for row in found]
