@@ -21,9 +21,9 @@ CONSTANT = b"arith.constant"
 
 
 @functools.lru_cache(maxsize=None)
-def book():
-    """The patterns of patterns/, each a line."""
-    file = pathlib.Path(__file__).resolve().parents[2] / "patterns/arith.patterns"
+def book(name="arith"):
+    """The patterns of a file of patterns/, each a line."""
+    file = pathlib.Path(__file__).resolve().parents[2] / f"patterns/{name}.patterns"
     return [line for line in file.read_text().splitlines() if line and not line.startswith("//")]
 
 

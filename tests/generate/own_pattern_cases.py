@@ -622,6 +622,15 @@ def listed(whole, title):
         whole(text)
 
 
+def of_rules(whole, title):
+    """The patterns of patterns/rules.patterns."""
+    title("rules-as-patterns", "Each rule of `canon` that a pattern can say is right at every width.")
+    book = pattern_lines.book("rules")
+    text = asked(*(f"pattern {line}" for line in book), *(f"check {line.split()[0]}" for line in book))
+    assert script.run(text)[1].count(b" holds\n") == len(book), script.run(text)
+    whole(text)
+
+
 def applied(whole, title):
     """Patterns applied at operations, with marks."""
     shift = "pattern shift arith.muli(%a, c) => arith.shli(%a, log2(c))"
@@ -854,7 +863,8 @@ def unproved(case):
         case(words, text.encode(), answer(words, text.encode()), title=(f"unproved-{name}", sentence))
 
 
-PARTS = (rows, texts, beginnings, checks, listed, applied, registry, lists, rewritten, by_chance, rewritten_by_chance)
+PARTS = (rows, texts, beginnings, checks, listed, of_rules, applied, registry, lists, rewritten, by_chance,
+         rewritten_by_chance)
 
 
 def all_cases(whole, begin, case, title):
