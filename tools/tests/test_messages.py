@@ -57,7 +57,8 @@ def answer(words, folder):
     it = subprocess.run([sys.executable, ROOT / "tools/mlir_work.py", *words], cwd=folder, stdin=subprocess.DEVNULL,
                         stdout=subprocess.PIPE, stderr=subprocess.STDOUT, check=False,
                         env={**os.environ, **more, "MLIR_WORK": " ".join(before), "MLIR_OPT": "no-mlir-opt"})
-    lines = [line for line in it.stdout.decode().splitlines() if "no-mlir-opt" not in line]
+    text = it.stdout.decode().replace(f"Usage: {pathlib.Path(before[0]).name} ", "Usage: mlir_work ")
+    lines = [line for line in text.splitlines() if "no-mlir-opt" not in line]
     return "".join(f"{line}\n" for line in [f"status {it.returncode}", *lines])
 
 

@@ -389,6 +389,10 @@ class Session:
         """Returns the patterns that were defined, in order."""
         return patterns_of(self.command("patterns").shown)
 
+    def forget(self, name: str) -> None:
+        """Removes a pattern, with the answer of its last check. No rollback brings it back."""
+        self.command(f"forget {name}")
+
     def check(self, name: str, width: Optional[int] = None, sampled: bool = False) -> Checked:
         """Checks a pattern for all values, at all widths up to one. If it is sampled, it is checked for edge values and
         random values at a width, which has to be given. A pattern that fails raises nothing."""
