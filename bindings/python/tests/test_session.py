@@ -196,10 +196,6 @@ class Calls(Case):
             traced = s.trace(["never", "double", "twice", "never"])
             self.assertEqual((traced.rewrites, s.unproved), ([], (("never", "empty 8"), ("twice", "unrefuted 64"))))
             self.assertEqual((s.rewrite(["double"]).rewrites, s.unproved), (0, ()))
-        s.forget("twice")
-        self.assertEqual([it.name for it in s.patterns()], ["half", "double", "never"])
-        with self.assertRaises(mlir_work.Refused):
-            s.forget("twice")
             self.assertEqual(s.command("rewrite twice,half").unproved,
                              (("twice", "unrefuted 64"), ("half", "fails 8")))
         self.assertTrue(any(line.startswith('%2 = "arith.addi"(%0, %0)') for line in lines(s)))
@@ -212,6 +208,10 @@ class Calls(Case):
                 s.command(line)
             self.assertEqual((caught.exception.number, caught.exception.at), (number, at), line)
         self.assertEqual(s.close(), 1)
+        s.forget("twice")
+        self.assertEqual([it.name for it in s.patterns()], ["half", "double", "never"])
+        with self.assertRaises(mlir_work.Refused):
+            s.forget("twice")
 
     def test_rewrites(self):
         with session(example("canon")) as s:
