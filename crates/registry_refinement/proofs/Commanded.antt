@@ -32,7 +32,7 @@ use Rattle.mlir_work_transforms.specs.Rewriting.{canonical_named}
 use Rattle.mlir_work_script.specs.RuleLists.{opened}
 use Rattle.mlir_work_transforms.specs.RuleLists.{Listed, all_listed, attempts_in, each_listed, has_canon, listed_named, mixing, or_rule, pattern_named}
 use Rattle.registry_refinement.specs.Noted.{IsNotedIn, NotedApplyRefines, NotedRewriteRefines}
-use Rattle.registry_refinement.specs.Commands.{Answers, ApplyCommandRefines, AreEachNoted, AreNotedNames, CanonCommandRefines, IsNotedName, IsRefinement, RewriteCommandRefines, RulesCommandRefines, application}
+use Rattle.registry_refinement.specs.Commands.{Answers, ApplyCommandRefines, AreEachNoted, CanonCommandRefines, IsNotedName, IsRefinement, RewriteCommandRefines, RulesCommandRefines, application}
 
 -- ---- the module after a call for a transformation
 abbrev Made : Type 0
