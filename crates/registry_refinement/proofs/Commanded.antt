@@ -29,9 +29,10 @@ use Rattle.patterns_refinement.proofs.Refining.{kept_is_refined}
 use Rattle.user_patterns_registry.specs.Registry.{RegistryModel, Kept}
 use Rattle.mlir_work_transforms.specs.Applying.{made_of}
 use Rattle.mlir_work_transforms.specs.Rewriting.{canonical_named}
-use Rattle.mlir_work_transforms.specs.RuleLists.{Listed, all_listed, attempts_in, listed_named, mixing, or_rule, pattern_named}
+use Rattle.mlir_work_script.specs.RuleLists.{opened}
+use Rattle.mlir_work_transforms.specs.RuleLists.{Listed, all_listed, attempts_in, each_listed, has_canon, listed_named, mixing, or_rule, pattern_named}
 use Rattle.registry_refinement.specs.Noted.{IsNotedIn, NotedApplyRefines, NotedRewriteRefines}
-use Rattle.registry_refinement.specs.Commands.{Answers, ApplyCommandRefines, AreNotedNames, CanonCommandRefines, IsNotedName, IsRefinement, RewriteCommandRefines, RulesCommandRefines, application}
+use Rattle.registry_refinement.specs.Commands.{Answers, ApplyCommandRefines, AreEachNoted, CanonCommandRefines, IsNotedName, IsRefinement, RewriteCommandRefines, RulesCommandRefines, application}
 
 -- ---- the module after a call for a transformation
 abbrev Made : Type 0
@@ -117,10 +118,10 @@ one_noted : (b : RegistryModel) (name : RuleName) (l : Listed) (o : Option Kept)
 one_noted b name l None e noted i = let r = rule_listed (canonical_named name) l i in subst (IsNotedIn b) r.2 (noted r.0 r.1)
 one_noted b name l (Some k) e noted i = subst (IsNotedIn b) (ap (λ (l : Listed). l.attempt) (same_Some _ _ i)) (own_noted b name k e noted)
 
-all_noted : (b : RegistryModel) (names : List RuleName) (ls : List Listed) → AreNotedNames b names → all_listed b names ≡ Some ls → (q : RuleOrPatternModel) → In q (attempts_in ls) → IsNotedIn b q
+all_noted : (b : RegistryModel) (names : List RuleName) (ls : List Listed) → AreEachNoted b names → each_listed b names ≡ Some ls → (q : RuleOrPatternModel) → In q (attempts_in ls) → IsNotedIn b q
 all_noted b [] ls noted e q i = absurd (subst (λ ls. In q (attempts_in ls)) (sym (same_Some _ _ e)) i)
 all_noted b (name ∷ names) ls noted e q i =
-    let p = parts_of (listed_named b name) (all_listed b names) ls e in
+    let p = parts_of (listed_named b name) (each_listed b names) ls e in
     elim (subst (λ ls. In q (attempts_in ls)) (sym p.more.whole) i) [
       | inl s ↦ subst (IsNotedIn b) (sym s) (one_noted b name p.first (pattern_named name b) refl (noted name (inl refl)) p.at)
       | inr j ↦ all_noted b names p.more.rest (λ n k. noted n (inr k)) p.more.is q j
@@ -156,7 +157,7 @@ rewrite_command_refines refines b reached names noted limit f mixes s t response
       | inl e ↦ still s.held t.held ready range e
       | inr made ↦
           let r = run_made (rewriting_of (by_attempts (attempts_in x.listed)) limit s.held) t.held made.0 made.1 in
-          refines b reached (attempts_in x.listed) (all_noted b names x.listed noted x.are) limit s.held t.held r.count r.end ready range r.is
+          refines b reached (attempts_in x.listed) (all_noted b (opened (has_canon b) names) x.listed noted x.are) limit s.held t.held r.count r.end ready range r.is
     ]
 
 pub rules_command_refines : KeptAreKept → RulesStayInRange → RulesCommandRefines

@@ -1,5 +1,5 @@
 -- The notes of a registry that registry commands made are true.
-use Rattle.std.proofs.Common.{◌≡◌, ◌∙◌, ℕ, zero, suc, ◌≤◌, Bool, true, false, if◌then◌else◌, List, [], ◌∷◌, ◌++◌, Option, Some, None, Ok, Err, refl, sym, ap, subst, arith, inl, inr}
+use Rattle.std.proofs.Common.{◌≡◌, ◌∙◌, ℕ, zero, suc, ◌≤◌, Bool, true, false, cond, not, if◌then◌else◌, List, [], ◌∷◌, ◌++◌, Option, Some, None, Ok, Err, refl, sym, ap, subst, arith, inl, inr}
 use Rattle.std.proofs.lemmas.Option.{none-some, same_Some}
 use Rattle.std.proofs.lemmas.Slice.Eq.{bytes_eq-Decides}
 use Rattle.user_patterns_check.specs.declared.verdict.Verdict.TheVariants as verdict
@@ -20,10 +20,10 @@ use Rattle.user_patterns_registry.specs.declared.check_result.CheckResult.{Check
 use Rattle.user_patterns_registry.specs.declared.check_result.CheckResult.TheVariants as judgement
 use Rattle.user_patterns_registry.specs.declared.check_result.CheckSummary.{CheckSummary}
 use Rattle.user_patterns_registry.specs.declared.check_result.CheckSummary.TheVariants as said
-use Rattle.user_patterns_registry.specs.Registry.{AreApart, IsRegistry, Kept, NotingKeepsARegistry, RegistryModel, StaysARegistry, added, and_kept, defined, found, is_named, kept_as, kept_of, made_ready, noted, noted_one, room_for, shape_of, variables_of, with_said}
-use Rattle.mlir_work_script.specs.RegistryCommands.{RegistryCommand, Define, Patterns, Check, Sample}
+use Rattle.user_patterns_registry.specs.Registry.{AreApart, ForgettingKeepsARegistry, IsRegistry, Kept, NotingKeepsARegistry, RegistryModel, StaysARegistry, added, and_kept, defined, forgotten, found, is_named, kept_as, kept_of, made_ready, noted, noted_one, room_for, shape_of, variables_of, with_said}
+use Rattle.mlir_work_script.specs.RegistryCommands.{RegistryCommand, Define, Forget, Patterns, Check, Sample}
 use Rattle.mlir_work_registry.specs.Notices.{Notice}
-use Rattle.mlir_work_registry.specs.Registries.{Checks, IsChecked, IsDefined, IsNoted, IsSampledAs, IsShelved, Registries, Samples, said_for}
+use Rattle.mlir_work_registry.specs.Registries.{Checks, Forgets, IsChecked, IsDefined, IsNoted, IsSampledAs, IsShelved, Registries, Samples, said_for}
 use Rattle.registry_refinement.specs.Noted.{Leads, NotesAreTrue}
 
 -- ---- one check
@@ -169,8 +169,17 @@ module _ (name : List ℕ) (told : CheckSummary) where
           let same : j ≡ noted_one name told j = ap (λ b. if b then with_said told j else j) (sym i) in
           (subst IsReady same all.0, subst IsTrue same all.1, more e)
 
+-- ---- a removed pattern
+forgotten_true : (name : List ℕ) (ks : RegistryModel) → AllTrue ks → AllTrue (forgotten name ks)
+forgotten_true name [] all = tt
+forgotten_true name (k ∷ ks) all = go (not (is_named name k)) (forgotten_true name ks all.2)
+  where
+    go : (b : Bool) → AllTrue (forgotten name ks) → AllTrue (cond b (k ∷ forgotten name ks) (forgotten name ks))
+    go true more = (all.0, all.1, more)
+    go false more = more
+
 -- ---- commands
-module _ (stays : StaysARegistry) (noting : NotingKeepsARegistry) where
+module _ (stays : StaysARegistry) (noting : NotingKeepsARegistry) (forgetting : ForgettingKeepsARegistry) where
   abbrev Good : RegistryModel → Type 0
   Good b = IsRegistry b × AllTrue b
 
@@ -200,8 +209,13 @@ module _ (stays : StaysARegistry) (noting : NotingKeepsARegistry) where
       noted_good (IsSampledAs k w) name b c notice bytes k e (λ told s f. absurd (sample_never k w s.0 s.1 (sym s.2 ∙ f))) g is
   samples_good (Some k) name w b c notice bytes e g (inr is) = refused_good b c g is.1.2
 
+  forgets_good : (o : Option Kept) (name : List ℕ) (b c : RegistryModel) (notice : Notice) (bytes : List ℕ) → Good b → Forgets o name b notice bytes c → Good c
+  forgets_good None name b c notice bytes g is = refused_good b c g is.2
+  forgets_good (Some k) name b c notice bytes g is = subst Good (sym is.2) (forgetting b name g.0, forgotten_true name b g.1)
+
   shelved_good : (command : RegistryCommand) (b c : RegistryModel) (notice : Notice) (bytes : List ℕ) → Good b → IsShelved command b notice bytes c → Good c
   shelved_good (Define text) b c notice bytes g is = defined_good text b c notice bytes (defined b text) refl g is
+  shelved_good (Forget name) b c notice bytes g is = forgets_good (found name b) name b c notice bytes g is
   shelved_good Patterns b c notice bytes g is = refused_good b c g is.2
   shelved_good (Check name asked) b c notice bytes g is = checks_good (found name b) name asked b c notice bytes refl g is
   shelved_good (Sample name w) b c notice bytes g is = samples_good (found name b) name w b c notice bytes refl g is

@@ -1,32 +1,34 @@
 -- Lines of a session that apply noted patterns and listed rules.
-use Rattle.std.proofs.Common.{◌≡◌, ℕ, zero, suc, Bool, true, false, ◌||◌, true≢false, List, [], ◌∷◌, Option, Some, None, refl, sym, ap, subst, inl, inr}
-use Rattle.std.specs.Prelude.{is_some, option_and_then, option_map}
+use Rattle.std.proofs.Common.{◌≡◌, ◌∙◌, ◌⊎◌, ℕ, zero, suc, ◌+◌, Bool, true, false, if◌then◌else◌, ◌||◌, true≢false, List, [], ◌∷◌, ◌++◌, Option, Some, None, refl, sym, ap, subst, inl, inr}
+use Rattle.std.specs.Prelude.{codes, is_some, option_and_then, option_map}
 use Rattle.std.proofs.lemmas.Option.{none-some, same_Some}
+use Rattle.std.proofs.lemmas.Slice.Eq.{bytes_eq-Decides}
 use Rattle.ir_event.specs.tree_laws.Members.{In}
 use Rattle.rewriter_machine.specs.Machine as call
 use Rattle.rewriter_machine.specs.Machine.{Nothing, Shows, State, Transformation}
-use Rattle.rewriter_machine.specs.Commands.{AppliesRule, Apply, Ask, Asked, Follows, Response, RuleName}
+use Rattle.rewriter_machine.specs.Commands.{AppliesRule, Apply, Ask, Asked, Follows, Numbered, Response, RuleName, Worded}
 use Rattle.patterns_base.specs.declared.rule.Rule.{Rule}
 use Rattle.greedy.specs.Changes.{rewriting}
 use Rattle.greedy.specs.PatternSet.{OfOwn, OfRule, by_rules}
 use Rattle.patterns_refinement.specs.Keeping.{IsReady}
 use Rattle.patterns_refinement.specs.Runs.{kept_rules}
 use Rattle.patterns_refinement.specs.ForOutcomes.{IsInRange}
-use Rattle.user_patterns_registry.specs.Registry.{RegistryModel, Kept}
+use Rattle.user_patterns_registry.specs.Registry.{RegistryModel, Kept, found}
 use Rattle.mlir_work_script.specs.Commands.{Nothing as Empty, Bad, Obey, Ordered, Registered}
 use Rattle.mlir_work_script.specs.RegistryCommands.{RegistryCommand}
 use Rattle.mlir_work_script.specs.SessionCommands.{Rewrite, Trace}
 use Rattle.mlir_work_registry.specs.Notices.{Notice}
 use Rattle.mlir_work_registry.specs.Registries.{Registries}
 use Rattle.mlir_work_transforms.specs.Applying.{applying, rule_named}
-use Rattle.mlir_work_transforms.specs.Rewriting.{canonical_named, rewriting_named, rules_named}
-use Rattle.mlir_work_transforms.specs.RuleLists.{mixing, names_own, pattern_named}
+use Rattle.mlir_work_script.specs.RuleLists.{canonical_numbers, each_opened, is_canon, numbers_from, opened}
+use Rattle.mlir_work_transforms.specs.Rewriting.{canonical_named, each_rule, rewriting_named, rules_named}
+use Rattle.mlir_work_transforms.specs.RuleLists.{has_canon, mixing, names_own, pattern_named}
 use Rattle.mlir_work_session.specs.Machine.{SessionSetting, limit_or}
 use Rattle.mlir_work_session.specs.Output.{Replies}
 use Rattle.mlir_work_session.specs.RuleLists.{Mixes, RunsListCommand, list_command_if}
 use Rattle.mlir_work_session.specs.Sittings.{RunsPatternCommand, Sitting}
 use Rattle.registry_refinement.specs.Noted.{IsReached, Leads}
-use Rattle.registry_refinement.specs.Commands.{AreNotedNames, ApplyCommandRefines, CanonCommandRefines, IsNotedName, IsRefinement, RewriteCommandRefines, RulesCommandRefines}
+use Rattle.registry_refinement.specs.Commands.{AreEachNoted, AreNotedNames, ApplyCommandRefines, CanonCommandRefines, IsNotedName, IsRefinement, RewriteCommandRefines, RulesCommandRefines}
 use Rattle.registry_refinement.specs.Sessions.{ApplyLineRefines, CanonLinesRefine, IsAppliedName, LinesKeepReached, RewriteLinesRefine}
 use Rattle.registry_refinement.proofs.Commanded.{own_noted, still}
 
@@ -91,15 +93,74 @@ ruled name o rs e = go (canonical_named name) refl o refl e
     go (Some r) i None j e = absurd (none-some rs e)
     go (Some r) i (Some rest) j e = record { first = r; named = i; rest = rest; are = j; whole = same_Some _ _ e }
 
-rules_kept : (b : RegistryModel) (names : List RuleName) (rs : List Rule) → names_own b names ≡ false → AreNotedNames b names → rules_named names ≡ Some rs → (r : Rule) → In r rs → In r kept_rules
-rules_kept b [] rs own noted e r i = absurd (subst (In r) (sym (same_Some _ _ e)) i)
-rules_kept b (name ∷ names) rs own noted e r i =
-    let q = ruled name (rules_named names) rs e in
-    let n = neither (is_some (pattern_named name b)) (names_own b names) own in
+-- the names that `canon` stands for are numbers
+numbered_in : (n k : ℕ) (name : RuleName) → In name (numbers_from n k) → (m : ℕ) × (name ≡ Numbered m)
+unfolding numbers_from
+numbered_in n zero name i = absurd i
+numbered_in n (suc k) name i = elim i [ inl s ↦ (n, s) | inr j ↦ numbered_in (n + 1) k name j ]
+
+in_either : (name : RuleName) (xs ys : List RuleName) → In name (xs ++ ys) → In name xs ⊎ In name ys
+in_either name [] ys i = inr i
+in_either name (x ∷ xs) ys i = elim i [ inl s ↦ inl (inl s) | inr j ↦ elim (in_either name xs ys j) [ inl k ↦ inl (inr k) | inr k ↦ inr k ] ]
+
+record ByCanon (names : List RuleName) (name : RuleName) : Type 0 where
+  pub word : RuleName
+  pub listed : In word names
+  pub canon : is_canon word ≡ true
+  pub number : ℕ
+  pub is : name ≡ Numbered number
+
+opened_first : (c : RuleName) (names : List RuleName) (name : RuleName) (b : Bool) → is_canon c ≡ b → In name (if b then canonical_numbers else (c ∷ [])) → In name (c ∷ names) ⊎ ByCanon (c ∷ names) name
+opened_first c names name true e i = let n = numbered_in 1 24 name i in inr (record { word = c; listed = inl refl; canon = e; number = n.0; is = n.1 })
+opened_first c names name false e i = elim i [ inl s ↦ inl (inl s) | inr j ↦ absurd j ]
+
+opened_in : (names : List RuleName) (name : RuleName) → In name (each_opened names) → In name names ⊎ ByCanon names name
+opened_in [] name i = absurd i
+opened_in (c ∷ names) name i = elim (in_either name (if is_canon c then canonical_numbers else (c ∷ [])) (each_opened names) i) [
+  | inl j ↦ opened_first c names name (is_canon c) refl j
+  | inr j ↦ elim (opened_in names name j) [
+    | inl k ↦ inl (inr k)
+    | inr k ↦ inr (record { word = k.word; listed = inr k.listed; canon = k.canon; number = k.number; is = k.is })
+  ]
+]
+
+none_named : (b : RegistryModel) (names : List RuleName) → names_own b names ≡ false → (name : RuleName) → In name names → pattern_named name b ≡ None
+none_named b [] own name i = absurd i
+none_named b (c ∷ names) own name i =
+    let n = neither (is_some (pattern_named c b)) (names_own b names) own in
+    elim i [ inl s ↦ subst (λ c. pattern_named c b ≡ None) (sym s) (no_pattern (pattern_named c b) n.0) | inr j ↦ none_named b names n.1 name j ]
+
+no_canon : (b : RegistryModel) (names : List RuleName) → names_own b names ≡ false → has_canon b ≡ true → (c : RuleName) → In c names → is_canon c ≡ true → ⊥
+no_canon b names own h (Numbered n) i e = true≢false (sym e)
+no_canon b names own h (Worded word) i e =
+    let none : found word b ≡ None = none_named b names own (Worded word) i in
+    let is : word ≡ codes "canon" = (bytes_eq-Decides word (codes "canon")).0 e in
+    true≢false (sym h ∙ ap (λ w. is_some (found w b)) (sym is) ∙ ap is_some none)
+
+-- no name of an opened list is a pattern's, so each rule is listed
+each_noted : (b : RegistryModel) (names : List RuleName) → names_own b names ≡ false → AreNotedNames b names → (name : RuleName) → In name (each_opened names) → (r : Rule)
+    → canonical_named name ≡ Some r → In r kept_rules
+each_noted b names own noted name i = subst (λ o. IsNotedName o name) (none (opened_in names name i)) (go (has_canon b) refl noted)
+  where
+    none : In name names ⊎ ByCanon names name → pattern_named name b ≡ None
+    none (inl j) = none_named b names own name j
+    none (inr k) = subst (λ name. pattern_named name b ≡ None) (sym k.is) refl
+
+    go : (c : Bool) → has_canon b ≡ c → AreEachNoted b (opened c names) → IsNotedName (pattern_named name b) name
+    go false h noted = noted name i
+    go true h noted = elim (opened_in names name i) [ inl j ↦ noted name j | inr k ↦ absurd (no_canon b names own h k.word k.listed k.canon) ]
+
+rules_in : (names : List RuleName) (rs : List Rule) → each_rule names ≡ Some rs → ((name : RuleName) → In name names → (r : Rule) → canonical_named name ≡ Some r → In r kept_rules) → (r : Rule) → In r rs → In r kept_rules
+rules_in [] rs e noted r i = absurd (subst (In r) (sym (same_Some _ _ e)) i)
+rules_in (name ∷ names) rs e noted r i =
+    let q = ruled name (each_rule names) rs e in
     elim (subst (In r) (sym q.whole) i) [
-      | inl s ↦ subst (λ r. In r kept_rules) (sym s) (subst (λ o. IsNotedName o name) (no_pattern (pattern_named name b) n.0) (noted name (inl refl)) q.first q.named)
-      | inr j ↦ rules_kept b names q.rest n.1 (λ n k. noted n (inr k)) q.are r j
+      | inl s ↦ subst (λ r. In r kept_rules) (sym s) (noted name (inl refl) q.first q.named)
+      | inr j ↦ rules_in names q.rest q.are (λ n k. noted n (inr k)) r j
     ]
+
+rules_kept : (b : RegistryModel) (names : List RuleName) (rs : List Rule) → names_own b names ≡ false → AreNotedNames b names → rules_named names ≡ Some rs → (r : Rule) → In r rs → In r kept_rules
+rules_kept b names rs own noted e = rules_in (each_opened names) rs e (each_noted b names own noted)
 
 rules_change : (o : Option (List Rule)) (limit : ℕ) (f : Transformation) → option_map (λ rs. rewriting (by_rules rs) limit) o ≡ Some f → (rs : List Rule) × (o ≡ Some rs) × (rewriting (by_rules rs) limit ≡ f)
 rules_change None limit f e = absurd (none-some f e)

@@ -18,7 +18,8 @@ use Rattle.user_patterns_registry.specs.declared.check_result.CheckSummary.TheVa
 use Rattle.user_patterns_registry.specs.Registry.{RegistryModel, Kept}
 use Rattle.mlir_work_transforms.specs.Applying.{applying, applying_own}
 use Rattle.mlir_work_transforms.specs.Rewriting.{canonical_named}
-use Rattle.mlir_work_transforms.specs.RuleLists.{mixing, pattern_named}
+use Rattle.mlir_work_script.specs.RuleLists.{opened}
+use Rattle.mlir_work_transforms.specs.RuleLists.{has_canon, mixing, pattern_named}
 use Rattle.registry_refinement.specs.Noted.{IsNotedIn, IsReached, is_covered}
 
 -- the transformation of `apply` at an operation
@@ -31,8 +32,13 @@ abbrev pub IsNotedName : Option Kept → RuleName → Type 0
 IsNotedName (Some k) name = (k.said ≡ Some said.AllWidths) × (is_covered k.shape ≡ true)
 IsNotedName None name = (r : Rule) → canonical_named name ≡ Some r → In r kept_rules
 
+abbrev pub AreEachNoted : RegistryModel → List RuleName → Type 0
+AreEachNoted b names = (name : RuleName) → In name names → IsNotedName (pattern_named name b) name
+
+-- The same for a list in which `canon` stands for the rules 1 to 24, if no pattern is named `canon`. Rules 21 to 24 are
+-- not listed.
 abbrev pub AreNotedNames : RegistryModel → List RuleName → Type 0
-AreNotedNames b names = (name : RuleName) → In name names → IsNotedName (pattern_named name b) name
+AreNotedNames b names = AreEachNoted b (opened (has_canon b) names)
 
 -- Module n is ready and in range, and refines m, as an observer sees it.
 abbrev pub IsRefinement : Module → Module → Type 0

@@ -13,7 +13,7 @@ use patterns_refinement::refined::observed_operations_are_refined;
 use patterns_refinement::rule_refinement::{
     canonicalization_keeps_what_is_computed, listed_rules_keep_what_is_computed,
 };
-use user_patterns_registry::laws::what_is_defined_is_ready;
+use user_patterns_registry::laws::{forgetting_keeps_the_others, what_is_defined_is_ready};
 use user_patterns_widths::laws::polynomials_keep;
 
 /// In the registry of a session, a pattern that is noted as `holds` without a width is proved at every width
@@ -24,6 +24,7 @@ pub fn noted_patterns_are_proved()
     ensures proved { NotedAreProved }
 {
     what_is_defined_is_ready();
+    forgetting_keeps_the_others();
     polynomials_keep();
 }
 
