@@ -207,11 +207,11 @@ class Calls(Case):
             with self.assertRaises(mlir_work.Refused) as caught:
                 s.command(line)
             self.assertEqual((caught.exception.number, caught.exception.at), (number, at), line)
-        self.assertEqual(s.close(), 1)
         s.forget("twice")
         self.assertEqual([it.name for it in s.patterns()], ["half", "double", "never"])
         with self.assertRaises(mlir_work.Refused):
             s.forget("twice")
+        self.assertEqual(s.close(), 1)
 
     def test_rewrites(self):
         with session(example("canon")) as s:

@@ -1,9 +1,10 @@
 -- The JSON output of a run.
-use Rattle.std.specs.Prelude.{◌≡◌, ℕ, List, ◌⊎◌, Option}
-use Rattle.std.specs.Io.KnownBytes.{Appends}
+use Rattle.std.specs.Prelude.{◌≡◌, ℕ, List, ◌⊎◌, Bool, true}
 use Rattle.mlir_work_run.specs.session.Panels.{Shown}
-use Rattle.mlir_work_run.specs.session.Writes.{AppendsFront}
+use Rattle.mlir_work_run.specs.session.Reads.{Intake, IsReadFault, IsReadWhole}
+use Rattle.mlir_work_run.specs.session.Writes.{Grows, GrowsFront, Stream}
 use Rattle.mlir_work_json.specs.Lines.{json_text}
+use Rattle.mlir_work_run.specs.Ends.{IsFinal}
 use Rattle.mlir_work_run.specs.Whole.{IsOutput, Setting}
 
 -- this status and these bytes are the JSON of an output for the input, with these listeners
@@ -11,7 +12,13 @@ abbrev pub IsJsonOutput : Setting → List Shown → List ℕ → ℕ → List �
 IsJsonOutput setting boxes input status json =
     (out : List ℕ) × IsOutput setting boxes input status out × (json ≡ json_text out)
 
--- the JSON of an output was written with its status, or a prefix of it with status 4
-abbrev pub IsTold : ℕ → List ℕ → Option (List ℕ) → Option (List ℕ) → ℕ → Type 0
-IsTold status out old new told =
-    ((told ≡ status) × Appends old new (json_text out)) ⊎ ((told ≡ 4) × AppendsFront old new (json_text out))
+-- the whole input was read before a run with its own status; or a read failed, and the status is 4
+abbrev pub ReadsFor : Intake → Intake → ℕ → Type 0
+ReadsFor taken left status = (IsFinal status × IsReadWhole taken left) ⊎ ((status ≡ 4) × IsReadFault taken left)
+
+-- the JSON of an output was written and flushed, with the output's status; or a prefix of it, and then a write failed,
+-- with status 4
+abbrev pub IsTold : ℕ → List ℕ → Stream → Stream → Bool → ℕ → Type 0
+IsTold status out old new handed told =
+    ((told ≡ status) × Grows old new (json_text out) × (handed ≡ true))
+    ⊎ ((told ≡ 4) × GrowsFront old new (json_text out))
