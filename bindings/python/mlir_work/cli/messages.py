@@ -104,11 +104,11 @@ def named(those):
 
 def unknown_name(words):
     """Returns why a command with these words has no such entry, rule or pattern."""
-    by = {"check": words[1:2], "apply": words[1:2], "why": words[2:3], "rewrite": words[1:2],
-          "canon": words[2:3]}.get(words[0], [])
+    by = {"check": words[1:2], "forget": words[1:2], "apply": words[1:2], "why": words[2:3], "rewrite": words[1:2],
+          "canon": words[2:3]}.get(words[0], words[1:])
     known = {row["word"] for row in table.rows("rules")}
     names = [f"`{it}`" for it in ",".join(by).split(",") if it and it not in known and not it.isdigit()]
-    if words[0] == "check":
+    if words[0] in ("check", "forget", "patterns"):
         return f"found {named(names)}, expected the name of a pattern: define one with `pattern`, or correct the name"
     if words[0] == "drop-attr":
         return (f"found the key `{' '.join(words[2:])}`, expected one of operation {words[1]}: `print` shows its keys")
