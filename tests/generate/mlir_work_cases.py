@@ -1274,6 +1274,11 @@ def command_lines():
     def wrong(words, why):
         GOLDEN.case(words, b"", (2, b"error: " + why))
 
+    def unread(name):
+        """Why a file that can't be read isn't: there is none, or it is a folder or below a device."""
+        there = "this file can't be read: name a file that you may read"
+        return there if name in (".", "/dev/null/x") else "found no such file: correct the name"
+
     for name, words, limit, sentence in (
             ("limit-word", "--limit 5", 5, "`--limit 5` ends `canon` after five rewrites."),
             ("limit-with-equals-sign", "--limit=5", 5, "`--limit=5` is `--limit 5`."),
@@ -1316,8 +1321,8 @@ def command_lines():
 
     title("unreadable-module-file",
           "A word that is no option is a module's file, and one that can't be read is reported.")
-    wrong("--limit 5 6".split(), b"6: it can't be read\n")
-    wrong(["x"], b"x: it can't be read\n")
+    wrong("--limit 5 6".split(), b"6: found no such file: correct the name\n")
+    wrong(["x"], b"x: found no such file: correct the name\n")
     title("unknown-option", "An unknown option is a usage error, which says how to pass it as a value.")
     unexpected("--limit -1", "-1")
     unexpected("-l 5", "-l")
@@ -1373,10 +1378,10 @@ def command_lines():
           "A file of patterns that can't be read is reported before other words are looked at.")
     for words in ("--patterns x", "--patterns=x", "--patterns x y -s z", "--patterns x -o /dev/null/y -e print",
                   "--patterns x --patterns y", "--patterns x --interactive", "--patterns x --format json"):
-        wrong(words.split(), b"x: it can't be read\n")
+        wrong(words.split(), b"x: found no such file: correct the name\n")
     title("pattern-file-of-no-file", "An empty name, `-`, a folder and a path below a device are no files of patterns.")
     for name in ("", "-", ".", "/dev/null/x"):
-        wrong([f"--patterns={name}"], f"{name}: it can't be read\n".encode())
+        wrong([f"--patterns={name}"], f"{name}: {unread(name)}\n".encode())
     title("format-with-interactive-and-patterns", "A usage error is reported before files of patterns are read.")
     wrong("--patterns x --interactive --format json".split(),
           b"the argument '--interactive' cannot be used with '--format <FORMAT>'"
