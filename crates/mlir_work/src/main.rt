@@ -21,7 +21,7 @@ use mlir_work_cli::live::run_live;
 use mlir_work_cli::options::{CommandLine, Format, options_of};
 use mlir_work_cli::positions::line_feeds;
 use mlir_work_cli::reading::PatternFileError;
-use mlir_work_cli::run::{Options, run_watched, tree_of};
+use mlir_work_cli::run::{Options, ParseError, run_watched, tree_of};
 use mlir_work_cli::sink::Sink;
 use mlir_work_cli::source::Source;
 use mlir_work_cli::watched::Watched;
@@ -122,6 +122,12 @@ fn refuse_pattern(
     Ok(2)
 }
 
+/// Returns how many operations are in the module of a text, without the root.
+fn count_in(rt: &HostRuntime, opaque: bool, text: &[u8]) -> Result<u64, ParseError> {
+    let read = tree_of(rt.alloc(), key_of(rt), opaque, text)?;
+    Ok(op_count(&read.1).saturating_sub(1))
+}
+
 /// Prints where and why the module of a file was refused, or how many operations it has if there is no command.
 /// `first` is the line of the file at which the input begins.
 fn comment(
@@ -134,10 +140,9 @@ fn comment(
         return Ok(());
     };
     let (text, script) = split(input);
-    match tree_of(rt.alloc(), key_of(rt), given.options.opaque, text) {
-        Ok((_, tree)) => {
+    match count_in(rt, given.options.opaque, text) {
+        Ok(count) => {
             if script.is_empty() {
-                let count = op_count(&tree).saturating_sub(1);
                 tell(rt, &summary(rt.alloc(), name, count)?);
             }
         }

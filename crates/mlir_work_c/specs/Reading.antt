@@ -70,9 +70,7 @@ WritesItems (Some items) old new count = (count ≡ length items) × (new ≡ ov
 
 -- the same, or memory ran out and nothing is written
 abbrev pub MayWrite : Option (List ℕ) → List ℕ → List ℕ → ℕ → Type 0
-MayWrite None old new count = (count ≡ no_number) × (new ≡ old)
-MayWrite (Some items) old new count =
-    ((count ≡ length items) × (new ≡ over items old)) ⊎ ((count ≡ no_memory) × (new ≡ old))
+MayWrite items old new count = WritesItems items old new count ⊎ ((count ≡ no_memory) × (new ≡ old))
 
 -- all operations of the module, in pre-order
 abbrev pub operations_in : Option Session → Option (List ℕ)

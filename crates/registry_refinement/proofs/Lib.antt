@@ -1,4 +1,0 @@
-pub mod Reached
-pub mod Proving
-pub mod Commanded
-pub mod Sessions

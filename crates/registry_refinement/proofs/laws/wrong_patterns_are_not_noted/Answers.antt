@@ -1,5 +1,0 @@
-use Rattle.registry_refinement.proofs.Proving.{never_noted}
-use Rattle.registry_refinement.proofs.laws.wrong_patterns_are_not_noted.Goals as goal
-
-pub returns : goal.returns
-returns c = never_noted c.noted_patterns_are_proved.ensures.notes c.samples_hold_for_all_outcomes.ensures.refuted
