@@ -1,15 +1,12 @@
 //! Reads the files that the command line names: modules, scripts and user patterns.
 
 use mlir_work_cli::input::{ReadFault, read_all};
-use mlir_work_cli::inputs::{input_of, parts_of};
-use mlir_work_cli::options::CommandLine;
-use mlir_work_cli::reading::{PatternFileError, read_patterns};
+use mlir_work_cli::inputs::inputs_of;
+use mlir_work_cli::options::{CommandLine, STANDARD};
+use mlir_work_cli::reading::{PatternFile, registry_of};
 use mlir_work_cli::registry::PatternRegistry;
 use std::alloc::{AllocError, Global};
 use std::{fs, io};
-
-/// The file name for standard input or standard output.
-const STANDARD: &str = "-";
 
 /// Why there is no input.
 #[derive(Clone, Copy)]
@@ -20,31 +17,6 @@ pub(crate) enum Fault<'a> {
     Unreadable(&'a str),
     /// The file is longer than an input may be.
     TooLong(&'a str),
-}
-
-/// A file of user patterns: its name and its text.
-#[derive(Drop)]
-pub(crate) struct PatternFile<'a> {
-    name: &'a str,
-    text: Vec<u8>,
-}
-
-/// Returns the output file, or `None` for standard output.
-pub(crate) fn output_of<'a>(given: &CommandLine<'a>) -> Option<&'a str> {
-    match given.output {
-        Some(name) => {
-            if name == STANDARD {
-                return None;
-            }
-            Some(name)
-        }
-        None => None,
-    }
-}
-
-/// Returns whether the input comes from files or commands of the command line.
-pub(crate) fn names_any(given: &CommandLine<'_>) -> bool {
-    given.split || given.module.is_some() || !given.scripts.is_empty() || !given.commands.is_empty()
 }
 
 /// Reads an open file to its end.
@@ -92,70 +64,19 @@ fn write_files<'a>(
     Ok(())
 }
 
-/// Appends the commands of the command line to the scripts.
-fn write_commands<'a>(
-    alloc: Global,
-    scripts: &mut Vec<Vec<u8>>,
-    commands: &[&'a str],
-) -> Result<(), Fault<'a>> {
-    for command in commands {
-        let Ok(text) = Vec::from_slice(alloc, command.as_bytes()) else {
-            return Err(Fault::Memory);
-        };
-        if scripts.push(text).is_err() {
-            return Err(Fault::Memory);
-        }
-    }
-    Ok(())
-}
-
-/// Returns the scripts and commands that the command line names.
-fn scripts_of<'a>(rt: &HostRuntime, given: &CommandLine<'a>) -> Result<Vec<Vec<u8>>, Fault<'a>> {
-    let mut scripts = Vec::new(rt.alloc());
-    write_files(rt, &mut scripts, &given.scripts)?;
-    write_commands(rt.alloc(), &mut scripts, &given.commands)?;
-    Ok(scripts)
-}
-
-/// Returns the text of the module, or the texts of all modules with `--split-input-file`.
-fn modules_of<'a>(rt: &HostRuntime, given: &CommandLine<'a>) -> Result<Vec<Vec<u8>>, Fault<'a>> {
-    let text = text_of(rt, given.module.unwrap_or(STANDARD))?;
-    let found = if given.split {
-        parts_of(rt.alloc(), &text)
-    } else {
-        one(rt.alloc(), text)
-    };
-    match found {
-        Ok(modules) => Ok(modules),
-        Err(_) => Err(Fault::Memory),
-    }
-}
-
-/// Returns a list of one text.
-fn one(alloc: Global, text: Vec<u8>) -> Result<Vec<Vec<u8>>, AllocError> {
-    let mut texts = Vec::new(alloc);
-    texts.push(text)?;
-    Ok(texts)
-}
-
 /// Returns the inputs that the command line names, one for each module. Without a module file the module comes from
 /// standard input.
 pub(crate) fn inputs<'a>(
     rt: &HostRuntime,
     given: &CommandLine<'a>,
 ) -> Result<Vec<Vec<u8>>, Fault<'a>> {
-    let modules = modules_of(rt, given)?;
-    let scripts = scripts_of(rt, given)?;
-    let mut inputs = Vec::new(rt.alloc());
-    for module in modules {
-        let Ok(input) = input_of(rt.alloc(), module, &scripts) else {
-            return Err(Fault::Memory);
-        };
-        if inputs.push(input).is_err() {
-            return Err(Fault::Memory);
-        }
+    let text = text_of(rt, given.module.unwrap_or(STANDARD))?;
+    let mut scripts = Vec::new(rt.alloc());
+    write_files(rt, &mut scripts, &given.scripts)?;
+    match inputs_of(rt.alloc(), given.split, text, scripts, &given.commands) {
+        Ok(inputs) => Ok(inputs),
+        Err(_) => Err(Fault::Memory),
     }
-    Ok(inputs)
 }
 
 /// Reads the files of user patterns that the command line names, in order. Here `-` isn't standard input.
@@ -173,27 +94,12 @@ pub(crate) fn pattern_files<'a>(
     Ok(files)
 }
 
-/// Returns the registry of the patterns of these files. If a line is refused, returns the file's name and the line's
-/// error.
-pub(crate) fn registry_from_files<'a>(
-    alloc: Global,
-    files: &[PatternFile<'a>],
-) -> Result<PatternRegistry, (&'a str, PatternFileError)> {
-    let mut registry = PatternRegistry::new(alloc);
-    for file in files {
-        if let Err(unparsed) = read_patterns(alloc, &mut registry, &file.text) {
-            return Err((file.name, unparsed));
-        }
-    }
-    Ok(registry)
-}
-
 /// Builds the registry again from pattern files that were accepted before. The call can fail only if memory runs out.
 pub(crate) fn rebuild_registry(
     alloc: Global,
     files: &[PatternFile<'_>],
 ) -> Result<PatternRegistry, AllocError> {
-    match registry_from_files(alloc, files) {
+    match registry_of(alloc, files) {
         Ok(registry) => Ok(registry),
         Err(_) => Err(AllocError),
     }

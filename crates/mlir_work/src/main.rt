@@ -3,19 +3,17 @@
 
 mod files;
 
-use crate::files::{
-    Fault, PatternFile, inputs, names_any, output_of, pattern_files, rebuild_registry,
-    registry_from_files,
-};
+use crate::files::{Fault, inputs, pattern_files, rebuild_registry};
 use clap::Error;
 use clap::error::ErrorKind;
 use mlir_work_analyses::any_analysis::all_listeners;
 use mlir_work_cli::dry_run::Bytes;
 use mlir_work_cli::error::PatternError;
+use mlir_work_cli::inputs::larger_status;
 use mlir_work_cli::json::run_as_json;
 use mlir_work_cli::live::run_live;
-use mlir_work_cli::options::{CommandLine, Format, options_of};
-use mlir_work_cli::reading::PatternFileError;
+use mlir_work_cli::options::{CommandLine, Format, divider_of, names_any, options_of, output_of};
+use mlir_work_cli::reading::{PatternFile, PatternFileError, registry_of};
 use mlir_work_cli::run::{Options, run_watched};
 use mlir_work_cli::sink::Sink;
 use mlir_work_cli::source::Source;
@@ -135,15 +133,6 @@ fn run_standard(
     run_one(rt, given, patterns, &mut reader, &mut writer)
 }
 
-/// Writes the separator between the outputs of two modules: the divider, or its JSON object.
-fn put_divider<W: Sink>(given: &CommandLine<'_>, writer: &mut W) -> bool {
-    let line: &[u8] = match given.format {
-        Format::Text => b"// -----\n",
-        Format::Json => b"{\"divider\":true}\n",
-    };
-    write(writer, line).is_ok()
-}
-
 /// Runs inputs one after another, each with a new pattern registry. Returns the largest status. Stops if a write
 /// fails.
 fn run_inputs<W: io::Write + Drop>(
@@ -157,7 +146,7 @@ fn run_inputs<W: io::Write + Drop>(
     let mut worst = 0;
     let mut is_first = true;
     for input in inputs {
-        if !is_first && !put_divider(given, &mut writer) {
+        if !is_first && write(&mut writer, divider_of(given.format)).is_err() {
             return Ok(4);
         }
         is_first = false;
@@ -165,9 +154,7 @@ fn run_inputs<W: io::Write + Drop>(
             rest: input.as_slice(),
         };
         let status = run_one(rt, given, patterns, &mut reader, &mut writer)?;
-        if status > worst {
-            worst = status;
-        }
+        worst = larger_status(worst, status);
         if worst == 4 {
             return Ok(4);
         }
@@ -245,7 +232,7 @@ fn run_given(rt: &HostRuntime, given: &CommandLine<'_>) -> Result<u8, AllocError
         Ok(patterns) => patterns,
         Err(fault) => return Ok(refuse_input(rt, &fault)),
     };
-    match registry_from_files(rt.alloc(), &patterns) {
+    match registry_of(rt.alloc(), &patterns) {
         Ok(_) => run_with(rt, given, &patterns),
         Err((name, unparsed)) => Ok(refuse_pattern(rt, name, &unparsed)),
     }

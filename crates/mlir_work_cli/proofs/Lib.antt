@@ -2,3 +2,4 @@ pub mod Told
 mod Joined
 mod Ending
 mod Fronts
+pub mod Parsed

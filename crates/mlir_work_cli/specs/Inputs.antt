@@ -1,5 +1,5 @@
 -- The input that is built from a module and scripts.
-use Rattle.std.specs.Prelude.{ℕ, zero, suc, List, [], ◌∷◌, ◌++◌, Bool, true, nat_lt, length, codes, if◌then◌else◌}
+use Rattle.std.specs.Prelude.{ℕ, map, zero, suc, List, [], ◌∷◌, ◌++◌, Bool, true, nat_lt, length, codes, if◌then◌else◌}
 use Rattle.mlir_work_script_base.specs.Lines.{is_newline, lines_of}
 use Rattle.mlir_work_script_base.specs.Parts.{module_text, script_text}
 
@@ -45,3 +45,8 @@ parts_up_to (suc n) text =
 -- all parts of a text; it has at most as many dividers as bytes
 abbrev pub parts_of : List ℕ → List (List ℕ)
 parts_of text = parts_up_to (length text) text
+
+-- the inputs of a run: the text with all scripts, or each part of it with all scripts
+abbrev pub inputs_of : Bool → List ℕ → List (List ℕ) → List (List ℕ)
+inputs_of split text scripts =
+    map (λ part. input_of part scripts) (if split then parts_of text else text ∷ [])

@@ -2,3 +2,4 @@ pub mod Json
 pub mod Inputs
 pub mod Patterns
 pub mod Readings
+pub mod CommandLines

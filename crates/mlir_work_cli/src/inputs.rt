@@ -1,6 +1,6 @@
-//! Builds one input from a module and scripts.
-ghost use Rattle.std.specs.Prelude.{◌≡◌, ◌++◌, [], ◌∷◌, map, IfOk, List, ℕ};
-ghost use Rattle.mlir_work_cli.specs.Inputs.{divided, ends_line, input_of, is_divided, one_script, parts_of};
+//! Builds the inputs of a run from modules, scripts and commands.
+ghost use Rattle.std.specs.Prelude.{◌≡◌, ◌++◌, [], ◌∷◌, map, max, true, IfOk, List, ℕ};
+ghost use Rattle.mlir_work_cli.specs.Inputs.{divided, ends_line, input_of, inputs_of, is_divided, one_script};
 ghost use Rattle.mlir_work_cli.specs.Inputs.{whole_lines};
 
 use mlir_work_script_base::input::split;
@@ -63,7 +63,7 @@ fn write_scripts(input: &mut Vec<u8>, scripts: &[Vec<u8>]) -> Result<(), AllocEr
 
 /// Builds one input from a text and further scripts. The text is a module, or a module and a script with the divider
 /// between them. The lines of the scripts are appended in order. Without scripts, the input is the text unchanged.
-pub fn input_of(alloc: Global, text: Vec<u8>, scripts: &[Vec<u8>]) -> Result<Vec<u8>, AllocError>
+fn input_of(alloc: Global, text: Vec<u8>, scripts: &[Vec<u8>]) -> Result<Vec<u8>, AllocError>
     ensures { IfOk result (λ input. input.items ≡ input_of text.items (map (λ s. s.items) scripts.now)) }
 {
     if scripts.is_empty() {
@@ -75,30 +75,89 @@ pub fn input_of(alloc: Global, text: Vec<u8>, scripts: &[Vec<u8>]) -> Result<Vec
     Ok(input)
 }
 
-/// Appends a text to a list.
-fn write_part(alloc: Global, parts: &mut Vec<Vec<u8>>, text: &[u8]) -> Result<(), AllocError>
-    ensures { IfOk result (λ _. map (λ s. s.items) parts.new.items
-        ≡ map (λ s. s.items) parts.old.items ++ text.now ∷ []) }
+/// Appends the input of a module and scripts to a list.
+fn write_input(
+    alloc: Global,
+    inputs: &mut Vec<Vec<u8>>,
+    text: &[u8],
+    scripts: &[Vec<u8>],
+) -> Result<(), AllocError>
+    ensures { IfOk result (λ _. map (λ s. s.items) inputs.new.items
+        ≡ map (λ s. s.items) inputs.old.items ++ input_of text.now (map (λ s. s.items) scripts.now) ∷ []) }
 {
     let part = Vec::from_slice(alloc, text)?;
-    parts.push(part)?;
+    let input = input_of(alloc, part, scripts)?;
+    inputs.push(input)?;
     Ok(())
 }
 
-/// Splits a text at the lines that are exactly `// -----` (`mlir-opt --split-input-file`). Returns the modules
-/// between them in order.
-pub fn parts_of(alloc: Global, text: &[u8]) -> Result<Vec<Vec<u8>>, AllocError>
-    ensures { IfOk result (λ parts. map (λ s. s.items) parts.items ≡ parts_of text.now) }
+/// Splits a text at the lines that are exactly `// -----` (`mlir-opt --split-input-file`). Returns an input for each
+/// module between them, in order, with the scripts.
+fn split_inputs(
+    alloc: Global,
+    text: &[u8],
+    scripts: &[Vec<u8>],
+) -> Result<Vec<Vec<u8>>, AllocError>
+    ensures { IfOk result (λ inputs. map (λ s. s.items) inputs.items
+        ≡ inputs_of true text.now (map (λ s. s.items) scripts.now)) }
 {
-    let mut parts = Vec::new(alloc);
+    let mut inputs = Vec::new(alloc);
     let mut rest = text;
     let mut most = text.len();
     'parts: while most > 0 && is_divided(rest) {
         let (module, trailing) = split(rest);
-        write_part(alloc, &mut parts, module)?;
+        write_input(alloc, &mut inputs, module, scripts)?;
         rest = trailing;
         most -= 1;
     }
-    write_part(alloc, &mut parts, rest)?;
-    Ok(parts)
+    write_input(alloc, &mut inputs, rest, scripts)?;
+    Ok(inputs)
+}
+
+/// Appends the commands of the command line to the scripts.
+fn write_commands(
+    alloc: Global,
+    scripts: &mut Vec<Vec<u8>>,
+    commands: &[&str],
+) -> Result<(), AllocError>
+    ensures { IfOk result (λ _. map (λ s. s.items) scripts.new.items
+        ≡ map (λ s. s.items) scripts.old.items ++ map (λ c. c.now) commands.now) }
+{
+    let mut rest = commands;
+    'commands: while let [command, tail @ ..] = rest {
+        let text = Vec::from_slice(alloc, command.as_bytes())?;
+        scripts.push(text)?;
+        rest = tail;
+    }
+    Ok(())
+}
+
+/// Returns the inputs of a run. `text` is the module, or with `split` all modules; each has an input. The lines of all
+/// scripts and then all commands are appended to each module, in order.
+pub fn inputs_of(
+    alloc: Global,
+    split: bool,
+    text: Vec<u8>,
+    scripts: Vec<Vec<u8>>,
+    commands: &[&str],
+) -> Result<Vec<Vec<u8>>, AllocError>
+    ensures { IfOk result (λ inputs. map (λ s. s.items) inputs.items
+        ≡ inputs_of split text.items (map (λ s. s.items) scripts.items ++ map (λ c. c.now) commands.now)) }
+{
+    let mut scripts = scripts;
+    write_commands(alloc, &mut scripts, commands)?;
+    if split {
+        return split_inputs(alloc, &text, &scripts);
+    }
+    let mut inputs = Vec::new(alloc);
+    let input = input_of(alloc, text, &scripts)?;
+    inputs.push(input)?;
+    Ok(inputs)
+}
+
+/// Returns the larger of two statuses: the status of several inputs is the largest.
+pub fn larger_status(worst: u8, status: u8) -> u8
+    ensures { result ≡ max worst status }
+{
+    if status > worst { status } else { worst }
 }

@@ -1,10 +1,11 @@
 //! Reads user patterns from a text, one a line.
-ghost use Rattle.std.specs.Prelude.{◌≡◌, ◌-◌, length, OnErr};
+ghost use Rattle.std.specs.Prelude.{◌≡◌, ◌-◌, [], length, map, IfOk, Ok, OnErr};
 ghost use Rattle.mlir_work_script_base.specs.Lines.{lines_of};
 ghost use Rattle.mlir_work_script_base.specs.Words.{trim};
 ghost use Rattle.user_patterns_text.specs.Refusing.{Returns};
 ghost use Rattle.user_patterns_registry.specs.Registry.{registry_model};
-ghost use Rattle.mlir_work_cli.specs.Patterns.{is_pattern, line_defined, place_of};
+ghost use Rattle.mlir_work_cli.specs.Inputs.{all_lines};
+ghost use Rattle.mlir_work_cli.specs.Patterns.{defined_by, is_pattern, line_defined, place_of};
 ghost use Rattle.mlir_work_cli.specs.Readings.{IsReading};
 
 use mlir_work_script_base::lines::split_line;
@@ -85,4 +86,33 @@ pub fn read_patterns(
         rest = trailing;
     }
     Ok(())
+}
+
+/// A file of user patterns.
+#[derive(Drop)]
+pub struct PatternFile<'a> {
+    /// The name of the file.
+    pub name: &'a str,
+    /// The text of the file.
+    pub text: Vec<u8>,
+}
+
+/// Returns the registry with the patterns of all lines of all files, in order. If a line is refused or memory runs out
+/// for one, returns the file's name and the line's error.
+pub fn registry_of<'a>(
+    alloc: Global,
+    files: &[PatternFile<'a>],
+) -> Result<PatternRegistry, (&'a str, PatternFileError)>
+    ensures { IfOk result (λ registry. defined_by [] (all_lines (map (λ file. file.text.items) files.now)) ≡ Ok (registry_model registry)) }
+{
+    let mut registry = PatternRegistry::new(alloc);
+    let mut rest = files;
+    'files: while let [file, tail @ ..] = rest {
+        match read_patterns(alloc, &mut registry, &file.text) {
+            Ok(()) => {}
+            Err(unparsed) => return Err((file.name, unparsed)),
+        }
+        rest = tail;
+    }
+    Ok(registry)
 }
