@@ -22,6 +22,8 @@ FRONT = "crates/mlir_work_cli/src"
 SCRIPT = "crates/mlir_work_script/src"
 BELOW = "crates/mlir_work_script_base/src"
 READERS = ("command", "session_command", "registry_command", "expected_refusal")
+# Refusals that no command answers.
+UNANSWERED = {"NotEmpty", "NotProved"}
 # Words after the first one of a line, which these files compare in the same way.
 BEHIND = {"at", "limit", "only", "trace", "width"}
 
@@ -117,19 +119,18 @@ def verifier():
 
 
 def messages():
-    """The sentences of the messages on refused texts: on modules, by the words of refusals; on constructs, by their
-    words; on what `--opaque` accepts; and on patterns."""
+    """The sentences of the messages on refused modules: by the words of refusals; on constructs, by their words; and on
+    what `--opaque` accepts."""
     code = source("crates/mlir_work/src/messages.rt")
     causes = dict(re.findall(r'UnsupportedConstruct::(\w+) => b"([\w-]+)"',
                              source("crates/mlir_work_notes/src/unsupported.rt")))
     found = []
-    for name, of in (("wanted", "module"), ("unsupported_expected", "construct"), ("wanted_of_pattern", "pattern")):
+    for name, of in (("wanted", "module"), ("unsupported_expected", "construct")):
         arms = part(code, f"fn {name}(", "\n}\n")
         for word, text in re.findall(r'(?:\w+::(\w+)|_) =>\s*b?"((?:[^"\\]|\\.)*)"', arms):
             found.append({"of": of, "word": causes.get(word, word) or "other" * (of == "construct"), "about": text})
-    arrow = re.search(r'b"->".as_slice\(\).*?b?"(expected .*?)"', code, re.S)[1]
     opaque = re.search(r'b"( is not modelled: .*?)"', code, re.S)[1]
-    found += [{"of": "pattern", "word": "->", "about": arrow}, {"of": "opaque", "word": "", "about": opaque}]
+    found.append({"of": "opaque", "word": "", "about": opaque})
     return [{**row, "about": re.sub(r"\\(.)", r"\1", row["about"])} for row in found]
 
 
@@ -181,7 +182,7 @@ def pages_apart(found):
     """Which of the words have no section in the pages, and which sections are of no word."""
     def titles(page, pattern):
         return re.findall(pattern, source(f"docs/{page}.md"), re.M)
-    numbered = [f"{row['number']} {row['word']}" for row in found["refusals"] if row["word"] != "NotEmpty"]
+    numbered = [f"{row['number']} {row['word']}" for row in found["refusals"] if row["word"] not in UNANSWERED]
     yield from differ("docs/REFUSALS.md", titles("REFUSALS", r"^### (\d+ \w+)$"), numbered)
     rules = [f"{row['number']} `{row['word']}`" for row in found["rules"]]
     yield from differ("docs/CANONICALIZE.md and docs/CONVERT.md", titles("CANONICALIZE", r"^## (\d+ `[\w-]+`): ")
@@ -217,7 +218,7 @@ def tools_apart(found):
                 for word in column(found, "commands") + column(found, "kinds") if word not in typed.first())
     asked = set(typed.behind("help", "help ", ""))
     yield from (f"`help` of the prompt: {word} is missing" for name in ("refusals", "rules", "verifier")
-                for word in column(found, name) if word.lower() not in asked and word != "NotEmpty")
+                for word in column(found, name) if word.lower() not in asked and word not in UNANSWERED)
 
 
 def main():

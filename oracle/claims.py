@@ -1,10 +1,11 @@
-"""Whether claims about bits decide a pattern, which the program under test says, and a judge of what it says: a pattern
-that holds at all widths has no counterexample among the values and poison of its variables at small widths, nor among
-some values of wide types.
+"""What claims about bits, and samples of wide types, say of a pattern that no value up to 8 bits refutes. The program
+under test says it, and what it says is judged here: a pattern that holds at all widths has no counterexample among the
+values and poison of its variables at small widths, nor among some values of wide types; the old side of an empty one is
+never a number there; and a counterexample is one, by both sides at its rows.
 
 Which patterns are decided isn't computed here. If `MLIR_WORK_CLAIMS` in the environment names a program, the program
-checks each pattern, once for each text. Otherwise the patterns of `oracle/decided.txt` are decided, which has those of
-the golden files, without their names."""
+checks each pattern, once for each text. Otherwise `oracle/decided.txt` has the answers for the patterns of the golden
+files, without their names: `holds`, or what a line has after `//`."""
 import functools
 import itertools
 import os
@@ -13,7 +14,7 @@ import subprocess
 
 from . import patterns
 from .folds import width
-from .module import INDEX
+from .module import I1, INDEX
 from .pattern_checks import POISON, Case, is_kept, rows_of, type_variables
 from .pattern_uses import Instance
 from .sampling import edges
@@ -24,10 +25,12 @@ KEPT = pathlib.Path(__file__).resolve().parent / "decided.txt"
 WIDTHS, MOST_CASES = (4, 3, 2, 1), 20000
 # Types at which the edges of their values are tried, and how many cases of each list of types.
 WIDE, MOST_WIDE = (("i", 8), INDEX, ("i", 128)), 1000
+# The widths of type variables that no variable of a counterexample has are at most this, or near the greatest one.
+MOST_FREE = 8
 
 
 class Refuted(Exception):
-    """The program says that a pattern holds at all widths, and a counterexample was found."""
+    """The program says of a pattern what isn't so."""
 
 
 def outcomes_of(instance, is_exhaustive):
@@ -87,6 +90,46 @@ def counterexample(pattern):
     return None
 
 
+def is_number_somewhere(pattern):
+    """Whether the old side is a number in some case."""
+    for instance, numbers in cases_of(pattern):
+        both = Case(instance, dict(zip(pattern.variables, numbers))).both()
+        if both is not None and both[0] is not POISON:
+            return True
+    return False
+
+
+def outcome_of(text):
+    """A type and an outcome, as a row has them."""
+    number, _, ty = text.partition(" : ")
+    if text in ("true", "false"):
+        return I1, int(text == "true")
+    found = INDEX if ty == "index" else ("i", int(ty[1:]))
+    return found, POISON if number == "poison" else int(number) % 2 ** width(found)
+
+
+def is_shown(pattern, rows, types, values):
+    """Whether a counterexample at these types has these rows."""
+    instance = Instance(pattern, types)
+    both = Case(instance, values).both() if instance.is_possible else None
+    return both is not None and not is_kept(*both) and list(rows_of(instance, values, *both)) == list(rows)
+
+
+def is_counterexample(pattern, rows, most):
+    """Whether both sides at the outcomes of the rows give what the rows say, and the new side doesn't refine the old
+    one; `most` is the greatest width of its types."""
+    found = dict(row.split(" ", 1) for row in rows)
+    if list(found) != [*pattern.variables, "old", "new"]:
+        return False
+    outcomes = {name: outcome_of(found[name]) for name in pattern.variables}
+    types = {pattern.types.found(ty): outcomes[name][0] for name, ty in pattern.variables.items()}
+    free = [ty for ty in type_variables(pattern) if ty not in types]
+    values = {name: value for name, (_, value) in outcomes.items()}
+    widths = sorted({*range(1, min(most, MOST_FREE) + 1), most // 4, most // 2, most - 1, most} - {0})
+    return any(is_shown(pattern, rows, {**types, **dict(zip(free, those))}, values)
+               for those in itertools.product([("i", w) for w in widths], repeat=len(free)))
+
+
 def nameless(pattern):
     """The text of a pattern without its name."""
     return patterns.text_of(pattern).partition(" ")[2]
@@ -94,51 +137,77 @@ def nameless(pattern):
 
 @functools.lru_cache(maxsize=None)
 def kept():
-    """The patterns of `decided.txt`."""
-    return frozenset(KEPT.read_text().splitlines()) if KEPT.exists() else frozenset()
+    """The answers of `decided.txt`: a verdict and rows for each pattern."""
+    found = {}
+    for line in KEPT.read_text().splitlines() if KEPT.exists() else ():
+        text, _, told = line.partition(" // ")
+        verdict, *rows = told.split(" | ") if told else ["holds"]
+        found[text] = verdict, rows
+    return found
 
 
-def verdict_of(program, text):
-    """The verdict of the program on a pattern without a name."""
+def answer_of(program, text):
+    """The verdict of the program on a pattern without a name, and its rows."""
     ran = subprocess.run([program, "--brief"], input=f"// -----\npattern p {text}\ncheck p\n".encode(),
                          stdout=subprocess.PIPE, check=False)
     lines = ran.stdout.decode("latin-1").splitlines()
-    return lines[1].removeprefix("2 ") if lines[:1] == ["1 ok"] and len(lines) > 1 else "no verdict"
-
-
-@functools.lru_cache(maxsize=None)
-def is_proved(text):
-    """Whether the program, or else the file, says that a pattern holds at all widths."""
-    program = os.environ.get(VARIABLE)
-    return verdict_of(program, text) == "holds" if program else text in kept()
+    return (lines[1].removeprefix("2 "), lines[2:]) if lines[:1] == ["1 ok"] and len(lines) > 1 else ("no verdict", [])
 
 
 # What was asked in this process, with the answers.
 ASKED = {}
 
 
-def judge(pattern):
-    """Raises `Refuted` if a pattern that the program calls right has a counterexample."""
-    rows = counterexample(pattern)
-    if rows:
-        raise Refuted(f"{patterns.text_of(pattern)}: the program says `holds`, but {', '.join(rows)}")
+def fault_of(pattern, verdict, rows):
+    """What is wrong with an answer, or none."""
+    if verdict == "holds":
+        found = counterexample(pattern)
+        return f"a counterexample: {', '.join(found)}" if found else None
+    if verdict.startswith("fails "):
+        is_one = is_counterexample(pattern, rows, int(verdict.split()[1]))
+        return None if is_one else f"no counterexample: {', '.join(rows)}"
+    return "a number on the old side" if verdict.startswith("empty ") and is_number_somewhere(pattern) else None
 
 
-def is_decided(pattern):
-    """Whether claims about bits prove a pattern at all widths, by the program, whose answer is judged."""
+def judge(pattern, verdict, rows):
+    """Raises `Refuted` if what the program says of a pattern isn't so."""
+    fault = fault_of(pattern, verdict, rows)
+    if fault:
+        raise Refuted(f"{patterns.text_of(pattern)}: the program says `{verdict}`, but there is {fault}")
+
+
+def said_of(pattern, text, known):
+    """What the program, or else the file, says of a pattern, or none if that isn't more than is known."""
+    program = os.environ.get(VARIABLE)
+    if not program:
+        return kept().get(text)
+    verdict, rows = answer_of(program, text)
+    if verdict == known or not (verdict == "holds" or verdict.startswith(("fails ", "empty "))):
+        return None
+    judge(pattern, verdict, rows)
+    return verdict, rows
+
+
+def decision(pattern, known=None):
+    """What claims about bits, and samples, say of a pattern, or none: the program says it, and is judged. `known` is
+    the verdict on all values at small widths."""
     text = nameless(pattern)
     if text not in ASKED:
-        if is_proved(text):
-            judge(pattern)
-        ASKED[text] = is_proved(text)
+        ASKED[text] = said_of(pattern, text, known)
     return ASKED[text]
 
 
+def line_of(text, found):
+    """The line of an answer in `decided.txt`."""
+    verdict, rows = found
+    return text if verdict == "holds" else f"{text} // {' | '.join([verdict, *rows])}"
+
+
 def keep(found):
-    """Writes the patterns that are decided among these, and those that were asked for in this process, if a program was
+    """Writes the answers for these patterns, and for those that were asked for in this process, if a program was
     asked."""
     if not os.environ.get(VARIABLE):
         return
     for pattern in found:
-        is_decided(pattern)
-    KEPT.write_text("".join(f"{text}\n" for text, is_so in sorted(ASKED.items()) if is_so))
+        decision(pattern)
+    KEPT.write_text("".join(f"{line_of(text, it)}\n" for text, it in sorted(ASKED.items()) if it))

@@ -1,7 +1,8 @@
 """What a refusal of a command is about, by the table of docs/REFUSALS.md: after `about` come operations, values, types
-in quotes, or the unsupported construct of a 13, as in a run with `--explain`."""
+in quotes, the unsupported construct of a 13, or a sentence on a pattern, as in a run with `--explain`."""
 import re
 
+from . import expected
 from .edits import all_seen
 from .module import printing, value_text, walk
 from .parts import Bad, cut, cut_key, cut_place, op_of, value_of
@@ -132,6 +133,9 @@ def about_text(text, fault):
 def about(module, line, number, offset=None):
     """What follows the refusal of a line other than 60."""
     if offset is not None:
+        word, rest = cut(line)
+        if word == "pattern":
+            return " about " + printing.string_text(expected.sentence(rest, number, offset).encode())
         text = text_in(line)
         return "" if text is None else cause_told(text.encode("latin-1"), number, offset)
     try:

@@ -126,9 +126,13 @@ def is_everywhere(pattern):
 
 def check(pattern, most=None):
     """The verdict on a pattern at all widths up to one, and the rows of the first counterexample. If no width is asked,
-    it is that up to the default one, or that the pattern holds at all widths: by its form, or by claims about bits."""
+    it is that up to the default one; and if no value refutes the pattern there, that of its form, of claims about bits,
+    or of samples of wide types."""
     if most is not None:
         return pattern_checks.check(pattern, most)
     verdict, rows = pattern_checks.check(pattern, pattern_checks.default_width(pattern))
-    is_proved = verdict.startswith("holds") and (is_everywhere(pattern) or claims.is_decided(pattern))
-    return "holds" if is_proved else verdict, rows
+    if verdict.startswith("fails "):
+        return verdict, rows
+    if verdict.startswith("holds ") and is_everywhere(pattern):
+        return "holds", rows
+    return claims.decision(pattern, verdict) or (verdict, rows)

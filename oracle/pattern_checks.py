@@ -120,10 +120,15 @@ def shown(value, ty):
     return ("false", "true")[value] if ty == I1 else f"{signed(ty, value)} : {type_text(ty)}"
 
 
+def input_shown(value, ty):
+    """The outcome of a variable: poison has its type."""
+    return f"poison : {type_text(ty)}" if value is POISON else shown(value, ty)
+
+
 def rows_of(instance, values, old, new):
     """A row for each variable, in the order of the left side, and one for each result."""
     pattern = instance.pattern
-    rows = [f"{name} {shown(value, instance.real(pattern.variables[name]))}" for name, value in values.items()]
+    rows = [f"{name} {input_shown(value, instance.real(pattern.variables[name]))}" for name, value in values.items()]
     return rows + [f"{word} {shown(value, instance.type(pattern.old))}" for word, value in (("old", old), ("new", new))]
 
 

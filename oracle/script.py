@@ -16,7 +16,7 @@ WORDS = {20: "NoSuchOp", 21: "NoSuchValue", 22: "HasUses", 23: "NotVisible", 24:
          34: "TooManyMarks", 35: "NoMark", 36: "Memory", 40: "Stale", 41: "NoSuchKind", 42: "KindTaken",
          50: "BadLimit",
          51: "NotLegalised", 52: "ChainTooDeep", 53: "Unreconciled",
-         54: "BadTarget", 60: "BadCommand"}
+         54: "BadTarget", 60: "BadCommand", 61: "NotProved"}
 BOXES = tuple(KINDS.values())
 KIND_WORDS = {KINDS.get(kind, f"kind{kind}") for kind in range(256)}
 MOST_MARKS = 16

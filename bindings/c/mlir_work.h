@@ -160,6 +160,7 @@ static inline const char *mlir_work_refusal_word(uint32_t refusal) {
   case 53: return "Unreconciled";
   case 54: return "BadTarget";
   case 60: return "BadCommand";
+  case 61: return "NotProved";
   }
   return "";
 }

@@ -421,12 +421,16 @@ def declared(name, types):
             '({}) : () -> ()\n')
 
 
-def executed(cases):
-    """What the processor gives for all runs of the cases, as a list of numbers."""
+def whole(cases):
+    """A module with all functions of the cases, and a function `main` that runs them."""
     calls = "".join(f'"func.call"() <{{callee = @run{it.number}}}> : () -> ()\n' for it in cases)
-    text = declared("printI64", "i64") + declared("printNewline", "") + "".join(Script(it).text() for it in cases) + (
+    return declared("printI64", "i64") + declared("printNewline", "") + "".join(Script(it).text() for it in cases) + (
         f'"func.func"() <{{function_type = () -> (), sym_name = "main"}}> ({{\n{calls}"func.return"() : () -> ()\n'
         "}) : () -> ()\n")
+
+
+def executed(text):
+    """What the processor gives for all runs of a module, as a list of numbers."""
     lowered = subprocess.run([OPT, *LOWERING], input=text, text=True, stdout=subprocess.PIPE, check=True).stdout
     out = subprocess.run([RUNNER, "-e", "main", "--entry-point-result=void", f"--shared-libs={library()}"],
                          input=lowered, text=True, stdout=subprocess.PIPE, check=True).stdout
@@ -446,7 +450,7 @@ def is_executable():
 def judged_by_processor(cases):
     """Compares what the processor gives with the evaluator and with each verdict; gives how many runs there were, and
     notes in a case what is wrong."""
-    numbers, runs = iter(executed(cases)), 0
+    numbers, runs = iter(executed(whole(cases))), 0
     for case in cases:
         found = [[next(numbers) for _ in wanted] for wanted in case.outputs()]
         runs += len(found)

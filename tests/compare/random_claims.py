@@ -8,15 +8,15 @@ PROGRAM is the one of MLIR_WORK_CLAIMS if none is given. Without a program nothi
 - A pattern that `holds` at all widths has no counterexample by `oracle/claims.py`: all values and poison at widths up
   to 4, and edges of wider types. If z3 is installed, it finds no counterexample at 8 and at 32 bits; each variable has
   a bit that says whether it is poison.
-- A pattern that `fails` has the rows of its counterexample: both sides are run at the values of the variables.
-- A pattern that `holds W`, is `unrefuted W` or `empty W`, or whose check takes too long (`slow`) is only counted.
+- A pattern that `fails` has the rows of its counterexample: both sides are run at the outcomes of the variables.
+- The old side of a pattern that is `empty W` is never a number at the widths and edges up to W.
+- A pattern that `holds W` or is `unrefuted W`, or whose check takes too long (`slow`) is only counted.
 
 Half of the patterns have a new side that laws derive from the old one; some laws are wrong for poison only, and some
 sides are changed after. The others are of pattern_checks.py and pattern_forms.py, or lines of patterns/ with a word
 changed. The last line says how many patterns there were and how many verdicts are wrong."""
 import argparse
 import collections
-import itertools
 import os
 import random
 import resource
@@ -28,14 +28,12 @@ import checkout  # noqa: F401
 
 from oracle import claims, patterns, rules
 from oracle.folds import width
-from oracle.module import I1, INDEX
-from oracle.pattern_checks import POISON, Case, rows_of, type_variables
-from oracle.pattern_uses import Instance
+from oracle.pattern_checks import POISON, Case
 from tests.compare import claims_in_z3, pattern_checks, pattern_forms, pattern_lines
 from tests.compare.pattern_forms import inverted, literal, pair
 
 # A check takes so many seconds of processor time at most.
-MOST_SECONDS, MOST_WIDTH = 3, 8
+MOST_SECONDS = 3
 COMMUTE = "addi muli andi ori xori maxsi minsi maxui minui".split()
 MIRRORED = dict(zip("eq ne slt sle sgt sge ult ule ugt uge".split(), "eq ne sgt sge slt sle ugt uge ult ule".split()))
 NEGATED = dict(zip("eq ne slt sle sgt sge ult ule ugt uge".split(), "ne eq sge sgt sle slt uge ugt ule ult".split()))
@@ -247,44 +245,27 @@ def verdict_on(program, text):
     return checked.partition(" ")[2], rows
 
 
-# ---- counterexamples
+# ---- what is wrong
 
-def value_of(text):
-    """A type and a value, as a row has them."""
-    if text in ("true", "false"):
-        return I1, int(text == "true")
-    number, _, ty = text.partition(" : ")
-    found = INDEX if ty == "index" else ("i", int(ty[1:]))
-    return found, int(number) % 2 ** width(found)
-
-
-def is_shown(pattern, rows, instance, values):
-    """Whether a counterexample has these rows at these types."""
-    both = Case(instance, values).both()
-    return both is not None and (both[0] is not POISON or both[1] == "undefined") and both[0] != both[1] and (
-        rows_of(instance, values, *both) == rows)
-
-
-def is_counterexample(pattern, rows):
-    """Whether both sides at the values of the rows give what the rows say, and the new side doesn't refine the old."""
-    found = dict(row.split(" ", 1) for row in rows)
-    if list(found) != [*pattern.variables, "old", "new"]:
-        return False
-    values = {name: value_of(found[name]) for name in pattern.variables}
-    types = {pattern.types.found(ty): values[name][0] for name, ty in pattern.variables.items()}
-    free = [ty for ty in type_variables(pattern) if ty not in types]
-    for widths in itertools.product(range(1, MOST_WIDTH + 1), repeat=len(free)):
-        instance = Instance(pattern, {**types, **{ty: ("i", w) for ty, w in zip(free, widths)}})
-        numbers = {name: number for name, (_, number) in values.items()}
-        if instance.is_possible and is_shown(pattern, rows, instance, numbers):
-            return True
+def is_number_up_to(pattern, most):
+    """Whether the old side is a number somewhere at types of at most so many bits."""
+    for instance, numbers in claims.cases_of(pattern):
+        if all(width(ty) <= most for ty in instance.types.values()):
+            both = Case(instance, dict(zip(pattern.variables, numbers))).both()
+            if both is not None and both[0] is not POISON:
+                return True
     return False
 
 
 def fault_of(pattern, verdict, rows, solver, words):
     """What is wrong with a verdict, or none."""
     if verdict.startswith("fails "):
-        return None if is_counterexample(pattern, rows) else f"no counterexample: {', '.join(rows)}"
+        words["fails for poison"] += any(" poison : " in row for row in rows)
+        most = int(verdict.split()[1])
+        words["fails above 8"] += most > 8
+        return None if claims.is_counterexample(pattern, rows, most) else f"no counterexample: {', '.join(rows)}"
+    if verdict.startswith("empty "):
+        return "a number on the old side" if is_number_up_to(pattern, int(verdict.split()[1])) else None
     if verdict != "holds":
         return None
     found = claims.counterexample(pattern)

@@ -40,7 +40,7 @@ REFUSALS = """1 BadToken|2 Unexpected|3 UnknownValue|4 Redefined|5 TypeMismatch|
 9 Successors|10 TooDeep|11 TooMany|12 DuplicateKey|13 LeftOut|14 NotUtf8|20 NoSuchOp|21 NoSuchValue|22 HasUses
 23 NotVisible|24 TypeDiffers|25 NoSuchIndex|26 NoSuchKey|27 IntoItself|28 OtherTable|29 IsRoot|30 NotEmpty|31 Full
 32 IdsExhausted|33 TooDeepHere|34 TooManyMarks|35 NoMark|36 Memory|40 Stale|41 NoSuchKind|42 KindTaken|50 BadLimit
-51 NotLegalised|52 ChainTooDeep|53 Unreconciled|54 BadTarget|60 BadCommand""".replace("\n", "|").split("|")
+51 NotLegalised|52 ChainTooDeep|53 Unreconciled|54 BadTarget|60 BadCommand|61 NotProved""".replace("\n", "|").split("|")
 
 # What a script's words say.
 KINDS = {number: name.encode() for number, name in script.KINDS.items()}

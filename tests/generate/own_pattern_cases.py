@@ -167,13 +167,17 @@ CHECKED = [
          " width 4294967296": "refused 60 BadCommand", " width": "refused 60 BadCommand"}),
     ("unsigned-quotient-by-shift",
      "An unsigned quotient by a power of two is a shift, at each width that is asked for.",
-     "arith.divui(%a, c) => arith.shrui(%a, log2(c))", {"": "holds 8", " width 4": "holds 4", " width 003": "holds 3"}),
+     "arith.divui(%a, c) => arith.shrui(%a, log2(c))", {
+         "": "holds 8", " width 4": "holds 4", " width 003": "holds 3"}),
     ("mask-of-8-bits", "A mask of 255 does nothing up to 8 bits, and fails at 9.",
-     "arith.andi(%a, 255) => %a", {"": "holds 8", " width 9": "fails 9|%a -256 : i9|old 0 : i9|new -256 : i9",
+     "arith.andi(%a, 255) => %a", {
+         "": "fails 9|%a -256 : i9|old 0 : i9|new -256 : i9",
+         " width 9": "fails 9|%a -256 : i9|old 0 : i9|new -256 : i9",
                                    " width 24": "fails 9|%a -256 : i9|old 0 : i9|new -256 : i9",
                                    " width 25": "refused 50 BadLimit"}),
     ("literal-of-10-bits", "A sum with 300 has no case up to 8 bits, and fails at 9.",
-     "arith.addi(%a, 300) => %a", {"": "empty 8", " width 9": "fails 9|%a 0 : i9|old -212 : i9|new 0 : i9"}),
+     "arith.addi(%a, 300) => %a", {
+         "": "fails 9|%a 0 : i9|old -212 : i9|new 0 : i9", " width 9": "fails 9|%a 0 : i9|old -212 : i9|new 0 : i9"}),
     ("sum-of-literals", "A sum of two literals holds for all integers, and has no case at one bit.",
      "arith.addi(1, 2) => 3", {"": "holds", " width 1": "empty 1", " width 64": "holds 64",
                                " width 65": "refused 50 BadLimit"}),
@@ -275,11 +279,11 @@ EVERYWHERE = [
      "arith.addi(%a : T, 0) => %a where narrower(T, T)", {"": "empty 8"}),
     # Literals that few types have: if none of the tried types has it, there is no verdict.
     ("literal-without-a-small-type",
-     "A pattern that holds by its form has no case up to 8 bits if its literal needs 9.",
-     "arith.addi(%a, 300) => arith.addi(arith.addi(%a, 100), 200)", {"": "empty 8", " width 9": "holds 9"}),
-    ("literal-of-minus-one-at-8-bits", "255 is -1 at 8 bits alone.",
+     "A pattern with a literal of 10 bits has no case up to 8 bits, and is proved by its bits.",
+     "arith.addi(%a, 300) => arith.addi(arith.addi(%a, 100), 200)", {"": "holds", " width 9": "holds 9"}),
+    ("literal-of-minus-one-at-8-bits", "255 is -1 at 8 bits alone, and the check says where it isn't.",
      "arith.muli(%a, 255) => arith.subi(0, %a)", {
-         "": "holds 8", " width 9": "fails 9|%a 1 : i9|old 255 : i9|new -1 : i9"}),
+         "": "fails 9|%a 1 : i9|old 255 : i9|new -1 : i9", " width 9": "fails 9|%a 1 : i9|old 255 : i9|new -1 : i9"}),
     ("literal-of-minus-one-at-128-bits", "A literal of 128 bits has no case up to 8 bits, and is sampled at 128.",
      f"arith.muli(%a, {2 ** 128 - 1}) => arith.subi(0, %a)", {"": "empty 8", " width 128 sampled": "unrefuted 128"}),
     # Types that are written, or several.
@@ -361,20 +365,47 @@ EVERYWHERE = [
     ("extension-as-itself", "An extension is itself at all widths.",
      "arith.extsi(%a : S) : T => arith.extsi(%a) : T", {"": "holds"}),
 ]
-# No poison is tried: of a pattern that matches a choice, or makes a quotient or a remainder, a check says no more than
-# that nothing refutes it; of one that makes a choice, or matches a quotient, it says more.
+# A check up to a width tries no poison: of a pattern that matches a choice, or makes a quotient or a remainder, it says
+# no more than that nothing refutes it, unless claims about bits decide; of one that makes a choice, or matches a
+# quotient, it says more.
 UNTRIED = [
-    ("choice-as-conjunction", "A choice of `i1` as a conjunction is unrefuted, since the other value may be poison.",
-     "arith.select(%c, %a : i1, 0) => arith.andi(%c, %a)", {"": "unrefuted 1", " width 3": "unrefuted 1"}),
-    ("choice-as-disjunction", "A choice of `i1` as a disjunction is unrefuted.",
-     "arith.select(%c, 1, %a : i1) => arith.ori(%c, %a)", {"": "unrefuted 1"}),
+    ("choice-as-conjunction",
+     "A choice of `i1` as a conjunction fails for poison, which a check up to a width doesn't try.",
+     "arith.select(%c, %a : i1, 0) => arith.andi(%c, %a)", {
+         "": "fails 1|%c false|%a poison : i1|old false|new poison", " width 3": "unrefuted 1"}),
+    ("choice-as-disjunction", "A choice of `i1` as a disjunction fails for poison alone.",
+     "arith.select(%c, 1, %a : i1) => arith.ori(%c, %a)", {"": "fails 1|%c true|%a poison : i1|old true|new poison"}),
     ("choice-inside-a-sum", "A matched choice that is made again is proved at all widths, with poison.",
      "arith.addi(arith.select(%c, %a, %b), 0) => arith.select(%c, %a, %b)", {"": "holds"}),
     ("choice-swapped", "A choice with its values swapped fails.",
      "arith.select(%c, %a, %b) => arith.select(%c, %b, %a)", {
          "": "fails 1|%c false|%a false|%b true|old true|new false"}),
-    ("choice-without-a-case", "A choice with a literal of 10 bits has no case up to 8.",
-     "arith.select(%c, %a, 300) => %a", {"": "empty 8"}),
+    ("choice-without-a-case", "A choice with a literal of 10 bits has no case up to 8 bits, and fails at 9.",
+     "arith.select(%c, %a, 300) => %a", {"": "fails 9|%c false|%a 0 : i9|old -212 : i9|new 0 : i9"}),
+    ("choice-under-a-sum", "A choice of two values is computed with arithmetic, at all widths and with poison.",
+     "arith.select(%c, arith.addi(%a, 1), %a) => arith.addi(%a, arith.extui(%c))", {"": "holds"}),
+    ("two-choices-as-one", "Choices by two conditions are one by their conjunction, unless the second is poison.",
+     "arith.select(%c, arith.select(%d, %a, %b), %b) => arith.select(arith.andi(%c, %d), %a, %b)", {
+         "": "fails 1|%c false|%d poison : i1|%a false|%b false|old false|new poison"}),
+    # Wrong at wider types alone, and old sides that are never a number.
+    ("cast-to-index-and-back", "A cast to index and back loses bits from 65 bits on.",
+     "arith.index_cast(arith.index_cast(%a : S) : index) : S => %a", {
+         "": "fails 65|%a -18446744073709551616 : i65|old 0 : i65|new -18446744073709551616 : i65"}),
+    ("cast-to-index-and-back-unsigned", "An unsigned cast to index and back loses bits from 65 bits on.",
+     "arith.index_castui(arith.index_castui(%a : S) : index) : S => %a", {
+         "": "fails 65|%a -18446744073709551616 : i65|old 0 : i65|new -18446744073709551616 : i65"}),
+    ("extension-cut-at-40-bits", "A value of at most 40 bits is narrower than i41, and the check finds a wider one.",
+     "arith.andi(%a, 1099511627775) => %a", {
+         "": "fails 41|%a -1099511627776 : i41|old 0 : i41|new -1099511627776 : i41"}),
+    ("shift-by-8", "A shift by 8 is poison up to 8 bits, and a number from 9 bits on.",
+     "arith.shrui(%a, 8) => 0", {"": "fails 9|%a -256 : i9|old 1 : i9|new 0 : i9"}),
+    ("shift-of-4-bits-by-8", "A shift of 4 bits by 8 is always poison, so the old side is never a number.",
+     "arith.shrui(%a : i4, 8) => 0", {"": "empty 4", " width 4": "holds 4"}),
+    ("no-number-below-another", "No number is below and above another: the pattern applies nowhere, at any width.",
+     "arith.addi(%a, c) => %a where ult(c, 5), ugt(c, 9)", {"": "empty 8"}),
+    ("product-that-samples-refute", "A product of two values is beyond claims, and samples of wide types refute it.",
+     "arith.muli(%a, arith.andi(%b, 255)) => arith.muli(%a, %b)", {
+         "": "fails 16|%a 1 : i16|%b -1 : i16|old 255 : i16|new -1 : i16"}),
     ("made-unsigned-quotient", "A made quotient leaves a pattern unrefuted, since its divisor may be poison.",
      "arith.minui(%b, 1) => arith.divui(%b, arith.maxui(%b, 1))", {"": "unrefuted 8"}),
     ("signed-quotient-as-itself", "A signed quotient that is matched and made is unrefuted.",
@@ -428,7 +459,8 @@ SAMPLED = [
     ("sampled-mask", "A mask of 255 is unrefuted at 8 bits and fails at 9; other forms of the words are refused.",
      "arith.andi(%a, 255) => %a", {
          " width 8 sampled": "unrefuted 8", " width 9 sampled": "fails 9|%a -1 : i9|old 255 : i9|new -1 : i9",
-         " width 32 sampled": "fails 32|%a -1 : i32|old 255 : i32|new -1 : i32", "": "holds 8",
+         " width 32 sampled": "fails 32|%a -1 : i32|old 255 : i32|new -1 : i32",
+         "": "fails 9|%a -256 : i9|old 0 : i9|new -256 : i9",
          " width 0 sampled": "refused 50 BadLimit", " width 129 sampled": "refused 50 BadLimit",
          " width 4294967295 sampled": "refused 50 BadLimit", " width 4294967296 sampled": "refused 60 BadCommand",
          " sampled": "refused 60 BadCommand", " sampled width 8": "refused 60 BadCommand",

@@ -48,8 +48,8 @@ class JudgeTest(unittest.TestCase):
             program = pathlib.Path(folder, "yes")
             program.write_text("#!/bin/sh\ncat > /dev/null\nprintf '1 ok\\n2 holds\\n'\n")
             program.chmod(0o755)
-            claims.is_proved.cache_clear()
-            self.addCleanup(claims.is_proved.cache_clear)
+            claims.ASKED.clear()
+            self.addCleanup(claims.ASKED.clear)
             with unittest.mock.patch.dict(os.environ, {claims.VARIABLE: str(program)}):
                 for text in list(REFUTED)[-3:]:
                     with self.assertRaises(claims.Refuted, msg=text):
@@ -57,11 +57,11 @@ class JudgeTest(unittest.TestCase):
 
     def test_without_a_program_what_is_kept_is_decided(self):
         text = "arith.maxui(%a, 0) => %a"
-        claims.is_proved.cache_clear()
+        claims.ASKED.clear()
         with unittest.mock.patch.dict(os.environ):
             os.environ.pop(claims.VARIABLE, None)
             self.assertIn(text, claims.kept())
-            self.assertTrue(claims.is_decided(pattern(text)))
+            self.assertEqual(claims.decision(pattern(text))[0], "holds")
 
 
 if __name__ == "__main__":

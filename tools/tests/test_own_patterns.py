@@ -13,8 +13,8 @@ import unittest
 import support
 from support import ROOT, program, session
 
-from mlir_work.cli import completion, main, messages, ways
-from oracle import json_lines, own
+from mlir_work.cli import completion, main, ways
+from oracle import expected, json_lines, own
 
 MODULE = b"""%a = "t.a"() : () -> i8
 %z = "arith.constant"() <{value = 0 : i8}> : () -> i8
@@ -119,7 +119,7 @@ def message(file, text, told):
     number, refusal, word, at = re.fullmatch(r"line (\d+): refused (\d+) (\w+) at (\d+)", told).groups()
     line = text.split(b"\n")[int(number) - 1]
     column = len(line) - len(line.lstrip(b" \t\r")) + int(at) + 1
-    why = messages.of_pattern(line.strip(b" \t\r"), int(at), word)
+    why = expected.sentence(line.strip(b" \t\r").decode("latin-1"), int(refusal), int(at))
     return f"{file}:{number}:{column}: {refusal} {word}: {why}\n"
 
 
@@ -195,7 +195,7 @@ class Reference(Case):
         text = MODULE + DIVIDER + ASKED
         self.assertEqual(self.ran("--brief", *flags[:4], given=text), (1, ANSWERED, ""))
         self.assertEqual(self.ran(*flags[:4], "--format", "json", "--brief", given=text),
-                         (1, json_lines.json_of(ANSWERED), ""))
+                         (1, json_lines.json_of(own.run(text, book=book_of([ZERO, DOUBLE]), explained=True)[1]), ""))
         self.assertEqual(self.ran("--interactive", *flags[:4], "--brief", given=text),
                          (*own.run_live(text, book=book_of([ZERO, DOUBLE])), ""))
         wrong = 2, b"", f"error: {files[2]}: line 2: refused 4 Redefined at 0\n"
@@ -267,7 +267,8 @@ class Patterns(Case):
         self.assertEqual(self.main("reduce", *flags, goal, module, "-o", smaller)[0], 0)
         self.assertEqual(self.main("reduce", goal, module, "-o", smaller)[0], 1)
         for name, told in ((self.named("wrong", ZERO + ZERO), ":2:1: 4 Redefined: found `zero`, expected a new name: "
-                            "rename one of the two patterns"), ("none", ": found no such file: correct the name")):
+                            "rename one of the two patterns, or forget the other"),
+                           ("none", ": found no such file: correct the name")):
             self.assertEqual(self.main("explain", "--patterns", name, module, script),
                              (2, "", f"mlir-work: {name}{told}\n"))
 

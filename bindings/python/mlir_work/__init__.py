@@ -6,7 +6,7 @@
         print(s.print())
 
 docs/EMBED.md has a tour."""
-from .errors import Error, ModuleRefused, ProcessLost, Refused, SessionClosed, Stays
+from .errors import Error, FormBroken, ModuleRefused, ProcessLost, Refused, SessionClosed, Stays
 from .handles import BlockHandle, OperationHandle, RegionHandle, UseHandle, ValueHandle
 from .library import Library
 from .operations import Operation
@@ -20,7 +20,7 @@ from .values import Argument, Result, Value, after, before, end, quoted, start
 from .way import Way
 
 __all__ = ["Argument", "BlockHandle", "Canonicalized", "Checked", "Constant", "Dead", "Diagnostic", "Effect", "Error",
-           "KINDS", "Library", "ModuleRefused", "Operation", "OperationHandle", "Pattern", "Process", "ProcessLost",
-           "Reason", "Refused", "RegionHandle", "Reply", "Result", "Rewrite", "Row", "Session", "SessionClosed",
-           "Stays", "Symbol", "Traced", "Unproved", "Unreached", "Use", "UseHandle", "Value", "ValueHandle", "Way",
-           "after", "before", "end", "quoted", "start"]
+           "FormBroken", "KINDS", "Library", "ModuleRefused", "Operation", "OperationHandle", "Pattern", "Process",
+           "ProcessLost", "Reason", "Refused", "RegionHandle", "Reply", "Result", "Rewrite", "Row", "Session",
+           "SessionClosed", "Stays", "Symbol", "Traced", "Unproved", "Unreached", "Use", "UseHandle", "Value",
+           "ValueHandle", "Way", "after", "before", "end", "quoted", "start"]

@@ -1,5 +1,5 @@
 """The exceptions of the package."""
-from typing import NamedTuple, Optional
+from typing import NamedTuple, Optional, Sequence
 
 
 class Stays(NamedTuple):
@@ -41,6 +41,16 @@ class ModuleRefused(Error):
     def within(self, size: int) -> "ModuleRefused":
         """Returns the same refusal for a text of `size` bytes: an offset past its end becomes its end."""
         return self if self.at is None else ModuleRefused(self.number, self.word, min(self.at, size))
+
+
+class FormBroken(Error):
+    """A module that was read with `blocks` can't be printed, since edits broke the form in which regions with several
+    blocks are held. `faults` has a line for each operation that is wrong."""
+
+    def __init__(self, faults: Sequence[str]) -> None:
+        more = f" (and {len(faults) - 1} more)" if len(faults) > 1 else ""
+        super().__init__(f"the blocks can't be printed: {faults[0]}{more}")
+        self.faults = list(faults)
 
 
 class ProcessLost(Error):

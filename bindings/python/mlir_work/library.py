@@ -27,7 +27,7 @@ _WORDS = {
     25: "NoSuchIndex", 26: "NoSuchKey", 27: "IntoItself", 28: "OtherTable", 29: "IsRoot", 30: "NotEmpty", 31: "Full",
     32: "IdsExhausted", 33: "TooDeepHere", 34: "TooManyMarks", 35: "NoMark", 36: "Memory", 40: "Stale",
     41: "NoSuchKind", 42: "KindTaken", 50: "BadLimit", 51: "NotLegalised", 52: "ChainTooDeep", 53: "Unreconciled",
-    54: "BadTarget", 60: "BadCommand"}
+    54: "BadTarget", 60: "BadCommand", 61: "NotProved"}
 _NUMBERS = {word: number for number, word in _WORDS.items()}
 _EXPECTS = re.compile(r"[ \t\r]*expect[ \t]+([^ \t]+)")
 # A number may have any count of leading zeros; `int` limits the count of digits.

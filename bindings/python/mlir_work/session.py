@@ -6,8 +6,9 @@ from operator import index
 from types import TracebackType
 from typing import Iterable, Iterator, List, Literal, Optional, Sequence, SupportsIndex, Tuple, Type, Union, overload
 
+from .blocks import NESTABLE, flatten, is_nested, nest
 from .command import Program
-from .errors import Error, Refused, SessionClosed
+from .errors import Error, ModuleRefused, Refused, SessionClosed
 from .handles import OperationHandle, ValueHandle
 from .library import Library, is_preferred
 from .operations import Operation, read
@@ -89,8 +90,9 @@ class Session:
     path. `kinds` are the analyses to attach, all by default. `limit` is the limit of rewrites for a `canon` without a
     limit, from 1 to 1,000,000. If an answer takes longer than `timeout` seconds, the program is ended; without a
     timeout a call waits. `way` is a user-defined connection. With `opaque`, unknown types and attributes are kept as
-    their texts, in the module and in commands. `patterns` is a file of user patterns, a line each, or several files;
-    they are defined first.
+    their texts, in the module and in commands. With `blocks`, a module that is refused with 8 or 9, since regions have
+    several blocks, is read as nested scopes (`mlir_work.blocks`): `print` shows blocks again, and all else shows the
+    scopes. `patterns` is a file of user patterns, a line each, or several files; they are defined first.
 
     Raises ModuleRefused, and Refused if a pattern of a file is refused. Each call raises Refused if its command is
     refused, which changes nothing, and ProcessLost if the program ended. That, and an interrupt within a call, closes
@@ -98,7 +100,7 @@ class Session:
 
     def __init__(self, text: Text, program: Optional[Program] = None, kinds: Optional[Iterable[str]] = None,
                  limit: Optional[int] = None, *, timeout: Optional[float] = None, way: Optional[Way] = None,
-                 opaque: bool = False, patterns: Files = ()) -> None:
+                 opaque: bool = False, patterns: Files = (), blocks: bool = False) -> None:
         wanted = None if kinds is None else _listed(kinds)
         unknown = [kind for kind in wanted or () if kind not in KINDS]
         if unknown:
@@ -112,6 +114,7 @@ class Session:
         self._reader: Optional[Reader] = None
         self.marks, self.refused, self.closed = 0, 0, False
         """How many marks are open; how many commands were refused; whether it is closed."""
+        self._blocks = blocks
         self.status: Optional[int] = None
         """The program's status once it is closed: 0, or 1 if a command was refused."""
         self.unattached: List[str] = []
@@ -119,8 +122,7 @@ class Session:
         self.unproved: Tuple[Unproved, ...] = ()
         """The patterns of the last `rewrite`, `trace` or `apply` that no check proves for the module before it."""
         try:
-            self.unattached = (
-                self._way.open(_bytes(text), limit, True) if opaque else self._way.open(_bytes(text), limit))
+            self.unattached = self._opened(_bytes(text), limit, opaque, blocks)
             there = set(KINDS) - {it.split()[1] for it in self.unattached}
             for kind in KINDS if wanted is not None else ():
                 if kind in there and kind not in (wanted or ()):
@@ -130,6 +132,21 @@ class Session:
         except BaseException:
             self._abandon()
             raise
+
+    def _opened(self, text: bytes, limit: Optional[int], opaque: bool, blocks: bool) -> List[str]:
+        """Opens the module, nested if that is asked for and needed. Returns a line for each analysis that isn't
+        attached."""
+        way = self._way
+        try:
+            return way.open(text, limit, True) if opaque else way.open(text, limit)
+        except ModuleRefused as fault:
+            if not blocks or fault.number not in NESTABLE:
+                raise
+        nested = nest(text)
+        try:
+            return way.open(nested, limit, True) if opaque else way.open(nested, limit)
+        except ModuleRefused as fault:
+            raise nested.refusal(fault) from None
 
     # Closing.
 
@@ -226,7 +243,12 @@ class Session:
     # Output.
 
     def print(self) -> str:
-        """Returns the text of the module."""
+        """Returns the text of the module. With `blocks`, raises FormBroken if edits broke the form of a module with
+        several blocks in a region."""
+        if self._blocks:
+            shown = self.command("print ids").shown
+            if is_nested(shown):
+                return flatten(shown, True)
         return self.command("print").shown
 
     @overload

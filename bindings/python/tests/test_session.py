@@ -169,7 +169,7 @@ class Calls(Case):
         s = self.s
         s.pattern("half arith.divsi(%a, c) => arith.shrsi(%a, log2(c))")
         s.pattern("double arith.muli(%a, 2) =>\n  arith.addi(%a, %a) // a comment")
-        s.pattern("never arith.addi(%a, 300) => %a")
+        s.pattern("never arith.addi(%a, c) => %a where ult(c, 5), ugt(c, 9)")
         found = s.check("half", 4)
         self.assertEqual(found, ("fails", 2, (("%a", "-2 : i2"), ("c", "-2 : i2"), ("old", "1 : i2"),
                                               ("new", "-1 : i2"))))

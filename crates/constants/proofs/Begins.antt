@@ -13,7 +13,7 @@ use Rattle.ir_event.specs.types.Terms.{name_term, type_term, attr_term}
 use Rattle.ir_event.proofs.of_trees.Mapped.{map_ids}
 use Rattle.ir_event.specs.declared.world.World.{World}
 use Rattle.ir_event.specs.Modules.{module_in}
-use Rattle.ir_event.proofs.Steps.{formed_meaning}
+use Rattle.ir_event.proofs.Steps.{wellformed_meaning}
 use Rattle.ir_event.specs.Heads.{heads}
 use Rattle.constants.specs.Facts.{Header, Facts, look, folded, folded_if}
 use Rattle.constants.specs.Walk.{with_fact, walk, facts_of, AreOrdered}
@@ -40,8 +40,8 @@ walked_facts t xs a b d ordered is vacant w y =
 pub begun : (w : World) (a b : Facts) → ((y : ℕ) → a y ≡ None) → WalkedIds (look_in w) (ids w.store.module_of.tree) a b → HasDistinctIds (module_in w).tree × ((y : ℕ) → b y ≡ facts_of (module_in w).tree y)
 begun w a b vacant walked =
     let same : ids (module_in w).tree ≡ ids w.store.module_of.tree = map_ids (name_term w.ctx) (type_term w.ctx) (attr_term w.ctx) w.store.module_of.tree in
-    let f = formed_meaning w.ctx w.store.module_of w.formed in
-    (f.distinct, walked_facts (module_in w).tree (ids w.store.module_of.tree) a b f.distinct (ordered_tree (module_in w).tree f.distinct f.formed.visible) (sym same) vacant walked)
+    let f = wellformed_meaning w.ctx w.store.module_of w.wellformed in
+    (f.distinct, walked_facts (module_in w).tree (ids w.store.module_of.tree) a b f.distinct (ordered_tree (module_in w).tree f.distinct f.wellformed.visible) (sym same) vacant walked)
 
 pub vacant : (m : IdMap Bits) → m.entries ≡ [] → (y : ℕ) → known_in m y ≡ None
 vacant m e y = ap (λ (es : List (ℕ × Bits)). known_of (lookup (is_at (nat_cmp y)) es)) e

@@ -15,10 +15,10 @@ total_append g [] ys = omega arith
 total_append g (x ∷ xs) ys = let h = total_append g xs ys in omega (arith, h)
 
 -- a longer trail costs no less
-total_front : (g : ℕ → ℕ) (trail more : List ℕ) (i e : ℕ) → i < length trail → e ≡ get_or trail i e → total g (take i trail) + g e ≤ total g (trail ++ more)
-total_front g [] more i e lt is = absurd (omega (arith, lt))
-total_front g (x ∷ xs) more zero e lt is = let h : ◌≡◌ {A = ℕ} (g e) (g x) = ap g is in omega (arith, h)
-total_front g (x ∷ xs) more (suc i) e lt is = let h = total_front g xs more i e (omega (arith, lt)) is in omega (arith, h)
+total_preceding : (g : ℕ → ℕ) (trail more : List ℕ) (i e : ℕ) → i < length trail → e ≡ get_or trail i e → total g (take i trail) + g e ≤ total g (trail ++ more)
+total_preceding g [] more i e lt is = absurd (omega (arith, lt))
+total_preceding g (x ∷ xs) more zero e lt is = let h : ◌≡◌ {A = ℕ} (g e) (g x) = ap g is in omega (arith, h)
+total_preceding g (x ∷ xs) more (suc i) e lt is = let h = total_preceding g xs more i e (omega (arith, lt)) is in omega (arith, h)
 
 total_next : (g : ℕ → ℕ) (trail more : List ℕ) (i e : ℕ) → i < length trail → e ≡ get_or trail i e → total g (take (i + 1) (trail ++ more)) ≡ total g (take i trail) + g e
 total_next g trail more i e lt is =
@@ -106,7 +106,7 @@ module _ {W : Type 0} (ops : W → ℕ → Option Header) (uses : W → ℕ → 
       let bound2 : more ≤ looks + (1 + uses first e) = subst (λ z. more ≤ looks + (1 + uses z e)) b.world bound in
       let few = b.few in
       let sum : total (λ d. 1 + uses first d) (take next trail) + (1 + uses first e) ≤ total (λ d. 1 + uses first d) longer =
-      subst (λ l. total (λ d. 1 + uses first d) (take next trail) + (1 + uses first e) ≤ total (λ d. 1 + uses first d) l) (sym f.is) (total_front (λ d. 1 + uses first d) trail f.more next e lt is) in
+      subst (λ l. total (λ d. 1 + uses first d) (take next trail) + (1 + uses first e) ≤ total (λ d. 1 + uses first d) l) (sym f.is) (total_preceding (λ d. 1 + uses first d) trail f.more next e lt is) in
       omega (arith, few, bound2, sum)
 
   pub forgets_trail : (D : Type 0) (x e : ℕ) (start old new : Facts) (trail longer : List ℕ) (next : ℕ) (first w : W) (none looks : ℕ) → next < length trail → e ≡ get_or trail next e
@@ -200,9 +200,9 @@ module _ {W : Type 0} (ops : W → ℕ → Option Header) (uses : W → ℕ → 
       let bound2 : more ≤ looks + (1 + uses first e + uses first e) = subst (λ z. more ≤ looks + (1 + uses z e + uses z e)) b.world bound in
       let few = b.few in
       let sum : total (λ d. 1 + uses first d) (take next trail) + (1 + uses first e) ≤ total (λ d. 1 + uses first d) longer =
-      subst (λ l. total (λ d. 1 + uses first d) (take next trail) + (1 + uses first e) ≤ total (λ d. 1 + uses first d) l) (sym f2.is) (total_front (λ d. 1 + uses first d) trail f2.more next e lt is) in
+      subst (λ l. total (λ d. 1 + uses first d) (take next trail) + (1 + uses first e) ≤ total (λ d. 1 + uses first d) l) (sym f2.is) (total_preceding (λ d. 1 + uses first d) trail f2.more next e lt is) in
       let sum2 : total (uses first) (take next trail) + uses first e ≤ total (uses first) longer =
-      subst (λ l. total (uses first) (take next trail) + uses first e ≤ total (uses first) l) (sym f2.is) (total_front (uses first) trail f2.more next e lt is) in
+      subst (λ l. total (uses first) (take next trail) + uses first e ≤ total (uses first) l) (sym f2.is) (total_preceding (uses first) trail f2.more next e lt is) in
       record {
         trail = longer;
         path = learnt_trail_more (ops first) D (λ y. (y ≡ x) ⊎ In y forgotten) e old new trail longer (in_read trail next e lt is) b.from.path f2;

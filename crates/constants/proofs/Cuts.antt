@@ -30,10 +30,10 @@ record HeadCut (x : ℕ) (found : Option Operation) (whole left : List Header) :
   here : Operation
   is : found ≡ Some here
   id : (head here).id ≡ x
-  front : List Header
+  preceding : List Header
   back : List Header
-  was : whole ≡ front ++ (heads here ++ back)
-  rest : left ≡ front ++ back
+  was : whole ≡ preceding ++ (heads here ++ back)
+  rest : left ≡ preceding ++ back
 
 abbrev Stand : Type 0
 Stand = StandOf (List ℕ) TypeTerm AttrTerm
@@ -54,11 +54,11 @@ mutual
   region_stand_heads p path r empty = refl
   region_stand_heads p path r (block args os) = ops_stand_heads p path r args [] os
 
-  ops_stand_heads : (p : Operation) (path : List (StepOf (List ℕ) TypeTerm AttrTerm)) (r : ℕ) (args : List TypeTerm) (front : List Operation) (os : OpsOf (List ℕ) TypeTerm AttrTerm) → map head_in (ops_stands p path r args front os) ≡ ops_heads os
-  ops_stand_heads p path r args front no_ops = refl
-  ops_stand_heads p path r args front (next o os) =
-      map-append head_in (stands (step p r args front os ∷ path) o) (ops_stands p path r args (front ++ o ∷ []) os)
-      ∙ λ i. stand_heads (step p r args front os ∷ path) o i ++ ops_stand_heads p path r args (front ++ o ∷ []) os i
+  ops_stand_heads : (p : Operation) (path : List (StepOf (List ℕ) TypeTerm AttrTerm)) (r : ℕ) (args : List TypeTerm) (preceding : List Operation) (os : OpsOf (List ℕ) TypeTerm AttrTerm) → map head_in (ops_stands p path r args preceding os) ≡ ops_heads os
+  ops_stand_heads p path r args preceding no_ops = refl
+  ops_stand_heads p path r args preceding (next o os) =
+      map-append head_in (stands (step p r args preceding os ∷ path) o) (ops_stands p path r args (preceding ++ o ∷ []) os)
+      ∙ λ i. stand_heads (step p r args preceding os ∷ path) o i ++ ops_stand_heads p path r args (preceding ++ o ∷ []) os i
 
 left_heads : (x : ℕ) (ss : List Stand) → map head_in (map (left_stand x) ss) ≡ map head_in ss
 left_heads x [] = refl
@@ -76,13 +76,13 @@ cut_heads x t place d e = let u = member_of_place x place t e in go u.0.here u.0
           here = o;
           is = stand_found t d (stand o (a ∷ q)) h;
           id = refl;
-          front = map head_in w.front;
+          preceding = map head_in w.preceding;
           back = map head_in w.back;
           was = sym (stand_heads [] t)
               ∙ ap (map head_in) w.is
-              ∙ map-append head_in w.front (stands (a ∷ q) o ++ w.back)
-              ∙ ap (λ l. map head_in w.front ++ l) (map-append head_in (stands (a ∷ q) o) w.back ∙ ap (λ l. l ++ map head_in w.back) (stand_heads (a ∷ q) o));
-          rest = sym (stand_heads [] (without (head o).id t)) ∙ ap (map head_in) w.left ∙ left_heads (head o).id (w.front ++ w.back) ∙ map-append head_in w.front w.back;
+              ∙ map-append head_in w.preceding (stands (a ∷ q) o ++ w.back)
+              ∙ ap (λ l. map head_in w.preceding ++ l) (map-append head_in (stands (a ∷ q) o) w.back ∙ ap (λ l. l ++ map head_in w.back) (stand_heads (a ∷ q) o));
+          rest = sym (stand_heads [] (without (head o).id t)) ∙ ap (map head_in) w.left ∙ left_heads (head o).id (w.preceding ++ w.back) ∙ map-append head_in w.preceding w.back;
         }
 
 -- blocks without operations
@@ -161,8 +161,8 @@ module _ (m n : ModuleOf (List ℕ) TypeTerm AttrTerm) (x : ℕ) (ordered : AreO
         sym (look_heads y n.tree)
         ∙ ap (λ t. look_among (heads t) y) takes.left
         ∙ ap (λ l. look_among l y) c.rest
-        ∙ sym (node_past c.front (head c.here) c.back y (λ e. ne (e ∙ c.id)))
-        ∙ ap (λ l. look_among (c.front ++ (l ++ c.back)) y) (sym one)
+        ∙ sym (node_past c.preceding (head c.here) c.back y (λ e. ne (e ∙ c.id)))
+        ∙ ap (λ l. look_among (c.preceding ++ (l ++ c.back)) y) (sym one)
         ∙ ap (λ l. look_among l y) (sym c.was)
         ∙ look_heads y m.tree
 
@@ -173,8 +173,8 @@ module _ (m n : ModuleOf (List ℕ) TypeTerm AttrTerm) (x : ℕ) (ordered : AreO
         sym (look_heads x n.tree)
         ∙ ap (λ t. look_among (heads t) x) takes.left
         ∙ ap (λ l. look_among l x) c.rest
-        ∙ ap (look_among (c.front ++ c.back)) (sym c.id)
-        ∙ node_gone [] c.front (head c.here) c.back (subst (AreOrdered []) (c.was ∙ ap (λ l. c.front ++ (l ++ c.back)) one) ordered)
+        ∙ ap (look_among (c.preceding ++ c.back)) (sym c.id)
+        ∙ node_gone [] c.preceding (head c.here) c.back (subst (AreOrdered []) (c.was ∙ ap (λ l. c.preceding ++ (l ++ c.back)) one) ordered)
 
     pub taken_was : (h : Header) × (look m.tree x ≡ Some h)
     taken_was = let c = cut_heads x m.tree place d takes.there in (head c.here, ap (option_map head) c.is)
@@ -184,12 +184,12 @@ module _ (m n : ModuleOf (List ℕ) TypeTerm AttrTerm) (x : ℕ) (ordered : AreO
       let c = cut_heads x m.tree old d shifts.was in
       let k = cut_heads x n.tree new e shifts.is in
       let one : k.here ≡ c.here = some_same k.here c.here (sym k.is ∙ shifts.same ∙ c.is) in
-      let left : k.front ++ k.back ≡ c.front ++ c.back = sym k.rest ∙ ap heads shifts.rest ∙ c.rest in
+      let left : k.preceding ++ k.back ≡ c.preceding ++ c.back = sym k.rest ∙ ap heads shifts.rest ∙ c.rest in
       sym (look_heads y n.tree)
       ∙ ap (λ l. look_among l y) k.was
-      ∙ moved k.front (heads k.here) k.back y (subst (AreOrdered []) k.was ordered2)
+      ∙ moved k.preceding (heads k.here) k.back y (subst (AreOrdered []) k.was ordered2)
       ∙ (λ i. first_of (look_among (heads (one i)) y) (look_among (left i) y))
-      ∙ sym (moved c.front (heads c.here) c.back y (subst (AreOrdered []) c.was ordered))
+      ∙ sym (moved c.preceding (heads c.here) c.back y (subst (AreOrdered []) c.was ordered))
       ∙ ap (λ l. look_among l y) (sym c.was)
       ∙ look_heads y m.tree
     where

@@ -80,10 +80,10 @@ ChangedAt x m n = IsThere (look n.tree) x × SameBut x (look m.tree) (look n.tre
 
 module _ (c : ContextModel) (m n : Module) where
   pub ordered_before : (e : Event) → Step c e m n → AreOrdered [] (heads m.tree)
-  ordered_before e s = ordered_tree m.tree s.before.distinct s.before.formed.visible
+  ordered_before e s = ordered_tree m.tree s.before.distinct s.before.wellformed.visible
 
   pub ordered_after : (e : Event) → Step c e m n → AreOrdered [] (heads n.tree)
-  ordered_after e s = ordered_tree n.tree s.after.distinct s.after.formed.visible
+  ordered_after e s = ordered_tree n.tree s.after.distinct s.after.wellformed.visible
 
   pub put_changed : (x : ℕ) (place : Place) (fresh : Bool) → Step c (Put x place fresh) m n → ChangedAt x m n
   put_changed x place fresh s = (

@@ -16,10 +16,10 @@ use Rattle.constants.specs.Tables.{Updated, FactsFollowed, LooksWithin, LooksFol
 
 module _ (c : ContextModel) (m n : Module) (D : Type 0) (a b : Facts) where
   was_local : (e : Event) → Step c e m n → ((x : ℕ) → a x ≡ facts_of m.tree x) → AreLocal (look m.tree) a
-  was_local e s same = same_facts_local m.tree a s.before.distinct s.before.formed.visible same
+  was_local e s same = same_facts_local m.tree a s.before.distinct s.before.wellformed.visible same
 
   is_facts : (e : Event) → Step c e m n → AreLocal (look n.tree) b → (x : ℕ) → b x ≡ facts_of n.tree x
-  is_facts e s local = local_facts n.tree b s.after.distinct s.after.formed.visible local
+  is_facts e s local = local_facts n.tree b s.after.distinct s.after.wellformed.visible local
 
   changed : (e : Event) (x : ℕ) → Step c e m n → ChangedAt x m n → Updated D (look n.tree) x a b → D → ((x : ℕ) → a x ≡ facts_of m.tree x) → (x : ℕ) → b x ≡ facts_of n.tree x
   changed e x s at updated d same = is_facts e s (updated at.0 (look m.tree) at.1 (was_local e s same) d)
@@ -38,7 +38,7 @@ module _ (c : ContextModel) (m n : Module) (a : Facts) (before after : ℕ) wher
       → after ≤ before + most_over (reached (facts_of m.tree) (facts_of n.tree) (heads n.tree) x) (heads n.tree)
   within e x s at same few =
       subst (λ (f : Facts). after ≤ before + most_over (reached f (facts_of n.tree) (heads n.tree) x) (heads n.tree)) (λ i y. same y i)
-      (few at.0 (look m.tree) at.1 (same_facts_local m.tree a s.before.distinct s.before.formed.visible same) (ordered_after c m n e s))
+      (few at.0 (look m.tree) at.1 (same_facts_local m.tree a s.before.distinct s.before.wellformed.visible same) (ordered_after c m n e s))
 
   none_more : (k : ℕ) → after ≡ before → after ≤ before + k
   none_more k e = omega (arith, e)

@@ -78,28 +78,28 @@ in_is_use x j (u ∷ us) (inr h) = later (same_use u (x, j)) (in_is_use x j us h
 
 -- distinct uses that are among others are at most as many
 record Split (u : ℕ × ℕ) (ws : List (ℕ × ℕ)) : Type 0 where
-  front : List (ℕ × ℕ)
+  preceding : List (ℕ × ℕ)
   back : List (ℕ × ℕ)
-  is : ws ≡ front ++ u ∷ back
+  is : ws ≡ preceding ++ u ∷ back
 
 split : (u : ℕ × ℕ) (ws : List (ℕ × ℕ)) → In u ws → Split u ws
 split u [] h = absurd h
-split u (w ∷ ws) (inl e) = record { front = []; back = ws; is = ap (λ z. z ∷ ws) (sym e) }
-split u (w ∷ ws) (inr h) = let r = split u ws h in record { front = w ∷ r.front; back = r.back; is = ap (λ l. w ∷ l) r.is }
+split u (w ∷ ws) (inl e) = record { preceding = []; back = ws; is = ap (λ z. z ∷ ws) (sym e) }
+split u (w ∷ ws) (inr h) = let r = split u ws h in record { preceding = w ∷ r.preceding; back = r.back; is = ap (λ l. w ∷ l) r.is }
 
 fewer : (us ws : List (ℕ × ℕ)) → EachOnce us → ((p : ℕ × ℕ) → In p us → In p ws) → length us ≤ length ws
 fewer [] ws once h = omega arith
 fewer (u ∷ us) ws once h =
     let s = split u ws (h u (inl refl)) in
-    let rest : length us ≤ length (s.front ++ s.back) = fewer us (s.front ++ s.back) once.1 (λ p k. elim (in_parts p s.front (u ∷ s.back) (subst (In p) s.is (h p (inr k)))) [
-      | inl a ↦ in_left p s.front s.back a
+    let rest : length us ≤ length (s.preceding ++ s.back) = fewer us (s.preceding ++ s.back) once.1 (λ p k. elim (in_parts p s.preceding (u ∷ s.back) (subst (In p) s.is (h p (inr k)))) [
+      | inl a ↦ in_left p s.preceding s.back a
       | inr b ↦ elim b [
         | inl e ↦ absurd (true≢false (sym (in_is_use u.0 u.1 us (subst (λ z. In z us) e k)) ∙ once.0))
-        | inr c ↦ in_right p s.front s.back c
+        | inr c ↦ in_right p s.preceding s.back c
       ]
     ]) in
-    let a = length-append s.front s.back in
-    let b : length ws ≡ length s.front + length (u ∷ s.back) = ap length s.is ∙ length-append s.front (u ∷ s.back) in
+    let a = length-append s.preceding s.back in
+    let b : length ws ≡ length s.preceding + length (u ∷ s.back) = ap length s.is ∙ length-append s.preceding (u ∷ s.back) in
     omega (arith, rest, a, b)
 
 -- ---- the uses of a module
@@ -130,7 +130,7 @@ module _ (w : World) (d : ℕ) (us : List (ℕ × ℕ)) (are : AreUses (Result d
         here = map_head (name_term w.ctx) (type_term w.ctx) (attr_term w.ctx) (head g.0.here);
         is = ap (look_in w) id
             ∙ look_number w (stand_id g.0)
-            ∙ ap (option_map (λ (o : Op). map_head (name_term w.ctx) (type_term w.ctx) (attr_term w.ctx) (head o))) (stand_found w.store.module_of.tree w.formed.distinct g.0 g.1);
+            ∙ ap (option_map (λ (o : Op). map_head (name_term w.ctx) (type_term w.ctx) (attr_term w.ctx) (head o))) (stand_found w.store.module_of.tree w.wellformed.distinct g.0 g.1);
         operand = r.1;
       }
 

@@ -4,7 +4,7 @@ use Rattle.std.specs.List.{All, list_all, list_any}
 use Rattle.std.proofs.lemmas.List.Elements.{All-nil, All-cons, All-head, All-tail}
 use Rattle.ir_event.specs.types.Things.{ContextModel, IsExtendedBy, IsName}
 use Rattle.ir_event.specs.types.Terms.{name_term}
-use Rattle.ir_event.proofs.of_types.Growth.{front_agree, front_length}
+use Rattle.ir_event.proofs.of_types.Growth.{preceding_agree, preceding_length}
 use Rattle.ir_event.proofs.of_tree_laws.Listed.{both}
 use Rattle.conversion_base.specs.Words.{named}
 use Rattle.conversion_base.specs.RuleNames.{is_converting}
@@ -19,10 +19,10 @@ still_all P Q h [] a = All-nil Q
 still_all P Q h (n ∷ ns) a = All-cons Q n ns (h n (All-head P n ns a)) (still_all P Q h ns (All-tail P n ns a))
 
 name_stays : (c d : ContextModel) → IsExtendedBy c d → (n : ℕ) → IsName c n → name_term d n ≡ name_term c n
-name_stays c d g n h = front_agree [] c.names d.names g.names n h
+name_stays c d g n h = preceding_agree [] c.names d.names g.names n h
 
 name_known : (c d : ContextModel) → IsExtendedBy c d → (n : ℕ) → IsName c n → IsName d n
-name_known c d g n h = let l = front_length c.names d.names g.names in omega (arith, l, h)
+name_known c d g n h = let l = preceding_length c.names d.names g.names in omega (arith, l, h)
 
 pub aim_stays : (c d : ContextModel) (g : TargetOf ℕ) → IsExtendedBy c d → IsAimIn c g → target_model d g ≡ target_model c g
 aim_stays c d g grows is =

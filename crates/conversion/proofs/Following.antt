@@ -33,11 +33,11 @@ pub first_once : (x b : ℕ) (xs : List ℕ) → IsDistinct eqb (x ∷ xs) → t
 first_once x b xs d h e = true≢false (sym h ∙ subst (λ z. there z xs ≡ false) (eqb-true x b e) (absent_first x xs d))
 
 -- an entry after the first x comes after x
-after_cut : (a x : ℕ) (front back : List ℕ) → IsDistinct eqb (front ++ a ∷ back) → there x back ≡ true → comes_after a x (front ++ a ∷ back) ≡ true
+after_cut : (a x : ℕ) (preceding back : List ℕ) → IsDistinct eqb (preceding ++ a ∷ back) → there x back ≡ true → comes_after a x (preceding ++ a ∷ back) ≡ true
 after_cut a x [] back d h = ap (λ b. cond b (there x back) (comes_after a x back)) (eq-eqb a a refl) ∙ h
-after_cut a x (y ∷ front) back d h = elim (bool_cases (eqb y a)) [
-  | inl e ↦ absurd (first_once y a (front ++ a ∷ back) d (there_right a front (a ∷ back) (ap (λ b. b || there a back) (eq-eqb a a refl))) e)
-  | inr e ↦ ap (λ b. cond b (there x (front ++ a ∷ back)) (comes_after a x (front ++ a ∷ back))) e ∙ after_cut a x front back (IsDistinct-tail eqb y (front ++ a ∷ back) d) h
+after_cut a x (y ∷ preceding) back d h = elim (bool_cases (eqb y a)) [
+  | inl e ↦ absurd (first_once y a (preceding ++ a ∷ back) d (there_right a preceding (a ∷ back) (ap (λ b. b || there a back) (eq-eqb a a refl))) e)
+  | inr e ↦ ap (λ b. cond b (there x (preceding ++ a ∷ back)) (comes_after a x (preceding ++ a ∷ back))) e ∙ after_cut a x preceding back (IsDistinct-tail eqb y (preceding ++ a ∷ back) d) h
 ]
 
 -- ---- trees
@@ -62,7 +62,7 @@ module _ {N T A : Type 0} where
 
   -- the ids of a tree, split after the contents of an operation
   abbrev Cut : List ℕ → StandOf N T A → Type 0
-  Cut all s = (front : List ℕ) × (all ≡ front ++ (ids s.here ++ trailing s.path))
+  Cut all s = (preceding : List ℕ) × (all ≡ preceding ++ (ids s.here ++ trailing s.path))
 
   cut_more : (more xs : List ℕ) (s : StandOf N T A) → Cut xs s → Cut (more ++ xs) s
   cut_more more xs s c = (more ++ c.0, ap (λ l. more ++ l) c.1 ∙ sym (append_assoc more c.0 (ids s.here ++ trailing s.path)))
@@ -87,14 +87,14 @@ module _ {N T A : Type 0} where
     cut_region p b r empty s k = absurd k
     cut_region p b r (block args os) s k = cut_ops p b r args [] os s k
 
-    cut_ops : (p : OpOf N T A) (b : List (StepOf N T A)) (r : ℕ) (args : List T) (front : List (OpOf N T A)) (os : OpsOf N T A) (s : StandOf N T A) → In s (ops_stands p b r args front os) → Cut (ops_ids os ++ (regions_ids (regions_from (r + 1) (regions p)) ++ trailing b)) s
-    cut_ops p b r args front no_ops s k = absurd k
-    cut_ops p b r args front (next o os) s k =
-        let a = step p r args front os in
+    cut_ops : (p : OpOf N T A) (b : List (StepOf N T A)) (r : ℕ) (args : List T) (preceding : List (OpOf N T A)) (os : OpsOf N T A) (s : StandOf N T A) → In s (ops_stands p b r args preceding os) → Cut (ops_ids os ++ (regions_ids (regions_from (r + 1) (regions p)) ++ trailing b)) s
+    cut_ops p b r args preceding no_ops s k = absurd k
+    cut_ops p b r args preceding (next o os) s k =
+        let a = step p r args preceding os in
         let end = regions_ids (regions_from (r + 1) (regions p)) ++ trailing b in
-        elim (in_parts s (stands (a ∷ b) o) (ops_stands p b r args (front ++ o ∷ []) os) k) [
+        elim (in_parts s (stands (a ∷ b) o) (ops_stands p b r args (preceding ++ o ∷ []) os) k) [
           | inl l ↦ subst (λ xs. Cut xs s) (sym (append_assoc (ids o) (ops_ids os) end)) (cut_op (a ∷ b) o s l)
-          | inr l ↦ subst (λ xs. Cut xs s) (sym (append_assoc (ids o) (ops_ids os) end)) (cut_more (ids o) (ops_ids os ++ end) s (cut_ops p b r args (front ++ o ∷ []) os s l))
+          | inr l ↦ subst (λ xs. Cut xs s) (sym (append_assoc (ids o) (ops_ids os) end)) (cut_more (ids o) (ops_ids os ++ end) s (cut_ops p b r args (preceding ++ o ∷ []) os s l))
         ]
 
   module _ (t : OpOf N T A) (d : HasDistinctIds t) where

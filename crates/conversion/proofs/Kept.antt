@@ -23,7 +23,7 @@ use Rattle.patterns_base.specs.Contents.{Edit}
 use Rattle.patterns_base.specs.declared.rule.Rule.TheVariants.{CastBack}
 use Rattle.patterns_base.specs.Casting.{cast_back, unrealized, back_from, through_index}
 use Rattle.patterns_base.specs.Keeps.{given}
-use Rattle.patterns_base.specs.Looks.{Header, One, front_of, defining_op, insertion_point, is_verified, is_of_type, one, one_from, source, type_of, when}
+use Rattle.patterns_base.specs.Looks.{Header, One, insertion_of, defining_op, insertion_point, is_verified, is_of_type, one, one_from, source, type_of, when}
 use Rattle.patterns_base.specs.Makes.{give}
 use Rattle.patterns_base.specs.Rules.{rule}
 use Rattle.patterns_base.specs.Rewrites.{edits_of, eligible}
@@ -38,7 +38,7 @@ use Rattle.patterns_base.proofs.Facts.{when_some}
 
 -- ---- when casting back applies at a cast
 
-edits_are : (m : Module) (x : ℕ) → edits_of CastBack m x ≡ given (find x m.tree) (λ o. given (front_of x m.tree) (λ front. when (is_verified m.tree (head o)) (rule CastBack m.tree m.next front o)))
+edits_are : (m : Module) (x : ℕ) → edits_of CastBack m x ≡ given (find x m.tree) (λ o. given (insertion_of x m.tree) (λ insertion. when (is_verified m.tree (head o)) (rule CastBack m.tree m.next insertion o)))
 unfolding edits_of eligible
 edits_are m x = refl
 
@@ -55,11 +55,11 @@ source_some t name v y e =
     let b = both (named name g.0.name) (is_verified t g.0) w.0 in
     (g.1 ∙ ap Some same, ap (λ (h : Header). named name h.name) (sym same) ∙ b.0, ap (is_verified t) (sym same) ∙ b.1)
 
-module _ (t : Operation) (n : ℕ) (front : Place) (o : Operation) (p : One) where
-  way_from : (es : List Edit) → unrealized t n front o p ≡ Some es → Way t p
+module _ (t : Operation) (n : ℕ) (insertion : Place) (o : Operation) (p : One) where
+  way_from : (es : List Edit) → unrealized t n insertion o p ≡ Some es → Way t p
   way_from es e = go (is_of_type t p.ty p.first) refl e
     where
-      go : (b : Bool) → is_of_type t p.ty p.first ≡ b → cond b (Some (give (head o).id p.first)) (given (source t p.name p.first) (λ y. given (one y) (back_from t n front o p))) ≡ Some es → Way t p
+      go : (b : Bool) → is_of_type t p.ty p.first ≡ b → cond b (Some (give (head o).id p.first)) (given (source t p.name p.first) (λ y. given (one y) (back_from t n insertion o p))) ≡ Some es → Way t p
       go true i k = inl i
       go false i k =
           (let y = given_some (source t p.name p.first) _ es k in
@@ -68,8 +68,8 @@ module _ (t : Operation) (n : ℕ) (front : Place) (o : Operation) (p : One) whe
           let s = source_some t p.name p.first y.0 y.1 in
           inr (y.0, q.0, s.0, s.1, s.2, q.1, w.0))
 
-  way_to : Way t p → unrealized t n front o p ≡ None → ⊥
-  way_to (inl i) e = (let k : Some (give (head o).id p.first) ≡ None = sym (ap (λ b. cond b (Some (give (head o).id p.first)) (given (source t p.name p.first) (λ y. given (one y) (back_from t n front o p)))) i) ∙ e in absurd cc)
+  way_to : Way t p → unrealized t n insertion o p ≡ None → ⊥
+  way_to (inl i) e = (let k : Some (give (head o).id p.first) ≡ None = sym (ap (λ b. cond b (Some (give (head o).id p.first)) (given (source t p.name p.first) (λ y. given (one y) (back_from t n insertion o p)))) i) ∙ e in absurd cc)
   way_to (inr w) e = go (is_of_type t p.ty p.first) e
     where
       some : Option (List Edit)
@@ -78,25 +78,25 @@ module _ (t : Operation) (n : ℕ) (front : Place) (o : Operation) (p : One) whe
       sourced : source t p.name p.first ≡ Some w.0
       sourced = ap (λ a. given a (λ h. when (named p.name h.name && is_verified t h) (Some h))) w.2 ∙ ap (λ b. when b (Some w.0)) (λ i. w.3 i && w.4 i)
 
-      back : given (source t p.name p.first) (λ y. given (one y) (back_from t n front o p)) ≡ Some (give (head o).id w.1.first)
+      back : given (source t p.name p.first) (λ y. given (one y) (back_from t n insertion o p)) ≡ Some (give (head o).id w.1.first)
       back =
-          ap (λ a. given a (λ y. given (one y) (back_from t n front o p))) sourced
-          ∙ ap (λ a. given a (back_from t n front o p)) w.5
+          ap (λ a. given a (λ y. given (one y) (back_from t n insertion o p))) sourced
+          ∙ ap (λ a. given a (back_from t n insertion o p)) w.5
           ∙ ap (λ b. when b (Some (give (head o).id w.1.first))) w.6
 
-      go : (b : Bool) → cond b (Some (give (head o).id p.first)) (given (source t p.name p.first) (λ y. given (one y) (back_from t n front o p))) ≡ None → ⊥
+      go : (b : Bool) → cond b (Some (give (head o).id p.first)) (given (source t p.name p.first) (λ y. given (one y) (back_from t n insertion o p))) ≡ None → ⊥
       go true k = absurd cc
       go false k = (let none : Some (give (head o).id w.1.first) ≡ None = sym back ∙ k in absurd cc)
 
 -- casting back at a cast gives that
-rule_at : (t : Operation) (n : ℕ) (front : Place) (o : Operation) (p : One) → one (head o) ≡ Some p → named cast_name p.name ≡ true → rule CastBack t n front o ≡ unrealized t n front o p
-rule_at t n front o p e c = rule_is t n front o ∙ ap (λ a. given a of) e ∙ ap (λ b. cond b (unrealized t n front o p) (when (among index_casts p.name) (through_index t n front o p))) c
+rule_at : (t : Operation) (n : ℕ) (insertion : Place) (o : Operation) (p : One) → one (head o) ≡ Some p → named cast_name p.name ≡ true → rule CastBack t n insertion o ≡ unrealized t n insertion o p
+rule_at t n insertion o p e c = rule_is t n insertion o ∙ ap (λ a. given a of) e ∙ ap (λ b. cond b (unrealized t n insertion o p) (when (among index_casts p.name) (through_index t n insertion o p))) c
   where
     of : One → Option (List Edit)
-    of q = cond (named cast_name q.name) (unrealized t n front o q) (when (among index_casts q.name) (through_index t n front o q))
+    of q = cond (named cast_name q.name) (unrealized t n insertion o q) (when (among index_casts q.name) (through_index t n insertion o q))
 
-way_at : (t : Operation) (n : ℕ) (front : Place) (o : Operation) (p : One) → one (head o) ≡ Some p → named cast_name p.name ≡ true → (es : List Edit) → rule CastBack t n front o ≡ Some es → Way t p
-way_at t n front o p e c es r = way_from t n front o p es (sym (rule_at t n front o p e c) ∙ r)
+way_at : (t : Operation) (n : ℕ) (insertion : Place) (o : Operation) (p : One) → one (head o) ≡ Some p → named cast_name p.name ≡ true → (es : List Edit) → rule CastBack t n insertion o ≡ Some es → Way t p
+way_at t n insertion o p e c es r = way_from t n insertion o p es (sym (rule_at t n insertion o p e c) ∙ r)
 
 one_name : (name : List ℕ) (vs : List Value) (ts : List TypeTerm) (p : One) → one_from name vs ts ≡ Some p → (p.name ≡ name) × (vs ≡ p.first ∷ [])
 one_name name [] ts p e = absurd cc
@@ -108,9 +108,9 @@ one_name name (a ∷ b ∷ vs) ts p e = absurd cc
 -- casting back applies at a cast
 record Collapses (m : Module) (x : ℕ) : Type 0 where
   here : Operation
-  front : Place
+  insertion : Place
   found : find x m.tree ≡ Some here
-  at : front_of x m.tree ≡ Some front
+  at : insertion_of x m.tree ≡ Some insertion
   verified : is_verified m.tree (head here) ≡ true
   ends : One
   one_is : one (head here) ≡ Some ends
@@ -122,7 +122,7 @@ named_cast x t o c f = sym (ap is_cast_found f) ∙ c
 collapses_from : (m : Module) (x : ℕ) (es : List Edit) → is_cast x m.tree ≡ true → edits_of CastBack m x ≡ Some es → Collapses m x
 collapses_from m x es c e =
     let o = given_some (find x m.tree) _ es (sym (edits_are m x) ∙ e) in
-    let f = given_some (front_of x m.tree) _ es o.2 in
+    let f = given_some (insertion_of x m.tree) _ es o.2 in
     let w = when_some (is_verified m.tree (head o.0)) _ es f.2 in
     let r : cast_back m.tree m.next f.0 o.0 ≡ Some es = sym (rule_is m.tree m.next f.0 o.0) ∙ w.1 in
     let p = given_some (one (head o.0)) _ es r in
@@ -130,7 +130,7 @@ collapses_from m x es c e =
     let cast = ap (named cast_name) name.0 ∙ named_cast x m.tree o.0 c o.1 in
     record {
       here = o.0;
-      front = f.0;
+      insertion = f.0;
       found = o.1;
       at = f.1;
       verified = w.0;
@@ -143,16 +143,16 @@ collapses_to : (m : Module) (x : ℕ) → is_cast x m.tree ≡ true → Collapse
 collapses_to m x c k e =
     let name = one_name (head k.here).name (head k.here).operands (head k.here).results k.ends k.one_is in
     let cast = ap (named cast_name) name.0 ∙ named_cast x m.tree k.here c k.found in
-    way_to m.tree m.next k.front k.here k.ends k.way (
-    sym (rule_at m.tree m.next k.front k.here k.ends k.one_is cast)
-    ∙ sym (ap (λ b. when b (rule CastBack m.tree m.next k.front k.here)) k.verified)
-    ∙ sym (ap (λ a. given a (λ front. when (is_verified m.tree (head k.here)) (rule CastBack m.tree m.next front k.here))) k.at)
-    ∙ sym (ap (λ a. given a (λ o. given (front_of x m.tree) (λ front. when (is_verified m.tree (head o)) (rule CastBack m.tree m.next front o)))) k.found)
+    way_to m.tree m.next k.insertion k.here k.ends k.way (
+    sym (rule_at m.tree m.next k.insertion k.here k.ends k.one_is cast)
+    ∙ sym (ap (λ b. when b (rule CastBack m.tree m.next k.insertion k.here)) k.verified)
+    ∙ sym (ap (λ a. given a (λ insertion. when (is_verified m.tree (head k.here)) (rule CastBack m.tree m.next insertion k.here))) k.at)
+    ∙ sym (ap (λ a. given a (λ o. given (insertion_of x m.tree) (λ insertion. when (is_verified m.tree (head o)) (rule CastBack m.tree m.next insertion o)))) k.found)
     ∙ sym (edits_are m x)
     ∙ e)
 
 -- an operation that isn't the root has a place
-placed : (t : Operation) → HasDistinctIds t → (x : ℕ) → has_id x t ≡ true → eqb (head t).id x ≡ false → (f : Place) × (front_of x t ≡ Some f)
+placed : (t : Operation) → HasDistinctIds t → (x : ℕ) → has_id x t ≡ true → eqb (head t).id x ≡ false → (f : Place) × (insertion_of x t ≡ Some f)
 placed t d x h root =
     let s = present_stand [] t x h in
     elim (has_around [] t s.0 s.1) [
@@ -229,7 +229,7 @@ module _ (f : Header → Header) (results : (h : Header) → (f h).results ≡ h
             let among_them : In k.ends.first (head w.was).operands = subst (λ l. In k.ends.first l) (sym name.1 ∙ ap (λ (h : Header). h.operands) heads) (inl refl) in
             record {
               here = w.was;
-              front = at.0;
+              insertion = at.0;
               found = w.found;
               at = at.1;
               verified = ap (is_verified m.tree) (sym heads) ∙ sym cleans ∙ k.verified;

@@ -18,7 +18,7 @@ use Rattle.ir_event.proofs.of_tree_laws.Put.{child}
 use Rattle.ir_event.proofs.of_tree_laws.Around.{around_there}
 use Rattle.ir_event.proofs.of_tree_laws.Values.{shape}
 use Rattle.conversion.proofs.Following.{trailing, comes_later, first_once, regions_from, there, there_left, there_right}
-use Rattle.patterns_base.proofs.Front.{joined_cut}
+use Rattle.patterns_base.proofs.Preceding.{joined_cut}
 use Rattle.std.proofs.lemmas.Bool.{or_right}
 
 -- ---- lists
@@ -60,10 +60,10 @@ never_itself a (x ∷ xs) d h = elim (bool_cases (eqb x a)) [
 -- ---- trees
 
 module _ {N T A : Type 0} where
-  split : (f : OpOf N T A) (front : List (OpOf N T A)) → In f front → (pre : List (OpOf N T A)) × (post : List (OpOf N T A)) × (front ≡ pre ++ f ∷ post)
+  split : (f : OpOf N T A) (preceding : List (OpOf N T A)) → In f preceding → (pre : List (OpOf N T A)) × (post : List (OpOf N T A)) × (preceding ≡ pre ++ f ∷ post)
   split f [] h = absurd h
-  split f (g ∷ front) (inl e) = ([], front, ap (λ z. z ∷ front) (sym e))
-  split f (g ∷ front) (inr h) = let r = split f front h in (g ∷ r.0, r.1, ap (λ l. g ∷ l) r.2)
+  split f (g ∷ preceding) (inl e) = ([], preceding, ap (λ z. z ∷ preceding) (sym e))
+  split f (g ∷ preceding) (inr h) = let r = split f preceding h in (g ∷ r.0, r.1, ap (λ l. g ∷ l) r.2)
 
   own_there : (o : OpOf N T A) → there (head o).id (ids o) ≡ true
   own_there (op h rs) = ap (λ b. b || there h.id (regions_ids rs)) (eq-eqb h.id h.id refl)
@@ -83,9 +83,9 @@ module _ {N T A : Type 0} where
     not_before_itself a h = never_itself a (ids t) d h
 
     -- the earlier operations of its block
-    front_precedes : (o : OpOf N T A) (a : StepOf N T A) (q : List (StepOf N T A)) → In (stand o (a ∷ q)) (stands [] t) → (f : OpOf N T A) → In f a.front → precedes (head f).id (head o).id t ≡ true
-    front_precedes o a q h f k =
-        let s = split f a.front k in
+    preceding_precedes : (o : OpOf N T A) (a : StepOf N T A) (q : List (StepOf N T A)) → In (stand o (a ∷ q)) (stands [] t) → (f : OpOf N T A) → In f a.preceding → precedes (head f).id (head o).id t ≡ true
+    preceding_precedes o a q h f k =
+        let s = split f a.preceding k in
         let rest = joined_ops s.1 (next o a.rest) in
         let u = stand f (step a.parent a.region a.args s.0 rest ∷ q) in
         let shaped = shape t o a q h ∙ ap (λ l. Some (block a.args l)) (ap (λ l. joined_ops l (next o a.rest)) s.2 ∙ joined_cut s.0 s.1 f (next o a.rest)) in
@@ -101,17 +101,17 @@ module _ {N T A : Type 0} where
 
     around_precedes : (o : OpOf N T A) (a : StepOf N T A) (q : List (StepOf N T A)) → In (stand o (a ∷ q)) (stands [] t) → precedes (head a.parent).id (head o).id t ≡ true
     around_precedes o a q h =
-        let inside = inside_regions (head o).id a.region (regions a.parent) (block a.args (joined_ops a.front (next o a.rest))) (shape t o a q h) (joined_there o a.front a.rest) in
+        let inside = inside_regions (head o).id a.region (regions a.parent) (block a.args (joined_ops a.preceding (next o a.rest))) (shape t o a q h) (joined_there o a.preceding a.rest) in
         comes_later t d (stand a.parent q) (head o).id (around_there t o a q h).1 (there_left (head o).id (regions_ids (regions a.parent)) (trailing q) inside)
 
     -- the operations whose results are visible to it
     pub seen_precedes : (isolated : N → Bool) (path : List (StepOf N T A)) (o : OpOf N T A) → In (stand o path) (stands [] t) → (y k : ℕ) → dominated_by isolated path (Result y k) ≡ true → precedes y (head o).id t ≡ true
     seen_precedes isolated [] o h y k e = absurd (true≢false (sym e))
-    seen_precedes isolated (a ∷ q) o h y k e = elim (either (list_any (λ f. shows (Result y k) (results_of f)) a.front) _ e) [
+    seen_precedes isolated (a ∷ q) o h y k e = elim (either (list_any (λ f. shows (Result y k) (results_of f)) a.preceding) _ e) [
       | inl l ↦
-          let w = one_any (λ f. shows (Result y k) (results_of f)) a.front l in
+          let w = one_any (λ f. shows (Result y k) (results_of f)) a.preceding l in
           let b = both (eqb y (head w.0).id) (nat_lt k (length (head w.0).results)) w.2 in
-          subst (λ z. precedes z (head o).id t ≡ true) (sym (eqb-true y (head w.0).id b.0)) (front_precedes o a q h w.0 w.1)
+          subst (λ z. precedes z (head o).id t ≡ true) (sym (eqb-true y (head w.0).id b.0)) (preceding_precedes o a q h w.0 w.1)
       | inr l ↦
           let b = both (not (isolated (head a.parent).name)) (dominated_by isolated q (Result y k)) l in
           precedes_through y (head a.parent).id (head o).id (seen_precedes isolated q a.parent (around_there t o a q h).1 y k b.1) (around_precedes o a q h)

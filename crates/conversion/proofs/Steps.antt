@@ -21,7 +21,7 @@ use Rattle.ir_event.specs.tree_laws.Members.{In}
 use Rattle.ir_event.specs.tree_laws.Reads.{precedes}
 use Rattle.ir_event.specs.tree_laws.Stands.{StandOf, dominated_by, dropping}
 use Rattle.ir_event.proofs.of_tree_laws.Around.{left_apart}
-use Rattle.ir_event.proofs.of_tree_laws.Formed.{from_formed}
+use Rattle.ir_event.proofs.of_tree_laws.Wellformed.{from_wellformed}
 use Rattle.ir_event.proofs.of_tree_laws.Heads.{each_id}
 use Rattle.ir_event.proofs.of_tree_laws.HeadForm.{edit_ids}
 use Rattle.ir_event.proofs.of_tree_laws.Listed.{all_each, bool_cases, both, not_false}
@@ -61,7 +61,7 @@ module _ (m n : Module) (x : ℕ) where
       let a = applies CastBack m x w.0 w.1 in
       let o = cast_there x m.tree c in
       let same : o.0 ≡ a.here = (let two : Some o.0 ≡ Some a.here = sym o.1 ∙ a.found in cc) in
-      let v = given_at m.tree m.next a.front a.here w.0 (ap (λ (z : Operation). named cast_name (head z).name) (sym same) ∙ o.2) a.is in
+      let v = given_at m.tree m.next a.insertion a.here w.0 (ap (λ (z : Operation). named cast_name (head z).name) (sym same) ∙ o.2) a.is in
       let id = (found_id x m.tree a.here a.found).1 in
       let is : n ≡ all_edited (give x v.0) m = w.2 ∙ ap (λ es. all_edited es m) (v.1 ∙ ap (λ y. give y v.0) id) in
       by_rule u v.0 (ap (λ (q : Module). q.tree) is)
@@ -136,7 +136,7 @@ module _ (m : Module) (w : IsWellFormed is_isolated m) where
   user_after : (y k z : ℕ) (p : Operation) → find z m.tree ≡ Some p → In (Result y k) (head p).operands → precedes y z m.tree ≡ true
   user_after y k z p e h =
       let s = found_stands z m.tree p e in
-      let own = (from_formed is_isolated m.tree w.formed).dominated_by_own s.0 s.1 in
+      let own = (from_wellformed is_isolated m.tree w.wellformed).dominated_by_own s.0 s.1 in
       let seen = all_each (dominated_by is_isolated s.0.path) (head s.0.here).operands own (Result y k) (subst (λ (q : Operation). In (Result y k) (head q).operands) (sym s.3) h) in
       subst (λ i. precedes y i m.tree ≡ true) s.2 (seen_precedes m.tree w.distinct is_isolated s.0.path s.0.here s.1 y k seen)
 

@@ -270,9 +270,9 @@ pub counted_end : (e : Ended) (ks : List AppliedRule) (n : ℕ) (s : State) → 
 counted_end (converted m js) ks n s h is = (is ∙ ap length h.0, h.1)
 counted_end (given_up r x) ks n s h is = absurd h
 
-pub stood_end : (e : Ended) (ks : List AppliedRule) (s : State) → Ends e (Ok ks) s → applied_rules e ≡ ks
-stood_end (converted m js) ks s h = sym h.0
-stood_end (given_up r x) ks s h = absurd h
+pub located_end : (e : Ended) (ks : List AppliedRule) (s : State) → Ends e (Ok ks) s → applied_rules e ≡ ks
+located_end (converted m js) ks s h = sym h.0
+located_end (given_up r x) ks s h = absurd h
 
 -- a property of the current module is kept when the mark is closed
 pub kept_whole : (P : Module → Type 0) (r : Result ℕ Fault) (start stepped here end : State) → stepped ≡ marked start → here.marks ≡ stepped.marks → OnOk r (P here.held) → (well : Bool) → well ≡ is_ok r → Closed well here end → OnOk r (P end.held)

@@ -57,12 +57,12 @@ module _ (xs : List ℕ) (p passed2 : ℕ) (again2 : List ℕ) (s : State) (list
       go w (Ok false) k = (applied_none (collapse s.held x) s.held t.held k).1
       go w (Err f) k = subst (λ (a : Rewrite). Refuses a t.things f) (sym w.1) (refuses_or (collapse s.held x) w.0 t.things f k)
 
-  pub walked_by : (formed : IsWellFormed is_isolated s.held) (x : ℕ) → Some x ≡ slice_get xs p → (gs : Option (List ℕ)) → ((l : List ℕ) → gs ≡ Some l → Gives l x s.held.tree) → (f : ℕ → Option ℕ) → ArePlaces xs f
+  pub walked_by : (wellformed : IsWellFormed is_isolated s.held) (x : ℕ) → Some x ≡ slice_get xs p → (gs : Option (List ℕ)) → ((l : List ℕ) → gs ≡ Some l → Gives l x s.held.tree) → (f : ℕ → Option ℕ) → ArePlaces xs f
       → (r : Result Bool Refusal) (t : State) (passed3 : ℕ) (again3 : List ℕ) → AnswersAfter (collapse s.held x) r s t → IfOk r (λ done. FreedIf done gs f passed2 again2 passed3 again3) → OnOk r (Walked xs passed3 again3 t.held)
-  walked_by formed x e gs gives f places (Err k) t passed3 again3 c freed = tt
-  walked_by formed x e gs gives f places (Ok true) t passed3 again3 c freed =
-      walked_after xs taken.0 taken.1 passed2 again2 p s.held taken.2 t.held x (sym e) formed listed (applied_becomes (collapse s.held x) s.held t.held c) taken.3 gs gives f places passed3 again3 freed
-  walked_by formed x e gs gives f places (Ok false) t passed3 again3 c freed =
+  walked_by wellformed x e gs gives f places (Err k) t passed3 again3 c freed = tt
+  walked_by wellformed x e gs gives f places (Ok true) t passed3 again3 c freed =
+      walked_after xs taken.0 taken.1 passed2 again2 p s.held taken.2 t.held x (sym e) wellformed listed (applied_becomes (collapse s.held x) s.held t.held c) taken.3 gs gives f places passed3 again3 freed
+  walked_by wellformed x e gs gives f places (Ok false) t passed3 again3 c freed =
       (let none_it = applied_none (collapse s.held x) s.held t.held c in
       subst (λ (m : Module). Walked xs passed3 again3 m) (sym none_it.1)
       (subst (λ j. Walked xs j again3 s.held) (sym freed.0) (subst (λ l. Walked xs passed2 l s.held) (sym freed.1)
@@ -99,7 +99,7 @@ module _ (start : State) (xs : List ℕ) where
       subst (λ (a : Rewrite). Applied a false start.held here.held) (sym (none_waits xs passed again start.held listed (subst (Walked xs passed again) w.held w.walked) e l)) (refl, w.held)
 
   pub still_listed : IsWellFormed is_isolated start.held → HaveCasts xs start.held.tree → (next : State) → AnswersAfter (next_collapse start.held) (Ok true) start next → HaveCasts xs next.held.tree
-  still_listed formed listed next c = casts_stay start.held next.held xs formed.distinct listed (next_listed start.held xs listed ∙ applied_becomes (next_collapse start.held) start.held next.held c)
+  still_listed wellformed listed next c = casts_stay start.held next.held xs wellformed.distinct listed (next_listed start.held xs listed ∙ applied_becomes (next_collapse start.held) start.held next.held c)
 
 -- ---- the casts among the operations of a module
 

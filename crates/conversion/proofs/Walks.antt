@@ -146,26 +146,26 @@ module _ (xs : List ℕ) (passed : ℕ) (again : List ℕ) (passed2 : ℕ) (agai
   pub taken_first : HaveCasts xs m.tree → Took passed again passed2 again2 p → (x : ℕ) → slice_get xs p ≡ Some x → (r : Rewrite) × (next_collapse m ≡ rewrite_or (collapse m x) r)
   taken_first h k x e = let r = rewrite_after (collapse m) xs p x e (before_none k) in (r.0, sym (next_listed m xs h) ∙ r.1)
 
-  module _ (n : Module) (x : ℕ) (at_p : slice_get xs p ≡ Some x) (formed : IsWellFormed is_isolated m) (listed : HaveCasts xs m.tree) (e : collapse m x ≡ becomes n) where
+  module _ (n : Module) (x : ℕ) (at_p : slice_get xs p ≡ Some x) (wellformed : IsWellFormed is_isolated m) (listed : HaveCasts xs m.tree) (e : collapse m x ≡ becomes n) where
     inner_x : is_inner x m ≡ true
     inner_x = (step_of m n x e).0
 
     -- the passed casts stay as they are
     passed_stuck : Took passed again passed2 again2 p → (q y : ℕ) → q < passed2 → slice_get xs q ≡ Some y → NoRule y n
     passed_stuck (of_again is same trailing) q y l f =
-        still_stuck m n x formed e y (inl (only_erased m n x (w.stuck p x (w.within p (subst (In p) (sym is) (inl refl))) at_p) e)) (w.stuck q y (omega (arith, l, same)) f)
+        still_stuck m n x wellformed e y (inl (only_erased m n x (w.stuck p x (w.within p (subst (In p) (sym is) (inl refl))) at_p) e)) (w.stuck q y (omega (arith, l, same)) f)
     passed_stuck (of_next is empty at more) q y l f = elim (cases_order q passed) [
-      | inl i ↦ (λ j. absurd (step_gone m n x formed e (subst (λ z. is_inner z n ≡ true) (same_at q x y (i ∙ sym at) f at_p) j)))
+      | inl i ↦ (λ j. absurd (step_gone m n x wellformed e (subst (λ z. is_inner z n ≡ true) (same_at q x y (i ∙ sym at) f at_p) j)))
       | inr (inl i) ↦ (λ j.
-          let inner = was_inner m n x formed e y j in
+          let inner = was_inner m n x wellformed e y j in
           let cy = (both (is_cast y m.tree) (not (eqb (head m.tree).id y)) inner).0 in
           let cx = (both (is_cast x m.tree) (not (eqb (head m.tree).id x)) inner_x).0 in
-          still_stuck m n x formed e y (inr (listed_before xs m.tree listed q p y x (omega (arith, i, at)) f at_p cy cx)) (w.stuck q y i f) j)
+          still_stuck m n x wellformed e y (inr (listed_before xs m.tree listed q p y x (omega (arith, i, at)) f at_p cy cx)) (w.stuck q y i f) j)
       | inr (inr i) ↦ absurd (omega (arith, l, more, i))
     ]
 
     gone_x : collapse n x ≡ none
-    gone_x = none_of_parts n x (λ i. absurd (step_gone m n x formed e i))
+    gone_x = none_of_parts n x (λ i. absurd (step_gone m n x wellformed e i))
 
     taken_within : Took passed again passed2 again2 p → (q : ℕ) → In q again2 → q < passed2
     taken_within (of_again is same trailing) q h = subst (λ k. q < k) (sym same) (w.within q (subst (In q) (sym is) (inr h)))
@@ -177,7 +177,7 @@ module _ (xs : List ℕ) (passed : ℕ) (again : List ℕ) (passed2 : ℕ) (agai
       other_none q y l k f apart c =
           let o = cast_there x m.tree (both (is_cast x m.tree) (not (eqb (head m.tree).id x)) inner_x).0 in
           let g = gives o.0 o.1 in
-          still_none m n x formed e o.0 o.1 g.0 y (λ h. apart (subst (In y) (sym g.1) h)) (passed_stuck k q y l f) c
+          still_none m n x wellformed e o.0 o.1 g.0 y (λ h. apart (subst (In y) (sym g.1) h)) (passed_stuck k q y l f) c
 
       not_given : (k : Took passed again passed2 again2 p) → (q y : ℕ) → q < passed2 → slice_get xs q ≡ Some y → (In y gs → ⊥) → In q again2 ⊎ (collapse n y ≡ none)
       not_given k q y l f apart = elim (cases_order q p) [

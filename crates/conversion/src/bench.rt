@@ -41,7 +41,7 @@ pub(crate) fn apply_rule<L: Analysis>(
         return Ok(false);
     }
     let applied = apply(alloc, bench, rule, op);
-    bench.is_formed();
+    bench.is_wellformed();
     applied
 }
 
@@ -52,7 +52,7 @@ fn erase<L: Analysis>(bench: &mut Bench<L>, op: OpId) -> Result<bool, Refusal>
     ensures leads { Leads seen transaction_of (LedOn L.meaning) bench.old bench.new }
 {
     let erased = bench.erase(op);
-    bench.is_formed();
+    bench.is_wellformed();
     match erased {
         Ok(()) => Ok(true),
         Err(_) => Err(Refusal::Memory),
@@ -72,7 +72,7 @@ fn carry<L: Analysis>(bench: &mut Bench<L>, edits: &[Edit]) -> Result<bool, Refu
         return Err(refusal);
     }
     let carried = apply_edits(bench, edits);
-    bench.is_formed();
+    bench.is_wellformed();
     match carried {
         Ok(()) => Ok(true),
         Err(_) => Err(Refusal::Memory),
@@ -93,7 +93,7 @@ impl<L: Analysis> ConversionRewriter for Bench<L> {
     ghost led_more = { led_more L.meaning };
 
     fn is_whole(&self) {
-        self.is_formed();
+        self.is_wellformed();
     }
 
     fn next_id(&self) -> u32 {
@@ -150,19 +150,19 @@ impl<L: Analysis> ConversionRewriter for Bench<L> {
     }
 
     fn step(&mut self) -> Result<(), Refusal> {
-        self.is_formed();
+        self.is_wellformed();
         let stepped = Bench::step(self);
-        self.is_formed();
+        self.is_wellformed();
         stepped
     }
 
     fn commit(&mut self) {
         close_mark(self, true);
-        self.is_formed();
+        self.is_wellformed();
     }
 
     fn rollback(&mut self) {
         close_mark(self, false);
-        self.is_formed();
+        self.is_wellformed();
     }
 }

@@ -58,7 +58,7 @@ pub fn convert_traced<L: Analysis, T: Tracer>(
         (λ _. Recorded [] bench.old.transaction bench.new.transaction) }
 {
     led_benches_are_kept::<L>();
-    bench.is_formed();
+    bench.is_wellformed();
     convert_with(alloc, bench, target, tracer)
 }
 

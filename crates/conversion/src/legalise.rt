@@ -203,7 +203,7 @@ fn after_rule<B: RuleApplier>(
 }
 
 /// Returns the record of a rule that was applied at `op`, where `from` was the next id before.
-fn stood_now<B: ConversionRewriter>(bench: &B, rule: Rule, op: OpId, from: u32) -> AppliedRule
+fn located_now<B: ConversionRewriter>(bench: &B, rule: Rule, op: OpId, from: u32) -> AppliedRule
     ensures { result ≡ applied_since rule op from (B.state bench.now).held }
 {
     AppliedRule {
@@ -236,7 +236,7 @@ fn each_made<B: RuleApplier>(
 {
     let end = bench.next_id();
     let mut id = from;
-    let mut applied = match only(alloc, stood_now(bench, rule, op, from)) {
+    let mut applied = match only(alloc, located_now(bench, rule, op, from)) {
         Ok(applied) => applied,
         Err(refusal) => return Err(refusal),
     };

@@ -41,7 +41,7 @@ impl Tracer for NoTracer {
 
     ghost untouched = { λ t. tt };
 
-    fn record_rules(&mut self, _stood: &[AppliedRule]) -> Result<(), Refusal> {
+    fn record_rules(&mut self, _located: &[AppliedRule]) -> Result<(), Refusal> {
         Ok(())
     }
 

@@ -10,7 +10,7 @@ use Rattle.patterns_base.specs.Contents.{Edit, edited}
 use Rattle.patterns_base.specs.Edits.{Erase}
 use Rattle.patterns_base.specs.declared.rule.Rule.TheVariants.{CastBack}
 use Rattle.patterns_base.specs.Keeps.{given}
-use Rattle.patterns_base.specs.Looks.{when, front_of, one}
+use Rattle.patterns_base.specs.Looks.{when, insertion_of, one}
 use Rattle.patterns_base.specs.Made.{cast}
 use Rattle.patterns_base.specs.Makes.{give_new, made_by}
 use Rattle.patterns_base.specs.declared.rule.Rule.{Rule}
@@ -24,7 +24,7 @@ use Rattle.patterns_base.proofs.Facts.{edits_are, rewrite_is, when_some}
 pub none_there : (r : Rule) (m : Module) (x : ℕ) → has_id x m.tree ≡ false → rewrite_of r m x ≡ none
 none_there r m x e =
     rewrite_is r m x
-    ∙ ap (λ o. rewrite_by o m) (edits_are r m x ∙ ap (λ o. given o (λ o. given (front_of x m.tree) (λ front. when (eligible r m.tree (head o)) (rule r m.tree m.next front o)))) (absent_find x m.tree e))
+    ∙ ap (λ o. rewrite_by o m) (edits_are r m x ∙ ap (λ o. given o (λ o. given (insertion_of x m.tree) (λ insertion. when (eligible r m.tree (head o)) (rule r m.tree m.next insertion o)))) (absent_find x m.tree e))
 
 -- ---- casts
 
@@ -60,8 +60,8 @@ module _ (m n : Module) (same : m ≡ n) (x : ℕ) (b : Bool) (is : b ≡ is_inn
 pub one_made : (m : Module) (x : ℕ) (es : List Edit) → index_edits m x ≡ Some es → made_by es ≡ 1
 one_made m x es e =
     let o = given_some (find x m.tree) _ es e in
-    let front = given_some (front_of x m.tree) _ es o.2 in
-    let p = given_some (one (head o.0)) _ es front.2 in
+    let insertion = given_some (insertion_of x m.tree) _ es o.2 in
+    let p = given_some (one (head o.0)) _ es insertion.2 in
     let w = when_some (takes_index m.tree p.0.first p.0.ty) _ es p.2 in
-    let n : give_new front.0 m.next x (cast (codes "arith.index_cast") p.0.ty p.0.first) ≡ es = cc in
+    let n : give_new insertion.0 m.next x (cast (codes "arith.index_cast") p.0.ty p.0.first) ≡ es = cc in
     sym (ap made_by n)

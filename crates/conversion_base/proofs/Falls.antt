@@ -35,7 +35,7 @@ use Rattle.conversion_base.specs.Targets.{cast_name}
 use Rattle.conversion_base.specs.Reconciling.{rewrite_or, collapse, is_cast, is_cast_found, unused_erased}
 use Rattle.conversion_base.proofs.Makes.{applies, given_some, rewritten}
 use Rattle.conversion_base.proofs.Enough.{becomes_is}
-use Rattle.ir_event.proofs.of_tree_laws.Formed.{filter_shorter}
+use Rattle.ir_event.proofs.of_tree_laws.Wellformed.{filter_shorter}
 use Rattle.patterns_base.proofs.Facts.{when_some}
 
 -- ---- an operation is taken out of a tree
@@ -89,9 +89,9 @@ module _ {N T A : Type 0} where
 
 -- ---- casts
 
-pub rule_is : (t : Operation) (n : ℕ) (front : Place) (o : Operation) → rule CastBack t n front o ≡ cast_back t n front o
+pub rule_is : (t : Operation) (n : ℕ) (insertion : Place) (o : Operation) → rule CastBack t n insertion o ≡ cast_back t n insertion o
 unfolding rule
-rule_is t n front o = refl
+rule_is t n insertion o = refl
 
 one_name : (name : List ℕ) (vs : List Value) (ts : List TypeTerm) (p : One) → one_from name vs ts ≡ Some p → p.name ≡ name
 one_name name [] ts p e = absurd cc
@@ -101,22 +101,22 @@ one_name name (a ∷ []) (ty ∷ u ∷ ts) p e = absurd cc
 one_name name (a ∷ b ∷ vs) ts p e = absurd cc
 
 -- casting back at a cast gives a replacement for its result
-pub given_at : (t : Operation) (n : ℕ) (front : Place) (o : Operation) (es : List Edit) → named cast_name (head o).name ≡ true → rule CastBack t n front o ≡ Some es → (v : Value) × (es ≡ give (head o).id v)
-given_at t n front o es c e =
-    let p = given_some (one (head o)) _ es (sym (rule_is t n front o) ∙ e) in
+pub given_at : (t : Operation) (n : ℕ) (insertion : Place) (o : Operation) (es : List Edit) → named cast_name (head o).name ≡ true → rule CastBack t n insertion o ≡ Some es → (v : Value) × (es ≡ give (head o).id v)
+given_at t n insertion o es c e =
+    let p = given_some (one (head o)) _ es (sym (rule_is t n insertion o) ∙ e) in
     by_test p.0 (named cast_name p.0.name) _ (ap (named cast_name) (one_name (head o).name (head o).operands (head o).results p.0 p.1) ∙ c) p.2
   where
-    from_back : (p q : One) → back_from t n front o p q ≡ Some es → (v : Value) × (es ≡ give (head o).id v)
+    from_back : (p q : One) → back_from t n insertion o p q ≡ Some es → (v : Value) × (es ≡ give (head o).id v)
     from_back p q e = (let w = when_some (is_of_type t p.ty q.first) (Some (give (head o).id q.first)) es e in let same : give (head o).id q.first ≡ es = cc in (q.first, sym same))
 
-    from_unrealized : (p : One) (b : Bool) → cond b (Some (give (head o).id p.first)) (given (source t p.name p.first) (λ y. given (one y) (back_from t n front o p))) ≡ Some es → (v : Value) × (es ≡ give (head o).id v)
+    from_unrealized : (p : One) (b : Bool) → cond b (Some (give (head o).id p.first)) (given (source t p.name p.first) (λ y. given (one y) (back_from t n insertion o p))) ≡ Some es → (v : Value) × (es ≡ give (head o).id v)
     from_unrealized p true e = (let same : give (head o).id p.first ≡ es = cc in (p.first, sym same))
     from_unrealized p false e =
         (let y = given_some (source t p.name p.first) _ es e in
         let q = given_some (one y.0) _ es y.2 in
         from_back p q.0 q.2)
 
-    by_test : (p : One) (b : Bool) (r : Option (List Edit)) → b ≡ true → cond b (unrealized t n front o p) r ≡ Some es → (v : Value) × (es ≡ give (head o).id v)
+    by_test : (p : One) (b : Bool) (r : Option (List Edit)) → b ≡ true → cond b (unrealized t n insertion o p) r ≡ Some es → (v : Value) × (es ≡ give (head o).id v)
     by_test p true r c e = from_unrealized p (is_of_type t p.ty p.first) e
     by_test p false r c e = absurd (true≢false (sym c))
 
@@ -145,7 +145,7 @@ module _ (m n : Module) (x : ℕ) (root : eqb (head m.tree).id x ≡ false) (cas
       let a = applies CastBack m x w.0 w.1 in
       let o = cast_there x m.tree cast in
       let same : o.0 ≡ a.here = (let two : Some o.0 ≡ Some a.here = sym o.1 ∙ a.found in cc) in
-      let v = given_at m.tree m.next a.front a.here w.0 (ap (λ (z : Operation). named cast_name (head z).name) (sym same) ∙ o.2) a.is in
+      let v = given_at m.tree m.next a.insertion a.here w.0 (ap (λ (z : Operation). named cast_name (head z).name) (sym same) ∙ o.2) a.is in
       let id = (found_id x m.tree a.here a.found).1 in
       let is : n ≡ all_edited (give x v.0) m = w.2 ∙ ap (λ es. all_edited es m) (v.1 ∙ ap (λ y. give y v.0) id) in
       subst (λ (q : Module). op_count q.tree < op_count m.tree) (sym is) (falls_replaced x (Result x 0) v.0 m.tree root there)

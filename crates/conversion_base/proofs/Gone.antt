@@ -28,16 +28,16 @@ use Rattle.ir_event.proofs.of_tree_laws.Members.{stand, stand_found, found_stand
 use Rattle.ir_event.proofs.of_tree_laws.Around.{stand_present, left_apart}
 use Rattle.ir_event.proofs.of_tree_laws.Without.{member_left, left_member, same_head}
 use Rattle.ir_event.proofs.of_tree_laws.Edited.{put_order}
-use Rattle.ir_event.proofs.of_tree_laws.Formed.{from_formed, left_well_formed, Spared}
+use Rattle.ir_event.proofs.of_tree_laws.Wellformed.{from_wellformed, left_well_formed, Spared}
 use Rattle.ir_event.proofs.of_tree_laws.DominatedBy.{visible_there}
 use Rattle.ir_event.specs.Modules.{Module}
 use Rattle.patterns_base.specs.Contents.{Edit, all_edited, edited}
 use Rattle.patterns_base.specs.Edits.{Make, Replace}
-use Rattle.patterns_base.proofs.Made.{Stood, stood}
+use Rattle.patterns_base.proofs.Made.{Located, located}
 use Rattle.patterns_base.proofs.Made as made
 use Rattle.patterns_base.proofs.Give as give
 use Rattle.patterns_base.proofs.Headed as headed
-use Rattle.patterns_base.specs.Looks.{Header, One, front_of, insertion_point, one, one_from}
+use Rattle.patterns_base.specs.Looks.{Header, One, insertion_of, insertion_point, one, one_from}
 use Rattle.patterns_base.specs.Made.{cast}
 use Rattle.patterns_base.specs.Makes.{give_new, made_by}
 use Rattle.patterns_base.specs.Rewrites.{Rewrite, none, refused, becomes, rewrite_by, carried_out}
@@ -54,19 +54,19 @@ use Rattle.patterns_base.proofs.Facts.{when_some}
 
 -- its insertion point
 pub record Again (m n : Module) (x : ℕ) : Type 0 where
-  pub front : Place
+  pub insertion : Place
   pub place : Place
   pub placed : place_of x m.tree ≡ Some place
-  pub in_front_of : front ≡ record place { before = Some x }
+  pub in_insertion_of : insertion ≡ record place { before = Some x }
   pub here : Operation
   pub found : find x m.tree ≡ Some here
   pub value : Value
   pub ty : TypeTerm
   pub operands : (head here).operands ≡ value ∷ []
   pub results : (head here).results ≡ ty ∷ []
-  pub room : nat_lt (op_count m.tree) most_ops ≡ true
+  pub headroom : nat_lt (op_count m.tree) most_ops ≡ true
   pub more : nat_lt m.next most_next ≡ true
-  pub is : n ≡ all_edited (give_new front m.next x (cast (codes "arith.index_cast") ty value)) m
+  pub is : n ≡ all_edited (give_new insertion m.next x (cast (codes "arith.index_cast") ty value)) m
 
 ends_of : (name : List ℕ) (vs : List Value) (ts : List TypeTerm) (p : One) → one_from name vs ts ≡ Some p → (vs ≡ p.first ∷ []) × (ts ≡ p.ty ∷ [])
 ends_of name [] ts p e = absurd cc
@@ -75,9 +75,9 @@ ends_of name (a ∷ []) (ty ∷ []) p e = (let same : record { name = name; firs
 ends_of name (a ∷ []) (ty ∷ u ∷ ts) p e = absurd cc
 ends_of name (a ∷ b ∷ vs) ts p e = absurd cc
 
-placed_in : (x : ℕ) (f : Option Place) (front : Place) → option_map (insertion_point x) f ≡ Some front → (place : Place) × (f ≡ Some place) × (front ≡ record place { before = Some x })
-placed_in x None front e = absurd cc
-placed_in x (Some p) front e = (p, refl, (let same : insertion_point x p ≡ front = cc in sym same))
+placed_in : (x : ℕ) (f : Option Place) (insertion : Place) → option_map (insertion_point x) f ≡ Some insertion → (place : Place) × (f ≡ Some place) × (insertion ≡ record place { before = Some x })
+placed_in x None insertion e = absurd cc
+placed_in x (Some p) insertion e = (p, refl, (let same : insertion_point x p ≡ insertion = cc in sym same))
 
 roomy : (m n : Module) (es : List Edit) → made_by es ≡ 1 → carried_out es m ≡ becomes n → (nat_lt (op_count m.tree) most_ops ≡ true) × (nat_lt m.next most_next ≡ true)
 roomy m n es one e = go (nat_le (op_count m.tree + made_by es) most_ops) refl (nat_le (m.next + made_by es) most_next) refl e
@@ -98,26 +98,26 @@ again m n x e = go (index_edits m x) refl e
     go None f e = absurd cc
     go (Some es) f e =
         (let h = given_some (find x m.tree) _ es f in
-        let g = given_some (front_of x m.tree) _ es h.2 in
+        let g = given_some (insertion_of x m.tree) _ es h.2 in
         let p = given_some (one (head h.0)) _ es g.2 in
         let w = when_some (takes_index m.tree p.0.first p.0.ty) _ es p.2 in
         let same : give_new g.0 m.next x (cast (codes "arith.index_cast") p.0.ty p.0.first) ≡ es = (let s = w.1 in cc) in
         let ends = ends_of (head h.0).name (head h.0).operands (head h.0).results p.0 p.1 in
         let at = placed_in x (place_of x m.tree) g.0 g.1 in
-        let room = roomy m n es (ap made_by (sym same)) e in
+        let headroom = roomy m n es (ap made_by (sym same)) e in
         record {
-          front = g.0;
+          insertion = g.0;
           place = at.0;
           placed = at.1;
-          in_front_of = at.2;
+          in_insertion_of = at.2;
           here = h.0;
           found = h.1;
           value = p.0.first;
           ty = p.0.ty;
           operands = ends.0;
           results = ends.1;
-          room = room.0;
-          more = room.1;
+          headroom = headroom.0;
+          more = headroom.1;
           is = carried es m n e ∙ ap (λ l. all_edited l m) (sym same);
         })
 
@@ -132,64 +132,64 @@ by_head (Some o) = refl
 
 -- the module stays well-formed, and each of its casts was a cast before
 pub record Fewer (m n : Module) (x : ℕ) : Type 0 where
-  pub formed : IsWellFormed is_isolated n
+  pub wellformed : IsWellFormed is_isolated n
   pub was : (y : ℕ) → is_cast y n.tree ≡ true → (is_cast y m.tree ≡ true) × (y ≡ x → ⊥)
 
 module _ (m : Module) (w : IsWellFormed is_isolated m) (n : Module) (x : ℕ) (a : Again m n x) where
   abbrev new : Operation
   new = cast (codes "arith.index_cast") a.ty a.value
 
-  standing : Stood is_isolated x a.front m
-  standing = subst (λ p. Stood is_isolated x p m) (sym a.in_front_of) (stood is_isolated x a.place m w a.placed)
+  standing : Located is_isolated x a.insertion m
+  standing = subst (λ p. Located is_isolated x p m) (sym a.in_insertion_of) (located is_isolated x a.place m w a.placed)
 
   same_here : standing.at.here ≡ a.here
-  same_here = (let two : Some standing.at.here ≡ Some a.here = sym (headed.found_there is_isolated x a.front m standing) ∙ a.found in cc)
+  same_here = (let two : Some standing.at.here ≡ Some a.here = sym (headed.found_there is_isolated x a.insertion m standing) ∙ a.found in cc)
 
   seen : list_all (visible is_isolated m.tree x) (a.value ∷ []) ≡ true
   seen =
       let s = standing.at in
       let at : StandOf (List ℕ) TypeTerm AttrTerm = stand s.here (s.step_in ∷ s.path) in
-      let own : list_all (dominated_by is_isolated at.path) (a.value ∷ []) ≡ true = ap (list_all (dominated_by is_isolated at.path)) (sym (ap (λ (z : Operation). (head z).operands) same_here ∙ a.operands)) ∙ (from_formed is_isolated m.tree w.formed).dominated_by_own at s.there in
+      let own : list_all (dominated_by is_isolated at.path) (a.value ∷ []) ≡ true = ap (list_all (dominated_by is_isolated at.path)) (sym (ap (λ (z : Operation). (head z).operands) same_here ∙ a.operands)) ∙ (from_wellformed is_isolated m.tree w.wellformed).dominated_by_own at s.there in
       let one = (both (dominated_by is_isolated at.path a.value) true own).0 in
       ap (λ b. b && true) (ap (λ z. visible is_isolated m.tree z a.value) (sym s.id) ∙ visible_there is_isolated m.tree w.distinct at s.there a.value ∙ one)
 
   abbrev after_make : Module
-  after_make = edited (Make a.front new) m
+  after_make = edited (Make a.insertion new) m
 
-  made_stands : Stood is_isolated x a.front after_make
-  made_stands = made.make_stood is_isolated x a.front m standing new refl seen refl a.room a.more
+  made_stands : Located is_isolated x a.insertion after_make
+  made_stands = made.make_located is_isolated x a.insertion m standing new refl seen refl a.headroom a.more
 
   dominated_by_it : visible is_isolated after_make.tree x (Result m.next 0) ≡ true
-  dominated_by_it = made.dominated_by_new is_isolated x a.front m standing new refl 0 refl
+  dominated_by_it = made.dominated_by_new is_isolated x a.insertion m standing new refl 0 refl
 
   abbrev after_replace : Module
   after_replace = edited (Replace (Result x 0) (Result m.next 0)) after_make
 
-  replaced_stands : Stood is_isolated x a.front after_replace
-  replaced_stands = headed.replaced_stood is_isolated x a.front after_make made_stands (Result m.next 0) dominated_by_it 0
+  replaced_stands : Located is_isolated x a.insertion after_replace
+  replaced_stands = headed.replaced_located is_isolated x a.insertion after_make made_stands (Result m.next 0) dominated_by_it 0
 
   there : has_id x m.tree ≡ true
-  there = give.there_is is_isolated x a.front m standing
+  there = give.there_is is_isolated x a.insertion m standing
 
   one_after : (head made_stands.at.here).results ≡ a.ty ∷ []
   one_after =
       let heads : head made_stands.at.here ≡ head standing.at.here =
       (let two : Some (head made_stands.at.here) ≡ Some (head standing.at.here) =
-      ap (option_map (λ o. head o)) (sym (headed.found_there is_isolated x a.front after_make made_stands))
-      ∙ made.heads_stay is_isolated x a.front m standing new refl x there
-      ∙ ap (option_map (λ o. head o)) (headed.found_there is_isolated x a.front m standing) in cc) in
+      ap (option_map (λ o. head o)) (sym (headed.found_there is_isolated x a.insertion after_make made_stands))
+      ∙ made.heads_stay is_isolated x a.insertion m standing new refl x there
+      ∙ ap (option_map (λ o. head o)) (headed.found_there is_isolated x a.insertion m standing) in cc) in
       ap (λ (h : HeadOf (List ℕ) TypeTerm AttrTerm). h.results) heads ∙ ap (λ (z : Operation). (head z).results) same_here ∙ a.results
 
   nobody : unused_outside x after_replace.tree ≡ true
-  nobody = give.given_spared is_isolated x a.front after_make made_stands (Result m.next 0) dominated_by_it a.ty one_after
+  nobody = give.given_spared is_isolated x a.insertion after_make made_stands (Result m.next 0) dominated_by_it a.ty one_after
 
   root : eqb (head after_replace.tree).id x ≡ false
-  root = headed.not_root is_isolated x a.front after_replace replaced_stands
+  root = headed.not_root is_isolated x a.insertion after_replace replaced_stands
 
   spared : Spared is_isolated x after_replace.tree
   spared s h g =
       let o = replaced_stands.at.here in
-      let f = headed.found_there is_isolated x a.front after_replace replaced_stands in
+      let f = headed.found_there is_isolated x a.insertion after_replace replaced_stands in
       let own : list_all (λ v. not (is_within (owner_of v).0 (Some o))) (head s.here).operands ≡ true =
       ap (leaves_within (Some o)) (sym (same_head x (dropping x) s.here)) ∙ ap (λ z. leaves_within z (head (left_stand x s).here)) (sym f)
       ∙ all_each (λ (u : StandOf (List ℕ) TypeTerm AttrTerm). leaves_within (find x after_replace.tree) (head u.here)) (stands [] (without x after_replace.tree))
@@ -202,8 +202,8 @@ module _ (m : Module) (w : IsWellFormed is_isolated m) (n : Module) (x : ℕ) (a
             true≢false (sym out ∙ ap not inside))
       ])
 
-  last_formed : IsWellFormed is_isolated (record after_replace { tree = without x after_replace.tree })
-  last_formed = left_well_formed is_isolated x after_replace replaced_stands.formed spared
+  last_wellformed : IsWellFormed is_isolated (record after_replace { tree = without x after_replace.tree })
+  last_wellformed = left_well_formed is_isolated x after_replace replaced_stands.wellformed spared
 
   -- the remaining casts
   of_erased : (y : ℕ) → is_cast y (without x after_replace.tree) ≡ true → (is_cast y after_replace.tree ≡ true) × (y ≡ x → ⊥)
@@ -213,7 +213,7 @@ module _ (m : Module) (w : IsWellFormed is_isolated m) (n : Module) (x : ℕ) (a
       let k = member_left x after_replace.tree u.0 u.1 in
       let heads : head u.0.here ≡ head k.0.here = ap (λ (z : StandOf (List ℕ) TypeTerm AttrTerm). head z.here) k.3 ∙ same_head x (dropping x) k.0.here in
       let id : stand_id k.0 ≡ y = sym (ap (λ (h : Header). h.id) heads) ∙ u.2 in
-      let found : find y after_replace.tree ≡ Some k.0.here = ap (λ z. find z after_replace.tree) (sym id) ∙ stand_found after_replace.tree replaced_stands.formed.distinct k.0 k.1 in
+      let found : find y after_replace.tree ≡ Some k.0.here = ap (λ z. find z after_replace.tree) (sym id) ∙ stand_found after_replace.tree replaced_stands.wellformed.distinct k.0 k.1 in
       let name : named cast_name (head k.0.here).name ≡ true = ap (λ (h : Header). named cast_name h.name) (sym heads ∙ ap (λ (z : Operation). head z) u.3) ∙ o.2 in
       (ap is_cast_found found ∙ name, λ e. left_apart x after_replace.tree k.0 k.1 k.2 root (id ∙ e))
 
@@ -226,15 +226,15 @@ module _ (m : Module) (w : IsWellFormed is_isolated m) (n : Module) (x : ℕ) (a
 
   of_made : (y : ℕ) → is_cast y after_make.tree ≡ true → is_cast y m.tree ≡ true
   of_made y c = elim (bool_cases (has_id y m.tree)) [
-    | inl e ↦ by_head (find y m.tree) ∙ ap is_cast_head (sym (made.heads_stay is_isolated x a.front m standing new refl y e)) ∙ sym (by_head (find y after_make.tree)) ∙ c
+    | inl e ↦ by_head (find y m.tree) ∙ ap is_cast_head (sym (made.heads_stay is_isolated x a.insertion m standing new refl y e)) ∙ sym (by_head (find y after_make.tree)) ∙ c
     | inr e ↦ absurd (
         let o = cast_there y after_make.tree c in
         let h = (found_id y after_make.tree o.0 o.1).0 in
-        let parts = put_order a.front (with_id m.next new) m.tree (made.may is_isolated x a.front m standing new refl) in
+        let parts = put_order a.insertion (with_id m.next new) m.tree (made.may is_isolated x a.insertion m standing new refl) in
         let here : list_any (λ z. eqb z y) (parts.0 ++ (m.next ∷ parts.1)) ≡ true = ap (list_any (λ z. eqb z y)) (sym parts.3) ∙ h in
         let gone : list_any (λ z. eqb z y) (parts.0 ++ parts.1) ≡ false = ap (list_any (λ z. eqb z y)) (sym parts.2) ∙ e in
         let is : m.next ≡ y = eqb-true m.next y (only (λ z. eqb z y) m.next parts.0 parts.1 here gone) in
-        let not_cast : is_cast y after_make.tree ≡ false = ap (λ z. is_cast z after_make.tree) (sym is) ∙ ap is_cast_found (made.new_found is_isolated x a.front m standing new refl) in
+        let not_cast : is_cast y after_make.tree ≡ false = ap (λ z. is_cast z after_make.tree) (sym is) ∙ ap is_cast_found (made.new_found is_isolated x a.insertion m standing new refl) in
         true≢false (sym c ∙ not_cast))
   ]
     where
@@ -246,7 +246,7 @@ module _ (m : Module) (w : IsWellFormed is_isolated m) (n : Module) (x : ℕ) (a
 
   pub fewer : Fewer m n x
   fewer = record {
-    formed = subst (IsWellFormed is_isolated) (sym a.is) last_formed;
+    wellformed = subst (IsWellFormed is_isolated) (sym a.is) last_wellformed;
     was = λ y c.
         let e = of_erased y (ap (λ (q : Module). is_cast y q.tree) (sym a.is) ∙ c) in
         (of_made y (of_replaced y e.0), e.1);
@@ -256,12 +256,12 @@ module _ (m : Module) (w : IsWellFormed is_isolated m) (n : Module) (x : ℕ) (a
 
 -- each cast of a module is among some operations
 record Among (xs : List ℕ) (m : Module) : Type 0 where
-  formed : IsWellFormed is_isolated m
+  wellformed : IsWellFormed is_isolated m
   among : (y : ℕ) → is_cast y m.tree ≡ true → In y xs
 
 among_all : (m : Module) → IsWellFormed is_isolated m → Among (ids m.tree) m
 among_all m w = record {
-  formed = w;
+  wellformed = w;
   among = λ y c.
       let o = cast_there y m.tree c in
       let s = found_stands y m.tree o.0 o.1 in
@@ -285,9 +285,9 @@ one_less x xs m n ks a e = go (is_cast x m.tree) refl e
     index_step (refused r) f e = absurd cc
     index_step (becomes p) f e =
         (let same : p ≡ n = cc in
-        let w = fewer m a.formed n x (again m n x (f ∙ ap becomes same)) in
+        let w = fewer m a.wellformed n x (again m n x (f ∙ ap becomes same)) in
         record {
-          formed = w.formed;
+          wellformed = w.wellformed;
           among = λ y c. let was = w.was y c in elim (a.among y was.0) [ inl e ↦ absurd (was.1 e) | inr h ↦ h ];
         })
 
@@ -296,7 +296,7 @@ one_less x xs m n ks a e = go (is_cast x m.tree) refl e
     go false f e =
         (let same : m ≡ n = cc in
         subst (Among xs) same (record {
-          formed = a.formed;
+          wellformed = a.wellformed;
           among = λ y c. elim (a.among y c) [ inl e ↦ absurd (true≢false (sym c ∙ ap (λ z. is_cast z m.tree) e ∙ f)) | inr h ↦ h ];
         }))
 
@@ -310,5 +310,5 @@ no_cast_is_left m n ks w e =
     sym (stands_every (λ o. not (named cast_name (head o).name)) [] n.tree)
     ∙ each_all (λ (s : StandOf (List ℕ) TypeTerm AttrTerm). not (named cast_name (head s.here).name)) (stands [] n.tree) (λ s h. elim (bool_cases (named cast_name (head s.here).name)) [
       | inr f ↦ ap not f
-      | inl f ↦ absurd (a.among (stand_id s) (ap is_cast_found (stand_found n.tree a.formed.distinct s h) ∙ f))
+      | inl f ↦ absurd (a.among (stand_id s) (ap is_cast_found (stand_found n.tree a.wellformed.distinct s h) ∙ f))
     ])

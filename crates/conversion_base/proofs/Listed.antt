@@ -153,7 +153,7 @@ module _ (m n : Module) (x : ℕ) (d : HasDistinctIds m.tree) where
       let a = applies CastBack m x w.0 w.1 in
       let o = cast_there x m.tree c in
       let same : o.0 ≡ a.here = (let two : Some o.0 ≡ Some a.here = sym o.1 ∙ a.found in cc) in
-      let v = given_at m.tree m.next a.front a.here w.0 (ap (λ (z : Operation). named cast_name (head z).name) (sym same) ∙ o.2) a.is in
+      let v = given_at m.tree m.next a.insertion a.here w.0 (ap (λ (z : Operation). named cast_name (head z).name) (sym same) ∙ o.2) a.is in
       let id = (found_id x m.tree a.here a.found).1 in
       let is : n ≡ all_edited (give x v.0) m = w.2 ∙ ap (λ es. all_edited es m) (v.1 ∙ ap (λ y. give y v.0) id) in
       subst (λ (q : Module). Fewer m.tree q.tree) (sym is) (fewer_given (Result x 0) v.0 m.tree x d)

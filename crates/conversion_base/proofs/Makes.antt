@@ -11,7 +11,7 @@ use Rattle.ir_event.specs.Modules.{Module}
 use Rattle.patterns_base.specs.Contents.{Edit, all_edited, edited}
 use Rattle.patterns_base.specs.Edits.{Insert, Make, Erase, Move, SetOperand, Replace, SetAttr, DropAttr}
 use Rattle.patterns_base.specs.Keeps.{given}
-use Rattle.patterns_base.specs.Looks.{when, front_of}
+use Rattle.patterns_base.specs.Looks.{when, insertion_of}
 use Rattle.patterns_base.specs.Makes.{makes, made_by}
 use Rattle.patterns_base.specs.declared.rule.Rule.{Rule}
 use Rattle.patterns_base.specs.RuleNames.{is_converting}
@@ -27,16 +27,16 @@ given_some (Some x) f y e = (x, refl, e)
 -- a rule applies at an operation with these edits
 pub record Applies (r : Rule) (m : Module) (x : ℕ) (es : List Edit) : Type 0 where
   pub here : Operation
-  pub front : Place
+  pub insertion : Place
   pub found : find x m.tree ≡ Some here
-  pub at : front_of x m.tree ≡ Some front
-  pub is : rule r m.tree m.next front here ≡ Some es
+  pub at : insertion_of x m.tree ≡ Some insertion
+  pub is : rule r m.tree m.next insertion here ≡ Some es
 
 pub applies : (r : Rule) (m : Module) (x : ℕ) (es : List Edit) → edits_of r m x ≡ Some es → Applies r m x es
 applies r m x es e =
     let o = given_some (find x m.tree) _ es (sym (edits_are r m x) ∙ e) in
-    let f = given_some (front_of x m.tree) _ es o.2 in
-    record { here = o.0; front = f.0; found = o.1; at = f.1; is = (when_some (eligible r m.tree (head o.0)) _ es f.2).1 }
+    let f = given_some (insertion_of x m.tree) _ es o.2 in
+    record { here = o.0; insertion = f.0; found = o.1; at = f.1; is = (when_some (eligible r m.tree (head o.0)) _ es f.2).1 }
 
 -- the module after the edits
 pub carried : (es : List Edit) (m n : Module) → carried_out es m ≡ becomes n → n ≡ all_edited es m
@@ -73,7 +73,7 @@ pub rules_make : (r : Rule) (x : ℕ) (m n : Module) → is_converting r ≡ tru
 rules_make r x m n e f =
     let w = rewritten r m n x f in
     let a = applies r m x w.0 w.1 in
-    let some = converting_rules_make r m.tree m.next a.front a.here w.0 e a.is in
+    let some = converting_rules_make r m.tree m.next a.insertion a.here w.0 e a.is in
     let all = all_rise w.0 m in
     let same = ap (λ (q : Module). q.next) w.2 in
     omega (arith, some, all, same)

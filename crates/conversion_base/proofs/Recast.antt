@@ -22,7 +22,7 @@ use Rattle.ir_event.specs.Modules.{Module}
 use Rattle.patterns_base.specs.Lists.{AllFit, edits_meaning}
 use Rattle.patterns_base.specs.Contents.{Edit}
 use Rattle.patterns_base.specs.Keeps.{given}
-use Rattle.patterns_base.specs.Looks.{One, when, front_of, insertion_point, one, one_from}
+use Rattle.patterns_base.specs.Looks.{One, when, insertion_of, insertion_point, one, one_from}
 use Rattle.patterns_base.specs.Made.{cast}
 use Rattle.patterns_base.specs.Makes.{give_new}
 use Rattle.conversion_base.specs.Reconciling.{index_edits, takes_index}
@@ -37,11 +37,11 @@ word_is_name c sound =
     let some : length (take 54 c.names) ≡ min 54 (length c.names) = length-take 54 c.names in
     (omega (arith, all, some), (bytes_eq-Decides (name_term c (word_number ArithIndexCast)) (word_bytes ArithIndexCast)).0 (word_is c (word_number ArithIndexCast) ArithIndexCast sound ∙ (unsigned_Decides (word_number ArithIndexCast) (word_number ArithIndexCast)).1 refl))
 
-pub cast_meant : (c : ContextModel) → IsSound c → (front : Place) (n x : ℕ) (v : Value) (ty : ℕ) → edits_meaning c (cast_edits front n x v ty) ≡ give_new front n x (cast (codes "arith.index_cast") (type_term c ty) v)
-cast_meant c sound front n x v ty = ap (λ name. give_new front n x (cast name (type_term c ty) v)) (word_is_name c sound).1
+pub cast_meant : (c : ContextModel) → IsSound c → (insertion : Place) (n x : ℕ) (v : Value) (ty : ℕ) → edits_meaning c (cast_edits insertion n x v ty) ≡ give_new insertion n x (cast (codes "arith.index_cast") (type_term c ty) v)
+cast_meant c sound insertion n x v ty = ap (λ name. give_new insertion n x (cast name (type_term c ty) v)) (word_is_name c sound).1
 
-pub cast_fits : (c : ContextModel) → IsSound c → (front : Place) (n x : ℕ) (v : Value) (ty : ℕ) → IsType c ty → AllFit c (cast_edits front n x v ty)
-cast_fits c sound front n x v ty is =
+pub cast_fits : (c : ContextModel) → IsSound c → (insertion : Place) (n x : ℕ) (v : Value) (ty : ℕ) → IsType c ty → AllFit c (cast_edits insertion n x v ty)
+cast_fits c sound insertion n x v ty is =
     let name = (word_is_name c sound).0 in
     ((record { known = λ i. ((lt-ltb _ _ name i && ((lt-ltb _ _ is i && true) && (true && true))) && true) && true; sorted = refl }, refl), (tt, (tt, tt)))
 
@@ -62,26 +62,26 @@ module _ (c : ContextModel) (t : Op) (n x : ℕ) where
   m = record { tree = meaning c t; next = n }
 
   abbrev by_ends : Place → Option One → Option (List Edit)
-  by_ends front q = given q (λ p. when (takes_index m.tree p.first p.ty) (Some (give_new front m.next x (cast (codes "arith.index_cast") p.ty p.first))))
+  by_ends insertion q = given q (λ p. when (takes_index m.tree p.first p.ty) (Some (give_new insertion m.next x (cast (codes "arith.index_cast") p.ty p.first))))
 
   abbrev by_place : Operation → Option Place → Option (List Edit)
-  by_place o f = given f (λ front. by_ends front (one (head o)))
+  by_place o f = given f (λ insertion. by_ends insertion (one (head o)))
 
   found_meant : find x m.tree ≡ option_map (meaning c) (find x t)
   found_meant = map_find (name_term c) (type_term c) (attr_term c) x t
 
-  front_meant : front_of x m.tree ≡ option_map (insertion_point x) (place_of x t)
-  front_meant = ap (option_map (insertion_point x)) (map_place (name_term c) (type_term c) (attr_term c) x t)
+  insertion_meant : insertion_of x m.tree ≡ option_map (insertion_point x) (place_of x t)
+  insertion_meant = ap (option_map (insertion_point x)) (map_place (name_term c) (type_term c) (attr_term c) x t)
 
   pub none_there : None ≡ option_map node_of (find x t) → None ≡ index_edits m x
-  none_there e = go (find x t) e ∙ sym (ap (λ o. given o (λ o. by_place o (front_of x m.tree))) found_meant)
+  none_there e = go (find x t) e ∙ sym (ap (λ o. given o (λ o. by_place o (insertion_of x m.tree))) found_meant)
     where
-      go : (o : Option Op) → None ≡ option_map node_of o → None ≡ given (option_map (meaning c) o) (λ o. by_place o (front_of x m.tree))
+      go : (o : Option Op) → None ≡ option_map node_of o → None ≡ given (option_map (meaning c) o) (λ o. by_place o (insertion_of x m.tree))
       go None e = refl
       go (Some o) e = absurd cc
 
   pub none_placed : None ≡ place_of x t → None ≡ index_edits m x
-  none_placed e = go (find x m.tree) ∙ sym (ap (λ f. given (find x m.tree) (λ o. by_place o f)) (front_meant ∙ ap (option_map (insertion_point x)) (sym e)))
+  none_placed e = go (find x m.tree) ∙ sym (ap (λ f. given (find x m.tree) (λ o. by_place o f)) (insertion_meant ∙ ap (option_map (insertion_point x)) (sym e)))
     where
       go : (o : Option Operation) → None ≡ given o (λ o. by_place o None)
       go None = refl
@@ -94,8 +94,8 @@ module _ (c : ContextModel) (t : Op) (n x : ℕ) where
         let head_is : node.head ≡ head w.here = ap (λ (k : Node). k.head) w.same ∙ node_head w.here in
         ap (λ (h : HeadOf ℕ ℕ ℕ). by_ends (insertion_point x place) (option_map (λ (e : CastTypes). record { name = name_term c h.name; first = e.operand; ty = type_term c e.ty }) (ends_from h.operands h.results))) head_is
         ∙ ap (by_ends (insertion_point x place)) (sym (one_meant c w.here))
-        ∙ ap (by_place (meaning c w.here)) (sym (front_meant ∙ ap (option_map (insertion_point x)) (sym at)))
-        ∙ sym (ap (λ o. given o (λ o. by_place o (front_of x m.tree))) (found_meant ∙ ap (option_map (meaning c)) w.is))
+        ∙ ap (by_place (meaning c w.here)) (sym (insertion_meant ∙ ap (option_map (insertion_point x)) (sym at)))
+        ∙ sym (ap (λ o. given o (λ o. by_place o (insertion_of x m.tree))) (found_meant ∙ ap (option_map (meaning c)) w.is))
       where
         node_head : (o : Op) → (node_of o).head ≡ head o
         node_head (op h rs) = refl

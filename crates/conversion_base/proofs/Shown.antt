@@ -11,7 +11,7 @@ use Rattle.ir_event.specs.trees.Meaning.{meaning}
 use Rattle.ir_event.specs.trees.WellFormed.{IsValidTree}
 use Rattle.ir_event.proofs.of_trees.Mapped.{map_find}
 use Rattle.ir_event.specs.tree_laws.Values.{has_value}
-use Rattle.ir_event.proofs.of_tree_laws.Formed.{from_formed}
+use Rattle.ir_event.proofs.of_tree_laws.Wellformed.{from_wellformed}
 use Rattle.ir_event.proofs.of_tree_laws.Listed.{both}
 use Rattle.ir_event.proofs.of_tree_laws.Members.{found_stands}
 use Rattle.ir_event.specs.store.Nodes.{Node, node_of, regions_arguments}
@@ -54,10 +54,10 @@ few (op h rs) e =
     (omega (arith, regions, count), results)
 
 pub few_shown : (isolated : ℕ → Bool) (x : ℕ) (t : Op) → IsValidTree isolated t → (n : Node) → Some n ≡ option_map node_of (find x t) → (length n.arguments ≤ 16) × (length n.head.results ≤ 256)
-few_shown isolated x t formed n e =
+few_shown isolated x t wellformed n e =
     let w = found x t n e in
     let s = found_stands x t w.here w.is in
-    subst (λ (m : Node). (length m.arguments ≤ 16) × (length m.head.results ≤ 256)) (sym w.same) (few w.here (ap op_fits (sym s.3) ∙ (from_formed isolated t formed).fits s.0 s.1))
+    subst (λ (m : Node). (length m.arguments ≤ 16) × (length m.head.results ≤ 256)) (sym w.same) (few w.here (ap op_fits (sym s.3) ∙ (from_wellformed isolated t wellformed).fits s.0 s.1))
 
 -- its results
 results_in : (o : Op) (k : ℕ) → is_some (slice_get (head o).results k) ≡ true → k < length (node_of o).head.results

@@ -19,12 +19,12 @@ use Rattle.ir_event.proofs.of_tree_laws.Values.{seen_by}
 use Rattle.patterns_base.proofs.Given.{user}
 use Rattle.effects.specs.Dead.{is_result_of, is_unused}
 
-module _ {N T A : Type 0} (isolated : N → Bool) (x : ℕ) (t : OpOf N T A) (d : HasDistinctIds t) (formed : operands_visible isolated t ≡ true) where
+module _ {N T A : Type 0} (isolated : N → Bool) (x : ℕ) (t : OpOf N T A) (d : HasDistinctIds t) (wellformed : operands_visible isolated t ≡ true) where
   -- if none of the results has a use, the operation is unused
   module _ (none : (k : ℕ) → has_value (Result x k) t ≡ true → uses_of (Result x k) t ≡ []) where
     not_there : (k : ℕ) (s : StandOf N T A) → In s (stands [] t) → In (Result x k) (head s.here).operands → ⊥
     not_there k s h m =
-        let e = all_each (dominated_by isolated s.path) (head s.here).operands (all_each (λ (z : StandOf N T A). list_all (dominated_by isolated z.path) (head z.here).operands) (stands [] t) (sym (stands_operands isolated t) ∙ formed) s h) (Result x k) m in
+        let e = all_each (dominated_by isolated s.path) (head s.here).operands (all_each (λ (z : StandOf N T A). list_all (dominated_by isolated z.path) (head z.here).operands) (stands [] t) (sym (stands_operands isolated t) ∙ wellformed) s h) (Result x k) m in
         let there = (seen_by isolated t d s h (Result x k) e).is in
         let n = used_here (Result x k) (stand_id s) 0 (head s.here).operands (Result x k) m (same_value_refl (Result x k)) in
         subst (In (stand_id s, n.0)) (stands_uses (Result x k) [] t ∙ none k there) (in_gather (λ (z : StandOf N T A). operand_uses (Result x k) (stand_id z) 0 (head z.here).operands) (stand_id s, n.0) s (stands [] t) h n.1)

@@ -14,7 +14,7 @@ use Rattle.patterns_base.specs.Contents.{Edit, edited}
 use Rattle.patterns_base.specs.Edits.{Erase}
 use Rattle.patterns_base.specs.declared.rule.Rule.TheVariants.{CastBack}
 use Rattle.patterns_base.specs.Keeps.{given}
-use Rattle.patterns_base.specs.Looks.{when, front_of, is_index, is_index_value, is_of_type, one}
+use Rattle.patterns_base.specs.Looks.{when, insertion_of, is_index, is_index_value, is_of_type, one}
 use Rattle.patterns_base.specs.Made.{i64, cast}
 use Rattle.patterns_base.specs.Makes.{give_new}
 use Rattle.patterns_base.specs.Rewrites.{Rewrite, none, refused, becomes, rewrite_by, rewrite_of}
@@ -81,7 +81,7 @@ takes_index t v ty = is_index_value t v && same_type ty i64 || is_of_type t i64 
 -- the edits that replace operation x with an `arith.index_cast`, if x has one operand and one result and casts between
 -- index and i64
 abbrev pub index_edits : Module → ℕ → Option (List Edit)
-index_edits m x = given (find x m.tree) (λ o. given (front_of x m.tree) (λ point. given (one (head o)) (λ p.
+index_edits m x = given (find x m.tree) (λ o. given (insertion_of x m.tree) (λ point. given (one (head o)) (λ p.
     when (takes_index m.tree p.first p.ty)
     (Some (give_new point m.next x (cast (codes "arith.index_cast") p.ty p.first))))))
 

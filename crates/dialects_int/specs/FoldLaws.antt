@@ -12,7 +12,7 @@ use Rattle.dialects_int.specs.declared.operations.Predicate.{Predicate}
 use Rattle.dialects_int.specs.declared.operations.Cast.{Cast}
 use Rattle.dialects_int.specs.declared.operations.Rule.{Rule}
 use Rattle.dialects_int.specs.Arithmetic.{value_of, cast_of, comparison_of, truth, choice_of}
-use Rattle.dialects_int.specs.Folds.{Known, rule_of, kind_of, is_property, fold_of, entries_of, property_of, asked}
+use Rattle.dialects_int.specs.Folds.{Known, rule_of, kind_of, is_property, fold_of, entries_of, property_of, requested}
 
 -- an operation that folds by a rule to constants of a kind, with allowed properties
 pub record Folds (name : List ℕ) (r : Rule) (props : List (List ℕ × AttrTerm)) (ty : TypeTerm) (k : BitsKind) : Type 0 where
@@ -25,7 +25,7 @@ abbrev pub PairFolds : List ℕ → Arithmetic → List (List ℕ × AttrTerm) �
 PairFolds name o props ty k = (a b : ℕ) → a < 2 ^ width_of k → b < 2 ^ width_of k → fold_of name props (Some (k, a) ∷ Some (k, b) ∷ []) (ty ∷ []) ≡ option_map (λ v. (k, v)) (value_of o (width_of k) a b)
 
 abbrev pub CompareFolds : List ℕ → Predicate → List (List ℕ × AttrTerm) → TypeTerm → Type 0
-CompareFolds name p props ty = (k : BitsKind) (a b : ℕ) → asked (property_of (codes "predicate") props) ≡ Some p → fold_of name props (Some (k, a) ∷ Some (k, b) ∷ []) (ty ∷ []) ≡ Some (kind.Int 1, truth (comparison_of (width_of k) p a b))
+CompareFolds name p props ty = (k : BitsKind) (a b : ℕ) → requested (property_of (codes "predicate") props) ≡ Some p → fold_of name props (Some (k, a) ∷ Some (k, b) ∷ []) (ty ∷ []) ≡ Some (kind.Int 1, truth (comparison_of (width_of k) p a b))
 
 -- a select folds to the selected operand
 abbrev pub SelectFolds : List ℕ → List (List ℕ × AttrTerm) → TypeTerm → BitsKind → Type 0

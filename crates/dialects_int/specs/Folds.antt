@@ -11,7 +11,7 @@ use Rattle.ir_types.specs.Terms.{TypeTerm, AttrTerm, attr_term, name_term}
 use Rattle.ir_types.specs.Terms as term
 use Rattle.ir_types.specs.Bits.{width_of}
 use Rattle.ir_types.specs.Words.{is_inherent}
-use Rattle.op_registry.specs.Registry.{beside}
+use Rattle.op_registry.specs.Registry.{next_to}
 use Rattle.op_registry.specs.Properties.{integer_of, is_allowed}
 use Rattle.dialects_int.specs.declared.operations.Arithmetic.{Arithmetic}
 use Rattle.dialects_int.specs.declared.operations.Arithmetic.TheVariants as op
@@ -54,7 +54,7 @@ rules =
     ∷ []
 
 unfoldable pub rule_of : List ℕ → Option Rule
-rule_of name = beside name rules
+rule_of name = next_to name rules
 
 -- the kind of a type's constants: signless integer types and index have one
 abbrev pub kind_of : TypeTerm → Option BitsKind
@@ -117,7 +117,7 @@ predicates =
 
 -- an integer among the properties
 abbrev pub property_of : List ℕ → List (List ℕ × AttrTerm) → Option (TypeTerm × ℕ)
-property_of key props = integer_in (beside key props)
+property_of key props = integer_in (next_to key props)
   where
     integer_in : Option AttrTerm → Option (TypeTerm × ℕ)
     integer_in (Some a) = integer_of a
@@ -131,9 +131,9 @@ abbrev pub both : {A : Type 0} → (Known → Known → Option A) → Option Kno
 both f (Some x) (Some y) = f x y
 both f _ _ = None
 
-abbrev pub asked : Option (TypeTerm × ℕ) → Option Predicate
-asked (Some integer) = slice_get predicates integer.1
-asked None = None
+abbrev pub requested : Option (TypeTerm × ℕ) → Option Predicate
+requested (Some integer) = slice_get predicates integer.1
+requested None = None
 
 abbrev pub with : {A B : Type 0} → (A → Option B) → Option A → Option B
 with f (Some x) = f x
@@ -170,7 +170,7 @@ constant_fold value k _ = None
 abbrev pub fold_by : Rule → List (List ℕ × AttrTerm) → BitsKind → List (Option Known) → Option ℕ
 fold_by rule.Constant props k operands = constant_fold (property_of (codes "value") props) k operands
 fold_by (rule.Binary o) props k operands = pair_fold o k operands
-fold_by rule.Compare props k operands = compare_fold (asked (property_of (codes "predicate") props)) k operands
+fold_by rule.Compare props k operands = compare_fold (requested (property_of (codes "predicate") props)) k operands
 fold_by rule.Select props k operands = select_fold k operands
 fold_by (rule.IntegerCast c) props k operands = resize_fold c k operands
 fold_by (rule.IndexCast c) props k operands = index_cast_fold c k operands

@@ -9,7 +9,7 @@ use Rattle.effects.specs.declared.row.Counts.{Counts}
 use Rattle.effects.specs.declared.row.Row.{Row}
 use Rattle.effects.specs.Effects.{Effect, unknown, allocate, free, read, write, has, none, own_kinds, is_recursive, is_none, union}
 use Rattle.effects.specs.Points.{Point, one_if, Apart, given, count_of, Rows, count_at, row_count, with_row, Holds}
-use Rattle.effects.specs.Walks.{minus, both, present, lowered, raised, lost_row, gained_row, size, room, total}
+use Rattle.effects.specs.Walks.{minus, both, present, lowered, raised, lost_row, gained_row, size, headroom, total}
 use Rattle.effects.proofs.Tables.{has_none, point_of, climbed}
 use Rattle.effects.proofs.Laws.{has_union, some_of_sum, one_counts}
 
@@ -215,8 +215,8 @@ one_not : (b : Bool) → one_if b + one_if (not b) ≡ 1
 one_not true = refl
 one_not false = refl
 
-pub gained_room : (r : Row) (more : EffectKinds) → is_none (minus (gained_row r more).has r.has) ≡ false → room (gained_row r more).has < room r.has
-gained_room r more h =
+pub gained_headroom : (r : Row) (more : EffectKinds) → is_none (minus (gained_row r more).has r.has) ≡ false → headroom (gained_row r more).has < headroom r.has
+gained_headroom r more h =
     let g = (gained_row r more).has in
     let s = minus g r.has in
     let one = some_size s.unknown s.allocate s.free s.read s.write h in
@@ -260,8 +260,8 @@ gain_on rows after at p more s r next here is made gone written ns apart h =
     let step = gain_step rows after p more r is (λ x. written r is x ∙ ap (λ k. with_row p (Some k) rows x) made) ns apart (subst (λ q. Holds rows ns q more none) here h) in
     subst (λ z. Holds after ns r.parent z none) (sym (gone ∙ ap (λ (k : Row). minus k.has r.has) made)) step
 
-pub gain_smaller : (new old : ℕ) (more s : EffectKinds) (r next : Row) → next ≡ gained_row r more → s ≡ minus next.has r.has → is_none s ≡ false → new + room r.has ≡ old + room next.has → new < old
+pub gain_smaller : (new old : ℕ) (more s : EffectKinds) (r next : Row) → next ≡ gained_row r more → s ≡ minus next.has r.has → is_none s ≡ false → new + headroom r.has ≡ old + headroom next.has → new < old
 gain_smaller new old more s r next made gone some sum =
-    let fewer = gained_room r more (ap is_none (sym (gone ∙ ap (λ (k : Row). minus k.has r.has) made)) ∙ some) in
-    let same : room next.has ≡ room (gained_row r more).has = ap (λ (k : Row). room k.has) made in
+    let fewer = gained_headroom r more (ap is_none (sym (gone ∙ ap (λ (k : Row). minus k.has r.has) made)) ∙ some) in
+    let same : headroom next.has ≡ headroom (gained_row r more).has = ap (λ (k : Row). headroom k.has) made in
     omega (arith, fewer, same, sum)

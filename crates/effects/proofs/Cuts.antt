@@ -21,10 +21,10 @@ pub record Cut {N T A : Type 0} (own : N → Own) (x : ℕ) (place : Place) (fou
   pub here : OpOf N T A
   pub is : found ≡ Some here
   pub id : (head here).id ≡ x
-  pub front : List Point
+  pub preceding : List Point
   pub back : List Point
-  pub was : whole ≡ front ++ (points own (Some place.parent) here ++ back)
-  pub rest : left ≡ front ++ back
+  pub was : whole ≡ preceding ++ (points own (Some place.parent) here ++ back)
+  pub rest : left ≡ preceding ++ back
 
 module _ {N T A : Type 0} (own : N → Own) where
   -- the innermost operation on a path
@@ -48,11 +48,11 @@ module _ {N T A : Type 0} (own : N → Own) where
     region_stand_points p path r empty = refl
     region_stand_points p path r (block args os) = ops_stand_points p path r args [] os
 
-    ops_stand_points : (p : OpOf N T A) (path : List (StepOf N T A)) (r : ℕ) (args : List T) (front : List (OpOf N T A)) (os : OpsOf N T A) → map point_in (ops_stands p path r args front os) ≡ ops_points own (head p).id os
-    ops_stand_points p path r args front no_ops = refl
-    ops_stand_points p path r args front (next o os) =
-        map-append point_in (stands (step p r args front os ∷ path) o) (ops_stands p path r args (front ++ o ∷ []) os)
-        ∙ λ i. stand_points (step p r args front os ∷ path) o i ++ ops_stand_points p path r args (front ++ o ∷ []) os i
+    ops_stand_points : (p : OpOf N T A) (path : List (StepOf N T A)) (r : ℕ) (args : List T) (preceding : List (OpOf N T A)) (os : OpsOf N T A) → map point_in (ops_stands p path r args preceding os) ≡ ops_points own (head p).id os
+    ops_stand_points p path r args preceding no_ops = refl
+    ops_stand_points p path r args preceding (next o os) =
+        map-append point_in (stands (step p r args preceding os ∷ path) o) (ops_stands p path r args (preceding ++ o ∷ []) os)
+        ∙ λ i. stand_points (step p r args preceding os ∷ path) o i ++ ops_stand_points p path r args (preceding ++ o ∷ []) os i
 
   -- a remaining operation has the same parent as before
   left_around : (x : ℕ) (path : List (StepOf N T A)) → around (map (left_step x) path) ≡ around path
@@ -76,13 +76,13 @@ module _ {N T A : Type 0} (own : N → Own) where
             here = o;
             is = stand_found t d (stand o (a ∷ q)) h;
             id = refl;
-            front = map point_in w.front;
+            preceding = map point_in w.preceding;
             back = map point_in w.back;
             was = sym (stand_points [] t)
                 ∙ ap (map point_in) w.is
-                ∙ map-append point_in w.front (stands (a ∷ q) o ++ w.back)
-                ∙ ap (λ l. map point_in w.front ++ l) (map-append point_in (stands (a ∷ q) o) w.back ∙ ap (λ l. l ++ map point_in w.back) (stand_points (a ∷ q) o ∙ ap (λ (p : Place). points own (Some p.parent) o) one));
-            rest = sym (stand_points [] (without (head o).id t)) ∙ ap (map point_in) w.left ∙ left_points (head o).id (w.front ++ w.back) ∙ map-append point_in w.front w.back;
+                ∙ map-append point_in w.preceding (stands (a ∷ q) o ++ w.back)
+                ∙ ap (λ l. map point_in w.preceding ++ l) (map-append point_in (stands (a ∷ q) o) w.back ∙ ap (λ l. l ++ map point_in w.back) (stand_points (a ∷ q) o ∙ ap (λ (p : Place). points own (Some p.parent) o) one));
+            rest = sym (stand_points [] (without (head o).id t)) ∙ ap (map point_in) w.left ∙ left_points (head o).id (w.preceding ++ w.back) ∙ map-append point_in w.preceding w.back;
           }
         where
           some_is : (p q : Place) → Some p ≡ Some q → p ≡ q

@@ -23,12 +23,12 @@ module _ {N T A : Type 0} (t : OpOf N T A) (d : HasDistinctIds t) where
   onward_is s h = ap (λ o. some_ops (option_map onward o)) (stand_of_member t d s h)
 
   -- the rest of a block of an operation in the tree
-  left_onward : (p : OpOf N T A) (q : List (StepOf N T A)) (r : ℕ) (args : List T) (front : List (OpOf N T A)) (os : OpsOf N T A) → In (stand p q) (stands [] t) → region_at r (regions p) ≡ Some (block args (joined_ops front os)) → ops_from (first_id os) t ≡ os
-  left_onward p q r args front no_ops h e = refl
-  left_onward p q r args front (next z zs) h e =
-      let a : StepOf N T A = step p r args front zs in
-      let m : In (stand z (a ∷ q)) (ops_stands p q r args [] (joined_ops front (next z zs))) = ops_child p q r args [] front z zs in
-      let inside = child p q r args (joined_ops front (next z zs)) (stand z (a ∷ q)) e m in
+  left_onward : (p : OpOf N T A) (q : List (StepOf N T A)) (r : ℕ) (args : List T) (preceding : List (OpOf N T A)) (os : OpsOf N T A) → In (stand p q) (stands [] t) → region_at r (regions p) ≡ Some (block args (joined_ops preceding os)) → ops_from (first_id os) t ≡ os
+  left_onward p q r args preceding no_ops h e = refl
+  left_onward p q r args preceding (next z zs) h e =
+      let a : StepOf N T A = step p r args preceding zs in
+      let m : In (stand z (a ∷ q)) (ops_stands p q r args [] (joined_ops preceding (next z zs))) = ops_child p q r args [] preceding z zs in
+      let inside = child p q r args (joined_ops preceding (next z zs)) (stand z (a ∷ q)) e m in
       onward_is (stand z (a ∷ q)) (within p q (stand z (a ∷ q)) inside [] t h)
 
   pub first_onward : (p r : ℕ) → ops_from (first_at p r t) t ≡ list_at p r t
@@ -60,7 +60,7 @@ module _ {N T A : Type 0} (t : OpOf N T A) (d : HasDistinctIds t) where
           absurd cc
   after_onward o (a ∷ q) h =
       ap (λ (p : Option Place). ops_from (option_and_then (λ p. p.before) p) t) (place_of_member t d o a q h)
-      ∙ left_onward a.parent q a.region a.args (a.front ++ o ∷ []) a.rest (around_there t o a q h).1 (shape t o a q h ∙ ap (λ z. Some (block a.args z)) (joined_more a.front o a.rest))
+      ∙ left_onward a.parent q a.region a.args (a.preceding ++ o ∷ []) a.rest (around_there t o a q h).1 (shape t o a q h ∙ ap (λ z. Some (block a.args z)) (joined_more a.preceding o a.rest))
 
   pub next_onward : (x : ℕ) (o : OpOf N T A) (os : OpsOf N T A) → ops_from (Some x) t ≡ next o os → ops_from (next_of x t) t ≡ os
   next_onward x o os e = go (stand_of x t) refl e

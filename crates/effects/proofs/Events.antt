@@ -55,30 +55,30 @@ alike_cons m ls ns s = record {
   weights = λ f x. ap (λ w. one_if (is_in x m.parent && f m.id) + w) (s.weights f x);
 }
 
-pub alike_moved : (front mid back : List Point) → Alike (front ++ (mid ++ back)) (mid ++ (front ++ back))
-alike_moved front mid back = record {
-  there = λ n a. elim (in_parts n front (mid ++ back) a) [
-    | inl b ↦ in_right n mid (front ++ back) (in_left n front back b)
-    | inr b ↦ elim (in_parts n mid back b) [ inl d ↦ in_left n mid (front ++ back) d | inr d ↦ in_right n mid (front ++ back) (in_right n front back d) ]
+pub alike_moved : (preceding mid back : List Point) → Alike (preceding ++ (mid ++ back)) (mid ++ (preceding ++ back))
+alike_moved preceding mid back = record {
+  there = λ n a. elim (in_parts n preceding (mid ++ back) a) [
+    | inl b ↦ in_right n mid (preceding ++ back) (in_left n preceding back b)
+    | inr b ↦ elim (in_parts n mid back b) [ inl d ↦ in_left n mid (preceding ++ back) d | inr d ↦ in_right n mid (preceding ++ back) (in_right n preceding back d) ]
   ];
-  back = λ n a. elim (in_parts n mid (front ++ back) a) [
-    | inl b ↦ in_right n front (mid ++ back) (in_left n mid back b)
-    | inr b ↦ elim (in_parts n front back b) [ inl d ↦ in_left n front (mid ++ back) d | inr d ↦ in_right n front (mid ++ back) (in_right n mid back d) ]
+  back = λ n a. elim (in_parts n mid (preceding ++ back) a) [
+    | inl b ↦ in_right n preceding (mid ++ back) (in_left n mid back b)
+    | inr b ↦ elim (in_parts n preceding back b) [ inl d ↦ in_left n preceding (mid ++ back) d | inr d ↦ in_right n preceding (mid ++ back) (in_right n mid back d) ]
   ];
-  weights = λ f x. let a = weight_joined f x front (mid ++ back) in let b = weight_joined f x mid back in let d = weight_joined f x mid (front ++ back) in let e = weight_joined f x front back in omega (arith, a, b, d, e);
+  weights = λ f x. let a = weight_joined f x preceding (mid ++ back) in let b = weight_joined f x mid back in let d = weight_joined f x mid (preceding ++ back) in let e = weight_joined f x preceding back in omega (arith, a, b, d, e);
 }
 
 -- distinct ids
-apart_less : (front : List Point) (n : Point) (back : List Point) → Apart (front ++ (n ∷ back)) → Apart (front ++ back)
+apart_less : (preceding : List Point) (n : Point) (back : List Point) → Apart (preceding ++ (n ∷ back)) → Apart (preceding ++ back)
 apart_less [] n back d = d.1
 apart_less (f ∷ fs) n back d = let l = lacks_parts f.id fs (n ∷ back) d.0 in (lacks_joined f.id fs back l.0 l.1.1, apart_less fs n back d.1)
 
-lacks_middle : (front : List Point) (n : Point) (back : List Point) → Apart (front ++ (n ∷ back)) → Lacks n.id (front ++ back)
+lacks_middle : (preceding : List Point) (n : Point) (back : List Point) → Apart (preceding ++ (n ∷ back)) → Lacks n.id (preceding ++ back)
 lacks_middle [] n back d = d.0
 lacks_middle (f ∷ fs) n back d = let l = lacks_parts f.id fs (n ∷ back) d.0 in ((λ e. l.1.0 (sym e)), lacks_middle fs n back d.1)
 
-pub apart_first : (front : List Point) (n : Point) (back : List Point) → Apart (front ++ (n ∷ back)) → Apart (n ∷ (front ++ back))
-apart_first front n back d = (lacks_middle front n back d, apart_less front n back d)
+pub apart_first : (preceding : List Point) (n : Point) (back : List Point) → Apart (preceding ++ (n ∷ back)) → Apart (n ∷ (preceding ++ back))
+apart_first preceding n back d = (lacks_middle preceding n back d, apart_less preceding n back d)
 
 pub absent_lacks : (x : ℕ) (ns : List Point) → Lacks x ns → Absent x (point_ids ns)
 absent_lacks x [] l = refl
@@ -114,23 +114,23 @@ module _ {N T A : Type 0} (own : N → Own) where
   put_follows x place fresh m n a b d takes put h =
       let c = cut own x n.tree place d takes.there in
       let s = point_at (Some place.parent) c.here in
-      let whole : points own None n.tree ≡ c.front ++ (s ∷ c.back) = c.was ∙ ap (λ l. c.front ++ (l ++ c.back)) (one_point (Some place.parent) c.here (takes.empty c.here c.is)) in
-      let left : points own None m.tree ≡ c.front ++ c.back = ap (points own None) takes.left ∙ c.rest in
-      let apart = apart_first c.front s c.back (subst Apart whole (apart_points n.tree d)) in
-      let absent : Absent x (ids m.tree) = subst (Absent x) (ap point_ids (sym left) ∙ points_ids own None m.tree) (subst (λ y. Absent y (point_ids (c.front ++ c.back))) c.id (absent_lacks s.id (c.front ++ c.back) apart.0)) in
-      let childless : Childless s.id (c.front ++ c.back) = subst (λ y. Childless y (c.front ++ c.back)) (sym c.id) (subst (Childless x) left (childless_op own x None m.tree refl absent)) in
-      let now = put c.here c.is s (c.front ++ c.back) c.id refl refl apart childless (subst (Whole a) left h) in
-      subst (Whole b) (sym whole) (holds_alike b _ _ None _ _ (alike_sym _ _ (alike_moved c.front (s ∷ []) c.back)) now)
+      let whole : points own None n.tree ≡ c.preceding ++ (s ∷ c.back) = c.was ∙ ap (λ l. c.preceding ++ (l ++ c.back)) (one_point (Some place.parent) c.here (takes.empty c.here c.is)) in
+      let left : points own None m.tree ≡ c.preceding ++ c.back = ap (points own None) takes.left ∙ c.rest in
+      let apart = apart_first c.preceding s c.back (subst Apart whole (apart_points n.tree d)) in
+      let absent : Absent x (ids m.tree) = subst (Absent x) (ap point_ids (sym left) ∙ points_ids own None m.tree) (subst (λ y. Absent y (point_ids (c.preceding ++ c.back))) c.id (absent_lacks s.id (c.preceding ++ c.back) apart.0)) in
+      let childless : Childless s.id (c.preceding ++ c.back) = subst (λ y. Childless y (c.preceding ++ c.back)) (sym c.id) (subst (Childless x) left (childless_op own x None m.tree refl absent)) in
+      let now = put c.here c.is s (c.preceding ++ c.back) c.id refl refl apart childless (subst (Whole a) left h) in
+      subst (Whole b) (sym whole) (holds_alike b _ _ None _ _ (alike_sym _ _ (alike_moved c.preceding (s ∷ []) c.back)) now)
 
   pub take_follows : (x : ℕ) (place : Place) (fresh : Bool) (m n : ModuleOf N T A) (a b : Rows) → HasDistinctIds m.tree → Takes x place fresh m n → TakenOut x a b → Whole a (points own None m.tree) → Whole b (points own None n.tree)
   take_follows x place fresh m n a b d takes taken h =
       let c = cut own x m.tree place d takes.there in
       let s = point_at (Some place.parent) c.here in
-      let whole : points own None m.tree ≡ c.front ++ (s ∷ c.back) = c.was ∙ ap (λ l. c.front ++ (l ++ c.back)) (one_point (Some place.parent) c.here (takes.empty c.here c.is)) in
-      let left : points own None n.tree ≡ c.front ++ c.back = ap (points own None) takes.left ∙ c.rest in
-      let apart = apart_first c.front s c.back (subst Apart whole (apart_points m.tree d)) in
-      let before = holds_alike a _ _ None _ _ (alike_moved c.front (s ∷ []) c.back) (subst (Whole a) whole h) in
-      subst (Whole b) (sym left) (taken s (c.front ++ c.back) c.id apart before)
+      let whole : points own None m.tree ≡ c.preceding ++ (s ∷ c.back) = c.was ∙ ap (λ l. c.preceding ++ (l ++ c.back)) (one_point (Some place.parent) c.here (takes.empty c.here c.is)) in
+      let left : points own None n.tree ≡ c.preceding ++ c.back = ap (points own None) takes.left ∙ c.rest in
+      let apart = apart_first c.preceding s c.back (subst Apart whole (apart_points m.tree d)) in
+      let before = holds_alike a _ _ None _ _ (alike_moved c.preceding (s ∷ []) c.back) (subst (Whole a) whole h) in
+      subst (Whole b) (sym left) (taken s (c.preceding ++ c.back) c.id apart before)
 
   pub shift_follows : (is_table : N → Bool) (x : ℕ) (old new : Place) (m n : ModuleOf N T A) (a b : Rows) → HasDistinctIds m.tree → HasDistinctIds n.tree → Shifts is_table x old new m n → ShiftedTo x (Some new.parent) a b
       → Whole a (points own None m.tree) → Whole b (points own None n.tree)
@@ -141,15 +141,15 @@ module _ {N T A : Type 0} (own : N → Own) where
       let rest = inside c.here in
       let s = point_at (Some old.parent) c.here in
       let t = point_at (Some new.parent) c.here in
-      let was : points own None m.tree ≡ c.front ++ (s ∷ (rest ++ c.back)) = c.was ∙ ap (λ l. c.front ++ (l ++ c.back)) (points_are (Some old.parent) c.here) in
-      let is : points own None n.tree ≡ k.front ++ (t ∷ (rest ++ k.back)) = k.was ∙ ap (λ o. k.front ++ (points own (Some new.parent) o ++ k.back)) same ∙ ap (λ l. k.front ++ (l ++ k.back)) (points_are (Some new.parent) c.here) in
-      let left : c.front ++ c.back ≡ k.front ++ k.back = sym c.rest ∙ ap (points own None) (sym shifts.rest) ∙ k.rest in
-      let apart = apart_first c.front s (rest ++ c.back) (subst Apart was (apart_points m.tree d)) in
-      let before = holds_alike a _ _ None _ _ (alike_moved c.front (s ∷ []) (rest ++ c.back)) (subst (Whole a) was h) in
-      let after = shifted s (c.front ++ (rest ++ c.back)) c.id apart before in
-      let others : Alike (c.front ++ (rest ++ c.back)) (k.front ++ (rest ++ k.back)) =
-      alike_join _ _ _ (subst (λ l. Alike (c.front ++ (rest ++ c.back)) (rest ++ l)) left (alike_moved c.front rest c.back)) (alike_sym _ _ (alike_moved k.front rest k.back)) in
-      let there = holds_alike b _ _ None _ _ (alike_join _ _ _ (alike_cons t _ _ others) (alike_sym _ _ (alike_moved k.front (t ∷ []) (rest ++ k.back)))) after in
+      let was : points own None m.tree ≡ c.preceding ++ (s ∷ (rest ++ c.back)) = c.was ∙ ap (λ l. c.preceding ++ (l ++ c.back)) (points_are (Some old.parent) c.here) in
+      let is : points own None n.tree ≡ k.preceding ++ (t ∷ (rest ++ k.back)) = k.was ∙ ap (λ o. k.preceding ++ (points own (Some new.parent) o ++ k.back)) same ∙ ap (λ l. k.preceding ++ (l ++ k.back)) (points_are (Some new.parent) c.here) in
+      let left : c.preceding ++ c.back ≡ k.preceding ++ k.back = sym c.rest ∙ ap (points own None) (sym shifts.rest) ∙ k.rest in
+      let apart = apart_first c.preceding s (rest ++ c.back) (subst Apart was (apart_points m.tree d)) in
+      let before = holds_alike a _ _ None _ _ (alike_moved c.preceding (s ∷ []) (rest ++ c.back)) (subst (Whole a) was h) in
+      let after = shifted s (c.preceding ++ (rest ++ c.back)) c.id apart before in
+      let others : Alike (c.preceding ++ (rest ++ c.back)) (k.preceding ++ (rest ++ k.back)) =
+      alike_join _ _ _ (subst (λ l. Alike (c.preceding ++ (rest ++ c.back)) (rest ++ l)) left (alike_moved c.preceding rest c.back)) (alike_sym _ _ (alike_moved k.preceding rest k.back)) in
+      let there = holds_alike b _ _ None _ _ (alike_join _ _ _ (alike_cons t _ _ others) (alike_sym _ _ (alike_moved k.preceding (t ∷ []) (rest ++ k.back)))) after in
       subst (Whole b) (sym is) there
 
   -- an edit of heads that keeps ids and names

@@ -96,11 +96,11 @@ put_counts : (x : ℕ) (place : Place) (fresh : Bool) (m n : Module) (a b : Coun
 put_counts x place fresh m n a b d takes put was =
     let c = cut_heads x n.tree place d takes.there in
     let h = head c.here in
-    let whole : heads n.tree ≡ c.front ++ (h ∷ c.back) = c.was ∙ ap (λ l. c.front ++ (l ++ c.back)) (one_head c.here (takes.empty c.here c.is)) in
-    let left : heads m.tree ≡ c.front ++ c.back = ap heads takes.left ∙ c.rest in
-    let unused : results_among h.id (all_operands (c.front ++ (h ∷ c.back))) ≡ 0 = ap (λ y. results_among y (all_operands (c.front ++ (h ∷ c.back)))) c.id ∙ ap (λ (l : List (HeadOf (List ℕ) TypeTerm AttrTerm)). results_among x (all_operands l)) (sym whole) ∙ unused_among x n.tree takes.unused in
+    let whole : heads n.tree ≡ c.preceding ++ (h ∷ c.back) = c.was ∙ ap (λ l. c.preceding ++ (l ++ c.back)) (one_head c.here (takes.empty c.here c.is)) in
+    let left : heads m.tree ≡ c.preceding ++ c.back = ap heads takes.left ∙ c.rest in
+    let unused : results_among h.id (all_operands (c.preceding ++ (h ∷ c.back))) ≡ 0 = ap (λ y. results_among y (all_operands (c.preceding ++ (h ∷ c.back)))) c.id ∙ ap (λ (l : List (HeadOf (List ℕ) TypeTerm AttrTerm)). results_among x (all_operands l)) (sym whole) ∙ unused_among x n.tree takes.unused in
     let entered : EnteredWith h.id (stays h.name) h.operands a b = subst (λ y. EnteredWith y (stays h.name) h.operands a b) (sym c.id) (put c.here c.is) in
-    counted_heads n.tree b (λ y. put_tally stays c.front c.back h (subst (Different stays) whole (different stays n.tree d)) a b unused
+    counted_heads n.tree b (λ y. put_tally stays c.preceding c.back h (subst (Different stays) whole (different stays n.tree d)) a b unused
     (λ z. heads_counted m.tree a was z ∙ ap (λ l. tallied stays l z) left) entered y ∙ ap (λ l. tallied stays l y) (sym whole))
 
 take_counts : (x : ℕ) (place : Place) (fresh : Bool) (m n : Module) (a b : Counts) → HasDistinctIds m.tree → Takes x place fresh m n
@@ -108,10 +108,10 @@ take_counts : (x : ℕ) (place : Place) (fresh : Bool) (m n : Module) (a b : Cou
 take_counts x place fresh m n a b d takes take was =
     let c = cut_heads x m.tree place d takes.there in
     let h = head c.here in
-    let whole : heads m.tree ≡ c.front ++ (h ∷ c.back) = c.was ∙ ap (λ l. c.front ++ (l ++ c.back)) (one_head c.here (takes.empty c.here c.is)) in
-    let left : heads n.tree ≡ c.front ++ c.back = ap heads takes.left ∙ c.rest in
+    let whole : heads m.tree ≡ c.preceding ++ (h ∷ c.back) = c.was ∙ ap (λ l. c.preceding ++ (l ++ c.back)) (one_head c.here (takes.empty c.here c.is)) in
+    let left : heads n.tree ≡ c.preceding ++ c.back = ap heads takes.left ∙ c.rest in
     let gone : LeftWith h.id h.operands a b = subst (λ y. LeftWith y h.operands a b) (sym c.id) (take c.here c.is) in
-    counted_heads n.tree b (λ y. take_tally stays c.front c.back h (subst (Different stays) whole (different stays m.tree d)) a b
+    counted_heads n.tree b (λ y. take_tally stays c.preceding c.back h (subst (Different stays) whole (different stays m.tree d)) a b
     (λ z. heads_counted m.tree a was z ∙ ap (λ l. tallied stays l z) whole) gone y ∙ ap (λ l. tallied stays l y) (sym left))
 
 set_counts : (x k : ℕ) (old new : Value) (m n : Module) (a b : Counts) → HasDistinctIds m.tree → SetsOperand x k old new m n → Exchanged old new a b → Counted a m.tree → Counted b n.tree
@@ -126,14 +126,14 @@ shift_counts is_table x old new m n a b d e shifts same was =
     let c = cut_heads x m.tree old d shifts.was in
     let k = cut_heads x n.tree new e shifts.is in
     let one : k.here ≡ c.here = some_same k.here c.here (sym k.is ∙ shifts.same ∙ c.is) in
-    let is : heads n.tree ≡ k.front ++ (heads c.here ++ k.back) = k.was ∙ ap (λ o. k.front ++ (heads o ++ k.back)) one in
-    let left : c.front ++ c.back ≡ k.front ++ k.back = sym c.rest ∙ ap heads (sym shifts.rest) ∙ k.rest in
+    let is : heads n.tree ≡ k.preceding ++ (heads c.here ++ k.back) = k.was ∙ ap (λ o. k.preceding ++ (heads o ++ k.back)) one in
+    let left : c.preceding ++ c.back ≡ k.preceding ++ k.back = sym c.rest ∙ ap heads (sym shifts.rest) ∙ k.rest in
     counted_heads n.tree b (λ y. same y
     ∙ heads_counted m.tree a was y
     ∙ ap (λ l. tallied stays l y) c.was
-    ∙ moved_tally stays c.front (heads c.here) c.back (subst (Different stays) c.was (different stays m.tree d)) y
+    ∙ moved_tally stays c.preceding (heads c.here) c.back (subst (Different stays) c.was (different stays m.tree d)) y
     ∙ ap (λ l. tallied stays (heads c.here ++ l) y) left
-    ∙ sym (moved_tally stays k.front (heads c.here) k.back (subst (Different stays) is (different stays n.tree e)) y)
+    ∙ sym (moved_tally stays k.preceding (heads c.here) k.back (subst (Different stays) is (different stays n.tree e)) y)
     ∙ ap (λ l. tallied stays l y) (sym is))
   where
     some_same : (p q : Operation) → Some p ≡ Some q → p ≡ q

@@ -36,10 +36,10 @@ pub record HeadCut {N T A : Type 0} (x : ℕ) (found : Option (OpOf N T A)) (who
   pub here : OpOf N T A
   pub is : found ≡ Some here
   pub id : (head here).id ≡ x
-  pub front : List (HeadOf N T A)
+  pub preceding : List (HeadOf N T A)
   pub back : List (HeadOf N T A)
-  pub was : whole ≡ front ++ (heads here ++ back)
-  pub rest : left ≡ front ++ back
+  pub was : whole ≡ preceding ++ (heads here ++ back)
+  pub rest : left ≡ preceding ++ back
 
 -- each head's id, with the value of a function of the head
 abbrev pub tagged : {N T A V : Type 0} → (HeadOf N T A → V) → List (HeadOf N T A) → List (ℕ × V)
@@ -63,11 +63,11 @@ module _ {N T A : Type 0} where
     region_stand_heads p path r empty = refl
     region_stand_heads p path r (block args os) = ops_stand_heads p path r args [] os
 
-    ops_stand_heads : (p : OpOf N T A) (path : List (StepOf N T A)) (r : ℕ) (args : List T) (front : List (OpOf N T A)) (os : OpsOf N T A) → map head_in (ops_stands p path r args front os) ≡ ops_heads os
-    ops_stand_heads p path r args front no_ops = refl
-    ops_stand_heads p path r args front (next o os) =
-        map-append head_in (stands (step p r args front os ∷ path) o) (ops_stands p path r args (front ++ o ∷ []) os)
-        ∙ λ i. stand_heads (step p r args front os ∷ path) o i ++ ops_stand_heads p path r args (front ++ o ∷ []) os i
+    ops_stand_heads : (p : OpOf N T A) (path : List (StepOf N T A)) (r : ℕ) (args : List T) (preceding : List (OpOf N T A)) (os : OpsOf N T A) → map head_in (ops_stands p path r args preceding os) ≡ ops_heads os
+    ops_stand_heads p path r args preceding no_ops = refl
+    ops_stand_heads p path r args preceding (next o os) =
+        map-append head_in (stands (step p r args preceding os ∷ path) o) (ops_stands p path r args (preceding ++ o ∷ []) os)
+        ∙ λ i. stand_heads (step p r args preceding os ∷ path) o i ++ ops_stand_heads p path r args (preceding ++ o ∷ []) os i
 
   left_heads : (x : ℕ) (ss : List (StandOf N T A)) → map head_in (map (left_stand x) ss) ≡ map head_in ss
   left_heads x [] = refl
@@ -85,13 +85,13 @@ module _ {N T A : Type 0} where
             here = o;
             is = stand_found t d (stand o (a ∷ q)) h;
             id = refl;
-            front = map head_in w.front;
+            preceding = map head_in w.preceding;
             back = map head_in w.back;
             was = sym (stand_heads [] t)
                 ∙ ap (map head_in) w.is
-                ∙ map-append head_in w.front (stands (a ∷ q) o ++ w.back)
-                ∙ ap (λ l. map head_in w.front ++ l) (map-append head_in (stands (a ∷ q) o) w.back ∙ ap (λ l. l ++ map head_in w.back) (stand_heads (a ∷ q) o));
-            rest = sym (stand_heads [] (without (head o).id t)) ∙ ap (map head_in) w.left ∙ left_heads (head o).id (w.front ++ w.back) ∙ map-append head_in w.front w.back;
+                ∙ map-append head_in w.preceding (stands (a ∷ q) o ++ w.back)
+                ∙ ap (λ l. map head_in w.preceding ++ l) (map-append head_in (stands (a ∷ q) o) w.back ∙ ap (λ l. l ++ map head_in w.back) (stand_heads (a ∷ q) o));
+            rest = sym (stand_heads [] (without (head o).id t)) ∙ ap (map head_in) w.left ∙ left_heads (head o).id (w.preceding ++ w.back) ∙ map-append head_in w.preceding w.back;
           }
 
   -- the value of each operation is that of its head
@@ -114,9 +114,9 @@ pub among_joined : (x : ℕ) (vs ws : List Value) → results_among x (vs ++ ws)
 among_joined x [] ws = omega arith
 among_joined x (v ∷ vs) ws = let more = among_joined x vs ws in omega (arith, more)
 
-no_front : {X : Type 0} (xs ys : List X) → xs ++ ys ≡ [] → xs ≡ []
-no_front [] ys e = refl
-no_front (x ∷ xs) ys e = absurd cc
+no_preceding : {X : Type 0} (xs ys : List X) → xs ++ ys ≡ [] → xs ≡ []
+no_preceding [] ys e = refl
+no_preceding (x ∷ xs) ys e = absurd cc
 
 no_back : {X : Type 0} (xs ys : List X) → xs ++ ys ≡ [] → ys ≡ []
 no_back [] ys e = e
@@ -165,7 +165,7 @@ module _ {N T A : Type 0} where
   none_among : (x : ℕ) (hs : List (HeadOf N T A)) → ((v : Value) → eqb (owner_of v).0 x ≡ true → gather (λ (h : HeadOf N T A). operand_uses v h.id 0 h.operands) hs ≡ []) → results_among x (all_operands hs) ≡ 0
   none_among x [] u = refl
   none_among x (h ∷ hs) u =
-      let one = none_used x h.id 0 h.operands (λ v o. no_front _ _ (u v o)) in
+      let one = none_used x h.id 0 h.operands (λ v o. no_preceding _ _ (u v o)) in
       let more = none_among x hs (λ v o. no_back (operand_uses v h.id 0 h.operands) _ (u v o)) in
       among_joined x h.operands (all_operands hs) ∙ λ i. one i + more i
 

@@ -57,9 +57,9 @@ pub all_joined : {X : Type 0} (P : X → Type 0) (xs ys : List X) → AllByRecur
 all_joined P [] ys a b = b
 all_joined P (x ∷ xs) ys a b = (a.0, all_joined P xs ys a.1 b)
 
-all_front : {X : Type 0} (P : X → Type 0) (xs ys : List X) → AllByRecursion P (xs ++ ys) → AllByRecursion P xs
-all_front P [] ys a = tt
-all_front P (x ∷ xs) ys a = (a.0, all_front P xs ys a.1)
+all_preceding : {X : Type 0} (P : X → Type 0) (xs ys : List X) → AllByRecursion P (xs ++ ys) → AllByRecursion P xs
+all_preceding P [] ys a = tt
+all_preceding P (x ∷ xs) ys a = (a.0, all_preceding P xs ys a.1)
 
 all_back : {X : Type 0} (P : X → Type 0) (xs ys : List X) → AllByRecursion P (xs ++ ys) → AllByRecursion P ys
 all_back P [] ys a = a
@@ -80,8 +80,8 @@ module _ (e : Effect) (f : ℕ → Bool) (c : ℕ → ℕ) where
   abbrev pub Says : List (ℕ × EffectKinds) → Type 0
   Says ls = AllByRecursion (λ (l : ℕ × EffectKinds). f l.0 ≡ has e l.1) ls
 
-  front_counted : (xs ys : List ℕ) (ms ns : List Point) → ((x : ℕ) → Present x xs → Childless x ns) → Counted (xs ++ ys) (ms ++ ns) → Counted xs ms
-  front_counted xs ys ms ns h k x p =
+  preceding_counted : (xs ys : List ℕ) (ms ns : List Point) → ((x : ℕ) → Present x xs → Childless x ns) → Counted (xs ++ ys) (ms ++ ns) → Counted xs ms
+  preceding_counted xs ys ms ns h k x p =
       let a = k x (present_left x xs ys p) in let b = weight_joined f x ms ns in let z = weight_childless f x ns (h x p) in omega (arith, a, b, z)
 
   back_counted : (xs ys : List ℕ) (ms ns : List Point) → ((x : ℕ) → Present x ys → Childless x ms) → Counted (xs ++ ys) (ms ++ ns) → Counted ys ns
@@ -119,7 +119,7 @@ module _ (e : Effect) (f : ℕ → Bool) (c : ℕ → ℕ) where
           let ys = regions_ids rs in
           let ms = region_points own p r in
           let ns = regions_points own p rs in
-          let first = law_region p r half.left b.0 (all_front _ ms ns each) (front_counted xs ys ms ns (λ x q. childless_regions own x p rs (differ p x xs b.0 q) (half.disjoint x q)) counted) in
+          let first = law_region p r half.left b.0 (all_preceding _ ms ns each) (preceding_counted xs ys ms ns (λ x q. childless_regions own x p rs (differ p x xs b.0 q) (half.disjoint x q)) counted) in
           let rest = law_regions p rs half.right b.1 (all_back _ ms ns each) (back_counted xs ys ms ns (λ x q. childless_region own x p r (differ p x ys b.1 q) (flipped xs ys half x q)) counted) in (
             ap (nat_lt 0) (weight_joined f p ms ns) ∙ some_of_sum (weight f p ms) (weight f p ns) ∙ (λ i. first.0 i || rest.0 i) ∙ sym (has_union e (region_effects own r) (regions_effects own rs)),
             all_joined _ (region_listed own r) (regions_listed own rs) first.1 rest.1,
@@ -140,8 +140,8 @@ module _ (e : Effect) (f : ℕ → Bool) (c : ℕ → ℕ) where
           let ys = ops_ids os in
           let ms = points own (Some p) (op h rs) in
           let ns = ops_points own p os in
-          let first = (let mine = all_front _ ms ns each in
-          let counts = front_counted xs ys ms ns (λ x q. childless_ops own x p os (differ p x xs b.0 q) (half.disjoint x q)) counted in
+          let first = (let mine = all_preceding _ ms ns each in
+          let counts = preceding_counted xs ys ms ns (λ x q. childless_ops own x p os (differ p x xs b.0 q) (half.disjoint x q)) counted in
           let apart : (x : ℕ) → Present x xs → is_in x (Some p) ≡ false = λ x q. differ p x xs b.0 q in
           law_around (Some p) h rs apart mine counts (law_regions h.id rs (IsDistinct-tail eqb h.id (regions_ids rs) half.left) (absent_first h.id (regions_ids rs) half.left) mine.1 (inside_counted (Some p) h rs apart counts))) in
           let rest = law_ops p os half.right b.1 (all_back _ ms ns each) (back_counted xs ys ms ns (λ x q. childless_op own x (Some p) (op h rs) (differ p x ys b.1 q) (flipped xs ys half x q)) counted) in

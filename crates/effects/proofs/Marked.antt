@@ -3,7 +3,7 @@ use Rattle.std.proofs.Common.{◌≡◌, ℕ, ◌*◌, ◌<◌, ◌≤◌, List,
 use Rattle.std.specs.Prelude.{nat_lt, IsSome}
 use Rattle.std.proofs.lemmas.Bool.{lt-ltb, eq-eqb, ne_eqb, cases_eq}
 use Rattle.listeners_support.specs.Bits.{has, has_with}
-use Rattle.effects.specs.Marks.{AreMarked, HasRoom}
+use Rattle.effects.specs.Marks.{AreMarked, HasHeadroom}
 
 module _ {V : Type 0} (f g : ℕ → Option V) (set new : List ℕ) (x : ℕ) (n : Option V) (is : (y : ℕ) → g y ≡ cond (eqb x y) n (f y)) where
   pub marked : (test : Option V → Bool) → AreMarked test f set → ((y : ℕ) → has new y ≡ has_with x (test n) set y) → AreMarked test g new
@@ -14,18 +14,18 @@ module _ {V : Type 0} (f g : ℕ → Option V) (set new : List ℕ) (x : ℕ) (n
       go false = was y
 
   wider : (y : ℕ) → length set ≤ length new → nat_lt y (64 * length set) ≡ true → nat_lt y (64 * length new) ≡ true
-  wider y l room = lt-ltb y (64 * length new) (let m = ltb-true y (64 * length set) room in omega (arith, l, m))
+  wider y l headroom = lt-ltb y (64 * length new) (let m = ltb-true y (64 * length set) headroom in omega (arith, l, m))
 
-  pub roomy : HasRoom f set → length set ≤ length new → (IsSome n → x < 64 * length new) → HasRoom g new
-  roomy room l here y some = elim (cases_eq x y) [
+  pub roomy : HasHeadroom f set → length set ≤ length new → (IsSome n → x < 64 * length new) → HasHeadroom g new
+  roomy headroom l here y some = elim (cases_eq x y) [
     | inl e ↦ let same : g y ≡ n = is y ∙ ap (λ b. cond b n (f y)) (eq-eqb x y e) in
         let h = here (subst IsSome same some) in lt-ltb y (64 * length new) (omega (arith, h, e))
-    | inr ne ↦ let same : g y ≡ f y = is y ∙ ap (λ b. cond b n (f y)) (ne_eqb x y ne) in wider y l (room y (subst IsSome same some))
+    | inr ne ↦ let same : g y ≡ f y = is y ∙ ap (λ b. cond b n (f y)) (ne_eqb x y ne) in wider y l (headroom y (subst IsSome same some))
   ]
 
 -- a set with more capacity
-pub more_room : {V : Type 0} (f : ℕ → Option V) (set new : List ℕ) → HasRoom f set → length set ≤ length new → HasRoom f new
-more_room f set new room l y some = lt-ltb y (64 * length new) (let m = ltb-true y (64 * length set) (room y some) in omega (arith, l, m))
+pub more_headroom : {V : Type 0} (f : ℕ → Option V) (set new : List ℕ) → HasHeadroom f set → length set ≤ length new → HasHeadroom f new
+more_headroom f set new headroom l y some = lt-ltb y (64 * length new) (let m = ltb-true y (64 * length set) (headroom y some) in omega (arith, l, m))
 
 pub same_marks : {V : Type 0} (test : Option V → Bool) (f : ℕ → Option V) (set new : List ℕ) → AreMarked test f set → ((y : ℕ) → has new y ≡ has set y) → AreMarked test f new
 same_marks test f set new was same y = same y ∙ was y

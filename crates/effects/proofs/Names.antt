@@ -8,7 +8,7 @@ use Rattle.ir_event.proofs.of_tree_laws.Listed.{both}
 use Rattle.op_registry.specs.declared.definition.Trait.{Trait}
 use Rattle.op_registry.specs.declared.definition.Trait.TheVariants.{Terminator, Symbol}
 use Rattle.op_registry.specs.Rows.{Row, rows}
-use Rattle.op_registry.specs.Registry.{beside, row_of, is_among, trait_in, has_trait}
+use Rattle.op_registry.specs.Registry.{next_to, row_of, is_among, trait_in, has_trait}
 use Rattle.effects.specs.Dead.{is_kept}
 use Rattle.std.proofs.lemmas.Bool.{not-true}
 
@@ -34,15 +34,15 @@ module _ (wanted : Trait) (n : List ℕ) where
       (λ i. (ap (λ z. bytes_eq z r.0) e ∙ not-true (bytes_eq m r.0) b.0) i && is_among wanted r.1.traits || none_later m rs e b.1 i)
 
   -- the row of a name has a trait if one of the rows with that trait has that name
-  among_rows : (rs : List Named) → apart rs ≡ true → trait_in wanted (beside n rs) ≡ list_any (λ (r : Named). bytes_eq n r.0 && is_among wanted r.1.traits) rs
+  among_rows : (rs : List Named) → apart rs ≡ true → trait_in wanted (next_to n rs) ≡ list_any (λ (r : Named). bytes_eq n r.0 && is_among wanted r.1.traits) rs
   among_rows [] a = refl
   among_rows (r ∷ rs) a = let b = both _ _ a in go b.0 (among_rows rs b.1) (bytes_eq n r.0) refl
     where
-      go : others r.0 rs ≡ true → trait_in wanted (beside n rs) ≡ list_any (λ (r : Named). bytes_eq n r.0 && is_among wanted r.1.traits) rs → (b : Bool) → bytes_eq n r.0 ≡ b
-          → trait_in wanted (cond (bytes_eq n r.0) (Some r.1) (beside n rs)) ≡ ((bytes_eq n r.0 && is_among wanted r.1.traits) || list_any (λ (r : Named). bytes_eq n r.0 && is_among wanted r.1.traits) rs)
+      go : others r.0 rs ≡ true → trait_in wanted (next_to n rs) ≡ list_any (λ (r : Named). bytes_eq n r.0 && is_among wanted r.1.traits) rs → (b : Bool) → bytes_eq n r.0 ≡ b
+          → trait_in wanted (cond (bytes_eq n r.0) (Some r.1) (next_to n rs)) ≡ ((bytes_eq n r.0 && is_among wanted r.1.traits) || list_any (λ (r : Named). bytes_eq n r.0 && is_among wanted r.1.traits) rs)
       go away more true e =
           let none = none_later r.0 rs ((bytes_eq-Decides n r.0).0 e) away in
-          ap (λ b. trait_in wanted (cond b (Some r.1) (beside n rs))) e
+          ap (λ b. trait_in wanted (cond b (Some r.1) (next_to n rs))) e
           ∙ or_false (is_among wanted r.1.traits)
           ∙ sym (λ i. (e i && is_among wanted r.1.traits) || none i)
         where
@@ -50,7 +50,7 @@ module _ (wanted : Trait) (n : List ℕ) where
           or_false true = refl
           or_false false = refl
       go away more false e =
-          ap (λ b. trait_in wanted (cond b (Some r.1) (beside n rs))) e ∙ more
+          ap (λ b. trait_in wanted (cond b (Some r.1) (next_to n rs))) e ∙ more
           ∙ sym (ap (λ b. (b && is_among wanted r.1.traits) || list_any (λ (r : Named). bytes_eq n r.0 && is_among wanted r.1.traits) rs) e)
 
   only_those : (rs : List Named) → list_any (λ (r : Named). bytes_eq n r.0 && is_among wanted r.1.traits) rs ≡ list_any (bytes_eq n) (map (λ (r : Named). r.0) (filter (λ (r : Named). is_among wanted r.1.traits) rs))

@@ -10,7 +10,7 @@ use Rattle.ir_event.specs.trees.Meaning.{isolated_in}
 use Rattle.ir_event.proofs.of_tree_laws.Listed.{both}
 use Rattle.ir_event.proofs.of_tree_laws.Members.{found_stands, stand_found}
 use Rattle.ir_event.proofs.of_tree_laws.Around.{present_stand}
-use Rattle.ir_event.proofs.of_tree_laws.Formed.{from_formed}
+use Rattle.ir_event.proofs.of_tree_laws.Wellformed.{from_wellformed}
 use Rattle.ir_event.specs.store.Nodes.{Node, node_of, regions_arguments}
 use Rattle.ir_event.specs.store.Stored.{Stored, known}
 use Rattle.ir_event.specs.declared.world.World.{World}
@@ -51,7 +51,7 @@ few_regions w x n e = go (find x w.store.module_of.tree) refl e
     go (Some o) i k =
         let one : n ≡ node_of o = cc in
         let s = found_stands x w.store.module_of.tree o i in
-        let small = few s.0.here ((from_formed (isolated_in w.ctx) w.store.module_of.tree w.formed.formed).fits s.0 s.1) in
+        let small = few s.0.here ((from_wellformed (isolated_in w.ctx) w.store.module_of.tree w.wellformed.wellformed).fits s.0 s.1) in
         let same = ap (λ (z : Op). region_count (regions z)) s.3 in
         let count = ap (λ (m : Node). length m.arguments) one ∙ counted o in
         omega (arith, small, same, count)

@@ -155,11 +155,11 @@ module _ {N T A : Type 0} (own : N → Own) where
     region_each_listed p path r empty = refl
     region_each_listed p path r (block args os) = ops_each_listed p path r args [] os
 
-    ops_each_listed : (p : OpOf N T A) (path : List (StepOf N T A)) (r : ℕ) (args : List T) (front : List (OpOf N T A)) (os : OpsOf N T A) → map (λ (s : StandOf N T A). (stand_id s, effects own s.here)) (ops_stands p path r args front os) ≡ ops_listed own os
-    ops_each_listed p path r args front no_ops = refl
-    ops_each_listed p path r args front (next o os) =
-        map-append (says (effects own)) (stands (step p r args front os ∷ path) o) (ops_stands p path r args (front ++ o ∷ []) os)
-        ∙ λ i. each_listed (step p r args front os ∷ path) o i ++ ops_each_listed p path r args (front ++ o ∷ []) os i
+    ops_each_listed : (p : OpOf N T A) (path : List (StepOf N T A)) (r : ℕ) (args : List T) (preceding : List (OpOf N T A)) (os : OpsOf N T A) → map (λ (s : StandOf N T A). (stand_id s, effects own s.here)) (ops_stands p path r args preceding os) ≡ ops_listed own os
+    ops_each_listed p path r args preceding no_ops = refl
+    ops_each_listed p path r args preceding (next o os) =
+        map-append (says (effects own)) (stands (step p r args preceding os ∷ path) o) (ops_stands p path r args (preceding ++ o ∷ []) os)
+        ∙ λ i. each_listed (step p r args preceding os ∷ path) o i ++ ops_each_listed p path r args (preceding ++ o ∷ []) os i
 
 module _ {N T A : Type 0} (own : N → Own) (t : OpOf N T A) (rows : Rows) (d : HasDistinctIds t) (h : Whole rows (points own None t)) where
   same_ids : pair_ids (listed own t) ≡ point_ids (points own None t)

@@ -85,96 +85,96 @@ module _ {N T A : Type 0} (kept : N → Bool) where
   marks_apart hs d = all_apart (marks hs) (subst (IsDistinct eqb) (sym (mark_ids hs)) d)
 
   -- one head between others
-  module _ (front back : List (HeadOf N T A)) (h : HeadOf N T A) where
+  module _ (preceding back : List (HeadOf N T A)) (h : HeadOf N T A) where
     abbrev whole : List (HeadOf N T A)
-    whole = front ++ (h ∷ back)
+    whole = preceding ++ (h ∷ back)
 
     abbrev rest : List (HeadOf N T A)
-    rest = front ++ back
+    rest = preceding ++ back
 
-    look_whole : (y : ℕ) → look y (marks (front ++ (h ∷ back))) ≡ first_of (look y (marks front)) (cond (eqb y h.id) (Some (kept h.name)) (look y (marks back)))
-    look_whole y = ap (look y) (marks_joined front (h ∷ back)) ∙ look_joined y (marks front) (marks (h ∷ back))
+    look_whole : (y : ℕ) → look y (marks (preceding ++ (h ∷ back))) ≡ first_of (look y (marks preceding)) (cond (eqb y h.id) (Some (kept h.name)) (look y (marks back)))
+    look_whole y = ap (look y) (marks_joined preceding (h ∷ back)) ∙ look_joined y (marks preceding) (marks (h ∷ back))
 
-    look_rest : (y : ℕ) → look y (marks (front ++ back)) ≡ first_of (look y (marks front)) (look y (marks back))
-    look_rest y = ap (look y) (marks_joined front back) ∙ look_joined y (marks front) (marks back)
+    look_rest : (y : ℕ) → look y (marks (preceding ++ back)) ≡ first_of (look y (marks preceding)) (look y (marks back))
+    look_rest y = ap (look y) (marks_joined preceding back) ∙ look_joined y (marks preceding) (marks back)
 
-    look_other : (y : ℕ) → (y ≡ h.id → ⊥) → look y (marks (front ++ (h ∷ back))) ≡ look y (marks (front ++ back))
-    look_other y ne = look_whole y ∙ ap (λ b. first_of (look y (marks front)) (cond b (Some (kept h.name)) (look y (marks back)))) (ne_eqb y h.id ne) ∙ sym (look_rest y)
+    look_other : (y : ℕ) → (y ≡ h.id → ⊥) → look y (marks (preceding ++ (h ∷ back))) ≡ look y (marks (preceding ++ back))
+    look_other y ne = look_whole y ∙ ap (λ b. first_of (look y (marks preceding)) (cond b (Some (kept h.name)) (look y (marks back)))) (ne_eqb y h.id ne) ∙ sym (look_rest y)
 
-    among_whole : (y : ℕ) → results_among y (all_operands (front ++ (h ∷ back))) ≡ results_among y (all_operands (front ++ back)) + results_among y h.operands
+    among_whole : (y : ℕ) → results_among y (all_operands (preceding ++ (h ∷ back))) ≡ results_among y (all_operands (preceding ++ back)) + results_among y h.operands
     among_whole y =
-        let a = among_parts y front (h ∷ back) in
+        let a = among_parts y preceding (h ∷ back) in
         let b = among_joined y h.operands (all_operands back) in
-        let c = among_parts y front back in
+        let c = among_parts y preceding back in
         omega (arith, a, b, c)
 
-    module _ (d : Different (front ++ (h ∷ back))) where
-      front_none : look h.id (marks front) ≡ None
-      front_none = elim (apart_parts (marks front) (marks (h ∷ back)) (subst AllApart (marks_joined front (h ∷ back)) (marks_apart (front ++ (h ∷ back)) d)) h.id) [
+    module _ (d : Different (preceding ++ (h ∷ back))) where
+      preceding_none : look h.id (marks preceding) ≡ None
+      preceding_none = elim (apart_parts (marks preceding) (marks (h ∷ back)) (subst AllApart (marks_joined preceding (h ∷ back)) (marks_apart (preceding ++ (h ∷ back)) d)) h.id) [
         | inl e ↦ e
         | inr e ↦ (let bad : Some (kept h.name) ≡ None = sym (ap (λ b. cond b (Some (kept h.name)) (look h.id (marks back))) (eq-eqb h.id h.id refl)) ∙ e in absurd cc)
       ]
 
       back_none : look h.id (marks back) ≡ None
-      back_none = look_missing h.id (marks back) (first_apart front (subst AllApart (marks_joined front (h ∷ back)) (marks_apart (front ++ (h ∷ back)) d)))
+      back_none = look_missing h.id (marks back) (first_apart preceding (subst AllApart (marks_joined preceding (h ∷ back)) (marks_apart (preceding ++ (h ∷ back)) d)))
         where
           first_apart : (fs : List (HeadOf N T A)) → AllApart (marks fs ++ marks (h ∷ back)) → NotIn h.id (marks back)
           first_apart [] a = a.0
           first_apart (f ∷ fs) a = first_apart fs a.1
 
-      look_here : look h.id (marks (front ++ (h ∷ back))) ≡ Some (kept h.name)
-      look_here = look_whole h.id ∙ (λ i. first_of (front_none i) (cond (eq-eqb h.id h.id refl i) (Some (kept h.name)) (look h.id (marks back))))
+      look_here : look h.id (marks (preceding ++ (h ∷ back))) ≡ Some (kept h.name)
+      look_here = look_whole h.id ∙ (λ i. first_of (preceding_none i) (cond (eq-eqb h.id h.id refl i) (Some (kept h.name)) (look h.id (marks back))))
 
-      look_gone : look h.id (marks (front ++ back)) ≡ None
-      look_gone = look_rest h.id ∙ λ i. first_of (front_none i) (back_none i)
+      look_gone : look h.id (marks (preceding ++ back)) ≡ None
+      look_gone = look_rest h.id ∙ λ i. first_of (preceding_none i) (back_none i)
 
       -- a head is inserted whose results have no uses
-      pub put_tally : (a b : Counts) → results_among h.id (all_operands (front ++ (h ∷ back))) ≡ 0 → ((y : ℕ) → a y ≡ tallied (front ++ back) y) → EnteredWith h.id (kept h.name) h.operands a b → (y : ℕ) → b y ≡ tallied (front ++ (h ∷ back)) y
+      pub put_tally : (a b : Counts) → results_among h.id (all_operands (preceding ++ (h ∷ back))) ≡ 0 → ((y : ℕ) → a y ≡ tallied (preceding ++ back) y) → EnteredWith h.id (kept h.name) h.operands a b → (y : ℕ) → b y ≡ tallied (preceding ++ (h ∷ back)) y
       put_tally a b unused was entered y = entered y ∙ elim (cases_eq y h.id) [
-        | inl e ↦ subst (λ z. option_map (λ n. n + results_among z h.operands) (with_count h.id (Some (one_if (kept h.name))) a z) ≡ tallied (front ++ (h ∷ back)) z) (sym e)
+        | inl e ↦ subst (λ z. option_map (λ n. n + results_among z h.operands) (with_count h.id (Some (one_if (kept h.name))) a z) ≡ tallied (preceding ++ (h ∷ back)) z) (sym e)
             (let w = among_whole h.id in
-            let sum : one_if (kept h.name) + results_among h.id h.operands ≡ results_among h.id (all_operands (front ++ (h ∷ back))) + one_if (kept h.name) = omega (arith, w, unused) in
+            let sum : one_if (kept h.name) + results_among h.id h.operands ≡ results_among h.id (all_operands (preceding ++ (h ∷ back))) + one_if (kept h.name) = omega (arith, w, unused) in
             ap (λ c. option_map (λ n. n + results_among h.id h.operands) (cond c (Some (one_if (kept h.name))) (a h.id))) (eq-eqb h.id h.id refl)
             ∙ ap Some sum
-            ∙ sym (ap (option_map (λ k. results_among h.id (all_operands (front ++ (h ∷ back))) + one_if k)) look_here))
+            ∙ sym (ap (option_map (λ k. results_among h.id (all_operands (preceding ++ (h ∷ back))) + one_if k)) look_here))
         | inr ne ↦ ap (λ c. option_map (λ n. n + results_among y h.operands) (cond c (Some (one_if (kept h.name))) (a y))) (ne_eqb h.id y (λ q. ne (sym q)))
             ∙ ap (option_map (λ n. n + results_among y h.operands)) (was y)
-            ∙ more y (look y (marks (front ++ back)))
-            ∙ sym (ap (option_map (λ k. results_among y (all_operands (front ++ (h ∷ back))) + one_if k)) (look_other y ne))
+            ∙ more y (look y (marks (preceding ++ back)))
+            ∙ sym (ap (option_map (λ k. results_among y (all_operands (preceding ++ (h ∷ back))) + one_if k)) (look_other y ne))
       ]
         where
-          more : (y : ℕ) (l : Option Bool) → option_map (λ n. n + results_among y h.operands) (option_map (λ k. results_among y (all_operands (front ++ back)) + one_if k) l) ≡ option_map (λ k. results_among y (all_operands (front ++ (h ∷ back))) + one_if k) l
+          more : (y : ℕ) (l : Option Bool) → option_map (λ n. n + results_among y h.operands) (option_map (λ k. results_among y (all_operands (preceding ++ back)) + one_if k) l) ≡ option_map (λ k. results_among y (all_operands (preceding ++ (h ∷ back))) + one_if k) l
           more y None = refl
           more y (Some k) = let w = among_whole y in ap Some (omega (arith, w))
 
       -- a head is removed
-      pub take_tally : (a b : Counts) → ((y : ℕ) → a y ≡ tallied (front ++ (h ∷ back)) y) → LeftWith h.id h.operands a b → (y : ℕ) → b y ≡ tallied (front ++ back) y
+      pub take_tally : (a b : Counts) → ((y : ℕ) → a y ≡ tallied (preceding ++ (h ∷ back)) y) → LeftWith h.id h.operands a b → (y : ℕ) → b y ≡ tallied (preceding ++ back) y
       take_tally a b was left y = left y ∙ elim (cases_eq y h.id) [
-        | inl e ↦ subst (λ z. option_map (λ n. n - results_among z h.operands) (with_count h.id None a z) ≡ tallied (front ++ back) z) (sym e)
+        | inl e ↦ subst (λ z. option_map (λ n. n - results_among z h.operands) (with_count h.id None a z) ≡ tallied (preceding ++ back) z) (sym e)
             (ap (λ c. option_map (λ n. n - results_among h.id h.operands) (cond c None (a h.id))) (eq-eqb h.id h.id refl)
-            ∙ sym (ap (option_map (λ k. results_among h.id (all_operands (front ++ back)) + one_if k)) look_gone))
+            ∙ sym (ap (option_map (λ k. results_among h.id (all_operands (preceding ++ back)) + one_if k)) look_gone))
         | inr ne ↦ ap (λ c. option_map (λ n. n - results_among y h.operands) (cond c None (a y))) (ne_eqb h.id y (λ q. ne (sym q)))
-            ∙ ap (option_map (λ n. n - results_among y h.operands)) (was y ∙ ap (option_map (λ k. results_among y (all_operands (front ++ (h ∷ back))) + one_if k)) (look_other y ne))
-            ∙ fewer y (look y (marks (front ++ back)))
+            ∙ ap (option_map (λ n. n - results_among y h.operands)) (was y ∙ ap (option_map (λ k. results_among y (all_operands (preceding ++ (h ∷ back))) + one_if k)) (look_other y ne))
+            ∙ fewer y (look y (marks (preceding ++ back)))
       ]
         where
-          fewer : (y : ℕ) (l : Option Bool) → option_map (λ n. n - results_among y h.operands) (option_map (λ k. results_among y (all_operands (front ++ (h ∷ back))) + one_if k) l) ≡ option_map (λ k. results_among y (all_operands (front ++ back)) + one_if k) l
+          fewer : (y : ℕ) (l : Option Bool) → option_map (λ n. n - results_among y h.operands) (option_map (λ k. results_among y (all_operands (preceding ++ (h ∷ back))) + one_if k) l) ≡ option_map (λ k. results_among y (all_operands (preceding ++ back)) + one_if k) l
           fewer y None = refl
           fewer y (Some k) = let w = among_whole y in ap Some (omega (arith, w))
 
   -- heads in another order
-  pub moved_tally : (front mid back : List (HeadOf N T A)) → Different (front ++ (mid ++ back)) → (y : ℕ) → tallied (front ++ (mid ++ back)) y ≡ tallied (mid ++ (front ++ back)) y
-  moved_tally front mid back d y =
-      let l : look y (marks (front ++ (mid ++ back))) ≡ first_of (look y (marks front)) (look y (marks (mid ++ back))) = ap (look y) (marks_joined front (mid ++ back)) ∙ look_joined y (marks front) (marks (mid ++ back)) in
+  pub moved_tally : (preceding mid back : List (HeadOf N T A)) → Different (preceding ++ (mid ++ back)) → (y : ℕ) → tallied (preceding ++ (mid ++ back)) y ≡ tallied (mid ++ (preceding ++ back)) y
+  moved_tally preceding mid back d y =
+      let l : look y (marks (preceding ++ (mid ++ back))) ≡ first_of (look y (marks preceding)) (look y (marks (mid ++ back))) = ap (look y) (marks_joined preceding (mid ++ back)) ∙ look_joined y (marks preceding) (marks (mid ++ back)) in
       let m : look y (marks (mid ++ back)) ≡ first_of (look y (marks mid)) (look y (marks back)) = ap (look y) (marks_joined mid back) ∙ look_joined y (marks mid) (marks back) in
-      let r : look y (marks (mid ++ (front ++ back))) ≡ first_of (look y (marks mid)) (look y (marks (front ++ back))) = ap (look y) (marks_joined mid (front ++ back)) ∙ look_joined y (marks mid) (marks (front ++ back)) in
-      let n : look y (marks (front ++ back)) ≡ first_of (look y (marks front)) (look y (marks back)) = ap (look y) (marks_joined front back) ∙ look_joined y (marks front) (marks back) in
-      let apart : (look y (marks front) ≡ None) ⊎ (first_of (look y (marks mid)) (look y (marks back)) ≡ None) =
-      elim (apart_parts (marks front) (marks (mid ++ back)) (subst AllApart (marks_joined front (mid ++ back)) (marks_apart (front ++ (mid ++ back)) d)) y) [ inl e ↦ inl e | inr e ↦ inr (sym m ∙ e) ] in
-      let same : look y (marks (front ++ (mid ++ back))) ≡ look y (marks (mid ++ (front ++ back))) =
-      l ∙ ap (first_of (look y (marks front))) m ∙ crossed (look y (marks front)) (look y (marks mid)) (look y (marks back)) apart ∙ sym (r ∙ ap (first_of (look y (marks mid))) n) in
-      let sum : results_among y (all_operands (front ++ (mid ++ back))) ≡ results_among y (all_operands (mid ++ (front ++ back))) =
-      (let a = among_parts y front (mid ++ back) in let b = among_parts y mid back in let c = among_parts y mid (front ++ back) in let e = among_parts y front back in omega (arith, a, b, c, e)) in
+      let r : look y (marks (mid ++ (preceding ++ back))) ≡ first_of (look y (marks mid)) (look y (marks (preceding ++ back))) = ap (look y) (marks_joined mid (preceding ++ back)) ∙ look_joined y (marks mid) (marks (preceding ++ back)) in
+      let n : look y (marks (preceding ++ back)) ≡ first_of (look y (marks preceding)) (look y (marks back)) = ap (look y) (marks_joined preceding back) ∙ look_joined y (marks preceding) (marks back) in
+      let apart : (look y (marks preceding) ≡ None) ⊎ (first_of (look y (marks mid)) (look y (marks back)) ≡ None) =
+      elim (apart_parts (marks preceding) (marks (mid ++ back)) (subst AllApart (marks_joined preceding (mid ++ back)) (marks_apart (preceding ++ (mid ++ back)) d)) y) [ inl e ↦ inl e | inr e ↦ inr (sym m ∙ e) ] in
+      let same : look y (marks (preceding ++ (mid ++ back))) ≡ look y (marks (mid ++ (preceding ++ back))) =
+      l ∙ ap (first_of (look y (marks preceding))) m ∙ crossed (look y (marks preceding)) (look y (marks mid)) (look y (marks back)) apart ∙ sym (r ∙ ap (first_of (look y (marks mid))) n) in
+      let sum : results_among y (all_operands (preceding ++ (mid ++ back))) ≡ results_among y (all_operands (mid ++ (preceding ++ back))) =
+      (let a = among_parts y preceding (mid ++ back) in let b = among_parts y mid back in let c = among_parts y mid (preceding ++ back) in let e = among_parts y preceding back in omega (arith, a, b, c, e)) in
       λ i. option_map (λ k. sum i + one_if k) (same i)
 
   -- heads with the same ids and names

@@ -22,7 +22,7 @@ use Rattle.ir_event.proofs.of_tree_laws.Listed.{bool_cases, all_each, each_all, 
 use Rattle.ir_event.proofs.of_tree_laws.Readings.{stands_every, stands_uses}
 use Rattle.ir_event.proofs.of_tree_laws.Members.{found_stands}
 use Rattle.ir_event.proofs.of_tree_laws.HeadForm.{used_here, in_gather}
-use Rattle.ir_event.proofs.of_tree_laws.Formed.{from_formed}
+use Rattle.ir_event.proofs.of_tree_laws.Wellformed.{from_wellformed}
 use Rattle.ir_event.proofs.of_tree_laws.Values.{seen_by}
 use Rattle.ir_event.specs.store.Nodes.{Node, node_of}
 use Rattle.ir_event.specs.declared.world.World.{World}
@@ -66,7 +66,7 @@ module _ {N T A : Type 0} where
       go true e = absurd (some (no_uses x k t e))
 
   -- results without uses
-  module _ (isolated : N → Bool) (t : OpOf N T A) (d : HasDistinctIds t) (formed : (s : StandOf N T A) → In s (stands [] t) → list_all (dominated_by isolated s.path) (head s.here).operands ≡ true) (x : ℕ) (o : OpOf N T A) (found : find x t ≡ Some o)
+  module _ (isolated : N → Bool) (t : OpOf N T A) (d : HasDistinctIds t) (wellformed : (s : StandOf N T A) → In s (stands [] t) → list_all (dominated_by isolated s.path) (head s.here).operands ≡ true) (x : ℕ) (o : OpOf N T A) (found : find x t ≡ Some o)
       (unused : (k : ℕ) → k < length (head o).results → uses_of (Result x k) t ≡ []) where
     few : (k : ℕ) → is_some (option_and_then (λ z. slice_get (head z).results k) (find x t)) ≡ true → k < length (head o).results
     few k e = go (slice_get (head o).results k) refl (sym (ap (λ f. is_some (option_and_then (λ z. slice_get (head z).results k) f)) found) ∙ e)
@@ -77,7 +77,7 @@ module _ {N T A : Type 0} where
 
     not_used : (s : StandOf N T A) → In s (stands [] t) → (k : ℕ) → In (Result x k) (head s.here).operands → ⊥
     not_used s h k m =
-        let e = all_each (dominated_by isolated s.path) (head s.here).operands (formed s h) (Result x k) m in
+        let e = all_each (dominated_by isolated s.path) (head s.here).operands (wellformed s h) (Result x k) m in
         let l = few k (seen_by isolated t d s h (Result x k) e).is in
         let n = used_here (Result x k) (stand_id s) 0 (head s.here).operands (Result x k) m (same_value_refl (Result x k)) in
         subst (In (stand_id s, n.0)) (stands_uses (Result x k) [] t ∙ unused k l) (in_gather (λ (z : StandOf N T A). operand_uses (Result x k) (stand_id z) 0 (head z.here).operands) (stand_id s, n.0) s (stands [] t) h n.1)
@@ -167,7 +167,7 @@ few_results w x n e = go (find x w.store.module_of.tree) refl e
     go (Some o) i k =
         let one : n ≡ node_of o = cc in
         let s = found_stands x w.store.module_of.tree o i in
-        let small = own s.0.here ((from_formed (isolated_in w.ctx) w.store.module_of.tree w.formed.formed).fits s.0 s.1) in
+        let small = own s.0.here ((from_wellformed (isolated_in w.ctx) w.store.module_of.tree w.wellformed.wellformed).fits s.0 s.1) in
         let same = ap (λ (z : Op). length (node_of z).head.results) s.3 in
         let count = ap (λ (m : Node). length m.head.results) one in
         omega (arith, small, same, count)
@@ -184,4 +184,4 @@ none_used w x n e u = go (find x w.store.module_of.tree) refl e
     go (Some o) i k =
         let one : n ≡ node_of o = cc in
         let count : length n.head.results ≡ length (head o).results = ap (λ (m : Node). length m.head.results) one ∙ results o in
-        unused_results (isolated_in w.ctx) w.store.module_of.tree w.formed.distinct (λ s h. (from_formed (isolated_in w.ctx) w.store.module_of.tree w.formed.formed).dominated_by_own s h) x o i (λ j l. u j (omega (arith, l, count)))
+        unused_results (isolated_in w.ctx) w.store.module_of.tree w.wellformed.distinct (λ s h. (from_wellformed (isolated_in w.ctx) w.store.module_of.tree w.wellformed.wellformed).dominated_by_own s h) x o i (λ j l. u j (omega (arith, l, count)))

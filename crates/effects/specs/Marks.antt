@@ -23,8 +23,8 @@ pub AreMarked-prop : {V : Type 0} (test : Option V → Bool) (table : ℕ → Op
 AreMarked-prop test table set = Π_prop (λ x. Coded-set coded_bool (has set x) (test (table x)))
 
 -- the set has capacity for each operation that has an entry
-abbrev pub HasRoom : {V : Type 0} → (ℕ → Option V) → List ℕ → Type 0
-HasRoom table set = (x : ℕ) → IsSome (table x) → nat_lt x (64 * length set) ≡ true
+abbrev pub HasHeadroom : {V : Type 0} → (ℕ → Option V) → List ℕ → Type 0
+HasHeadroom table set = (x : ℕ) → IsSome (table x) → nat_lt x (64 * length set) ≡ true
 
-pub HasRoom-prop : {V : Type 0} (table : ℕ → Option V) (set : List ℕ) → IsProp (HasRoom table set)
-HasRoom-prop table set = Π_prop (λ x. Π_prop (λ h. Coded-set coded_bool (nat_lt x (64 * length set)) true))
+pub HasHeadroom-prop : {V : Type 0} (table : ℕ → Option V) (set : List ℕ) → IsProp (HasHeadroom table set)
+HasHeadroom-prop table set = Π_prop (λ x. Π_prop (λ h. Coded-set coded_bool (nat_lt x (64 * length set)) true))

@@ -105,8 +105,8 @@ abbrev pub size : EffectKinds → ℕ
 size a = one_if a.unknown + (one_if a.allocate + (one_if a.free + (one_if a.read + one_if a.write)))
 
 -- the number of effects that a set lacks
-abbrev pub room : EffectKinds → ℕ
-room a =
+abbrev pub headroom : EffectKinds → ℕ
+headroom a =
     one_if (not a.unknown) + (one_if (not a.allocate)
     + (one_if (not a.free) + (one_if (not a.read) + one_if (not a.write))))
 

@@ -35,7 +35,7 @@ pub(crate) fn count_of(counts: &UseCounts, op: OpId) -> Option<u32>
 /// Adds the operation to the set of unused operations if its count is 0, and removes it otherwise.
 fn mark(unused: &mut BitSet, op: OpId, count: u32)
     requires { op < 64 * length unused.old }
-    ensures room { length unused.new ≡ length unused.old }
+    ensures headroom { length unused.new ≡ length unused.old }
     ensures has { (x : ℕ) → has unused.new x ≡ has_with op (nat_lt count 1) unused.old x }
 {
     if count == 0 {

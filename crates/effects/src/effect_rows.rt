@@ -1,7 +1,7 @@
 //! The table of effects.
 ghost use Rattle.std.specs.Ordering.{nat_cmp};
 ghost use Rattle.listeners_support.specs.Map as idmap;
-ghost use Rattle.effects.specs.Marks.{acts, AreMarked, AreMarked-prop, HasRoom, HasRoom-prop};
+ghost use Rattle.effects.specs.Marks.{acts, AreMarked, AreMarked-prop, HasHeadroom, HasHeadroom-prop};
 
 use crate::row::Row;
 use listeners_support::{BitSet, IdMap};
@@ -12,5 +12,5 @@ pub struct EffectRows {
     pub(crate) rows: IdMap<Row>,
     pub(crate) acting: BitSet,
     pub(crate) ghost marked: { AreMarked acts (idmap.get rows) acting } by { AreMarked-prop acts (idmap.get rows) acting },
-    pub(crate) ghost room: { HasRoom (idmap.get rows) acting } by { HasRoom-prop (idmap.get rows) acting },
+    pub(crate) ghost headroom: { HasHeadroom (idmap.get rows) acting } by { HasHeadroom-prop (idmap.get rows) acting },
 }

@@ -27,7 +27,7 @@ use Rattle.listeners_support.specs.Surroundings.{SurroundingsOf, surroundings}
 use Rattle.patterns_laws.specs.Keeps.{given}
 use Rattle.patterns_base.specs.declared.rule.Rule.{Rule}
 use Rattle.patterns_base.specs.RuleNames.{is_canonical}
-use Rattle.patterns_base.specs.Looks.{Header, when, is_erasable, is_verified, front_of, defining_op, type_of}
+use Rattle.patterns_base.specs.Looks.{Header, when, is_erasable, is_verified, insertion_of, defining_op, type_of}
 use Rattle.patterns_base.specs.Rules.{rule}
 use Rattle.patterns_base.specs.Rewrites.{edits_of, eligible}
 use Rattle.user_patterns_data.specs.Shapes.{PatternModel}
@@ -73,10 +73,10 @@ same_shapes : (r : ℕ) (rs qs : RegionsOf (List ℕ) TypeTerm AttrTerm) → reg
 same_shapes r no_regions no_regions e = refl
 same_shapes r no_regions (region h qs) e = absurd cc
 same_shapes r (region g rs) no_regions e = absurd cc
-same_shapes zero (region g rs) (region h qs) e = by g h (front_of_lists e)
+same_shapes zero (region g rs) (region h qs) e = by g h (insertion_of_lists e)
   where
-    front_of_lists : {X : Type 0} {a b : X} {xs ys : List X} → a ∷ xs ≡ b ∷ ys → a ≡ b
-    front_of_lists e = cc
+    insertion_of_lists : {X : Type 0} {a b : X} {xs ys : List X} → a ∷ xs ≡ b ∷ ys → a ≡ b
+    insertion_of_lists e = cc
 
     by : (g h : RegionOf (List ℕ) TypeTerm AttrTerm) → arguments_of g ≡ arguments_of h → shape_of (Some g) ≡ shape_of (Some h)
     by empty empty e = refl
@@ -255,8 +255,8 @@ module _ (shown : ℕ → List Value) (c : ContextModel) (es : List Event) (m n 
     suited : (r : Rule) → eligible r t (head o) ≡ eligible r u (head p)
     suited r = eligible_alike t u r (head o) (ap (λ z. surroundings z t) id_of ∙ own ∙ ap (λ z. surroundings z u) (sym id_of)) ∙ ap (eligible r u) heads
 
-    fronts : is_some (front_of x t) ≡ is_some (front_of x u)
-    fronts = outer_some t dn x ∙ ap (λ a. is_some (option_and_then (λ (s : SurroundingsOf (List ℕ) TypeTerm AttrTerm). s.outer) a)) own ∙ sym (outer_some u dm x)
+    precedings : is_some (insertion_of x t) ≡ is_some (insertion_of x u)
+    precedings = outer_some t dn x ∙ ap (λ a. is_some (option_and_then (λ (s : SurroundingsOf (List ℕ) TypeTerm AttrTerm). s.outer) a)) own ∙ sym (outer_some u dm x)
 
     -- ---- the rules
     looks : LooksAlike t u o p
@@ -268,9 +268,9 @@ module _ (shown : ℕ → List Value) (c : ContextModel) (es : List Event) (m n 
     edits_alike : (r : Rule) → is_canonical r ≡ true → Same (edits_of r n x) (edits_of r m x)
     unfolding edits_of
     edits_alike r canonical =
-        ap (λ a. is_some (given a (λ q. given (front_of x t) (λ front. when (eligible r t (head q)) (rule r t n.next front q))))) is
-        ∙ given_both (front_of x t) (front_of x u) (λ front. when (eligible r t (head o)) (rule r t n.next front o)) (λ front. when (eligible r u (head p)) (rule r u m.next front p)) fronts (λ f g i j. when_alike _ _ _ _ (suited r) (rules_alike r canonical f g))
-        ∙ sym (ap (λ a. is_some (given a (λ q. given (front_of x u) (λ front. when (eligible r u (head q)) (rule r u m.next front q))))) was)
+        ap (λ a. is_some (given a (λ q. given (insertion_of x t) (λ insertion. when (eligible r t (head q)) (rule r t n.next insertion q))))) is
+        ∙ given_both (insertion_of x t) (insertion_of x u) (λ insertion. when (eligible r t (head o)) (rule r t n.next insertion o)) (λ insertion. when (eligible r u (head p)) (rule r u m.next insertion p)) precedings (λ f g i j. when_alike _ _ _ _ (suited r) (rules_alike r canonical f g))
+        ∙ sym (ap (λ a. is_some (given a (λ q. given (insertion_of x u) (λ insertion. when (eligible r u (head q)) (rule r u m.next insertion q))))) was)
 
     -- ---- the patterns
     root_gives : GivesAlike t u (is_verified t) (is_verified u) (Result x 0)
@@ -318,7 +318,7 @@ module _ (shown : ℕ → List Value) (c : ContextModel) (es : List Event) (m n 
     }
 
     own_alike : (p : PatternModel) → is_shallow p ≡ true → Same (own_edits p n x) (own_edits p m x)
-    own_alike q h = own_same q n m x o p is was heads fronts (plans_alike q h t u (is_verified t) (is_verified u) n.next m.next x shows)
+    own_alike q h = own_same q n m x o p is was heads precedings (plans_alike q h t u (is_verified t) (is_verified u) n.next m.next x shows)
 
     stayed : Stayed m n x
     stayed = record {

@@ -16,7 +16,7 @@ use Rattle.ir_event.proofs.of_trees.Returns.{absent_first}
 use Rattle.ir_event.specs.tree_laws.Reads.{precedes, comes_after, is_within}
 use Rattle.ir_event.proofs.of_tree_laws.Listed.{both}
 use Rattle.ir_event.proofs.of_tree_laws.Members.{stand, itself, found_stands}
-use Rattle.ir_event.proofs.of_tree_laws.Formed.{from_formed, ids_below}
+use Rattle.ir_event.proofs.of_tree_laws.Wellformed.{from_wellformed, ids_below}
 use Rattle.ir_event.specs.Listener.{Listener}
 use Rattle.patterns.specs.RewriterCalls.{Benched, Led, Journaled}
 use Rattle.patterns.specs.Held.{TransactionModel, module_held, module_at, open_marks, open_mark}
@@ -24,7 +24,7 @@ use Rattle.patterns.specs.rewriter.Journals.{before}
 use Rattle.patterns.specs.rewriter.Moves.{all_noted}
 use Rattle.patterns.specs.rewriter.declared.mark.JournalMark.{JournalMark}
 use Rattle.greedy.proofs.Listed.{after_at, after_past, second_there}
-use Rattle.greedy.specs.Benches.{Formed, Onward}
+use Rattle.greedy.specs.Benches.{Wellformed, Onward}
 use Rattle.greedy.specs.Orders.{IsBeyond}
 use Rattle.greedy.specs.Following.{HasFewRegions, comes_next, following}
 
@@ -57,8 +57,8 @@ held_within h x y =
 pub held_beyond : (h : TransactionModel) (x y : ℕ) → IsBeyond x y h.store.module_of.tree → IsBeyond x y (module_held h).tree
 held_beyond h x y b z w = held_precedes h z y ∙ b z (sym (held_within h x z) ∙ w)
 
-pub held_formed : (h : TransactionModel) → IsWellFormed (isolated_in h.ctx) h.store.module_of → Formed (module_held h)
-held_formed h w = record { distinct = subst (IsDistinct eqb) (sym (held_ids h)) w.distinct; below = subst (All (λ y. y < h.store.module_of.next)) (sym (held_ids h)) w.below }
+pub held_wellformed : (h : TransactionModel) → IsWellFormed (isolated_in h.ctx) h.store.module_of → Wellformed (module_held h)
+held_wellformed h w = record { distinct = subst (IsDistinct eqb) (sym (held_ids h)) w.distinct; below = subst (All (λ y. y < h.store.module_of.next)) (sym (held_ids h)) w.below }
 
 pub held_following : (h : TransactionModel) (x : ℕ) → following x h.store.module_of.tree ≡ following x (module_held h).tree
 held_following h x = ap (comes_next x) (sym (held_ids h))
@@ -71,7 +71,7 @@ module _ {N T A : Type 0} where
   pub few_regions : (isolated : N → Bool) (m : ModuleOf N T A) → IsWellFormed isolated m → HasFewRegions m.tree
   few_regions isolated m w x o e =
       let s = found_stands x m.tree o e in
-      fits o (ap op_fits (sym s.3) ∙ (from_formed isolated m.tree w.formed).fits s.0 s.1)
+      fits o (ap op_fits (sym s.3) ∙ (from_wellformed isolated m.tree w.wellformed).fits s.0 s.1)
 
 module _ {B : Type 0} (meaning : B → Listener) where
   pub led_onward : (a b : Benched B) → Holds b.transaction.ctx → Led meaning a b → Onward meaning a b

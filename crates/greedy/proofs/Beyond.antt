@@ -18,7 +18,7 @@ use Rattle.greedy.proofs.Cuts.{apart, crossing, left_in, second}
 use Rattle.greedy.proofs.Following.{cut_op}
 use Rattle.greedy.proofs.Listed.{first_there, listed_at, listed_more, second_there}
 use Rattle.greedy.proofs.Order.{after_from_rank, rises}
-use Rattle.greedy.proofs.Works.{falls_front, listed_end, not_both, not_itself}
+use Rattle.greedy.proofs.Works.{falls_preceding, listed_end, not_both, not_itself}
 
 module _ {N T A : Type 0} (t : OpOf N T A) (d : HasDistinctIds t) where
   pub then_after : (a b c : ℕ) → precedes a b t ≡ true → precedes b c t ≡ true → precedes a c t ≡ true
@@ -55,7 +55,7 @@ module _ {N T A : Type 0} (t : OpOf N T A) (d : HasDistinctIds t) where
 module _ (t : Operation) (d : HasDistinctIds t) where
   pub apart_by_last : (x y : ℕ) (ys : List ℕ) → Falls t (ys ++ y ∷ []) → IsBeyond x y t → AreApart x (ys ++ y ∷ []) t
   apart_by_last x y ys f b z h = false_from_ne_true (is_within z (find x t)) (λ w. elim (listed_end z ys y h) [
-    | inl k ↦ not_both t d z y (b z w) ((falls_front t d ys y f).1 z k)
+    | inl k ↦ not_both t d z y (b z w) ((falls_preceding t d ys y f).1 z k)
     | inr k ↦ not_itself t d y (subst (λ v. precedes v y t ≡ true) k (b z w))
   ])
 

@@ -25,10 +25,10 @@ use Rattle.ir_event.proofs.of_trees.Facts.{ids_head}
 
 -- a list after other entries are inserted before one entry
 pub record Came (b : ℕ) (others xs ys : List ℕ) : Type 0 where
-  pub front : List ℕ
+  pub preceding : List ℕ
   pub back : List ℕ
-  pub was : xs ≡ front ++ (b ∷ back)
-  pub is : ys ≡ front ++ (others ++ (b ∷ back))
+  pub was : xs ≡ preceding ++ (b ∷ back)
+  pub is : ys ≡ preceding ++ (others ++ (b ∷ back))
 
 -- a list with such an insertion, or unchanged
 abbrev pub MayCome : ℕ → List ℕ → List ℕ → List ℕ → Type 0
@@ -39,22 +39,22 @@ there b [] ys = ap (λ c. c || list_any (λ y. eqb y b) ys) (eq-eqb b b refl)
 there b (x ∷ xs) ys = elim (eqb x b) as (λ c. (c || list_any (λ y. eqb y b) (xs ++ (b ∷ ys))) ≡ true) [ true ↦ refl | false ↦ there b xs ys ]
 
 come_there : (b : ℕ) (others xs ys : List ℕ) → Came b others xs ys → Present b xs
-come_there b others xs ys c = ap (list_any (λ y. eqb y b)) c.was ∙ there b c.front c.back
+come_there b others xs ys c = ap (list_any (λ y. eqb y b)) c.was ∙ there b c.preceding c.back
 
 come_left : (b : ℕ) (others xs ys us vs : List ℕ) → Came b others xs ys → vs ≡ us → Came b others (xs ++ us) (ys ++ vs)
 come_left b others xs ys us vs c e = record {
-  front = c.front;
+  preceding = c.preceding;
   back = c.back ++ us;
-  was = ap (λ l. l ++ us) c.was ∙ append_assoc c.front (b ∷ c.back) us;
-  is = (λ i. c.is i ++ e i) ∙ append_assoc c.front (others ++ (b ∷ c.back)) us ∙ ap (λ l. c.front ++ l) (append_assoc others (b ∷ c.back) us);
+  was = ap (λ l. l ++ us) c.was ∙ append_assoc c.preceding (b ∷ c.back) us;
+  is = (λ i. c.is i ++ e i) ∙ append_assoc c.preceding (others ++ (b ∷ c.back)) us ∙ ap (λ l. c.preceding ++ l) (append_assoc others (b ∷ c.back) us);
 }
 
 come_right : (b : ℕ) (others xs ys us vs : List ℕ) → ys ≡ xs → Came b others us vs → Came b others (xs ++ us) (ys ++ vs)
 come_right b others xs ys us vs e c = record {
-  front = xs ++ c.front;
+  preceding = xs ++ c.preceding;
   back = c.back;
-  was = ap (λ l. xs ++ l) c.was ∙ sym (append_assoc xs c.front (b ∷ c.back));
-  is = (λ i. e i ++ c.is i) ∙ sym (append_assoc xs c.front (others ++ (b ∷ c.back)));
+  was = ap (λ l. xs ++ l) c.was ∙ sym (append_assoc xs c.preceding (b ∷ c.back));
+  is = (λ i. e i ++ c.is i) ∙ sym (append_assoc xs c.preceding (others ++ (b ∷ c.back)));
 }
 
 joined : (b : ℕ) (others xs ys us vs : List ℕ) → IsDistinct eqb (xs ++ us) → MayCome b others xs ys → MayCome b others us vs → MayCome b others (xs ++ us) (ys ++ vs)
@@ -72,7 +72,7 @@ module _ {N T A : Type 0} (place : Place) (o : OpOf N T A) (b : ℕ) (before : p
   put_before_ids no_ops = inl refl
   put_before_ids (next (op h rs) os) = elim (cases_Bool (eqb h.id b)) [
     | inl e ↦ inr (record {
-      front = [];
+      preceding = [];
       back = regions_ids rs ++ ops_ids os;
       was = ap (λ y. y ∷ (regions_ids rs ++ ops_ids os)) (eqb-true h.id b e);
       is = ap (λ c. ops_ids (cond c (next o (next (op h rs) os)) (next (op h rs) (put_before b o os)))) e ∙ ap (λ y. ids o ++ (y ∷ (regions_ids rs ++ ops_ids os))) (eqb-true h.id b e);
@@ -150,7 +150,7 @@ module _ {N T A : Type 0} where
   -- taking an operation out takes its ids out
   pub without_ids : (y : ℕ) (t o : OpOf N T A) (xs ys : List ℕ) → HasDistinctIds t → find y t ≡ Some o → eqb (head t).id y ≡ false → ids t ≡ xs ++ (ids o ++ ys) → ids (without y t) ≡ xs ++ ys
   without_ids y t o xs ys d e root is =
-      ap (λ z. ids (without z t)) (sym i.id) ∙ left_ids (head o).id (i.step_in ∷ i.path) o t w ∙ (λ j. fronts j ++ backs j)
+      ap (λ z. ids (without z t)) (sym i.id) ∙ left_ids (head o).id (i.step_in ∷ i.path) o t w ∙ (λ j. precedings j ++ backs j)
     where
       i : Inner y t o
       i = inner_of y t o e root
@@ -159,7 +159,7 @@ module _ {N T A : Type 0} where
       w = part t d o i.step_in i.path i.there
 
       us : List ℕ
-      us = map (λ (z : StandOf N T A). stand_id z) w.front
+      us = map (λ (z : StandOf N T A). stand_id z) w.preceding
 
       vs : List ℕ
       vs = map (λ (z : StandOf N T A). stand_id z) w.back
@@ -173,12 +173,12 @@ module _ {N T A : Type 0} where
       once : (xs ys : List ℕ) → ids t ≡ xs ++ (ids o ++ ys) → Absent (head o).id xs
       once xs ys k = absent_before (head o).id xs (regions_ids (regions o) ++ ys) (subst (IsDistinct eqb) (k ∙ ap (λ l. xs ++ l) (heads ys)) d)
 
-      fronts : us ≡ xs
-      fronts = one_cut (head o).id us xs (regions_ids (regions o) ++ vs) (regions_ids (regions o) ++ ys) (once us vs cut) (once xs ys is)
+      precedings : us ≡ xs
+      precedings = one_cut (head o).id us xs (regions_ids (regions o) ++ vs) (regions_ids (regions o) ++ ys) (once us vs cut) (once xs ys is)
           (ap (λ l. us ++ l) (sym (heads vs)) ∙ sym cut ∙ is ∙ ap (λ l. xs ++ l) (heads ys))
 
       backs : vs ≡ ys
-      backs = append_cancel_left (ids o) vs ys (append_cancel_left us (ids o ++ vs) (ids o ++ ys) (sym cut ∙ is ∙ ap (λ l. l ++ (ids o ++ ys)) (sym fronts)))
+      backs = append_cancel_left (ids o) vs ys (append_cancel_left us (ids o ++ vs) (ids o ++ ys) (sym cut ∙ is ∙ ap (λ l. l ++ (ids o ++ ys)) (sym precedings)))
 
   -- an operation outside the removed one is found as before
   pub without_found : (y z : ℕ) (t o v : OpOf N T A) → HasDistinctIds t → find y t ≡ Some o → find z t ≡ Some v → Absent z (ids o) → find z (without y t) ≡ Some (without y v)

@@ -85,9 +85,9 @@ module _ (a b : ℕ) where
       other c xs zs h n = elim (in_either c xs zs h) [ inl k ↦ absurd (n k) | inr k ↦ k ]
 
   -- the first part is replaced
-  same_front : (xs ys zs : List ℕ) → IsDistinct eqb (ys ++ xs) → IsDistinct eqb (zs ++ xs) → Listed a (ys ++ xs) → Listed b (ys ++ xs) → Listed a (zs ++ xs) → Listed b (zs ++ xs)
+  same_preceding : (xs ys zs : List ℕ) → IsDistinct eqb (ys ++ xs) → IsDistinct eqb (zs ++ xs) → Listed a (ys ++ xs) → Listed b (ys ++ xs) → Listed a (zs ++ xs) → Listed b (zs ++ xs)
       → (Listed a ys → Listed b ys → Listed a zs → Listed b zs → comes_after a b zs ≡ comes_after a b ys) → comes_after a b (zs ++ xs) ≡ comes_after a b (ys ++ xs)
-  same_front xs ys zs dy dz ay by az bz f = elim (in_either a ys xs ay) [
+  same_preceding xs ys zs dy dz ay by az bz f = elim (in_either a ys xs ay) [
     | inr ax ↦ elim (in_either b ys xs by) [
       | inr bx ↦ second a b zs xs (λ h. apart a zs xs dz h ax) ∙ sym (second a b ys xs (λ h. apart a ys xs dy h ax))
       | inl by2 ↦ backwards a b zs xs dz ax (other b zs xs bz (λ h. apart b ys xs dy by2 h)) ∙ sym (backwards a b ys xs dy ax by2)
@@ -105,41 +105,41 @@ module _ (a b : ℕ) where
       other : (c : ℕ) (zs xs : List ℕ) → Listed c (zs ++ xs) → (Listed c xs → ⊥) → Listed c zs
       other c zs xs h n = elim (in_either c zs xs h) [ inl k ↦ k | inr k ↦ absurd (n k) ]
 
-pub stretch_orderly : (x : ℕ) (m n : Module) (front inner back kept : List ℕ) → HasDistinctIds m.tree → HasDistinctIds n.tree → ids m.tree ≡ front ++ ((x ∷ inner) ++ back) → ids n.tree ≡ front ++ (kept ++ back)
+pub stretch_orderly : (x : ℕ) (m n : Module) (preceding inner back kept : List ℕ) → HasDistinctIds m.tree → HasDistinctIds n.tree → ids m.tree ≡ preceding ++ ((x ∷ inner) ++ back) → ids n.tree ≡ preceding ++ (kept ++ back)
     → ((y : ℕ) → is_within y (find x m.tree) ≡ is_listed y (x ∷ inner))
     → ((a b : ℕ) → Listed a (x ∷ inner) → Listed b (x ∷ inner) → Listed a kept → Listed b kept → comes_after a b kept ≡ comes_after a b (x ∷ inner)) → Orderly x m n
-stretch_orderly x m n front inner back kept dm dn em en within f = record {
+stretch_orderly x m n preceding inner back kept dm dn em en within f = record {
   stays = λ y h.
-      let k : comes_after y x (front ++ (x ∷ (inner ++ back))) ≡ true = ap (comes_after y x) (sym em) ∙ h in
-      ap (is_listed y) en ∙ left_in y front (kept ++ back) (in_front y k);
-  outside = λ y h k. ap (is_listed y) en ∙ elim (in_either y front ((x ∷ inner) ++ back) (ap (is_listed y) (sym em) ∙ h)) [
-    | inl e ↦ left_in y front (kept ++ back) e
+      let k : comes_after y x (preceding ++ (x ∷ (inner ++ back))) ≡ true = ap (comes_after y x) (sym em) ∙ h in
+      ap (is_listed y) en ∙ left_in y preceding (kept ++ back) (in_preceding y k);
+  outside = λ y h k. ap (is_listed y) en ∙ elim (in_either y preceding ((x ∷ inner) ++ back) (ap (is_listed y) (sym em) ∙ h)) [
+    | inl e ↦ left_in y preceding (kept ++ back) e
     | inr e ↦ elim (in_either y (x ∷ inner) back e) [
       | inl i ↦ absurd (true≢false (sym i ∙ sym (within y) ∙ k))
-      | inr i ↦ right_in y front (kept ++ back) (right_in y kept back i)
+      | inr i ↦ right_in y preceding (kept ++ back) (right_in y kept back i)
     ]
   ];
   order = λ a b am bm an bn.
-      ap (comes_after a b) en ∙ same_back a b front ((x ∷ inner) ++ back) (kept ++ back) ddm ddn (ap (is_listed a) (sym em) ∙ am) (ap (is_listed b) (sym em) ∙ bm) (ap (is_listed a) (sym en) ∙ an) (ap (is_listed b) (sym en) ∙ bn)
-      (λ a2 b2 a3 b3. same_front a b back (x ∷ inner) kept (halves front ((x ∷ inner) ++ back) ddm).right (halves front (kept ++ back) ddn).right a2 b2 a3 b3 (f a b)) ∙ sym (ap (comes_after a b) em);
+      ap (comes_after a b) en ∙ same_back a b preceding ((x ∷ inner) ++ back) (kept ++ back) ddm ddn (ap (is_listed a) (sym em) ∙ am) (ap (is_listed b) (sym em) ∙ bm) (ap (is_listed a) (sym en) ∙ an) (ap (is_listed b) (sym en) ∙ bn)
+      (λ a2 b2 a3 b3. same_preceding a b back (x ∷ inner) kept (halves preceding ((x ∷ inner) ++ back) ddm).right (halves preceding (kept ++ back) ddn).right a2 b2 a3 b3 (f a b)) ∙ sym (ap (comes_after a b) em);
 }
   where
-    ddm : IsDistinct eqb (front ++ ((x ∷ inner) ++ back))
+    ddm : IsDistinct eqb (preceding ++ ((x ∷ inner) ++ back))
     ddm = subst (IsDistinct eqb) em dm
 
-    ddn : IsDistinct eqb (front ++ (kept ++ back))
+    ddn : IsDistinct eqb (preceding ++ (kept ++ back))
     ddn = subst (IsDistinct eqb) en dn
 
-    in_front : (y : ℕ) → comes_after y x (front ++ (x ∷ (inner ++ back))) ≡ true → Listed y front
-    in_front y k = elim (bool_cases (is_listed y front)) [
+    in_preceding : (y : ℕ) → comes_after y x (preceding ++ (x ∷ (inner ++ back))) ≡ true → Listed y preceding
+    in_preceding y k = elim (bool_cases (is_listed y preceding)) [
       | inl e ↦ e
       | inr e ↦ absurd (
-          let l : comes_after y x (x ∷ (inner ++ back)) ≡ true = sym (second y x front (x ∷ (inner ++ back)) (λ h. true≢false (sym h ∙ e))) ∙ k in
+          let l : comes_after y x (x ∷ (inner ++ back)) ≡ true = sym (second y x preceding (x ∷ (inner ++ back)) (λ h. true≢false (sym h ∙ e))) ∙ k in
           not_first y l)
     ]
       where
         own : IsDistinct eqb (x ∷ (inner ++ back))
-        own = (halves front (x ∷ (inner ++ back)) ddm).right
+        own = (halves preceding (x ∷ (inner ++ back)) ddm).right
 
         absent : Listed x (inner ++ back) → ⊥
         absent h = apart x (x ∷ []) (inner ++ back) own (listed_at x x [] (eq-eqb x x refl)) h

@@ -20,7 +20,7 @@ module _ {N T A : Type 0} (t : OpOf N T A) (d : HasDistinctIds t) where
       → ends (head p).id y t ≡ true
   last_ends p path r args os y h f e =
       let s = split_last y os e in
-      let z = stand s.last (step p r args s.front no_ops ∷ path) in
+      let z = stand s.last (step p r args s.preceding no_ops ∷ path) in
       let there : stand_of y t ≡ Some z = ap (λ k. stand_of k t) (sym s.id) ∙ stand_of_member t d z (last_stands t d p path r args os y h f e) in
       ap (λ o. ends_of (head p).id (option_map (surround t) o)) there ∙ same p
     where

@@ -97,19 +97,19 @@ module _ {N T A : Type 0} (own : N → Own) where
             | inr e ↦ climbed_regions p q rec (r + 1) rs (λ s k. all s (in_right s xs ys k)) e
           ]
 
-      climbed_ops : (p : OpOf N T A) (q : List (StepOf N T A)) → recursive_at own (head p).id t ≡ true → (r : ℕ) (args : List T) (front : List (OpOf N T A)) (os : OpsOf N T A) → ((s : StandOf N T A) → In s (ops_stands p q r args front os) → In s (stands [] t)) → ops_feel own x os ≡ true → Climbed (head p).id
-      climbed_ops p q rec r args front no_ops all f = absurd (true≢false (sym f))
-      climbed_ops p q rec r args front (next o os) all f =
-          let a = step p r args front os in
+      climbed_ops : (p : OpOf N T A) (q : List (StepOf N T A)) → recursive_at own (head p).id t ≡ true → (r : ℕ) (args : List T) (preceding : List (OpOf N T A)) (os : OpsOf N T A) → ((s : StandOf N T A) → In s (ops_stands p q r args preceding os) → In s (stands [] t)) → ops_feel own x os ≡ true → Climbed (head p).id
+      climbed_ops p q rec r args preceding no_ops all f = absurd (true≢false (sym f))
+      climbed_ops p q rec r args preceding (next o os) all f =
+          let a = step p r args preceding os in
           let xs = stands (a ∷ q) o in
-          let ys = ops_stands p q r args (front ++ o ∷ []) os in
+          let ys = ops_stands p q r args (preceding ++ o ∷ []) os in
           let here = all (stand o (a ∷ q)) (in_left (stand o (a ∷ q)) xs ys (itself (a ∷ q) o)) in
           let par = parent_there o a q here in
           elim (or_cases (eqb (head o).id x) (feels own x o || ops_feel own x os) f) [
             | inl e ↦ ((head p).id, ap (λ z. parent_of z t) (sym (eqb-true (head o).id x e)) ∙ par, (zero, (rec, refl)))
             | inr e ↦ elim (or_cases (feels own x o) (ops_feel own x os) e) [
               | inl k ↦ (let u = climbed o (a ∷ q) here (λ s m. all s (in_left s xs ys m)) k in (u.0, u.1, (suc u.2.0, extend u.2.0 (head o).id u.0 (head p).id u.2.1 par rec)))
-              | inr k ↦ climbed_ops p q rec r args (front ++ o ∷ []) os (λ s m. all s (in_right s xs ys m)) k
+              | inr k ↦ climbed_ops p q rec r args (preceding ++ o ∷ []) os (λ s m. all s (in_right s xs ys m)) k
             ]
           ]
 

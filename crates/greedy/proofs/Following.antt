@@ -39,11 +39,11 @@ there x xs = list_any (λ y. eqb y x) xs
 next_first : (x : ℕ) (xs : List ℕ) → comes_next x (x ∷ xs) ≡ first_id xs
 next_first x xs = ap (λ b. cond b (first_id xs) (comes_next x xs)) (eq-eqb x x refl)
 
-pub next_at : (x : ℕ) (front back : List ℕ) → IsDistinct eqb (front ++ x ∷ back) → comes_next x (front ++ x ∷ back) ≡ first_id back
+pub next_at : (x : ℕ) (preceding back : List ℕ) → IsDistinct eqb (preceding ++ x ∷ back) → comes_next x (preceding ++ x ∷ back) ≡ first_id back
 next_at x [] back d = next_first x back
-next_at x (y ∷ front) back d = elim (bool_cases (eqb y x)) [
-  | inl e ↦ absurd (true≢false (sym (list_later x front back) ∙ subst (λ z. list_any (λ v. eqb v z) (front ++ x ∷ back) ≡ false) (eqb-true y x e) (absent_first y (front ++ x ∷ back) d)))
-  | inr e ↦ ap (λ b. cond b (first_id (front ++ x ∷ back)) (comes_next x (front ++ x ∷ back))) e ∙ next_at x front back (IsDistinct-tail eqb y (front ++ x ∷ back) d)
+next_at x (y ∷ preceding) back d = elim (bool_cases (eqb y x)) [
+  | inl e ↦ absurd (true≢false (sym (list_later x preceding back) ∙ subst (λ z. list_any (λ v. eqb v z) (preceding ++ x ∷ back) ≡ false) (eqb-true y x e) (absent_first y (preceding ++ x ∷ back) d)))
+  | inr e ↦ ap (λ b. cond b (first_id (preceding ++ x ∷ back)) (comes_next x (preceding ++ x ∷ back))) e ∙ next_at x preceding back (IsDistinct-tail eqb y (preceding ++ x ∷ back) d)
 ]
 
 -- the first entry of two joined lists
@@ -64,7 +64,7 @@ module _ {N T A : Type 0} where
 
   -- the ids of a tree, split after the contents of an operation
   abbrev Cut : List ℕ → StandOf N T A → Type 0
-  Cut all s = (front : List ℕ) × (all ≡ front ++ (ids s.here ++ trailing s.path))
+  Cut all s = (preceding : List ℕ) × (all ≡ preceding ++ (ids s.here ++ trailing s.path))
 
   cut_more : (more xs : List ℕ) (s : StandOf N T A) → Cut xs s → Cut (more ++ xs) s
   cut_more more xs s c = (more ++ c.0, ap (λ l. more ++ l) c.1 ∙ sym (append_assoc more c.0 (ids s.here ++ trailing s.path)))
@@ -89,14 +89,14 @@ module _ {N T A : Type 0} where
     cut_region p b r empty s k = absurd k
     cut_region p b r (block args os) s k = cut_ops p b r args [] os s k
 
-    cut_ops : (p : OpOf N T A) (b : List (StepOf N T A)) (r : ℕ) (args : List T) (front : List (OpOf N T A)) (os : OpsOf N T A) (s : StandOf N T A) → In s (ops_stands p b r args front os) → Cut (ops_ids os ++ (regions_ids (regions_from (r + 1) (regions p)) ++ trailing b)) s
-    cut_ops p b r args front no_ops s k = absurd k
-    cut_ops p b r args front (next o os) s k =
-        let a = step p r args front os in
+    cut_ops : (p : OpOf N T A) (b : List (StepOf N T A)) (r : ℕ) (args : List T) (preceding : List (OpOf N T A)) (os : OpsOf N T A) (s : StandOf N T A) → In s (ops_stands p b r args preceding os) → Cut (ops_ids os ++ (regions_ids (regions_from (r + 1) (regions p)) ++ trailing b)) s
+    cut_ops p b r args preceding no_ops s k = absurd k
+    cut_ops p b r args preceding (next o os) s k =
+        let a = step p r args preceding os in
         let end = regions_ids (regions_from (r + 1) (regions p)) ++ trailing b in
-        elim (in_parts s (stands (a ∷ b) o) (ops_stands p b r args (front ++ o ∷ []) os) k) [
+        elim (in_parts s (stands (a ∷ b) o) (ops_stands p b r args (preceding ++ o ∷ []) os) k) [
           | inl l ↦ subst (λ xs. Cut xs s) (sym (append_assoc (ids o) (ops_ids os) end)) (cut_op (a ∷ b) o s l)
-          | inr l ↦ subst (λ xs. Cut xs s) (sym (append_assoc (ids o) (ops_ids os) end)) (cut_more (ids o) (ops_ids os ++ end) s (cut_ops p b r args (front ++ o ∷ []) os s l))
+          | inr l ↦ subst (λ xs. Cut xs s) (sym (append_assoc (ids o) (ops_ids os) end)) (cut_more (ids o) (ops_ids os ++ end) s (cut_ops p b r args (preceding ++ o ∷ []) os s l))
         ]
 
   -- the operation after an operation: the first one inside it, or else the first one after all its contents
@@ -166,8 +166,8 @@ module _ {N T A : Type 0} where
   stands_there t s h = subst (λ xs. list_any (λ y. eqb y (stand_id s)) xs ≡ true) (stands_ids [] t) (in_ids s (stands [] t) h)
 
   module _ (t : OpOf N T A) (d : HasDistinctIds t) where
-    stood : (x : ℕ) → has_id x t ≡ true → (s : StandOf N T A) × (stand_of x t ≡ Some s) × In s (stands [] t) × (stand_id s ≡ x)
-    stood x h =
+    located : (x : ℕ) → has_id x t ≡ true → (s : StandOf N T A) × (stand_of x t ≡ Some s) × In s (stands [] t) × (stand_id s ≡ x)
+    located x h =
         let w = find_stand x (stands [] t) (subst (λ xs. list_any (λ y. eqb y x) xs ≡ true) (sym (stands_ids [] t)) h) in
         let m = member x (stands [] t) w.0 w.1 in
         (w.0, w.1, m.0, m.1)
@@ -175,19 +175,19 @@ module _ {N T A : Type 0} where
     -- nothing is inside: the next operation is the first one after its contents
     pub from_after : (x : ℕ) → has_id x t ≡ true → first_inside 0 (find x t) ≡ None → following x t ≡ first_id (after_of (stand_of x t))
     from_after x h e =
-        let s = stood x h in
+        let s = located x h in
         let found : find x t ≡ Some s.0.here = ap (λ y. find y t) (sym s.3) ∙ stand_found t d s.0 s.2 in
         ap (λ y. following y t) (sym s.3) ∙ follows t d s.0 s.2 ∙ none_joined (regions_ids (regions s.0.here)) (trailing s.0.path) (ap (first_inside 0) (sym found) ∙ e) ∙ ap (λ o. first_id (after_of o)) (sym s.1)
 
     pub from_inside : (x y : ℕ) → has_id x t ≡ true → first_inside 0 (find x t) ≡ Some y → following x t ≡ Some y
     from_inside x y h e =
-        let s = stood x h in
+        let s = located x h in
         let found : find x t ≡ Some s.0.here = ap (λ z. find z t) (sym s.3) ∙ stand_found t d s.0 s.2 in
         ap (λ z. following z t) (sym s.3) ∙ follows t d s.0 s.2 ∙ first_joined (regions_ids (regions s.0.here)) (trailing s.0.path) y (ap (first_inside 0) (sym found) ∙ e)
 
     -- no operation comes after the contents of the root
     pub after_root : (x : ℕ) → has_id x t ≡ true → place_of x t ≡ None → first_id (after_of (stand_of x t)) ≡ None
-    after_root x h e = let s = stood x h in ap (λ o. first_id (after_of o)) s.1 ∙ go s.0 s.0.path refl s.2 s.3
+    after_root x h e = let s = located x h in ap (λ o. first_id (after_of o)) s.1 ∙ go s.0 s.0.path refl s.2 s.3
       where
         go : (s : StandOf N T A) (p : List (StepOf N T A)) → s.path ≡ p → In s (stands [] t) → stand_id s ≡ x → first_id (trailing s.path) ≡ None
         go s [] q k i = ap (λ l. first_id (trailing l)) q
@@ -228,12 +228,12 @@ module _ {N T A : Type 0} where
               around = λ b g. ap first_id here ∙ none_joined (ops_ids a.rest) (more ++ trailing p) (rest ∙ b) ∙ none_joined more (trailing p) (sym inside ∙ g) ∙ ap (λ o. first_id (after_of o)) (sym outer);
               there = subst (λ z. has_id z t ≡ true) (ap (λ (z : Place). z.parent) (sym one)) (stands_there t (stand a.parent p) around);
               lower = let l : height_of (stand_of place.parent t) ≡ length p = ap height_of outer in let g : height_of (stand_of x t) ≡ suc (length p) = ap height_of f ∙ ap length q in omega (arith, l, g);
-              few = λ fw. let l = region_below a.region (regions a.parent) (block a.args (joined_ops a.front (next s.here a.rest))) (shape t s.here a p mem) in let c = fw place.parent a.parent found in let r : place.region ≡ a.region = ap (λ (z : Place). z.region) one in omega (arith, l, c, r);
+              few = λ fw. let l = region_below a.region (regions a.parent) (block a.args (joined_ops a.preceding (next s.here a.rest))) (shape t s.here a p mem) in let c = fw place.parent a.parent found in let r : place.region ≡ a.region = ap (λ (z : Place). z.region) one in omega (arith, l, c, r);
             }
 
     -- the number of regions of an operation
     found_op : (x : ℕ) → has_id x t ≡ true → (o : OpOf N T A) × (find x t ≡ Some o)
-    found_op x h = let s = stood x h in (s.0.here, ap (λ y. find y t) (sym s.3) ∙ stand_found t d s.0 s.2)
+    found_op x h = let s = located x h in (s.0.here, ap (λ y. find y t) (sym s.3) ∙ stand_found t d s.0 s.2)
 
     pub shown_count : (x : ℕ) (held : Option (OpOf N T A)) (n : NodeOf N T A) → has_id x t ≡ true → Some n ≡ option_map (λ o. node_of o) (first_of (find x t) held) → length n.arguments ≡ count_of (find x t)
     shown_count x held n h e =
@@ -246,11 +246,11 @@ module _ {N T A : Type 0} where
     few_shown x f h = let w = found_op x h in subst (λ o. count_of o ≤ 16) (sym w.1) (f x w.0 w.1)
 
 -- ---- the operations before an operation
-after_cut : (a x : ℕ) (front back : List ℕ) → IsDistinct eqb (front ++ a ∷ back) → list_any (λ y. eqb y x) back ≡ true → comes_after a x (front ++ a ∷ back) ≡ true
+after_cut : (a x : ℕ) (preceding back : List ℕ) → IsDistinct eqb (preceding ++ a ∷ back) → list_any (λ y. eqb y x) back ≡ true → comes_after a x (preceding ++ a ∷ back) ≡ true
 after_cut a x [] back d h = ap (λ b. cond b (list_any (λ y. eqb y x) back) (comes_after a x back)) (eq-eqb a a refl) ∙ h
-after_cut a x (y ∷ front) back d h = elim (bool_cases (eqb y a)) [
-  | inl e ↦ absurd (true≢false (sym (list_later a front back) ∙ subst (λ z. list_any (λ v. eqb v z) (front ++ a ∷ back) ≡ false) (eqb-true y a e) (absent_first y (front ++ a ∷ back) d)))
-  | inr e ↦ ap (λ b. cond b (list_any (λ v. eqb v x) (front ++ a ∷ back)) (comes_after a x (front ++ a ∷ back))) e ∙ after_cut a x front back (IsDistinct-tail eqb y (front ++ a ∷ back) d) h
+after_cut a x (y ∷ preceding) back d h = elim (bool_cases (eqb y a)) [
+  | inl e ↦ absurd (true≢false (sym (list_later a preceding back) ∙ subst (λ z. list_any (λ v. eqb v z) (preceding ++ a ∷ back) ≡ false) (eqb-true y a e) (absent_first y (preceding ++ a ∷ back) d)))
+  | inr e ↦ ap (λ b. cond b (list_any (λ v. eqb v x) (preceding ++ a ∷ back)) (comes_after a x (preceding ++ a ∷ back))) e ∙ after_cut a x preceding back (IsDistinct-tail eqb y (preceding ++ a ∷ back) d) h
 ]
 
 any_left : (x : ℕ) (xs ys : List ℕ) → list_any (λ y. eqb y x) xs ≡ true → list_any (λ y. eqb y x) (xs ++ ys) ≡ true
@@ -269,11 +269,11 @@ any_right x (z ∷ xs) ys h = elim (bool_cases (eqb z x)) [
 
 module _ {N T A : Type 0} where
   -- a list split before its last entry
-  front_split : (y : ℕ) (front : List (OpOf N T A)) → last_id (ops_of front) ≡ Some y → (f : List (OpOf N T A)) × (u : OpOf N T A) × (front ≡ f ++ u ∷ []) × ((head u).id ≡ y)
-  front_split y [] e = absurd cc
-  front_split y (o ∷ []) e = ([], o, refl, let i : (head o).id ≡ y = cc in i)
-  front_split y (o ∷ (u ∷ us)) e =
-      let w = front_split y (u ∷ us) (sym (later u us) ∙ e) in
+  preceding_split : (y : ℕ) (preceding : List (OpOf N T A)) → last_id (ops_of preceding) ≡ Some y → (f : List (OpOf N T A)) × (u : OpOf N T A) × (preceding ≡ f ++ u ∷ []) × ((head u).id ≡ y)
+  preceding_split y [] e = absurd cc
+  preceding_split y (o ∷ []) e = ([], o, refl, let i : (head o).id ≡ y = cc in i)
+  preceding_split y (o ∷ (u ∷ us)) e =
+      let w = preceding_split y (u ∷ us) (sym (later u us) ∙ e) in
       (o ∷ w.0, w.1, ap (λ l. o ∷ l) w.2, w.3)
     where
       some_last : (u : OpOf N T A) (us : List (OpOf N T A)) → (z : ℕ) × (last_id (ops_of (u ∷ us)) ≡ Some z)
@@ -320,7 +320,7 @@ module _ {N T A : Type 0} where
         go s place [] q k i f = let no : None ≡ Some place = ap place_in (sym q) ∙ f in absurd cc
         go s place (a ∷ p) q k i f =
             let mem = subst (λ l. In (stand s.here l) (stands [] t)) q k in
-            let w = front_split y a.front (sym (prev_there t d s.here a p mem) ∙ ap (λ z. prev_of z t) i ∙ e) in
+            let w = preceding_split y a.preceding (sym (prev_there t d s.here a p mem) ∙ ap (λ z. prev_of z t) i ∙ e) in
             let u = stand w.1 (step a.parent a.region a.args w.0 (next s.here a.rest) ∷ p) in
             let shaped : region_at a.region (regions a.parent) ≡ Some (block a.args (joined_ops w.0 (next w.1 (next s.here a.rest)))) = shape t s.here a p mem ∙ ap (λ l. Some (block a.args l)) (ap (λ f. joined_ops f (next s.here a.rest)) w.2 ∙ joined_more w.0 w.1 (next s.here a.rest)) in
             let there : In u (stands [] t) = within a.parent p u (child a.parent p a.region a.args (joined_ops w.0 (next w.1 (next s.here a.rest))) u shaped (ops_child a.parent p a.region a.args [] w.0 w.1 (next s.here a.rest))) [] t (around_there t s.here a p mem).1 in
@@ -355,7 +355,7 @@ module _ {N T A : Type 0} where
             let one : record { parent = (head a.parent).id; region = a.region; before = first_op a.rest } ≡ place = cc in
             let is : (head a.parent).id ≡ y = ap (λ (z : Place). z.parent) one ∙ g in
             let x_in : list_any (λ z. eqb z x) (ids s.here) ≡ true = subst (λ z. list_any (λ v. eqb v z) (ids s.here) ≡ true) i (own_listed s.here) in
-            let held = inside_regions x a.region (regions a.parent) (block a.args (joined_ops a.front (next s.here a.rest))) (shape t s.here a p mem) (inside_joined x a.front s.here a.rest x_in) in
+            let held = inside_regions x a.region (regions a.parent) (block a.args (joined_ops a.preceding (next s.here a.rest))) (shape t s.here a p mem) (inside_joined x a.preceding s.here a.rest x_in) in
             subst (λ z. precedes z x t ≡ true) is (comes_later (stand a.parent p) x (around_there t s.here a p mem).1 (any_left x (regions_ids (regions a.parent)) (trailing p) held))
 
         placed : (f : Option Place) → place_of x t ≡ f → precedes y x t ≡ true
@@ -376,10 +376,10 @@ module _ {N T A : Type 0} where
             let mem = subst (λ l. In (stand s.here l) (stands [] t)) q k in
             let up = (around_there t s.here a p mem).1 in
             let shaped = shape t s.here a p mem in
-            let list : list_of (head s.here).id t ≡ Some (joined_ops a.front (next s.here a.rest)) =
+            let list : list_of (head s.here).id t ≡ Some (joined_ops a.preceding (next s.here a.rest)) =
             ap (option_and_then (λ z. ops_at z.parent z.region t)) (place_of_member t d s.here a p mem)
             ∙ ap (option_and_then (λ o. option_and_then ops_in (region_at a.region (regions o)))) (stand_found t d (stand a.parent p) up) ∙ ap (option_and_then ops_in) shaped in
-            let w = first_split y x (joined_ops a.front (next s.here a.rest)) (sym (ap (in_list (goes_before y x)) (ap (λ z. list_of z t) (sym i) ∙ list)) ∙ e) in
+            let w = first_split y x (joined_ops a.preceding (next s.here a.rest)) (sym (ap (in_list (goes_before y x)) (ap (λ z. list_of z t) (sym i) ∙ list)) ∙ e) in
             let u = stand w.1 (step a.parent a.region a.args w.0 w.2 ∷ p) in
             let there : In u (stands [] t) = within a.parent p u (child a.parent p a.region a.args (joined_ops w.0 (next w.1 w.2)) u (shaped ∙ ap (λ l. Some (block a.args l)) w.5) (ops_child a.parent p a.region a.args [] w.0 w.1 w.2)) [] t up in
             subst (λ z. precedes z x t ≡ true) w.3 (comes_later u x there
@@ -394,8 +394,8 @@ module _ {N T A : Type 0} where
     joined_split (x ∷ f) u g os = ap (next x) (joined_split f u g os)
 
     -- the operation of a list that defines a value
-    shown_by : (y k : ℕ) (front : List (OpOf N T A)) → list_any (λ o. shows (Result y k) (results_of o)) front ≡ true
-        → (f : List (OpOf N T A)) × (u : OpOf N T A) × (g : List (OpOf N T A)) × (front ≡ f ++ u ∷ g) × ((head u).id ≡ y)
+    shown_by : (y k : ℕ) (preceding : List (OpOf N T A)) → list_any (λ o. shows (Result y k) (results_of o)) preceding ≡ true
+        → (f : List (OpOf N T A)) × (u : OpOf N T A) × (g : List (OpOf N T A)) × (preceding ≡ f ++ u ∷ g) × ((head u).id ≡ y)
     shown_by y k [] h = absurd (true≢false (sym h))
     shown_by y k (o ∷ os) h = elim (bool_cases (shows (Result y k) (results_of o))) [
       | inl e ↦ ([], o, os, refl, sym (eqb-true y (head o).id (both (eqb y (head o).id) (nat_lt k (length (head o).results)) e).0))
@@ -410,9 +410,9 @@ module _ {N T A : Type 0} where
       pub next_one : Option ℕ
       pub place : place_of y t ≡ Some (record { parent = (head a.parent).id; region = a.region; before = next_one })
 
-    earlier : (y k : ℕ) (o : OpOf N T A) (a : StepOf N T A) (p : List (StepOf N T A)) → In (stand o (a ∷ p)) (stands [] t) → list_any (λ q. shows (Result y k) (results_of q)) a.front ≡ true → Earlier y o a
+    earlier : (y k : ℕ) (o : OpOf N T A) (a : StepOf N T A) (p : List (StepOf N T A)) → In (stand o (a ∷ p)) (stands [] t) → list_any (λ q. shows (Result y k) (results_of q)) a.preceding ≡ true → Earlier y o a
     earlier y k o a p mem h =
-        let w = shown_by y k a.front h in
+        let w = shown_by y k a.preceding h in
         let rest = joined_ops w.2 (next o a.rest) in
         let b = step a.parent a.region a.args w.0 rest in
         let u = stand w.1 (b ∷ p) in
@@ -436,7 +436,7 @@ module _ {N T A : Type 0} where
     module _ (isolated : N → Bool) (y k : ℕ) where
       -- a value visible at the end of a path
       by_path : (o : OpOf N T A) (a : StepOf N T A) (p : List (StepOf N T A)) → In (stand o (a ∷ p)) (stands [] t) → dominated_by isolated (a ∷ p) (Result y k) ≡ true → Earlier y o a ⊎ (dominated_by isolated p (Result y k) ≡ true)
-      by_path o a p mem e = elim (either (list_any (λ q. shows (Result y k) (results_of q)) a.front) (shows (Result y k) (arguments (head a.parent).id a.region (length a.args)) || not (isolated (head a.parent).name) && dominated_by isolated p (Result y k)) e) [
+      by_path o a p mem e = elim (either (list_any (λ q. shows (Result y k) (results_of q)) a.preceding) (shows (Result y k) (arguments (head a.parent).id a.region (length a.args)) || not (isolated (head a.parent).name) && dominated_by isolated p (Result y k)) e) [
         | inl i ↦ inl (earlier y k o a p mem i)
         | inr i ↦ inr (both (not (isolated (head a.parent).name)) (dominated_by isolated p (Result y k)) i).1
       ]
@@ -462,7 +462,7 @@ module _ {N T A : Type 0} where
 
     -- only the root has no parent
     pub rootless : (x : ℕ) → has_id x t ≡ true → parent_of x t ≡ None → x ≡ (head t).id
-    rootless x h e = let s = stood t d x h in go s.0 s.0.path refl s.2 s.3
+    rootless x h e = let s = located t d x h in go s.0 s.0.path refl s.2 s.3
       where
         go : (s : StandOf N T A) (p : List (StepOf N T A)) → s.path ≡ p → In s (stands [] t) → stand_id s ≡ x → x ≡ (head t).id
         go s [] q k i = elim (has_around [] t s k) [

@@ -30,7 +30,7 @@ use Rattle.greedy.specs.Reached.{ends, ends_of, is_end, reaches, any_reaches}
 use Rattle.greedy.specs.LocalContext.{Uses, defining_op, is_listed, operands_of}
 use Rattle.greedy.proofs.Applying.{touched_all}
 use Rattle.greedy.specs.Adding.{Adds, Grown, OneOf}
-use Rattle.greedy.specs.Parts.{IsAround, IsReached, IsBeside, IsSeer, puts_last, any_puts_last}
+use Rattle.greedy.specs.Parts.{IsAround, IsReached, IsNextTo, IsSeer, puts_last, any_puts_last}
 use Rattle.greedy.specs.Shown.{shown_operands}
 use Rattle.greedy.proofs.Adding.{grown_more, in_listed, listed_in}
 use Rattle.greedy.proofs.Climbing.{same_climbs}
@@ -101,12 +101,12 @@ module _ (w : World) (es : List Event) (inner : any_puts_last es ≡ false) (pas
     (at_seen : Adds (OneOf (seer_of w passed) (drop 0 reached)) reached seen)
     (at_around : Adds (OneOf (IsAround w.store.module_of.tree) seen) seen second)
     (at_users : Adds (OneOf (seer_of w passed) (drop n second)) second users)
-    (at_beside : Adds (OneOf (IsBeside w) es) users listed) where
+    (at_next_to : Adds (OneOf (IsNextTo w) es) users listed) where
   abbrev t : Op
   t = w.store.module_of.tree
 
   d : HasDistinctIds t
-  d = w.formed.distinct
+  d = w.wellformed.distinct
 
   -- the list, and all operations after `passed`
   abbrev all : List ℕ
@@ -124,7 +124,7 @@ module _ (w : World) (es : List Event) (inner : any_puts_last es ≡ false) (pas
 
   -- operations that are seen stay listed
   stays : (x : ℕ) → is_listed x seen ≡ true → is_listed x listed ≡ true
-  stays x h = at_beside.kept x (at_users.kept x (at_around.kept x h))
+  stays x h = at_next_to.kept x (at_users.kept x (at_around.kept x h))
 
   used : (x y : ℕ) → Uses x y (module_in w).tree → used_by w y x
   used x y u = same_uses w.ctx t x y u
@@ -144,7 +144,7 @@ module _ (w : World) (es : List Event) (inner : any_puts_last es ≡ false) (pas
   user_next : (y x : ℕ) → is_listed y seen ≡ true → used_by w y x → is_listed x all ≡ true
   user_next y x h u = elim (in_parts y reached more.0 (subst (In y) more.1 (listed_in y second (at_around.kept y h)))) [
     | inl i ↦ elim (user_one y x (in_listed y reached i) u) [ inl k ↦ in_all x (stays x k) | inr p ↦ after_all x p ]
-    | inr i ↦ elim (seer_or_later y x u) [ inl s ↦ in_all x (at_beside.kept x (at_users.added x (y, subst (In y) (sym trailing) i, s))) | inr p ↦ after_all x p ]
+    | inr i ↦ elim (seer_or_later y x u) [ inl s ↦ in_all x (at_next_to.kept x (at_users.added x (y, subst (In y) (sym trailing) i, s))) | inr p ↦ after_all x p ]
   ]
     where
       more : Grown reached second
@@ -154,7 +154,7 @@ module _ (w : World) (es : List Event) (inner : any_puts_last es ≡ false) (pas
       trailing = (λ j. drop (from j) (more.1 j)) ∙ drop-append_seam reached more.0
 
   around_one : (y x : ℕ) → is_listed y seen ≡ true → ends x y (module_in w).tree ≡ true → is_listed x all ≡ true
-  around_one y x h k = in_all x (at_beside.kept x (at_users.kept x (at_around.added x (y, listed_in y seen h, sym (same_ends w.ctx t x y) ∙ k))))
+  around_one y x h k = in_all x (at_next_to.kept x (at_users.kept x (at_around.added x (y, listed_in y seen h, sym (same_ends w.ctx t x y) ∙ k))))
 
   -- the parent of a user that ends a block
   around_user : (z l x : ℕ) → is_listed z reached ≡ true → used_by w z l → ends x l (module_in w).tree ≡ true → is_listed x all ≡ true
@@ -169,7 +169,7 @@ module _ (w : World) (es : List Event) (inner : any_puts_last es ≡ false) (pas
   -- a value that lost a use has none left, or is still used
   lost_one : (e : Event) → In e es → (v : Value) → In v (lost_values (shown_operands w.store) e) → (y : ℕ) → defining_op v ≡ Some y → (us : List (ℕ × ℕ)) → uses_of v t ≡ us
       → (is_listed y all ≡ true) ⊎ (is_unused y (module_in w).tree ≡ false)
-  lost_one e h v k y g [] none = inl (in_all y (at_beside.added y (e, h, inl (inr (v, k, (g, none))))))
+  lost_one e h v k y g [] none = inl (in_all y (at_next_to.added y (e, h, inl (inr (v, k, (g, none))))))
   lost_one e h (Arg a r j) k y g (u ∷ us) some = absurd cc
   lost_one e h (Result a j) k y g (u ∷ us) some =
       let same : a ≡ y = cc in
@@ -191,9 +191,9 @@ module _ (w : World) (es : List Event) (inner : any_puts_last es ≡ false) (pas
       around = λ l x h e. around_one l x (at_seen.kept l (reached_one l h)) e;
       around_users = λ z l x h u e. around_user z l x (reached_one z h) (used l z u) e;
     };
-    found_gained = λ e h v k y g. in_all y (at_beside.added y (e, h, inl (inl (v, k, g))));
+    found_gained = λ e h v k y g. in_all y (at_next_to.added y (e, h, inl (inl (v, k, g))));
     found_lost = λ e h v k y g. lost_one e h v k y g (uses_of v t) refl;
-    climbs = λ e h o k n y c. in_all y (at_beside.added y (e, h, inr (o, k, (n, same_climbs w.ctx t n y o c))));
+    climbs = λ e h o k n y c. in_all y (at_next_to.added y (e, h, inr (o, k, (n, same_climbs w.ctx t n y o c))));
   }
 
 -- ---- all operations
@@ -214,4 +214,4 @@ near_touched w es passed listed k m l x h u p = touched_all (shown_operands w.st
     later = entries_after passed (ids (module_in w).tree)
 
     distinct : HasDistinctIds (module_in w).tree
-    distinct = subst (IsDistinct eqb) (sym (map_ids (name_term w.ctx) (type_term w.ctx) (attr_term w.ctx) w.store.module_of.tree)) w.formed.distinct
+    distinct = subst (IsDistinct eqb) (sym (map_ids (name_term w.ctx) (type_term w.ctx) (attr_term w.ctx) w.store.module_of.tree)) w.wellformed.distinct

@@ -37,7 +37,7 @@ module _ {N T A : Type 0} (t : OpOf N T A) (d : HasDistinctIds t) where
   unlast_placed : (x : ℕ) (place : Place) → place_of x t ≡ Some place → (p : OpOf N T A) (path : List (StepOf N T A)) → In (stand p path) (stands [] t) → (place.before ≡ None → (head p).id ≡ place.parent → ⊥) → Unlast x p
   unlast_placed x place at p path h apart k args os e l =
       let s = split_last x os l in
-      let here = place_of_member t d s.last (step p k args s.front no_ops) path (last_stands t d p path k args os x h e l) in
+      let here = place_of_member t d s.last (step p k args s.preceding no_ops) path (last_stands t d p path k args os x h e l) in
       let two : Some (record { parent = (head p).id; region = k; before = None }) ≡ Some place = sym here ∙ ap (λ z. place_of z t) s.id ∙ at in
       let one : record { parent = (head p).id; region = k; before = None } ≡ place = cc in
       apart (sym (ap (λ (z : Place). z.before) one)) (ap (λ (z : Place). z.parent) one)
@@ -46,7 +46,7 @@ module _ {N T A : Type 0} (t : OpOf N T A) (d : HasDistinctIds t) where
   unlast_gone : (x : ℕ) → ((s : StandOf N T A) → In s (stands [] t) → stand_id s ≡ x → ⊥) → (p : OpOf N T A) (path : List (StepOf N T A)) → In (stand p path) (stands [] t) → Unlast x p
   unlast_gone x none p path h k args os e l =
       let s = split_last x os l in
-      none (stand s.last (step p k args s.front no_ops ∷ path)) (last_stands t d p path k args os x h e l) s.id
+      none (stand s.last (step p k args s.preceding no_ops ∷ path)) (last_stands t d p path k args os x h e l) s.id
 
 -- by the positions of the operation in both trees
 by_like : (x : ℕ) (t u : Operation) → HasDistinctIds u → Goes (Like own_of x) x t u → (y : ℕ) → (y ≡ x → ⊥)

@@ -43,26 +43,26 @@ module _ {N T A : Type 0} where
   Hold u (y ∷ ys) = ((o : OpOf N T A) × (find y.0 u ≡ Some o) × (ids o ≡ y.1)) × Hold u ys
 
   -- operation x is between two parts of a tree. Consecutive operations are inside x, with others before and after them
-  pub record Near (x : ℕ) (front back inner outer : List ℕ) (ys : Wide) (t : OpOf N T A) : Type 0 where
+  pub record Near (x : ℕ) (preceding back inner outer : List ℕ) (ys : Wide) (t : OpOf N T A) : Type 0 where
     pub distinct : HasDistinctIds t
     pub at : OpOf N T A
     pub found : find x t ≡ Some at
-    pub is : ids t ≡ front ++ (ids at ++ back)
+    pub is : ids t ≡ preceding ++ (ids at ++ back)
     pub own : ids at ≡ x ∷ (inner ++ (widths ys ++ outer))
     pub hold : Hold at ys
-    pub extra : 1 ≤ length front
+    pub extra : 1 ≤ length preceding
 
-  module _ (x : ℕ) (front back inner outer : List ℕ) (ys : Wide) (t : OpOf N T A) (w : Near x front back inner outer ys t) where
+  module _ (x : ℕ) (preceding back inner outer : List ℕ) (ys : Wide) (t : OpOf N T A) (w : Near x preceding back inner outer ys t) where
     at_distinct : HasDistinctIds w.at
     at_distinct = own_distinct x t w.at w.distinct w.found
 
     -- heads may change
-    pub near_headed : (f : HeadOf N T A → HeadOf N T A) → ((h : HeadOf N T A) → Alike (f h) h) → Near x front back inner outer ys (each_head f t)
+    pub near_headed : (f : HeadOf N T A → HeadOf N T A) → ((h : HeadOf N T A) → Alike (f h) h) → Near x preceding back inner outer ys (each_head f t)
     near_headed f alike = record {
       distinct = subst (IsDistinct eqb) (sym (head_ids f alike t)) w.distinct;
       at = each_head f w.at;
       found = head_find f alike x t ∙ ap (option_map (each_head f)) w.found;
-      is = head_ids f alike t ∙ w.is ∙ ap (λ l. front ++ (l ++ back)) (sym (head_ids f alike w.at));
+      is = head_ids f alike t ∙ w.is ∙ ap (λ l. preceding ++ (l ++ back)) (sym (head_ids f alike w.at));
       own = head_ids f alike w.at ∙ w.own;
       hold = holds ys w.hold;
       extra = w.extra;
@@ -73,8 +73,8 @@ module _ {N T A : Type 0} where
         holds (y ∷ ys) h = ((each_head f h.0.0, head_find f alike y.0 w.at ∙ ap (option_map (each_head f)) h.0.1, head_ids f alike h.0.0 ∙ h.0.2), holds ys h.1)
 
     -- x is taken out
-    pub near_erased : ids (without x t) ≡ front ++ back
-    near_erased = without_ids x t w.at front back w.distinct w.found (not_root x t w.at front back w.found w.is w.extra) w.is
+    pub near_erased : ids (without x t) ≡ preceding ++ back
+    near_erased = without_ids x t w.at preceding back w.distinct w.found (not_root x t w.at preceding back w.found w.is w.extra) w.is
 
     x_once : Absent x (inner ++ (widths ys ++ outer))
     x_once = absent_first x (inner ++ (widths ys ++ outer)) (subst (IsDistinct eqb) w.own at_distinct)
@@ -118,52 +118,52 @@ module _ {N T A : Type 0} where
       put_own : ids (put place o w.at) ≡ ids w.at
       put_own = put_outside place o x before w.at at_distinct x_regions
 
-      near_with : (fronts : List ℕ) → 1 ≤ length fronts → ids (put place o t) ≡ fronts ++ (ids w.at ++ back) → Near x fronts back inner outer ys (put place o t)
-      near_with fronts l is = record {
+      near_with : (precedings : List ℕ) → 1 ≤ length precedings → ids (put place o t) ≡ precedings ++ (ids w.at ++ back) → Near x precedings back inner outer ys (put place o t)
+      near_with precedings l is = record {
         distinct = gained_distinct place o own t w.distinct apart;
         at = put place o w.at;
         found = put_find place o x (out x w.at w.at itself w.found) t ∙ ap (option_map (put place o)) w.found;
-        is = is ∙ ap (λ l. fronts ++ (l ++ back)) (sym put_own);
+        is = is ∙ ap (λ l. precedings ++ (l ++ back)) (sym put_own);
         own = put_own ∙ w.own;
         hold = put_holds ys x_absent w.hold;
         extra = l;
       }
 
-      pub near_put : (more : List ℕ) × ((more ≡ []) ⊎ (more ≡ ids o)) × Near x (front ++ more) back inner outer ys (put place o t)
+      pub near_put : (more : List ℕ) × ((more ≡ []) ⊎ (more ≡ ids o)) × Near x (preceding ++ more) back inner outer ys (put place o t)
       near_put = go (put_may place o x before t w.distinct)
         where
           rest : List ℕ
           rest = inner ++ (widths ys ++ outer)
 
-          at_is : ids t ≡ front ++ (x ∷ (rest ++ back))
-          at_is = w.is ∙ ap (λ l. front ++ (l ++ back)) w.own
+          at_is : ids t ≡ preceding ++ (x ∷ (rest ++ back))
+          at_is = w.is ∙ ap (λ l. preceding ++ (l ++ back)) w.own
 
-          go : MayCome x (ids o) (ids t) (ids (put place o t)) → (more : List ℕ) × ((more ≡ []) ⊎ (more ≡ ids o)) × Near x (front ++ more) back inner outer ys (put place o t)
-          go (inl e) = ([], inl refl, subst (λ l. Near x l back inner outer ys (put place o t)) (sym (append-nil front)) (near_with front w.extra (e ∙ w.is)))
+          go : MayCome x (ids o) (ids t) (ids (put place o t)) → (more : List ℕ) × ((more ≡ []) ⊎ (more ≡ ids o)) × Near x (preceding ++ more) back inner outer ys (put place o t)
+          go (inl e) = ([], inl refl, subst (λ l. Near x l back inner outer ys (put place o t)) (sym (append-nil preceding)) (near_with preceding w.extra (e ∙ w.is)))
           go (inr c) = (
             ids o,
             inr refl,
-            near_with (front ++ ids o) longer (
+            near_with (preceding ++ ids o) longer (
                 c.is
-                ∙ (λ i. fronts i ++ (ids o ++ (x ∷ backs i)))
-                ∙ ap (λ l. front ++ (ids o ++ (l ++ back))) (sym w.own)
-                ∙ sym (append_assoc front (ids o) (ids w.at ++ back))),
+                ∙ (λ i. precedings i ++ (ids o ++ (x ∷ backs i)))
+                ∙ ap (λ l. preceding ++ (ids o ++ (l ++ back))) (sym w.own)
+                ∙ sym (append_assoc preceding (ids o) (ids w.at ++ back))),
           )
             where
-              longer : 1 ≤ length (front ++ ids o)
-              longer = let a = length-append front (ids o) in let b = w.extra in omega (arith, a, b)
+              longer : 1 ≤ length (preceding ++ ids o)
+              longer = let a = length-append preceding (ids o) in let b = w.extra in omega (arith, a, b)
 
-              same : c.front ++ (x ∷ c.back) ≡ front ++ (x ∷ (rest ++ back))
+              same : c.preceding ++ (x ∷ c.back) ≡ preceding ++ (x ∷ (rest ++ back))
               same = sym c.was ∙ at_is
 
-              fronts : c.front ≡ front
-              fronts = one_cut x c.front front c.back (rest ++ back) (absent_before x c.front c.back (subst (IsDistinct eqb) c.was w.distinct)) (absent_before x front (rest ++ back) (subst (IsDistinct eqb) at_is w.distinct)) same
+              precedings : c.preceding ≡ preceding
+              precedings = one_cut x c.preceding preceding c.back (rest ++ back) (absent_before x c.preceding c.back (subst (IsDistinct eqb) c.was w.distinct)) (absent_before x preceding (rest ++ back) (subst (IsDistinct eqb) at_is w.distinct)) same
 
               backs : c.back ≡ rest ++ back
-              backs = append_cancel_left (x ∷ []) c.back (rest ++ back) (append_cancel_left c.front (x ∷ c.back) (x ∷ (rest ++ back)) (same ∙ ap (λ l. l ++ (x ∷ (rest ++ back))) (sym fronts)))
+              backs = append_cancel_left (x ∷ []) c.back (rest ++ back) (append_cancel_left c.preceding (x ∷ c.back) (x ∷ (rest ++ back)) (same ∙ ap (λ l. l ++ (x ∷ (rest ++ back))) (sym precedings)))
 
   -- the first of the operations inside x is taken out
-  module _ (x : ℕ) (front back inner outer : List ℕ) (y : ℕ × List ℕ) (ys : Wide) (t : OpOf N T A) (w : Near x front back inner outer (y ∷ ys) t) where
+  module _ (x : ℕ) (preceding back inner outer : List ℕ) (y : ℕ × List ℕ) (ys : Wide) (t : OpOf N T A) (w : Near x preceding back inner outer (y ∷ ys) t) where
     abbrev o : OpOf N T A
     o = w.hold.0.0
 
@@ -180,19 +180,19 @@ module _ {N T A : Type 0} where
     at_parts : ids w.at ≡ (x ∷ inner) ++ (ids w.hold.0.0 ++ (widths ys ++ outer))
     at_parts = w.own ∙ ap (λ l. x ∷ (inner ++ l)) (append_assoc y.1 (widths ys) outer ∙ ap (λ l. l ++ (widths ys ++ outer)) (sym w.hold.0.2))
 
-    parts : ids t ≡ (front ++ (x ∷ inner)) ++ (ids w.hold.0.0 ++ ((widths ys ++ outer) ++ back))
+    parts : ids t ≡ (preceding ++ (x ∷ inner)) ++ (ids w.hold.0.0 ++ ((widths ys ++ outer) ++ back))
     parts =
         w.is
-        ∙ ap (λ l. front ++ (l ++ back)) at_parts
-        ∙ ap (λ l. front ++ l) (append_assoc (x ∷ inner) (ids o ++ (widths ys ++ outer)) back ∙ ap (λ l. (x ∷ inner) ++ l) (append_assoc (ids o) (widths ys ++ outer) back))
-        ∙ sym (append_assoc front (x ∷ inner) (ids o ++ ((widths ys ++ outer) ++ back)))
+        ∙ ap (λ l. preceding ++ (l ++ back)) at_parts
+        ∙ ap (λ l. preceding ++ l) (append_assoc (x ∷ inner) (ids o ++ (widths ys ++ outer)) back ∙ ap (λ l. (x ∷ inner) ++ l) (append_assoc (ids o) (widths ys ++ outer) back))
+        ∙ sym (append_assoc preceding (x ∷ inner) (ids o ++ ((widths ys ++ outer) ++ back)))
 
     at_left : ids (without y.0 w.at) ≡ (x ∷ inner) ++ (widths ys ++ outer)
     at_left = without_ids y.0 w.at o (x ∷ inner) (widths ys ++ outer) (own_distinct x t w.at w.distinct w.found) o_at (not_root y.0 w.at o (x ∷ inner) (widths ys ++ outer) o_at at_parts (omega arith)) at_parts
 
-    left : ids (without y.0 t) ≡ (front ++ (x ∷ inner)) ++ ((widths ys ++ outer) ++ back)
-    left = without_ids y.0 t o (front ++ (x ∷ inner)) ((widths ys ++ outer) ++ back) w.distinct first_found
-        (not_root y.0 t o (front ++ (x ∷ inner)) ((widths ys ++ outer) ++ back) first_found parts (let a = length-append front (x ∷ inner) in let b = w.extra in omega (arith, a, b))) parts
+    left : ids (without y.0 t) ≡ (preceding ++ (x ∷ inner)) ++ ((widths ys ++ outer) ++ back)
+    left = without_ids y.0 t o (preceding ++ (x ∷ inner)) ((widths ys ++ outer) ++ back) w.distinct first_found
+        (not_root y.0 t o (preceding ++ (x ∷ inner)) ((widths ys ++ outer) ++ back) first_found parts (let a = length-append preceding (x ∷ inner) in let b = w.extra in omega (arith, a, b))) parts
 
     d_at : IsDistinct eqb ((x ∷ inner) ++ (ids w.hold.0.0 ++ (widths ys ++ outer)))
     d_at = subst (IsDistinct eqb) at_parts (own_distinct x t w.at w.distinct w.found)
@@ -238,34 +238,34 @@ module _ {N T A : Type 0} where
         present_right : (i : ℕ) (xs ys : List ℕ) → Present i ys → Present i (xs ++ ys)
         present_right i xs ys p = elim (cases_Bool (list_any (λ z. eqb z i) (xs ++ ys))) [ inl k ↦ k | inr k ↦ absurd (true≢false (sym p ∙ (absent_parts i xs ys k).1)) ]
 
-    pub near_left : Near x front back inner outer ys (without y.0 t)
+    pub near_left : Near x preceding back inner outer ys (without y.0 t)
     near_left = record {
       distinct = left_distinct y.0 t w.distinct;
       at = without y.0 w.at;
       found = without_found y.0 x t o w.at w.distinct first_found w.found x_out;
-      is = left ∙ append_assoc front (x ∷ inner) ((widths ys ++ outer) ++ back) ∙ ap (λ l. front ++ l) (sym (append_assoc (x ∷ inner) (widths ys ++ outer) back)) ∙ ap (λ l. front ++ (l ++ back)) (sym at_left);
+      is = left ∙ append_assoc preceding (x ∷ inner) ((widths ys ++ outer) ++ back) ∙ ap (λ l. preceding ++ l) (sym (append_assoc (x ∷ inner) (widths ys ++ outer) back)) ∙ ap (λ l. preceding ++ (l ++ back)) (sym at_left);
       own = at_left;
       hold = left_holds ys y_out apart_width w.hold.1;
       extra = w.extra;
     }
 
     first_apart : Apart (ids w.hold.0.0) (ids (without y.0 t))
-    first_apart z p = subst (Absent z) (sym left) (absent_join z (front ++ (x ∷ inner)) ((widths ys ++ outer) ++ back) before later)
+    first_apart z p = subst (Absent z) (sym left) (absent_join z (preceding ++ (x ∷ inner)) ((widths ys ++ outer) ++ back) before later)
       where
-        two : IsDistinct eqb ((front ++ (x ∷ inner)) ++ (ids w.hold.0.0 ++ ((widths ys ++ outer) ++ back)))
+        two : IsDistinct eqb ((preceding ++ (x ∷ inner)) ++ (ids w.hold.0.0 ++ ((widths ys ++ outer) ++ back)))
         two = subst (IsDistinct eqb) parts w.distinct
 
         later : Absent z ((widths ys ++ outer) ++ back)
-        later = (halves (ids o) ((widths ys ++ outer) ++ back) (halves (front ++ (x ∷ inner)) (ids o ++ ((widths ys ++ outer) ++ back)) two).right).disjoint z p
+        later = (halves (ids o) ((widths ys ++ outer) ++ back) (halves (preceding ++ (x ∷ inner)) (ids o ++ ((widths ys ++ outer) ++ back)) two).right).disjoint z p
 
-        before : Absent z (front ++ (x ∷ inner))
-        before = elim (cases_Bool (list_any (λ u. eqb u z) (front ++ (x ∷ inner)))) [
+        before : Absent z (preceding ++ (x ∷ inner))
+        before = elim (cases_Bool (list_any (λ u. eqb u z) (preceding ++ (x ∷ inner)))) [
           | inr k ↦ k
-          | inl k ↦ absurd (true≢false (sym p ∙ (absent_parts z (ids o) ((widths ys ++ outer) ++ back) ((halves (front ++ (x ∷ inner)) (ids o ++ ((widths ys ++ outer) ++ back)) two).disjoint z k)).0))
+          | inl k ↦ absurd (true≢false (sym p ∙ (absent_parts z (ids o) ((widths ys ++ outer) ++ back) ((halves (preceding ++ (x ∷ inner)) (ids o ++ ((widths ys ++ outer) ++ back)) two).disjoint z k)).0))
         ]
 
     -- the first operation is inserted before x, or nowhere
-    pub near_moved : (place : Place) → place.before ≡ Some x → (more : List ℕ) × ((more ≡ []) ⊎ (more ≡ y.1)) × Near x (front ++ more) back inner outer ys (shifted y.0 place t)
+    pub near_moved : (place : Place) → place.before ≡ Some x → (more : List ℕ) × ((more ≡ []) ⊎ (more ≡ y.1)) × Near x (preceding ++ more) back inner outer ys (shifted y.0 place t)
     near_moved place before =
-        let n = near_put x front back inner outer ys (without y.0 t) near_left place o before first_own first_apart in
-        (n.0, elim n.1 [ inl e ↦ inl e | inr e ↦ inr (e ∙ w.hold.0.2) ], subst (λ t. Near x (front ++ n.0) back inner outer ys t) (ap (λ f. put_found place f (without y.0 t)) (sym first_found)) n.2)
+        let n = near_put x preceding back inner outer ys (without y.0 t) near_left place o before first_own first_apart in
+        (n.0, elim n.1 [ inl e ↦ inl e | inr e ↦ inr (e ∙ w.hold.0.2) ], subst (λ t. Near x (preceding ++ n.0) back inner outer ys t) (ap (λ f. put_found place f (without y.0 t)) (sym first_found)) n.2)

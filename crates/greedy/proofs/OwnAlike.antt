@@ -17,7 +17,7 @@ use Rattle.ir_event.specs.Modules.{Module}
 use Rattle.rewriter_machine.specs.Contents.{Edit}
 use Rattle.rewriter_machine.specs.Edits.{Make}
 use Rattle.patterns_base.specs.Keeps.{given}
-use Rattle.patterns_base.specs.Looks.{Header, when, is_verified, front_of, defining_op, type_of}
+use Rattle.patterns_base.specs.Looks.{Header, when, is_verified, insertion_of, defining_op, type_of}
 use Rattle.patterns_base.specs.Makes.{give}
 use Rattle.ir_event.specs.types.declared.bits.BitsKind.{BitsKind}
 use Rattle.patterns_laws.specs.Made.{constant, made}
@@ -85,13 +85,13 @@ plans_same p t u verified cleans n k x e = go (can_build p)
     go true = e
     go false = refl
 
-pub own_same : (p : PatternModel) (n m : Module) (x : ℕ) (o q : Operation) → find x n.tree ≡ Some o → find x m.tree ≡ Some q → head o ≡ head q → Same (front_of x n.tree) (front_of x m.tree)
+pub own_same : (p : PatternModel) (n m : Module) (x : ℕ) (o q : Operation) → find x n.tree ≡ Some o → find x m.tree ≡ Some q → head o ≡ head q → Same (insertion_of x n.tree) (insertion_of x m.tree)
     → Same (planned n.tree (is_verified n.tree) n.next p x) (planned m.tree (is_verified m.tree) m.next p x) → Same (own_edits p n x) (own_edits p m x)
 unfolding own_edits
-own_same p n m x o q is was heads fronts plans =
-    ap (λ a. is_some (given a (λ o. given (front_of x n.tree) (λ front. when (is_one (head o).results) (edits_for front x (plan_of n.tree (is_verified n.tree) n.next p x)))))) is
-    ∙ go (front_of x n.tree) (front_of x m.tree) fronts
-    ∙ sym (ap (λ a. is_some (given a (λ o. given (front_of x m.tree) (λ front. when (is_one (head o).results) (edits_for front x (plan_of m.tree (is_verified m.tree) m.next p x)))))) was)
+own_same p n m x o q is was heads precedings plans =
+    ap (λ a. is_some (given a (λ o. given (insertion_of x n.tree) (λ insertion. when (is_one (head o).results) (edits_for insertion x (plan_of n.tree (is_verified n.tree) n.next p x)))))) is
+    ∙ go (insertion_of x n.tree) (insertion_of x m.tree) precedings
+    ∙ sym (ap (λ a. is_some (given a (λ o. given (insertion_of x m.tree) (λ insertion. when (is_one (head o).results) (edits_for insertion x (plan_of m.tree (is_verified m.tree) m.next p x)))))) was)
   where
     both : (f g : Place) → Same (edits_for f x (plan_of n.tree (is_verified n.tree) n.next p x)) (edits_for g x (plan_of m.tree (is_verified m.tree) m.next p x))
     both f g = edits_same f g x _ _ (plans_same p n.tree m.tree (is_verified n.tree) (is_verified m.tree) n.next m.next x plans)
@@ -100,7 +100,7 @@ own_same p n m x o q is was heads fronts plans =
     single f g true = both f g
     single f g false = refl
 
-    go : (a b : Option Place) → Same a b → is_some (given a (λ front. when (is_one (head o).results) (edits_for front x (plan_of n.tree (is_verified n.tree) n.next p x)))) ≡ is_some (given b (λ front. when (is_one (head q).results) (edits_for front x (plan_of m.tree (is_verified m.tree) m.next p x))))
+    go : (a b : Option Place) → Same a b → is_some (given a (λ insertion. when (is_one (head o).results) (edits_for insertion x (plan_of n.tree (is_verified n.tree) n.next p x)))) ≡ is_some (given b (λ insertion. when (is_one (head q).results) (edits_for insertion x (plan_of m.tree (is_verified m.tree) m.next p x))))
     go None None e = refl
     go None (Some g) e = absurd (true≢false (sym e))
     go (Some f) None e = absurd (true≢false e)
@@ -182,21 +182,21 @@ planned_leaves t verified n p x made e =
             when_holds LeavesPlanned (fits ks p && constants_known t verified n p b) (outcomes.given (run (Content.given (content_with ks p)) (outcomes_of t verified n p 0 p.values b)) (planned_from t verified n p b ts))
             (λ z i. given_holds LeavesPlanned (run (Content.given (content_with ks p)) (outcomes_of t verified n p 0 p.values b)) (planned_from t verified n p b ts) (λ env y j. of_made b ts env y j) z i) made e
 
-still_given : (x : ℕ) (front : Place) (os : List Operation) (v : Value) → AreLeaves os → Still x front (map (λ o. Make front o) os ++ give x v)
-still_given x front [] v l = refl
-still_given x front (o ∷ os) v l = (refl, l.0, still_given x front os v l.1)
+still_given : (x : ℕ) (insertion : Place) (os : List Operation) (v : Value) → AreLeaves os → Still x insertion (map (λ o. Make insertion o) os ++ give x v)
+still_given x preceding [] v l = refl
+still_given x preceding (o ∷ os) v l = (refl, l.0, still_given x preceding os v l.1)
 
 -- the edits of a user pattern
 pub record OwnPlanned (p : PatternModel) (m : Module) (x : ℕ) (es : List Edit) : Type 0 where
   pub here : Operation
   pub place : Place
   pub found : find x m.tree ≡ Some here
-  pub front : front_of x m.tree ≡ Some place
+  pub insertion : insertion_of x m.tree ≡ Some place
   pub still : Still x place es
 
 pub own_planned : (p : PatternModel) (m : Module) (x : ℕ) (es : List Edit) → own_edits p m x ≡ Some es → OwnPlanned p m x es
 unfolding own_edits
-own_planned p m x es e = go (find x m.tree) refl (front_of x m.tree) refl e
+own_planned p m x es e = go (find x m.tree) refl (insertion_of x m.tree) refl e
   where
     still : (place : Place) (a : Option Plan) → plan_of m.tree (is_verified m.tree) m.next p x ≡ a → edits_for place x a ≡ Some es → Still x place es
     still place None i e = absurd (none-some es e)
@@ -206,16 +206,16 @@ own_planned p m x es e = go (find x m.tree) refl (front_of x m.tree) refl e
     single place true e = e
     single place false e = absurd (none-some es e)
 
-    go : (a : Option Operation) → find x m.tree ≡ a → (b : Option Place) → front_of x m.tree ≡ b → given a (λ o. given b (λ front. when (is_one (head o).results) (edits_for front x (plan_of m.tree (is_verified m.tree) m.next p x)))) ≡ Some es → OwnPlanned p m x es
+    go : (a : Option Operation) → find x m.tree ≡ a → (b : Option Place) → insertion_of x m.tree ≡ b → given a (λ o. given b (λ insertion. when (is_one (head o).results) (edits_for insertion x (plan_of m.tree (is_verified m.tree) m.next p x)))) ≡ Some es → OwnPlanned p m x es
     go None k b l e = absurd (none-some es e)
     go (Some o) k None l e = absurd (none-some es e)
-    go (Some o) k (Some place) l e = record { here = o; place = place; found = k; front = l; still = still place _ refl (single place (is_one (head o).results) e) }
+    go (Some o) k (Some place) l e = record { here = o; place = place; found = k; insertion = l; still = still place _ refl (single place (is_one (head o).results) e) }
 
 -- a user pattern has no edits at the root
-pub own_rootless : (p : PatternModel) (m : Module) (x : ℕ) → front_of x m.tree ≡ None → own_edits p m x ≡ None
+pub own_rootless : (p : PatternModel) (m : Module) (x : ℕ) → insertion_of x m.tree ≡ None → own_edits p m x ≡ None
 unfolding own_edits
 own_rootless p m x e = go (find x m.tree)
   where
-    go : (a : Option Operation) → given a (λ o. given (front_of x m.tree) (λ front. when (is_one (head o).results) (edits_for front x (plan_of m.tree (is_verified m.tree) m.next p x)))) ≡ None
+    go : (a : Option Operation) → given a (λ o. given (insertion_of x m.tree) (λ insertion. when (is_one (head o).results) (edits_for insertion x (plan_of m.tree (is_verified m.tree) m.next p x)))) ≡ None
     go None = refl
-    go (Some o) = ap (λ f. given f (λ front. when (is_one (head o).results) (edits_for front x (plan_of m.tree (is_verified m.tree) m.next p x)))) e
+    go (Some o) = ap (λ f. given f (λ insertion. when (is_one (head o).results) (edits_for insertion x (plan_of m.tree (is_verified m.tree) m.next p x)))) e

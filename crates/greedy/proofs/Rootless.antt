@@ -13,7 +13,7 @@ use Rattle.ir_event.proofs.of_tree_laws.Around.{member_of_place}
 use Rattle.ir_event.specs.Modules.{Module}
 use Rattle.patterns_base.specs.declared.rule.Rule.{Rule}
 use Rattle.patterns_base.specs.Keeps.{given}
-use Rattle.patterns_base.specs.Looks.{when, insertion_point, front_of}
+use Rattle.patterns_base.specs.Looks.{when, insertion_point, insertion_of}
 use Rattle.patterns_base.specs.Rules.{rule}
 use Rattle.patterns_base.specs.Rewrites.{none, edits_of, rewrite_by, rewrite_of, eligible}
 use Rattle.patterns_base.specs.Canonicalization.{or_else, first_rule, greedy_rules, highest_priority}
@@ -34,9 +34,9 @@ pub no_edits : (r : Rule) (m : Module) → HasDistinctIds m.tree → edits_of r 
 unfolding edits_of
 no_edits r m d = go (find (head m.tree).id m.tree) (ap (option_map (insertion_point (head m.tree).id)) (unplaced m.tree d))
   where
-    go : (a : Option Operation) → front_of (head m.tree).id m.tree ≡ None → given a (λ o. given (front_of (head m.tree).id m.tree) (λ front. when (eligible r m.tree (head o)) (rule r m.tree m.next front o))) ≡ None
+    go : (a : Option Operation) → insertion_of (head m.tree).id m.tree ≡ None → given a (λ o. given (insertion_of (head m.tree).id m.tree) (λ insertion. when (eligible r m.tree (head o)) (rule r m.tree m.next insertion o))) ≡ None
     go None e = refl
-    go (Some o) e = ap (λ f. given f (λ front. when (eligible r m.tree (head o)) (rule r m.tree m.next front o))) e
+    go (Some o) e = ap (λ f. given f (λ insertion. when (eligible r m.tree (head o)) (rule r m.tree m.next insertion o))) e
 
 pub no_rules : (rs : List Rule) (m : Module) → HasDistinctIds m.tree → first_rule rs m (head m.tree).id ≡ none
 unfolding first_rule rewrite_of

@@ -16,13 +16,13 @@ use Rattle.ir_event.proofs.of_trees.Facts.{ids_head}
 module _ {N T A : Type 0} where
   -- the ids before and after an operation
   pub record Between (x : ℕ) (t o : OpOf N T A) : Type 0 where
-    pub front : List ℕ
+    pub preceding : List ℕ
     pub back : List ℕ
-    pub is : ids t ≡ front ++ (ids o ++ back)
-    pub extra : 1 ≤ length front
+    pub is : ids t ≡ preceding ++ (ids o ++ back)
+    pub extra : 1 ≤ length preceding
 
   pub between : (x : ℕ) (t o : OpOf N T A) → HasDistinctIds t → find x t ≡ Some o → eqb (head t).id x ≡ false → Between x t o
-  between x t o d e root = record { front = us; back = vs; is = cut; extra = some us refl }
+  between x t o d e root = record { preceding = us; back = vs; is = cut; extra = some us refl }
     where
       i : Inner x t o
       i = inner_of x t o e root
@@ -31,7 +31,7 @@ module _ {N T A : Type 0} where
       w = part t d o i.step_in i.path i.there
 
       us : List ℕ
-      us = map (λ (z : StandOf N T A). stand_id z) w.front
+      us = map (λ (z : StandOf N T A). stand_id z) w.preceding
 
       vs : List ℕ
       vs = map (λ (z : StandOf N T A). stand_id z) w.back
@@ -47,7 +47,7 @@ module _ {N T A : Type 0} where
       some (y ∷ ys) k = let n = ap length k in omega (arith, n)
 
   -- without operations inside it
-  pub start : (x : ℕ) (t o : OpOf N T A) → HasDistinctIds t → find x t ≡ Some o → (head o).id ≡ x → (b : Between x t o) → Near x b.front b.back [] (regions_ids (regions o)) [] t
+  pub start : (x : ℕ) (t o : OpOf N T A) → HasDistinctIds t → find x t ≡ Some o → (head o).id ≡ x → (b : Between x t o) → Near x b.preceding b.back [] (regions_ids (regions o)) [] t
   start x t o d e id b = record { distinct = d; at = o; found = e; is = b.is; own = ids_head o ∙ ap (λ y. y ∷ regions_ids (regions o)) id; hold = tt; extra = b.extra }
 
   -- ---- the operations of a block without the last
@@ -85,21 +85,21 @@ module _ {N T A : Type 0} where
 
   -- x with the operations of one of its blocks, without the last
   pub record Opened (x : ℕ) (t p : OpOf N T A) (ys : Wide) : Type 0 where
-    pub front : List ℕ
+    pub preceding : List ℕ
     pub back : List ℕ
     pub inner : List ℕ
     pub outer : List ℕ
-    pub is : ids t ≡ front ++ ((x ∷ (inner ++ (widths ys ++ outer))) ++ back)
+    pub is : ids t ≡ preceding ++ ((x ∷ (inner ++ (widths ys ++ outer))) ++ back)
     pub own : ids p ≡ x ∷ (inner ++ (widths ys ++ outer))
-    pub near : Near x front back inner outer ys t
+    pub near : Near x preceding back inner outer ys t
 
   pub opened : (x : ℕ) (t p : OpOf N T A) → HasDistinctIds t → find x t ≡ Some p → (head p).id ≡ x → eqb (head t).id x ≡ false → (r : ℕ) (args : List T) (o : OpOf N T A) (os : OpsOf N T A) → region_at r (regions p) ≡ Some (block args (next o os)) → Opened x t p (wide o os)
   opened x t p d e id root r args o os g = record {
-    front = b.front;
+    preceding = b.preceding;
     back = b.back;
     inner = w.0;
     outer = ids (final o os) ++ w.1;
-    is = b.is ∙ ap (λ l. b.front ++ (l ++ b.back)) mine;
+    is = b.is ∙ ap (λ l. b.preceding ++ (l ++ b.back)) mine;
     own = mine;
     near = record { distinct = d; at = p; found = e; is = b.is; own = mine; hold = holds p (own_distinct x t p d e) r args [] o os g; extra = b.extra };
   }

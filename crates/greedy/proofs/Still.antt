@@ -112,18 +112,18 @@ module _ {N T A : Type 0} where
       region_again p b c r empty s k = absurd k
       region_again p b c r (block args os) s k = ops_again p b c r args [] os s k
 
-      ops_again : (p : OpOf N T A) (b c : List (StepOf N T A)) (r : ℕ) (args : List T) (front : List (OpOf N T A)) (os : OpsOf N T A) (s : StandOf N T A) → In s (ops_stands p b r args front os) → Again s (ops_stands p c r args front os)
-      ops_again p b c r args front no_ops s k = absurd k
-      ops_again p b c r args front (next o os) s k =
-          let a = step p r args front os in
+      ops_again : (p : OpOf N T A) (b c : List (StepOf N T A)) (r : ℕ) (args : List T) (preceding : List (OpOf N T A)) (os : OpsOf N T A) (s : StandOf N T A) → In s (ops_stands p b r args preceding os) → Again s (ops_stands p c r args preceding os)
+      ops_again p b c r args preceding no_ops s k = absurd k
+      ops_again p b c r args preceding (next o os) s k =
+          let a = step p r args preceding os in
           let xs = stands (a ∷ c) o in
-          let ys = ops_stands p c r args (front ++ o ∷ []) os in
-          elim (in_parts s (stands (a ∷ b) o) (ops_stands p b r args (front ++ o ∷ []) os) k) [
+          let ys = ops_stands p c r args (preceding ++ o ∷ []) os in
+          elim (in_parts s (stands (a ∷ b) o) (ops_stands p b r args (preceding ++ o ∷ []) os) k) [
             | inl l ↦ elim (again (a ∷ b) (a ∷ c) o s l) [
               | inl e ↦ (stand o (a ∷ c), in_left (stand o (a ∷ c)) xs ys (itself (a ∷ c) o), ap (λ (z : StandOf N T A). z.here) (sym e), ap (λ (z : StandOf N T A). around_id z.path) (sym e))
               | inr w ↦ more s xs (xs ++ ys) (λ z m. in_left z xs ys m) w
             ]
-            | inr l ↦ more s ys (xs ++ ys) (λ z m. in_right z xs ys m) (ops_again p b c r args (front ++ o ∷ []) os s l)
+            | inr l ↦ more s ys (xs ++ ys) (λ z m. in_right z xs ys m) (ops_again p b c r args (preceding ++ o ∷ []) os s l)
           ]
 
     left_or_within : (t : OpOf N T A) (s : StandOf N T A) → In s (stands [] t) → In (left_stand x s) (stands [] (without x t)) ⊎ Within x t s

@@ -13,7 +13,7 @@ use Rattle.rewriter_machine.proofs.Trees.{found_id}
 use Rattle.rewriter_machine.specs.Contents.{Edit}
 use Rattle.patterns_base.specs.declared.rule.Rule.{Rule}
 use Rattle.patterns_base.specs.RuleNames.{is_canonical}
-use Rattle.patterns_base.specs.Looks.{front_of, insertion_point}
+use Rattle.patterns_base.specs.Looks.{insertion_of, insertion_point}
 use Rattle.patterns_base.specs.Rewrites.{Rewrite, none, refused, becomes, edits_of, rewrite_by, rewrite_of}
 use Rattle.patterns_base.specs.Canonicalization.{or_else, first_rule}
 use Rattle.patterns.proofs.Firsts.{none_then}
@@ -91,7 +91,7 @@ module _ (m : Module) (d : HasDistinctIds m.tree) (below : All (λ y. y < m.next
       go (Some es) k e =
           let w = own_planned p m x es k in
           let id = found_id x m.tree w.here w.found in
-          subst (Orderly x m) (carried es m n e) (edits_orderly m d below x es w.here w.place w.found w.front (inl (subst (λ y. Still y w.place es) (sym id) w.still)))
+          subst (Orderly x m) (carried es m n e) (edits_orderly m d below x es w.here w.place w.found w.insertion (inl (subst (λ y. Still y w.place es) (sym id) w.still)))
 
   tried_orderly : (a : RuleOrPatternModel) → MayAttempt a → (n : Module) → attempted a m x ≡ becomes n → Orderly x m n
   tried_orderly (OfRule r) h n e = rewrite_tried m d below x r h n e

@@ -23,7 +23,7 @@ use Rattle.ir_verify.specs.Beyond.{told}
 use Rattle.ir_verify.specs.Breaks.{broken}
 use Rattle.listeners_support.specs.Surroundings.{SurroundingsOf, surround, surroundings, outer_of}
 use Rattle.patterns_laws.specs.Keeps.{given}
-use Rattle.patterns_base.specs.Looks.{Header, Ended, ended, ended_by, breaks_none, has_own_properties, is_verified, is_in_order, insertion_point, front_of}
+use Rattle.patterns_base.specs.Looks.{Header, Ended, ended, ended_by, breaks_none, has_own_properties, is_verified, is_in_order, insertion_point, insertion_of}
 use Rattle.patterns_base.specs.Rewrites.{eligible}
 use Rattle.patterns_base.specs.RuleNames.{is_erasing}
 use Rattle.patterns_base.specs.declared.rule.Rule.{Rule}
@@ -58,26 +58,26 @@ module _ (t : Operation) where
   found_there x o e = let s = found_stands x t o e in ap (λ z. has_id z t) (sym s.2) ∙ stand_present [] t s.0 s.1
 
   -- an operation has an insertion point before it exactly if it has a parent
-  pub outer_some : HasDistinctIds t → (x : ℕ) → is_some (front_of x t) ≡ is_some (option_and_then (λ (s : SurroundingsOf (List ℕ) TypeTerm AttrTerm). s.outer) (surroundings x t))
+  pub outer_some : HasDistinctIds t → (x : ℕ) → is_some (insertion_of x t) ≡ is_some (option_and_then (λ (s : SurroundingsOf (List ℕ) TypeTerm AttrTerm). s.outer) (surroundings x t))
   outer_some d x = go (stand_of x t) refl
     where
-      unplaced : ((s : StandOf (List ℕ) TypeTerm AttrTerm) → In s (stands [] t) → stand_id s ≡ x → (place : Place) → place_in s.path ≡ Some place → ⊥) → is_some (front_of x t) ≡ false
+      unplaced : ((s : StandOf (List ℕ) TypeTerm AttrTerm) → In s (stands [] t) → stand_id s ≡ x → (place : Place) → place_in s.path ≡ Some place → ⊥) → is_some (insertion_of x t) ≡ false
       unplaced none = by (place_of x t) refl
         where
-          by : (a : Option Place) → place_of x t ≡ a → is_some (front_of x t) ≡ false
+          by : (a : Option Place) → place_of x t ≡ a → is_some (insertion_of x t) ≡ false
           by None e = ap (λ z. is_some (option_map (insertion_point x) z)) e
           by (Some place) e = let u = member_of_place x place t e in absurd (none u.0 u.1 u.2 place u.3)
 
       root_unplaced : (s z : StandOf (List ℕ) TypeTerm AttrTerm) → z.path ≡ [] → s ≡ z → (place : Place) → place_in s.path ≡ Some place → ⊥
       root_unplaced s z j same place e = let none : None ≡ Some place = sym (ap place_in (ap (λ (w : StandOf (List ℕ) TypeTerm AttrTerm). w.path) same ∙ j)) ∙ e in absurd cc
 
-      by_path : (z : StandOf (List ℕ) TypeTerm AttrTerm) → In z (stands [] t) → stand_id z ≡ x → (q : List (StepOf (List ℕ) TypeTerm AttrTerm)) → z.path ≡ q → is_some (front_of x t) ≡ is_some (outer_of q)
+      by_path : (z : StandOf (List ℕ) TypeTerm AttrTerm) → In z (stands [] t) → stand_id z ≡ x → (q : List (StepOf (List ℕ) TypeTerm AttrTerm)) → z.path ≡ q → is_some (insertion_of x t) ≡ is_some (outer_of q)
       by_path z h i [] j = unplaced (λ s k l place e. root_unplaced s z j (same_stand t d s z k h (l ∙ sym i)) place e)
       by_path z h i (a ∷ q) j =
           let at : place_of x t ≡ place_in (a ∷ q) = ap (λ k. place_of k t) (sym i) ∙ place_of_member t d z.here a q (subst (λ l. In (stand z.here l) (stands [] t)) j h) in
           ap (λ k. is_some (option_map (insertion_point x) k)) at
 
-      go : (a : Option (StandOf (List ℕ) TypeTerm AttrTerm)) → stand_of x t ≡ a → is_some (front_of x t) ≡ is_some (option_and_then (λ (s : SurroundingsOf (List ℕ) TypeTerm AttrTerm). s.outer) (surroundings x t))
+      go : (a : Option (StandOf (List ℕ) TypeTerm AttrTerm)) → stand_of x t ≡ a → is_some (insertion_of x t) ≡ is_some (option_and_then (λ (s : SurroundingsOf (List ℕ) TypeTerm AttrTerm). s.outer) (surroundings x t))
       go None i =
           unplaced (λ s k l place e. let no_stand : None ≡ Some s = sym i ∙ ap (λ z. stand_of z t) (sym l) ∙ stand_of_member t d s k in absurd cc)
           ∙ sym (ap (λ a. is_some (option_and_then (λ (s : SurroundingsOf (List ℕ) TypeTerm AttrTerm). s.outer) (option_map (surround t) a))) i)
@@ -90,13 +90,13 @@ module _ (t : Operation) where
       → last_of o r ≡ option_and_then (λ l. option_map head (find l t)) (last_in r (regions o))
   last_header d o path h r = go (region_at r (regions o)) refl
     where
-      by_front : (f : Operation) (fs : List Operation) (l : Operation) → (ended_by f (joined_ops fs (next l no_ops))).last ≡ head l
-      by_front f [] l = refl
-      by_front f (k ∷ fs) l = by_front k fs l
+      by_preceding : (f : Operation) (fs : List Operation) (l : Operation) → (ended_by f (joined_ops fs (next l no_ops))).last ≡ head l
+      by_preceding f [] l = refl
+      by_preceding f (k ∷ fs) l = by_preceding k fs l
 
-      last_joined : (front : List Operation) (l : Operation) (args : List TypeTerm) → option_map (λ (w : Ended). w.last) (ended (block args (joined_ops front (next l no_ops)))) ≡ Some (head l)
+      last_joined : (preceding : List Operation) (l : Operation) (args : List TypeTerm) → option_map (λ (w : Ended). w.last) (ended (block args (joined_ops preceding (next l no_ops)))) ≡ Some (head l)
       last_joined [] l args = refl
-      last_joined (f ∷ fs) l args = ap Some (by_front f fs l)
+      last_joined (f ∷ fs) l args = ap Some (by_preceding f fs l)
 
       some_last : (u : Operation) (us : OpsOf (List ℕ) TypeTerm AttrTerm) → (l : ℕ) × (last_id (next u us) ≡ Some l)
       some_last u no_ops = ((head u).id, refl)
@@ -112,7 +112,7 @@ module _ (t : Operation) where
           let found : find k.0 t ≡ Some s.last = ap (λ z. find z t) (sym s.id) ∙ stand_found t d _ (last_stands t d o path r args (next u us) k.0 h e k.1) in
           ap (λ a. option_map (λ (w : Ended). w.last) (given a ended)) e
           ∙ ap (λ os. option_map (λ (w : Ended). w.last) (ended (block args os))) s.is
-          ∙ last_joined s.front s.last args
+          ∙ last_joined s.preceding s.last args
           ∙ sym (ap (option_map head) found)
           ∙ sym (ap (option_and_then (λ l. option_map head (find l t))) k.1)
           ∙ sym (ap (λ a. option_and_then (λ l. option_map head (find l t)) (option_and_then last_id (option_and_then ops_in a))) e)

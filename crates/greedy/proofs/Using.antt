@@ -19,7 +19,7 @@ use Rattle.std.specs.List.{list_any}
 use Rattle.effects.specs.Dead.{is_result_of}
 use Rattle.ir_event.proofs.of_tree_laws.HeadForm.{in_gather}
 use Rattle.ir_event.proofs.of_tree_laws.Values.{seen_by}
-use Rattle.ir_event.proofs.of_tree_laws.Formed.{from_formed}
+use Rattle.ir_event.proofs.of_tree_laws.Wellformed.{from_wellformed}
 use Rattle.ir_event.specs.declared.world.World.{World}
 use Rattle.listeners_support.specs.Surroundings.{surround}
 use Rattle.greedy.specs.LocalContext.{Uses, defining_op, operands_of}
@@ -84,8 +84,8 @@ module _ (w : World) where
           let g : In (stand_id s, l.0) (uses_of v w.store.module_of.tree) =
           subst (In (stand_id s, l.0)) (stands_uses v [] w.store.module_of.tree)
           (in_gather (λ (u : StandOf ℕ ℕ ℕ). operand_uses v (stand_id u) 0 (head u.here).operands) (stand_id s, l.0) s (stands [] w.store.module_of.tree) h l.1) in
-          let each = (from_formed (isolated_in w.ctx) w.store.module_of.tree w.formed.formed).dominated_by_own s h in
-          let is = (seen_by (isolated_in w.ctx) w.store.module_of.tree w.formed.distinct s h v (all_each (dominated_by (isolated_in w.ctx) s.path) (head s.here).operands each v k)).is in
+          let each = (from_wellformed (isolated_in w.ctx) w.store.module_of.tree w.wellformed.wellformed).dominated_by_own s h in
+          let is = (seen_by (isolated_in w.ctx) w.store.module_of.tree w.wellformed.distinct s h v (all_each (dominated_by (isolated_in w.ctx) s.path) (head s.here).operands each v k)).is in
           record {
             number = n;
             user = (
@@ -121,7 +121,7 @@ module _ (w : World) where
           let m = member x (stands [] w.store.module_of.tree) s i in
           let h : In u.0 (head s.here).operands = subst (In u.0) (operands_shown s.here) (subst (λ f. In u.0 (operands_of (option_map (surround w.store.module_of.tree) f))) i u.1) in
           let r = gives_result u.0 y u.2 in
-          let each = (from_formed (isolated_in w.ctx) w.store.module_of.tree w.formed.formed).dominated_by_own s m.0 in
+          let each = (from_wellformed (isolated_in w.ctx) w.store.module_of.tree w.wellformed.wellformed).dominated_by_own s m.0 in
           record {
             at = s;
             there = m.0;
@@ -143,7 +143,7 @@ module _ (w : World) where
       go (Some s) i =
           let m = member x (stands [] w.store.module_of.tree) s i in
           let h : In u.0 (head s.here).operands = subst (In u.0) (operands_shown s.here) (subst (λ f. In u.0 (operands_of (option_map (surround w.store.module_of.tree) f))) i u.1) in
-          (s.here, ap (λ z. find z w.store.module_of.tree) (sym m.1) ∙ stand_found w.store.module_of.tree w.formed.distinct s m.0, any_one (is_result_of y) (head s.here).operands u.0 h (own u.0 u.2))
+          (s.here, ap (λ z. find z w.store.module_of.tree) (sym m.1) ∙ stand_found w.store.module_of.tree w.wellformed.distinct s m.0, any_one (is_result_of y) (head s.here).operands u.0 h (own u.0 u.2))
 
   pub not_user_none : (x y : ℕ) → None ≡ option_map node_of (find x w.store.module_of.tree) → Uses x y w.store.module_of.tree → ⊥
   not_user_none x y e u = let f = user_found x y u in let no : None ≡ Some (node_of f.0) = e ∙ ap (option_map node_of) f.1 in absurd cc
@@ -159,7 +159,7 @@ module _ (w : World) where
   pub user_after : (y x : ℕ) → Uses x y w.store.module_of.tree → precedes y x w.store.module_of.tree ≡ true
   user_after y x u =
       let o = operand x y u in
-      subst (λ z. precedes y z w.store.module_of.tree ≡ true) o.id (dominates w.store.module_of.tree w.formed.distinct (isolated_in w.ctx) y o.number o.at.here o.at.path o.there o.visible)
+      subst (λ z. precedes y z w.store.module_of.tree ≡ true) o.id (dominates w.store.module_of.tree w.wellformed.distinct (isolated_in w.ctx) y o.number o.at.here o.at.path o.there o.visible)
 
   -- an absent operation has no users, and comes after no operation
   pub seer_absent : (passed y : ℕ) → has_id y w.store.module_of.tree ≡ false → (x : ℕ) → IsSeer w.store.module_of.tree passed y x → ⊥
@@ -171,15 +171,15 @@ module _ (w : World) where
   handed_on y l x u k =
       let o = operand l y u in
       let z = ending x l w.store.module_of.tree k in
-      let one : o.at ≡ stand z.here (z.step ∷ z.path) = same_stand w.store.module_of.tree w.formed.distinct o.at (stand z.here (z.step ∷ z.path)) o.there z.there (o.id ∙ sym z.id) in
+      let one : o.at ≡ stand z.here (z.step ∷ z.path) = same_stand w.store.module_of.tree w.wellformed.distinct o.at (stand z.here (z.step ∷ z.path)) o.there z.there (o.id ∙ sym z.id) in
       let paths : o.at.path ≡ z.step ∷ z.path = ap (λ (s : StandOf ℕ ℕ ℕ). s.path) one in
-      elim (dominates_parent w.store.module_of.tree w.formed.distinct (isolated_in w.ctx) y o.number z.here z.step z.path z.there (subst (λ p. dominated_by (isolated_in w.ctx) p (Result y o.number) ≡ true) paths o.visible)) [
+      elim (dominates_parent w.store.module_of.tree w.wellformed.distinct (isolated_in w.ctx) y o.number z.here z.step z.path z.there (subst (λ p. dominated_by (isolated_in w.ctx) p (Result y o.number) ≡ true) paths o.visible)) [
         | inl b ↦ inl (subst (λ p. precedes y p w.store.module_of.tree ≡ true) z.parent b)
         | inr e ↦ inr (
           record { parent = (head z.step.parent).id; region = z.step.region; before = e.next_one },
           e.place,
           z.parent,
-          (l, last_is w.store.module_of.tree w.formed.distinct z.here z.step z.path z.there z.last ∙ ap Some z.id, u),
+          (l, last_is w.store.module_of.tree w.wellformed.distinct z.here z.step z.path z.there z.last ∙ ap Some z.id, u),
         )
       ]
 
@@ -236,12 +236,12 @@ uses_more P u left rest xs ys zs e a b =
     adding_more P (IsIn (u ∷ rest)) (λ x. x ≡ u.0) (IsIn rest) xs ys zs (λ x q. split x q.0 (bool_cases (same_use u (x, q.0))) q.1)
     (subst (λ l. Adding P (IsIn l) xs ys) e a) b
   where
-    front : (a b : Bool) → (a && b) ≡ true → a ≡ true
-    front true b e = refl
-    front false b e = absurd (true≢false (sym e))
+    preceding : (a b : Bool) → (a && b) ≡ true → a ≡ true
+    preceding true b e = refl
+    preceding false b e = absurd (true≢false (sym e))
 
     split : (x j : ℕ) → (same_use u (x, j) ≡ true) ⊎ (same_use u (x, j) ≡ false) → is_use x j (u ∷ rest) ≡ true → (x ≡ u.0) ⊎ IsIn rest x
-    split x j (inl i) h = inl (sym (eqb-true u.0 x (front (eqb u.0 x) (eqb u.1 j) i)))
+    split x j (inl i) h = inl (sym (eqb-true u.0 x (preceding (eqb u.0 x) (eqb u.1 j) i)))
     split x j (inr i) h = inr (j, sym (ap (λ b. b || is_use x j rest) i) ∙ h)
 
 pub uses_end : (P : ℕ → Type 0) (left : List (ℕ × ℕ)) (xs ys : List ℕ) → left ≡ [] → Adding P (IsIn left) xs ys → Adds P xs ys

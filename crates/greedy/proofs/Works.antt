@@ -21,11 +21,11 @@ listed_end z (y ∷ ys) x h = elim (bool_cases (eqb y z)) [
   | inr e ↦ elim (listed_end z ys x (listed_past y z (ys ++ x ∷ []) e h)) [ inl k ↦ inl (listed_more y z ys k) | inr k ↦ inr k ]
 ]
 
-pub listed_front : (z : ℕ) (ys : List ℕ) (x : ℕ) → is_listed z ys ≡ true → is_listed z (ys ++ x ∷ []) ≡ true
-listed_front z [] x h = absurd (true≢false (sym h))
-listed_front z (y ∷ ys) x h = elim (bool_cases (eqb y z)) [
+pub listed_preceding : (z : ℕ) (ys : List ℕ) (x : ℕ) → is_listed z ys ≡ true → is_listed z (ys ++ x ∷ []) ≡ true
+listed_preceding z [] x h = absurd (true≢false (sym h))
+listed_preceding z (y ∷ ys) x h = elim (bool_cases (eqb y z)) [
   | inl e ↦ listed_at y z (ys ++ x ∷ []) e
-  | inr e ↦ listed_more y z (ys ++ x ∷ []) (listed_front z ys x (listed_past y z ys e h))
+  | inr e ↦ listed_more y z (ys ++ x ∷ []) (listed_preceding z ys x (listed_past y z ys e h))
 ]
 
 pub listed_last : (ys : List ℕ) (x : ℕ) → is_listed x (ys ++ x ∷ []) ≡ true
@@ -62,11 +62,11 @@ module _ (t : Operation) (d : HasDistinctIds t) where
   ]
 
   -- the last entry of a list in reverse pre-order is the first in pre-order
-  pub falls_front : (ys : List ℕ) (x : ℕ) → Falls t (ys ++ x ∷ []) → Falls t ys × ((z : ℕ) → is_listed z ys ≡ true → precedes x z t ≡ true)
-  falls_front [] x f = (tt, λ z h. absurd (true≢false (sym h)))
-  falls_front (y ∷ ys) x f =
-      let r = falls_front ys x f.1 in (
-        (λ z h. f.0 z (listed_front z ys x h), r.0),
+  pub falls_preceding : (ys : List ℕ) (x : ℕ) → Falls t (ys ++ x ∷ []) → Falls t ys × ((z : ℕ) → is_listed z ys ≡ true → precedes x z t ≡ true)
+  falls_preceding [] x f = (tt, λ z h. absurd (true≢false (sym h)))
+  falls_preceding (y ∷ ys) x f =
+      let r = falls_preceding ys x f.1 in (
+        (λ z h. f.0 z (listed_preceding z ys x h), r.0),
         λ z h. elim (bool_cases (eqb y z)) [
           | inl e ↦ subst (λ w. precedes x w t ≡ true) (eqb-true y z e) (f.0 x (listed_last ys x))
           | inr e ↦ r.1 z (listed_past y z ys e h)
@@ -87,7 +87,7 @@ module _ (t : Operation) (d : HasDistinctIds t) where
       first = λ z h. false_from_ne_true (waits passed (ys ++ x ∷ []) t z) (λ v. elim (or_cases (precedes passed z t) (is_listed z (ys ++ x ∷ [])) v) [
         | inl e ↦ true≢false (sym (through passed z x e h) ∙ x_after)
         | inr e ↦ elim (listed_end z ys x e) [
-          | inl k ↦ not_both z x h ((falls_front ys x w.falls).1 z k)
+          | inl k ↦ not_both z x h ((falls_preceding ys x w.falls).1 z k)
           | inr k ↦ not_itself x (subst (λ v. precedes v x t ≡ true) k h)
         ]
       ]);
@@ -100,9 +100,9 @@ module _ (t : Operation) (d : HasDistinctIds t) where
       ];
       work = record {
         there = w.there;
-        inside = λ y h. w.inside y (listed_front y ys x h);
-        trailing = λ y h. w.trailing y (listed_front y ys x h);
-        falls = (falls_front ys x w.falls).0;
+        inside = λ y h. w.inside y (listed_preceding y ys x h);
+        trailing = λ y h. w.trailing y (listed_preceding y ys x h);
+        falls = (falls_preceding ys x w.falls).0;
       };
       nearby = inl refl;
       fewer = let n : length (ys ++ x ∷ []) ≡ length ys + 1 = length-end ys in omega (arith, n);
@@ -144,37 +144,37 @@ module _ (t : Operation) (d : HasDistinctIds t) where
   none_waits passed e z i = ap (λ b. b || false) (next_none passed z (ids t) e)
 
   -- an operation inserted into the list
-  pub listed_put : (z op : ℕ) (front back : List ℕ) → is_listed z (front ++ op ∷ back) ≡ true → (is_listed z (front ++ back) ≡ true) ⊎ (z ≡ op)
+  pub listed_put : (z op : ℕ) (preceding back : List ℕ) → is_listed z (preceding ++ op ∷ back) ≡ true → (is_listed z (preceding ++ back) ≡ true) ⊎ (z ≡ op)
   listed_put z op [] back h = elim (bool_cases (eqb op z)) [ inl e ↦ inr (sym (eqb-true op z e)) | inr e ↦ inl (listed_past op z back e h) ]
-  listed_put z op (y ∷ front) back h = elim (bool_cases (eqb y z)) [
-    | inl e ↦ inl (listed_at y z (front ++ back) e)
-    | inr e ↦ elim (listed_put z op front back (listed_past y z (front ++ op ∷ back) e h)) [ inl k ↦ inl (listed_more y z (front ++ back) k) | inr k ↦ inr k ]
+  listed_put z op (y ∷ preceding) back h = elim (bool_cases (eqb y z)) [
+    | inl e ↦ inl (listed_at y z (preceding ++ back) e)
+    | inr e ↦ elim (listed_put z op preceding back (listed_past y z (preceding ++ op ∷ back) e h)) [ inl k ↦ inl (listed_more y z (preceding ++ back) k) | inr k ↦ inr k ]
   ]
 
-  pub listed_still : (z op : ℕ) (front back : List ℕ) → is_listed z (front ++ back) ≡ true → is_listed z (front ++ op ∷ back) ≡ true
+  pub listed_still : (z op : ℕ) (preceding back : List ℕ) → is_listed z (preceding ++ back) ≡ true → is_listed z (preceding ++ op ∷ back) ≡ true
   listed_still z op [] back h = listed_more op z back h
-  listed_still z op (y ∷ front) back h = elim (bool_cases (eqb y z)) [
-    | inl e ↦ listed_at y z (front ++ op ∷ back) e
-    | inr e ↦ listed_more y z (front ++ op ∷ back) (listed_still z op front back (listed_past y z (front ++ back) e h))
+  listed_still z op (y ∷ preceding) back h = elim (bool_cases (eqb y z)) [
+    | inl e ↦ listed_at y z (preceding ++ op ∷ back) e
+    | inr e ↦ listed_more y z (preceding ++ op ∷ back) (listed_still z op preceding back (listed_past y z (preceding ++ back) e h))
   ]
 
-  pub listed_new : (op : ℕ) (front back : List ℕ) → is_listed op (front ++ op ∷ back) ≡ true
+  pub listed_new : (op : ℕ) (preceding back : List ℕ) → is_listed op (preceding ++ op ∷ back) ≡ true
   listed_new op [] back = listed_at op op back (eq-eqb op op refl)
-  listed_new op (y ∷ front) back = listed_more y op (front ++ op ∷ back) (listed_new op front back)
+  listed_new op (y ∷ preceding) back = listed_more y op (preceding ++ op ∷ back) (listed_new op preceding back)
 
-  listed_right : (z : ℕ) (front back : List ℕ) → is_listed z back ≡ true → is_listed z (front ++ back) ≡ true
+  listed_right : (z : ℕ) (preceding back : List ℕ) → is_listed z back ≡ true → is_listed z (preceding ++ back) ≡ true
   listed_right z [] back h = h
-  listed_right z (y ∷ front) back h = listed_more y z (front ++ back) (listed_right z front back h)
+  listed_right z (y ∷ preceding) back h = listed_more y z (preceding ++ back) (listed_right z preceding back h)
 
-  falls_right : (front back : List ℕ) → Falls t (front ++ back) → Falls t back
+  falls_right : (preceding back : List ℕ) → Falls t (preceding ++ back) → Falls t back
   falls_right [] back f = f
-  falls_right (y ∷ front) back f = falls_right front back f.1
+  falls_right (y ∷ preceding) back f = falls_right preceding back f.1
 
-  falls_put : (op : ℕ) (front back : List ℕ) → has_id op t ≡ true → ((z : ℕ) → is_listed z back ≡ true → has_id z t ≡ true) → Parted op t front back → (is_listed op back ≡ true → ⊥) → Falls t (front ++ back) → Falls t (front ++ op ∷ back)
+  falls_put : (op : ℕ) (preceding back : List ℕ) → has_id op t ≡ true → ((z : ℕ) → is_listed z back ≡ true → has_id z t ≡ true) → Parted op t preceding back → (is_listed op back ≡ true → ⊥) → Falls t (preceding ++ back) → Falls t (preceding ++ op ∷ back)
   falls_put op [] back h i p n f = (λ z k. elim (else_after op z h (i z k) (p.others z k)) [ inl s ↦ absurd (n (subst (λ w. is_listed w back ≡ true) (sym s) k)) | inr s ↦ s ], f)
-  falls_put op (y ∷ front) back h i p n f = (
-    λ z k. elim (listed_put z op front back k) [ inl e ↦ f.0 z e | inr e ↦ subst (λ w. precedes w y t ≡ true) (sym e) (p.later y (listed_at y y front (eq-eqb y y refl))) ],
-    falls_put op front back h i (record { later = λ z k. p.later z (listed_more y z front k); others = p.others }) n f.1,
+  falls_put op (y ∷ preceding) back h i p n f = (
+    λ z k. elim (listed_put z op preceding back k) [ inl e ↦ f.0 z e | inr e ↦ subst (λ w. precedes w y t ≡ true) (sym e) (p.later y (listed_at y y preceding (eq-eqb y y refl))) ],
+    falls_put op preceding back h i (record { later = λ z k. p.later z (listed_more y z preceding k); others = p.others }) n f.1,
   )
 
   -- an operation that comes before no entry of a list in reverse pre-order, and isn't its first entry, isn't in the
@@ -183,18 +183,18 @@ module _ (t : Operation) (d : HasDistinctIds t) where
   not_of op [] f o b k = true≢false (sym k)
   not_of op (y ∷ back) f o b k = true≢false (sym (f.0 op (listed_past y op back b k)) ∙ o y (listed_at y y back (eq-eqb y y refl)))
 
-  pub put_between : (passed op : ℕ) (front back : List ℕ) → IsWork passed (front ++ back) t → has_id op t ≡ true → precedes passed op t ≡ false → Parted op t front back → begins_with op back ≡ false → IsWork passed (front ++ op ∷ back) t
-  put_between passed op front back w h n p b = record {
+  pub put_between : (passed op : ℕ) (preceding back : List ℕ) → IsWork passed (preceding ++ back) t → has_id op t ≡ true → precedes passed op t ≡ false → Parted op t preceding back → begins_with op back ≡ false → IsWork passed (preceding ++ op ∷ back) t
+  put_between passed op preceding back w h n p b = record {
     there = w.there;
-    inside = λ z k. elim (listed_put z op front back k) [ inl e ↦ w.inside z e | inr e ↦ subst (λ v. has_id v t ≡ true) (sym e) h ];
-    trailing = λ z k. elim (listed_put z op front back k) [ inl e ↦ w.trailing z e | inr e ↦ subst (λ v. precedes passed v t ≡ false) (sym e) n ];
-    falls = falls_put op front back h (λ z k. w.inside z (listed_right z front back k)) p (not_of op back (falls_right front back w.falls) p.others b) w.falls;
+    inside = λ z k. elim (listed_put z op preceding back k) [ inl e ↦ w.inside z e | inr e ↦ subst (λ v. has_id v t ≡ true) (sym e) h ];
+    trailing = λ z k. elim (listed_put z op preceding back k) [ inl e ↦ w.trailing z e | inr e ↦ subst (λ v. precedes passed v t ≡ false) (sym e) n ];
+    falls = falls_put op preceding back h (λ z k. w.inside z (listed_right z preceding back k)) p (not_of op back (falls_right preceding back w.falls) p.others b) w.falls;
   }
 
   -- an operation that begins the second part waits
-  pub begins_listed : (op : ℕ) (front back : List ℕ) → begins_with op back ≡ true → is_listed op (front ++ back) ≡ true
-  begins_listed op front [] b = absurd (true≢false (sym b))
-  begins_listed op front (y ∷ back) b = listed_right op front (y ∷ back) (listed_at y op back b)
+  pub begins_listed : (op : ℕ) (preceding back : List ℕ) → begins_with op back ≡ true → is_listed op (preceding ++ back) ≡ true
+  begins_listed op preceding [] b = absurd (true≢false (sym b))
+  begins_listed op preceding (y ∷ back) b = listed_right op preceding (y ∷ back) (listed_at y op back b)
 
 -- the entry at an index
 listed_index : (xs : List ℕ) (i d : ℕ) → i < length xs → is_listed (slice_index_or xs i d) xs ≡ true
@@ -203,12 +203,12 @@ listed_index (x ∷ xs) zero d l = listed_at x x xs (eq-eqb x x refl)
 listed_index (x ∷ xs) (suc i) d l = listed_more x (slice_index_or xs i d) xs (listed_index xs i d (omega (arith, l)))
 
 -- a property of all entries before an index, and of all entries from the index on
-front_holds : (P : ℕ → Type 0) (xs : List ℕ) (i : ℕ) → AllWithin P xs 0 i → (z : ℕ) → is_listed z (take i xs) ≡ true → P z
-front_holds P xs zero a z h = absurd (true≢false (sym h))
-front_holds P [] (suc i) a z h = absurd (true≢false (sym h))
-front_holds P (x ∷ xs) (suc i) a z h = elim (bool_cases (eqb x z)) [
+preceding_holds : (P : ℕ → Type 0) (xs : List ℕ) (i : ℕ) → AllWithin P xs 0 i → (z : ℕ) → is_listed z (take i xs) ≡ true → P z
+preceding_holds P xs zero a z h = absurd (true≢false (sym h))
+preceding_holds P [] (suc i) a z h = absurd (true≢false (sym h))
+preceding_holds P (x ∷ xs) (suc i) a z h = elim (bool_cases (eqb x z)) [
   | inl e ↦ subst P (eqb-true x z e) (a 0 0 (omega arith) (omega arith))
-  | inr e ↦ front_holds P xs i (λ k d l u. a (suc k) d (omega arith) (omega (arith, u))) z (listed_past x z (take i xs) e h)
+  | inr e ↦ preceding_holds P xs i (λ k d l u. a (suc k) d (omega arith) (omega (arith, u))) z (listed_past x z (take i xs) e h)
 ]
 
 back_holds : (P : ℕ → Type 0) (xs : List ℕ) (i : ℕ) → AllWithin P xs i (length xs) → (z : ℕ) → is_listed z (drop i xs) ≡ true → P z
@@ -230,7 +230,7 @@ module _ (t : Operation) (d : HasDistinctIds t) (op : ℕ) where
   falls_parts (x ∷ xs) f (suc i) (suc j) e l u h = falls_parts xs f.1 i j e (omega (arith, l)) (omega (arith, u)) h
 
   pub parted_at : (xs : List ℕ) (i : ℕ) → IsPartitionPoint (λ z. precedes op z t ≡ true) (λ z. precedes op z t ≡ false) xs i → Parted op t (take i xs) (drop i xs)
-  parted_at xs i p = record { later = front_holds (λ z. precedes op z t ≡ true) xs i p.0; others = back_holds (λ z. precedes op z t ≡ false) xs i p.1 }
+  parted_at xs i p = record { later = preceding_holds (λ z. precedes op z t ≡ true) xs i p.0; others = back_holds (λ z. precedes op z t ≡ false) xs i p.1 }
 
 -- ---- after a rewrite
 abbrev pub there_in : Operation → ℕ → Bool

@@ -8,7 +8,7 @@ use Rattle.ir_event.specs.Modules.{Module}
 use Rattle.patterns.specs.RewriterCalls.{Benched, Led}
 
 -- the ids of the module are distinct and less than the next free id
-pub record Formed (m : Module) : Type 0 where
+pub record Wellformed (m : Module) : Type 0 where
   pub distinct : HasDistinctIds m.tree
   pub below : All (λ y. y < m.next) (ids m.tree)
 

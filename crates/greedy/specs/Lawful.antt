@@ -1,6 +1,6 @@
 -- The extra relation that the calls of a rewriter keep, for one call and for two in a row.
 use Rattle.std.proofs.Common.{ap, ℕ, ◌≤◌, List, ◌++◌, [], length, length-append, inl, inr, arith}
-use Rattle.ir_event.specs.types.Things.{ContextModel, IsExtendedBy, IsFront}
+use Rattle.ir_event.specs.types.Things.{ContextModel, IsExtendedBy, IsPreceding}
 use Rattle.ir_event.specs.types.Limits.{most_things}
 use Rattle.ir_types.proofs.Growth.{grows_refl, grows_trans}
 use Rattle.ir_event.specs.Listener.{Listener}
@@ -9,12 +9,12 @@ use Rattle.patterns.specs.runs.Interning.{IsFull}
 use Rattle.patterns.proofs.Notified.{notified_stays, notified_through}
 use Rattle.greedy.specs.Benches.{Onward}
 
-front_longer : {A : Type 0} (n : ℕ) (xs ys : List A) → IsFront xs ys → n ≤ length xs → n ≤ length ys
-front_longer n xs ys f l = let e = ap length f.1 in let a = length-append xs f.0 in omega (arith, l, e, a)
+preceding_longer : {A : Type 0} (n : ℕ) (xs ys : List A) → IsPreceding xs ys → n ≤ length xs → n ≤ length ys
+preceding_longer n xs ys f l = let e = ap length f.1 in let a = length-append xs f.0 in omega (arith, l, e, a)
 
 pub full_stays : (c d : ContextModel) → IsExtendedBy c d → IsFull c → IsFull d
-full_stays c d g (inl l) = inl (front_longer most_things c.types d.types g.types l)
-full_stays c d g (inr l) = inr (front_longer most_things c.attrs d.attrs g.attrs l)
+full_stays c d g (inl l) = inl (preceding_longer most_things c.types d.types g.types l)
+full_stays c d g (inr l) = inr (preceding_longer most_things c.attrs d.attrs g.attrs l)
 
 module _ {B : Type 0} (meaning : B → Listener) where
   pub onward_stays : (b : Benched B) → Onward meaning b b

@@ -89,5 +89,5 @@ abbrev pub IsOuter : World → Event → ℕ → Type 0
 IsOuter w e x = OneOf (IsClimbed w) (outer_ids e) x
 
 -- x is either of the two
-abbrev pub IsBeside : World → Event → ℕ → Type 0
-IsBeside w e x = GivesMoved w e x ⊎ IsOuter w e x
+abbrev pub IsNextTo : World → Event → ℕ → Type 0
+IsNextTo w e x = GivesMoved w e x ⊎ IsOuter w e x

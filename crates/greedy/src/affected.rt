@@ -45,7 +45,7 @@ fn any_puts_last(events: &[Event]) -> bool
 }
 
 /// Initial capacity of a list of operations near events.
-const ROOM: usize = 16;
+const HEADROOM: usize = 16;
 
 /// Returns the operations near the events. Those after `passed` in pre-order may be left out. If an event inserts an
 /// operation at the end of a block, the result is unspecified.
@@ -58,7 +58,7 @@ fn near(
     ensures { IfOk result (λ v. any_puts_last events.now ≡ false
         → ListsUpTo passed (shown_operands world.now.store) events.now v.items (module_in world.now).tree) }
 {
-    let mut ops = Vec::with_capacity(alloc, ROOM)?;
+    let mut ops = Vec::with_capacity(alloc, HEADROOM)?;
     push_all_reached(world, &mut ops, events)?;
     let reached = ops.len();
     push_seers_from(world, &mut ops, passed, 0)?;

@@ -70,7 +70,7 @@ impl<L: Analysis> GreedyRewriter for Bench<L> {
     ghost use Rattle.std.specs.Prelude.{length};
     ghost use Rattle.patterns.specs.Held.{module_at, module_held, open_marks};
     ghost use Rattle.patterns.specs.runs.Interning.{IsFull};
-    ghost use Rattle.greedy.specs.Benches.{Formed, Onward};
+    ghost use Rattle.greedy.specs.Benches.{Wellformed, Onward};
     ghost use Rattle.greedy.specs.Lawful.{full_stays, onward_stays, onward_through};
 
     ghost held = { λ b. module_held b.transaction };
@@ -83,7 +83,7 @@ impl<L: Analysis> GreedyRewriter for Bench<L> {
 
     ghost transaction = { λ b. b.transaction };
 
-    ghost formed = { Formed };
+    ghost wellformed = { Wellformed };
 
     ghost distinct = { λ m f. f.distinct };
 
@@ -99,12 +99,12 @@ impl<L: Analysis> GreedyRewriter for Bench<L> {
 
     ghost stays_full = { λ a b o f. full_stays a.transaction.ctx b.transaction.ctx o.grows f };
 
-    fn is_formed(&self) {
-        Bench::is_formed(self);
+    fn is_wellformed(&self) {
+        Bench::is_wellformed(self);
     }
 
     fn root(&self) -> OpId {
-        Bench::is_formed(self);
+        Bench::is_wellformed(self);
         self.world().store.root()
     }
 
@@ -113,22 +113,22 @@ impl<L: Analysis> GreedyRewriter for Bench<L> {
     }
 
     fn precedes(&self, op: OpId, other: OpId) -> bool {
-        Bench::is_formed(self);
+        Bench::is_wellformed(self);
         precedes(&self.world().store, op, other)
     }
 
     fn is_beyond(&self, op: OpId, other: OpId) -> bool {
-        Bench::is_formed(self);
+        Bench::is_wellformed(self);
         is_beyond(&self.world().store, op, other)
     }
 
     fn following(&self, op: OpId) -> Option<OpId> {
-        Bench::is_formed(self);
+        Bench::is_wellformed(self);
         following(&self.world().store, op)
     }
 
     fn preceding(&self, op: OpId) -> Option<OpId> {
-        Bench::is_formed(self);
+        Bench::is_wellformed(self);
         preceding(&self.world().store, op)
     }
 
@@ -147,7 +147,7 @@ impl<L: Analysis> GreedyRewriter for Bench<L> {
         op: OpId,
     ) -> Result<Option<Rule>, Refusal> {
         let rule = first_of(alloc, self, rules, op);
-        Bench::is_formed(self);
+        Bench::is_wellformed(self);
         match rule {
             Ok(rule) => Ok(rule),
             Err(refusal) => Err(refusal),
@@ -161,7 +161,7 @@ impl<L: Analysis> GreedyRewriter for Bench<L> {
         op: OpId,
     ) -> Result<Option<AppliedPattern>, Refusal> {
         let told = apply_first_pattern(alloc, self, candidates, op);
-        Bench::is_formed(self);
+        Bench::is_wellformed(self);
         match told {
             Ok(told) => Ok(told),
             Err(refusal) => Err(refusal),
@@ -176,9 +176,9 @@ impl<L: Analysis> GreedyRewriter for Bench<L> {
     }
 
     fn step(&mut self) -> Result<(), Refusal> {
-        Bench::is_formed(self);
+        Bench::is_wellformed(self);
         let made = Bench::step(self);
-        Bench::is_formed(self);
+        Bench::is_wellformed(self);
         match made {
             Ok(()) => Ok(()),
             Err(refusal) => Err(refusal),
@@ -187,12 +187,12 @@ impl<L: Analysis> GreedyRewriter for Bench<L> {
 
     fn commit(&mut self) {
         close_mark(self, true);
-        Bench::is_formed(self);
+        Bench::is_wellformed(self);
     }
 
     fn rollback(&mut self) {
         close_mark(self, false);
-        Bench::is_formed(self);
+        Bench::is_wellformed(self);
     }
 }
 
@@ -215,7 +215,7 @@ pub fn canonicalize<L: Analysis>(
         (λ _. Recorded [] bench.old.transaction bench.new.transaction) }
 {
     led_benches_are_kept::<L>();
-    bench.is_formed();
+    bench.is_wellformed();
     run(alloc, bench, limit)
 }
 
@@ -233,7 +233,7 @@ pub fn canonicalize_traced<L: Analysis, T: Tracer>(
     ensures trace { OnOk result
         (T.traced (trace_of (by_rules greedy_rules) limit (module_held bench.old.transaction)) trace.old trace.new) }
     ensures refused { IfErr result (λ e. IsReason limit (module_held bench.old.transaction) (IsFull bench.new.transaction.ctx) e) }
-    ensures room { IsFullSo (IsFull bench.new.transaction.ctx) (state_of L.meaning bench.old) (canonicalizing limit)
+    ensures headroom { IsFullSo (IsFull bench.new.transaction.ctx) (state_of L.meaning bench.old) (canonicalizing limit)
         (canonical_reply result) }
     ensures led { Led L.meaning bench.old bench.new }
     ensures grows { IsExtendedBy bench.old.transaction.ctx bench.new.transaction.ctx }
@@ -241,7 +241,7 @@ pub fn canonicalize_traced<L: Analysis, T: Tracer>(
         (λ _. Recorded [] bench.old.transaction bench.new.transaction) }
 {
     led_benches_are_kept::<L>();
-    bench.is_formed();
+    bench.is_wellformed();
     run_traced(alloc, bench, limit, trace)
 }
 
@@ -260,7 +260,7 @@ pub fn rewrite<L: Analysis>(
     ensures does { Does L.meaning (Change (rewriting (by_rules rules.now) limit)) (canonical_reply result) bench.old bench.new }
     ensures refused { IfErr result
         (λ e. IsReasonBy (by_rules rules.now) limit (module_held bench.old.transaction) (IsFull bench.new.transaction.ctx) e) }
-    ensures room { IsFullSo (IsFull bench.new.transaction.ctx) (state_of L.meaning bench.old) (rewriting (by_rules rules.now) limit)
+    ensures headroom { IsFullSo (IsFull bench.new.transaction.ctx) (state_of L.meaning bench.old) (rewriting (by_rules rules.now) limit)
         (canonical_reply result) }
     ensures led { Led L.meaning bench.old bench.new }
     ensures grows { IsExtendedBy bench.old.transaction.ctx bench.new.transaction.ctx }
@@ -268,7 +268,7 @@ pub fn rewrite<L: Analysis>(
         (λ _. Recorded [] bench.old.transaction bench.new.transaction) }
 {
     led_benches_are_kept::<L>();
-    bench.is_formed();
+    bench.is_wellformed();
     run_list(alloc, bench, rules, limit)
 }
 
@@ -288,7 +288,7 @@ pub fn rewrite_traced<L: Analysis, T: Tracer>(
     ensures trace { OnOk result (T.traced (trace_of (by_rules rules.now) limit (module_held bench.old.transaction)) trace.old trace.new) }
     ensures refused { IfErr result
         (λ e. IsReasonBy (by_rules rules.now) limit (module_held bench.old.transaction) (IsFull bench.new.transaction.ctx) e) }
-    ensures room { IsFullSo (IsFull bench.new.transaction.ctx) (state_of L.meaning bench.old) (rewriting (by_rules rules.now) limit)
+    ensures headroom { IsFullSo (IsFull bench.new.transaction.ctx) (state_of L.meaning bench.old) (rewriting (by_rules rules.now) limit)
         (canonical_reply result) }
     ensures led { Led L.meaning bench.old bench.new }
     ensures grows { IsExtendedBy bench.old.transaction.ctx bench.new.transaction.ctx }
@@ -296,7 +296,7 @@ pub fn rewrite_traced<L: Analysis, T: Tracer>(
         (λ _. Recorded [] bench.old.transaction bench.new.transaction) }
 {
     led_benches_are_kept::<L>();
-    bench.is_formed();
+    bench.is_wellformed();
     run_list_traced(alloc, bench, rules, limit, trace)
 }
 
@@ -320,7 +320,7 @@ pub fn rewrite_with_patterns_traced<L: Analysis, T: Tracer>(
         (trace_of (by_attempts (patterns_of candidates.now)) limit (module_held bench.old.transaction)) trace.old trace.new) }
     ensures refused { IfErr result (λ e. IsReasonBy (by_attempts (patterns_of candidates.now)) limit
         (module_held bench.old.transaction) (IsFull bench.new.transaction.ctx) e) }
-    ensures room { IsFullSo (IsFull bench.new.transaction.ctx) (state_of L.meaning bench.old)
+    ensures headroom { IsFullSo (IsFull bench.new.transaction.ctx) (state_of L.meaning bench.old)
         (rewriting (by_attempts (patterns_of candidates.now)) limit) (canonical_reply result) }
     ensures led { Led L.meaning bench.old bench.new }
     ensures grows { IsExtendedBy bench.old.transaction.ctx bench.new.transaction.ctx }
@@ -328,7 +328,7 @@ pub fn rewrite_with_patterns_traced<L: Analysis, T: Tracer>(
         (λ _. Recorded [] bench.old.transaction bench.new.transaction) }
 {
     led_benches_are_kept::<L>();
-    bench.is_formed();
+    bench.is_wellformed();
     run_list_of_patterns_traced(alloc, bench, candidates, limit, trace)
 }
 
@@ -346,7 +346,7 @@ pub fn rewrite_with_patterns<L: Analysis>(
         (canonical_reply result) bench.old bench.new }
     ensures refused { IfErr result (λ e. IsReasonBy (by_attempts (patterns_of candidates.now)) limit
         (module_held bench.old.transaction) (IsFull bench.new.transaction.ctx) e) }
-    ensures room { IsFullSo (IsFull bench.new.transaction.ctx) (state_of L.meaning bench.old)
+    ensures headroom { IsFullSo (IsFull bench.new.transaction.ctx) (state_of L.meaning bench.old)
         (rewriting (by_attempts (patterns_of candidates.now)) limit) (canonical_reply result) }
     ensures led { Led L.meaning bench.old bench.new }
     ensures grows { IsExtendedBy bench.old.transaction.ctx bench.new.transaction.ctx }

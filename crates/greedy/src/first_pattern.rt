@@ -34,7 +34,7 @@ fn attempt_own<L: Analysis>(
     ensures stays { IsApplied L.meaning bench.old bench.new }
     ensures journal { JournalAfter L.meaning result bench.old bench.new }
 {
-    bench.is_formed();
+    bench.is_wellformed();
     if !is_shallow(pattern) {
         return Ok(false);
     }
@@ -96,13 +96,13 @@ pub(crate) fn apply_first_pattern<L: Analysis>(
     ensures journal { OnOk result (Journaled L.meaning bench.old bench.new) }
     ensures noted { Noted bench.old.transaction bench.new.transaction }
 {
-    bench.is_formed();
+    bench.is_wellformed();
     let mut place = 0;
     let mut rest = candidates;
     'candidates: while let [first, tail @ ..] = rest {
         let told = applied_pattern(place, first);
         let done = apply_pattern(alloc, bench, first, op);
-        bench.is_formed();
+        bench.is_wellformed();
         match done {
             Ok(true) => return Ok(Some(told)),
             Ok(false) => {}

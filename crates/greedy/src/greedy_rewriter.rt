@@ -46,11 +46,11 @@ pub trait GreedyRewriter {
     ghost transaction: { Self → TransactionModel };
 
     /// Says that the ids of a module are distinct and less than the next free id.
-    ghost formed: { Module → Type 0 };
+    ghost wellformed: { Module → Type 0 };
 
-    ghost distinct: { (m : Module) → formed m → HasDistinctIds m.tree };
+    ghost distinct: { (m : Module) → wellformed m → HasDistinctIds m.tree };
 
-    ghost below: { (m : Module) → formed m → All (λ y. y < m.next) (ids m.tree) };
+    ghost below: { (m : Module) → wellformed m → All (λ y. y < m.next) (ids m.tree) };
 
     /// An extra relation that each call keeps between the old and the new state. For a rewriter, the relation says
     /// that the listeners were notified of every event between the two modules.
@@ -66,8 +66,8 @@ pub trait GreedyRewriter {
     ghost stays_full: { (a b : Self) → onward a b → full a → full b };
 
     /// Proves that the current module satisfies `formed`. It does nothing.
-    fn is_formed(&self)
-        ensures { formed (held self.now) };
+    fn is_wellformed(&self)
+        ensures { wellformed (held self.now) };
 
     /// Returns the root operation.
     fn root(&self) -> OpId

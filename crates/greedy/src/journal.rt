@@ -36,7 +36,7 @@ pub fn touched<L: Analysis>(
     ensures ok { IfOk result (λ v. TouchedUpTo passed (module_at from bench.now.transaction) (module_held bench.now.transaction) v.items) }
     ensures refused { IfErr result (λ e. e ≡ NoMemory) }
 {
-    bench.is_formed();
+    bench.is_wellformed();
     touched_by(
         alloc,
         bench.world(),

@@ -2,7 +2,7 @@
 //! the operations around the places of the events.
 ghost use Rattle.std.specs.Prelude.{OnOk, ◌⊎◌};
 ghost use Rattle.greedy.specs.Adding.{Adds, OneOf};
-ghost use Rattle.greedy.specs.Parts.{Gives, GivesMoved, GivesUnused, IsBeside};
+ghost use Rattle.greedy.specs.Parts.{Gives, GivesMoved, GivesUnused, IsNextTo};
 ghost use Rattle.greedy.specs.Shown.{shown_operands};
 
 use crate::parents::push_parents;
@@ -107,8 +107,8 @@ fn push_moved(world: &World, ops: &mut Vec<OpId>, event: &Event) -> Result<(), A
 
 /// Pushes the defining operations of the values that gain a use or lose their last use in an event, and the operations
 /// around its places.
-fn push_beside(world: &World, ops: &mut Vec<OpId>, event: &Event) -> Result<(), AllocError>
-    ensures { OnOk result (Adds (IsBeside world.now event.now) ops.old.items ops.new.items) }
+fn push_next_to(world: &World, ops: &mut Vec<OpId>, event: &Event) -> Result<(), AllocError>
+    ensures { OnOk result (Adds (IsNextTo world.now event.now) ops.old.items ops.new.items) }
 {
     push_moved(world, ops, event)?;
     push_parents(world, ops, event)
@@ -121,11 +121,11 @@ pub(crate) fn push_neighbours(
     ops: &mut Vec<OpId>,
     events: &[Event],
 ) -> Result<(), AllocError>
-    ensures { OnOk result (Adds (OneOf (IsBeside world.now) events.now) ops.old.items ops.new.items) }
+    ensures { OnOk result (Adds (OneOf (IsNextTo world.now) events.now) ops.old.items ops.new.items) }
 {
     let mut rest = events;
     'events: while let [event, tail @ ..] = rest {
-        push_beside(world, ops, event)?;
+        push_next_to(world, ops, event)?;
         rest = tail;
     }
     Ok(())

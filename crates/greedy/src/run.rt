@@ -129,7 +129,7 @@ fn one<R: GreedyRewriter>(
 {
     let mut last = work.passed;
     'waiting: while let Some(op) = pop(bench, work) {
-        bench.is_formed();
+        bench.is_wellformed();
         let passed = last;
         last = work.passed;
         if let Some(before) = preceding_of(bench, passed, last, op) {
@@ -256,7 +256,7 @@ fn rewritten<R: GreedyRewriter, T: Tracer>(
     ensures journal { Noted (R.transaction bench.old) (R.transaction bench.new) }
     ensures onward { R.onward bench.old bench.new }
 {
-    bench.is_formed();
+    bench.is_wellformed();
     let mut work = Worklist {
         passed: bench.root(),
         again: Vec::new(alloc),

@@ -40,7 +40,7 @@ pub(crate) fn pop<R: GreedyRewriter>(bench: &R, work: &mut Worklist) -> Option<O
         (λ x. Taken x work.old.passed work.old.again.items work.new.passed work.new.again.items
         (R.held bench.now).tree) }
 {
-    bench.is_formed();
+    bench.is_wellformed();
     if let Some(op) = work.again.pop() {
         return Some(op);
     }
@@ -58,7 +58,7 @@ fn trailing<R: GreedyRewriter>(bench: &R, again: &[OpId], op: OpId) -> usize
     ensures bound { result ≤ length again.now }
     ensures parted { Parted op (R.held bench.now).tree (take result again.now) (drop result again.now) }
 {
-    bench.is_formed();
+    bench.is_wellformed();
     again.partition_point(
         |other: &OpId| -> bool
             ensures { result ≡ precedes op other.now (R.held bench.entry.now).tree }
@@ -81,7 +81,7 @@ fn is_at(again: &[OpId], place: usize, op: OpId) -> bool
 fn is_to_come<R: GreedyRewriter>(bench: &R, work: &Worklist, op: OpId) -> bool
     ensures { result ≡ precedes work.now.passed op (R.held bench.now).tree }
 {
-    bench.is_formed();
+    bench.is_wellformed();
     if work.passed == op {
         return false;
     }
@@ -103,7 +103,7 @@ pub(crate) fn push<R: GreedyRewriter>(
         (R.held bench.now).tree work.new.passed work.new.again.items (R.held bench.now).tree }
     ensures refused { IfErr result (λ e. e ≡ NoMemory) }
 {
-    bench.is_formed();
+    bench.is_wellformed();
     if !bench.in_tree(op) {
         return Ok(());
     }
@@ -125,7 +125,7 @@ pub(crate) fn is_apart<R: GreedyRewriter>(bench: &R, work: &Worklist, op: OpId) 
     requires { Falls (R.held bench.now).tree work.now.again.items }
     ensures { result ≡ true → AreApart op work.now.again.items (R.held bench.now).tree }
 {
-    bench.is_formed();
+    bench.is_wellformed();
     match work.again.last() {
         None => true,
         Some(first) => bench.is_beyond(op, *first),

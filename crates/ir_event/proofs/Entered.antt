@@ -31,7 +31,7 @@ use Rattle.ir_store.proofs.of_tree_laws.Reasoned.{NoEntryReason, no_entry_reason
 use Rattle.ir_event.specs.declared.event.Event.TheVariants.{SetEntry}
 use Rattle.ir_event.specs.Modules.{Module, module_meaning}
 use Rattle.ir_event.specs.Step.{IsAttrOrNone, Step}
-use Rattle.ir_event.proofs.Steps.{formed_meaning, sorted_meaning}
+use Rattle.ir_event.proofs.Steps.{wellformed_meaning, sorted_meaning}
 
 -- an entry of a dictionary passes the test that all its entries pass
 entry_passed : {N A : Type 0} (n : N → Bool) (q : A → Bool) (before : N → N → Bool) (k : N) (a : A) (es : List (N × A)) → list_all (entry_passes n q) es ≡ true → entry_at before k es ≡ Some a → q a ≡ true
@@ -82,7 +82,7 @@ entry_steps c x part k a m w sound key attr e = (
   there,
   record {
     before = before;
-    after = formed_meaning c n (entry_keeps (isolated_in c) (key_before_in c) (key_before_trans c) x part k a m w sound.sorted e);
+    after = wellformed_meaning c n (entry_keeps (isolated_in c) (key_before_in c) (key_before_trans c) x part k a m w sound.sorted e);
     sorted_before = sorted_meaning c m sound;
     sorted_after = sorted_meaning c n (entry_sound c x part k a m.tree (key_is c k key) (attr_is c a attr) sound);
     numbers = (key, (attr_there c x part k m.tree r.here sound r.found old refl, attr));
@@ -104,7 +104,7 @@ entry_steps c x part k a m w sound key attr e = (
     there = ap (option_map (λ (o : Op). entry_at (key_before_in c) k (part_of part (head o)))) r.found
 
     before : IsWellFormed is_isolated (module_meaning c m)
-    before = formed_meaning c m w
+    before = wellformed_meaning c m w
 
     after : Module
     after = record (module_meaning c m) { tree = with_entry key_before x part (name_term c k) (option_map (attr_term c) a) (meaning c m.tree) }

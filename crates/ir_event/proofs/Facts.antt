@@ -10,7 +10,7 @@ pub found_id : (x : ℕ) (t o : Operation) → find x t ≡ Some o → (head o).
 found_id x t o f = let r = found_stands x t o f in ap (λ (q : Operation). (head q).id) (sym r.3) ∙ r.2
 
 module _ {N T A : Type 0} where
-  pub joined_more : (front : List (OpOf N T A)) (o : OpOf N T A) (os : OpsOf N T A) → joined_ops front (next o os) ≡ joined_ops (front ++ o ∷ []) os
+  pub joined_more : (preceding : List (OpOf N T A)) (o : OpOf N T A) (os : OpsOf N T A) → joined_ops preceding (next o os) ≡ joined_ops (preceding ++ o ∷ []) os
   joined_more [] o os = refl
   joined_more (f ∷ fs) o os = ap (next f) (joined_more fs o os)
 

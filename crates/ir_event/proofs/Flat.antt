@@ -86,9 +86,9 @@ module _ {N T A : Type 0} where
     ops_found_head x (next o os) = mapped_first (find x o) (ops_find x os) ∙ (λ i. first_of (found_head x o i) (ops_found_head x os i)) ∙ sym (first_joined x (heads o) (ops_heads os))
 
   -- a property of the heads of two lists
-  all_front : (P : HeadOf N T A → Type 0) (hs gs : List (HeadOf N T A)) → AllByRecursion P (hs ++ gs) → AllByRecursion P hs
-  all_front P [] gs a = tt
-  all_front P (h ∷ hs) gs a = (a.0, all_front P hs gs a.1)
+  all_preceding : (P : HeadOf N T A → Type 0) (hs gs : List (HeadOf N T A)) → AllByRecursion P (hs ++ gs) → AllByRecursion P hs
+  all_preceding P [] gs a = tt
+  all_preceding P (h ∷ hs) gs a = (a.0, all_preceding P hs gs a.1)
 
   all_back : (P : HeadOf N T A → Type 0) (hs gs : List (HeadOf N T A)) → AllByRecursion P (hs ++ gs) → AllByRecursion P gs
   all_back P [] gs a = a
@@ -105,7 +105,7 @@ module _ {N T A : Type 0} where
 
       regions_each_left : (rs : RegionsOf N T A) → AllByRecursion IsLeft (regions_heads rs) → regions_each_head f rs ≡ rs
       regions_each_left no_regions a = refl
-      regions_each_left (region r rs) a = λ i. region (region_each_left r (all_front IsLeft (region_heads r) (regions_heads rs) a) i) (regions_each_left rs (all_back IsLeft (region_heads r) (regions_heads rs) a) i)
+      regions_each_left (region r rs) a = λ i. region (region_each_left r (all_preceding IsLeft (region_heads r) (regions_heads rs) a) i) (regions_each_left rs (all_back IsLeft (region_heads r) (regions_heads rs) a) i)
 
       region_each_left : (r : RegionOf N T A) → AllByRecursion IsLeft (region_heads r) → region_each_head f r ≡ r
       region_each_left empty a = refl
@@ -113,7 +113,7 @@ module _ {N T A : Type 0} where
 
       ops_each_left : (os : OpsOf N T A) → AllByRecursion IsLeft (ops_heads os) → ops_each_head f os ≡ os
       ops_each_left no_ops a = refl
-      ops_each_left (next o os) a = λ i. next (each_left o (all_front IsLeft (heads o) (ops_heads os) a) i) (ops_each_left os (all_back IsLeft (heads o) (ops_heads os) a) i)
+      ops_each_left (next o os) a = λ i. next (each_left o (all_preceding IsLeft (heads o) (ops_heads os) a) i) (ops_each_left os (all_back IsLeft (heads o) (ops_heads os) a) i)
 
   -- if ids are distinct, a property of the found operation is a property of each operation with its id
   none_else : (P : HeadOf N T A → Type 0) (x y : ℕ) → eqb y x ≡ true → (hs : List (HeadOf N T A)) → AllByRecursion (λ z. eqb y z ≡ false) (map (λ (h : HeadOf N T A). h.id) hs) → AllByRecursion (λ h. eqb h.id x ≡ true → P h) hs

@@ -17,15 +17,15 @@ use Rattle.ir_store.specs.Calls.{Loaded, after_operand}
 use Rattle.ir_event.specs.declared.event.Event.{Event}
 use Rattle.ir_event.specs.Facts.{HeldIsSound}
 use Rattle.ir_event.specs.Modules.{module_meaning}
-use Rattle.ir_event.proofs.Steps.{formed_meaning, formed_numbers}
+use Rattle.ir_event.proofs.Steps.{wellformed_meaning, wellformed_numbers}
 
 -- a module has the same meaning in an extended context
 pub module_stays : (c d : ContextModel) (m : Numbered) → Holds c → IsExtendedBy c d → IsSoundIn c m.tree → module_meaning d m ≡ module_meaning c m
 module_stays c d m holds g s = λ i. record { tree = stable c d m.tree holds g s i; next = m.next }
 
 -- and is well-formed there
-pub formed_stays : (c d : ContextModel) (m : Numbered) → Holds c → IsExtendedBy c d → IsSoundIn c m.tree → IsWellFormed (isolated_in c) m → IsWellFormed (isolated_in d) m
-formed_stays c d m holds g s w = formed_numbers d m (subst (IsWellFormed is_isolated) (sym (module_stays c d m holds g s)) (formed_meaning c m w))
+pub wellformed_stays : (c d : ContextModel) (m : Numbered) → Holds c → IsExtendedBy c d → IsSoundIn c m.tree → IsWellFormed (isolated_in c) m → IsWellFormed (isolated_in d) m
+wellformed_stays c d m holds g s w = wellformed_numbers d m (subst (IsWellFormed is_isolated) (sym (module_stays c d m holds g s)) (wellformed_meaning c m w))
 
 pub held_stays : (c d : ContextModel) (held : finmap.FinMap nat_cmp Op) → IsExtendedBy c d → HeldIsSound c held → HeldIsSound d held
 held_stays c d held g h x o e = stays_sound c d o g (h x o e)

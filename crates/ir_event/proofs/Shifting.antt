@@ -32,8 +32,8 @@ module _ (c : ContextModel) (x : ℕ) (place : Place) (s u : Stored) where
   shifts_at w e = shift_changes (isolated_in c) (λ n. is_table (name_term c n)) x place s.module_of w.distinct e
 
   -- the moved operation had a place
-  pub stood : IsWellFormed (isolated_in c) s.module_of → reason ≡ None → place_of x s.module_of.tree ≡ None → ⊥
-  stood w e none = let t = shifts_at w e in (let bad : None ≡ Some t.0 = sym none ∙ t.1.was in absurd cc)
+  pub located : IsWellFormed (isolated_in c) s.module_of → reason ≡ None → place_of x s.module_of.tree ≡ None → ⊥
+  located w e none = let t = shifts_at w e in (let bad : None ≡ Some t.0 = sym none ∙ t.1.was in absurd cc)
 
   pub sound_after : (r : Result Event Refusal) → OnOk r (u ≡ after_shift x place s) → OnErr r (u ≡ s) → IsSoundIn c s.module_of.tree → IsSoundIn c u.module_of.tree
   sound_after (Ok e) is err own = subst (λ (v : Stored). IsSoundIn c v.module_of.tree) (sym is) (shifted_sound c x place s.module_of.tree own)

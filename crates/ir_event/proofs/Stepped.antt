@@ -15,7 +15,7 @@ use Rattle.ir_store.proofs.of_tree_laws.Changed.{put_changes, take_changes, shif
 use Rattle.ir_event.specs.declared.event.Event.TheVariants.{Put, Take, Shift}
 use Rattle.ir_event.specs.Modules.{module_meaning}
 use Rattle.ir_event.specs.Step.{Step}
-use Rattle.ir_event.proofs.Steps.{formed_meaning, sorted_meaning}
+use Rattle.ir_event.proofs.Steps.{wellformed_meaning, sorted_meaning}
 use Rattle.ir_event.proofs.Sounds.{renamed_sound, shifted_sound}
 use Rattle.ir_event.proofs.Mapped.{takes_mapped, shifts_mapped}
 
@@ -24,8 +24,8 @@ pub put_steps : (c : ContextModel) (place : Place) (o : Op) (m : Numbered) → I
 put_steps c place o m w sound own leaf e =
     let n : Numbered = record { tree = put place (with_id m.next o) m.tree; next = m.next + 1 } in
     record {
-      before = formed_meaning c m w;
-      after = formed_meaning c n (put_keeps (isolated_in c) place o m w leaf e);
+      before = wellformed_meaning c m w;
+      after = wellformed_meaning c n (put_keeps (isolated_in c) place o m w leaf e);
       sorted_before = sorted_meaning c m sound;
       sorted_after = sorted_meaning c n (put_sound c place (with_id m.next o) m.tree (renamed_sound c m.next o own) sound);
       numbers = tt;
@@ -38,8 +38,8 @@ take_steps c x m w sound e =
     let t = take_changes x false m n w.distinct e refl refl in (
       t.0,
       record {
-        before = formed_meaning c m w;
-        after = formed_meaning c n (take_keeps (isolated_in c) x m w e);
+        before = wellformed_meaning c m w;
+        after = wellformed_meaning c n (take_keeps (isolated_in c) x m w e);
         sorted_before = sorted_meaning c m sound;
         sorted_after = sorted_meaning c n (without_sound c x m.tree sound);
         numbers = tt;
@@ -54,8 +54,8 @@ shift_steps c x place m w sound e =
     let s = shift_changes (isolated_in c) (λ n. is_table (name_term c n)) x place m w.distinct e in (
       s.0,
       record {
-        before = formed_meaning c m w;
-        after = formed_meaning c n (shift_keeps (isolated_in c) (λ n. is_table (name_term c n)) x place m w e);
+        before = wellformed_meaning c m w;
+        after = wellformed_meaning c n (shift_keeps (isolated_in c) (λ n. is_table (name_term c n)) x place m w e);
         sorted_before = sorted_meaning c m sound;
         sorted_after = sorted_meaning c n (shifted_sound c x place m.tree sound);
         numbers = tt;

@@ -30,8 +30,8 @@ use Rattle.ir_event.proofs.Extra.{step_extra, steps_extra}
 use Rattle.ir_event.proofs.Operands.{undone, set_there}
 
 -- the meaning of a well-formed module is well-formed
-pub formed_meaning : (c : ContextModel) (m : Numbered) → IsWellFormed (isolated_in c) m → IsWellFormed is_isolated (module_meaning c m)
-formed_meaning c m w =
+pub wellformed_meaning : (c : ContextModel) (m : Numbered) → IsWellFormed (isolated_in c) m → IsWellFormed is_isolated (module_meaning c m)
+wellformed_meaning c m w =
     let f = name_term c in
     let g = type_term c in
     let h = attr_term c in
@@ -39,16 +39,16 @@ formed_meaning c m w =
       distinct = subst (IsDistinct eqb) (sym (map_ids f g h m.tree)) w.distinct;
       below = subst (All (λ x. x < m.next)) (sym (map_ids f g h m.tree)) w.below;
       next = w.next;
-      formed = record {
-        visible = subst IsTrue (sym (map_operands_visible f g h is_isolated m.tree)) w.formed.visible;
-        shallow = subst (λ n. n ≤ most_around) (sym (map_depth f g h m.tree)) w.formed.shallow;
-        counts = subst IsTrue (sym (map_counts f g h m.tree)) w.formed.counts;
+      wellformed = record {
+        visible = subst IsTrue (sym (map_operands_visible f g h is_isolated m.tree)) w.wellformed.visible;
+        shallow = subst (λ n. n ≤ most_around) (sym (map_depth f g h m.tree)) w.wellformed.shallow;
+        counts = subst IsTrue (sym (map_counts f g h m.tree)) w.wellformed.counts;
       };
     }
 
 -- a module of ids is well-formed if its meaning is
-pub formed_numbers : (c : ContextModel) (m : Numbered) → IsWellFormed is_isolated (module_meaning c m) → IsWellFormed (isolated_in c) m
-formed_numbers c m w =
+pub wellformed_numbers : (c : ContextModel) (m : Numbered) → IsWellFormed is_isolated (module_meaning c m) → IsWellFormed (isolated_in c) m
+wellformed_numbers c m w =
     let f = name_term c in
     let g = type_term c in
     let h = attr_term c in
@@ -56,10 +56,10 @@ formed_numbers c m w =
       distinct = subst (IsDistinct eqb) (map_ids f g h m.tree) w.distinct;
       below = subst (All (λ x. x < m.next)) (map_ids f g h m.tree) w.below;
       next = w.next;
-      formed = record {
-        visible = sym (map_operands_visible f g h is_isolated m.tree) ∙ w.formed.visible;
-        shallow = (let e = map_depth f g h m.tree in let k = w.formed.shallow in omega (arith, e, k));
-        counts = sym (map_counts f g h m.tree) ∙ w.formed.counts;
+      wellformed = record {
+        visible = sym (map_operands_visible f g h is_isolated m.tree) ∙ w.wellformed.visible;
+        shallow = (let e = map_depth f g h m.tree in let k = w.wellformed.shallow in omega (arith, e, k));
+        counts = sym (map_counts f g h m.tree) ∙ w.wellformed.counts;
       };
     }
 
@@ -84,8 +84,8 @@ pub operand_steps : (c : ContextModel) (x k : ℕ) (old new : Value) (m : Number
 operand_steps c x k old new m w v sound e =
     let edited : (a : Value) (t : Op) → with_operand x k a (meaning c t) ≡ meaning c (with_operand x k a t) = λ a t. map_with_operand (name_term c) (type_term c) (attr_term c) x k a t in
     record {
-      before = formed_meaning c m w;
-      after = formed_meaning c (record m { tree = with_operand x k new m.tree }) v;
+      before = wellformed_meaning c m w;
+      after = wellformed_meaning c (record m { tree = with_operand x k new m.tree }) v;
       sorted_before = sorted_meaning c m sound;
       sorted_after = sorted_meaning c (record m { tree = with_operand x k new m.tree }) (operand_sound c x k new m.tree sound);
       numbers = tt;

@@ -61,9 +61,9 @@ module _ (c : ContextModel) (x : ℕ) (s u : Stored) where
   sound_after (Ok _) is sound = subst (λ (v : Stored). IsSoundIn c v.module_of.tree) (sym is.1) (without_sound c x s.module_of.tree sound)
   sound_after (Err e) is sound = subst (λ (v : Stored). IsSoundIn c v.module_of.tree) (sym is.1) sound
 
-  pub formed_after : (r : Result (Unit {0}) Refusal) → IsTaken r → IsWellFormed (isolated_in c) s.module_of → IsWellFormed (isolated_in c) u.module_of
-  formed_after (Ok _) is w = subst (λ (v : Stored). IsWellFormed (isolated_in c) v.module_of) (sym is.1) (take_keeps (isolated_in c) x s.module_of w is.0)
-  formed_after (Err e) is w = subst (λ (v : Stored). IsWellFormed (isolated_in c) v.module_of) (sym is.1) w
+  pub wellformed_after : (r : Result (Unit {0}) Refusal) → IsTaken r → IsWellFormed (isolated_in c) s.module_of → IsWellFormed (isolated_in c) u.module_of
+  wellformed_after (Ok _) is w = subst (λ (v : Stored). IsWellFormed (isolated_in c) v.module_of) (sym is.1) (take_keeps (isolated_in c) x s.module_of w is.0)
+  wellformed_after (Err e) is w = subst (λ (v : Stored). IsWellFormed (isolated_in c) v.module_of) (sym is.1) w
 
   pub held_after : (r : Result (Unit {0}) Refusal) → IsTaken r → IsSoundIn c s.module_of.tree → HeldIsSound c s.held → HeldIsSound c u.held
   held_after (Ok _) is sound h = subst (λ (v : Stored). HeldIsSound c v.held) (sym is.1) (hold_sound c x (find x s.module_of.tree) s.held (λ o e. found_sound c x s.module_of.tree o sound e) h)
@@ -73,8 +73,8 @@ module _ (c : ContextModel) (x : ℕ) (s u : Stored) where
   taken_at w e = take_changes x false s.module_of (after_take x s).module_of w.distinct e refl refl
 
   -- the removed operation had a place
-  pub stood : IsWellFormed (isolated_in c) s.module_of → take_reason x s.module_of.tree ≡ None → place_of x s.module_of.tree ≡ None → ⊥
-  stood w e none = let t = taken_at w e in (let bad : None ≡ Some t.0 = sym none ∙ t.1.there in absurd cc)
+  pub located : IsWellFormed (isolated_in c) s.module_of → take_reason x s.module_of.tree ≡ None → place_of x s.module_of.tree ≡ None → ⊥
+  located w e none = let t = taken_at w e in (let bad : None ≡ Some t.0 = sym none ∙ t.1.there in absurd cc)
 
   pub take_step : (place : Place) → place_of x s.module_of.tree ≡ Some place → take_reason x s.module_of.tree ≡ None → u ≡ after_take x s → IsWellFormed (isolated_in c) s.module_of → IsSoundIn c s.module_of.tree
       → Step c (Take x place false) (module_meaning c s.module_of) (module_meaning c u.module_of)

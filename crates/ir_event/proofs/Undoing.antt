@@ -38,7 +38,7 @@ use Rattle.ir_event.specs.Modules.{Module, module_meaning}
 use Rattle.ir_event.specs.Step.{Changes, EventIsOf, IsAttrOrNone, Step, inverse_of}
 use Rattle.ir_event.proofs.Nodes.{node_known}
 use Rattle.ir_event.proofs.Sounds.{found_sound, shifted_sound}
-use Rattle.ir_event.proofs.Steps.{formed_numbers}
+use Rattle.ir_event.proofs.Steps.{wellformed_numbers}
 use Rattle.ir_event.proofs.Maps.{eq_nat}
 use Rattle.ir_event.proofs.Taking.{hold_sound, still_shown}
 use Rattle.ir_event.proofs.Undone.{put_undone, take_undone, operand_undone, entry_undone, shift_undone, relink_undone}
@@ -125,7 +125,7 @@ module _ (c : ContextModel) (s : Stored) where
     point = m.point;
     values = λ q f. (let two : Some o ≡ Some q = sym e ∙ f in let one : o ≡ q = cc in subst (λ (z : Op). list_all (λ v. has_value v s.module_of.tree) (head z).operands ≡ true) one m.values);
     newest = m.newest;
-    room = m.room;
+    headroom = m.headroom;
     below = m.below;
   }
 
@@ -156,8 +156,8 @@ module _ (c : ContextModel) (s : Stored) where
   led_back (Shift x old new) p f = (shift_undone c x old new p s.module_of f.step).1
 
   -- well-formed modules stay well-formed
-  pub undone_formed : (e : Event) (p : Module) → CameFrom c e p s → IsWellFormed (isolated_in c) (undone c e s).module_of
-  undone_formed e p f = formed_numbers c (undone c e s).module_of (subst (IsWellFormed is_isolated) (sym (led_back e p f)) f.step.before)
+  pub undone_wellformed : (e : Event) (p : Module) → CameFrom c e p s → IsWellFormed (isolated_in c) (undone c e s).module_of
+  undone_wellformed e p f = wellformed_numbers c (undone c e s).module_of (subst (IsWellFormed is_isolated) (sym (led_back e p f)) f.step.before)
 
   -- sound modules stay sound
   pub undone_sound : (e : Event) (p : Module) → CameFrom c e p s → IsSoundIn c s.module_of.tree → HeldIsSound c s.held → IsSoundIn c (undone c e s).module_of.tree

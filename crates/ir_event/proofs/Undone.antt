@@ -27,7 +27,7 @@ use Rattle.ir_store.specs.Shifting.{CanRelink}
 use Rattle.ir_event.specs.declared.event.Event.TheVariants.{Put, Take, SetOperand, SetEntry, Shift}
 use Rattle.ir_event.specs.Modules.{Module, module_meaning}
 use Rattle.ir_event.specs.Step.{Step}
-use Rattle.ir_event.proofs.Steps.{formed_meaning, sorted_meaning}
+use Rattle.ir_event.proofs.Steps.{wellformed_meaning, sorted_meaning}
 use Rattle.ir_event.proofs.Mapped.{shifts_mapped, takes_mapped}
 
 left_sound : (c : ContextModel) (x : ℕ) (place : Place) (fresh : Bool) (m n : Numbered) → IsSoundIn c m.tree → Takes x place fresh m n → IsSoundIn c n.tree
@@ -35,13 +35,13 @@ left_sound c x place fresh m n sound t = subst (λ (u : Op). IsSoundIn c u) (sym
 
 -- changes of modules of ids are steps of their meanings
 pub taken_steps : (c : ContextModel) (x : ℕ) (place : Place) (fresh : Bool) (m n : Numbered) → IsWellFormed (isolated_in c) m → IsWellFormed (isolated_in c) n → IsSoundIn c m.tree → Takes x place fresh m n → Step c (Take x place fresh) (module_meaning c m) (module_meaning c n)
-taken_steps c x place fresh m n w u sound t = record { before = formed_meaning c m w; after = formed_meaning c n u; sorted_before = sorted_meaning c m sound; sorted_after = sorted_meaning c n (left_sound c x place fresh m n sound t); numbers = tt; changes = takes_mapped (name_term c) (type_term c) (attr_term c) x place fresh m n t }
+taken_steps c x place fresh m n w u sound t = record { before = wellformed_meaning c m w; after = wellformed_meaning c n u; sorted_before = sorted_meaning c m sound; sorted_after = sorted_meaning c n (left_sound c x place fresh m n sound t); numbers = tt; changes = takes_mapped (name_term c) (type_term c) (attr_term c) x place fresh m n t }
 
 pub given_steps : (c : ContextModel) (x : ℕ) (place : Place) (fresh : Bool) (m n : Numbered) → IsWellFormed (isolated_in c) m → IsWellFormed (isolated_in c) n → IsSoundIn c m.tree → Takes x place fresh m n → Step c (Put x place fresh) (module_meaning c n) (module_meaning c m)
-given_steps c x place fresh m n w u sound t = record { before = formed_meaning c n u; after = formed_meaning c m w; sorted_before = sorted_meaning c n (left_sound c x place fresh m n sound t); sorted_after = sorted_meaning c m sound; numbers = tt; changes = takes_mapped (name_term c) (type_term c) (attr_term c) x place fresh m n t }
+given_steps c x place fresh m n w u sound t = record { before = wellformed_meaning c n u; after = wellformed_meaning c m w; sorted_before = sorted_meaning c n (left_sound c x place fresh m n sound t); sorted_after = sorted_meaning c m sound; numbers = tt; changes = takes_mapped (name_term c) (type_term c) (attr_term c) x place fresh m n t }
 
 pub moved_steps : (c : ContextModel) (x : ℕ) (old new : Place) (m n : Numbered) → IsWellFormed (isolated_in c) m → IsWellFormed (isolated_in c) n → IsSoundIn c m.tree → IsSoundIn c n.tree → Shifts (λ k. is_table (name_term c k)) x old new m n → Step c (Shift x old new) (module_meaning c m) (module_meaning c n)
-moved_steps c x old new m n w u sound also s = record { before = formed_meaning c m w; after = formed_meaning c n u; sorted_before = sorted_meaning c m sound; sorted_after = sorted_meaning c n also; numbers = tt; changes = shifts_mapped (name_term c) (type_term c) (attr_term c) is_table x old new m n s }
+moved_steps c x old new m n w u sound also s = record { before = wellformed_meaning c m w; after = wellformed_meaning c n u; sorted_before = sorted_meaning c m sound; sorted_after = sorted_meaning c n also; numbers = tt; changes = shifts_mapped (name_term c) (type_term c) (attr_term c) is_table x old new m n s }
 
 -- the newest operation is taken out, and its id is free again
 pub newest_steps : (c : ContextModel) (x : ℕ) (m : Numbered) → IsWellFormed (isolated_in c) m → IsSoundIn c m.tree → take_reason x m.tree ≡ None → m.next ≡ x + 1 → (place : Place) × Step c (Take x place true) (module_meaning c m) (module_meaning c (record { tree = without x m.tree; next = x }))

@@ -17,8 +17,8 @@ HeldIsSound c held = (x : ℕ) (o : Op) → map.get held x ≡ Some o → IsSoun
 pub sound_prop : (c : ContextModel) (t : Op) → IsProp (IsSoundIn c t)
 sound_prop c t = hlevel props
 
-pub formed_prop : {N T A : Type 0} (isolated : N → Bool) (m : ModuleOf N T A) → IsProp (IsWellFormed isolated m)
-formed_prop isolated m = hlevel (props, IsDistinct-prop)
+pub wellformed_prop : {N T A : Type 0} (isolated : N → Bool) (m : ModuleOf N T A) → IsProp (IsWellFormed isolated m)
+wellformed_prop isolated m = hlevel (props, IsDistinct-prop)
 
 pub held_prop : (c : ContextModel) (held : map.FinMap nat_cmp Op) → IsProp (HeldIsSound c held)
 held_prop c held = Π_prop (λ x. Π_prop (λ o. Π_prop (λ e. sound_prop c o)))

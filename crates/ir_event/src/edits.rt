@@ -145,7 +145,7 @@ fn put_in(
     ensures ok { IfOk result (λ e. (e ≡ Put store.old.module_of.next place.now true) × (store.new ≡ after_put place.now header.now store.old)) }
     ensures refused { MatchResult result (λ _. put_reason (isolated_in ctx.now) place.now header.now store.old.module_of.next store.old.module_of.tree ≡ None)
         (λ e. IsRefusedFor {A = Unit {0}} (put_reason (isolated_in ctx.now) place.now header.now store.old.module_of.next store.old.module_of.tree) (Err e)) }
-    ensures formed { IsWellFormed (isolated_in ctx.now) store.old.module_of → IsWellFormed (isolated_in ctx.now) store.new.module_of }
+    ensures wellformed { IsWellFormed (isolated_in ctx.now) store.old.module_of → IsWellFormed (isolated_in ctx.now) store.new.module_of }
     ensures err { OnErr result (store.new ≡ store.old) }
 {
     match store.put(ctx, *place, header) {
@@ -176,7 +176,7 @@ fn enter_in(
         (λ e. IsRefusedFor {A = Unit {0}} (set_entry_reason (key_before_in ctx.now) op part.now key value.now store.old.module_of.tree) (Err e)) }
     ensures slot { WantsNoSlot op part.now key value.now store.old → IfErr result (λ e. set_entry_reason (key_before_in ctx.now) op part.now key value.now store.old.module_of.tree ≡ Some e) }
     ensures sound { IsSoundIn ctx.now store.new.module_of.tree }
-    ensures formed { IsWellFormed (isolated_in ctx.now) store.old.module_of → IsWellFormed (isolated_in ctx.now) store.new.module_of }
+    ensures wellformed { IsWellFormed (isolated_in ctx.now) store.old.module_of → IsWellFormed (isolated_in ctx.now) store.new.module_of }
     ensures err { OnErr result (store.new ≡ store.old) }
 {
     let Some(old) = entry_of(ctx, store, op, *part, key) else {
@@ -207,7 +207,7 @@ fn set_in(
     ensures store { OnOk result (store.new ≡ after_operand op k value.now store.old) }
     ensures refused { MatchResult result (λ _. set_operand_reason (isolated_in ctx.now) op k value.now store.old.module_of.tree ≡ None)
         (λ e. set_operand_reason (isolated_in ctx.now) op k value.now store.old.module_of.tree ≡ Some e) }
-    ensures formed { IsWellFormed (isolated_in ctx.now) store.old.module_of → IsWellFormed (isolated_in ctx.now) store.new.module_of }
+    ensures wellformed { IsWellFormed (isolated_in ctx.now) store.old.module_of → IsWellFormed (isolated_in ctx.now) store.new.module_of }
     ensures err { OnErr result (store.new ≡ store.old) }
 {
     let old = match store.set_operand(ctx, op, k, *value) {
@@ -229,7 +229,7 @@ fn shift_in(ctx: &Context, store: &mut Store, op: OpId, place: &Place) -> Result
     ensures store { OnOk result (store.new ≡ after_shift op place.now store.old) }
     ensures refused { MatchResult result (λ _. shift_reason (isolated_in ctx.now) (λ n. is_table (name_term ctx.now n)) op place.now store.old.module_of.tree ≡ None)
         (λ e. shift_reason (isolated_in ctx.now) (λ n. is_table (name_term ctx.now n)) op place.now store.old.module_of.tree ≡ Some e) }
-    ensures formed { IsWellFormed (isolated_in ctx.now) store.new.module_of }
+    ensures wellformed { IsWellFormed (isolated_in ctx.now) store.new.module_of }
     ensures err { OnErr result (store.new ≡ store.old) }
 {
     let old = store.place(op);

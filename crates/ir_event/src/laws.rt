@@ -36,7 +36,7 @@ pub fn steps_stay()
 /// The meaning of a well-formed module is well-formed, and has sorted dictionaries if the module is of the context.
 /// Setting an operand of a module is a step between the meanings before and after.
 pub fn operands_are_set_by_steps()
-    ensures formed { (c : ContextModel) (m : Numbered) → IsWellFormed (isolated_in c) m → IsWellFormed is_isolated (module_meaning c m) }
+    ensures wellformed { (c : ContextModel) (m : Numbered) → IsWellFormed (isolated_in c) m → IsWellFormed is_isolated (module_meaning c m) }
     ensures sorted { (c : ContextModel) (m : Numbered) → IsSoundIn c m.tree → IsSorted (module_meaning c m) }
     ensures step { (c : ContextModel) (x k : ℕ) (old new : TreeValue) (m : Numbered) → IsWellFormed (isolated_in c) m → IsWellFormed (isolated_in c) (record m { tree = with_operand x k new m.tree }) → IsSoundIn c m.tree
         → operand_at x k m.tree ≡ Some old → Step c (SetOperand x k old new) (module_meaning c m) (module_meaning c (record m { tree = with_operand x k new m.tree })) }

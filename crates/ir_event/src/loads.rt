@@ -54,7 +54,7 @@ impl World {
         requires sound { IsSoundIn ctx tree }
         requires distinct { HasDistinctIds tree }
         requires below { All (λ x. x < next) (ids tree) }
-        requires formed { IsValidTree (isolated_in ctx) tree }
+        requires wellformed { IsValidTree (isolated_in ctx) tree }
         ensures ctx { IfOk result (λ w. w.ctx ≡ ctx) }
         ensures store { IfOk result (λ w. Loaded tree next w.store) }
         ensures refused { IfErr result (λ e. e ≡ Refusal.Memory) }

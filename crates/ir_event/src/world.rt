@@ -1,7 +1,7 @@
 //! The IR state (`World`).
 ghost use Rattle.ir_store.specs.trees.Meaning.{IsSoundIn, isolated_in};
 ghost use Rattle.ir_store.specs.trees.WellFormed.{IsWellFormed};
-ghost use Rattle.ir_event.specs.Facts.{HeldIsSound, sound_prop, formed_prop, held_prop};
+ghost use Rattle.ir_event.specs.Facts.{HeldIsSound, sound_prop, wellformed_prop, held_prop};
 
 use ir_store::store::Store;
 use op_registry::registry::Registry;
@@ -15,6 +15,6 @@ pub struct World {
     pub registry: Registry,
     pub store: Store,
     pub ghost sound: { IsSoundIn ctx store.module_of.tree } by { sound_prop ctx store.module_of.tree },
-    pub ghost formed: { IsWellFormed (isolated_in ctx) store.module_of } by { formed_prop (isolated_in ctx) store.module_of },
+    pub ghost wellformed: { IsWellFormed (isolated_in ctx) store.module_of } by { wellformed_prop (isolated_in ctx) store.module_of },
     pub ghost held: { HeldIsSound ctx store.held } by { held_prop ctx store.held },
 }

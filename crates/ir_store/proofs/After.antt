@@ -16,8 +16,8 @@ there y xs = list_any (λ z. eqb z y) xs
 joined : (y : ℕ) (xs ys : List ℕ) → there y (xs ++ ys) ≡ (there y xs || there y ys)
 joined y xs ys = list_any-append (λ z. eqb z y) xs ys
 
-pub in_front : (y : ℕ) (xs ys : List ℕ) → Present y xs → Present y (xs ++ ys)
-in_front y xs ys e = joined y xs ys ∙ ap (λ b. b || there y ys) e
+pub in_preceding : (y : ℕ) (xs ys : List ℕ) → Present y xs → Present y (xs ++ ys)
+in_preceding y xs ys e = joined y xs ys ∙ ap (λ b. b || there y ys) e
 
 pub in_back : (y : ℕ) (xs ys : List ℕ) → Present y ys → Present y (xs ++ ys)
 in_back y xs ys e = joined y xs ys ∙ or_right (there y xs) (there y ys) e
@@ -55,21 +55,21 @@ not_itself a (x ∷ xs) d = elim (bool_cases (eqb x a)) [
 ]
 
 -- a list with a known segment
-module _ (all front own back : List ℕ) (is : all ≡ front ++ (own ++ back)) (d : IsDistinct eqb all) where
-  apart : (x : ℕ) → Present x own → Absent x front × Absent x back
+module _ (all preceding own back : List ℕ) (is : all ≡ preceding ++ (own ++ back)) (d : IsDistinct eqb all) where
+  apart : (x : ℕ) → Present x own → Absent x preceding × Absent x back
   apart x p =
-      let h = halves front (own ++ back) (subst (IsDistinct eqb) is d) in (
-        elim (bool_cases (there x front)) [ inr k ↦ k | inl k ↦ absurd (true≢false (sym (in_front x own back p) ∙ h.disjoint x k)) ],
+      let h = halves preceding (own ++ back) (subst (IsDistinct eqb) is d) in (
+        elim (bool_cases (there x preceding)) [ inr k ↦ k | inl k ↦ absurd (true≢false (sym (in_preceding x own back p) ∙ h.disjoint x k)) ],
         (halves own back h.right).disjoint x p,
       )
 
   after_it : (x y : ℕ) → Present x own → Absent y own → comes_after x y all ≡ there y back
-  after_it x y p n = ap (comes_after x y) is ∙ skip x y front (own ++ back) (apart x p).0 ∙ hit x y own back p n
+  after_it x y p n = ap (comes_after x y) is ∙ skip x y preceding (own ++ back) (apart x p).0 ∙ hit x y own back p n
 
-  before_it : (x y : ℕ) → Present x own → Absent y own → comes_after y x all ≡ there y front
-  before_it x y p n = elim (bool_cases (there y front)) [
-    | inl k ↦ ap (comes_after y x) is ∙ hit y x front (own ++ back) k (apart x p).0 ∙ in_front x own back p ∙ sym k
-    | inr k ↦ ap (comes_after y x) is ∙ skip y x front (own ++ back) k ∙ skip y x own back n ∙ never_later y x back (apart x p).1 ∙ sym k
+  before_it : (x y : ℕ) → Present x own → Absent y own → comes_after y x all ≡ there y preceding
+  before_it x y p n = elim (bool_cases (there y preceding)) [
+    | inl k ↦ ap (comes_after y x) is ∙ hit y x preceding (own ++ back) k (apart x p).0 ∙ in_preceding x own back p ∙ sym k
+    | inr k ↦ ap (comes_after y x) is ∙ skip y x preceding (own ++ back) k ∙ skip y x own back n ∙ never_later y x back (apart x p).1 ∙ sym k
   ]
 
   -- an item outside of the stretch is before all items of the stretch, or after all of them
@@ -81,7 +81,7 @@ module _ (all front own back : List ℕ) (is : all ≡ front ++ (own ++ back)) (
 
   -- two items of the segment have the same order in the whole list
   pub same_within : (x y : ℕ) → Present x own → Present y own → comes_after x y all ≡ comes_after x y own
-  same_within x y p q = ap (comes_after x y) is ∙ skip x y front (own ++ back) (apart x p).0 ∙ cut_back x y own back (apart y q).1
+  same_within x y p q = ap (comes_after x y) is ∙ skip x y preceding (own ++ back) (apart x p).0 ∙ cut_back x y own back (apart y q).1
 
 -- the first item is before the others
 pub first_before : (p x : ℕ) (xs : List ℕ) → Present x xs → comes_after p x (p ∷ xs) ≡ true

@@ -9,7 +9,7 @@ use Rattle.ir_store.specs.declared.store.Store.TheInside.{Inside}
 use Rattle.ir_store_reads.specs.Stored.{Stored}
 use Rattle.ir_store.specs.Calls.{after_take, hold}
 use Rattle.ir_store_reads.specs.Rows.{Row, row_at, held_in, gone_in}
-use Rattle.ir_store_reads.specs.Spells.{SpellsOp, Represented, Represented-prop, spelled_is}
+use Rattle.ir_store_reads.specs.Spells.{SpellsOp, Represented, Represented-prop, rendered_is}
 use Rattle.ir_store.specs.Holds.{HoldsOf, HoldsOf-prop, GoneOf, GoneOf-prop, map_is}
 use Rattle.ir_store_reads.specs.Right.{Right}
 use Rattle.ir_store_reads.proofs.SlotLaws.{found_op, node_known, used_inside}
@@ -65,10 +65,10 @@ module _ (a : Inside) (r : IsRight a) (x k : ℕ) (leaf : IsLeaf (rows_in a) a.s
   spells = cut_spells (rows_in a) (keys_in a) a.sibs a.root a.represented.0 r a.represented.1 x k leaf rows' long' others gone_row sibs' el eh
 
   pub cut_tree : (w : Represented rows' sibs'.lists a.root) → w.0 ≡ without x a.represented.0
-  cut_tree w = spelled_is rows' sibs'.lists a.root w (without x a.represented.0) spells
+  cut_tree w = rendered_is rows' sibs'.lists a.root w (without x a.represented.0) spells
 
   pub right_after : (w : Represented rows' sibs'.lists a.root) → Right rows' (keys_in a) sibs' a.root w.0
-  right_after w = subst (Right rows' (keys_in a) sibs' a.root) (sym (spelled_is rows' sibs'.lists a.root w (without x a.represented.0) spells))
+  right_after w = subst (Right rows' (keys_in a) sibs' a.root) (sym (rendered_is rows' sibs'.lists a.root w (without x a.represented.0) spells))
       (cut_right (rows_in a) (keys_in a) a.sibs a.root a.represented.0 r a.represented.1 x k leaf rows' long' others gone_row sibs' el eh)
 
   taken : (o : Op) × ((find x a.represented.0 ≡ Some o) × SpellsOp (rows_in a) a.sibs.lists k o)
@@ -87,7 +87,7 @@ module _ (a : Inside) (r : IsRight a) (x k : ℕ) (leaf : IsLeaf (rows_in a) a.s
   pub cut_done : (w : Represented rows' sibs'.lists a.root) (h : HoldsOf rows' (keys_in a)) (g : GoneOf rows' (keys_in a))
       → ◌≡◌ {A = Stored} (record { module_of = record { tree = w.0; next = a.next }; held = h.0; gone = g.0 }) (after_take x (stored a))
   cut_done w h g =
-      let e1 = spelled_is rows' sibs'.lists a.root w (without x a.represented.0) spells in
+      let e1 = rendered_is rows' sibs'.lists a.root w (without x a.represented.0) spells in
       let e2 = map_is (λ y. held_in rows' (keys_in a y)) h (finmap.insert a.holds.0 x taken.0) holds ∙ ap (λ z. hold x z a.holds.0) (sym taken.1.0) in
       let e3 = map_is (λ y. gone_in rows' (keys_in a y)) g a.lacks.0 lacks in
       λ i. record { module_of = record { tree = e1 i; next = a.next }; held = e2 i; gone = e3 i }
@@ -134,10 +134,10 @@ module _ (a : Inside) (r : IsRight a) (x k j : ℕ) (v : Value) (e : Some k ≡ 
     spelt = write_spells (rows_in a) (keys_in a) a.sibs a.root a.represented.0 r a.represented.1 x k j v here written longs others' new_row
 
     pub write_tree : (w : Represented written a.sibs.lists a.root) → w.0 ≡ with_operand x j v a.represented.0
-    write_tree w = spelled_is written a.sibs.lists a.root w (with_operand x j v a.represented.0) spelt
+    write_tree w = rendered_is written a.sibs.lists a.root w (with_operand x j v a.represented.0) spelt
 
     pub write_fits : (w : Represented written a.sibs.lists a.root) → Right written (keys_in a) a.sibs a.root w.0
-    write_fits w = subst (Right written (keys_in a) a.sibs a.root) (sym (spelled_is written a.sibs.lists a.root w (with_operand x j v a.represented.0) spelt))
+    write_fits w = subst (Right written (keys_in a) a.sibs a.root) (sym (rendered_is written a.sibs.lists a.root w (with_operand x j v a.represented.0) spelt))
         (write_right (rows_in a) (keys_in a) a.sibs a.root a.represented.0 r a.represented.1 x k j v here written longs others' new_row)
 
     holds' : (y : ℕ) → finmap.get a.holds.0 y ≡ held_in written (keys_in a y)
@@ -152,7 +152,7 @@ module _ (a : Inside) (r : IsRight a) (x k j : ℕ) (v : Value) (e : Some k ≡ 
     pub write_done : (w : Represented written a.sibs.lists a.root) (h : HoldsOf written (keys_in a)) (g : GoneOf written (keys_in a))
         → ◌≡◌ {A = Stored} (record { module_of = record { tree = w.0; next = a.next }; held = h.0; gone = g.0 }) (after_operand x j v (stored a))
     write_done w h g =
-        let e1 = spelled_is written a.sibs.lists a.root w (with_operand x j v a.represented.0) spelt in
+        let e1 = rendered_is written a.sibs.lists a.root w (with_operand x j v a.represented.0) spelt in
         let e2 = map_is (λ y. held_in written (keys_in a y)) h a.holds.0 holds' in
         let e3 = map_is (λ y. gone_in written (keys_in a y)) g a.lacks.0 lacks' in
         λ i. record { module_of = record { tree = e1 i; next = a.next }; held = e2 i; gone = e3 i }

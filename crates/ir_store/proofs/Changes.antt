@@ -35,6 +35,6 @@ module _ (c : ContextModel) (x : ℕ) (part : Part) (k : ℕ) (v : Option ℕ) (
   call_sound (Ok u) p = set_sound p.1
   call_sound (Err e) p = subst (λ (z : Stored). IsSoundIn c z.module_of.tree) (sym p.1) s
 
-  pub call_formed : (res : Result (Unit {0}) Refusal) → Entered res → IsWellFormed (isolated_in c) m.module_of → IsWellFormed (isolated_in c) n.module_of
-  call_formed (Ok u) p w = subst (λ (z : Stored). IsWellFormed (isolated_in c) z.module_of) (sym p.1) (entry_keeps (isolated_in c) (key_before_in c) (key_before_trans c) x part k v m.module_of w s.sorted p.0)
-  call_formed (Err e) p w = subst (λ (z : Stored). IsWellFormed (isolated_in c) z.module_of) (sym p.1) w
+  pub call_wellformed : (res : Result (Unit {0}) Refusal) → Entered res → IsWellFormed (isolated_in c) m.module_of → IsWellFormed (isolated_in c) n.module_of
+  call_wellformed (Ok u) p w = subst (λ (z : Stored). IsWellFormed (isolated_in c) z.module_of) (sym p.1) (entry_keeps (isolated_in c) (key_before_in c) (key_before_trans c) x part k v m.module_of w s.sorted p.0)
+  call_wellformed (Err e) p w = subst (λ (z : Stored). IsWellFormed (isolated_in c) z.module_of) (sym p.1) w

@@ -24,7 +24,7 @@ use Rattle.ir_store_reads.specs.Nodes.{node_of}
 use Rattle.ir_store_reads.specs.Stored.{Stored, Gone, change_gone, known, has_entry, has_slot, stands, is_some_with}
 use Rattle.ir_store.specs.Calls.{after_entry, change_gone_of}
 use Rattle.ir_store_reads.specs.Rows.{Row, row_at, node_row, live_slot, held_in, gone_in}
-use Rattle.ir_store_reads.specs.Spells.{SpellsOp, Represented, spelled_is}
+use Rattle.ir_store_reads.specs.Spells.{SpellsOp, Represented, rendered_is}
 use Rattle.ir_store.specs.Holds.{HoldsOf, GoneOf, map_is}
 use Rattle.ir_store_reads.specs.Marks.{mark, home_of, node_of_slot}
 use Rattle.ir_store_reads.proofs.Celled.{celled_edit}
@@ -160,7 +160,7 @@ module _ (a : Inside) (w : Whole a) (x : ℕ) (part : Part) (j : ℕ) where
 
         pub entry_fits : (s : Represented entered a.sibs.lists a.root) (marks : List ℕ) → marks ≡ set a.marks.homes (node_of_slot k) (home_of (mark (row_at entered k)))
             → Fits entered (keys_in a) a.sibs a.root s.0 a.uses.homes (cells_of a.cells.items) a.count a.next marks
-        entry_fits s marks es = subst (λ z. Fits entered (keys_in a) a.sibs a.root z a.uses.homes (cells_of a.cells.items) a.count a.next marks) (sym (spelled_is entered a.sibs.lists a.root s (with_entry before x part j v a.represented.0) spelt))
+        entry_fits s marks es = subst (λ z. Fits entered (keys_in a) a.sibs a.root z a.uses.homes (cells_of a.cells.items) a.count a.next marks) (sym (rendered_is entered a.sibs.lists a.root s (with_entry before x part j v a.represented.0) spelt))
             (record {
               right = retold_right (rows_in a) (keys_in a) a.sibs a.root a.represented.0 w.right a.represented.1 x k here edit lack (inner_part part (change_entry before j v)) entered longs others own;
               few = w.few;
@@ -176,7 +176,7 @@ module _ (a : Inside) (w : Whole a) (x : ℕ) (part : Part) (j : ℕ) where
         pub entry_done : (s : Represented entered a.sibs.lists a.root) (h : HoldsOf entered (keys_in a)) (g : GoneOf entered (keys_in a))
             → ◌≡◌ {A = Stored} (record { module_of = record { tree = s.0; next = a.next }; held = h.0; gone = g.0 }) (after_entry before x part j v (stored a))
         entry_done s h g =
-            let e1 = spelled_is entered a.sibs.lists a.root s (with_entry before x part j v a.represented.0) spelt in
+            let e1 = rendered_is entered a.sibs.lists a.root s (with_entry before x part j v a.represented.0) spelt in
             let e2 = map_is (λ y. held_in entered (keys_in a y)) h a.holds.0 holds' in
             let e3 = map_is (λ y. gone_in entered (keys_in a y)) g (change_gone_of x lack (finmap.get a.lacks.0 x) a.lacks.0) lacks' in
             λ i. record { module_of = record { tree = e1 i; next = a.next }; held = e2 i; gone = e3 i }
@@ -206,13 +206,13 @@ module _ (a : Inside) (w : Whole a) (x : ℕ) (part : Part) (j : ℕ) where
         same_spelt = subst (λ z. SpellsOp z a.sibs.lists a.root a.represented.0) (sym same_rows) a.represented.1
 
         pub same_fits : (s : Represented rewritten a.sibs.lists a.root) → Fits rewritten (keys_in a) a.sibs a.root s.0 a.uses.homes (cells_of a.cells.items) a.count a.next a.marks.homes
-        same_fits s = subst (λ z. Fits rewritten (keys_in a) a.sibs a.root z a.uses.homes (cells_of a.cells.items) a.count a.next a.marks.homes) (sym (spelled_is rewritten a.sibs.lists a.root s a.represented.0 same_spelt))
+        same_fits s = subst (λ z. Fits rewritten (keys_in a) a.sibs a.root z a.uses.homes (cells_of a.cells.items) a.count a.next a.marks.homes) (sym (rendered_is rewritten a.sibs.lists a.root s a.represented.0 same_spelt))
             (subst (λ z. Fits z (keys_in a) a.sibs a.root a.represented.0 a.uses.homes (cells_of a.cells.items) a.count a.next a.marks.homes) (sym same_rows) w)
 
         pub same_done : (s : Represented rewritten a.sibs.lists a.root) (h : HoldsOf rewritten (keys_in a)) (g : GoneOf rewritten (keys_in a))
             → ◌≡◌ {A = Stored} (record { module_of = record { tree = s.0; next = a.next }; held = h.0; gone = g.0 }) (stored a)
         same_done s h g =
-            let e1 = spelled_is rewritten a.sibs.lists a.root s a.represented.0 same_spelt in
+            let e1 = rendered_is rewritten a.sibs.lists a.root s a.represented.0 same_spelt in
             let e2 = map_is (λ y. held_in rewritten (keys_in a y)) h a.holds.0 (λ y. a.holds.1 y ∙ ap (λ z. held_in z (keys_in a y)) (sym same_rows)) in
             let e3 = map_is (λ y. gone_in rewritten (keys_in a y)) g a.lacks.0 (λ y. a.lacks.1 y ∙ ap (λ z. gone_in z (keys_in a y)) (sym same_rows)) in
             λ i. record { module_of = record { tree = e1 i; next = a.next }; held = e2 i; gone = e3 i }

@@ -75,7 +75,7 @@ module _ (a : Inside) (w : Whole a) (x k : ℕ) (ek : Some k ≡ live_slot (rows
       let same : f.0 ≡ e0.1 = SpellsOp-one (rows_in a) a.sibs.lists q f.0 e0.1 f.1.1 e0.2 in
       record {
         there = w.right.covers q live;
-        front = (row_at (rows_in a) k).head.id;
+        preceding = (row_at (rows_in a) k).head.id;
         before = e0.0;
         is = ap ids_in own.1.0 ∙ end.1 ∙ ap (λ z. (row_at (rows_in a) k).head.id ∷ z) (e0.3 ∙ ap (λ z. e0.0 ++ z) (sym (ap ids_in f.1.0 ∙ ap ids same)));
       }

@@ -12,7 +12,7 @@ use Rattle.ir_store.specs.declared.store.Store.TheInside.{Inside}
 use Rattle.ir_store_reads.specs.Stored.{Stored, known}
 use Rattle.ir_store_reads.specs.Emptied.{after_grow}
 use Rattle.ir_store_reads.specs.Rows.{Row, no_row, row_at, held_in, gone_in, if_live, bare}
-use Rattle.ir_store_reads.specs.Spells.{SpellsOp, Represented, spelled_is}
+use Rattle.ir_store_reads.specs.Spells.{SpellsOp, Represented, rendered_is}
 use Rattle.ir_store.specs.Holds.{HoldsOf, GoneOf, map_is}
 use Rattle.ir_store_reads.specs.Right.{Right}
 use Rattle.ir_store_reads.specs.Index.{Index, Celled, Fits, lives, HasOwners}
@@ -131,11 +131,11 @@ module _ (a : Inside) (w : Whole a) where
 
       pub wide_fits : (s : Represented q.rows q.sibs.lists a.root) (marks : List ℕ) → Reaches a.marks.homes marks → Fits q.rows keys q.sibs a.root s.0 q.homes q.cells a.count a.next marks
       wide_fits s marks reached = record {
-        right = subst (Right q.rows keys q.sibs a.root) (sym (spelled_is q.rows q.sibs.lists a.root s a.represented.0 spells)) (subst (λ z. Right q.rows z q.sibs a.root a.represented.0) (sym all_keys) right);
+        right = subst (Right q.rows keys q.sibs a.root) (sym (rendered_is q.rows q.sibs.lists a.root s a.represented.0 spells)) (subst (λ z. Right q.rows z q.sibs a.root a.represented.0) (sym all_keys) right);
         few = uses_few;
         index = subst (λ z. Index q.rows z q.homes q.cells (lives q.rows)) (sym all_keys) index;
-        distinct = subst HasDistinctIds (sym (spelled_is q.rows q.sibs.lists a.root s a.represented.0 spells)) w.distinct;
-        counted = w.counted ∙ ap op_count (sym (spelled_is q.rows q.sibs.lists a.root s a.represented.0 spells));
+        distinct = subst HasDistinctIds (sym (rendered_is q.rows q.sibs.lists a.root s a.represented.0 spells)) w.distinct;
+        counted = w.counted ∙ ap op_count (sym (rendered_is q.rows q.sibs.lists a.root s a.represented.0 spells));
         below = wide_below (parts a) q wide (keys_in a) a.next w.below;
         owned = subst (HasOwners q.rows) (sym all_keys) (wide_owned (parts a) q wide (keys_in a) w.owned);
         marked = marked_more q.rows a.marks.homes marks marked reached;
@@ -144,7 +144,7 @@ module _ (a : Inside) (w : Whole a) where
 
       pub wide_done : (s : Represented q.rows q.sibs.lists a.root) (h : HoldsOf q.rows keys) (g : GoneOf q.rows keys) → ◌≡◌ {A = Stored} (record { module_of = record { tree = s.0; next = a.next }; held = h.0; gone = g.0 }) (stored a)
       wide_done s h g =
-          let e1 = spelled_is q.rows q.sibs.lists a.root s a.represented.0 spells in
+          let e1 = rendered_is q.rows q.sibs.lists a.root s a.represented.0 spells in
           let e2 = map_is (λ y. held_in q.rows (keys y)) h a.holds.0 holds in
           let e3 = map_is (λ y. gone_in q.rows (keys y)) g a.lacks.0 gone in
           λ i. record { module_of = record { tree = e1 i; next = a.next }; held = e2 i; gone = e3 i }
@@ -180,13 +180,13 @@ module _ (a : Inside) (w : Whole a) where
 
       pub grow_fits : (s : Represented rows' q.sibs.lists a.root) (mid marks : List ℕ) → Reaches a.marks.homes mid → node_of_slot k < length mid → marks ≡ set mid (node_of_slot k) (home_of (mark (row_at rows' k))) → Fits rows' keys q.sibs a.root s.0 q.homes q.cells a.count a.next marks
       grow_fits s mid marks reached there em = record {
-        right = subst (Right rows' keys q.sibs a.root) (sym (spelled_is rows' q.sibs.lists a.root s a.represented.0 spells'))
+        right = subst (Right rows' keys q.sibs a.root) (sym (rendered_is rows' q.sibs.lists a.root s a.represented.0 spells'))
             (fill_right q wide.even few (keys_in a) bound k x v ready a.root a.represented.0 right rows' long' same own keys here others);
         few = uses_few;
         index = fill_index q wide.even few (keys_in a) bound k x v ready (keyed_of q.rows (keys_in a) q.sibs a.root a.represented.0 right) rows' long' same own keys here others
             apart index;
-        distinct = subst HasDistinctIds (sym (spelled_is rows' q.sibs.lists a.root s a.represented.0 spells')) w.distinct;
-        counted = w.counted ∙ ap op_count (sym (spelled_is rows' q.sibs.lists a.root s a.represented.0 spells'));
+        distinct = subst HasDistinctIds (sym (rendered_is rows' q.sibs.lists a.root s a.represented.0 spells')) w.distinct;
+        counted = w.counted ∙ ap op_count (sym (rendered_is rows' q.sibs.lists a.root s a.represented.0 spells'));
         below = fill_below q (keys_in a) bound k x v ready rows' same own keys others a.next (wide_below (parts a) q wide (keys_in a) a.next w.below);
         owned = fill_owned q (keys_in a) bound k x v ready rows' same own keys others (wide_owned (parts a) q wide (keys_in a) w.owned);
         marked = marked_edit q.rows rows' mid marks k (marked_more q.rows a.marks.homes mid marked reached) there same em;
@@ -195,7 +195,7 @@ module _ (a : Inside) (w : Whole a) where
 
       pub grow_done : (s : Represented rows' q.sibs.lists a.root) (h : HoldsOf rows' keys) (g : GoneOf rows' keys) → ◌≡◌ {A = Stored} (record { module_of = record { tree = s.0; next = a.next }; held = h.0; gone = g.0 }) (after_grow x o (stored a))
       grow_done s h g =
-          let e1 = spelled_is rows' q.sibs.lists a.root s a.represented.0 spells' in
+          let e1 = rendered_is rows' q.sibs.lists a.root s a.represented.0 spells' in
           let e2 = map_is (λ y. held_in rows' (keys y)) h (finmap.insert a.holds.0 x (bare v)) holds' ∙ ap (finmap.insert a.holds.0 x) grown.is in
           let e3 = map_is (λ y. gone_in rows' (keys y)) g (finmap.insert a.lacks.0 x v.gone) gone' ∙ ap (finmap.insert a.lacks.0 x) grown.gone in
           λ i. record { module_of = record { tree = e1 i; next = a.next }; held = e2 i; gone = e3 i }

@@ -100,9 +100,9 @@ module _ (rows : List Row) (lists : List (List ℕ)) where
     never_after y (k ∷ ks) no_ops z = absurd z
     never_after y (k ∷ ks) (next o os) z = (λ i. cond (eqb (head o).id y) (never_among ks os z.1 i) (never_after y ks os z.1 i)) ∙ both_false (eqb (head o).id y)
 
-among_there : (x : ℕ) (front : List Op) (o : Op) (rest : List Op) → (head o).id ≡ x → is_among x (ops_of (front ++ o ∷ rest)) ≡ true
+among_there : (x : ℕ) (preceding : List Op) (o : Op) (rest : List Op) → (head o).id ≡ x → is_among x (ops_of (preceding ++ o ∷ rest)) ≡ true
 among_there x [] o rest e = or_left (eqb (head o).id x) (is_among x (ops_of rest)) (eq-eqb (head o).id x e)
-among_there x (f ∷ front) o rest e = or_right (eqb (head f).id x) (is_among x (ops_of (front ++ o ∷ rest))) (among_there x front o rest e)
+among_there x (f ∷ preceding) o rest e = or_right (eqb (head f).id x) (is_among x (ops_of (preceding ++ o ∷ rest))) (among_there x preceding o rest e)
 
 -- the head of a list, if there is one, and the operations of the list
 abbrev pub ListIs : List Row → Lists → Option ℕ → Option Ops → Type 0
@@ -162,14 +162,14 @@ module _ (rows : List Row) (keys : ℕ → Option ℕ) (sibs : Lists) (root : �
 
   module _ (laws : Laws sibs.lists sibs.homes) (d : HasDistinctIds t) where
     -- the list that has the operation
-    pub record Beside (x k : ℕ) : Type 0 where
+    pub record NextTo (x k : ℕ) : Type 0 where
       pub list : Ops
       pub is : list_of x t ≡ Some list
       pub spelt : SpellsOps rows sibs.lists (list_at sibs.lists (home_at sibs.homes k)) list
       pub owner : Live rows (row_at rows (home_at sibs.homes k)).owner
 
-    pub beside : (x k : ℕ) → Found rows x k → (k ≡ root → ⊥) → Beside x k
-    beside x k f n =
+    pub next_to : (x k : ℕ) → Found rows x k → (k ≡ root → ⊥) → NextTo x k
+    next_to x k f n =
         let m = member_of_place x place t put in
         at_path m.0 m.1 m.2 m.0.path refl m.3
       where
@@ -179,7 +179,7 @@ module _ (rows : List Row) (keys : ℕ → Option ℕ) (sibs : Lists) (root : �
         put : place_of x t ≡ Some (slot_place rows sibs.lists sibs.homes k)
         put = some_place rows keys sibs root t r s laws x k f n
 
-        in_list_of : (os : Ops) → list_of x t ≡ Some os → is_among x os ≡ true → (h : Option ℕ) → ListIs rows sibs h (Some os) → h ≡ block_in rows (live_slot rows keys) place.parent place.region → Beside x k
+        in_list_of : (os : Ops) → list_of x t ≡ Some os → is_among x os ≡ true → (h : Option ℕ) → ListIs rows sibs h (Some os) → h ≡ block_in rows (live_slot rows keys) place.parent place.region → NextTo x k
         in_list_of os e a None l w = absurd l
         in_list_of os e a (Some h) l w =
             let here : has k (list_at sibs.lists h) ≡ true = sym (among_spelt rows sibs.lists x k f.id (alone_there x k f) (list_at sibs.lists h) os l.1) ∙ a in
@@ -200,14 +200,14 @@ module _ (rows : List Row) (keys : ℕ → Option ℕ) (sibs : Lists) (root : �
                 go None e w = absurd cc
                 go (Some q) e w = let fd = found rows keys sibs root t r s place.parent q e in in_shapes q fd.live (slice_get (row_at rows q).shapes place.region) refl w
 
-        at_path : (u : StandOf ℕ ℕ ℕ) → In u (stands [] t) → stand_id u ≡ x → (path : List (StepOf ℕ ℕ ℕ)) → u.path ≡ path → place_in u.path ≡ Some place → Beside x k
+        at_path : (u : StandOf ℕ ℕ ℕ) → In u (stands [] t) → stand_id u ≡ x → (path : List (StepOf ℕ ℕ ℕ)) → u.path ≡ path → place_in u.path ≡ Some place → NextTo x k
         at_path u h id [] e w = (let bad : None ≡ Some place = sym (ap place_in e) ∙ w in absurd cc)
         at_path u h id (a ∷ q) e w =
             let there : In (stand u.here (a ∷ q)) (stands [] t) = subst (λ l. In (stand u.here l) (stands [] t)) e h in
-            let os = ops_of (a.front ++ u.here ∷ op_list a.rest) in
+            let os = ops_of (a.preceding ++ u.here ∷ op_list a.rest) in
             let is : list_of x t ≡ Some os = ap (λ y. list_of y t) (sym id) ∙ list_there t d u.here a q there in
             let at : ops_at place.parent place.region t ≡ Some os = ap (option_and_then (λ p. ops_at p.parent p.region t)) (sym put) ∙ is in
-            in_list_of os is (among_there x a.front u.here (op_list a.rest) id) (block_in rows (live_slot rows keys) place.parent place.region) (subst (ListIs rows sibs (block_in rows (live_slot rows keys) place.parent place.region)) at (block_is place.parent place.region)) refl
+            in_list_of os is (among_there x a.preceding u.here (op_list a.rest) id) (block_in rows (live_slot rows keys) place.parent place.region) (subst (ListIs rows sibs (block_in rows (live_slot rows keys) place.parent place.region)) at (block_is place.parent place.region)) refl
 
     root_listless : (x : ℕ) → Found rows x root → list_of x t ≡ None
     root_listless x f = ap (option_and_then (λ p. ops_at p.parent p.region t)) (root_placeless rows keys sibs root t r s laws d x f)
@@ -220,7 +220,7 @@ module _ (rows : List Row) (keys : ℕ → Option ℕ) (sibs : Lists) (root : �
 
     pub prev_found : (x k : ℕ) → Found rows x k → (k ≡ root → ⊥) → option_map (id_in rows) (before k None (list_at sibs.lists (home_at sibs.homes k))) ≡ option_and_then (id_before x None) (list_of x t)
     prev_found x k f n =
-        let b = beside x k f n in
+        let b = next_to x k f n in
         sym (ap (option_and_then (id_before x None)) b.is ∙ before_spelt rows sibs.lists x k f.id (alone_there x k f) None (list_at sibs.lists (home_at sibs.homes k)) b.list b.spelt)
 
     root_bare : list_at sibs.lists (home_at sibs.homes root) ≡ []
@@ -232,7 +232,7 @@ module _ (rows : List Row) (keys : ℕ → Option ℕ) (sibs : Lists) (root : �
     pub before_found : (x k y j : ℕ) → Found rows x k → Found rows y j → slot_before k j (list_at sibs.lists (home_at sibs.homes k)) ≡ is_before x y t
     before_found x k y j f g = ⊎_elim
         (λ e. ap (λ z. slot_before k j (list_at sibs.lists (home_at sibs.homes z))) e ∙ ap (slot_before k j) root_bare ∙ sym (ap (in_list (goes_before x y)) (root_list x k f e)))
-        (λ n. let b = beside x k f n in
+        (λ n. let b = next_to x k f n in
         sym (ap (in_list (goes_before x y)) b.is
         ∙ goes_spelt rows sibs.lists x k f.id (alone_there x k f) y j (among_spelt rows sibs.lists y j g.id (alone_there y j g)) (list_at sibs.lists (home_at sibs.homes k)) b.list b.spelt))
         (cases_eq k root)
@@ -240,7 +240,7 @@ module _ (rows : List Row) (keys : ℕ → Option ℕ) (sibs : Lists) (root : �
     pub before_missing : (x k y : ℕ) → Found rows x k → live_slot rows keys y ≡ None → is_before x y t ≡ false
     before_missing x k y f e = ⊎_elim
         (λ z. ap (in_list (goes_before x y)) (root_list x k f z))
-        (λ n. let b = beside x k f n in
+        (λ n. let b = next_to x k f n in
         ap (in_list (goes_before x y)) b.is
         ∙ never_after rows sibs.lists y (λ q l i. let z : None ≡ Some q = sym e ∙ slot_of_live rows keys sibs root t r s y q l i in absurd cc) x (list_at sibs.lists (home_at sibs.homes k)) b.list b.spelt)
         (cases_eq k root)

@@ -20,8 +20,8 @@ use Rattle.ir_store_reads.specs.Emptied.{emptied_regions, emptied}
 use Rattle.ir_store.specs.Loads.{end_of, put_ops, put_regions, MayOps, MayRegions}
 use Rattle.std.proofs.lemmas.List.Folds.{list_any-append}
 
-in_front : (p : ℕ → Bool) (xs ys : List ℕ) → list_any p xs ≡ true → list_any p (xs ++ ys) ≡ true
-in_front p xs ys e = list_any-append p xs ys ∙ ap (λ b. b || list_any p ys) e
+in_preceding : (p : ℕ → Bool) (xs ys : List ℕ) → list_any p xs ≡ true → list_any p (xs ++ ys) ≡ true
+in_preceding p xs ys e = list_any-append p xs ys ∙ ap (λ b. b || list_any p ys) e
 
 in_back : (p : ℕ → Bool) (xs ys : List ℕ) → list_any p ys ≡ true → list_any p (xs ++ ys) ≡ true
 in_back p xs ys e = list_any-append p xs ys ∙ ap (λ b. list_any p xs || b) e ∙ at_last (list_any p xs)
@@ -93,10 +93,10 @@ module _ (h : Head) (rs : Regions) (own : HasDistinctIds (op h rs)) (stand : Op 
   abbrev so_far : Regions → Op
   so_far cur = stand (op h cur)
 
-  abbrev Front : Regions → List ℕ → Type 0
-  Front cur more = regions_ids cur ++ more ≡ regions_ids rs
+  abbrev Preceding : Regions → List ℕ → Type 0
+  Preceding cur more = regions_ids cur ++ more ≡ regions_ids rs
 
-  module _ (cur : Regions) (more : List ℕ) (e : Front cur more) where
+  module _ (cur : Regions) (more : List ℕ) (e : Preceding cur more) where
     whole : h.id ∷ regions_ids cur ++ more ≡ ids (op h rs)
     whole = ap (λ z. h.id ∷ z) e
 
@@ -107,7 +107,7 @@ module _ (h : Head) (rs : Regions) (own : HasDistinctIds (op h rs)) (stand : Op 
     cur_own = (halves (h.id ∷ regions_ids cur) more own_ids).left
 
     cur_within : Within (op h cur) (op h rs)
-    cur_within y z = ap (list_any (λ w. eqb w y)) (sym whole) ∙ in_front (λ w. eqb w y) (h.id ∷ regions_ids cur) more z
+    cur_within y z = ap (list_any (λ w. eqb w y)) (sym whole) ∙ in_preceding (λ w. eqb w y) (h.id ∷ regions_ids cur) more z
 
   -- one more operation
   module _ (fs : List Region) (args : List ℕ) (os : Ops) (rest : Regions) (c : Op) (more : List ℕ) where
@@ -125,15 +125,15 @@ module _ (h : Head) (rs : Regions) (own : HasDistinctIds (op h rs)) (stand : Op 
         after_ids fs (region (block args (put_last c os)) (emptied_regions rest)) ∙ ap (λ z. fs_ids fs ++ (ops_ids (put_last c os) ++ z)) (emptied_ids rest) ∙ ap (λ z. fs_ids fs ++ z) (append-nil (ops_ids (put_last c os)) ∙ last_ids c os)
         ∙ sym (append_assoc (fs_ids fs) (ops_ids os) (ids c)) ∙ ap (λ z. z ++ ids c) (sym cur_ids)
 
-    module _ (e : Front cur (ids c ++ more)) where
-      front' : Front cur' more
-      front' = ap (λ z. z ++ more) more_ids ∙ append_assoc (regions_ids cur) (ids c) more ∙ e
+    module _ (e : Preceding cur (ids c ++ more)) where
+      preceding' : Preceding cur' more
+      preceding' = ap (λ z. z ++ more) more_ids ∙ append_assoc (regions_ids cur) (ids c) more ∙ e
 
       root_once : Absent h.id (regions_ids cur)
       root_once = absent_first h.id (regions_ids cur) (cur_own cur (ids c ++ more) e)
 
       in_whole : (y : ℕ) → has_id y c ≡ true → has_id y (op h rs) ≡ true
-      in_whole y z = ap (list_any (λ w. eqb w y)) (sym (whole cur (ids c ++ more) e)) ∙ in_back (λ w. eqb w y) (h.id ∷ regions_ids cur) (ids c ++ more) (in_front (λ w. eqb w y) (ids c) more z)
+      in_whole y z = ap (list_any (λ w. eqb w y)) (sym (whole cur (ids c ++ more) e)) ∙ in_back (λ w. eqb w y) (h.id ∷ regions_ids cur) (ids c ++ more) (in_preceding (λ w. eqb w y) (ids c) more z)
 
       parts : (h.id ∷ regions_ids cur) ++ (ids c ++ more) ≡ ((h.id ∷ regions_ids cur) ++ ids c) ++ more
       parts = sym (append_assoc (h.id ∷ regions_ids cur) (ids c) more)
@@ -143,7 +143,7 @@ module _ (h : Head) (rs : Regions) (own : HasDistinctIds (op h rs)) (stand : Op 
         distinct = cur_own cur (ids c ++ more) e;
         own = (halves (ids c) more (halves (h.id ∷ regions_ids cur) (ids c ++ more) (own_ids cur (ids c ++ more) e)).right).left;
         apart = λ y z. ⊎_elim
-            (λ p. absurd (false≢true (sym ((halves (h.id ∷ regions_ids cur) (ids c ++ more) (own_ids cur (ids c ++ more) e)).disjoint y p) ∙ in_front (λ w. eqb w y) (ids c) more z)))
+            (λ p. absurd (false≢true (sym ((halves (h.id ∷ regions_ids cur) (ids c ++ more) (own_ids cur (ids c ++ more) e)).disjoint y p) ∙ in_preceding (λ w. eqb w y) (ids c) more z)))
             (λ n. n)
             (cases_Bool (has_id y (op h cur)));
         point = ap (λ b. is_in_list None (option_and_then (λ o. option_and_then ops_in (region_at (length fs) (regions o))) (if b then Some (op h cur) else find_rest))) (eq-eqb h.id h.id refl)
@@ -160,30 +160,30 @@ module _ (h : Head) (rs : Regions) (own : HasDistinctIds (op h rs)) (stand : Op 
       step_put = along (length fs) c cur ∙ ap stand (put_at_end h cur (length fs) c root_once ∙ ap (op h) (after_last fs args os (emptied_regions rest) c))
 
   -- the operations of a block
-  ops_all : (fs : List Region) (args : List ℕ) (os ps : Ops) (rest : Regions) (more : List ℕ) → Front (trailing fs (region (block args os) (emptied_regions rest))) (ops_ids ps ++ more)
+  ops_all : (fs : List Region) (args : List ℕ) (os ps : Ops) (rest : Regions) (more : List ℕ) → Preceding (trailing fs (region (block args os) (emptied_regions rest))) (ops_ids ps ++ more)
       → MayOps h.id (length fs) ps (so_far (trailing fs (region (block args os) (emptied_regions rest))))
       × ((put_ops h.id (length fs) ps (so_far (trailing fs (region (block args os) (emptied_regions rest)))) ≡ so_far (trailing fs (region (block args (ops_after os ps)) (emptied_regions rest))))
-      × Front (trailing fs (region (block args (ops_after os ps)) (emptied_regions rest))) more)
+      × Preceding (trailing fs (region (block args (ops_after os ps)) (emptied_regions rest))) more)
   ops_all fs args os no_ops rest more e =
-      (tt, (ap (λ z. so_far (trailing fs (region (block args z) (emptied_regions rest)))) (sym (after_none os)), subst (λ z. Front (trailing fs (region (block args z) (emptied_regions rest))) more) (sym (after_none os)) e))
+      (tt, (ap (λ z. so_far (trailing fs (region (block args z) (emptied_regions rest)))) (sym (after_none os)), subst (λ z. Preceding (trailing fs (region (block args z) (emptied_regions rest))) more) (sym (after_none os)) e))
   ops_all fs args os (next c ps) rest more e =
-      let f : Front (trailing fs (region (block args os) (emptied_regions rest))) (ids c ++ (ops_ids ps ++ more)) = ap (λ z. regions_ids (trailing fs (region (block args os) (emptied_regions rest))) ++ z) (sym (append_assoc (ids c) (ops_ids ps) more)) ∙ e in
+      let f : Preceding (trailing fs (region (block args os) (emptied_regions rest))) (ids c ++ (ops_ids ps ++ more)) = ap (λ z. regions_ids (trailing fs (region (block args os) (emptied_regions rest))) ++ z) (sym (append_assoc (ids c) (ops_ids ps) more)) ∙ e in
       let p = step_put fs args os rest c (ops_ids ps ++ more) f in
-      let r = ops_all fs args (put_last c os) ps rest more (front' fs args os rest c (ops_ids ps ++ more) f) in (
+      let r = ops_all fs args (put_last c os) ps rest more (preceding' fs args os rest c (ops_ids ps ++ more) f) in (
         (step_may fs args os rest c (ops_ids ps ++ more) f, subst (MayOps h.id (length fs) ps) (sym p) r.0),
         (
           ap (put_ops h.id (length fs) ps) p ∙ r.1.0 ∙ ap (λ z. so_far (trailing fs (region (block args z) (emptied_regions rest)))) (after_ops os c ps),
-          subst (λ z. Front (trailing fs (region (block args z) (emptied_regions rest))) more) (after_ops os c ps) r.1.1,
+          subst (λ z. Preceding (trailing fs (region (block args z) (emptied_regions rest))) more) (after_ops os c ps) r.1.1,
         ),
       )
 
   -- the regions
-  regions_all : (fs : List Region) (gs : Regions) → Front (trailing fs (emptied_regions gs)) (regions_ids gs)
+  regions_all : (fs : List Region) (gs : Regions) → Preceding (trailing fs (emptied_regions gs)) (regions_ids gs)
       → MayRegions h.id (length fs) gs (so_far (trailing fs (emptied_regions gs))) × (put_regions h.id (length fs) gs (so_far (trailing fs (emptied_regions gs))) ≡ so_far (trailing fs gs))
   regions_all fs no_regions e = (tt, refl)
   regions_all fs (region empty gs) e =
       let m = after_more fs empty (emptied_regions gs) in
-      let r = regions_all (fs ++ empty ∷ []) gs (subst (λ z. Front z (regions_ids gs)) (sym m) e) in (
+      let r = regions_all (fs ++ empty ∷ []) gs (subst (λ z. Preceding z (regions_ids gs)) (sym m) e) in (
         (tt, next_may fs empty gs (so_far (trailing fs (emptied_regions (region empty gs)))) (subst (λ z. MayRegions h.id (length (fs ++ empty ∷ [])) gs (so_far z)) m r.0)),
         next_put fs empty gs (so_far (trailing fs (emptied_regions (region empty gs)))) ∙ ap (λ z. put_regions h.id (length (fs ++ empty ∷ [])) gs (so_far z)) (sym m) ∙ r.1 ∙ ap so_far (after_more fs empty gs),
       )
@@ -197,13 +197,13 @@ module _ (h : Head) (rs : Regions) (own : HasDistinctIds (op h rs)) (stand : Op 
       let a = ops_all fs args no_ops os gs (regions_ids gs) e in
       let g = block args os in
       let m = after_more fs g (emptied_regions gs) in
-      let r = regions_all (fs ++ g ∷ []) gs (subst (λ z. Front z (regions_ids gs)) (sym m) a.1.1) in (
+      let r = regions_all (fs ++ g ∷ []) gs (subst (λ z. Preceding z (regions_ids gs)) (sym m) a.1.1) in (
         (a.0, subst (λ z. MayRegions h.id (length fs + 1) gs z) (sym a.1.0) (subst (λ n. MayRegions h.id n gs (so_far (trailing fs (region g (emptied_regions gs))))) (sym (length_more fs g)) (subst (λ z. MayRegions h.id (length (fs ++ g ∷ [])) gs (so_far z)) m r.0))),
         ap (put_regions h.id (length fs + 1) gs) a.1.0 ∙ ap (λ n. put_regions h.id n gs (so_far (trailing fs (region g (emptied_regions gs))))) (length_more fs g)
             ∙ ap (λ z. put_regions h.id (length (fs ++ g ∷ [])) gs (so_far z)) (sym m) ∙ r.1 ∙ ap so_far (after_more fs g gs),
       )
 
-  start : Front (emptied_regions rs) (regions_ids rs)
+  start : Preceding (emptied_regions rs) (regions_ids rs)
   start = ap (λ z. z ++ regions_ids rs) (emptied_ids rs)
 
   all_in : MayRegions h.id 0 rs (so_far (emptied_regions rs)) × (put_regions h.id 0 rs (so_far (emptied_regions rs)) ≡ so_far rs)

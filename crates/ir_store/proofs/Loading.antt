@@ -136,7 +136,7 @@ module _ (p r : ℕ) (o : Op) (s : Stored) (may : MayPut (end_of p r) (emptied o
     point = may.point;
     values = λ u f. ap (λ z. list_all (λ v. has_value v s.module_of.tree) (head z).operands) (same_Some u (emptied o) (sym f ∙ held_there)) ∙ ap (list_all (λ v. has_value v s.module_of.tree)) operands_same ∙ e;
     newest = λ z. absurd (false≢true z);
-    room = λ z. absurd (false≢true z);
+    headroom = λ z. absurd (false≢true z);
     below = λ z. below;
   }
 

@@ -9,7 +9,7 @@ use Rattle.ir_store.specs.declared.store.Store.TheInside.{Inside}
 use Rattle.ir_store_reads.specs.Stored.{Stored}
 use Rattle.ir_store.specs.Calls.{after_shift}
 use Rattle.ir_store_reads.specs.Rows.{live_slot, held_in, gone_in}
-use Rattle.ir_store_reads.specs.Spells.{SpellsOp, Represented, spelled_is}
+use Rattle.ir_store_reads.specs.Spells.{SpellsOp, Represented, rendered_is}
 use Rattle.ir_store.specs.Holds.{HoldsOf, GoneOf, map_is}
 use Rattle.ir_store_reads.specs.Points.{point_in, joined, StandsIn}
 use Rattle.ir_store.specs.Shifting.{CanRelink}
@@ -66,7 +66,7 @@ module _ (a : Inside) (w : Whole a) (laws : Laws a.sibs.lists a.sibs.homes) (x :
         move_given = ((shifted x place a.represented.0, spelt), (a.holds, (a.lacks, tt)))
 
         pub move_fits : (s : Represented (rows_in a) sibs'.lists a.root) → Fits (rows_in a) (keys_in a) sibs' a.root s.0 a.uses.homes (cells_of a.cells.items) a.count a.next a.marks.homes
-        move_fits s = subst (λ z. Fits (rows_in a) (keys_in a) sibs' a.root z a.uses.homes (cells_of a.cells.items) a.count a.next a.marks.homes) (sym (spelled_is (rows_in a) sibs'.lists a.root s (shifted x place a.represented.0) spelt))
+        move_fits s = subst (λ z. Fits (rows_in a) (keys_in a) sibs' a.root z a.uses.homes (cells_of a.cells.items) a.count a.next a.marks.homes) (sym (rendered_is (rows_in a) sibs'.lists a.root s (shifted x place a.represented.0) spelt))
             (record {
               right = shift_right (rows_in a) (keys_in a) a.sibs a.root a.represented.0 w.right a.represented.1 w.distinct x k here place c at at_point.1.1 can mid el1 eh1 laws1 sibs' el' eh';
               few = w.few;
@@ -82,7 +82,7 @@ module _ (a : Inside) (w : Whole a) (laws : Laws a.sibs.lists a.sibs.homes) (x :
         pub move_done : (s : Represented (rows_in a) sibs'.lists a.root) (m : HoldsOf (rows_in a) (keys_in a)) (g : GoneOf (rows_in a) (keys_in a))
             → ◌≡◌ {A = Stored} (record { module_of = record { tree = s.0; next = a.next }; held = m.0; gone = g.0 }) (after_shift x place (stored a))
         move_done s m g =
-            let e1 = spelled_is (rows_in a) sibs'.lists a.root s (shifted x place a.represented.0) spelt in
+            let e1 = rendered_is (rows_in a) sibs'.lists a.root s (shifted x place a.represented.0) spelt in
             let e2 = map_is (λ y. held_in (rows_in a) (keys_in a y)) m a.holds.0 a.holds.1 in
             let e3 = map_is (λ y. gone_in (rows_in a) (keys_in a y)) g a.lacks.0 a.lacks.1 in
             λ i. record { module_of = record { tree = e1 i; next = a.next }; held = e2 i; gone = e3 i }

@@ -17,7 +17,7 @@ use Rattle.ir_store_reads.specs.tree_laws.Reads.{around}
 use Rattle.ir_store_reads.specs.tree_laws.Tables.{table_of}
 use Rattle.ir_store_reads.specs.tree_laws.Reasons.{unless, has_place, leads_inside, same_table, fits_around, levels_in, shift_reason}
 use Rattle.ir_store_reads.proofs.of_tree_laws.Listed.{both}
-use Rattle.ir_store_reads.proofs.of_tree_laws.Formed.{from_formed}
+use Rattle.ir_store_reads.proofs.of_tree_laws.Wellformed.{from_wellformed}
 use Rattle.ir_store_reads.proofs.of_tree_laws.Members.{found_stands}
 use Rattle.ir_store_reads.proofs.of_tree_laws.Reasoned.{no_unless}
 use Rattle.ir_store.specs.Shifting.{CanRelink, relink_reason, unseen_reason}
@@ -52,9 +52,9 @@ module _ {N T A : Type 0} (isolated is_table : N → Bool) (x : ℕ) (place : Pl
   pub by_dominance : unseen_reason is_table x place t ≡ None → shift_reason isolated is_table x place t ≡ unless (operands_visible isolated (shifted x place t)) NotVisible None
   by_dominance h = shift_reason_is ∙ ap (λ r. first_reason r (unless (operands_visible isolated (shifted x place t)) NotVisible None)) h
 
-leaves_room : (n : ℕ) (o : Option ℕ) → is_some o ≡ true → fits_around n o ≡ true → nat_lt n most_around ≡ true
-leaves_room n None e f = absurd (true≢false (sym e))
-leaves_room n (Some m) e f = grind (arith, nat_tests, f)
+leaves_headroom : (n : ℕ) (o : Option ℕ) → is_some o ≡ true → fits_around n o ≡ true → nat_lt n most_around ≡ true
+leaves_headroom n None e f = absurd (true≢false (sym e))
+leaves_headroom n (Some m) e f = grind (arith, nat_tests, f)
 
 few_results : {N T A : Type 0} (o : OpOf N T A) → op_fits o ≡ true → length (head o).results ≤ most_items
 few_results (op h rs) e =
@@ -86,7 +86,7 @@ module _ (isolated is_table : ℕ → Bool) (x : ℕ) (place : Place) (m : Modul
 
   own_fits : op_fits own.0 ≡ true
   own_fits =
-      let g = from_formed isolated t w.formed in
+      let g = from_wellformed isolated t w.wellformed in
       let s = found_stands x t own.0 own.1 in
       ap op_fits (sym s.3) ∙ g.fits s.0 s.1
 
@@ -94,12 +94,12 @@ module _ (isolated is_table : ℕ → Bool) (x : ℕ) (place : Place) (m : Modul
   pub may_look : CanLook x (shifted x place m.tree)
   may_look = record {
     there = found_there x (shifted x place t) own.0 after;
-    levels = leaves_room (levels_in (find x (shifted x place t))) (around place.parent t) (around_some t w.distinct place.parent (parent_there x place t parts.0)) (ap (λ z. fits_around (levels_in z) (around place.parent t)) (after ∙ sym own.1) ∙ levels);
+    levels = leaves_headroom (levels_in (find x (shifted x place t))) (around place.parent t) (around_some t w.distinct place.parent (parent_there x place t parts.0)) (ap (λ z. fits_around (levels_in z) (around place.parent t)) (after ∙ sym own.1) ∙ levels);
     results = subst (λ z. results_in z ≤ most_items) (sym after) (few_results own.0 own_fits);
   }
 
   dominance : is_seen isolated x (shifted x place t) ≡ operands_visible isolated (shifted x place t)
-  dominance = seen_is x place t own.0 w.distinct own.1 may_relink.inner may_relink.point out isolated (w.formed.visible)
+  dominance = seen_is x place t own.0 w.distinct own.1 may_relink.inner may_relink.point out isolated (w.wellformed.visible)
 
   pub seen_reason : is_seen isolated x (shifted x place m.tree) ≡ true → shift_reason isolated is_table x place m.tree ≡ None
   seen_reason k = by_dominance isolated is_table x place t e ∙ ap (λ b. unless b NotVisible None) (sym dominance ∙ k)

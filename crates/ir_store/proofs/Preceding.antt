@@ -50,9 +50,9 @@ module _ {N T A : Type 0} where
           (omega (arith, l), λ _. (a, ap (λ z. a ∷ z) path, ap (λ (z : StandOf N T A). z.here) e))
       up (inr r) = let n = r.0 in (omega (arith, n), λ e. absurd (omega (arith, n, e)))
 
-  among_there : (x : ℕ) (front : List (OpOf N T A)) (o : OpOf N T A) (rest : List (OpOf N T A)) → (head o).id ≡ x → is_among x (ops_of (front ++ o ∷ rest)) ≡ true
+  among_there : (x : ℕ) (preceding : List (OpOf N T A)) (o : OpOf N T A) (rest : List (OpOf N T A)) → (head o).id ≡ x → is_among x (ops_of (preceding ++ o ∷ rest)) ≡ true
   among_there x [] o rest e = or_left (eqb (head o).id x) (is_among x (ops_of rest)) (eq-eqb (head o).id x e)
-  among_there x (f ∷ front) o rest e = or_right (eqb (head f).id x) (is_among x (ops_of (front ++ o ∷ rest))) (among_there x front o rest e)
+  among_there x (f ∷ preceding) o rest e = or_right (eqb (head f).id x) (is_among x (ops_of (preceding ++ o ∷ rest))) (among_there x preceding o rest e)
 
 -- if ids are distinct
 module _ {N T A : Type 0} (t : OpOf N T A) (d : HasDistinctIds t) where
@@ -172,14 +172,14 @@ module _ {N T A : Type 0} (t : OpOf N T A) (d : HasDistinctIds t) where
     in_block = go (list_there t d w.here w.step w.path w.there)
       where
         os : OpsOf N T A
-        os = ops_of (w.step.front ++ w.here ∷ op_list w.step.rest)
+        os = ops_of (w.step.preceding ++ w.here ∷ op_list w.step.rest)
 
         go : list_of (head w.here).id t ≡ Some os → OfRegion w.step.parent place.region x
         go k =
             let at : ops_at place.parent place.region t ≡ Some os = sym (ap (option_and_then (λ p. ops_at p.parent p.region t)) e) ∙ ap (λ z. list_of z t) (sym w.id) ∙ k in
             let found : find place.parent t ≡ Some w.step.parent = ap (λ z. find z t) (sym w.parent) ∙ stand_found t d (stand w.step.parent w.path) w.up in
             let b = block_at place.region w.step.parent os (region_at place.region (regions w.step.parent)) refl (sym (ap (option_and_then (λ o. option_and_then ops_in (region_at place.region (regions o)))) found) ∙ at) in
-            record { args = b.0; list = os; is = b.1; among = among_there x w.step.front w.here (op_list w.step.rest) w.id }
+            record { args = b.0; list = os; is = b.1; among = among_there x w.step.preceding w.here (op_list w.step.rest) w.id }
 
     list_is : list_of x t ≡ Some in_block.list
     unfolding in_block

@@ -17,7 +17,7 @@ use Rattle.ir_store_reads.specs.Stored.{Gone, none_gone}
 use Rattle.ir_store.specs.Calls.{Releases, gone_left}
 use Rattle.ir_store_reads.specs.Releases.{is_given, released, key_left}
 use Rattle.ir_store_reads.specs.Rows.{Row, Shape, row_at, vacated, held_in, gone_in, bare, if_live}
-use Rattle.ir_store_reads.specs.Spells.{SpellsOp, SpellsRegions, SpellsRegion, SpellsOps, Represented, spelled_is}
+use Rattle.ir_store_reads.specs.Spells.{SpellsOp, SpellsRegions, SpellsRegion, SpellsOps, Represented, rendered_is}
 use Rattle.ir_store.specs.Holds.{HoldsOf, GoneOf, map_is}
 use Rattle.ir_store_reads.specs.Right.{Live, Used, Right}
 use Rattle.ir_store_reads.specs.Index.{operand_at, cell_at, LinkedTo, argument_head, slot_head, value_head, Index, Celled, Fits, lives, HasOwners, HasIdsBelow, cells_of}
@@ -378,7 +378,7 @@ module _ (a : Inside) (w : Whole a) (from : ℕ) (rows' : List Row) (long : leng
 
   pub release_fits : (s : Represented rows' a.sibs.lists a.root) (marks : List ℕ) → Marked rows' marks → Fits rows' keys' a.sibs a.root s.0 a.uses.homes (cells_of a.cells.items) a.count a.next marks
   release_fits s marks m =
-      let e = spelled_is rows' a.sibs.lists a.root s a.represented.0 spells in
+      let e = rendered_is rows' a.sibs.lists a.root s a.represented.0 spells in
       record {
         right = subst (Right rows' keys' a.sibs a.root) (sym e) (release_right from (rows_in a) (keys_in a) a.sibs a.root a.represented.0 w.right a.represented.1 rows' long all keys' left);
         few = w.few;
@@ -394,7 +394,7 @@ module _ (a : Inside) (w : Whole a) (from : ℕ) (rows' : List Row) (long : leng
   pub release_done : (s : Represented rows' a.sibs.lists a.root) (h : HoldsOf rows' keys') (g : GoneOf rows' keys')
       → Releases from (stored a) (record { module_of = record { tree = s.0; next = a.next }; held = h.0; gone = g.0 })
   release_done s h g =
-      let e = spelled_is rows' a.sibs.lists a.root s a.represented.0 spells in
+      let e = rendered_is rows' a.sibs.lists a.root s a.represented.0 spells in
       record {
         module_of = λ i. record { tree = e i; next = a.next };
         held = map_is (λ y. held_in rows' (keys' y)) h (finmap.retain_keys a.holds.0 (λ x. nat_lt x from)) holds;

@@ -117,6 +117,6 @@ module _ {N T A : Type 0} (t : OpOf N T A) (d : HasDistinctIds t) where
       let w = present_stand [] t x there in
       ap is_some (sym (stands_around x [] t) ∙ ap (option_map (λ (s : StandOf N T A). length s.path)) (ap (λ z. stand_of z t) (sym w.2) ∙ stand_of_member t d w.0 w.1))
 
-pub room_is : (n : ℕ) (o : Option ℕ) → is_some o ≡ true → nat_lt n (most_around - level o) ≡ fits_around n o
-room_is n None e = absurd (true≢false (sym e))
-room_is n (Some m) e = grind (arith, nat_tests)
+pub headroom_is : (n : ℕ) (o : Option ℕ) → is_some o ≡ true → nat_lt n (most_around - level o) ≡ fits_around n o
+headroom_is n None e = absurd (true≢false (sym e))
+headroom_is n (Some m) e = grind (arith, nat_tests)

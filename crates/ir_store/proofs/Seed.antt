@@ -30,7 +30,7 @@ use Rattle.ir_store_reads.proofs.Celled.{celled_edit}
 use Rattle.std.proofs.lemmas.Option.{same_Some}
 
 abbrev pub nothing : Parts
-nothing = record { rows = []; sibs = record { lists = []; homes = []; room = 0 }; homes = []; cells = [] }
+nothing = record { rows = []; sibs = record { lists = []; homes = []; headroom = 0 }; homes = []; cells = [] }
 
 pub nothing_even : IsEven nothing
 nothing_even = record { long = refl; lists = refl; counted = refl }
@@ -41,7 +41,7 @@ no_keys y = None
 no_used : (k : ℕ) → Used [] k → ⊥
 no_used k u = false≢true u.used
 
-nothing_keyed : Keyed [] no_keys (record { lists = []; homes = []; room = 0 })
+nothing_keyed : Keyed [] no_keys (record { lists = []; homes = []; headroom = 0 })
 nothing_keyed = record { long = refl; keyed = λ k u. absurd (no_used k u); known = λ x k e. absurd cc; blocks = λ k r a u e. absurd (no_used k u) }
 
 nothing_index : Index [] no_keys [] [] (lives [])

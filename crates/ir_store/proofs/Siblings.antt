@@ -8,7 +8,7 @@ use Rattle.ir_store_reads.proofs.of_trees.Returns.{Present, halves}
 use Rattle.ir_store_reads.specs.tree_laws.Values.{region_at}
 use Rattle.ir_store_reads.specs.tree_laws.Reads.{is_among, goes_before, comes_after}
 use Rattle.ir_store_reads.proofs.of_tree_laws.Listed.{bool_cases, neither, either, or_left}
-use Rattle.ir_store.proofs.After.{there, in_front, in_back, skip, hit, never_later, cut_back, not_itself}
+use Rattle.ir_store.proofs.After.{there, in_preceding, in_back, skip, hit, never_later, cut_back, not_itself}
 use Rattle.ir_store_reads.proofs.of_trees.of_types.Truths.{both_false}
 use Rattle.ir_store_reads.proofs.of_trees.Facts.{ids_head}
 
@@ -23,7 +23,7 @@ module _ {N T A : Type 0} where
   among_ids : (y : ℕ) (os : OpsOf N T A) → is_among y os ≡ true → Present y (ops_ids os)
   among_ids y no_ops e = absurd (true≢false (sym e))
   among_ids y (next o os) e = elim (either (eqb (head o).id y) (is_among y os) e) [
-    | inl k ↦ in_front y (ids o) (ops_ids os) (subst (λ z. Present z (ids o)) (eqb-true (head o).id y k) (own_present o))
+    | inl k ↦ in_preceding y (ids o) (ops_ids os) (subst (λ z. Present z (ids o)) (eqb-true (head o).id y k) (own_present o))
     | inr k ↦ in_back y (ids o) (ops_ids os) (among_ids y os k)
   ]
 
@@ -59,7 +59,7 @@ module _ {N T A : Type 0} where
   in_region : (r : ℕ) (rs : RegionsOf N T A) (args : List T) (os : OpsOf N T A) → region_at r rs ≡ Some (block args os) → (y : ℕ) → Present y (ops_ids os) → Present y (regions_ids rs)
   in_region zero no_regions args os e y h = absurd cc
   in_region (suc r) no_regions args os e y h = absurd cc
-  in_region zero (region g rs) args os e y h = (let same : g ≡ block args os = cc in in_front y (region_ids g) (regions_ids rs) (subst (λ (z : RegionOf N T A). Present y (region_ids z)) (sym same) h))
+  in_region zero (region g rs) args os e y h = (let same : g ≡ block args os = cc in in_preceding y (region_ids g) (regions_ids rs) (subst (λ (z : RegionOf N T A). Present y (region_ids z)) (sym same) h))
   in_region (suc r) (region g rs) args os e y h = in_back y (region_ids g) (regions_ids rs) (in_region r rs args os e y h)
 
   same_region : (r : ℕ) (rs : RegionsOf N T A) (args : List T) (os : OpsOf N T A) → region_at r rs ≡ Some (block args os) → IsDistinct eqb (regions_ids rs)

@@ -11,7 +11,7 @@ use Rattle.ir_store.specs.declared.store.Store.TheInside.{Inside}
 use Rattle.ir_store_reads.specs.Stored.{Stored}
 use Rattle.ir_store.specs.Calls.{after_restore, put_held}
 use Rattle.ir_store_reads.specs.Rows.{Row, Shape, row_at, live_slot, held_slot, if_held, head_in, held_in, gone_in, bare}
-use Rattle.ir_store_reads.specs.Spells.{SpellsOp, Represented, spelled_is}
+use Rattle.ir_store_reads.specs.Spells.{SpellsOp, Represented, rendered_is}
 use Rattle.ir_store.specs.Holds.{HoldsOf, GoneOf, map_is}
 use Rattle.ir_store_reads.specs.Points.{point_in, before_in, at_slot, stands, joined, StandsIn}
 use Rattle.ir_store_reads.specs.Right.{Live, Right}
@@ -148,13 +148,13 @@ module _ (a : Inside) (r : IsRight a) (laws : Laws a.sibs.lists a.sibs.homes) (x
     spells = join_spells (rows_in a) (keys_in a) a.sibs a.root a.represented.0 r a.represented.1 laws x k fk place sp.0 at sp.1.1 rows' long' others come sibs' el' eh'
 
     pub joint_tree : (w : Represented rows' sibs'.lists a.root) → w.0 ≡ put place o a.represented.0
-    joint_tree w = spelled_is rows' sibs'.lists a.root w (put place o a.represented.0) spells
+    joint_tree w = rendered_is rows' sibs'.lists a.root w (put place o a.represented.0) spells
 
     pub joint_distinct : HasDistinctIds a.represented.0 → (w : Represented rows' sibs'.lists a.root) → HasDistinctIds w.0
     joint_distinct d w = subst HasDistinctIds (sym (joint_tree w)) (bare_distinct place (row_at (rows_in a) k) a.represented.0 d joint_out)
 
     pub joint_right : (w : Represented rows' sibs'.lists a.root) → Right rows' (keys_in a) sibs' a.root w.0
-    joint_right w = subst (Right rows' (keys_in a) sibs' a.root) (sym (spelled_is rows' sibs'.lists a.root w (put place o a.represented.0) spells))
+    joint_right w = subst (Right rows' (keys_in a) sibs' a.root) (sym (rendered_is rows' sibs'.lists a.root w (put place o a.represented.0) spells))
         (join_right (rows_in a) (keys_in a) a.sibs a.root a.represented.0 r a.represented.1 laws x k fk place sp.0 at sp.1.1 rows' long' others come sibs' el' eh')
 
     holds : (y : ℕ) → finmap.get (finmap.remove a.holds.0 x) y ≡ held_in rows' (keys_in a y)
@@ -170,7 +170,7 @@ module _ (a : Inside) (r : IsRight a) (laws : Laws a.sibs.lists a.sibs.homes) (x
         → ◌≡◌ {A = Stored} (record { module_of = record { tree = w.0; next = a.next }; held = v.0; gone = g.0 }) (after_restore x place false (stored a))
     joint_done w v g =
         let was = was_held (rows_in a) (keys_in a) a.sibs a.root a.represented.0 r a.represented.1 laws x k fk place sp.0 at sp.1.1 rows' long' others come sibs' el' eh' a.holds.0 a.holds.1 in
-        let e1 = spelled_is rows' sibs'.lists a.root w (put place o a.represented.0) spells ∙ ap (λ z. put_held place z a.represented.0) (sym was) in
+        let e1 = rendered_is rows' sibs'.lists a.root w (put place o a.represented.0) spells ∙ ap (λ z. put_held place z a.represented.0) (sym was) in
         let e2 = map_is (λ y. held_in rows' (keys_in a y)) v (finmap.remove a.holds.0 x) holds in
         let e3 = map_is (λ y. gone_in rows' (keys_in a y)) g a.lacks.0 lacks in
         λ i. record { module_of = record { tree = e1 i; next = a.next }; held = e2 i; gone = e3 i }

@@ -41,20 +41,20 @@ module _ (x : ℕ) where
         let c = neither (eqb h.id x) (has_regions x rs) b.0 in
         rw c.0 (rw (no_place (op h rs) b.0) (no_place_ops p r os b.1))
 
-has_last : (front : List ℕ) (j : ℕ) (ks : List ℕ) → has j (front ++ j ∷ ks) ≡ true
+has_last : (preceding : List ℕ) (j : ℕ) (ks : List ℕ) → has j (preceding ++ j ∷ ks) ≡ true
 has_last [] j ks = or_left (eqb j j) (has j ks) (eq-eqb j j refl)
-has_last (f ∷ front) j ks = ap (λ b. eqb f j || b) (has_last front j ks) ∙ at_last (eqb f j)
+has_last (f ∷ preceding) j ks = ap (λ b. eqb f j || b) (has_last preceding j ks) ∙ at_last (eqb f j)
   where
     at_last : (a : Bool) → (a || true) ≡ true
     at_last true = refl
     at_last false = refl
 
 -- the nodes after a node of a list
-after_front : (front : List ℕ) (j : ℕ) (ks : List ℕ) → Once (front ++ j ∷ ks) → after j (front ++ j ∷ ks) ≡ slice_get ks 0
-after_front [] j ks o = cond-true (eqb j j) (slice_get ks 0) (after j ks) (eq-eqb j j refl)
-after_front (f ∷ front) j ks o = ⊎_elim
-    (λ y. absurd (false≢true (sym o.0 ∙ ap (λ z. has z (front ++ j ∷ ks)) (eqb-true f j y) ∙ has_last front j ks)))
-    (λ n. cond-false (eqb f j) (slice_get (front ++ j ∷ ks) 0) (after j (front ++ j ∷ ks)) n ∙ after_front front j ks o.1)
+after_preceding : (preceding : List ℕ) (j : ℕ) (ks : List ℕ) → Once (preceding ++ j ∷ ks) → after j (preceding ++ j ∷ ks) ≡ slice_get ks 0
+after_preceding [] j ks o = cond-true (eqb j j) (slice_get ks 0) (after j ks) (eq-eqb j j refl)
+after_preceding (f ∷ preceding) j ks o = ⊎_elim
+    (λ y. absurd (false≢true (sym o.0 ∙ ap (λ z. has z (preceding ++ j ∷ ks)) (eqb-true f j y) ∙ has_last preceding j ks)))
+    (λ n. cond-false (eqb f j) (slice_get (preceding ++ j ∷ ks) 0) (after j (preceding ++ j ∷ ks)) n ∙ after_preceding preceding j ks o.1)
     (cases_Bool (eqb f j))
 
 module _ (rows : List Row) (keys : ℕ → Option ℕ) (sibs : Lists) (root : ℕ) (t : Op) (r : Right rows keys sibs root t) (s : SpellsOp rows sibs.lists root t) (laws : Laws sibs.lists sibs.homes) where
@@ -79,15 +79,15 @@ module _ (rows : List Row) (keys : ℕ → Option ℕ) (sibs : Lists) (root : �
     none_left : (a b : Option Place) → a ≡ None → PlaceIs b → PlaceIs (first_of a b)
     none_left a b e p = subst (λ z. PlaceIs (first_of z b)) (sym e) p
 
-    here : (q : ℕ) → Live rows q → (n : ℕ) (a : List ℕ × ℕ) → slice_get (row_at rows q).shapes n ≡ Some (Some a) → (front : List ℕ) (j : ℕ) (ks : List ℕ) → front ++ j ∷ ks ≡ list_at sibs.lists a.1 → (os : Ops) → SpellsOps rows sibs.lists ks os
+    here : (q : ℕ) → Live rows q → (n : ℕ) (a : List ℕ × ℕ) → slice_get (row_at rows q).shapes n ≡ Some (Some a) → (preceding : List ℕ) (j : ℕ) (ks : List ℕ) → preceding ++ j ∷ ks ≡ list_at sibs.lists a.1 → (os : Ops) → SpellsOps rows sibs.lists ks os
         → ◌≡◌ {A = Place} (record { parent = (row_at rows q).head.id; region = n; before = first_id os }) (slot_place rows sibs.lists sibs.homes j)
-    here q l n a f front j ks w os z =
+    here q l n a f preceding j ks w os z =
         let b = r.blocks q n a (r.live_used q l) f in
-        let home : home_at sibs.homes j ≡ a.1 = (laws.members a.1 j (ap (has j) (sym w) ∙ has_last front j ks)).0 in
+        let home : home_at sibs.homes j ≡ a.1 = (laws.members a.1 j (ap (has j) (sym w) ∙ has_last preceding j ks)).0 in
         let e1 : (row_at rows q).head.id ≡ id_in rows (row_at rows (home_at sibs.homes j)).owner = ap (id_in rows) (sym b.owner ∙ ap (λ v. (row_at rows v).owner) (sym home)) in
         let e2 : n ≡ (row_at rows (home_at sibs.homes j)).region = sym b.region ∙ ap (λ v. (row_at rows v).region) (sym home) in
         let e3 : first_id os ≡ option_map (id_in rows) (after j (list_at sibs.lists (home_at sibs.homes j))) = first_of_list ks os z ∙ ap (option_map (id_in rows))
-        (sym (after_front front j ks (subst Once (sym w) (laws.once a.1))) ∙ ap (after j) w ∙ ap (λ v. after j (list_at sibs.lists v)) (sym home)) in
+        (sym (after_preceding preceding j ks (subst Once (sym w) (laws.once a.1))) ∙ ap (after j) w ∙ ap (λ v. after j (list_at sibs.lists v)) (sym home)) in
         λ i. record { parent = e1 i; region = e2 i; before = e3 i }
 
     mutual
@@ -108,20 +108,20 @@ module _ (rows : List Row) (keys : ℕ → Option ℕ) (sibs : Lists) (root : �
       region_at q l n None (block args os) f z e = absurd z
       region_at q l n (Some a) (block args os) f z e = ops_at q l n a f [] (list_at sibs.lists a.1) refl os z.1 e
 
-      ops_at : (q : ℕ) → Live rows q → (n : ℕ) (a : List ℕ × ℕ) → slice_get (row_at rows q).shapes n ≡ Some (Some a) → (front ks : List ℕ) → front ++ ks ≡ list_at sibs.lists a.1 → (os : Ops) → SpellsOps rows sibs.lists ks os → has_ops x os ≡ true
+      ops_at : (q : ℕ) → Live rows q → (n : ℕ) (a : List ℕ × ℕ) → slice_get (row_at rows q).shapes n ≡ Some (Some a) → (preceding ks : List ℕ) → preceding ++ ks ≡ list_at sibs.lists a.1 → (os : Ops) → SpellsOps rows sibs.lists ks os → has_ops x os ≡ true
           → PlaceIs (ops_place x (row_at rows q).head.id n os)
-      ops_at q l n a f front ks w no_ops z e = absurd (false≢true e)
-      ops_at q l n a f front [] w (next o os) z e = absurd z
-      ops_at q l n a f front (j ∷ ks) w (next (op h rs) os) z e = ⊎_elim
+      ops_at q l n a f preceding ks w no_ops z e = absurd (false≢true e)
+      ops_at q l n a f preceding [] w (next o os) z e = absurd z
+      ops_at q l n a f preceding (j ∷ ks) w (next (op h rs) os) z e = ⊎_elim
           (λ y.
           let same : j ≡ k = one j (live_of rows sibs.lists j (op h rs) z.0) (sym (head_id rows sibs.lists j (op h rs) z.0) ∙ eqb-true h.id x y) in
           subst PlaceIs (sym (cond-true (eqb h.id x) (Some (record { parent = (row_at rows q).head.id; region = n; before = first_id os })) (first_of (place_of x (op h rs)) (ops_place x (row_at rows q).head.id n os)) y))
-          (here q l n a f front j ks w os z.1 ∙ ap (slot_place rows sibs.lists sibs.homes) same))
+          (here q l n a f preceding j ks w os z.1 ∙ ap (slot_place rows sibs.lists sibs.homes) same))
           (λ m. subst PlaceIs (sym (cond-false (eqb h.id x) (Some (record { parent = (row_at rows q).head.id; region = n; before = first_id os })) (first_of (place_of x (op h rs)) (ops_place x (row_at rows q).head.id n os)) m))
           (⊎_elim
           (λ y. left_is (place_of x (op h rs)) (ops_place x (row_at rows q).head.id n os) (op_place j (op h rs) z.0 m y))
           (λ v. none_left (place_of x (op h rs)) (ops_place x (row_at rows q).head.id n os) (no_place x (op h rs) v)
-          (ops_at q l n a f (front ++ j ∷ []) ks (append_assoc front (j ∷ []) ks ∙ w) os z.1 (either (has_op x (op h rs)) (has_ops x os) e v)))
+          (ops_at q l n a f (preceding ++ j ∷ []) ks (append_assoc preceding (j ∷ []) ks ∙ w) os z.1 (either (has_op x (op h rs)) (has_ops x os) e v)))
           (cases_Bool (has_op x (op h rs)))))
           (cases_Bool (eqb h.id x))
 

@@ -12,7 +12,7 @@ use Rattle.ir_store_reads.specs.trees.Tree.{Op, op, head}
 use Rattle.ir_store_reads.specs.trees.Ids.{HasDistinctIds, ids, has_id, op_count}
 use Rattle.ir_store_reads.specs.trees.Places.{put, without}
 use Rattle.ir_store_reads.specs.tree_laws.Reasons.{has_place, leaves, unused}
-use Rattle.ir_store_reads.proofs.of_tree_laws.Formed.{no_more}
+use Rattle.ir_store_reads.proofs.of_tree_laws.Wellformed.{no_more}
 use Rattle.ir_store_reads.proofs.of_tree_laws.Edited.{put_op_count, taken_op_count}
 use Rattle.ir_store_reads.specs.Rows.{Row, row_at, if_live, live_slot, bare, row_with_operand}
 use Rattle.ir_store_reads.specs.Spells.{SpellsOp}

@@ -113,7 +113,7 @@ pub record CanRestore (x : ℕ) (place : Place) (fresh : Bool) (s : Stored) : Ty
   pub point : has_place place s.module_of.tree ≡ true
   pub values : (o : Op) → map.get s.held x ≡ Some o → list_all (λ v. has_value v s.module_of.tree) (head o).operands ≡ true
   pub newest : fresh ≡ true → s.module_of.next ≡ x
-  pub room : fresh ≡ true → x < most_next
+  pub headroom : fresh ≡ true → x < most_next
   pub below : fresh ≡ false → x < s.module_of.next
 
 -- operation x is in the module and isn't the root; it has no operations inside it and no uses: x can be taken out

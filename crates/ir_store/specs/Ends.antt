@@ -11,6 +11,6 @@ ids_in (Some o) = ids o
 -- operation y is inside operation x, and the ids of y and of the operations inside it are the last ids of x
 pub record IsLastIn {N T A : Type 0} (x y : ℕ) (t : OpOf N T A) : Type 0 where
   pub there : has_id y t ≡ true
-  pub front : ℕ
+  pub preceding : ℕ
   pub before : List ℕ
-  pub is : ids_in (find x t) ≡ front ∷ (before ++ ids_in (find y t))
+  pub is : ids_in (find x t) ≡ preceding ∷ (before ++ ids_in (find y t))

@@ -49,7 +49,7 @@ impl Store {
         ensures refused { MatchResult result (λ _. set_entry_reason (key_before_in ctx.now) op part key value self.old.module_of.tree ≡ None)
             (λ e. IsRefusedFor {A = Unit {0}} (set_entry_reason (key_before_in ctx.now) op part key value self.old.module_of.tree) (Err e)) }
         ensures sound { IsSoundIn ctx.now self.new.module_of.tree }
-        ensures formed { IsWellFormed (isolated_in ctx.now) self.old.module_of → IsWellFormed (isolated_in ctx.now) self.new.module_of }
+        ensures wellformed { IsWellFormed (isolated_in ctx.now) self.old.module_of → IsWellFormed (isolated_in ctx.now) self.new.module_of }
         ensures err { OnErr result (self.new ≡ self.old) }
         ensures slot { WantsNoSlot op part key value self.old → IfErr result (λ e. set_entry_reason (key_before_in ctx.now) op part key value self.old.module_of.tree ≡ Some e) }
     {

@@ -127,8 +127,8 @@ fn spread(alloc: Global, tree: &TreeOp, next: u32) -> Result<Store, AllocError>
     requires root { (head tree.now).operands ≡ [] }
     ensures { IfOk result (λ s. Loaded tree.now next s) }
 {
-    let room = capacity_for(tree);
-    let mut store = Store::from_root(alloc, tree, next, &room)?;
+    let headroom = capacity_for(tree);
+    let mut store = Store::from_root(alloc, tree, next, &headroom)?;
     load_regions(&mut store, tree.id, &tree.regions)?;
     Ok(store)
 }
@@ -143,7 +143,7 @@ impl Store {
         requires distinct { HasDistinctIds tree.now }
         requires below { All (λ x. x < next) (ids tree.now) }
         ensures ok { IfOk result (λ s. Loaded tree.now next s) }
-        ensures formed { IfOk result (λ s. IsWellFormed (isolated_in ctx.now) s.module_of) }
+        ensures wellformed { IfOk result (λ s. IsWellFormed (isolated_in ctx.now) s.module_of) }
         ensures refused { IfErr result (λ e. (e ≡ Refusal.Memory) ⊎ (fault (isolated_in ctx.now) tree.now ≡ Some e)) }
     {
         match check(alloc, ctx, tree) {
@@ -169,9 +169,9 @@ impl Store {
         requires sound { IsSoundIn ctx.now tree }
         requires distinct { HasDistinctIds tree }
         requires below { All (λ x. x < next) (ids tree) }
-        requires formed { IsValidTree (isolated_in ctx.now) tree }
+        requires wellformed { IsValidTree (isolated_in ctx.now) tree }
         ensures ok { IfOk result (λ s. Loaded tree next s) }
-        ensures formed { IfOk result (λ s. IsWellFormed (isolated_in ctx.now) s.module_of) }
+        ensures wellformed { IfOk result (λ s. IsWellFormed (isolated_in ctx.now) s.module_of) }
         ensures refused { IfErr result (λ e. e ≡ Refusal.Memory) }
     {
         let store = spread(alloc, &tree, next)?;

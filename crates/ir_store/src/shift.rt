@@ -62,7 +62,7 @@ impl Store {
         ensures done { MatchResult result
             (λ _. (shift_reason (isolated_in ctx.now) (λ n. is_table (name_term ctx.now n)) op place self.old.module_of.tree ≡ None) × (self.new ≡ after_shift op place self.old))
             (λ e. (shift_reason (isolated_in ctx.now) (λ n. is_table (name_term ctx.now n)) op place self.old.module_of.tree ≡ Some e) × (self.new ≡ self.old)) }
-        ensures formed { IsWellFormed (isolated_in ctx.now) self.new.module_of }
+        ensures wellformed { IsWellFormed (isolated_in ctx.now) self.new.module_of }
     {
         self.distinct();
         match self.dominance_fault(ctx, op, &place) {
@@ -211,8 +211,8 @@ impl Store {
         let Some(key) = find(&self.rows, &self.keys, op) else {
             return false;
         };
-        let room = self.room_in(parent);
-        op_fits(&self.rows, &self.sibs, key, room)
+        let headroom = self.headroom_in(parent);
+        op_fits(&self.rows, &self.sibs, key, headroom)
     }
 
     /// Returns whether an operation with `levels` levels inside it keeps within the depth limit as a child of `parent`.
@@ -221,22 +221,22 @@ impl Store {
         ensures { result ≡ fits_around levels (around parent self.now.module_of.tree) }
     {
         self.distinct();
-        levels < self.room_in(parent)
+        levels < self.headroom_in(parent)
     }
 
     /// Returns how many levels may be nested inside an operation of the module.
-    fn room_in(&self, op: OpId) -> u32
+    fn headroom_in(&self, op: OpId) -> u32
         ensures { result ≡ most_around - level (around op self.now.module_of.tree) }
     {
         self.distinct();
         let mut at = op;
-        let mut room = MOST_AROUND as u32;
-        'around: while room > 0 {
+        let mut headroom = MOST_AROUND as u32;
+        'around: while headroom > 0 {
             let Some(place) = self.place(at) else {
-                return room;
+                return headroom;
             };
             at = place.parent;
-            room -= 1;
+            headroom -= 1;
         }
         0
     }

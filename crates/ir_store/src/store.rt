@@ -243,7 +243,7 @@ impl Store {
         alloc: Global,
         header: &TreeOp,
         next: u32,
-        room: &Capacity,
+        headroom: &Capacity,
     ) -> Result<Store, AllocError>
         requires bare { (head header.now).operands ≡ [] }
         requires below { (head header.now).id < next }
@@ -251,16 +251,16 @@ impl Store {
     {
         let rows = Slots::with_capacity(
             alloc,
-            room.slots,
-            room.short,
-            room.plain,
-            room.entered,
-            room.whole,
+            headroom.slots,
+            headroom.short,
+            headroom.plain,
+            headroom.entered,
+            headroom.whole,
         )?;
-        let sibs = OrderedLists::with_capacity(alloc, room.slots)?;
-        let uses = LinkedLists::with_capacity(alloc, room.uses)?;
-        let cells = Vec::with_capacity(alloc, room.uses)?;
-        let keys = IdTable::with_capacity(alloc, room.ops)?;
+        let sibs = OrderedLists::with_capacity(alloc, headroom.slots)?;
+        let uses = LinkedLists::with_capacity(alloc, headroom.uses)?;
+        let cells = Vec::with_capacity(alloc, headroom.uses)?;
+        let keys = IdTable::with_capacity(alloc, headroom.ops)?;
         Store::seed_in(alloc, rows, sibs, uses, cells, keys, header, next)
     }
 
@@ -278,8 +278,8 @@ impl Store {
         requires bare { (head header.now).operands ≡ [] }
         requires below { (head header.now).id < next }
         requires rows { rows ≡ [] }
-        requires sibs { sibs ≡ record { lists = []; homes = []; room = 0 } }
-        requires uses { uses ≡ record { lists = []; homes = []; room = 0 } }
+        requires sibs { sibs ≡ record { lists = []; homes = []; headroom = 0 } }
+        requires uses { uses ≡ record { lists = []; homes = []; headroom = 0 } }
         requires cells { cells.items ≡ [] }
         requires keys { keys ≡ finmap.empty }
         ensures { IfOk result (λ s. s ≡ seeded header.now next) }

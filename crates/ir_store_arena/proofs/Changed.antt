@@ -25,50 +25,50 @@ pub slot_is : (k n : ℕ) (all : List (ℕ × ℕ)) → has_key k all ≡ has_sl
 slot_is k n all = ap (has_key k) (sym (take-append-drop n all)) ∙ any_append k (take n all) (drop n all)
 
 module _ (before : ℕ → ℕ → Bool) (k n at : ℕ) (old : List (ℕ × ℕ)) (l : n ≤ length old) where
-  abbrev front : List (ℕ × ℕ)
-  front = take n old
+  abbrev preceding : List (ℕ × ℕ)
+  preceding = take n old
 
   abbrev back : List (ℕ × ℕ)
   back = drop n old
 
-  front_long : length front ≡ n
-  front_long = length-take-le n old l
+  preceding_long : length preceding ≡ n
+  preceding_long = length-take-le n old l
 
   -- an entry is replaced
-  pub set_shows : (a : ℕ) (mid : List (ℕ × ℕ)) → n ≤ length mid → take n mid ≡ front → keys (drop n mid) ≡ keep_gone k (keys back) → at < length front
-      → put_entry before k a front ≡ set front at (k, a) → slots_of n (set mid at (k, a)) ≡ with_change before k (Some a) (slots_of n old)
+  pub set_shows : (a : ℕ) (mid : List (ℕ × ℕ)) → n ≤ length mid → take n mid ≡ preceding → keys (drop n mid) ≡ keep_gone k (keys back) → at < length preceding
+      → put_entry before k a preceding ≡ set preceding at (k, a) → slots_of n (set mid at (k, a)) ≡ with_change before k (Some a) (slots_of n old)
   set_shows a mid m p g i e =
-      let here : at < n = omega (arith, front_long) in
-      let there : take n (set mid at (k, a)) ≡ put_entry before k a front = take-set-lt n mid at (k, a) here ∙ ap (λ z. set z at (k, a)) p ∙ sym e in
+      let here : at < n = omega (arith, preceding_long) in
+      let there : take n (set mid at (k, a)) ≡ put_entry before k a preceding = take-set-lt n mid at (k, a) here ∙ ap (λ z. set z at (k, a)) p ∙ sym e in
       let rest : keys (drop n (set mid at (k, a))) ≡ keep_gone k (keys back) = ap keys (drop-set-lt n mid at (k, a) here) ∙ g in
       λ i. record { present = there i; gone = rest i }
 
   -- a new entry
-  pub insert_shows : (a : ℕ) (mid : List (ℕ × ℕ)) → n ≤ length mid → take n mid ≡ front → keys (drop n mid) ≡ keep_gone k (keys back) → at ≤ length front
-      → put_entry before k a front ≡ insert front at (k, a) → slots_of (n + 1) (insert mid at (k, a)) ≡ with_change before k (Some a) (slots_of n old)
+  pub insert_shows : (a : ℕ) (mid : List (ℕ × ℕ)) → n ≤ length mid → take n mid ≡ preceding → keys (drop n mid) ≡ keep_gone k (keys back) → at ≤ length preceding
+      → put_entry before k a preceding ≡ insert preceding at (k, a) → slots_of (n + 1) (insert mid at (k, a)) ≡ with_change before k (Some a) (slots_of n old)
   insert_shows a mid m p g i e =
       let q = take n mid in
       let r = drop n mid in
       let ql : length q ≡ n = length-take-le n mid m in
-      let j : at ≤ length q = omega (arith, ql, front_long) in
+      let j : at ≤ length q = omega (arith, ql, preceding_long) in
       let new = insert q at (k, a) in
       let new_long : length new ≡ n + 1 = length-append (take at q) ((k, a) ∷ drop at q) ∙ omega (arith, length-take-le at q j, length-drop at q, ql) in
       let whole : insert mid at (k, a) ≡ new ++ r =
       ap (λ z. insert z at (k, a)) (sym (take-append-drop n mid))
       ∙ (λ i. take-append-le at q r j i ++ (k, a) ∷ drop-append-le at q r j i)
       ∙ sym (append_assoc (take at q) ((k, a) ∷ drop at q) r) in
-      let there : new ≡ put_entry before k a front = ap (λ z. insert z at (k, a)) p ∙ sym e in
+      let there : new ≡ put_entry before k a preceding = ap (λ z. insert z at (k, a)) p ∙ sym e in
       ap (slots_of (n + 1)) whole ∙ slots_seam (n + 1) new r new_long ∙ (λ i. record { present = there i; gone = g i })
 
   -- a key is removed, and its slot moved to the end
-  pub remove_shows : (v : ℕ) → at < length front → drop_entry before k front ≡ remove front at → slots_of (n - 1) (remove old at ++ (k, v) ∷ []) ≡ with_change before k None (slots_of n old)
+  pub remove_shows : (v : ℕ) → at < length preceding → drop_entry before k preceding ≡ remove preceding at → slots_of (n - 1) (remove old at ++ (k, v) ∷ []) ≡ with_change before k None (slots_of n old)
   remove_shows v i e =
-      let new = remove front at in
-      let cut : suc at ≤ length front = omega arith in
-      let new_long : length new ≡ n - 1 = length-append (take at front) (drop (suc at) front) ∙ omega (arith, length-take-le at front (omega arith), length-drop (suc at) front, front_long) in
+      let new = remove preceding at in
+      let cut : suc at ≤ length preceding = omega arith in
+      let new_long : length new ≡ n - 1 = length-append (take at preceding) (drop (suc at) preceding) ∙ omega (arith, length-take-le at preceding (omega arith), length-drop (suc at) preceding, preceding_long) in
       let whole : remove old at ++ (k, v) ∷ [] ≡ new ++ (back ++ (k, v) ∷ []) =
       ap (λ z. remove z at ++ (k, v) ∷ []) (sym (take-append-drop n old))
-      ∙ ap (λ z. z ++ (k, v) ∷ []) ((λ i. take-append-le at front back (omega arith) i ++ drop-append-le (suc at) front back cut i) ∙ sym (append_assoc (take at front) (drop (suc at) front) back))
+      ∙ ap (λ z. z ++ (k, v) ∷ []) ((λ i. take-append-le at preceding back (omega arith) i ++ drop-append-le (suc at) preceding back cut i) ∙ sym (append_assoc (take at preceding) (drop (suc at) preceding) back))
       ∙ append_assoc new back ((k, v) ∷ []) in
       let rest : keys (back ++ (k, v) ∷ []) ≡ keys back ++ k ∷ [] = map-append (λ x. x.0) back ((k, v) ∷ []) in
       ap (slots_of (n - 1)) whole ∙ slots_seam (n - 1) new (back ++ (k, v) ∷ []) new_long ∙ (λ i. record { present = sym e i; gone = rest i })
@@ -76,15 +76,15 @@ module _ (before : ℕ → ℕ → Bool) (k n at : ℕ) (old : List (ℕ × ℕ)
 -- the slot of a removed key is released
 pub forget_shows : (k n at : ℕ) (old : List (ℕ × ℕ)) → n ≤ length old → keep_gone k (keys (drop n old)) ≡ keys (remove (drop n old) at) → keys (drop n (remove old (n + at))) ≡ keep_gone k (keys (drop n old))
 forget_shows k n at old l e =
-    let front = take n old in
+    let preceding = take n old in
     let back = drop n old in
-    let long : length front ≡ n = length-take-le n old l in
-    let P : ℕ → Type 0 = λ m. drop m (remove (front ++ back) (m + at)) ≡ remove back at in
-    let cut : suc (length front + at) ≡ length front + suc at = omega arith in
-    let whole : remove (front ++ back) (length front + at) ≡ front ++ remove back at =
-    (λ i. take-append-add front back at i ++ (ap (λ m. drop m (front ++ back)) cut ∙ drop-append-add front back (suc at)) i)
-    ∙ append_assoc front (take at back) (drop (suc at) back) in
-    let own : drop n (remove (front ++ back) (n + at)) ≡ remove back at = subst P long (ap (drop (length front)) whole ∙ drop-append_seam front (remove back at)) in
+    let long : length preceding ≡ n = length-take-le n old l in
+    let P : ℕ → Type 0 = λ m. drop m (remove (preceding ++ back) (m + at)) ≡ remove back at in
+    let cut : suc (length preceding + at) ≡ length preceding + suc at = omega arith in
+    let whole : remove (preceding ++ back) (length preceding + at) ≡ preceding ++ remove back at =
+    (λ i. take-append-add preceding back at i ++ (ap (λ m. drop m (preceding ++ back)) cut ∙ drop-append-add preceding back (suc at)) i)
+    ∙ append_assoc preceding (take at back) (drop (suc at) back) in
+    let own : drop n (remove (preceding ++ back) (n + at)) ≡ remove back at = subst P long (ap (drop (length preceding)) whole ∙ drop-append_seam preceding (remove back at)) in
     ap keys (ap (λ z. drop n (remove z (n + at))) (sym (take-append-drop n old)) ∙ own) ∙ sym e
 
 -- the entries before it are unchanged

@@ -283,10 +283,10 @@ operand_inside old k j l = ⊎_elim (λ y. y) (λ g. absurd (none (row_at old k)
     none r e m = let z = ap (λ y. length y.head.operands) e in omega (arith, m, z)
 
 -- the last row is removed
-held_front : (xs : List Kept) (r : Kept) (q : ℕ) → q < length xs → held_at (xs ++ r ∷ []) q ≡ held_at xs q
-held_front [] r q l = absurd (omega (arith, l))
-held_front (x ∷ xs) r zero l = refl
-held_front (x ∷ xs) r (suc q) l = held_front xs r q (omega (arith, l))
+held_preceding : (xs : List Kept) (r : Kept) (q : ℕ) → q < length xs → held_at (xs ++ r ∷ []) q ≡ held_at xs q
+held_preceding [] r q l = absurd (omega (arith, l))
+held_preceding (x ∷ xs) r zero l = refl
+held_preceding (x ∷ xs) r (suc q) l = held_preceding xs r q (omega (arith, l))
 
 held_last : (xs : List Kept) (r : Kept) → held_at (xs ++ r ∷ []) (length xs) ≡ r.held
 held_last [] r = refl
@@ -307,24 +307,24 @@ rows_same s t [] same = refl
 rows_same s t (x ∷ xs) same = λ i. row_with x (or_none (same zero (omega arith) i)) ∷ rows_same s t xs (λ q l. same (suc q) (omega (arith, l))) i
 
 module _ (s t : OpArena) (xs : List Kept) (r : Kept) (sound : IsSound s (xs ++ r ∷ [])) (w : Takes s t r.held) where
-  front : (q : ℕ) → q < length xs → found t (held_at xs q) ≡ found s (held_at xs q)
-  front q l = go (is_key (held_at xs q)) refl
+  preceding : (q : ℕ) → q < length xs → found t (held_at xs q) ≡ found s (held_at xs q)
+  preceding q l = go (is_key (held_at xs q)) refl
     where
       go : (b : Bool) → is_key (held_at xs q) ≡ b → found t (held_at xs q) ≡ found s (held_at xs q)
       go true e = w.others (held_at xs q) (λ z.
-          let at : q ≡ length xs = sound.apart q (length xs) (ap is_key (held_front xs r q l) ∙ e) (held_front xs r q l ∙ z ∙ sym (held_last xs r)) in
+          let at : q ≡ length xs = sound.apart q (length xs) (ap is_key (held_preceding xs r q l) ∙ e) (held_preceding xs r q l ∙ z ∙ sym (held_last xs r)) in
           absurd (omega (arith, l, at)))
       go false e = keyless s t (held_at xs q) e
 
   pub popped_sound : IsSound t xs
   popped_sound = record {
     stands = λ q. ⊎_elim
-        (λ l. ap is_some (front q l) ∙ sym (ap (λ h. is_some (found s h)) (held_front xs r q l)) ∙ sound.stands q)
+        (λ l. ap is_some (preceding q l) ∙ sym (ap (λ h. is_some (found s h)) (held_preceding xs r q l)) ∙ sound.stands q)
         (λ g. ap (λ h. is_some (found t h)) (held_past xs q g))
         (cases_lt q (length xs));
     apart = λ j q e z. ⊎_elim
         (λ l. ⊎_elim
-        (λ m. sound.apart j q (ap is_key (held_front xs r j l) ∙ e) (held_front xs r j l ∙ z ∙ sym (held_front xs r q m)))
+        (λ m. sound.apart j q (ap is_key (held_preceding xs r j l) ∙ e) (held_preceding xs r j l ∙ z ∙ sym (held_preceding xs r q m)))
         (λ g. absurd (false≢true (sym (ap is_key (z ∙ held_past xs q g)) ∙ e)))
         (cases_lt q (length xs)))
         (λ g. absurd (false≢true (sym (ap is_key (held_past xs j g)) ∙ e)))
@@ -333,13 +333,13 @@ module _ (s t : OpArena) (xs : List Kept) (r : Kept) (sound : IsSound s (xs ++ r
         let b : q ≡ r.held → ⊥ = λ z. none_some (found t q) (ap (found t) z ∙ w.vacant (sym (ap is_key z) ∙ e)) f in
         let o = sound.owned q e (ap is_some (sym (w.others q b)) ∙ f) in
         ⊎_elim
-        (λ l. (o.0, sym (held_front xs r o.0 l) ∙ o.1))
+        (λ l. (o.0, sym (held_preceding xs r o.0 l) ∙ o.1))
         (λ g. absurd (b (sym o.1 ∙ sym (keyed_last xs r o.0 g (ap is_key o.1 ∙ e)))))
         (cases_lt o.0 (length xs));
   }
 
   pub popped_rows : rows_in t xs ≡ rows_in s xs
-  popped_rows = rows_same s t xs front
+  popped_rows = rows_same s t xs preceding
 
 -- the remaining list is the old list without its last row
 last_off : {X : Type 0} (xs ys : List X) (x y : X) → xs ++ x ∷ [] ≡ ys ++ y ∷ [] → xs ≡ ys
@@ -429,25 +429,25 @@ none_sound s a b c d = record {
 pub pushed_sound : (s : OpArena) (xs : List Kept) (r : Kept) → IsSound s xs → is_key r.held ≡ false → IsSound s (xs ++ r ∷ [])
 pushed_sound s xs r sound less = record {
   stands = λ q. ⊎_elim
-      (λ l. ap (λ h. is_some (found s h)) (held_front xs r q l) ∙ sound.stands q)
-      (λ g. ⊎_elim (λ z. absurd (false≢true (sym less ∙ ap is_key (keyed_last xs r q g z) ∙ z))) (λ z. stood (held_at (xs ++ r ∷ []) q) z) (cases_Bool (is_key (held_at (xs ++ r ∷ []) q))))
+      (λ l. ap (λ h. is_some (found s h)) (held_preceding xs r q l) ∙ sound.stands q)
+      (λ g. ⊎_elim (λ z. absurd (false≢true (sym less ∙ ap is_key (keyed_last xs r q g z) ∙ z))) (λ z. located (held_at (xs ++ r ∷ []) q) z) (cases_Bool (is_key (held_at (xs ++ r ∷ []) q))))
       (cases_lt q (length xs));
   apart = λ j q e z. ⊎_elim
       (λ l. ⊎_elim
-      (λ m. sound.apart j q (sym (ap is_key (held_front xs r j l)) ∙ e) (sym (held_front xs r j l) ∙ z ∙ held_front xs r q m))
+      (λ m. sound.apart j q (sym (ap is_key (held_preceding xs r j l)) ∙ e) (sym (held_preceding xs r j l) ∙ z ∙ held_preceding xs r q m))
       (λ g. let y : is_key (held_at (xs ++ r ∷ []) q) ≡ true = sym (ap is_key z) ∙ e in absurd (false≢true (sym less ∙ ap is_key (keyed_last xs r q g y) ∙ y)))
       (cases_lt q (length xs)))
       (λ g. absurd (false≢true (sym less ∙ ap is_key (keyed_last xs r j g e) ∙ e)))
       (cases_lt j (length xs));
   owned = λ q e f.
       let o = sound.owned q e f in
-      ⊎_elim (λ l. (o.0, held_front xs r o.0 l ∙ o.1)) (λ g. absurd (false≢true (sym (ap is_key (held_past xs o.0 g)) ∙ ap is_key o.1 ∙ e))) (cases_lt o.0 (length xs));
+      ⊎_elim (λ l. (o.0, held_preceding xs r o.0 l ∙ o.1)) (λ g. absurd (false≢true (sym (ap is_key (held_past xs o.0 g)) ∙ ap is_key o.1 ∙ e))) (cases_lt o.0 (length xs));
 }
   where
-    stood : (h : SlotKind) → is_key h ≡ false → is_some (found s h) ≡ true
-    stood (Free n) e = refl
-    stood (Leading o t) e = refl
-    stood (InlineOp k) e = absurd (false≢true (sym e))
-    stood (ListOp k) e = absurd (false≢true (sym e))
-    stood (OpWithEntries k) e = absurd (false≢true (sym e))
-    stood (FullOp k) e = absurd (false≢true (sym e))
+    located : (h : SlotKind) → is_key h ≡ false → is_some (found s h) ≡ true
+    located (Free n) e = refl
+    located (Leading o t) e = refl
+    located (InlineOp k) e = absurd (false≢true (sym e))
+    located (ListOp k) e = absurd (false≢true (sym e))
+    located (OpWithEntries k) e = absurd (false≢true (sym e))
+    located (FullOp k) e = absurd (false≢true (sym e))

@@ -106,7 +106,7 @@ pub(crate) fn forget(items: &mut Vec<(NameId, AttrId)>, len: usize, key: NameId)
     ensures present { take len items.new.items ≡ take len items.old.items }
     ensures gone { keys (drop len items.new.items) ≡ keep_gone key (keys (drop len items.old.items)) }
     ensures kept { (items.new.items ≡ items.old.items) ⊎ (vec_len items.new < vec_capacity items.new) }
-    ensures room { is_gone key (keys (drop len items.old.items)) ≡ true → vec_len items.new < vec_capacity items.new }
+    ensures headroom { is_gone key (keys (drop len items.old.items)) ≡ true → vec_len items.new < vec_capacity items.new }
 {
     let (_present, gone) = items.as_slice().split_at(len);
     let Some(at) = find_gone(gone, key) else {

@@ -335,7 +335,7 @@ pub(crate) fn growth(len: usize) -> usize
 
 /// Reserves capacity for one more value and returns its key.
 fn vacant_key<T>(slab: &mut Slab<T>) -> Result<u32, AllocError>
-    ensures room { OnOk result (HasRoomFor slab.new 1) }
+    ensures headroom { OnOk result (HasRoomFor slab.new 1) }
     ensures key { IfOk result (λ k. k ≡ slab.new.vacant_key) }
     ensures same { AllSame slab.old slab.new }
 {

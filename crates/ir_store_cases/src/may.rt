@@ -128,7 +128,7 @@ fn is_ready(store: &Store, op: OpId) -> bool
 /// Returns true only if an id is the next free one and can be given out, or is below the next free one.
 fn fits_next(store: &Store, op: OpId, fresh: bool) -> bool
     ensures newest { result ≡ true → fresh ≡ true → store.now.module_of.next ≡ op }
-    ensures room { result ≡ true → fresh ≡ true → op < most_next }
+    ensures headroom { result ≡ true → fresh ≡ true → op < most_next }
     ensures below { result ≡ true → fresh ≡ false → op < store.now.module_of.next }
 {
     let next = store.next_id();

@@ -17,7 +17,7 @@ use ir_types::refusal::Refusal;
 use std::alloc::Global;
 
 /// Returns whether a tree with a next free id is a well-formed module.
-fn is_formed(alloc: Global, ctx: &Context, tree: &TreeOp, next: u32) -> Result<bool, Refusal>
+fn is_wellformed(alloc: Global, ctx: &Context, tree: &TreeOp, next: u32) -> Result<bool, Refusal>
     ensures { IfOk result (λ b. b ≡ true → IsWellFormed (isolated_in ctx.now) (record { tree = tree.now; next = next })) }
 {
     if !distinct(alloc, tree)? {
@@ -37,7 +37,7 @@ fn may_shift(alloc: Global, ctx: &Context, store: &Store) -> Result<bool, Refusa
     ensures { IfOk result (λ b. b ≡ true → IsWellFormed (isolated_in ctx.now) store.now.module_of) }
 {
     let tree = store.tree()?;
-    is_formed(alloc, ctx, &tree, store.next_id())
+    is_wellformed(alloc, ctx, &tree, store.next_id())
 }
 
 /// Shifts an operation. The text has the operation and its new place: `3 2 0 4`.

@@ -90,16 +90,16 @@ links_grow old ls n k l small kind s new e =
     (length-map old (λ z. z.home) ∙ l) small kind s)
 
 abbrev pub of_all : List (List ℕ) → List ℕ → ℕ → Lists
-of_all ls hs room = record { lists = ls; homes = hs; room = room }
+of_all ls hs headroom = record { lists = ls; homes = hs; headroom = headroom }
 
 -- the lists that links represent after a node is added
 pub grow_linked : (old new : List Link) (k : ℕ) → (k ≡ length old) ⊎ (k ≡ free) → length old + 1 < free → new ≡ old ++ record { prev = length old; next = length old; home = k } ∷ [] → Linked old → Linked new
 grow_linked old new k e small m x = (x.0 ++ [] ∷ [], links_grow old x.0 (length old) k refl small e x.1 new m)
 
-pub view_grown : (old new : List Link) (k room : ℕ) → (k ≡ length old) ⊎ (k ≡ free) → length old + 1 < free → new ≡ old ++ record { prev = length old; next = length old; home = k } ∷ [] → (x : Linked old) (y : Linked new) (v : Lists)
-    → of_all x.0 (homes old) room ≡ v → of_all y.0 (homes new) (room - 1) ≡ with_node k v
-view_grown old new k room e small m x y v s =
+pub view_grown : (old new : List Link) (k headroom : ℕ) → (k ≡ length old) ⊎ (k ≡ free) → length old + 1 < free → new ≡ old ++ record { prev = length old; next = length old; home = k } ∷ [] → (x : Linked old) (y : Linked new) (v : Lists)
+    → of_all x.0 (homes old) headroom ≡ v → of_all y.0 (homes new) (headroom - 1) ≡ with_node k v
+view_grown old new k headroom e small m x y v s =
     let lists = linked_is new y (x.0 ++ [] ∷ []) (links_grow old x.0 (length old) k refl small e x.1 new m) in
     let hs = ap (map (λ (z : Link). z.home)) m ∙ map_push (λ (z : Link). z.home) old (record { prev = length old; next = length old; home = k }) in
-    let same : of_all y.0 (homes new) (room - 1) ≡ with_node k (of_all x.0 (homes old) room) = λ i. of_all (lists i) (hs i) (room - 1) in
+    let same : of_all y.0 (homes new) (headroom - 1) ≡ with_node k (of_all x.0 (homes old) headroom) = λ i. of_all (lists i) (hs i) (headroom - 1) in
     same ∙ ap (with_node k) s

@@ -130,12 +130,12 @@ links_open old new ls k head nothing s en ep eh =
     rw (en, ep, eh) (Sound-open (nexts old) (prevs old) (homes old) ls k head nothing s)
 
 -- the view of links that represent these lists
-pub view_of : (links : List Link) (room : ℕ) (y : Linked links) (ls : List (List ℕ)) (hs : List ℕ) → Sound (nexts links) (prevs links) (homes links) ls → homes links ≡ hs → of_all y.0 (homes links) room ≡ of_all ls hs room
-view_of links room y ls hs s e = λ i. of_all (linked_is links y ls s i) (e i) room
+pub view_of : (links : List Link) (headroom : ℕ) (y : Linked links) (ls : List (List ℕ)) (hs : List ℕ) → Sound (nexts links) (prevs links) (homes links) ls → homes links ≡ hs → of_all y.0 (homes links) headroom ≡ of_all ls hs headroom
+view_of links headroom y ls hs s e = λ i. of_all (linked_is links y ls s i) (e i) headroom
 
 -- the view of equal links
-pub view_same : (old new : List Link) (room : ℕ) → new ≡ old → (x : Linked old) (y : Linked new) → of_all y.0 (homes new) room ≡ of_all x.0 (homes old) room
-view_same old new room e x y = view_of new room y x.0 (homes old) (subst (λ z. Sound (nexts z) (prevs z) (homes z) x.0) (sym e) x.1) (ap homes e)
+pub view_same : (old new : List Link) (headroom : ℕ) → new ≡ old → (x : Linked old) (y : Linked new) → of_all y.0 (homes new) headroom ≡ of_all x.0 (homes old) headroom
+view_same old new headroom e x y = view_of new headroom y x.0 (homes old) (subst (λ z. Sound (nexts z) (prevs z) (homes z) x.0) (sym e) x.1) (ap homes e)
 
 -- the first node of a list is in the list
 pub first_item : (lists : List (List ℕ)) (hs : List ℕ) (h n : ℕ) → Laws lists hs → IsHead hs h → Some n ≡ slice_get (list_at lists h) 0 → IsItem hs n

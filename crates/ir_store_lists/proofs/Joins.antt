@@ -197,8 +197,8 @@ Sound-push next prev home ls i k ln lp f head s =
     let join = join_of next prev home i k k ln lp f.inside head.inside q_in nq nt around.0 in
     let long = length-set home i k in
     let new = list_at ls k ++ i ∷ [] in
-    let room : k < length ls = omega (arith, s.counted, head.inside) in
-    let own : list_at (set ls k new) k ≡ new = get_or-set_same ls k new [] room in
+    let headroom : k < length ls = omega (arith, s.counted, head.inside) in
+    let own : list_at (set ls k new) k ≡ new = get_or-set_same ls k new [] headroom in
     let far : (h : ℕ) → (h ≡ k → ⊥) → list_at (set ls k new) h ≡ list_at ls h = λ h n. get_or-set_other ls k h new [] n in
     record {
       few = omega arith;

@@ -8,7 +8,7 @@ use Rattle.std.proofs.lemmas.Map.Steps.{length-le_from_distinct_below}
 use Rattle.ir_store_lists.specs.Lists.{Lists, Laws, Once, free, list_at, home_at, has, without, put_before, before, last_of, let_go, IsItem, IsFree, IsHead}
 use Rattle.ir_store_lists.proofs.Cuts.{list_at-map}
 use Rattle.ir_store_lists.proofs.Around.{home_inside}
-use Rattle.ir_store_lists.specs.Labels.{label_at, RisesFrom, label_before, last_label, step, spread, spread_end, Rising, HasRoom}
+use Rattle.ir_store_lists.specs.Labels.{label_at, RisesFrom, label_before, last_label, step, spread, spread_end, Rising, HasHeadroom}
 use Rattle.ir_store_lists.proofs.Laws.{rises_without, rises_put, rises_still, rises_end, rises_same}
 use Rattle.ir_store_lists.proofs.Spreads.{Labelled, length-spread, spread_else, spread_rises, spread_gap, last_spread, end_times}
 
@@ -67,11 +67,11 @@ rising_without c d labels n e l r = record {
 pub rising_kept : (c d : Lists) (labels : List ℕ) → d ≡ c → Rising c labels → Rising d labels
 rising_kept c d labels e r = subst (λ (z : Lists). Rising z labels) (sym e) r
 
-pub rising_taken : (c d : Lists) (labels : List ℕ) (capacity : ℕ) (o : Option ℕ) → MatchOption o (d ≡ c) (λ n. d ≡ let_go n c) → Rising c labels → HasRoom (length labels) capacity c.room → Rising d labels × HasRoom (length labels) capacity d.room
-rising_taken c d labels capacity None e r room = subst (λ (z : Lists). Rising z labels × HasRoom (length labels) capacity z.room) (sym e) (r, room)
-rising_taken c d labels capacity (Some n) e r room = (
+pub rising_taken : (c d : Lists) (labels : List ℕ) (capacity : ℕ) (o : Option ℕ) → MatchOption o (d ≡ c) (λ n. d ≡ let_go n c) → Rising c labels → HasHeadroom (length labels) capacity c.headroom → Rising d labels × HasHeadroom (length labels) capacity d.headroom
+rising_taken c d labels capacity None e r headroom = subst (λ (z : Lists). Rising z labels × HasHeadroom (length labels) capacity z.headroom) (sym e) (r, headroom)
+rising_taken c d labels capacity (Some n) e r headroom = (
   rising_without c d labels n (ap {A = Lists} (λ z. z.lists) e) (ap {A = Lists} (λ z. length z.homes) e ∙ length-set c.homes n free) r,
-  subst (λ (z : Lists). HasRoom (length labels) capacity z.room) (sym e) room,
+  subst (λ (z : Lists). HasHeadroom (length labels) capacity z.headroom) (sym e) headroom,
 )
 
 put_else : (i t : ℕ) (ks : List ℕ) → has t ks ≡ false → put_before i t ks ≡ ks
@@ -196,8 +196,8 @@ whole_written n new old e l =
     ap (λ z. take n (new ++ z)) (drop_of_length-le old (omega (arith, e))) ∙ ap (take n) (append-nil new) ∙ take_all n new (omega (arith, e, l))
 
 -- the capacity of the vector is unchanged
-pub room_kept : (labels new : List ℕ) (capacity old room : ℕ) → length new ≡ length labels → room ≡ old → HasRoom (length labels) capacity old → HasRoom (length new) capacity room
-room_kept labels new capacity old room e q h = record { within = omega (arith, e, q, h.within); few = omega (arith, e, q, h.few) }
+pub headroom_kept : (labels new : List ℕ) (capacity old headroom : ℕ) → length new ≡ length labels → headroom ≡ old → HasHeadroom (length labels) capacity old → HasHeadroom (length new) capacity headroom
+headroom_kept labels new capacity old headroom e q h = record { within = omega (arith, e, q, h.within); few = omega (arith, e, q, h.few) }
 
 -- the label of a node, or 0 if there is none
 abbrev pub label_or : List ℕ → Option ℕ → ℕ

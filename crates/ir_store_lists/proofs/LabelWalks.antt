@@ -4,21 +4,21 @@ use Rattle.std.proofs.lemmas.Bool.{cond_both, eq-eqb, ne_eqb, cond-true, cond-fa
 use Rattle.std.proofs.lemmas.List.{length-set, length_push, take-append-le, take_all}
 use Rattle.std.proofs.Math.Nat.{mul-suc, le-div_iff_mul-le}
 use Rattle.ir_store_lists.specs.Lists.{Lists, Laws, Once, list_at, home_at, has, after, IsItem, IsHead}
-use Rattle.ir_store_lists.specs.Labels.{label_at, RisesFrom, label_before, from, spread, spread_end, IsRoom, Rising}
+use Rattle.ir_store_lists.specs.Labels.{label_at, RisesFrom, label_before, from, spread, spread_end, IsHeadroom, Rising}
 use Rattle.ir_store_lists.proofs.Laws.{above}
 use Rattle.ir_store_lists.proofs.Spreads.{end_low, end_times}
 use Rattle.ir_store_lists.proofs.Parts.{around, before_around, rises_parts}
 use Rattle.ir_store_lists.proofs.Kept.{member_item, list_short}
 
-pub has_middle : (x : ℕ) (front back : List ℕ) → has x (front ++ x ∷ back) ≡ true
+pub has_middle : (x : ℕ) (preceding back : List ℕ) → has x (preceding ++ x ∷ back) ≡ true
 has_middle x [] back = or_left (eqb x x) (has x back) (eq-eqb x x refl)
-has_middle x (a ∷ front) back = or_right (eqb a x) (has x (front ++ x ∷ back)) (has_middle x front back)
+has_middle x (a ∷ preceding) back = or_right (eqb a x) (has x (preceding ++ x ∷ back)) (has_middle x preceding back)
 
-pub after_middle : (x : ℕ) (front back : List ℕ) → Once (front ++ x ∷ back) → after x (front ++ x ∷ back) ≡ slice_get back 0
+pub after_middle : (x : ℕ) (preceding back : List ℕ) → Once (preceding ++ x ∷ back) → after x (preceding ++ x ∷ back) ≡ slice_get back 0
 after_middle x [] back o = cond-true (eqb x x) (slice_get back 0) (after x back) (eq-eqb x x refl)
-after_middle x (a ∷ front) back o =
-    let n : a ≡ x → ⊥ = λ e. false≢true (sym o.0 ∙ subst (λ z. has z (front ++ x ∷ back) ≡ true) (sym e) (has_middle x front back)) in
-    cond-false (eqb a x) (slice_get (front ++ x ∷ back) 0) (after x (front ++ x ∷ back)) (ne_eqb a x n) ∙ after_middle x front back o.1
+after_middle x (a ∷ preceding) back o =
+    let n : a ≡ x → ⊥ = λ e. false≢true (sym o.0 ∙ subst (λ z. has z (preceding ++ x ∷ back) ≡ true) (sym e) (has_middle x preceding back)) in
+    cond-false (eqb a x) (slice_get (preceding ++ x ∷ back) 0) (after x (preceding ++ x ∷ back)) (ne_eqb a x n) ∙ after_middle x preceding back o.1
 
 -- a node of the list of head h, with the nodes before it and the nodes from it on
 pub record At (c : Lists) (h : ℕ) (node : Option ℕ) (rest : List ℕ) : Type 0 where
@@ -29,7 +29,7 @@ pub record At (c : Lists) (h : ℕ) (node : Option ℕ) (rest : List ℕ) : Type
 pub at_node : (c : Lists) (t : ℕ) → Laws c.lists c.homes → IsItem c.homes t → At c (home_at c.homes t) (Some t) (from t (list_at c.lists (home_at c.homes t)))
 at_node c t laws item =
     let a = around t (list_at c.lists (home_at c.homes t)) (laws.covers t item) in
-    record { sofar = a.front; split = ap (λ z. a.front ++ z) a.rest ∙ a.whole; stands = ap (λ z. slice_get z 0) (sym a.rest) }
+    record { sofar = a.preceding; split = ap (λ z. a.preceding ++ z) a.rest ∙ a.whole; stands = ap (λ z. slice_get z 0) (sym a.rest) }
 
 pub record Next (c : Lists) (h x : ℕ) (rest : List ℕ) : Type 0 where
   pub tail : List ℕ
@@ -125,9 +125,9 @@ pub from_above : (c : Lists) (labels : List ℕ) (t x : ℕ) → Laws c.lists c.
 from_above c labels t x laws item r e =
     let list = list_at c.lists (home_at c.homes t) in
     let a = around t list (laws.covers t item) in
-    let parts = rises_parts labels 0 a.front (t ∷ a.tail) (subst (RisesFrom labels 0) (sym a.whole) (r.rises (home_at c.homes t))) in
+    let parts = rises_parts labels 0 a.preceding (t ∷ a.tail) (subst (RisesFrom labels 0) (sym a.whole) (r.rises (home_at c.homes t))) in
     let up = above labels _ x (t ∷ a.tail) parts.1 (subst (λ z. has x z ≡ true) a.rest e) in
-    omega (arith, up, ap (label_before labels 0 t) (sym a.whole) ∙ before_around labels 0 t a.front a.tail a.absent)
+    omega (arith, up, ap (label_before labels 0 t) (sym a.whole) ∙ before_around labels 0 t a.preceding a.tail a.absent)
 
 trailing : (xs ys : List ℕ) → slice_get (xs ++ ys) (length xs) ≡ slice_get ys 0
 trailing [] ys = refl
@@ -174,19 +174,19 @@ module _ (c : Lists) (labels : List ℕ) (t count : ℕ) (node : Option ℕ) (la
       }
 
   -- the passed nodes may be relabelled if there are enough labels up to a bound
-  room_under : (low gap bound : ℕ) → gap * (count + 2) ≤ bound - low → 0 < gap → low ≤ bound → spread_end gap (low + gap) (take count whole) < bound
-  room_under low gap bound g some l =
+  headroom_under : (low gap bound : ℕ) → gap * (count + 2) ≤ bound - low → 0 < gap → low ≤ bound → spread_end gap (low + gap) (take count whole) < bound
+  headroom_under low gap bound g some l =
       let taken : take count whole ≡ w.passed = ap (take count) (sym w.split) ∙ take-append-le count w.passed w.rest (omega (arith, w.counted)) ∙ take_all count w.passed (omega (arith, w.counted)) in
       omega (arith, ap (spread_end gap (low + gap)) taken ∙ end_times gap (low + gap) w.passed, ap (λ n. gap * n) w.counted, mul-suc gap count, mul-suc gap (suc count), g, some, l)
 
   under_by : (a gap : ℕ) → gap ≤ a / (count + 2) → gap * (count + 2) ≤ a
   under_by a gap q = (le-div_iff_mul-le {k = count + 2} {x = gap} {y = a} (omega arith)).0 q
 
-  pub room_found : (low x gap : ℕ) → node ≡ Some x → low < label_at labels x → label_at labels x < 18446744073709551616 → gap ≤ (label_at labels x - low) / (count + 2) → count < gap → IsRoom labels low count gap whole
-  room_found low x gap e up fit q more =
+  pub headroom_found : (low x gap : ℕ) → node ≡ Some x → low < label_at labels x → label_at labels x < 18446744073709551616 → gap ≤ (label_at labels x - low) / (count + 2) → count < gap → IsHeadroom labels low count gap whole
+  headroom_found low x gap e up fit q more =
       let n = at_next c (home_at c.homes t) x w.rest node e laws w.at in
       let s : w.passed ++ x ∷ n.tail ≡ whole = ap (λ z. w.passed ++ z) (sym n.own) ∙ w.split in
-      let under = room_under low gap (label_at labels x) (under_by (label_at labels x - low) gap q) (omega arith) (omega arith) in
+      let under = headroom_under low gap (label_at labels x) (under_by (label_at labels x - low) gap q) (omega arith) (omega arith) in
       record {
         some = omega arith;
         fits = omega arith;
@@ -194,11 +194,11 @@ module _ (c : Lists) (labels : List ℕ) (t count : ℕ) (node : Option ℕ) (la
             (let z : Some x ≡ Some b = sym (trailing w.passed (x ∷ n.tail)) ∙ ap (slice_get (w.passed ++ x ∷ n.tail)) (sym w.counted) ∙ ap (λ v. slice_get v count) s ∙ f in (cc)) under;
       }
 
-  pub room_last : (low gap : ℕ) → node ≡ None → low < 18446744073709551616 → gap ≤ (18446744073709551615 - low) / (count + 2) → count < gap → IsRoom labels low count gap whole
-  room_last low gap e fit q more =
+  pub headroom_last : (low gap : ℕ) → node ≡ None → low < 18446744073709551616 → gap ≤ (18446744073709551615 - low) / (count + 2) → count < gap → IsHeadroom labels low count gap whole
+  headroom_last low gap e fit q more =
       let nil = at_end c (home_at c.homes t) w.rest node e w.at in
       let s : w.passed ++ [] ≡ whole = ap (λ z. w.passed ++ z) (sym nil) ∙ w.split in
-      let under = room_under low gap 18446744073709551615 (under_by (18446744073709551615 - low) gap q) (omega arith) (omega arith) in
+      let under = headroom_under low gap 18446744073709551615 (under_by (18446744073709551615 - low) gap q) (omega arith) (omega arith) in
       record {
         some = omega arith;
         fits = omega arith;

@@ -38,8 +38,8 @@ module _ (nx pv hm : ℕ → ℕ) (h : ℕ) where
       (or_cases (eqb x i) (has i xs) e)
 
 -- all invariants, from the links
-pub laws_hold : (links : List Link) (x : Linked links) (room : ℕ) (v : Lists) → of_all x.0 (homes links) room ≡ v → Laws v.lists v.homes
-laws_hold links x room v e =
+pub laws_hold : (links : List Link) (x : Linked links) (headroom : ℕ) (v : Lists) → of_all x.0 (homes links) headroom ≡ v → Laws v.lists v.homes
+laws_hold links x headroom v e =
     let s = x.1 in
     let old : Laws x.0 (homes links) = record {
       few = s.few;

@@ -3,14 +3,14 @@ use Rattle.std.proofs.Common.{◌≡◌, ℕ, ◌+◌, ◌<◌, List, [], ◌∷
 use Rattle.std.proofs.lemmas.Bool.{cases_eq, cases_Bool, eq-eqb, or_left, false≢true}
 use Rattle.std.proofs.lemmas.List.{take-append-drop}
 use Rattle.ir_store_lists.specs.Lists.{Lists, Laws, Once, list_at, home_at, has, IsItem}
-use Rattle.ir_store_lists.specs.Labels.{label_at, RisesFrom, label_before, last_label, from, spread, IsRoom, Rising}
+use Rattle.ir_store_lists.specs.Labels.{label_at, RisesFrom, label_before, last_label, from, spread, IsHeadroom, Rising}
 use Rattle.ir_store_lists.proofs.Laws.{weaker, rises_same}
 use Rattle.ir_store_lists.proofs.Spreads.{Labelled, length-spread, spread_else, spread_rises, last_most}
 use Rattle.ir_store_lists.proofs.Parts.{Around, around, before_around, rises_parts, rises_join, last_same, has_left, has_right, once_left, once_right, once_apart, drop_first}
 use Rattle.ir_store_lists.proofs.Kept.{list_labelled}
 
 -- along a list whose first nodes get new labels
-module _ (labels : List ℕ) (low count gap : ℕ) (rest : List ℕ) (room : IsRoom labels low count gap rest) (o : Once rest) (l : Labelled (length labels) rest) where
+module _ (labels : List ℕ) (low count gap : ℕ) (rest : List ℕ) (headroom : IsHeadroom labels low count gap rest) (o : Once rest) (l : Labelled (length labels) rest) where
   abbrev seg : List ℕ
   seg = take count rest
 
@@ -38,7 +38,7 @@ module _ (labels : List ℕ) (low count gap : ℕ) (rest : List ℕ) (room : IsR
   rises_back (b ∷ bs) e under r =
       let here : label_at new b ≡ label_at labels b = back_same b (subst (λ z. has b z ≡ true) (sym e) (has_left b (b ∷ []) bs (or_left (eqb b b) false (eq-eqb b b refl)))) in
       let most = last_most gap (low + gap) (low + gap) seg labels (omega arith) (once_left seg back once_both) seg_labelled in
-      let below = room.below b (drop_first count b rest bs e) in (
+      let below = headroom.below b (drop_first count b rest bs e) in (
         omega (arith, here, most, below),
         subst (λ w. RisesFrom new w bs) (sym here)
             (rises_same labels new (label_at labels b) bs (λ y t. back_same y (subst (λ z. has y z ≡ true) (sym e) (has_right y (b ∷ []) bs t))) r.1),
@@ -49,7 +49,7 @@ module _ (labels : List ℕ) (low count gap : ℕ) (rest : List ℕ) (room : IsR
       let p = rises_parts labels low seg back (subst (RisesFrom labels low) (sym joined) r) in
       subst (RisesFrom new (low + gap)) joined
       (rises_join new (low + gap) seg back
-      (spread_rises gap (low + gap) seg labels room.some (once_left seg back once_both) seg_labelled)
+      (spread_rises gap (low + gap) seg labels headroom.some (once_left seg back once_both) seg_labelled)
       (rises_back back refl (last_label labels low seg) p.1))
 
   -- a node of another list keeps its label
@@ -65,28 +65,28 @@ pub record Parted (c : Lists) (new : List ℕ) (t label : ℕ) : Type 0 where
 parted_around : (c : Lists) (labels : List ℕ) (t low count gap : ℕ) → Laws c.lists c.homes → IsItem c.homes t → Rising c labels
     → low ≡ label_before labels 0 t (list_at c.lists (home_at c.homes t))
     → (a : Around t (list_at c.lists (home_at c.homes t)))
-    → IsRoom labels low count gap (t ∷ a.tail) → Parted c (spread gap (low + gap) (take count (t ∷ a.tail)) labels) t (low + gap)
-parted_around c labels t low count gap laws item r el a room =
+    → IsHeadroom labels low count gap (t ∷ a.tail) → Parted c (spread gap (low + gap) (take count (t ∷ a.tail)) labels) t (low + gap)
+parted_around c labels t low count gap laws item r el a headroom =
     let h = home_at c.homes t in
     let list = list_at c.lists h in
     let rest = t ∷ a.tail in
     let new = spread gap (low + gap) (take count rest) labels in
-    let parts = rises_parts labels 0 a.front rest (subst (RisesFrom labels 0) (sym a.whole) (r.rises h)) in
-    let low_is : low ≡ last_label labels 0 a.front = el ∙ ap (label_before labels 0 t) (sym a.whole) ∙ before_around labels 0 t a.front a.tail a.absent in
+    let parts = rises_parts labels 0 a.preceding rest (subst (RisesFrom labels 0) (sym a.whole) (r.rises h)) in
+    let low_is : low ≡ last_label labels 0 a.preceding = el ∙ ap (label_before labels 0 t) (sym a.whole) ∙ before_around labels 0 t a.preceding a.tail a.absent in
     let along : RisesFrom labels low rest = subst (λ w. RisesFrom labels w rest) (sym low_is) parts.1 in
-    let once_all : Once (a.front ++ rest) = subst Once (sym a.whole) (laws.once h) in
-    let inside : (y : ℕ) → has y rest ≡ true → has y list ≡ true = λ y e. subst (λ z. has y z ≡ true) a.whole (has_right y a.front rest e) in
+    let once_all : Once (a.preceding ++ rest) = subst Once (sym a.whole) (laws.once h) in
+    let inside : (y : ℕ) → has y rest ≡ true → has y list ≡ true = λ y e. subst (λ z. has y z ≡ true) a.whole (has_right y a.preceding rest e) in
     let labelled : Labelled (length labels) rest = λ y e. list_labelled c h labels laws r y (inside y e) in
-    let up : RisesFrom new (low + gap) rest = part_rises labels low count gap rest room (once_right a.front rest once_all) labelled along in
-    let others : (y : ℕ) → has y rest ≡ false → label_at new y ≡ label_at labels y = part_else labels low count gap rest room (once_right a.front rest once_all) labelled in
-    let front_same : (y : ℕ) → has y a.front ≡ true → label_at new y ≡ label_at labels y = λ y e. others y (once_apart y a.front rest once_all e) in
-    let front_last : last_label new 0 a.front ≡ low = last_same labels new 0 a.front front_same ∙ sym low_is in
-    let some : 0 < gap = room.some in
+    let up : RisesFrom new (low + gap) rest = part_rises labels low count gap rest headroom (once_right a.preceding rest once_all) labelled along in
+    let others : (y : ℕ) → has y rest ≡ false → label_at new y ≡ label_at labels y = part_else labels low count gap rest headroom (once_right a.preceding rest once_all) labelled in
+    let preceding_same : (y : ℕ) → has y a.preceding ≡ true → label_at new y ≡ label_at labels y = λ y e. others y (once_apart y a.preceding rest once_all e) in
+    let preceding_last : last_label new 0 a.preceding ≡ low = last_same labels new 0 a.preceding preceding_same ∙ sym low_is in
+    let some : 0 < gap = headroom.some in
     let own : RisesFrom new 0 list =
     subst (RisesFrom new 0) a.whole
-    (rises_join new 0 a.front rest (rises_same labels new 0 a.front front_same parts.0)
-    (subst (λ w. RisesFrom new w rest) (sym front_last) (weaker new low (low + gap) rest (omega arith) up))) in
-    let before : label_before new 0 t list ≡ low = ap (label_before new 0 t) (sym a.whole) ∙ before_around new 0 t a.front a.tail a.absent ∙ front_last in
+    (rises_join new 0 a.preceding rest (rises_same labels new 0 a.preceding preceding_same parts.0)
+    (subst (λ w. RisesFrom new w rest) (sym preceding_last) (weaker new low (low + gap) rest (omega arith) up))) in
+    let before : label_before new 0 t list ≡ low = ap (label_before new 0 t) (sym a.whole) ∙ before_around new 0 t a.preceding a.tail a.absent ∙ preceding_last in
     record {
       rising = record {
         rises = λ k. ⊎_elim
@@ -104,12 +104,12 @@ parted_around c labels t low count gap laws item r el a room =
 
 pub parted : (c : Lists) (labels others : List ℕ) (t low count gap : ℕ) → Laws c.lists c.homes → IsItem c.homes t → Rising c labels
     → low ≡ label_before labels 0 t (list_at c.lists (home_at c.homes t))
-    → IsRoom labels low count gap (from t (list_at c.lists (home_at c.homes t)))
+    → IsHeadroom labels low count gap (from t (list_at c.lists (home_at c.homes t)))
     → others ≡ spread gap (low + gap) (take count (from t (list_at c.lists (home_at c.homes t)))) labels → Parted c others t (low + gap)
-parted c labels others t low count gap laws item r el room en =
+parted c labels others t low count gap laws item r el headroom en =
     let h = home_at c.homes t in
     let a = around t (list_at c.lists h) (laws.covers t item) in
-    let room' = subst (IsRoom labels low count gap) a.rest room in
+    let headroom' = subst (IsHeadroom labels low count gap) a.rest headroom in
     subst (λ z. Parted c z t (low + gap)) (sym en)
     (subst (λ z. Parted c (spread gap (low + gap) (take count z) labels) t (low + gap)) (sym a.rest)
-    (parted_around c labels t low count gap laws item r el a room'))
+    (parted_around c labels t low count gap laws item r el a headroom'))

@@ -6,33 +6,33 @@ use Rattle.ir_store_lists.specs.Labels.{label_at, RisesFrom, label_before, last_
 
 -- a list around one of its nodes
 pub record Around (t : ℕ) (ks : List ℕ) : Type 0 where
-  pub front : List ℕ
+  pub preceding : List ℕ
   pub tail : List ℕ
-  pub whole : front ++ t ∷ tail ≡ ks
-  pub absent : has t front ≡ false
+  pub whole : preceding ++ t ∷ tail ≡ ks
+  pub absent : has t preceding ≡ false
   pub rest : from t ks ≡ t ∷ tail
 
 pub around : (t : ℕ) (ks : List ℕ) → has t ks ≡ true → Around t ks
 around t [] e = absurd (false≢true e)
 around t (k ∷ ks) e = ⊎_elim
-    (λ z. record { front = []; tail = ks; whole = ap (λ w. w ∷ ks) (sym z); absent = refl; rest = cond-true (eqb k t) (k ∷ ks) (from t ks) (eq-eqb k t z) ∙ ap (λ w. w ∷ ks) z })
+    (λ z. record { preceding = []; tail = ks; whole = ap (λ w. w ∷ ks) (sym z); absent = refl; rest = cond-true (eqb k t) (k ∷ ks) (from t ks) (eq-eqb k t z) ∙ ap (λ w. w ∷ ks) z })
     (λ n.
     let a = around t ks (⊎_elim (λ w. absurd (n (eqb-true k t w))) (λ w. w) (or_cases (eqb k t) (has t ks) e)) in
     record {
-      front = k ∷ a.front;
+      preceding = k ∷ a.preceding;
       tail = a.tail;
       whole = ap (λ w. k ∷ w) a.whole;
-      absent = ap (λ b. b || has t a.front) (ne_eqb k t n) ∙ a.absent;
+      absent = ap (λ b. b || has t a.preceding) (ne_eqb k t n) ∙ a.absent;
       rest = cond-false (eqb k t) (k ∷ ks) (from t ks) (ne_eqb k t n) ∙ a.rest;
     })
     (cases_eq k t)
 
 module _ (labels : List ℕ) where
-  pub before_around : (low t : ℕ) (front tail : List ℕ) → has t front ≡ false → label_before labels low t (front ++ t ∷ tail) ≡ last_label labels low front
+  pub before_around : (low t : ℕ) (preceding tail : List ℕ) → has t preceding ≡ false → label_before labels low t (preceding ++ t ∷ tail) ≡ last_label labels low preceding
   before_around low t [] tail e = cond-true (eqb t t) low (label_before labels (label_at labels t) t tail) (eq-eqb t t refl)
-  before_around low t (k ∷ front) tail e =
-      let b = or_parts (eqb k t) (has t front) e in
-      cond-false (eqb k t) low (label_before labels (label_at labels k) t (front ++ t ∷ tail)) b.0 ∙ before_around (label_at labels k) t front tail b.1
+  before_around low t (k ∷ preceding) tail e =
+      let b = or_parts (eqb k t) (has t preceding) e in
+      cond-false (eqb k t) low (label_before labels (label_at labels k) t (preceding ++ t ∷ tail)) b.0 ∙ before_around (label_at labels k) t preceding tail b.1
 
   -- labels increase along both parts of a list
   pub rises_parts : (low : ℕ) (xs ys : List ℕ) → RisesFrom labels low (xs ++ ys) → RisesFrom labels low xs × RisesFrom labels (last_label labels low xs) ys

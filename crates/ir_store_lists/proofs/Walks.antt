@@ -16,8 +16,8 @@ pub record Walk (links : List Link) (h node : ℕ) (sofar whole : List ℕ) : Ty
   pub ring : Ring (at (nexts links)) (at (prevs links)) (home_at (homes links)) h trailing rest h
   pub split : sofar ++ rest ≡ whole
 
-pub walk_start : (links : List Link) (x : Linked links) (h : ℕ) (l : Link) (sofar : List ℕ) (room : ℕ) (v : Lists) → IsHead v.homes h → of_all x.0 (homes links) room ≡ v → l ≡ get_or links h l → Walk links h l.next sofar (sofar ++ list_at v.lists h)
-walk_start links x h l sofar room v head e el =
+pub walk_start : (links : List Link) (x : Linked links) (h : ℕ) (l : Link) (sofar : List ℕ) (headroom : ℕ) (v : Lists) → IsHead v.homes h → of_all x.0 (homes links) headroom ≡ v → l ≡ get_or links h l → Walk links h l.next sofar (sofar ++ list_at v.lists h)
+walk_start links x h l sofar headroom v head e el =
     let own : IsHead (homes links) h = subst (λ z. IsHead z h) (sym (ap {A = Lists} (λ z. z.homes) e)) head in
     record {
       trailing = h;
@@ -59,8 +59,8 @@ walk_end links h node sofar whole e w = go w.rest w.ring w.split
     go [] r s = sym (append-nil sofar) ∙ s
     go (x ∷ xs) r s = absurd (r.1.0.1 (sym r.0.0 ∙ w.leads ∙ e))
 
-pub head_not_free : (links : List Link) (x : Linked links) (h room : ℕ) (v : Lists) → IsHead v.homes h → of_all x.0 (homes links) room ≡ v → h ≡ free → ⊥
-head_not_free links x h room v head e f =
+pub head_not_free : (links : List Link) (x : Linked links) (h headroom : ℕ) (v : Lists) → IsHead v.homes h → of_all x.0 (homes links) headroom ≡ v → h ≡ free → ⊥
+head_not_free links x h headroom v head e f =
     let own : IsHead (homes links) h = subst (λ z. IsHead z h) (sym (ap {A = Lists} (λ z. z.homes) e)) head in
     let a : h < length (homes links) = own.inside in
     let b : length (homes links) < free = x.1.few in

@@ -47,7 +47,7 @@ step = 4294967296
 
 -- before the nodes of `rest`, above `low`, a label and new labels of the first `count` nodes fit, all a gap apart and
 -- below the label of the next node
-pub record IsRoom (labels : List ℕ) (low count gap : ℕ) (rest : List ℕ) : Type 0 where
+pub record IsHeadroom (labels : List ℕ) (low count gap : ℕ) (rest : List ℕ) : Type 0 where
   pub some : 0 < gap
   pub fits : spread_end gap (low + gap) (take count rest) < 18446744073709551616
   pub below : (b : ℕ) → slice_get rest count ≡ Some b → spread_end gap (low + gap) (take count rest) < label_at labels b
@@ -59,6 +59,6 @@ pub record Rising (c : Lists) (labels : List ℕ) : Type 0 where
   pub few : length c.homes < 4294967295
 
 -- the capacity for labels is that for nodes, and the number of nodes stays within the limit
-pub record HasRoom (count capacity room : ℕ) : Type 0 where
-  pub within : count + room ≤ capacity
-  pub few : count + room < 4294967295
+pub record HasHeadroom (count capacity headroom : ℕ) : Type 0 where
+  pub within : count + headroom ≤ capacity
+  pub few : count + headroom < 4294967295

@@ -11,13 +11,13 @@ free = 4294967295
 pub record Lists : Type 0 where
   pub lists : List (List ℕ)
   pub homes : List ℕ
-  pub room : ℕ
+  pub headroom : ℕ
 
 -- they are stored as the tuple of the three
 abbrev pub lists_code : Coded Lists
 lists_code =
     code_by (List (List ℕ) × (List ℕ × ℕ)) (coded× (coded_list (coded_list coded_ℕ)) (coded× (coded_list coded_ℕ) coded_ℕ))
-    (λ c. (c.lists, (c.homes, c.room))) (λ p. record { lists = p.0; homes = p.1.0; room = p.1.1 }) (λ _. refl)
+    (λ c. (c.lists, (c.homes, c.headroom))) (λ p. record { lists = p.0; homes = p.1.0; headroom = p.1.1 }) (λ _. refl)
 
 -- the list of head h
 abbrev pub list_at : List (List ℕ) → ℕ → List ℕ
@@ -93,4 +93,4 @@ let_go i c = record c { lists = map (without i) c.lists; homes = slice_set c.hom
 
 -- a new node with head h, in the reserved capacity or in new capacity
 abbrev pub with_node : ℕ → Lists → Lists
-with_node h c = record { lists = c.lists ++ [] ∷ []; homes = c.homes ++ h ∷ []; room = c.room - 1 }
+with_node h c = record { lists = c.lists ++ [] ∷ []; homes = c.homes ++ h ∷ []; headroom = c.headroom - 1 }

@@ -84,9 +84,9 @@ Linked-prop links x y =
     Σ_prop_path (Sound-prop (nexts links) (prevs links) (homes links)) {u = x} {v = y} (Sound-one (nexts links) (prevs links) (homes links) x.0 y.0 x.1 y.1)
 
 -- there is capacity for this many more links, and no node has the number `free`
-pub record HasRoom (count capacity room : ℕ) : Type 0 where
-  pub within : count + room ≤ capacity
-  pub few : count + room < free
+pub record HasHeadroom (count capacity headroom : ℕ) : Type 0 where
+  pub within : count + headroom ≤ capacity
+  pub few : count + headroom < free
 
 -- the lists of links are those that the links represent
 pub linked_is : (links : List Link) (x : Linked links) (ls : List (List ℕ)) → Sound (nexts links) (prevs links) (homes links) ls → x.0 ≡ ls

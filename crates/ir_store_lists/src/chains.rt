@@ -12,7 +12,7 @@ use std::marker::Model;
 #[derive(Drop)]
 pub struct LinkedLists {
     links: Vec<Link>,
-    room: usize,
+    headroom: usize,
     ghost linked: { Linked links.items } by { Linked-prop links.items },
 }
 
@@ -20,36 +20,36 @@ impl Model for LinkedLists {
     ghost use Rattle.std.specs.Prelude.{length};
     ghost use Rattle.std.specs.Vec.{vec_capacity};
     ghost use Rattle.ir_store_lists.specs.Lists.{Lists, lists_code};
-    ghost use Rattle.ir_store_lists.specs.Ring.{homes, HasRoom};
+    ghost use Rattle.ir_store_lists.specs.Ring.{homes, HasHeadroom};
 
     ghost Value = { Lists };
 
     ghost coded = { lists_code };
 
-    ghost view = { λ c. record { lists = c.linked.0; homes = homes c.links.items; room = c.room } };
+    ghost view = { λ c. record { lists = c.linked.0; homes = homes c.links.items; headroom = c.headroom } };
 
-    ghost invariant = { λ c. HasRoom (length c.links.items) (vec_capacity c.links) c.room };
+    ghost invariant = { λ c. HasHeadroom (length c.links.items) (vec_capacity c.links) c.headroom };
 }
 
 impl LinkedLists {
     /// Returns lists without nodes.
     pub fn new(alloc: Global) -> LinkedLists
-        ensures { result ≡ record { lists = []; homes = []; room = 0 } }
+        ensures { result ≡ record { lists = []; homes = []; headroom = 0 } }
     {
         LinkedLists {
             links: Vec::new(alloc),
-            room: 0,
+            headroom: 0,
         }
     }
 
     /// Returns lists without nodes, with capacity for `count` nodes without reallocation. Adding them may still be
     /// refused.
     pub fn with_capacity(alloc: Global, count: usize) -> Result<LinkedLists, AllocError>
-        ensures { IfOk result (λ c. c ≡ record { lists = []; homes = []; room = 0 }) }
+        ensures { IfOk result (λ c. c ≡ record { lists = []; homes = []; headroom = 0 }) }
     {
         Ok(LinkedLists {
             links: Vec::with_capacity(alloc, count)?,
-            room: 0,
+            headroom: 0,
         })
     }
 
@@ -58,7 +58,7 @@ impl LinkedLists {
         requires { IsItem self.old.homes node }
         ensures lists { self.new.lists ≡ map (without node) self.old.lists }
         ensures homes { self.new.homes ≡ slice_set self.old.homes node free }
-        ensures room { self.new.room ≡ self.old.room }
+        ensures headroom { self.new.headroom ≡ self.old.headroom }
     {
         unlink(&mut self.links, node);
     }
@@ -71,7 +71,7 @@ impl LinkedLists {
         requires at { IsItem self.old.homes at }
         ensures lists { self.new.lists ≡ map (put_before node at) self.old.lists }
         ensures homes { self.new.homes ≡ slice_set self.old.homes node (home_at self.old.homes at) }
-        ensures room { self.new.room ≡ self.old.room }
+        ensures headroom { self.new.headroom ≡ self.old.headroom }
     {
         let home = self.links[at].home;
         link_in(&mut self.links, node, at, home);
@@ -83,7 +83,7 @@ impl LinkedLists {
         requires head { IsHead self.old.homes head }
         ensures lists { self.new.lists ≡ slice_set self.old.lists head (list_at self.old.lists head ++ node ∷ []) }
         ensures homes { self.new.homes ≡ slice_set self.old.homes node head }
-        ensures room { self.new.room ≡ self.old.room }
+        ensures headroom { self.new.headroom ≡ self.old.headroom }
     {
         link_in(&mut self.links, node, head, head as u32);
     }
@@ -183,10 +183,10 @@ impl LinkedLists {
 impl LinkedLists {
     /// Reserves capacity for `count` more nodes. Adding them can't be refused afterwards.
     pub fn reserve(&mut self, count: usize) -> Result<(), AllocError>
-        ensures made { OnOk result (self.new ≡ record self.old { room = max self.old.room count }) }
-        ensures refused { OnErr result ((self.new ≡ self.old) × (self.old.room < count)) }
+        ensures made { OnOk result (self.new ≡ record self.old { headroom = max self.old.headroom count }) }
+        ensures refused { OnErr result ((self.new ≡ self.old) × (self.old.headroom < count)) }
     {
-        if count <= self.room {
+        if count <= self.headroom {
             return Ok(());
         }
         if count >= FREE as usize - self.links.len() {
@@ -194,7 +194,7 @@ impl LinkedLists {
         }
         match self.links.reserve(count) {
             Ok(()) => {
-                self.room = count;
+                self.headroom = count;
                 Ok(())
             }
             Err(e) => Err(e),
@@ -203,32 +203,32 @@ impl LinkedLists {
 
     /// Adds a free node, in the reserved capacity, and returns it.
     pub fn new_node(&mut self) -> usize
-        requires { 0 < self.old.room }
+        requires { 0 < self.old.headroom }
         ensures node { result ≡ length self.old.homes }
         ensures added { self.new ≡ with_node free self.old }
     {
         let node = self.links.len();
         grow(&mut self.links, FREE);
-        self.room -= 1;
+        self.headroom -= 1;
         node
     }
 
     /// Adds the head of an empty list, in the reserved capacity, and returns it.
     pub fn new_head(&mut self) -> usize
-        requires { 0 < self.old.room }
+        requires { 0 < self.old.headroom }
         ensures node { result ≡ length self.old.homes }
         ensures added { self.new ≡ with_node result self.old }
     {
         let node = self.links.len();
         grow(&mut self.links, node as u32);
-        self.room -= 1;
+        self.headroom -= 1;
         node
     }
 
     /// Adds a free node and returns it.
     pub fn add_node(&mut self) -> Result<usize, AllocError>
         ensures added { IfOk result (λ n. (n ≡ length self.old.homes) × (self.new ≡ with_node free self.old)) }
-        ensures refused { OnErr result ((self.new ≡ self.old) × (self.old.room ≡ 0)) }
+        ensures refused { OnErr result ((self.new ≡ self.old) × (self.old.headroom ≡ 0)) }
     {
         match self.reserve(1) {
             Ok(()) => Ok(self.new_node()),
@@ -239,7 +239,7 @@ impl LinkedLists {
     /// Adds the head of an empty list and returns it.
     pub fn add_head(&mut self) -> Result<usize, AllocError>
         ensures added { IfOk result (λ n. (n ≡ length self.old.homes) × (self.new ≡ with_node n self.old)) }
-        ensures refused { OnErr result ((self.new ≡ self.old) × (self.old.room ≡ 0)) }
+        ensures refused { OnErr result ((self.new ≡ self.old) × (self.old.headroom ≡ 0)) }
     {
         match self.reserve(1) {
             Ok(()) => Ok(self.new_head()),

@@ -2,7 +2,7 @@
 ghost use Rattle.std.specs.Prelude.{◌≡◌, ◌<◌, ◌≤◌, ◌+◌, ◌∷◌, ◌++◌, [], take, IfSome};
 ghost use Rattle.std.specs.Vec.{vec_capacity, vec_len};
 ghost use Rattle.ir_store_lists.specs.Lists.{IsHead, IsItem, home_at, list_at};
-ghost use Rattle.ir_store_lists.specs.Labels.{IsRoom, Rising, from, label_at, label_before, last_label, spread, spread_end, step};
+ghost use Rattle.ir_store_lists.specs.Labels.{IsHeadroom, Rising, from, label_at, label_before, last_label, spread, spread_end, step};
 
 use crate::chains::LinkedLists;
 
@@ -45,11 +45,11 @@ fn high_label(chains: &LinkedLists, labels: &[u64], head: usize) -> u64
 /// Returns the nodes to relabel so that a label before `node` becomes free; the previous node has the label `low`. The
 /// nodes from `node` on are relabelled, as few as leave gaps wider than their number. Returns `None` if even the whole
 /// list leaves no such gaps.
-fn find_room(chains: &LinkedLists, labels: &[u64], node: usize, low: u64) -> Option<LabelGap>
+fn find_headroom(chains: &LinkedLists, labels: &[u64], node: usize, low: u64) -> Option<LabelGap>
     requires node { IsItem chains.now.homes node }
     requires rising { Rising chains.now labels.now }
     requires low { low ≡ label_before labels.now 0 node (list_at chains.now.lists (home_at chains.now.homes node)) }
-    ensures { IfSome result (λ room. IsRoom labels.now low room.count room.gap (from node (list_at chains.now.lists (home_at chains.now.homes node)))) }
+    ensures { IfSome result (λ headroom. IsHeadroom labels.now low headroom.count headroom.gap (from node (list_at chains.now.lists (home_at chains.now.homes node)))) }
 {
     chains.laws();
     let mut count = 0;
@@ -71,16 +71,22 @@ fn find_room(chains: &LinkedLists, labels: &[u64], node: usize, low: u64) -> Opt
 
 /// Relabels the given number of nodes from `node` on, or as many as there are. Each label is a gap above the previous
 /// one, and the first is above `low`. Returns the last label.
-fn relabel(chains: &LinkedLists, labels: &mut [u64], node: usize, low: u64, room: &LabelGap) -> u64
+fn relabel(
+    chains: &LinkedLists,
+    labels: &mut [u64],
+    node: usize,
+    low: u64,
+    headroom: &LabelGap,
+) -> u64
     requires node { IsItem chains.now.homes node }
     requires rising { Rising chains.now labels.old }
-    requires fits { spread_end room.now.gap low (take room.now.count (from node (list_at chains.now.lists (home_at chains.now.homes node)))) < 18446744073709551616 }
-    ensures labels { labels.new ≡ spread room.now.gap low (take room.now.count (from node (list_at chains.now.lists (home_at chains.now.homes node)))) labels.old }
-    ensures last { result ≡ spread_end room.now.gap low (take room.now.count (from node (list_at chains.now.lists (home_at chains.now.homes node)))) }
+    requires fits { spread_end headroom.now.gap low (take headroom.now.count (from node (list_at chains.now.lists (home_at chains.now.homes node)))) < 18446744073709551616 }
+    ensures labels { labels.new ≡ spread headroom.now.gap low (take headroom.now.count (from node (list_at chains.now.lists (home_at chains.now.homes node)))) labels.old }
+    ensures last { result ≡ spread_end headroom.now.gap low (take headroom.now.count (from node (list_at chains.now.lists (home_at chains.now.homes node)))) }
 {
     chains.laws();
-    let gap = room.gap;
-    let mut left = room.count;
+    let gap = headroom.gap;
+    let mut left = headroom.count;
     let mut label = low;
     let mut next = Some(node);
     'nodes: while let Some(at) = next {
@@ -106,11 +112,11 @@ fn relabel_all(chains: &LinkedLists, labels: &mut [u64], head: usize) -> u64
     let Some(first) = chains.first(head) else {
         return 0;
     };
-    let room = LabelGap {
+    let headroom = LabelGap {
         count: u64::MAX,
         gap: STEP,
     };
-    relabel(chains, labels, first, 0, &room)
+    relabel(chains, labels, first, 0, &headroom)
 }
 
 /// Returns a label for a node to be inserted before `node`. If there is none between its neighbours, some nodes are
@@ -124,9 +130,9 @@ pub(crate) fn label_for(chains: &LinkedLists, labels: &mut [u64], node: usize) -
 {
     chains.laws();
     let low = low_label(chains, labels, node);
-    if let Some(room) = find_room(chains, labels, node, low) {
-        let label = low + room.gap;
-        let _last = relabel(chains, labels, node, label, &room);
+    if let Some(headroom) = find_headroom(chains, labels, node, low) {
+        let label = low + headroom.gap;
+        let _last = relabel(chains, labels, node, label, &headroom);
         return label;
     }
     let Some(head) = chains.head_of(node) else {

@@ -22,7 +22,7 @@ impl Model for OrderedLists {
     ghost use Rattle.std.specs.Prelude.{length};
     ghost use Rattle.std.specs.Vec.{vec_capacity};
     ghost use Rattle.ir_store_lists.specs.Lists.{Lists, lists_code};
-    ghost use Rattle.ir_store_lists.specs.Labels.{Rising, HasRoom};
+    ghost use Rattle.ir_store_lists.specs.Labels.{Rising, HasHeadroom};
 
     ghost Value = { Lists };
 
@@ -30,13 +30,13 @@ impl Model for OrderedLists {
 
     ghost view = { λ c. c.chains };
 
-    ghost invariant = { λ c. Rising c.chains c.labels.items × HasRoom (length c.labels.items) (vec_capacity c.labels) c.chains.room };
+    ghost invariant = { λ c. Rising c.chains c.labels.items × HasHeadroom (length c.labels.items) (vec_capacity c.labels) c.chains.headroom };
 }
 
 impl OrderedLists {
     /// Returns lists without nodes.
     pub fn new(alloc: Global) -> OrderedLists
-        ensures { result ≡ record { lists = []; homes = []; room = 0 } }
+        ensures { result ≡ record { lists = []; homes = []; headroom = 0 } }
     {
         OrderedLists {
             chains: LinkedLists::new(alloc),
@@ -46,7 +46,7 @@ impl OrderedLists {
 
     /// Returns lists without nodes, with capacity for `count` nodes, as `LinkedLists::with_capacity` does.
     pub fn with_capacity(alloc: Global, count: usize) -> Result<OrderedLists, AllocError>
-        ensures { IfOk result (λ c. c ≡ record { lists = []; homes = []; room = 0 }) }
+        ensures { IfOk result (λ c. c ≡ record { lists = []; homes = []; headroom = 0 }) }
     {
         Ok(OrderedLists {
             chains: LinkedLists::with_capacity(alloc, count)?,
@@ -70,7 +70,7 @@ impl OrderedLists {
         requires { IsItem self.old.homes node }
         ensures lists { self.new.lists ≡ map (without node) self.old.lists }
         ensures homes { self.new.homes ≡ slice_set self.old.homes node free }
-        ensures room { self.new.room ≡ self.old.room }
+        ensures headroom { self.new.headroom ≡ self.old.headroom }
     {
         self.chains.remove(node);
     }
@@ -81,7 +81,7 @@ impl OrderedLists {
         requires at { IsItem self.old.homes at }
         ensures lists { self.new.lists ≡ map (put_before node at) self.old.lists }
         ensures homes { self.new.homes ≡ slice_set self.old.homes node (home_at self.old.homes at) }
-        ensures room { self.new.room ≡ self.old.room }
+        ensures headroom { self.new.headroom ≡ self.old.headroom }
     {
         self.chains.laws();
         let label = label_for(&self.chains, &mut self.labels, at);
@@ -95,7 +95,7 @@ impl OrderedLists {
         requires head { IsHead self.old.homes head }
         ensures lists { self.new.lists ≡ slice_set self.old.lists head (list_at self.old.lists head ++ node ∷ []) }
         ensures homes { self.new.homes ≡ slice_set self.old.homes node head }
-        ensures room { self.new.room ≡ self.old.room }
+        ensures headroom { self.new.headroom ≡ self.old.headroom }
     {
         self.chains.laws();
         let label = end_label(&self.chains, &mut self.labels, head);
@@ -191,8 +191,8 @@ impl OrderedLists {
 impl OrderedLists {
     /// Reserves capacity for `count` more nodes. Adding them can't be refused afterwards.
     pub fn reserve(&mut self, count: usize) -> Result<(), AllocError>
-        ensures made { OnOk result (self.new ≡ record self.old { room = max self.old.room count }) }
-        ensures refused { OnErr result ((self.new ≡ self.old) × (self.old.room < count)) }
+        ensures made { OnOk result (self.new ≡ record self.old { headroom = max self.old.headroom count }) }
+        ensures refused { OnErr result ((self.new ≡ self.old) × (self.old.headroom < count)) }
     {
         let len = self.labels.len();
         if count > MOST - len {
@@ -206,7 +206,7 @@ impl OrderedLists {
 
     /// Adds a free node, in the reserved capacity, and returns it.
     pub fn new_node(&mut self) -> usize
-        requires { 0 < self.old.room }
+        requires { 0 < self.old.headroom }
         ensures node { result ≡ length self.old.homes }
         ensures added { self.new ≡ with_node free self.old }
     {
@@ -216,7 +216,7 @@ impl OrderedLists {
 
     /// Adds the head of an empty list, in the reserved capacity, and returns it.
     pub fn new_head(&mut self) -> usize
-        requires { 0 < self.old.room }
+        requires { 0 < self.old.headroom }
         ensures node { result ≡ length self.old.homes }
         ensures added { self.new ≡ with_node result self.old }
     {
@@ -227,7 +227,7 @@ impl OrderedLists {
     /// Adds a free node and returns it.
     pub fn add_node(&mut self) -> Result<usize, AllocError>
         ensures added { IfOk result (λ n. (n ≡ length self.old.homes) × (self.new ≡ with_node free self.old)) }
-        ensures refused { OnErr result ((self.new ≡ self.old) × (self.old.room ≡ 0)) }
+        ensures refused { OnErr result ((self.new ≡ self.old) × (self.old.headroom ≡ 0)) }
     {
         match self.reserve(1) {
             Ok(()) => Ok(self.new_node()),
@@ -238,7 +238,7 @@ impl OrderedLists {
     /// Adds the head of an empty list and returns it.
     pub fn add_head(&mut self) -> Result<usize, AllocError>
         ensures added { IfOk result (λ n. (n ≡ length self.old.homes) × (self.new ≡ with_node n self.old)) }
-        ensures refused { OnErr result ((self.new ≡ self.old) × (self.old.room ≡ 0)) }
+        ensures refused { OnErr result ((self.new ≡ self.old) × (self.old.headroom ≡ 0)) }
     {
         match self.reserve(1) {
             Ok(()) => Ok(self.new_head()),

@@ -105,7 +105,7 @@ pub(crate) fn open(links: &mut Vec<Link>, node: usize)
 /// Adds a node with head `home`, to which no other node links. There is spare capacity.
 pub(crate) fn grow(links: &mut Vec<Link>, home: u32)
     requires few { length links.old.items < free }
-    requires room { vec_len links.old < vec_capacity links.old }
+    requires headroom { vec_len links.old < vec_capacity links.old }
     ensures items { links.new.items ≡ links.old.items ++ record { prev = length links.old.items; next = length links.old.items; home = home } ∷ [] }
     ensures capacity { vec_capacity links.old ≤ vec_capacity links.new }
 {

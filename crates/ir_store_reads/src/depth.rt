@@ -12,28 +12,28 @@ use ir_store_slots::{OrderedLists, Slots};
 
 /// Returns whether the operation of a slot has fewer than `room` levels inside it.
 #[cycle(fit)]
-pub fn op_fits(rows: &Slots, sibs: &OrderedLists, key: usize, room: u32) -> bool
+pub fn op_fits(rows: &Slots, sibs: &OrderedLists, key: usize, headroom: u32) -> bool
     requires rows { (k : ℕ) → Live rows.now k → AllHeads sibs.now.homes (row_at rows.now k).shapes }
     requires laws { Laws sibs.now.lists sibs.now.homes }
-    ensures { result ≡ slot_fits rows.now sibs.now.lists room key }
+    ensures { result ≡ slot_fits rows.now sibs.now.lists headroom key }
 {
-    if room == 0 || !rows.is_live(key) {
+    if headroom == 0 || !rows.is_live(key) {
         return false;
     }
-    areas_fit(rows, sibs, rows.areas(key), room - 1)
+    areas_fit(rows, sibs, rows.areas(key), headroom - 1)
 }
 
 /// Returns whether each operation in some regions has fewer than `room` levels inside it.
 #[cycle(fit)]
-fn areas_fit(rows: &Slots, sibs: &OrderedLists, areas: &[RegionData], room: u32) -> bool
+fn areas_fit(rows: &Slots, sibs: &OrderedLists, areas: &[RegionData], headroom: u32) -> bool
     requires rows { (k : ℕ) → Live rows.now k → AllHeads sibs.now.homes (row_at rows.now k).shapes }
     requires laws { Laws sibs.now.lists sibs.now.homes }
     requires heads { AllHeads sibs.now.homes (map shape_of areas.now) }
-    ensures { result ≡ shapes_pass sibs.now.lists (slot_fits rows.now sibs.now.lists room) (map shape_of areas.now) }
+    ensures { result ≡ shapes_pass sibs.now.lists (slot_fits rows.now sibs.now.lists headroom) (map shape_of areas.now) }
 {
     let mut rest = areas;
     'areas: while let [area, tail @ ..] = rest {
-        if !area_fits(rows, sibs, area, room) {
+        if !area_fits(rows, sibs, area, headroom) {
             return false;
         }
         rest = tail;
@@ -43,29 +43,29 @@ fn areas_fit(rows: &Slots, sibs: &OrderedLists, areas: &[RegionData], room: u32)
 
 /// Returns whether each operation in a region has fewer than `room` levels inside it.
 #[cycle(fit)]
-fn area_fits(rows: &Slots, sibs: &OrderedLists, area: &RegionData, room: u32) -> bool
+fn area_fits(rows: &Slots, sibs: &OrderedLists, area: &RegionData, headroom: u32) -> bool
     requires rows { (k : ℕ) → Live rows.now k → AllHeads sibs.now.homes (row_at rows.now k).shapes }
     requires laws { Laws sibs.now.lists sibs.now.homes }
     requires heads { AllHeads sibs.now.homes (shape_of area.now ∷ []) }
-    ensures { result ≡ shapes_pass sibs.now.lists (slot_fits rows.now sibs.now.lists room) (shape_of area.now ∷ []) }
+    ensures { result ≡ shapes_pass sibs.now.lists (slot_fits rows.now sibs.now.lists headroom) (shape_of area.now ∷ []) }
 {
     match area {
         RegionData::Empty => true,
-        RegionData::Block { head, .. } => list_fits(rows, sibs, *head, room),
+        RegionData::Block { head, .. } => list_fits(rows, sibs, *head, headroom),
     }
 }
 
 /// Returns whether each operation in the list of a head has fewer than `room` levels inside it.
 #[cycle(fit)]
-fn list_fits(rows: &Slots, sibs: &OrderedLists, head: usize, room: u32) -> bool
+fn list_fits(rows: &Slots, sibs: &OrderedLists, head: usize, headroom: u32) -> bool
     requires rows { (k : ℕ) → Live rows.now k → AllHeads sibs.now.homes (row_at rows.now k).shapes }
     requires laws { Laws sibs.now.lists sibs.now.homes }
     requires head { IsHead sibs.now.homes head }
-    ensures { result ≡ list_all (slot_fits rows.now sibs.now.lists room) (list_at sibs.now.lists head) }
+    ensures { result ≡ list_all (slot_fits rows.now sibs.now.lists headroom) (list_at sibs.now.lists head) }
 {
     let mut at = sibs.first(head);
     'ops: while let Some(key) = at {
-        if !op_fits(rows, sibs, key, room) {
+        if !op_fits(rows, sibs, key, headroom) {
             return false;
         }
         at = sibs.next(key);

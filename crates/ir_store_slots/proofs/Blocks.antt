@@ -62,17 +62,17 @@ lower_is q bound low k i (Some a) l b = lower_block q bound low k i a l b
 -- one more block
 pub blocks_push : (q : Parts) (bound k : ℕ) (xs : List Shape) (x : Shape) → AreBlocks q bound k xs → IsBlock q bound k (length xs) x → AreBlocks q bound k (xs ++ x ∷ [])
 blocks_push q bound k xs x f b i a e = ⊎_elim
-    (λ l. f i a (sym (in_front xs (x ∷ []) i l) ∙ e))
+    (λ l. f i a (sym (in_preceding xs (x ∷ []) i l) ∙ e))
     (λ g. ⊎_elim
     (λ z. last x b (sym (at_end xs x i z) ∙ e) z)
     (λ n. absurd (n (only_end xs x i (Some a) g e)))
     (cases_eq i (length xs)))
     (cases_lt i (length xs))
   where
-    in_front : {X : Type 0} (ys zs : List X) (i : ℕ) → i < length ys → slice_get (ys ++ zs) i ≡ slice_get ys i
-    in_front [] zs i l = absurd (omega (arith, l))
-    in_front (y ∷ ys) zs zero l = refl
-    in_front (y ∷ ys) zs (suc i) l = in_front ys zs i (omega (arith, l))
+    in_preceding : {X : Type 0} (ys zs : List X) (i : ℕ) → i < length ys → slice_get (ys ++ zs) i ≡ slice_get ys i
+    in_preceding [] zs i l = absurd (omega (arith, l))
+    in_preceding (y ∷ ys) zs zero l = refl
+    in_preceding (y ∷ ys) zs (suc i) l = in_preceding ys zs i (omega (arith, l))
 
     at_end : {X : Type 0} (ys : List X) (y : X) (i : ℕ) → i ≡ length ys → slice_get (ys ++ y ∷ []) i ≡ Some y
     at_end [] y zero e = refl

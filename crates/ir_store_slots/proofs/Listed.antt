@@ -147,9 +147,9 @@ module _ (rows : List Row) (lists : List (List ℕ)) (homes : List ℕ) (laws : 
 
 -- the held operations, one by one: those after some position of the list remain to be visited
 pub record Sweeps (from : ℕ) (rows new : List Row) (keys left : ℕ → Option ℕ) (list homes : List ℕ) (at : Option ℕ) : Type 0 where
-  pub front : List ℕ
+  pub preceding : List ℕ
   pub rest : List ℕ
-  pub split : list ≡ front ++ rest
+  pub split : list ≡ preceding ++ rest
   pub here : at ≡ slice_get rest 0
   pub marked : Marked new homes
   pub some : ReleasesSome from (λ q. not (has (node_of_slot q) rest)) rows new keys left
@@ -157,7 +157,7 @@ pub record Sweeps (from : ℕ) (rows new : List Row) (keys left : ℕ → Option
 pub sweeps_start : (from : ℕ) (rows : List Row) (keys : ℕ → Option ℕ) → IsKeyed rows keys → (lists : List (List ℕ)) (homes : List ℕ) → Laws lists homes → Marked rows homes → (at : Option ℕ) → at ≡ slice_get (list_at lists 0) 0
     → Sweeps from rows rows keys keys (list_at lists 0) homes at
 sweeps_start from rows keys kd lists homes laws m at e = record {
-  front = [];
+  preceding = [];
   rest = list_at lists 0;
   split = refl;
   here = e;
@@ -190,21 +190,21 @@ module _ (from : ℕ) (rows new : List Row) (keys : ℕ → Option ℕ) (left : 
   abbrev ys : List ℕ
   ys = next_of.0
 
-  whole : list_at lists 0 ≡ s.front ++ n ∷ ys
-  whole = s.split ∙ ap (λ z. s.front ++ z) next_of.1
+  whole : list_at lists 0 ≡ s.preceding ++ n ∷ ys
+  whole = s.split ∙ ap (λ z. s.preceding ++ z) next_of.1
 
-  once : Once (s.front ++ n ∷ ys)
+  once : Once (s.preceding ++ n ∷ ys)
   once = subst Once whole (laws.once 0)
 
   pub sweep_there : has n (list_at lists 0) ≡ true
-  sweep_there = ap (has n) whole ∙ has_middle n s.front ys
+  sweep_there = ap (has n) whole ∙ has_middle n s.preceding ys
 
   at_node : AtNode new n true
   at_node = held_node new lists homes laws s.marked n sweep_there
 
   module _ (at : Option ℕ) (ea : at ≡ after n (list_at lists (home_at homes n))) (b : Bool) (list : List ℕ) (el : list ≡ (if b then without n (list_at lists 0) else list_at lists 0)) where
     ahead : at ≡ slice_get ys 0
-    ahead = ea ∙ ap (λ z. after n (list_at lists z)) (laws.members 0 n sweep_there).0 ∙ ap (after n) whole ∙ after_middle n s.front ys once
+    ahead = ea ∙ ap (λ z. after n (list_at lists z)) (laws.members 0 n sweep_there).0 ∙ ap (after n) whole ∙ after_middle n s.preceding ys once
 
     parts : (xs : List ℕ) × ((list ≡ xs ++ ys) × Once (xs ++ ys))
     parts = go b el
@@ -230,18 +230,18 @@ module _ (from : ℕ) (rows new : List Row) (keys : ℕ → Option ℕ) (left : 
         fewer (x ∷ xs) zs o = (less x xs zs o.0, fewer xs zs o.1)
 
         go : (b : Bool) → list ≡ (if b then without n (list_at lists 0) else list_at lists 0) → (xs : List ℕ) × ((list ≡ xs ++ ys) × Once (xs ++ ys))
-        go true e = (s.front, (e ∙ ap (without n) whole ∙ without_part n s.front ys once, fewer s.front ys once))
-        go false e = (s.front ++ n ∷ [], (e ∙ whole ∙ sym (shift s.front ys), subst Once (sym (shift s.front ys)) once))
+        go true e = (s.preceding, (e ∙ ap (without n) whole ∙ without_part n s.preceding ys once, fewer s.preceding ys once))
+        go false e = (s.preceding ++ n ∷ [], (e ∙ whole ∙ sym (shift s.preceding ys), subst Once (sym (shift s.preceding ys)) once))
 
     pub sweep_less : length (from_slot at list) < length (from_slot (Some n) (list_at lists 0))
     sweep_less =
         let e : from_slot at list ≡ ys = ap (λ z. from_slot z list) ahead ∙ ap (from_slot (slice_get ys 0)) parts.1.0 ∙ from_part parts.0 ys parts.1.1 in
-        let f : from_slot (Some n) (list_at lists 0) ≡ n ∷ ys = ap (from_slot (Some n)) whole ∙ from_part s.front (n ∷ ys) once in
+        let f : from_slot (Some n) (list_at lists 0) ≡ n ∷ ys = ap (from_slot (Some n)) whole ∙ from_part s.preceding (n ∷ ys) once in
         omega (arith, ap length e, ap length f)
 
     pub sweep_on : (new2 : List Row) (left2 : finmap.FinMap nat_cmp ℕ) (homes2 : List ℕ) → ReleasesSlot from (n - 2) new new2 left left2 → Marked new2 homes2 → Sweeps from rows new2 keys (finmap.get left2) list homes2 at
     sweep_on new2 left2 homes2 r m = record {
-      front = parts.0;
+      preceding = parts.0;
       rest = ys;
       split = parts.1.0;
       here = ahead;
@@ -249,7 +249,7 @@ module _ (from : ℕ) (rows new : List Row) (keys : ℕ → Option ℕ) (left : 
       some = sweep_step from rows keys kd (λ q. not (has (node_of_slot q) s.rest)) new left s.some (n - 2)
           (ap not (ap (λ z. has z s.rest) at_node.node ∙ ap (has n) next_of.1 ∙ ap (λ z. z || has n ys) (eq-eqb n n refl)))
           new2 left2 r (λ q. not (has (node_of_slot q) ys))
-          (ap not (ap (λ z. has z ys) at_node.node ∙ once_part n s.front ys once))
+          (ap not (ap (λ z. has z ys) at_node.node ∙ once_part n s.preceding ys once))
           (λ q ne. ap not (sym (ap (has (node_of_slot q)) next_of.1 ∙ ap (λ z. z || has (node_of_slot q) ys) (ne_eqb n (node_of_slot q) (λ z. ne (let w = at_node.node in omega (arith, z, w)))))));
     }
 

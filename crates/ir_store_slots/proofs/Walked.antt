@@ -142,7 +142,7 @@ module _ (rows : List Row) (lists : List (List ℕ)) where
     ops_fit n (k ∷ ks) (next o os) s = (λ i. fits_is n k o s.0 i && ops_fit n ks os s.1 i) ∙ lt_le (depth o) (ops_depth os) n
 
 -- a slot whose row is read, if there are levels left
-pub fits_row : (rows : List Row) (lists : List (List ℕ)) (room k : ℕ) → (room ≡ 0 → ⊥) → (row_at rows k).live ≡ true → slot_fits rows lists room k ≡ shapes_pass lists (slot_fits rows lists (room - 1)) (row_at rows k).shapes
+pub fits_row : (rows : List Row) (lists : List (List ℕ)) (headroom k : ℕ) → (headroom ≡ 0 → ⊥) → (row_at rows k).live ≡ true → slot_fits rows lists headroom k ≡ shapes_pass lists (slot_fits rows lists (headroom - 1)) (row_at rows k).shapes
 fits_row rows lists zero k n l = absurd (n refl)
 fits_row rows lists (suc m) k n l =
     let e : m ≡ suc m - 1 = omega arith in

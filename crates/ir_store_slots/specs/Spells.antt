@@ -94,5 +94,5 @@ module _ (rows : List Row) (lists : List (List ℕ)) where
   pub Represented-prop : (root : ℕ) → IsProp (Represented root)
   Represented-prop root x y = Σ_prop_path (SpellsOp-prop root) {u = x} {v = y} (SpellsOp-one root x.0 y.0 x.1 y.1)
 
-  pub spelled_is : (root : ℕ) (x : Represented root) (t : Op) → SpellsOp root t → x.0 ≡ t
-  spelled_is root x t s = SpellsOp-one root x.0 t x.1 s
+  pub rendered_is : (root : ℕ) (x : Represented root) (t : Op) → SpellsOp root t → x.0 ≡ t
+  rendered_is root x t s = SpellsOp-one root x.0 t x.1 s

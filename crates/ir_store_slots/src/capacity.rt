@@ -47,7 +47,7 @@ impl Capacity {
 
 /// Returns the capacity that a tree needs.
 pub fn capacity_for(tree: &TreeOp) -> Capacity {
-    let mut room = Capacity {
+    let mut headroom = Capacity {
         ops: 0,
         slots: 0,
         uses: 0,
@@ -56,26 +56,26 @@ pub fn capacity_for(tree: &TreeOp) -> Capacity {
         entered: 0,
         whole: 0,
     };
-    count_op(&mut room, tree);
-    room
+    count_op(&mut headroom, tree);
+    headroom
 }
 
 /// Counts an operation, and everything inside it.
 #[cycle(count)]
-fn count_op(room: &mut Capacity, op: &TreeOp) {
-    room.add_op(op);
+fn count_op(headroom: &mut Capacity, op: &TreeOp) {
+    headroom.add_op(op);
     for region in &op.regions {
-        count_region(room, region);
+        count_region(headroom, region);
     }
 }
 
 /// Counts the block of a region, if it has one, and everything inside it.
 #[cycle(count)]
-fn count_region(room: &mut Capacity, region: &TreeRegion) {
+fn count_region(headroom: &mut Capacity, region: &TreeRegion) {
     if let TreeRegion::Block { args, ops } = region {
-        room.add_block(args.len());
+        headroom.add_block(args.len());
         for op in ops {
-            count_op(room, op);
+            count_op(headroom, op);
         }
     }
 }

@@ -10,7 +10,7 @@ use Rattle.ir_text_types.specs.Outcomes.{Outcome, Read, Wrong, Full, ◌>>=◌, 
 use Rattle.ir_text_types.specs.Lists.{more_at, more_from, list_at, list_from}
 use Rattle.ir_text_types.specs.Typed.{Typed}
 use Rattle.ir_text_types.proofs.TextLaws.{after_found}
-use Rattle.ir_text.specs.Room.{Fits}
+use Rattle.ir_text.specs.Headroom.{Fits}
 use Rattle.ir_text.proofs.Lengths.{gain, next_length}
 
 pub fits_to : {i j k i' j' k' : ℕ} {b r : List ℕ} {c : ContextModel} → Fits i j k b c → length r + i' ≤ length b + i → length r + j' ≤ length b + j → length r + k' ≤ length b + k → Fits i' j' k' r c
@@ -68,22 +68,22 @@ module _ {S : Type 0} (text : S → List ℕ) (things : S → ContextModel) wher
       back : (s : S) → Has (i' + 1) (j' + 1) (k' + 1) s → Has i j k s
       back s h = fits_to h (omega (arith, few_names)) (omega (arith, few_types)) (omega (arith, few_attrs))
 
-      ends_good : (room : ℕ) → ((items : List A) (s : S) → Has i j k s → Good i j k (more_at after close p room items s)) → (items : List A) (s : S) (o : Option S) → after close s ≡ o → Has i' j' k' s → Good i j k (more_from after close p (more_at after close p room) items s o)
-      ends_good room go items s (Some end) e h = reads (items, end) (back end (passes close one i' j' k' s end e h))
-      ends_good room go items s None e h = good_some (after Comma s) (more_at after close p room items) (λ mid c. go items mid (back mid (passes Comma refl i' j' k' s mid c h)))
+      ends_good : (headroom : ℕ) → ((items : List A) (s : S) → Has i j k s → Good i j k (more_at after close p headroom items s)) → (items : List A) (s : S) (o : Option S) → after close s ≡ o → Has i' j' k' s → Good i j k (more_from after close p (more_at after close p headroom) items s o)
+      ends_good headroom go items s (Some end) e h = reads (items, end) (back end (passes close one i' j' k' s end e h))
+      ends_good headroom go items s None e h = good_some (after Comma s) (more_at after close p headroom items) (λ mid c. go items mid (back mid (passes Comma refl i' j' k' s mid c h)))
 
-      pub more_good : (room : ℕ) (items : List A) (s : S) → Has i j k s → Good i j k (more_at after close p room items s)
+      pub more_good : (headroom : ℕ) (items : List A) (s : S) → Has i j k s → Good i j k (more_at after close p headroom items s)
       unfolding more_at
       more_good zero items s h = wrong
-      more_good (suc room) items s h = good_then (p items s) (λ x. more_from after close p (more_at after close p room) (items ++ x.0 ∷ []) x.1 (after close x.1)) (item items s h) (λ x f. ends_good room (more_good room) (items ++ x.0 ∷ []) x.1 (after close x.1) refl f)
+      more_good (suc headroom) items s h = good_then (p items s) (λ x. more_from after close p (more_at after close p headroom) (items ++ x.0 ∷ []) x.1 (after close x.1)) (item items s h) (λ x f. ends_good headroom (more_good headroom) (items ++ x.0 ∷ []) x.1 (after close x.1) refl f)
 
-      pub list_good : (room : ℕ) (s : S) → Has i j k s → Good i j k (list_at after close p room s)
+      pub list_good : (headroom : ℕ) (s : S) → Has i j k s → Good i j k (list_at after close p headroom s)
       unfolding list_at
-      list_good room s h = by (after close s) refl
+      list_good headroom s h = by (after close s) refl
         where
-          by : (o : Option S) → after close s ≡ o → Good i j k (list_from after close p room s o)
+          by : (o : Option S) → after close s ≡ o → Good i j k (list_from after close p headroom s o)
           by (Some end) e = reads ([], end) (fits_to (passes close one i j k s end e h) (omega arith) (omega arith) (omega arith))
-          by None e = more_good room [] s h
+          by None e = more_good headroom [] s h
 
 -- the parse continues with another kind of state
 pub good_into : {S S' A B : Type 0} {i j k i' j' k' : ℕ} (text : S → List ℕ) (things : S → ContextModel) (text' : S' → List ℕ) (things' : S' → ContextModel) (o : Outcome (A × S)) (q : A × S → Outcome (B × S'))

@@ -8,9 +8,9 @@ use Rattle.ir_tree.proofs.Steps.{next_left}
 -- one more text is printed, after the separator unless the text is the first
 pub one_more : (mark whole before between after text : List ℕ) (first : Bool) (now rest : List (List ℕ)) → now ≡ text ∷ rest → between ≡ before ++ (if first then [] else mark) → after ≡ between ++ text → before ++ parted mark first now ≡ whole → after ++ parted mark false rest ≡ whole
 one_more mark whole before between after text first now rest e p q s =
-    let front = if first then [] else mark in
+    let preceding = if first then [] else mark in
     let back = parted mark false rest in
-    ap (λ l. l ++ back) (q ∙ ap (λ l. l ++ text) p) ∙ append_assoc (before ++ front) text back ∙ append_assoc before front (text ++ back) ∙ ap (λ ts. before ++ parted mark first ts) (sym e) ∙ s
+    ap (λ l. l ++ back) (q ∙ ap (λ l. l ++ text) p) ∙ append_assoc (before ++ preceding) text back ∙ append_assoc before preceding (text ++ back) ∙ ap (λ ts. before ++ parted mark first ts) (sym e) ∙ s
 
 -- the last text was printed
 pub no_more : {A : Type 0} (mark whole before : List ℕ) (first : Bool) (f : List A → List (List ℕ)) (xs : List A) (i : ℕ) → length xs ≤ i → f [] ≡ [] → before ++ parted mark first (f (drop i xs)) ≡ whole → before ≡ whole

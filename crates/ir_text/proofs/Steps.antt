@@ -21,7 +21,7 @@ use Rattle.ir_text_types.specs.Outcomes.{Read, Full, ◌>>=◌, interned}
 use Rattle.ir_text_types.specs.Typed.{Typed, after_typed, type_step}
 use Rattle.ir_text_types.specs.TypeReading.{type_done}
 use Rattle.ir_text_types.specs.Marks.{after}
-use Rattle.ir_text.specs.Room.{Fits}
+use Rattle.ir_text.specs.Headroom.{Fits}
 use Rattle.ir_text.proofs.Lengths.{gain, next_length}
 use Rattle.ir_text.proofs.Fits.{fits_to, after_length, Has, Good, wrong, reads, text, things}
 

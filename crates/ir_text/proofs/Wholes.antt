@@ -29,11 +29,11 @@ no_arguments d margin x k (n ∷ ns) os o h = absurd (omega arith)
 
 -- an operation: its head, all its regions, its tail
 pub whole_op : (d : ContextModel) (margin : List ℕ) (a : Inside) (t : Op) (place : ℕ) (o p q r s u : Printed) → op_view a ≡ t → length a.regions.items ≤ place → p ≡ put_head margin (head_in d (head t)) o → q ≡ put (opening (regions_in d a.regions.items)) p → put_regions margin a.id place (regions_in d (drop place a.regions.items)) r ≡ put_regions margin a.id 0 (regions_in d a.regions.items) q → s ≡ put (closing_text (regions_in d a.regions.items)) r → u ≡ put_tail (head_in d (head t)) s → u ≡ put_op margin (meaning d t) o
-whole_op d margin a t place o p q r s u v past front opens regions closes back =
+whole_op d margin a t place o p q r s u v past preceding opens regions closes back =
     let all : r ≡ put_regions margin a.id 0 (regions_in d a.regions.items) q = rw (drop_of_length-le a.regions.items past) at regions in
     subst (λ (t : Op). p ≡ put_head margin (head_in d (head t)) o → u ≡ put_tail (head_in d (head t)) s → u ≡ put_op margin (meaning d t) o) v
     (λ f b. b ∙ ap (put_tail (head_in d (head_view a))) (closes ∙ ap (put (closing_text (regions_in d a.regions.items))) (all ∙ ap (put_regions margin a.id 0 (regions_in d a.regions.items)) (opens ∙ ap (put (opening (regions_in d a.regions.items))) f))))
-    front back
+    preceding back
 
 -- a region with a block: its label, and all its operations
 pub whole_region : (d : ContextModel) (margin blanks : List ℕ) (x k : ℕ) (args : List ℕ) (os : List Op) (place : ℕ) (o p q r s u : Printed) → blanks ≡ deeper margin → length os ≤ place → p ≡ put (codes "{\n") o → q ≡ put_label margin x k (types_in d args) (ops_in d os) p → put_ops blanks (ops_in d (drop place os)) r ≡ put_ops blanks (ops_in d os) q → s ≡ put margin r → u ≡ put (codes "}") s → u ≡ put_region margin x k (region_in d (block args (ops_of os))) o

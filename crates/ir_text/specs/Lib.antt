@@ -6,4 +6,4 @@ pub mod Printing
 pub mod View
 pub mod Answers
 pub mod Public
-pub mod Room
+pub mod Headroom

@@ -149,7 +149,7 @@ pub(crate) fn tree_alone(
     ensures mode { IfOk result (λ x. x.0.opaque ≡ opaque) }
     ensures sound { IfOk result (λ x. IsSoundIn x.0 x.1) }
     ensures refused { (f : TextFault) → result ≡ Err (ReadError.Refused f) → IsNone (Spells opaque bytes.now) }
-    ensures room { (left : ℕ) → result ≡ Err (ReadError.Full left) → ⊥ }
+    ensures headroom { (left : ℕ) → result ≡ Err (ReadError.Full left) → ⊥ }
 {
     match within_limits(bytes) {
         Ok(()) => {}

@@ -67,7 +67,7 @@ pub fn read_new(
     ensures mode { IfOk result (λ x. x.0.opaque ≡ opaque) }
     ensures refused { (r : Refusal) (o : ℕ) → result ≡ Err (ReadError.Refused r o) → IsNone (Spells opaque bytes.now) }
     ensures told { IfErr result (λ e. IsTextRefusal bytes.now e) }
-    ensures room { (o : ℕ) → result ≡ Err (ReadError.Full o) → ⊥ }
+    ensures headroom { (o : ℕ) → result ≡ Err (ReadError.Full o) → ⊥ }
 {
     match tree_alone(alloc, key, opaque, bytes) {
         Ok(found) => Ok(found),

@@ -4,9 +4,9 @@ use Rattle.std.specs.Prelude.{◌==◌, ◌&&◌, ◌||◌, Ok, Err}
 use Rattle.ir_text_tokens.specs.declared.refusal.TextRefusal.{TextRefusal}
 use Rattle.ir_text_tokens.specs.declared.refusal.TextRefusal.TheVariants.{LeftOut, Unexpected}
 use Rattle.ir_text_tokens.specs.Tokens.{Lexeme, mark, integer, float, string, bare, value, label, hash, bang, symbol, quoted, trailing_first, next, skip}
-use Rattle.ir_text_tokens.proofs.Fronts.{next_front}
+use Rattle.ir_text_tokens.proofs.Precedings.{next_preceding}
 use Rattle.ir_text_tokens.specs.Bodies.{begins, has_dot, is_arrow, refused_at}
-use Rattle.ir_text_aliases.specs.Pieces.{from_quote, piece_len}
+use Rattle.ir_text_aliases.specs.Lexemes.{from_quote, lexeme_len}
 use Rattle.ir_text_aliases.specs.Values.{Ends, coming_after, enclosed, group_end, unless, value_fault}
 use Rattle.ir_text_aliases.specs.Words.{is_distinct, is_element, is_listed, is_lone, is_place_word, is_scalar, is_shaped}
 use Rattle.ir_text_aliases.specs.Terms.{arrow_end, at_token, attr_end, attr_from, begins_digit, trailing, after_colons, distinct_end, elements_end, function_end, hash_end, name_end, needed_end, number_end, number_from, plain_attr_end, plain_type_end, results_end, symbol_end, symbol_from, symbols_end, symbols_or, type_end, type_from, type_or, typed_end, value_end, word_end, word_type_end}
@@ -37,9 +37,9 @@ unfolding group_end
 grouped [] n bs r e = subst (IsTail bs) (ap rest_of e) (dropped n bs)
 grouped (o ∷ os) n [] r e = absurd cc
 grouped (o ∷ os) (suc n) (c ∷ cs) r e = longer c cs r (grouped (o ∷ os) n cs r e)
-grouped (o ∷ os) zero (c ∷ cs) r e = from (value_fault c cs (o ∷ os)) e (grouped (coming_after c (o ∷ os)) (piece_len c cs) cs r)
+grouped (o ∷ os) zero (c ∷ cs) r e = from (value_fault c cs (o ∷ os)) e (grouped (coming_after c (o ∷ os)) (lexeme_len c cs) cs r)
   where
-    from : (x : Option TextRefusal) → unless x (from_quote c cs) (group_end (coming_after c (o ∷ os)) (piece_len c cs) cs) ≡ Ok r → (group_end (coming_after c (o ∷ os)) (piece_len c cs) cs ≡ Ok r → IsTail cs r) → IsTail (c ∷ cs) r
+    from : (x : Option TextRefusal) → unless x (from_quote c cs) (group_end (coming_after c (o ∷ os)) (lexeme_len c cs) cs) ≡ Ok r → (group_end (coming_after c (o ∷ os)) (lexeme_len c cs) cs ≡ Ok r → IsTail cs r) → IsTail (c ∷ cs) r
     from None k h = longer c cs r (h k)
     from (Some x) k h = absurd cc
 
@@ -57,7 +57,7 @@ next_enclosed first closer = skipped_to (enclosed first closer) (enclosed_tail f
 -- ---- tokens
 
 token_tail : (bs rest : List ℕ) (t : Lexeme) → next bs ≡ Some (t, rest) → IsTail bs rest
-token_tail bs rest t e = within bs (skip bs) rest (skipped bs) (_, next_front bs rest t e)
+token_tail bs rest t e = within bs (skip bs) rest (skipped bs) (_, next_preceding bs rest t e)
 
 abbrev FollowTokens : (List ℕ → Lexeme → List ℕ → Ends) → Type 0
 FollowTokens f = (all : List ℕ) (t : Lexeme) (rest r : List ℕ) → f all t rest ≡ Ok r → IsTail rest r
@@ -237,10 +237,10 @@ extra_tail more h bs r (Some rest) n e =
     within bs rest r (within bs (skip bs) rest (skipped bs) (colons_tail (skip bs) rest n))
     (one_more (symbol_end (skip rest)) more rest r (λ m k. skipped_to symbol_end symbol_tail rest m k) h e)
 
-symbols_tail : (room : ℕ) → AreTails (symbols_end room)
+symbols_tail : (headroom : ℕ) → AreTails (symbols_end headroom)
 unfolding symbols_end
 symbols_tail zero bs r e = here bs r e
-symbols_tail (suc room) bs r e = extra_tail (symbols_end room) (symbols_tail room) bs r (after_colons (skip bs)) refl e
+symbols_tail (suc headroom) bs r e = extra_tail (symbols_end headroom) (symbols_tail headroom) bs r (after_colons (skip bs)) refl e
 
 attrs_follow : FollowTokens attr_from
 attrs_follow all (integer s) rest r e = typed_tail rest r e

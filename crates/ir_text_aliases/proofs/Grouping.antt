@@ -6,11 +6,11 @@ use Rattle.std.proofs.lemmas.Bool.{eqb-true}
 use Rattle.ir_text_tokens.specs.declared.refusal.TextRefusal.{TextRefusal}
 use Rattle.ir_text_tokens.specs.declared.refusal.TextRefusal.TheVariants.{Unexpected}
 use Rattle.ir_text_tokens.specs.declared.fault.Fault.{Fault}
-use Rattle.ir_text_aliases.specs.Pieces.{from_quote, piece_len}
+use Rattle.ir_text_aliases.specs.Lexemes.{from_quote, lexeme_len}
 use Rattle.ir_text_aliases.specs.Values.{coming_after, group_end, unless, value_fault}
-use Rattle.ir_text_aliases.proofs.Parted.{piece_within}
+use Rattle.ir_text_aliases.proofs.Parted.{lexeme_within}
 
-extra : (c o : ℕ) (os cs : List ℕ) → group_end (o ∷ os) 0 (c ∷ cs) ≡ unless (value_fault c cs (o ∷ os)) (from_quote c cs) (group_end (coming_after c (o ∷ os)) (piece_len c cs) cs)
+extra : (c o : ℕ) (os cs : List ℕ) → group_end (o ∷ os) 0 (c ∷ cs) ≡ unless (value_fault c cs (o ∷ os)) (from_quote c cs) (group_end (coming_after c (o ∷ os)) (lexeme_len c cs) cs)
 unfolding group_end
 extra c o os cs = refl
 
@@ -21,22 +21,22 @@ passed (o ∷ os) zero cs le = refl
 passed (o ∷ os) (suc n) [] le = absurd (omega (arith, le))
 passed (o ∷ os) (suc n) (c ∷ cs) le = passed (o ∷ os) n cs (omega (arith, le))
 
-by_one : (c : ℕ) (os new all tail trailing : List ℕ) → 0 < length os → all ≡ c ∷ tail → value_fault c tail os ≡ None → new ≡ coming_after c os → trailing ≡ drop (piece_len c tail) tail → group_end os 0 all ≡ group_end new 0 trailing
+by_one : (c : ℕ) (os new all tail trailing : List ℕ) → 0 < length os → all ≡ c ∷ tail → value_fault c tail os ≡ None → new ≡ coming_after c os → trailing ≡ drop (lexeme_len c tail) tail → group_end os 0 all ≡ group_end new 0 trailing
 by_one c [] new all tail trailing lt a f n b = absurd (omega (arith, lt))
 by_one c (o ∷ os) new all tail trailing lt a f n b =
     ap (group_end (o ∷ os) 0) a ∙ extra c o os tail
-    ∙ ap (λ x. unless x (from_quote c tail) (group_end (coming_after c (o ∷ os)) (piece_len c tail) tail)) f
-    ∙ passed (coming_after c (o ∷ os)) (piece_len c tail) tail (piece_within c tail)
+    ∙ ap (λ x. unless x (from_quote c tail) (group_end (coming_after c (o ∷ os)) (lexeme_len c tail) tail)) f
+    ∙ passed (coming_after c (o ∷ os)) (lexeme_len c tail) tail (lexeme_within c tail)
     ∙ (λ i. group_end (sym n i) 0 (sym b i))
 
-pub goes_on : (c : ℕ) (items new all tail trailing : List ℕ) → 0 < length items → all ≡ c ∷ tail → value_fault c tail (reverse items) ≡ None → new ≡ coming_after c (reverse items) → trailing ≡ drop (piece_len c tail) tail → group_end (reverse items) 0 all ≡ group_end new 0 trailing
+pub goes_on : (c : ℕ) (items new all tail trailing : List ℕ) → 0 < length items → all ≡ c ∷ tail → value_fault c tail (reverse items) ≡ None → new ≡ coming_after c (reverse items) → trailing ≡ drop (lexeme_len c tail) tail → group_end (reverse items) 0 all ≡ group_end new 0 trailing
 goes_on c items new all tail trailing lt a f n b = by_one c (reverse items) new all tail trailing (omega (arith, lt, length-reverse items)) a f n b
 
 refused : (c : ℕ) (os all tail : List ℕ) (f : Fault) (x : TextRefusal) → 0 < length os → all ≡ c ∷ tail → value_fault c tail os ≡ Some x → f.refusal ≡ x → f.left ≡ length (from_quote c tail) → group_end os 0 all ≡ Err f
 refused c [] all tail f x lt a k h l = absurd (omega (arith, lt))
 refused c (o ∷ os) all tail f x lt a k h l =
     ap (group_end (o ∷ os) 0) a ∙ extra c o os tail
-    ∙ ap (λ x. unless x (from_quote c tail) (group_end (coming_after c (o ∷ os)) (piece_len c tail) tail)) k
+    ∙ ap (λ x. unless x (from_quote c tail) (group_end (coming_after c (o ∷ os)) (lexeme_len c tail) tail)) k
     ∙ (λ i. Err (record { refusal = sym h i; left = sym l i }))
 
 pub stops : (c : ℕ) (items all tail : List ℕ) (f : Fault) (x : TextRefusal) → 0 < length items → all ≡ c ∷ tail → value_fault c tail (reverse items) ≡ Some x → f.refusal ≡ x → f.left ≡ length (from_quote c tail) → group_end (reverse items) 0 all ≡ Err f

@@ -43,7 +43,7 @@ pub too_deep : (c d : ℕ) (items : List ℕ) → closes_nearest c ≡ false →
 too_deep c d items e h full = rw (e, h, length-reverse items, full) refl
 
 pub one_more : (c d : ℕ) (items new : List ℕ) → closes_nearest c ≡ false → closer_of c ≡ Some d → (length items == 32) ≡ false → new ≡ items ++ d ∷ [] → Opened c items new
-one_more c d items new e h room p = (rw (e, h, length-reverse items, room) refl, ap reverse p ∙ pushed items d ∙ rw h refl)
+one_more c d items new e h headroom p = (rw (e, h, length-reverse items, headroom) refl, ap reverse p ∙ pushed items d ∙ rw h refl)
 
 -- ---- a bracket that closes or opens
 

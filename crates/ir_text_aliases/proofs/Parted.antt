@@ -11,7 +11,7 @@ use Rattle.ir_text_tokens.specs.Bytes.{is_letter, is_word}
 use Rattle.ir_text_tokens.specs.Bodies.{are_slashes, begins, is_arrow, is_sign}
 use Rattle.ir_text_tokens.specs.Bodies as bodies
 use Rattle.ir_text_tokens.proofs.KeptBodies.{string_within, name_within, some_after}
-use Rattle.ir_text_aliases.specs.Pieces.{ends_in_arrow, is_name_sign, is_quoted, line_len, named_len, own_len, piece_len, quoted_len, string_len, word_len}
+use Rattle.ir_text_aliases.specs.Lexemes.{ends_in_arrow, is_name_sign, is_quoted, line_len, named_len, own_len, lexeme_len, quoted_len, string_len, word_len}
 use Rattle.ir_text_tokens.proofs.Facts.{string_token}
 
 -- ---- strings
@@ -71,8 +71,8 @@ named_within c cs = from (is_sign c)
     from true = name_within cs
     from false = own_within cs
 
-pub piece_within : (c : ℕ) (cs : List ℕ) → piece_len c cs ≤ length cs
-piece_within c cs = from (c == 34) (is_quoted c cs) refl (are_slashes c cs) (is_name_sign c) (is_letter c) (is_arrow c cs) refl
+pub lexeme_within : (c : ℕ) (cs : List ℕ) → lexeme_len c cs ≤ length cs
+lexeme_within c cs = from (c == 34) (is_quoted c cs) refl (are_slashes c cs) (is_name_sign c) (is_letter c) (is_arrow c cs) refl
   where
     from : (t q : Bool) → is_quoted c cs ≡ q → (s u l v : Bool) → is_arrow c cs ≡ v
         → cond t (quoted_len cs) (cond q (suc (quoted_len (drop 1 cs))) (cond s (line_len cs) (cond u (named_len c cs) (cond l (word_len cs) (cond v 1 0))))) ≤ length cs
@@ -85,7 +85,7 @@ piece_within c cs = from (c == 34) (is_quoted c cs) refl (are_slashes c cs) (is_
     from false false k false false false false e = omega arith
 
 -- the prefix that was read
-pub front_is : (c n : ℕ) (all tail rest : List ℕ) → all ≡ c ∷ tail → n ≤ length tail → rest ≡ drop n tail → take (length all - length rest) all ≡ c ∷ take n tail
-front_is c n all tail rest a le r =
+pub scanned_is : (c n : ℕ) (all tail rest : List ℕ) → all ≡ c ∷ tail → n ≤ length tail → rest ≡ drop n tail → take (length all - length rest) all ≡ c ∷ take n tail
+scanned_is c n all tail rest a le r =
     let k : length all - length rest ≡ suc n = omega (arith, ap length a, ap length r, length-drop n tail) in
     rw (k, a) refl

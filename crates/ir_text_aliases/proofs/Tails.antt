@@ -9,7 +9,7 @@ use Rattle.ir_text_tokens.specs.declared.fault.Fault.{Fault}
 use Rattle.ir_text_tokens.specs.Bytes.{is_blank}
 use Rattle.ir_text_tokens.specs.Tokens.{is_comment, skip, skip_line}
 use Rattle.ir_text_tokens.specs.Bodies.{refused_at}
-use Rattle.ir_text_aliases.specs.Pieces.{piece_len, word_len}
+use Rattle.ir_text_aliases.specs.Lexemes.{lexeme_len, word_len}
 use Rattle.ir_text_aliases.specs.Places.{trailing_loc, located, place_end, place_fault}
 use Rattle.ir_text_aliases.specs.Places as places
 use Rattle.ir_text_aliases.specs.Values.{coming_after}
@@ -68,9 +68,9 @@ unfolding place_end
 placed [] n bs r e = subst (IsTail bs) (ap rest_of e) (dropped n bs)
 placed (o ∷ os) n [] r e = absurd cc
 placed (o ∷ os) (suc n) (c ∷ cs) r e = longer c cs r (placed (o ∷ os) n cs r e)
-placed (o ∷ os) zero (c ∷ cs) r e = from (place_fault c cs (o ∷ os)) e (placed (coming_after c (o ∷ os)) (piece_len c cs) cs r)
+placed (o ∷ os) zero (c ∷ cs) r e = from (place_fault c cs (o ∷ os)) e (placed (coming_after c (o ∷ os)) (lexeme_len c cs) cs r)
   where
-    from : (x : Option TextRefusal) → places.unless x (c ∷ cs) (place_end (coming_after c (o ∷ os)) (piece_len c cs) cs) ≡ Ok r → (place_end (coming_after c (o ∷ os)) (piece_len c cs) cs ≡ Ok r → IsTail cs r) → IsTail (c ∷ cs) r
+    from : (x : Option TextRefusal) → places.unless x (c ∷ cs) (place_end (coming_after c (o ∷ os)) (lexeme_len c cs) cs) ≡ Ok r → (place_end (coming_after c (o ∷ os)) (lexeme_len c cs) cs ≡ Ok r → IsTail cs r) → IsTail (c ∷ cs) r
     from None k h = longer c cs r (h k)
     from (Some x) k h = absurd cc
 

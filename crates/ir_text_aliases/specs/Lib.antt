@@ -1,5 +1,5 @@
-pub mod Pieces
-pub mod Fronts
+pub mod Lexemes
+pub mod Scanned
 pub mod Uses
 pub mod Values
 pub mod Words

@@ -8,9 +8,9 @@ use Rattle.ir_text_tokens.specs.Bytes.{is_blank}
 use Rattle.ir_text_tokens.specs.Tokens.{skip}
 use Rattle.ir_text_tokens.specs.Bodies.{begins, is_plain, is_printable, refused_at}
 use Rattle.ir_text_aliases.specs.declared.scan_state.ScanState.{ScanState}
-use Rattle.ir_text_aliases.specs.Pieces.{is_loc, piece_len, word_len}
+use Rattle.ir_text_aliases.specs.Lexemes.{is_loc, lexeme_len, word_len}
 use Rattle.ir_text_aliases.specs.Values.{coming_after, value_fault}
-use Rattle.ir_text_aliases.specs.Fronts.{is_arguments, is_ending, is_operations, is_typed}
+use Rattle.ir_text_aliases.specs.Scanned.{is_arguments, is_ending, is_operations, is_typed}
 
 -- the refusal of a symbol, a comment, a tab, a line break, or a byte outside strings that isn't ASCII
 abbrev pub byte_fault : ℕ → List ℕ → Option TextRefusal
@@ -37,7 +37,7 @@ unfoldable pub place_end : (coming : List ℕ) (passed : ℕ) (bytes : List ℕ)
 place_end [] n bytes = Ok (drop n bytes)
 place_end (o ∷ os) n [] = refused_at Unexpected []
 place_end (o ∷ os) (suc n) (c ∷ cs) = place_end (o ∷ os) n cs
-place_end (o ∷ os) zero (c ∷ cs) = unless (place_fault c cs (o ∷ os)) (c ∷ cs) (place_end (coming_after c (o ∷ os)) (piece_len c cs) cs)
+place_end (o ∷ os) zero (c ∷ cs) = unless (place_fault c cs (o ∷ os)) (c ∷ cs) (place_end (coming_after c (o ∷ os)) (lexeme_len c cs) cs)
 
 -- the rest of the text after a location, given the text from its opening bracket on
 abbrev pub located : List ℕ → Result (List ℕ) Fault

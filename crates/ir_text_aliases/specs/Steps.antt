@@ -7,9 +7,9 @@ use Rattle.ir_text_aliases.specs.declared.mark.Mark.{Mark}
 use Rattle.ir_text_aliases.specs.Walk.{Move}
 
 -- the step agrees with the move: its output, its marks, the rest of the text and the scan state
-abbrev pub Moved : Move → (front : ScanState) (outer : List Bracket) (tail rest old new : List ℕ) (marks more : List Mark) → Type 0
-Moved m front outer tail rest old new marks more =
-    (m.fault ≡ None) × (front ≡ m.front) × (outer ≡ m.outer) × (rest ≡ drop m.len tail) × (new ≡ old ++ m.put) × (more ≡ marks ++ m.marks)
+abbrev pub Moved : Move → (scanned : ScanState) (outer : List Bracket) (tail rest old new : List ℕ) (marks more : List Mark) → Type 0
+Moved m scanned outer tail rest old new marks more =
+    (m.fault ≡ None) × (scanned ≡ m.scanned) × (outer ≡ m.outer) × (rest ≡ drop m.len tail) × (new ≡ old ++ m.put) × (more ≡ marks ++ m.marks)
 
 -- the step returns the move's fault and writes nothing
 abbrev pub Stuck : Move → Fault → (old new : List ℕ) (marks more : List Mark) → Type 0

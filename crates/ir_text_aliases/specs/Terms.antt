@@ -150,9 +150,9 @@ abbrev pub symbols_or : Ends → (List ℕ → Ends) → Option (List ℕ) → E
 symbols_or other more None = other
 symbols_or other more (Some rest) = trailing (symbol_end (skip rest)) more
 
-unfoldable pub symbols_end : (room : ℕ) → List ℕ → Ends
+unfoldable pub symbols_end : (headroom : ℕ) → List ℕ → Ends
 symbols_end zero bytes = Ok bytes
-symbols_end (suc room) bytes = symbols_or (Ok bytes) (symbols_end room) (after_colons (skip bytes))
+symbols_end (suc headroom) bytes = symbols_or (Ok bytes) (symbols_end headroom) (after_colons (skip bytes))
 
 abbrev pub attr_from : List ℕ → Lexeme → List ℕ → Ends
 attr_from all (integer s) rest = typed_end rest

@@ -7,8 +7,8 @@ use Rattle.ir_text_tokens.specs.Limits.{most_bytes}
 use Rattle.ir_text_tokens.specs.Scopes.{Binding, find}
 use Rattle.ir_text_tokens.specs.Bodies.{begins}
 use Rattle.ir_text_aliases.specs.declared.scan_state.ScanState.{ScanState}
-use Rattle.ir_text_aliases.specs.Pieces.{is_loc}
-use Rattle.ir_text_aliases.specs.Fronts.{is_minus, is_place}
+use Rattle.ir_text_aliases.specs.Lexemes.{is_loc}
+use Rattle.ir_text_aliases.specs.Scanned.{is_minus, is_place}
 
 -- the known aliases, each with the start and the end of its value in the concatenation of all values
 abbrev pub Aliases : Type 0

@@ -6,7 +6,7 @@ use Rattle.ir_text_tokens.specs.declared.refusal.TextRefusal.TheVariants.{BadTok
 use Rattle.ir_text_tokens.specs.declared.fault.Fault.{Fault}
 use Rattle.ir_text_tokens.specs.Tokens.{skip, suffix_len}
 use Rattle.ir_text_tokens.specs.Bodies.{closer_of, closes_nearest, is_alias, is_opener, most_open, opened, refused_at}
-use Rattle.ir_text_aliases.specs.Pieces.{from_quote, is_open_string, piece_len}
+use Rattle.ir_text_aliases.specs.Lexemes.{from_quote, is_open_string, lexeme_len}
 
 -- the rest of the text after an equal sign and blanks
 abbrev pub after_equal : List ℕ → Option (List ℕ)
@@ -65,7 +65,7 @@ unfoldable pub group_end : (coming : List ℕ) (passed : ℕ) (bytes : List ℕ)
 group_end [] n bytes = Ok (drop n bytes)
 group_end (o ∷ os) n [] = refused_at Unexpected []
 group_end (o ∷ os) (suc n) (c ∷ cs) = group_end (o ∷ os) n cs
-group_end (o ∷ os) zero (c ∷ cs) = unless (value_fault c cs (o ∷ os)) (from_quote c cs) (group_end (coming_after c (o ∷ os)) (piece_len c cs) cs)
+group_end (o ∷ os) zero (c ∷ cs) = unless (value_fault c cs (o ∷ os)) (from_quote c cs) (group_end (coming_after c (o ∷ os)) (lexeme_len c cs) cs)
 
 -- the rest of the text after a group in the brackets `first` and `closer`
 abbrev pub enclosed : (first closer : ℕ) → List ℕ → Ends

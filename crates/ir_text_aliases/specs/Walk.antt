@@ -10,8 +10,8 @@ use Rattle.ir_text_aliases.specs.declared.scan_state.ScanState.{ScanState}
 use Rattle.ir_text_aliases.specs.declared.scan_state.BracketContents.{BracketContents}
 use Rattle.ir_text_aliases.specs.declared.mark.Mark.{Mark}
 use Rattle.ir_text_aliases.specs.declared.part.TextPart.{TextPart}
-use Rattle.ir_text_aliases.specs.Pieces.{name_of, piece_len, piece_of}
-use Rattle.ir_text_aliases.specs.Fronts.{at_first, trailing_alias, after_place, is_after, is_operations, is_outside, next_front, outer_after}
+use Rattle.ir_text_aliases.specs.Lexemes.{name_of, lexeme_len, lexeme_of}
+use Rattle.ir_text_aliases.specs.Scanned.{at_first, trailing_alias, after_place, is_after, is_operations, is_outside, next_scanned, outer_after}
 use Rattle.ir_text_aliases.specs.Places.{trailing_loc, goes, located, place_len}
 use Rattle.ir_text_aliases.specs.Uses.{Aliases, spelling, use_fault, value_of}
 use Rattle.ir_text_aliases.specs.Values.{definition_at, is_defined}
@@ -24,7 +24,7 @@ pub record Move : Type 0 where
   pub put : List ℕ
   pub marks : List Mark
   pub len : ℕ
-  pub front : ScanState
+  pub scanned : ScanState
   pub outer : List Bracket
   pub fault : Option Fault
 
@@ -35,9 +35,9 @@ fault_at bytes refusal = record { refusal = refusal; left = length bytes }
 abbrev pub place_move : ScanState → List Bracket → ℕ → ℕ → List ℕ → Move
 place_move f outer len c cs = record {
   put = [];
-  marks = record { front = len; past = len; left = length (c ∷ cs) } ∷ [];
+  marks = record { scanned = len; past = len; left = length (c ∷ cs) } ∷ [];
   len = place_len (located (trailing_loc cs)) cs;
-  front = after_place f;
+  scanned = after_place f;
   outer = outer;
   fault = result_err (located (trailing_loc cs));
 }
@@ -46,20 +46,20 @@ place_move f outer len c cs = record {
 abbrev pub alias_move : TextPart → Option (List ℕ) → ScanState → List Bracket → ℕ → ℕ → List ℕ → Move
 alias_move p v f outer len c cs = record {
   put = spelling f v;
-  marks = record { front = len; past = len + length (spelling f v); left = length (c ∷ cs) } ∷ [];
+  marks = record { scanned = len; past = len + length (spelling f v); left = length (c ∷ cs) } ∷ [];
   len = suffix_len cs;
-  front = trailing_alias f;
+  scanned = trailing_alias f;
   outer = outer;
   fault = option_map (fault_at (c ∷ cs)) (use_fault f v (p.before + len));
 }
 
 -- any other lexeme, which is copied
-abbrev pub piece_move : ScanState → List Bracket → ℕ → List ℕ → Move
-piece_move f outer c cs = record {
-  put = piece_of c cs;
+abbrev pub lexeme_move : ScanState → List Bracket → ℕ → List ℕ → Move
+lexeme_move f outer c cs = record {
+  put = lexeme_of c cs;
   marks = [];
-  len = piece_len c cs;
-  front = next_front f outer c cs;
+  len = lexeme_len c cs;
+  scanned = next_scanned f outer c cs;
   outer = outer_after f outer c;
   fault = None;
 }
@@ -68,7 +68,7 @@ abbrev pub move : TextPart → List ℕ → Aliases → ScanState → List Brack
 move p values env f outer len c cs =
     if goes f c cs then place_move f outer len c cs
     else if p.reads && is_alias c cs then alias_move p (value_of values env f (name_of c cs)) f outer len c cs
-    else piece_move f outer c cs
+    else lexeme_move f outer c cs
 
 -- ---- the walk
 
@@ -100,7 +100,7 @@ walk p values env f outer (suc n) (c ∷ cs) out marks = walk p values env f out
 walk p values env f outer zero (c ∷ cs) out marks =
     if stops p f c cs then walked out marks (c ∷ cs) None
     else unless (move p values env f outer (length out) c cs).fault (c ∷ cs) out marks
-    (walk p values env (move p values env f outer (length out) c cs).front (move p values env f outer (length out) c cs).outer (move p values env f outer (length out) c cs).len cs
+    (walk p values env (move p values env f outer (length out) c cs).scanned (move p values env f outer (length out) c cs).outer (move p values env f outer (length out) c cs).len cs
     (out ++ (move p values env f outer (length out) c cs).put) (marks ++ (move p values env f outer (length out) c cs).marks))
 
 -- a text outside all brackets whose contents are known

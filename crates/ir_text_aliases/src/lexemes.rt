@@ -6,7 +6,7 @@ ghost use Rattle.ir_text_tokens.specs.Bytes.{is_letter, is_suffix, is_word};
 ghost use Rattle.ir_text_tokens.specs.Strings.{closing};
 ghost use Rattle.ir_text_tokens.specs.Tokens.{suffix_len};
 ghost use Rattle.ir_text_tokens.specs.Bodies.{are_slashes, is_arrow, is_closed};
-ghost use Rattle.ir_text_aliases.specs.Pieces.{from_quote, is_gap, is_loc, is_name_sign, is_open_string, line_len, named_len, own_len, piece_len, quoted_len, word_len};
+ghost use Rattle.ir_text_aliases.specs.Lexemes.{from_quote, is_gap, is_loc, is_name_sign, is_open_string, line_len, named_len, own_len, lexeme_len, quoted_len, word_len};
 
 use ir_text_tokens::lexer::token;
 
@@ -150,7 +150,7 @@ fn after_string<'a>(all: &'a [u8], tail: &'a [u8]) -> &'a [u8]
 
 /// Returns the rest of the text after a symbol, given the text after its sigil.
 fn after_symbol(tail: &[u8]) -> &[u8]
-    ensures { result.now ≡ drop (piece_len 64 tail.now) tail.now }
+    ensures { result.now ≡ drop (lexeme_len 64 tail.now) tail.now }
 {
     match tail {
         [b'"', text @ ..] => after_string(tail, text),
@@ -162,7 +162,7 @@ fn after_symbol(tail: &[u8]) -> &[u8]
 fn after_plain(byte: u8, tail: &[u8]) -> &[u8]
     requires string { (byte == 34) ≡ false }
     requires symbol { (byte == 64) ≡ false }
-    ensures { result.now ≡ drop (piece_len byte tail.now) tail.now }
+    ensures { result.now ≡ drop (lexeme_len byte tail.now) tail.now }
 {
     if are_slashes(byte, tail) {
         return &tail[line_len(tail)..];
@@ -182,7 +182,7 @@ fn after_plain(byte: u8, tail: &[u8]) -> &[u8]
 /// Returns the rest of the text after the lexeme that begins with `byte`.
 pub fn after_lexeme<'a>(byte: u8, all: &'a [u8], tail: &'a [u8]) -> &'a [u8]
     requires all { all.now ≡ byte ∷ tail.now }
-    ensures { result.now ≡ drop (piece_len byte tail.now) tail.now }
+    ensures { result.now ≡ drop (lexeme_len byte tail.now) tail.now }
 {
     if byte == b'"' {
         return after_string(all, tail);

@@ -4,7 +4,7 @@
 /// left at the alias.
 #[derive(Clone, Copy)]
 pub struct Mark {
-    pub front: usize,
+    pub scanned: usize,
     pub past: usize,
     pub left: usize,
 }

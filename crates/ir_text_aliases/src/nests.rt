@@ -1,7 +1,7 @@
 //! Tracks the brackets around a lexeme, and the scan state after the lexeme.
 ghost use Rattle.std.specs.Prelude.{◌≡◌, ◌||◌, ◌∷◌, reverse, OnOk, IfOk};
 ghost use Rattle.ir_text_tokens.specs.Bodies.{closer_of, is_arrow};
-ghost use Rattle.ir_text_aliases.specs.Fronts.{around_after, closes, ends_type, first_or, goes_on, held, is_apart, is_count, is_operations, is_typed, last_of, next_front, next_stage, opened_around, opened_outer, outer_after, parts_dimensions, rest_of, turns};
+ghost use Rattle.ir_text_aliases.specs.Scanned.{around_after, closes, ends_type, first_or, goes_on, held, is_apart, is_count, is_operations, is_typed, last_of, next_scanned, next_stage, opened_around, opened_outer, outer_after, parts_dimensions, rest_of, turns};
 
 use crate::lexemes::{is_arrow, is_gap, is_loc, is_name_sign, is_word, name_len, word_len};
 use crate::scan_state::{Bracket, BracketContents, LastToken, OpStage, ScanState};
@@ -10,20 +10,20 @@ use std::alloc::AllocError;
 
 // ---- brackets
 
-fn closes(front: &ScanState, byte: u8) -> bool
-    ensures { result ≡ closes front.now byte }
+fn closes(scanned: &ScanState, byte: u8) -> bool
+    ensures { result ≡ closes scanned.now byte }
 {
-    match front.around.closer {
+    match scanned.around.closer {
         Some(closer) => byte == closer,
         None => false,
     }
 }
 
 /// Returns the contents of the bracket that `byte` opens.
-fn held(front: &ScanState, byte: u8) -> BracketContents
-    ensures { result ≡ held front.now byte }
+fn held(scanned: &ScanState, byte: u8) -> BracketContents
+    ensures { result ≡ held scanned.now byte }
 {
-    match (front.around.holds, front.last) {
+    match (scanned.around.holds, scanned.last) {
         (BracketContents::Operations, LastToken::Label) if byte == b'(' =>
             BracketContents::Arguments,
         (BracketContents::Operations, _) if byte == b'(' => BracketContents::List,
@@ -53,29 +53,29 @@ fn push_nearest(outer: &mut Vec<Bracket>, bracket: Bracket) -> Result<(), AllocE
 }
 
 /// Returns the innermost bracket after `byte`, which closes none. Pushes the enclosing bracket if `byte` opens one.
-fn open(front: &ScanState, outer: &mut Vec<Bracket>, byte: u8) -> Result<Bracket, AllocError>
-    ensures around { IfOk result (λ b. b ≡ opened_around (closer_of byte) front.now byte) }
-    ensures outer { IfOk result (λ _. reverse outer.new.items ≡ opened_outer (closer_of byte) front.now (reverse outer.old.items)) }
+fn open(scanned: &ScanState, outer: &mut Vec<Bracket>, byte: u8) -> Result<Bracket, AllocError>
+    ensures around { IfOk result (λ b. b ≡ opened_around (closer_of byte) scanned.now byte) }
+    ensures outer { IfOk result (λ _. reverse outer.new.items ≡ opened_outer (closer_of byte) scanned.now (reverse outer.old.items)) }
 {
     let Some(closer) = closer_of(byte) else {
-        return Ok(front.around);
+        return Ok(scanned.around);
     };
-    push_nearest(outer, front.around)?;
+    push_nearest(outer, scanned.around)?;
     Ok(Bracket {
         closer: Some(closer),
-        holds: held(front, byte),
+        holds: held(scanned, byte),
     })
 }
 
 /// Returns the innermost bracket after `byte`, which may open or close one.
-fn nest(front: &ScanState, outer: &mut Vec<Bracket>, byte: u8) -> Result<Bracket, AllocError>
-    ensures around { IfOk result (λ b. b ≡ around_after front.now (reverse outer.old.items) byte) }
-    ensures outer { IfOk result (λ _. reverse outer.new.items ≡ outer_after front.now (reverse outer.old.items) byte) }
+fn nest(scanned: &ScanState, outer: &mut Vec<Bracket>, byte: u8) -> Result<Bracket, AllocError>
+    ensures around { IfOk result (λ b. b ≡ around_after scanned.now (reverse outer.old.items) byte) }
+    ensures outer { IfOk result (λ _. reverse outer.new.items ≡ outer_after scanned.now (reverse outer.old.items) byte) }
 {
-    if closes(front, byte) {
-        return Ok(take_nearest(outer, front.around));
+    if closes(scanned, byte) {
+        return Ok(take_nearest(outer, scanned.around));
     }
-    open(front, outer, byte)
+    open(scanned, outer, byte)
 }
 
 // ---- the scan state
@@ -95,10 +95,10 @@ fn is_count(byte: u8) -> bool
     byte.is_ascii_digit() || matches!(byte, b'?' | b']' | b'*')
 }
 
-fn parts_dimensions(front: &ScanState, byte: u8, tail: &[u8]) -> bool
-    ensures { result ≡ parts_dimensions front.now byte tail.now }
+fn parts_dimensions(scanned: &ScanState, byte: u8, tail: &[u8]) -> bool
+    ensures { result ≡ parts_dimensions scanned.now byte tail.now }
 {
-    byte == b'x' && word_len(tail) == 0 && front.counts
+    byte == b'x' && word_len(tail) == 0 && scanned.counts
 }
 
 fn ends_type(byte: u8, tail: &[u8]) -> bool
@@ -141,30 +141,31 @@ pub(crate) fn is_typed(stage: OpStage) -> bool
 }
 
 /// Returns whether a region begins or ends at `byte`.
-fn turns(front: &ScanState, byte: u8) -> bool
-    ensures { result ≡ turns front.now byte }
+fn turns(scanned: &ScanState, byte: u8) -> bool
+    ensures { result ≡ turns scanned.now byte }
 {
-    match front.around.holds {
-        BracketContents::Operations => closes(front, byte),
+    match scanned.around.holds {
+        BracketContents::Operations => closes(scanned, byte),
         BracketContents::List => byte == b'{',
         _ => false,
     }
 }
 
 /// Returns whether the lexeme that begins with `byte` is in a function type, if it neither begins nor ends a region.
-fn goes_on(front: &ScanState, byte: u8, tail: &[u8]) -> bool
-    ensures { result ≡ goes_on front.now byte tail.now }
+fn goes_on(scanned: &ScanState, byte: u8, tail: &[u8]) -> bool
+    ensures { result ≡ goes_on scanned.now byte tail.now }
 {
-    if is_operations(front.around.holds) {
-        return is_arrow(byte, tail) || is_typed(front.stage) && !matches!(byte, b'"' | b'%' | b'^');
+    if is_operations(scanned.around.holds) {
+        return is_arrow(byte, tail)
+            || is_typed(scanned.stage) && !matches!(byte, b'"' | b'%' | b'^');
     }
-    is_typed(front.stage)
+    is_typed(scanned.stage)
 }
 
-fn next_stage(front: &ScanState, byte: u8, tail: &[u8]) -> OpStage
-    ensures { result ≡ next_stage front.now byte tail.now }
+fn next_stage(scanned: &ScanState, byte: u8, tail: &[u8]) -> OpStage
+    ensures { result ≡ next_stage scanned.now byte tail.now }
 {
-    if !turns(front, byte) && goes_on(front, byte, tail) {
+    if !turns(scanned, byte) && goes_on(scanned, byte, tail) {
         OpStage::InType
     } else {
         OpStage::Before
@@ -173,37 +174,37 @@ fn next_stage(front: &ScanState, byte: u8, tail: &[u8]) -> OpStage
 
 /// Returns the scan state after the lexeme that begins with `byte` and is no blank. `around` is the innermost bracket
 /// after the lexeme.
-fn front_after(front: &ScanState, byte: u8, tail: &[u8], around: Bracket) -> ScanState
-    ensures { result ≡ record { apart = is_arrow byte tail.now || (is_apart byte || parts_dimensions front.now byte tail.now); counts = is_count byte; last = last_of byte tail.now; stage = next_stage front.now byte tail.now; around = around } }
+fn scanned_after(scanned: &ScanState, byte: u8, tail: &[u8], around: Bracket) -> ScanState
+    ensures { result ≡ record { apart = is_arrow byte tail.now || (is_apart byte || parts_dimensions scanned.now byte tail.now); counts = is_count byte; last = last_of byte tail.now; stage = next_stage scanned.now byte tail.now; around = around } }
 {
     ScanState {
-        apart: is_arrow(byte, tail) || is_apart(byte) || parts_dimensions(front, byte, tail),
+        apart: is_arrow(byte, tail) || is_apart(byte) || parts_dimensions(scanned, byte, tail),
         counts: is_count(byte),
         last: last_of(byte, tail),
-        stage: next_stage(front, byte, tail),
+        stage: next_stage(scanned, byte, tail),
         around,
     }
 }
 
 /// Returns the scan state after the lexeme that begins with `byte`.
 pub(crate) fn pass(
-    front: &ScanState,
+    scanned: &ScanState,
     outer: &mut Vec<Bracket>,
     byte: u8,
     tail: &[u8],
 ) -> Result<ScanState, AllocError>
-    ensures front { IfOk result (λ f. f ≡ next_front front.now (reverse outer.old.items) byte tail.now) }
-    ensures outer { IfOk result (λ _. reverse outer.new.items ≡ outer_after front.now (reverse outer.old.items) byte) }
+    ensures scanned { IfOk result (λ f. f ≡ next_scanned scanned.now (reverse outer.old.items) byte tail.now) }
+    ensures outer { IfOk result (λ _. reverse outer.new.items ≡ outer_after scanned.now (reverse outer.old.items) byte) }
 {
-    let around = nest(front, outer, byte)?;
+    let around = nest(scanned, outer, byte)?;
     if is_gap(byte, tail) {
         return Ok(ScanState {
             apart: true,
             counts: false,
-            last: front.last,
-            stage: front.stage,
-            around: front.around,
+            last: scanned.last,
+            stage: scanned.stage,
+            around: scanned.around,
         });
     }
-    Ok(front_after(front, byte, tail, around))
+    Ok(scanned_after(scanned, byte, tail, around))
 }

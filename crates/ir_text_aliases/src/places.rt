@@ -2,15 +2,15 @@
 ghost use Rattle.std.specs.Prelude.{◌≡◌, ◌≤◌, ◌<◌, [], ◌∷◌, None, Some, Err, length, drop, reverse, IfOk, IfErr};
 ghost use Rattle.std.specs.Result.{result_err, result_map_both};
 ghost use Rattle.arrayvec.specs.ArrayVec.{array_vec_len};
-ghost use Rattle.ir_text_aliases.specs.Fronts.{is_arguments, is_ending};
-ghost use Rattle.ir_text_aliases.specs.Pieces.{piece_len};
+ghost use Rattle.ir_text_aliases.specs.Scanned.{is_arguments, is_ending};
+ghost use Rattle.ir_text_aliases.specs.Lexemes.{lexeme_len};
 ghost use Rattle.ir_text_aliases.specs.Places.{trailing_loc, byte_fault, goes, located, place_end, place_fault};
 ghost use Rattle.ir_text_aliases.specs.Values.{coming_after};
 
 use crate::lexemes::{are_slashes, is_loc, word_len};
 use crate::nests::{is_operations, is_typed};
 use crate::scan_state::{BracketContents, LastToken, ScanState};
-use crate::values::value_piece;
+use crate::values::value_lexeme;
 use arrayvec::ArrayVec;
 use ir_text_tokens::fault::Fault;
 use ir_text_tokens::lexer::skip;
@@ -30,20 +30,20 @@ fn check_byte(byte: u8, tail: &[u8]) -> Result<(), TextRefusal>
 }
 
 /// Returns the rest of the text after the lexeme of a location that begins with `byte`.
-fn place_piece<'a>(
+fn place_lexeme<'a>(
     coming: &mut ArrayVec<u8, 32>,
     byte: u8,
     all: &'a [u8],
     tail: &'a [u8],
 ) -> Result<&'a [u8], TextRefusal>
     requires all { all.now ≡ byte ∷ tail.now }
-    requires room { array_vec_len coming.old ≤ 32 }
-    ensures ok { IfOk result (λ r. (place_fault byte tail.now (reverse coming.old.items) ≡ None) × (reverse coming.new.items ≡ coming_after byte (reverse coming.old.items)) × (r.now ≡ drop (piece_len byte tail.now) tail.now)) }
+    requires headroom { array_vec_len coming.old ≤ 32 }
+    ensures ok { IfOk result (λ r. (place_fault byte tail.now (reverse coming.old.items) ≡ None) × (reverse coming.new.items ≡ coming_after byte (reverse coming.old.items)) × (r.now ≡ drop (lexeme_len byte tail.now) tail.now)) }
     ensures err { IfErr result (λ x. place_fault byte tail.now (reverse coming.old.items) ≡ Some x) }
-    ensures room { array_vec_len coming.new ≤ 32 }
+    ensures headroom { array_vec_len coming.new ≤ 32 }
 {
     match check_byte(byte, tail) {
-        Ok(()) => value_piece(coming, byte, all, tail),
+        Ok(()) => value_lexeme(coming, byte, all, tail),
         Err(refusal) => Err(refusal),
     }
 }
@@ -56,14 +56,14 @@ fn place_step<'a>(
     tail: &'a [u8],
 ) -> Result<&'a [u8], Fault>
     requires all { all.now ≡ byte ∷ tail.now }
-    requires room { array_vec_len coming.old ≤ 32 }
+    requires headroom { array_vec_len coming.old ≤ 32 }
     requires some { 0 < array_vec_len coming.old }
     ensures ok { IfOk result (λ r. place_end (reverse coming.old.items) 0 all.now ≡ place_end (reverse coming.new.items) 0 r.now) }
     ensures err { IfErr result (λ f. place_end (reverse coming.old.items) 0 all.now ≡ Err f) }
     ensures shorter { IfOk result (λ r. length r.now ≤ length tail.now) }
-    ensures room { array_vec_len coming.new ≤ 32 }
+    ensures headroom { array_vec_len coming.new ≤ 32 }
 {
-    match place_piece(coming, byte, all, tail) {
+    match place_lexeme(coming, byte, all, tail) {
         Ok(rest) => Ok(rest),
         Err(refusal) => Err(Fault::at(refusal, all)),
     }
@@ -76,7 +76,7 @@ fn place_end(bytes: &[u8]) -> Result<&[u8], Fault>
     let mut coming: ArrayVec<u8, 32> = ArrayVec::new();
     coming.push(b')');
     let mut rest = bytes;
-    'pieces: loop {
+    'lexemes: loop {
         if coming.is_empty() {
             return Ok(rest);
         }
@@ -120,12 +120,13 @@ fn is_ending(last: LastToken) -> bool
 }
 
 /// Returns whether `byte` begins a location that the expansion removes.
-pub(crate) fn goes(front: &ScanState, byte: u8, tail: &[u8]) -> bool
-    ensures { result ≡ goes front.now byte tail.now }
+pub(crate) fn goes(scanned: &ScanState, byte: u8, tail: &[u8]) -> bool
+    ensures { result ≡ goes scanned.now byte tail.now }
 {
     if !is_loc(byte, tail) || !matches!(after_loc(tail), [b'(', ..]) {
         return false;
     }
-    let holds = front.around.holds;
-    is_ending(front.last) && (is_arguments(holds) || is_operations(holds) && is_typed(front.stage))
+    let holds = scanned.around.holds;
+    is_ending(scanned.last)
+        && (is_arguments(holds) || is_operations(holds) && is_typed(scanned.stage))
 }

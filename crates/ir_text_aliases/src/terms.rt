@@ -233,8 +233,8 @@ fn symbols_end(most: usize, bytes: &[u8]) -> Result<&[u8], Fault>
     ensures { result_map_both (λ r. r.now) (λ f. f) result ≡ symbols_end most bytes.now }
 {
     let mut rest = bytes;
-    let mut room = most;
-    'symbols: while room > 0 {
+    let mut headroom = most;
+    'symbols: while headroom > 0 {
         let Some(trailing) = after_colons(skip(rest)) else {
             return Ok(rest);
         };
@@ -242,7 +242,7 @@ fn symbols_end(most: usize, bytes: &[u8]) -> Result<&[u8], Fault>
             Ok(extra) => rest = extra,
             Err(fault) => return Err(fault),
         }
-        room -= 1;
+        headroom -= 1;
     }
     Ok(rest)
 }

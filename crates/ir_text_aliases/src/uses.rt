@@ -3,7 +3,7 @@ ghost use Rattle.std.specs.Prelude.{◌≡◌, ◌==◌, ◌≤◌, ◌++◌, �
 ghost use Rattle.std.specs.List.{prefix_len};
 ghost use Rattle.ir_text_tokens.specs.Scopes.{find};
 ghost use Rattle.ir_text_tokens.specs.Bodies.{begins};
-ghost use Rattle.ir_text_aliases.specs.Fronts.{is_minus, is_place};
+ghost use Rattle.ir_text_aliases.specs.Scanned.{is_minus, is_place};
 ghost use Rattle.ir_text_aliases.specs.Uses.{bared, begins_loc, bracket_len, inside, spelling, use_fault, value_at, value_of};
 
 use crate::lexemes::is_loc;
@@ -87,15 +87,15 @@ fn is_place(holds: BracketContents) -> bool
 fn value_of<'v, 'a>(
     names: &ScopedNames<'a, (usize, usize)>,
     values: &'v [u8],
-    front: &ScanState,
+    scanned: &ScanState,
     name: &'a [u8],
 ) -> Option<&'v [u8]>
-    ensures { option_map (λ v. v.now) result ≡ value_of values.now names.now.here front.now name.now }
+    ensures { option_map (λ v. v.now) result ≡ value_of values.now names.now.here scanned.now name.now }
 {
     match names.find(name) {
         Some((start, past)) => {
             let value = text_between(values, *start, *past);
-            Some(bared(is_place(front.around.holds), value))
+            Some(bared(is_place(scanned.around.holds), value))
         }
         None => None,
     }
@@ -108,13 +108,13 @@ fn is_minus(last: LastToken) -> bool
 }
 
 /// Returns why the value can't replace the alias. `before + len` bytes count towards the length limit.
-fn check_use(front: &ScanState, value: &[u8], before: usize, len: usize) -> Option<TextRefusal>
-    ensures { result ≡ use_fault front.now (Some value.now) (before + len) }
+fn check_use(scanned: &ScanState, value: &[u8], before: usize, len: usize) -> Option<TextRefusal>
+    ensures { result ≡ use_fault scanned.now (Some value.now) (before + len) }
 {
-    if is_minus(front.last) {
+    if is_minus(scanned.last) {
         return Some(TextRefusal::Unexpected);
     }
-    let room = if front.apart {
+    let headroom = if scanned.apart {
         MOST_BYTES
     } else {
         MOST_BYTES - 1
@@ -123,7 +123,7 @@ fn check_use(front: &ScanState, value: &[u8], before: usize, len: usize) -> Opti
         return Some(TextRefusal::TooMany);
     };
     match there.checked_add(value.len()) {
-        Some(total) if total <= room => None,
+        Some(total) if total <= headroom => None,
         _ => Some(TextRefusal::TooMany),
     }
 }
@@ -133,18 +133,18 @@ fn check_use(front: &ScanState, value: &[u8], before: usize, len: usize) -> Opti
 pub(crate) fn usable<'v, 'a>(
     names: &ScopedNames<'a, (usize, usize)>,
     values: &'v [u8],
-    front: &ScanState,
+    scanned: &ScanState,
     name: &'a [u8],
     before: usize,
     len: usize,
 ) -> Result<&'v [u8], TextRefusal>
-    ensures ok { IfOk result (λ v. (value_of values.now names.now.here front.now name.now ≡ Some v.now) × (use_fault front.now (Some v.now) (before + len) ≡ None)) }
-    ensures err { IfErr result (λ refusal. use_fault front.now (value_of values.now names.now.here front.now name.now) (before + len) ≡ Some refusal) }
+    ensures ok { IfOk result (λ v. (value_of values.now names.now.here scanned.now name.now ≡ Some v.now) × (use_fault scanned.now (Some v.now) (before + len) ≡ None)) }
+    ensures err { IfErr result (λ refusal. use_fault scanned.now (value_of values.now names.now.here scanned.now name.now) (before + len) ≡ Some refusal) }
 {
-    let Some(value) = value_of(names, values, front, name) else {
+    let Some(value) = value_of(names, values, scanned, name) else {
         return Err(TextRefusal::UnknownValue);
     };
-    match check_use(front, value, before, len) {
+    match check_use(scanned, value, before, len) {
         Some(refusal) => Err(refusal),
         None => Ok(value),
     }
@@ -152,13 +152,13 @@ pub(crate) fn usable<'v, 'a>(
 
 /// Appends the value, after a blank if the value could be read as a part of the token before it.
 pub(crate) fn put_value(
-    front: &ScanState,
+    scanned: &ScanState,
     value: &[u8],
     out: &mut Vec<u8>,
 ) -> Result<(), AllocError>
-    ensures { OnOk result (out.new.items ≡ out.old.items ++ spelling front.now (Some value.now)) }
+    ensures { OnOk result (out.new.items ≡ out.old.items ++ spelling scanned.now (Some value.now)) }
 {
-    if !front.apart {
+    if !scanned.apart {
         out.push(b' ')?;
     }
     out.extend_from_slice(value)

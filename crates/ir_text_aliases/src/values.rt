@@ -5,7 +5,7 @@ ghost use Rattle.arrayvec.specs.ArrayVec.{array_vec_len};
 ghost use Rattle.ir_text_tokens.specs.Tokens.{skip};
 ghost use Rattle.ir_text_tokens.specs.Bodies.{closer_of, opened};
 ghost use Rattle.ir_text_aliases.specs.Values.{after_equal, bracket_fault, coming_after, definition_at, enclosed, group_end, is_defined, open_fault, value_fault};
-ghost use Rattle.ir_text_aliases.specs.Pieces.{piece_len};
+ghost use Rattle.ir_text_aliases.specs.Lexemes.{lexeme_len};
 
 use crate::lexemes::{after_lexeme, from_quote, is_open_string};
 use arrayvec::ArrayVec;
@@ -47,10 +47,10 @@ pub(crate) fn is_defined(byte: u8, all: &[u8], tail: &[u8]) -> bool
 
 /// Pushes the closing bracket for `byte` if it is an opening bracket. `byte` closes none.
 fn open_bracket(coming: &mut ArrayVec<u8, 32>, byte: u8) -> Result<(), TextRefusal>
-    requires room { array_vec_len coming.old ≤ 32 }
+    requires headroom { array_vec_len coming.old ≤ 32 }
     ensures ok { IfOk result (λ _. (open_fault byte (reverse coming.old.items) ≡ None) × (reverse coming.new.items ≡ opened (closer_of byte) (reverse coming.old.items))) }
     ensures err { IfErr result (λ x. open_fault byte (reverse coming.old.items) ≡ Some x) }
-    ensures room { array_vec_len coming.new ≤ 32 }
+    ensures headroom { array_vec_len coming.new ≤ 32 }
 {
     if matches!(byte, b')' | b']' | b'}') {
         return Err(TextRefusal::Unexpected);
@@ -67,10 +67,10 @@ fn open_bracket(coming: &mut ArrayVec<u8, 32>, byte: u8) -> Result<(), TextRefus
 
 /// Closes the innermost bracket or opens one, if `byte` is a bracket.
 fn nest(coming: &mut ArrayVec<u8, 32>, byte: u8) -> Result<(), TextRefusal>
-    requires room { array_vec_len coming.old ≤ 32 }
+    requires headroom { array_vec_len coming.old ≤ 32 }
     ensures ok { IfOk result (λ _. (bracket_fault byte (reverse coming.old.items) ≡ None) × (reverse coming.new.items ≡ coming_after byte (reverse coming.old.items))) }
     ensures err { IfErr result (λ x. bracket_fault byte (reverse coming.old.items) ≡ Some x) }
-    ensures room { array_vec_len coming.new ≤ 32 }
+    ensures headroom { array_vec_len coming.new ≤ 32 }
 {
     let Some(nearest) = coming.pop() else {
         return open_bracket(coming, byte);
@@ -83,17 +83,17 @@ fn nest(coming: &mut ArrayVec<u8, 32>, byte: u8) -> Result<(), TextRefusal>
 }
 
 /// Returns the rest of the text after the lexeme of a value that begins with `byte`.
-pub(crate) fn value_piece<'a>(
+pub(crate) fn value_lexeme<'a>(
     coming: &mut ArrayVec<u8, 32>,
     byte: u8,
     all: &'a [u8],
     tail: &'a [u8],
 ) -> Result<&'a [u8], TextRefusal>
     requires all { all.now ≡ byte ∷ tail.now }
-    requires room { array_vec_len coming.old ≤ 32 }
-    ensures ok { IfOk result (λ r. (value_fault byte tail.now (reverse coming.old.items) ≡ None) × (reverse coming.new.items ≡ coming_after byte (reverse coming.old.items)) × (r.now ≡ drop (piece_len byte tail.now) tail.now)) }
+    requires headroom { array_vec_len coming.old ≤ 32 }
+    ensures ok { IfOk result (λ r. (value_fault byte tail.now (reverse coming.old.items) ≡ None) × (reverse coming.new.items ≡ coming_after byte (reverse coming.old.items)) × (r.now ≡ drop (lexeme_len byte tail.now) tail.now)) }
     ensures err { IfErr result (λ x. value_fault byte tail.now (reverse coming.old.items) ≡ Some x) }
-    ensures room { array_vec_len coming.new ≤ 32 }
+    ensures headroom { array_vec_len coming.new ≤ 32 }
 {
     if is_open_string(byte, all, tail) {
         return Err(TextRefusal::BadToken);
@@ -114,14 +114,14 @@ fn group_step<'a>(
     tail: &'a [u8],
 ) -> Result<&'a [u8], Fault>
     requires all { all.now ≡ byte ∷ tail.now }
-    requires room { array_vec_len coming.old ≤ 32 }
+    requires headroom { array_vec_len coming.old ≤ 32 }
     requires some { 0 < array_vec_len coming.old }
     ensures ok { IfOk result (λ r. group_end (reverse coming.old.items) 0 all.now ≡ group_end (reverse coming.new.items) 0 r.now) }
     ensures err { IfErr result (λ f. group_end (reverse coming.old.items) 0 all.now ≡ Err f) }
     ensures shorter { IfOk result (λ r. length r.now ≤ length tail.now) }
-    ensures room { array_vec_len coming.new ≤ 32 }
+    ensures headroom { array_vec_len coming.new ≤ 32 }
 {
-    match value_piece(coming, byte, all, tail) {
+    match value_lexeme(coming, byte, all, tail) {
         Ok(rest) => Ok(rest),
         Err(refusal) => Err(Fault::at(refusal, from_quote(byte, all, tail))),
     }
@@ -134,7 +134,7 @@ pub(crate) fn group_end(closer: u8, bytes: &[u8]) -> Result<&[u8], Fault>
     let mut coming: ArrayVec<u8, 32> = ArrayVec::new();
     coming.push(closer);
     let mut rest = bytes;
-    'pieces: loop {
+    'lexemes: loop {
         if coming.is_empty() {
             return Ok(rest);
         }

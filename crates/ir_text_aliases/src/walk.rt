@@ -3,12 +3,12 @@ ghost use Rattle.std.specs.Prelude.{◌≡◌, ◌≤◌, ◌&&◌, if◌then◌
 ghost use Rattle.ir_text_tokens.specs.Bodies.{is_alias};
 ghost use Rattle.ir_text_tokens.specs.Tokens.{suffix_len};
 ghost use Rattle.ir_text_tokens.specs.declared.fault.Fault.{Fault as Reason};
-ghost use Rattle.ir_text_aliases.specs.Fronts.{at_first, trailing_alias, after_place, is_after, is_outside};
-ghost use Rattle.ir_text_aliases.specs.Pieces.{name_of};
+ghost use Rattle.ir_text_aliases.specs.Scanned.{at_first, trailing_alias, after_place, is_after, is_outside};
+ghost use Rattle.ir_text_aliases.specs.Lexemes.{name_of};
 ghost use Rattle.ir_text_aliases.specs.Places.{goes};
 ghost use Rattle.ir_text_aliases.specs.Steps.{Moved, Stuck};
 ghost use Rattle.ir_text_aliases.specs.Uses.{value_of};
-ghost use Rattle.ir_text_aliases.specs.Walk.{alias_move, ends_operations, move, piece_move, place_move, stops, walk, walk_text, walked};
+ghost use Rattle.ir_text_aliases.specs.Walk.{alias_move, ends_operations, move, lexeme_move, place_move, stops, walk, walk_text, walked};
 
 use crate::lexemes::after_lexeme;
 use crate::mark::Mark;
@@ -33,7 +33,7 @@ pub struct ExpandedText {
 /// The position of the scan: its state, and the brackets around the innermost one, the innermost of them last.
 #[derive(Drop)]
 pub(crate) struct ScanPosition {
-    pub front: ScanState,
+    pub scanned: ScanState,
     pub outer: Vec<Bracket>,
 }
 
@@ -68,8 +68,8 @@ fn take_place<'a>(
     out: &mut ExpandedText,
 ) -> Result<Result<&'a [u8], Fault>, AllocError>
     requires all { all.now ≡ byte ∷ tail.now }
-    ensures moved { IfOk result (λ s. IfOk s (λ r. Moved (place_move at.old.front (reverse at.old.outer.items) (length out.old.text.items) byte tail.now) at.new.front (reverse at.new.outer.items) tail.now r.now out.old.text.items out.new.text.items out.old.marks.items out.new.marks.items)) }
-    ensures stuck { IfOk result (λ s. IfErr s (λ f. Stuck (place_move at.old.front (reverse at.old.outer.items) (length out.old.text.items) byte tail.now) f out.old.text.items out.new.text.items out.old.marks.items out.new.marks.items)) }
+    ensures moved { IfOk result (λ s. IfOk s (λ r. Moved (place_move at.old.scanned (reverse at.old.outer.items) (length out.old.text.items) byte tail.now) at.new.scanned (reverse at.new.outer.items) tail.now r.now out.old.text.items out.new.text.items out.old.marks.items out.new.marks.items)) }
+    ensures stuck { IfOk result (λ s. IfErr s (λ f. Stuck (place_move at.old.scanned (reverse at.old.outer.items) (length out.old.text.items) byte tail.now) f out.old.text.items out.new.text.items out.old.marks.items out.new.marks.items)) }
 {
     let rest = match located(after_loc(tail)) {
         Ok(rest) => rest,
@@ -77,31 +77,31 @@ fn take_place<'a>(
     };
     let len = len_of(&out.text);
     let mark = Mark {
-        front: len,
+        scanned: len,
         past: len,
         left: all.len(),
     };
     push_mark(&mut out.marks, mark)?;
-    at.front = after_place(&at.front);
+    at.scanned = after_place(&at.scanned);
     Ok(Ok(rest))
 }
 
-fn after_place(front: &ScanState) -> ScanState
-    ensures { result ≡ after_place front.now }
+fn after_place(scanned: &ScanState) -> ScanState
+    ensures { result ≡ after_place scanned.now }
 {
     ScanState {
         apart: false,
         counts: false,
         last: LastToken::Ending,
         stage: OpStage::AfterType,
-        around: front.around,
+        around: scanned.around,
     }
 }
 
-fn after_alias_of(front: &ScanState) -> ScanState
-    ensures { result ≡ trailing_alias front.now }
+fn after_alias_of(scanned: &ScanState) -> ScanState
+    ensures { result ≡ trailing_alias scanned.now }
 {
-    let stage = if is_typed(front.stage) {
+    let stage = if is_typed(scanned.stage) {
         OpStage::InType
     } else {
         OpStage::Before
@@ -111,7 +111,7 @@ fn after_alias_of(front: &ScanState) -> ScanState
         counts: false,
         last: LastToken::Ending,
         stage,
-        around: front.around,
+        around: scanned.around,
     }
 }
 
@@ -129,28 +129,28 @@ fn write_alias<'a>(
 ) -> Result<Option<Fault>, AllocError>
     requires all { all.now ≡ byte ∷ tail.now }
     requires rest { rest.now ≡ drop (suffix_len tail.now) tail.now }
-    ensures moved { IfOk result (λ f. f ≡ None → Moved (alias_move part.now (value_of values.now names.now.here at.old.front (name_of byte tail.now)) at.old.front (reverse at.old.outer.items) (length out.old.text.items) byte tail.now) at.new.front (reverse at.new.outer.items) tail.now rest.now out.old.text.items out.new.text.items out.old.marks.items out.new.marks.items) }
-    ensures stuck { IfOk result (λ s. (f : Reason) → s ≡ Some f → Stuck (alias_move part.now (value_of values.now names.now.here at.old.front (name_of byte tail.now)) at.old.front (reverse at.old.outer.items) (length out.old.text.items) byte tail.now) f out.old.text.items out.new.text.items out.old.marks.items out.new.marks.items) }
+    ensures moved { IfOk result (λ f. f ≡ None → Moved (alias_move part.now (value_of values.now names.now.here at.old.scanned (name_of byte tail.now)) at.old.scanned (reverse at.old.outer.items) (length out.old.text.items) byte tail.now) at.new.scanned (reverse at.new.outer.items) tail.now rest.now out.old.text.items out.new.text.items out.old.marks.items out.new.marks.items) }
+    ensures stuck { IfOk result (λ s. (f : Reason) → s ≡ Some f → Stuck (alias_move part.now (value_of values.now names.now.here at.old.scanned (name_of byte tail.now)) at.old.scanned (reverse at.old.outer.items) (length out.old.text.items) byte tail.now) f out.old.text.items out.new.text.items out.old.marks.items out.new.marks.items) }
 {
     let before = len_of(&out.text);
     let name = &all[..all.len() - rest.len()];
-    let value = match usable(names, values, &at.front, name, part.before, before) {
+    let value = match usable(names, values, &at.scanned, name, part.before, before) {
         Ok(value) => value,
         Err(refusal) => return Ok(Some(Fault::at(refusal, all))),
     };
-    put_value(&at.front, value, &mut out.text)?;
+    put_value(&at.scanned, value, &mut out.text)?;
     let mark = Mark {
-        front: before,
+        scanned: before,
         past: len_of(&out.text),
         left: all.len(),
     };
     push_mark(&mut out.marks, mark)?;
-    at.front = after_alias_of(&at.front);
+    at.scanned = after_alias_of(&at.scanned);
     Ok(None)
 }
 
 /// Appends the lexeme that begins with `byte`, and returns the rest of the text after it.
-fn put_piece<'a>(
+fn put_lexeme<'a>(
     at: &mut ScanPosition,
     byte: u8,
     all: &'a [u8],
@@ -158,11 +158,11 @@ fn put_piece<'a>(
     out: &mut ExpandedText,
 ) -> Result<&'a [u8], AllocError>
     requires all { all.now ≡ byte ∷ tail.now }
-    ensures moved { IfOk result (λ r. Moved (piece_move at.old.front (reverse at.old.outer.items) byte tail.now) at.new.front (reverse at.new.outer.items) tail.now r.now out.old.text.items out.new.text.items out.old.marks.items out.new.marks.items) }
+    ensures moved { IfOk result (λ r. Moved (lexeme_move at.old.scanned (reverse at.old.outer.items) byte tail.now) at.new.scanned (reverse at.new.outer.items) tail.now r.now out.old.text.items out.new.text.items out.old.marks.items out.new.marks.items) }
 {
     let rest = after_lexeme(byte, all, tail);
     write_bytes(&mut out.text, &all[..all.len() - rest.len()])?;
-    at.front = pass(&at.front, &mut at.outer, byte, tail)?;
+    at.scanned = pass(&at.scanned, &mut at.outer, byte, tail)?;
     Ok(rest)
 }
 
@@ -192,14 +192,14 @@ fn step<'a>(
     out: &mut ExpandedText,
 ) -> Result<Result<&'a [u8], Fault>, AllocError>
     requires all { all.now ≡ byte ∷ tail.now }
-    ensures moved { IfOk result (λ s. IfOk s (λ r. Moved (move part.now values.now names.now.here at.old.front (reverse at.old.outer.items) (length out.old.text.items) byte tail.now) at.new.front (reverse at.new.outer.items) tail.now r.now out.old.text.items out.new.text.items out.old.marks.items out.new.marks.items)) }
-    ensures stuck { IfOk result (λ s. IfErr s (λ f. Stuck (move part.now values.now names.now.here at.old.front (reverse at.old.outer.items) (length out.old.text.items) byte tail.now) f out.old.text.items out.new.text.items out.old.marks.items out.new.marks.items)) }
+    ensures moved { IfOk result (λ s. IfOk s (λ r. Moved (move part.now values.now names.now.here at.old.scanned (reverse at.old.outer.items) (length out.old.text.items) byte tail.now) at.new.scanned (reverse at.new.outer.items) tail.now r.now out.old.text.items out.new.text.items out.old.marks.items out.new.marks.items)) }
+    ensures stuck { IfOk result (λ s. IfErr s (λ f. Stuck (move part.now values.now names.now.here at.old.scanned (reverse at.old.outer.items) (length out.old.text.items) byte tail.now) f out.old.text.items out.new.text.items out.old.marks.items out.new.marks.items)) }
 {
-    if goes(&at.front, byte, tail) {
+    if goes(&at.scanned, byte, tail) {
         return take_place(at, byte, all, tail, out);
     }
     let Some(rest) = alias_in(part, byte, all, tail) else {
-        return Ok(Ok(put_piece(at, byte, all, tail, out)?));
+        return Ok(Ok(put_lexeme(at, byte, all, tail, out)?));
     };
     match write_alias(part, names, values, at, byte, all, tail, rest, out)? {
         None => Ok(Ok(rest)),
@@ -223,22 +223,22 @@ fn is_outside(closer: Option<u8>) -> bool
 }
 
 /// Returns whether a definition begins here, after the last operation.
-fn ends_operations(front: &ScanState, byte: u8, all: &[u8], tail: &[u8]) -> bool
+fn ends_operations(scanned: &ScanState, byte: u8, all: &[u8], tail: &[u8]) -> bool
     requires all { all.now ≡ byte ∷ tail.now }
-    ensures { result ≡ ends_operations front.now byte tail.now }
+    ensures { result ≡ ends_operations scanned.now byte tail.now }
 {
-    let around = front.around;
-    if !is_outside(around.closer) || !is_operations(around.holds) || !is_after(front.stage) {
+    let around = scanned.around;
+    if !is_outside(around.closer) || !is_operations(around.holds) || !is_after(scanned.stage) {
         return false;
     }
     is_defined(byte, all, tail)
 }
 
-fn stops(part: &TextPart, front: &ScanState, byte: u8, all: &[u8], tail: &[u8]) -> bool
+fn stops(part: &TextPart, scanned: &ScanState, byte: u8, all: &[u8], tail: &[u8]) -> bool
     requires all { all.now ≡ byte ∷ tail.now }
-    ensures { result ≡ stops part.now front.now byte tail.now }
+    ensures { result ≡ stops part.now scanned.now byte tail.now }
 {
-    all.len() <= part.left || ends_operations(front, byte, all, tail)
+    all.len() <= part.left || ends_operations(scanned, byte, all, tail)
 }
 
 /// Expands the lexeme that begins with `byte`, and returns the rest of the text, or stops before the lexeme.
@@ -253,11 +253,11 @@ fn turn<'a>(
     out: &mut ExpandedText,
 ) -> Result<Result<&'a [u8], Option<Fault>>, AllocError>
     requires all { all.now ≡ byte ∷ tail.now }
-    ensures on { IfOk result (λ s. IfOk s (λ r. walk part.now values.now names.now.here at.old.front (reverse at.old.outer.items) 0 all.now out.old.text.items out.old.marks.items ≡ walk part.now values.now names.now.here at.new.front (reverse at.new.outer.items) 0 r.now out.new.text.items out.new.marks.items)) }
-    ensures ends { IfOk result (λ s. IfErr s (λ f. walk part.now values.now names.now.here at.old.front (reverse at.old.outer.items) 0 all.now out.old.text.items out.old.marks.items ≡ walked out.new.text.items out.new.marks.items all.now f)) }
+    ensures on { IfOk result (λ s. IfOk s (λ r. walk part.now values.now names.now.here at.old.scanned (reverse at.old.outer.items) 0 all.now out.old.text.items out.old.marks.items ≡ walk part.now values.now names.now.here at.new.scanned (reverse at.new.outer.items) 0 r.now out.new.text.items out.new.marks.items)) }
+    ensures ends { IfOk result (λ s. IfErr s (λ f. walk part.now values.now names.now.here at.old.scanned (reverse at.old.outer.items) 0 all.now out.old.text.items out.old.marks.items ≡ walked out.new.text.items out.new.marks.items all.now f)) }
     ensures shorter { IfOk result (λ s. IfOk s (λ r. length r.now ≤ length tail.now)) }
 {
-    if stops(part, &at.front, byte, all, tail) {
+    if stops(part, &at.scanned, byte, all, tail) {
         return Ok(Err(None));
     }
     match step(part, names, values, at, byte, all, tail, out)? {
@@ -267,7 +267,7 @@ fn turn<'a>(
 }
 
 /// Expands lexeme by lexeme. Returns the text that is left, and the fault there, if there is one.
-fn pieces<'a>(
+fn lexemes<'a>(
     part: &TextPart,
     names: &ScopedNames<'a, (usize, usize)>,
     values: &[u8],
@@ -275,10 +275,10 @@ fn pieces<'a>(
     bytes: &'a [u8],
     out: &mut ExpandedText,
 ) -> Result<(&'a [u8], Option<Fault>), AllocError>
-    ensures { IfOk result (λ x. walk part.now values.now names.now.here at.old.front (reverse at.old.outer.items) 0 bytes.now out.old.text.items out.old.marks.items ≡ walked out.new.text.items out.new.marks.items x.0.now x.1) }
+    ensures { IfOk result (λ x. walk part.now values.now names.now.here at.old.scanned (reverse at.old.outer.items) 0 bytes.now out.old.text.items out.old.marks.items ≡ walked out.new.text.items out.new.marks.items x.0.now x.1) }
 {
     let mut rest = bytes;
-    'pieces: while let [byte, tail @ ..] = rest {
+    'lexemes: while let [byte, tail @ ..] = rest {
         match turn(part, names, values, at, *byte, rest, tail, out)? {
             Ok(trailing) => rest = trailing,
             Err(end) => return Ok((rest, end)),
@@ -306,10 +306,10 @@ pub fn walk<'a>(
     ensures { IfOk result (λ x. walk_text part.now values.now names.now.here holds bytes.now out.old.text.items out.old.marks.items ≡ walked out.new.text.items out.new.marks.items x.0.now x.1) }
 {
     let mut at = ScanPosition {
-        front: first(holds),
+        scanned: first(holds),
         outer: Vec::new(alloc),
     };
-    pieces(part, names, values, &mut at, bytes, out)
+    lexemes(part, names, values, &mut at, bytes, out)
 }
 
 fn first(holds: BracketContents) -> ScanState

@@ -89,14 +89,14 @@ pub attr_read : (o : Bool) (depth : ℕ) (c d : ContextModel) (bytes rest : List
 attr_read o depth c d bytes rest n sound e =
     let f = (attr_exact o depth c).found (bytes, c) bytes n (rest, d) (grows_refl c) sound (λ z g w. refl) e in
     let r = f.3.stands d (grows_refl d) f.3.sound in
-    let spelled : IsAttr o depth (attr_term d n) bytes f.1 = subst (λ y. IsAttr o depth y bytes f.1) (sym r.1) f.2 in
-    (f.3.grows, f.3.sound, r.0, subst (λ b. IsAttr o depth (attr_term d n) bytes b) (sym (text_now (rest, d) f.1 f.3.sound f.3.agree)) spelled)
+    let rendered : IsAttr o depth (attr_term d n) bytes f.1 = subst (λ y. IsAttr o depth y bytes f.1) (sym r.1) f.2 in
+    (f.3.grows, f.3.sound, r.0, subst (λ b. IsAttr o depth (attr_term d n) bytes b) (sym (text_now (rest, d) f.1 f.3.sound f.3.agree)) rendered)
 
 abbrev pair : ℕ → ContextModel → List ℕ → Outcome (ℕ × Typed)
 pair x d b = Read (x, (b, d))
 
-pub attr_spelled : (o : Bool) (depth : ℕ) (c : ContextModel) (bytes rest : List ℕ) (y : AttrTerm) → IsSound c → IsAttr o depth y bytes rest → (attr_at o depth (bytes, c) ≡ Full) ⊎ ((n : ℕ) × (d : ContextModel) × (attr_at o depth (bytes, c) ≡ Read (n, (rest, d))) × IsExtendedBy c d × IsSound d × AttrStands d n y)
-attr_spelled o depth c bytes rest y sound k = ⊎_elim
+pub attr_rendered : (o : Bool) (depth : ℕ) (c : ContextModel) (bytes rest : List ℕ) (y : AttrTerm) → IsSound c → IsAttr o depth y bytes rest → (attr_at o depth (bytes, c) ≡ Full) ⊎ ((n : ℕ) × (d : ContextModel) × (attr_at o depth (bytes, c) ≡ Read (n, (rest, d))) × IsExtendedBy c d × IsSound d × AttrStands d n y)
+attr_rendered o depth c bytes rest y sound k = ⊎_elim
     (λ (e : attr_at o depth (bytes, c) ≡ Full). inl e)
     (λ (f : (n : ℕ) × (s : Typed) × (attr_at o depth (bytes, c) ≡ Read (n, s)) × Step things Same AttrStands (bytes, c) n y s rest).
     inr (f.0, f.1.1, f.2 ∙ ap (pair f.0 f.1.1) (text_now f.1 rest f.3.sound f.3.agree), f.3.grows, f.3.sound, f.3.stands f.1.1 (grows_refl f.1.1) f.3.sound))

@@ -20,7 +20,7 @@ use Rattle.ir_text_types.specs.TypeReading.{many, type_done}
 use Rattle.ir_text_types.specs.Grammars.{Grammar, Then, Done, After, IsMore, IsMark, Token}
 use Rattle.ir_text_types.specs.Standing.{TypeStands, AttrStands}
 use Rattle.ir_text_types.specs.Laws.{Each}
-use Rattle.ir_text_types.proofs.Worlds.{Exact, exact_spelled, exact_for, nothing_exact, guard_exact, some_exact, then_exact, done_exact, after_exact, either_exact, more_exact}
+use Rattle.ir_text_types.proofs.Worlds.{Exact, exact_rendered, exact_for, nothing_exact, guard_exact, some_exact, then_exact, done_exact, after_exact, either_exact, more_exact}
 use Rattle.ir_text_types.proofs.TextLaws.{things, Same, typed_marks}
 use Rattle.ir_text_types.proofs.TokenLaws.{trailing_exact, token_exact}
 use Rattle.ir_text_attributes.specs.declared.element.Element.{Element}
@@ -68,7 +68,7 @@ element_back y t t' k = (bare k.0, t', k.1, by_name (element_named k.0) refl k.2
 element_exact : (c : ContextModel) → Exact things Same c ElementStands element_at IsElement
 unfolding element_at
 element_exact c =
-    exact_spelled things Same c ElementStands element_at (λ y old new. (l : Lexeme) × (rest : Text) × Token l old rest × ElementFrom l rest y old new) IsElement element_into element_back
+    exact_rendered things Same c ElementStands element_at (λ y old new. (l : Lexeme) × (rest : Text) × Token l old rest × ElementFrom l rest y old new) IsElement element_into element_back
     (token_exact c ElementStands (λ s l rest. element_from s.1 l rest) ElementFrom (element_from_exact c))
 
 -- ---- items
@@ -195,7 +195,7 @@ module _ (elem : TypeTerm) where
   item_exact : (c : ContextModel) → Exact things Same c NumberStands (item_at elem) (IsItem elem)
   unfolding item_at
   item_exact c =
-      exact_spelled things Same c NumberStands (item_at elem) (λ v old new. (l : Lexeme) × (rest : Text) × Token l old rest × ItemFrom l rest v old new) (IsItem elem) item_into item_back
+      exact_rendered things Same c NumberStands (item_at elem) (λ v old new. (l : Lexeme) × (rest : Text) × Token l old rest × ItemFrom l rest v old new) (IsItem elem) item_into item_back
       (token_exact c NumberStands (λ s l rest. item_from elem s.1 l rest) ItemFrom (item_from_exact c))
 
   some_items_exact : (c : ContextModel) → Exact things Same c NumbersStand (some_items_at elem) (IsMore IsMark Greater (λ before. IsItem elem) many [])
@@ -234,7 +234,7 @@ DenseOf elem y = Then (IsItems elem) (λ vs. IsFine (DenseArray y vs))
 dense_of_exact : (e : Element) (c : ContextModel) → Exact things Same c AttrStands (dense_done e) (DenseOf (type_of e) (type_of e))
 unfolding dense_done
 dense_of_exact e c =
-    exact_spelled things Same c AttrStands (λ s. type_done (type.Int Signless (bits_of e)) s >>= λ t. items_at (type_of e) t.1 >>= λ vs. attr_done (attr.Dense t.0 vs.0) vs.1)
+    exact_rendered things Same c AttrStands (λ s. type_done (type.Int Signless (bits_of e)) s >>= λ t. items_at (type_of e) t.1 >>= λ vs. attr_done (attr.Dense t.0 vs.0) vs.1)
     (Then (Done (type_of e)) (DenseOf (type_of e))) (DenseOf (type_of e) (type_of e)) (done_then (type_of e) (DenseOf (type_of e))) (then_done (type_of e) (DenseOf (type_of e)))
     (then_exact things Same c TypeStands AttrStands (type_done (type.Int Signless (bits_of e))) (Done (type_of e)) (λ t s. items_at (type_of e) s >>= λ vs. attr_done (attr.Dense t vs.0) vs.1) (DenseOf (type_of e))
     (signless_exact (bits_of e) (element_fine e) c) (λ d t y g r.

@@ -29,7 +29,7 @@ use Rattle.ir_text_attributes.specs.AttrGrammar.{IsFine, IsTypeAttr, IsSuffix, I
 use Rattle.ir_text_types.specs.Worlds.{From}
 use Rattle.ir_text_types.specs.Standing.{NameStands, TypeStands, AttrStands}
 use Rattle.ir_text_types.specs.Laws.{Each}
-use Rattle.ir_text_types.proofs.Worlds.{bind_assoc, Exact, exact_where, exact_spelled, exact_for, nothing_exact, choice_exact, guard_exact, some_exact, then_exact, done_exact, after_exact, either_exact, more_exact}
+use Rattle.ir_text_types.proofs.Worlds.{bind_assoc, Exact, exact_where, exact_rendered, exact_for, nothing_exact, choice_exact, guard_exact, some_exact, then_exact, done_exact, after_exact, either_exact, more_exact}
 use Rattle.ir_text_types.proofs.TextLaws.{things, Same, typed_marks}
 use Rattle.ir_text_types.proofs.TokenLaws.{trailing_exact, token_exact}
 use Rattle.ir_text_types.proofs.TypeLaws.{type_done_exact, type_exact}
@@ -62,7 +62,7 @@ unfolding string_attr_at
 string_exact raw c =
     exact_where things Same c AttrStands (string_attr_at raw) (λ s. name_at (string_bytes raw) s >>= λ n. attr_done (attr.Str n.0) n.1) (IsFine (String (string_bytes raw)))
     (λ s g sound. sym (bind_assoc (name_step (string_bytes raw) s.1) (λ n. done (moved s n)) (λ n. attr_done (attr.Str n.0) n.1)))
-    (exact_spelled things Same c AttrStands (λ s. name_at (string_bytes raw) s >>= λ n. attr_done (attr.Str n.0) n.1) (Then (Done (string_bytes raw)) (λ y. IsFine (String y))) (IsFine (String (string_bytes raw)))
+    (exact_rendered things Same c AttrStands (λ s. name_at (string_bytes raw) s >>= λ n. attr_done (attr.Str n.0) n.1) (Then (Done (string_bytes raw)) (λ y. IsFine (String y))) (IsFine (String (string_bytes raw)))
     (done_then (string_bytes raw) (λ y. IsFine (String y))) (then_done (string_bytes raw) (λ y. IsFine (String y)))
     (then_exact things Same c NameStands AttrStands (name_at (string_bytes raw)) (Done (string_bytes raw)) (λ n. attr_done (attr.Str n)) (λ y. IsFine (String y)) (name_exact c (string_bytes raw)) (λ d n y g r.
     attr_done_exact d (attr.Str n) (String y) (refl, refl) (λ z k w. string_node z n y (r z k w)))))
@@ -74,7 +74,7 @@ signless_exact w fine c = done_if_exact c TypeStands (type_done (type.Int Signle
 pub truth_exact : (b : Bool) (c : ContextModel) → Exact things Same c AttrStands (truth_at b) (IsFine (IntegerOf (Integer Signless 1) (truth_bits b)))
 unfolding truth_at
 truth_exact b c =
-    exact_spelled things Same c AttrStands (λ s. type_done (type.Int Signless 1) s >>= λ t. attr_done (attr.Int t.0 (truth_bits b)) t.1) (Then (Done (Integer Signless 1)) (λ y. IsFine (IntegerOf y (truth_bits b)))) (IsFine (IntegerOf (Integer Signless 1) (truth_bits b)))
+    exact_rendered things Same c AttrStands (λ s. type_done (type.Int Signless 1) s >>= λ t. attr_done (attr.Int t.0 (truth_bits b)) t.1) (Then (Done (Integer Signless 1)) (λ y. IsFine (IntegerOf y (truth_bits b)))) (IsFine (IntegerOf (Integer Signless 1) (truth_bits b)))
     (done_then (Integer Signless 1) (λ y. IsFine (IntegerOf y (truth_bits b)))) (then_done (Integer Signless 1) (λ y. IsFine (IntegerOf y (truth_bits b))))
     (then_exact things Same c TypeStands AttrStands (type_done (type.Int Signless 1)) (Done (Integer Signless 1)) (λ t. attr_done (attr.Int t (truth_bits b))) (λ y. IsFine (IntegerOf y (truth_bits b))) (signless_exact 1 refl c) (λ d t y g r.
     attr_done_exact d (attr.Int t (truth_bits b)) (IntegerOf y (truth_bits b)) (refl, refl) (λ z k w. integer_node (truth_bits b) z t y (r z k w))))
@@ -223,7 +223,7 @@ flag_into y t t' k = by_token k.0 k.1 k.2 k.3
 flag_exact : (c : ContextModel) → Exact things Same c FlagStands flag_at IsFlag
 unfolding flag_at
 flag_exact c =
-    exact_spelled things Same c FlagStands flag_at (λ y old new. (l : Lexeme) × (rest : Text) × Token l old rest × FlagFrom l rest y old new) IsFlag flag_into (λ y t t' k. (bare k.0, t', k.1, (y, k.2, (refl, refl))))
+    exact_rendered things Same c FlagStands flag_at (λ y old new. (l : Lexeme) × (rest : Text) × Token l old rest × FlagFrom l rest y old new) IsFlag flag_into (λ y t t' k. (bare k.0, t', k.1, (y, k.2, (refl, refl))))
     (token_exact c FlagStands (λ s l rest. flag_from s.1 l rest) FlagFrom (flag_from_exact c))
 
 abbrev SomeFlags : Grammar Text (List code.Flag)
@@ -241,7 +241,7 @@ NoFlags fs old new = IsMark Greater old new × (fs ≡ [])
 no_flags_exact : (c : ContextModel) → Exact things Same c FlagsStand no_flags_at NoFlags
 unfolding no_flags_at
 no_flags_exact c =
-    exact_spelled things Same c FlagsStand no_flags_at (After IsMark Greater (Done [])) NoFlags (λ y t t' k. (subst (λ r. IsMark Greater t r) (sym k.2.1) k.1, k.2.0)) (λ y t t' k. (t', k.0, (k.1, refl)))
+    exact_rendered things Same c FlagsStand no_flags_at (After IsMark Greater (Done [])) NoFlags (λ y t t' k. (subst (λ r. IsMark Greater t r) (sym k.2.1) k.1, k.2.0)) (λ y t t' k. (t', k.0, (k.1, refl)))
     (after_exact things Same after_typed IsMark typed_marks c FlagsStand Greater (λ s. Read ([], s)) (Done []) (done_exact things Same c FlagsStand [] [] (λ z g k. refl)))
 
 abbrev FlagsFrom : Lexeme → Text → Grammar Text (List code.Flag)
@@ -271,7 +271,7 @@ flags_back y t t' k = (bare k.0, k.1, k.2, by_case k.3)
 flags_exact : (c : ContextModel) → Exact things Same c FlagsStand flags_at IsFlags
 unfolding flags_at
 flags_exact c =
-    exact_spelled things Same c FlagsStand flags_at (λ y old new. (l : Lexeme) × (rest : Text) × Token l old rest × FlagsFrom l rest y old new) IsFlags flags_into flags_back
+    exact_rendered things Same c FlagsStand flags_at (λ y old new. (l : Lexeme) × (rest : Text) × Token l old rest × FlagsFrom l rest y old new) IsFlags flags_into flags_back
     (token_exact c FlagsStand flags_from FlagsFrom (flags_from_exact c))
 
 pub overflow_exact : (c : ContextModel) → Exact things Same c AttrStands overflow_at IsOverflow

@@ -22,7 +22,7 @@ use Rattle.ir_text_types.specs.Typed.{Text, Typed, name_step, attr_step}
 use Rattle.ir_text_types.specs.Grammars.{Grammar, Then, Done, DoneIf}
 use Rattle.ir_text_types.specs.Worlds.{From}
 use Rattle.ir_text_types.specs.Standing.{NameStands, AttrStands}
-use Rattle.ir_text_types.proofs.Worlds.{bind_read, Exact, Step, Comes, Reads, exact_spelled, nothing_exact}
+use Rattle.ir_text_types.proofs.Worlds.{bind_read, Exact, Step, Comes, Reads, exact_rendered, nothing_exact}
 use Rattle.ir_text_types.proofs.TextLaws.{things, Same, text_now}
 use Rattle.ir_text_types.proofs.TypeLaws.{read_interned, full_cases}
 use Rattle.ir_text_attributes.specs.AttrReading.{name_done, attr_done}
@@ -80,8 +80,8 @@ abbrev pub IsAllowed : AttrNode → Type 0
 IsAllowed node = (count_reason node ≡ None) × (key_reason node ≡ None)
 
 -- the refusal of a full list of attributes
-abbrev room_of : AttrNode → ContextModel → Option Refusal
-room_of node c = full_reason (same_attr (kept c.names node)) c.attrs
+abbrev headroom_of : AttrNode → ContextModel → Option Refusal
+headroom_of node c = full_reason (same_attr (kept c.names node)) c.attrs
 
 attr_step_on : (node : AttrNode) (y : AttrTerm) (s : Typed) (t : List ℕ) → IsSound s.1 → s.0 ≡ t → IsNodeOf node y s.1 → attr_reason node s.1 ≡ None → Step things Same AttrStands s (with_attr node s.1).0 y (s.0, (with_attr node s.1).1) t
 attr_step_on node y s t sound same r fine = record {
@@ -96,10 +96,10 @@ attr_step_on node y s t sound same r fine = record {
 }
 
 -- an allowed node is refused only for its fault or for a full list
-reason_parts : (node : AttrNode) (c : ContextModel) → IsAllowed node → attr_reason node c ≡ first_reason (attr_fault (attr_node_term c node)) (room_of node c)
-reason_parts node c allowed = ap (λ o. first_reason (attr_fault (attr_node_term c node)) (first_reason o (first_reason (room_of node c) (key_reason node)))) allowed.0
-    ∙ ap (λ o. first_reason (attr_fault (attr_node_term c node)) (first_reason (room_of node c) o)) allowed.1
-    ∙ ap (first_reason (attr_fault (attr_node_term c node))) (last (room_of node c))
+reason_parts : (node : AttrNode) (c : ContextModel) → IsAllowed node → attr_reason node c ≡ first_reason (attr_fault (attr_node_term c node)) (headroom_of node c)
+reason_parts node c allowed = ap (λ o. first_reason (attr_fault (attr_node_term c node)) (first_reason o (first_reason (headroom_of node c) (key_reason node)))) allowed.0
+    ∙ ap (λ o. first_reason (attr_fault (attr_node_term c node)) (first_reason (headroom_of node c) o)) allowed.1
+    ∙ ap (first_reason (attr_fault (attr_node_term c node))) (last (headroom_of node c))
   where
     last : (o : Option Refusal) → first_reason o None ≡ o
     last None = refl
@@ -112,18 +112,18 @@ attr_done_exact c node y allowed r = record {
       let b = bind_read (attr_step node s.1) (λ n. done (moved s n)) (x, s') e in
       let a = read_interned (attr_reason node s.1) (with_attr node s.1) b.0 b.1 in
       let same : moved s (with_attr node s.1) ≡ (x, s') = ap (moved s) a.1 ∙ cc (b.2) in
-      let no_fault = (neither (attr_fault (attr_node_term s.1 node)) (room_of node s.1) (sym (reason_parts node s.1 allowed) ∙ a.0)).0 in
+      let no_fault = (neither (attr_fault (attr_node_term s.1 node)) (headroom_of node s.1) (sym (reason_parts node s.1 allowed) ∙ a.0)).0 in
       subst (λ (q : ℕ × Typed). Comes things Same AttrStands (DoneIf (attr_fault y ≡ None) y) s t q.0 q.1) same
       (y, t, (sym (fault_of s.1 (r s.1 g sound)) ∙ no_fault, refl, refl), attr_step_on node y s t sound (text_now s t sound h) (r s.1 g sound) a.0);
   only = λ s t y' t' g sound h k.
       let no_fault : attr_fault (attr_node_term s.1 node) ≡ None = fault_of s.1 (r s.1 g sound) ∙ k.0 in
       rw (k.1, k.2) (⊎_elim
-      (λ (f : room_of node s.1 ≡ None).
-      let fine : attr_reason node s.1 ≡ None = reason_parts node s.1 allowed ∙ neither_back (attr_fault (attr_node_term s.1 node)) (room_of node s.1) no_fault f in
+      (λ (f : headroom_of node s.1 ≡ None).
+      let fine : attr_reason node s.1 ≡ None = reason_parts node s.1 allowed ∙ neither_back (attr_fault (attr_node_term s.1 node)) (headroom_of node s.1) no_fault f in
       subst (λ o. Reads things Same AttrStands s (interned o (with_attr node s.1) >>= λ n. done (moved s n)) y t) (sym fine)
       (inr ((with_attr node s.1).0, (s.0, (with_attr node s.1).1), refl, attr_step_on node y s t sound (text_now s t sound h) (r s.1 g sound) fine)))
-      (λ (f : room_of node s.1 ≡ Some TooMany).
-      let none : attr_reason node s.1 ≡ Some TooMany = reason_parts node s.1 allowed ∙ ap (λ o. first_reason o (room_of node s.1)) no_fault ∙ f in
+      (λ (f : headroom_of node s.1 ≡ Some TooMany).
+      let none : attr_reason node s.1 ≡ Some TooMany = reason_parts node s.1 allowed ∙ ap (λ o. first_reason o (headroom_of node s.1)) no_fault ∙ f in
       inl (ap (λ o. interned o (with_attr node s.1) >>= λ n. done (moved s n)) none))
       (full_cases (same_attr (kept s.1.names node)) s.1.attrs));
 }
@@ -141,7 +141,7 @@ module _ {B C : Type 0} (z : B) (Q : B → Grammar Text C) where
   then_done y t t' k = (z, t, (refl, refl), k)
 
 pub done_if_exact : {A B : Type 0} (c : ContextModel) (R : ContextModel → A → B → Type 0) (p : Parse Typed A) (F : Type 0) (z : B) → F → Exact things Same c R p (DoneIf F z) → Exact things Same c R p (Done z)
-done_if_exact c R p F z holds = exact_spelled things Same c R p (DoneIf F z) (Done z) (λ y t t' k. (k.1, k.2)) (λ y t t' k. (holds, k.0, k.1))
+done_if_exact c R p F z holds = exact_rendered things Same c R p (DoneIf F z) (Done z) (λ y t t' k. (k.1, k.2)) (λ y t t' k. (holds, k.0, k.1))
 
 -- ---- more lemmas about agreement
 

@@ -26,7 +26,7 @@ use Rattle.ir_text_types.specs.Grammars.{When, Grammar, Then, Done, IsList, IsMa
 use Rattle.ir_text_types.specs.Worlds.{From}
 use Rattle.ir_text_types.specs.Standing.{NameStands, AttrStands}
 use Rattle.ir_text_types.specs.Laws.{Each}
-use Rattle.ir_text_types.proofs.Worlds.{bind_read, option_read, Exact, exact_where, exact_spelled, nothing_exact, then_exact, done_exact, either_exact, list_exact}
+use Rattle.ir_text_types.proofs.Worlds.{bind_read, option_read, Exact, exact_where, exact_rendered, nothing_exact, then_exact, done_exact, either_exact, list_exact}
 use Rattle.ir_text_types.proofs.TextLaws.{things, Same, typed_marks}
 use Rattle.ir_text_types.proofs.TokenLaws.{trailing_exact, token_exact}
 use Rattle.ir_text_attributes.specs.AttrReading.{Entries, name_done, attr_done, key_from, key_at, unit_value_at, value_from, value_by, entry_by, entries_by, dictionary_by, attrs_by, array_by}
@@ -68,7 +68,7 @@ key_back y t t' (inr k) = (string k.0, t', k.1, (k.2, refl))
 pub key_exact : (c : ContextModel) → Exact things Same c NameStands key_at IsKey
 unfolding key_at
 key_exact c =
-    exact_spelled things Same c NameStands key_at (λ y old new. (l : Lexeme) × (rest : Text) × Token l old rest × KeyFrom l rest y old new) IsKey key_into key_back
+    exact_rendered things Same c NameStands key_at (λ y old new. (l : Lexeme) × (rest : Text) × Token l old rest × KeyFrom l rest y old new) IsKey key_into key_back
     (token_exact c NameStands (λ s l rest. key_from s.1 l rest) KeyFrom (key_from_exact c))
 
 -- two names of a sound context are equal if and only if their bytes are
@@ -194,27 +194,27 @@ module _ (depth : ℕ) (p : Parse Typed ℕ) where
 
   -- after an item: the end, or a comma and more items
   abbrev ends : ℕ → Entries → Typed → Option Typed → Outcome (Entries × Typed)
-  ends room items mid o = more_from after_typed CloseCurly (entry_by depth p) (more_at after_typed CloseCurly (entry_by depth p) room) items mid o
+  ends headroom items mid o = more_from after_typed CloseCurly (entry_by depth p) (more_at after_typed CloseCurly (entry_by depth p) headroom) items mid o
 
   abbrev Few : ℕ → Entries → Type 0
   Few n es = (has_duplicate (keys es) ≡ false) × (length es ≤ n)
 
-  ends_few : (room n : ℕ) (items : Entries) (mid : Typed) (all : Entries) (s' : Typed) → ((items : Entries) (s : Typed) → Few (n - room) items → more_at after_typed CloseCurly (entry_by depth p) room items s ≡ Read (all, s') → Few n all)
-      → room ≤ n → Few (n - room) items → (o : Option Typed) → ends room items mid o ≡ Read (all, s') → Few n all
-  ends_few room n items mid all s' more le few (Some end) e =
+  ends_few : (headroom n : ℕ) (items : Entries) (mid : Typed) (all : Entries) (s' : Typed) → ((items : Entries) (s : Typed) → Few (n - headroom) items → more_at after_typed CloseCurly (entry_by depth p) headroom items s ≡ Read (all, s') → Few n all)
+      → headroom ≤ n → Few (n - headroom) items → (o : Option Typed) → ends headroom items mid o ≡ Read (all, s') → Few n all
+  ends_few headroom n items mid all s' more le few (Some end) e =
       let same : (items, end) ≡ (all, s') = cc (e) in
       subst (Few n) (ap (λ (q : Entries × Typed). q.0) same) (few.0, omega (arith, few.1))
-  ends_few room n items mid all s' more le few None e =
-      let b = option_read (after_typed Comma mid) (more_at after_typed CloseCurly (entry_by depth p) room items) (all, s') e in
+  ends_few headroom n items mid all s' more le few None e =
+      let b = option_read (after_typed Comma mid) (more_at after_typed CloseCurly (entry_by depth p) headroom items) (all, s') e in
       more items b.0 few b.2
 
-  more_few : (n room : ℕ) → room ≤ n → (items : Entries) (s : Typed) (all : Entries) (s' : Typed) → Few (n - room) items → more_at after_typed CloseCurly (entry_by depth p) room items s ≡ Read (all, s') → Few n all
+  more_few : (n headroom : ℕ) → headroom ≤ n → (items : Entries) (s : Typed) (all : Entries) (s' : Typed) → Few (n - headroom) items → more_at after_typed CloseCurly (entry_by depth p) headroom items s ≡ Read (all, s') → Few n all
   unfolding more_at
   more_few n zero le items s all s' few e = absurd cc
-  more_few n (suc room) le items s all s' few e =
-      let a = bind_read (entry_by depth p items s) (λ x. ends room (items ++ x.0 ∷ []) x.1 (after_typed CloseCurly x.1)) (all, s') e in
-      let longer : Few (n - room) (items ++ a.0.0 ∷ []) = (duplicate_push items a.0.0 few.0 (entry_new items s a.0.0 a.0.1 a.1), omega (arith, few.1, le, length-append items (a.0.0 ∷ []))) in
-      ends_few room n (items ++ a.0.0 ∷ []) a.0.1 all s' (λ is t k f. more_few n room (omega (arith, le)) is t all s' k f) (omega (arith, le)) longer (after_typed CloseCurly a.0.1) a.2
+  more_few n (suc headroom) le items s all s' few e =
+      let a = bind_read (entry_by depth p items s) (λ x. ends headroom (items ++ x.0 ∷ []) x.1 (after_typed CloseCurly x.1)) (all, s') e in
+      let longer : Few (n - headroom) (items ++ a.0.0 ∷ []) = (duplicate_push items a.0.0 few.0 (entry_new items s a.0.0 a.0.1 a.1), omega (arith, few.1, le, length-append items (a.0.0 ∷ []))) in
+      ends_few headroom n (items ++ a.0.0 ∷ []) a.0.1 all s' (λ is t k f. more_few n headroom (omega (arith, le)) is t all s' k f) (omega (arith, le)) longer (after_typed CloseCurly a.0.1) a.2
 
   allowed_from : (es : Entries) → Few 256 es → IsAllowed (attr.Dict es)
   allowed_from es k = (ap (λ b. if b then None else Some TooMany) (le-leb (length es) 256 k.1), ap (λ b. if b then Some DuplicateKey else None) k.0)
@@ -246,20 +246,20 @@ module _ (depth : ℕ) (p : Parse Typed ℕ) (P : Grammar Text AttrTerm) (item :
   module _ (d : ContextModel) (k : ℕ) (y : List ℕ) (stands : From (λ z. NameStands z k y) d) where
     free_exact : (b : Bool) → Exact things Same d EntryStands (λ s. with_value k (if b then Wrong else value_by depth p s)) (When (b ≡ false) (Then (IsValue depth P) (λ a. Done (y, a))))
     free_exact true =
-        exact_spelled things Same d EntryStands (λ s. Wrong) (λ v old new. ⊥) (When (true ≡ false) (Then (IsValue depth P) (λ a. Done (y, a)))) (λ v t t' e. absurd e) (λ v t t' e. absurd (true≢false e.0))
+        exact_rendered things Same d EntryStands (λ s. Wrong) (λ v old new. ⊥) (When (true ≡ false) (Then (IsValue depth P) (λ a. Done (y, a)))) (λ v t t' e. absurd e) (λ v t t' e. absurd (true≢false e.0))
         (nothing_exact things Same d EntryStands)
     free_exact false =
-        exact_spelled things Same d EntryStands (λ s. with_value k (value_by depth p s)) (Then (IsValue depth P) (λ a. Done (y, a))) (When (false ≡ false) (Then (IsValue depth P) (λ a. Done (y, a)))) (λ v t t' e. (refl, e)) (λ v t t' e. e.1)
+        exact_rendered things Same d EntryStands (λ s. with_value k (value_by depth p s)) (Then (IsValue depth P) (λ a. Done (y, a))) (When (false ≡ false) (Then (IsValue depth P) (λ a. Done (y, a)))) (λ v t t' e. (refl, e)) (λ v t t' e. e.1)
         (then_exact things Same d AttrStands EntryStands (value_by depth p) (IsValue depth P) (λ a s. Read ((k, a), s)) (λ a. Done (y, a)) (value_exact d) (λ e a v g r.
         done_exact things Same e EntryStands (k, a) (y, v) (λ z j w. (stands z (grows_trans d e z g j) w, r z j w))))
 
   entry_exact : (c : ContextModel) (es : Entries) (fs : List EntryTerm) → From (λ z. Each EntryStands z es fs) c → Exact things Same c EntryStands (entry_by depth p es) (IsEntry depth P fs)
   unfolding entry_by
-  entry_exact c es fs front =
+  entry_exact c es fs preceding =
       then_exact things Same c NameStands EntryStands key_at IsKey (λ k s. with_value k (if has_key nat_eq k es then Wrong else value_by depth p s)) (λ y. When (has_key bytes_eq y fs ≡ false) (Then (IsValue depth P) (λ a. Done (y, a))))
       (key_exact c) (λ d k y g r.
       exact_where things Same d EntryStands (λ s. with_value k (if has_key nat_eq k es then Wrong else value_by depth p s)) (λ s. with_value k (if has_key bytes_eq y fs then Wrong else value_by depth p s)) (When (has_key bytes_eq y fs ≡ false) (Then (IsValue depth P) (λ a. Done (y, a))))
-      (λ s h sound. ap (λ t. with_value k (if t then Wrong else value_by depth p s)) (known_same s.1 sound k y es fs (r s.1 h sound) (front s.1 (grows_trans c d s.1 g h) sound)))
+      (λ s h sound. ap (λ t. with_value k (if t then Wrong else value_by depth p s)) (known_same s.1 sound k y es fs (r s.1 h sound) (preceding s.1 (grows_trans c d s.1 g h) sound)))
       (free_exact d k y r (has_key bytes_eq y fs)))
 
   entries_exact : (c : ContextModel) → Exact things Same c (Each EntryStands) (entries_by depth p) (IsList IsMark CloseCurly (IsEntry depth P) 256)

@@ -22,7 +22,7 @@ use Rattle.ir_text_attributes.specs.AttrGrammar.{IsAttr}
 use Rattle.ir_text_attributes.specs.SingleReading.{single_attr_at}
 use Rattle.ir_text_attributes.specs.Spelling.{IsSingleAttr, SpellsAttr}
 use Rattle.ir_text_attributes.specs.Claims.{IsOnlyAttr, IsNoAttr}
-use Rattle.ir_text_attributes.proofs.AttrLaws.{attr_read, attr_spelled}
+use Rattle.ir_text_attributes.proofs.AttrLaws.{attr_read, attr_rendered}
 use Rattle.ir_text_attributes.proofs.UniqueAttributes.{attr_one}
 
 module _ (o : Bool) (bytes : List ℕ) (c : ContextModel) (sound : IsSound c) where
@@ -56,7 +56,7 @@ module _ (o : Bool) (bytes : List ℕ) (c : ContextModel) (sound : IsSound c) wh
   none_wrong e y h = ⊎_elim
       (λ (f : attr_at o 32 (bytes, c) ≡ Full). absurd cc)
       (λ (f : (n : ℕ) × (d : ContextModel) × (attr_at o 32 (bytes, c) ≡ Read (n, (h.0, d))) × IsExtendedBy c d × IsSound d × AttrStands d n y). let g = f.2 in absurd cc)
-      (attr_spelled o 32 c bytes h.0 y sound h.2)
+      (attr_rendered o 32 c bytes h.0 y sound h.2)
 
   abbrev told : ℕ → ContextModel → List ℕ → Outcome (ℕ × ContextModel)
   told n d end = Read (n, d)
@@ -98,12 +98,12 @@ module _ (o : Bool) (bytes : List ℕ) where
   pub attr_spells : (c : ContextModel) (n : ℕ) → text_reason bytes ≡ None → IsOnlyAttr (IsSingleAttr o bytes) c n → IsOnlyAttr (SpellsAttr o bytes) c n
   attr_spells c n text h = record {
     known = h.known;
-    holds = record { text = text; spelled = h.holds };
-    only = λ y s. h.only y s.spelled;
+    holds = record { text = text; rendered = h.holds };
+    only = λ y s. h.only y s.rendered;
   }
 
-  pub none_spelled : IsNoAttr (IsSingleAttr o bytes) → IsNoAttr (SpellsAttr o bytes)
-  none_spelled none y s = none y s.spelled
+  pub none_rendered : IsNoAttr (IsSingleAttr o bytes) → IsNoAttr (SpellsAttr o bytes)
+  none_rendered none y s = none y s.rendered
 
   pub no_text : (r : TextRefusal × ℕ) → text_reason bytes ≡ Some r → IsNoAttr (SpellsAttr o bytes)
   no_text r e y s = let t = s.text in absurd cc

@@ -18,7 +18,7 @@ use Rattle.ir_text_types.specs.Grammars.{Grammar, Then, Done, Either, Not, IsMar
 use Rattle.ir_text_types.specs.Worlds.{From}
 use Rattle.ir_text_types.specs.Standing.{NameStands, AttrStands}
 use Rattle.ir_text_types.specs.Laws.{Each}
-use Rattle.ir_text_types.proofs.Worlds.{Exact, exact_spelled, nothing_exact, then_exact, done_exact, either_exact, each_push}
+use Rattle.ir_text_types.proofs.Worlds.{Exact, exact_rendered, nothing_exact, then_exact, done_exact, either_exact, each_push}
 use Rattle.ir_text_types.proofs.TextLaws.{things, Same, typed_marks}
 use Rattle.ir_text_types.proofs.TokenLaws.{trailing_exact, token_exact}
 use Rattle.ir_text_attributes.specs.AttrReading.{name_done, attr_done, part_from, part_at, parts_from, parts_at, symbol_attr_at}
@@ -50,43 +50,43 @@ part_back y t t' (inr k) = (quoted k.0, t', k.1, (k.2, refl))
 part_exact : (c : ContextModel) → Exact things Same c NameStands part_at IsPart
 unfolding part_at
 part_exact c =
-    exact_spelled things Same c NameStands part_at (λ y old new. (l : Lexeme) × (rest : Text) × Token l old rest × PartFrom l rest y old new) IsPart part_into part_back
+    exact_rendered things Same c NameStands part_at (λ y old new. (l : Lexeme) × (rest : Text) × Token l old rest × PartFrom l rest y old new) IsPart part_into part_back
     (token_exact c NameStands (λ s l rest. part_from s.1 l rest) PartFrom (part_from_exact c))
 
 -- ---- parts
 
 -- the end, or a `::` and more parts
 abbrev More : ℕ → List (List ℕ) → Grammar Text (List (List ℕ))
-More room ys = Either IsMark DoubleColon (IsParts room ys) (Done ys)
+More headroom ys = Either IsMark DoubleColon (IsParts headroom ys) (Done ys)
 
-parts_into : (room : ℕ) (front ys : List (List ℕ)) (t t' : Text) → Then IsPart (λ n. More room (front ++ n ∷ [])) ys t t' → IsParts (suc room) front ys t t'
+parts_into : (headroom : ℕ) (preceding ys : List (List ℕ)) (t t' : Text) → Then IsPart (λ n. More headroom (preceding ++ n ∷ [])) ys t t' → IsParts (suc headroom) preceding ys t t'
 unfolding IsParts
-parts_into room front ys t t' k = (k.0, k.1, k.2, by_case k.3)
+parts_into headroom preceding ys t t' k = (k.0, k.1, k.2, by_case k.3)
   where
-    by_case : More room (front ++ k.0 ∷ []) ys k.1 t'
-        → (Not IsMark DoubleColon k.1 × (ys ≡ front ++ k.0 ∷ []) × (t' ≡ k.1)) ⊎ ((next : Text) × IsMark DoubleColon k.1 next × IsParts room (front ++ k.0 ∷ []) ys next t')
+    by_case : More headroom (preceding ++ k.0 ∷ []) ys k.1 t'
+        → (Not IsMark DoubleColon k.1 × (ys ≡ preceding ++ k.0 ∷ []) × (t' ≡ k.1)) ⊎ ((next : Text) × IsMark DoubleColon k.1 next × IsParts headroom (preceding ++ k.0 ∷ []) ys next t')
     by_case (inl j) = inr j
     by_case (inr j) = inl (j.0, j.1.0, j.1.1)
 
-parts_back : (room : ℕ) (front ys : List (List ℕ)) (t t' : Text) → IsParts (suc room) front ys t t' → Then IsPart (λ n. More room (front ++ n ∷ [])) ys t t'
+parts_back : (headroom : ℕ) (preceding ys : List (List ℕ)) (t t' : Text) → IsParts (suc headroom) preceding ys t t' → Then IsPart (λ n. More headroom (preceding ++ n ∷ [])) ys t t'
 unfolding IsParts
-parts_back room front ys t t' k = (k.0, k.1, k.2, by_case k.3)
+parts_back headroom preceding ys t t' k = (k.0, k.1, k.2, by_case k.3)
   where
-    by_case : (Not IsMark DoubleColon k.1 × (ys ≡ front ++ k.0 ∷ []) × (t' ≡ k.1)) ⊎ ((next : Text) × IsMark DoubleColon k.1 next × IsParts room (front ++ k.0 ∷ []) ys next t')
-        → More room (front ++ k.0 ∷ []) ys k.1 t'
+    by_case : (Not IsMark DoubleColon k.1 × (ys ≡ preceding ++ k.0 ∷ []) × (t' ≡ k.1)) ⊎ ((next : Text) × IsMark DoubleColon k.1 next × IsParts headroom (preceding ++ k.0 ∷ []) ys next t')
+        → More headroom (preceding ++ k.0 ∷ []) ys k.1 t'
     by_case (inl j) = inr (j.0, (j.1, j.2))
     by_case (inr j) = inl j
 
-pub parts_exact : (room : ℕ) (c : ContextModel) (ns : List ℕ) (ys : List (List ℕ)) → From (λ z. Each NameStands z ns ys) c → Exact things Same c (Each NameStands) (parts_at room ns) (IsParts room ys)
+pub parts_exact : (headroom : ℕ) (c : ContextModel) (ns : List ℕ) (ys : List (List ℕ)) → From (λ z. Each NameStands z ns ys) c → Exact things Same c (Each NameStands) (parts_at headroom ns) (IsParts headroom ys)
 unfolding parts_at IsParts
 parts_exact zero c ns ys r = nothing_exact things Same c (Each NameStands)
-parts_exact (suc room) c ns ys r =
-    exact_spelled things Same c (Each NameStands) (λ s. part_at s >>= λ x. parts_from (parts_at room (ns ++ x.0 ∷ [])) (ns ++ x.0 ∷ []) x.1 (after_typed DoubleColon x.1)) (Then IsPart (λ n. More room (ys ++ n ∷ []))) (IsParts (suc room) ys)
-    (parts_into room ys) (parts_back room ys)
-    (then_exact things Same c NameStands (Each NameStands) part_at IsPart (λ x s. parts_from (parts_at room (ns ++ x ∷ [])) (ns ++ x ∷ []) s (after_typed DoubleColon s)) (λ n. More room (ys ++ n ∷ [])) (part_exact c) (λ d x y g h.
-    let front : From (λ z. Each NameStands z (ns ++ x ∷ []) (ys ++ y ∷ [])) d = λ z k w. each_push things Same after_typed IsMark typed_marks NameStands z ns ys x y (r z (grows_trans c d z g k) w) (h z k w) in
-    either_exact things Same after_typed IsMark typed_marks d (Each NameStands) DoubleColon (parts_from (parts_at room (ns ++ x ∷ [])) (ns ++ x ∷ [])) (parts_at room (ns ++ x ∷ [])) (λ s. Read (ns ++ x ∷ [], s)) (IsParts room (ys ++ y ∷ [])) (Done (ys ++ y ∷ []))
-    (λ s mid. refl) (λ s. refl) (parts_exact room d (ns ++ x ∷ []) (ys ++ y ∷ []) front) (done_exact things Same d (Each NameStands) (ns ++ x ∷ []) (ys ++ y ∷ []) front)))
+parts_exact (suc headroom) c ns ys r =
+    exact_rendered things Same c (Each NameStands) (λ s. part_at s >>= λ x. parts_from (parts_at headroom (ns ++ x.0 ∷ [])) (ns ++ x.0 ∷ []) x.1 (after_typed DoubleColon x.1)) (Then IsPart (λ n. More headroom (ys ++ n ∷ []))) (IsParts (suc headroom) ys)
+    (parts_into headroom ys) (parts_back headroom ys)
+    (then_exact things Same c NameStands (Each NameStands) part_at IsPart (λ x s. parts_from (parts_at headroom (ns ++ x ∷ [])) (ns ++ x ∷ []) s (after_typed DoubleColon s)) (λ n. More headroom (ys ++ n ∷ [])) (part_exact c) (λ d x y g h.
+    let preceding : From (λ z. Each NameStands z (ns ++ x ∷ []) (ys ++ y ∷ [])) d = λ z k w. each_push things Same after_typed IsMark typed_marks NameStands z ns ys x y (r z (grows_trans c d z g k) w) (h z k w) in
+    either_exact things Same after_typed IsMark typed_marks d (Each NameStands) DoubleColon (parts_from (parts_at headroom (ns ++ x ∷ [])) (ns ++ x ∷ [])) (parts_at headroom (ns ++ x ∷ [])) (λ s. Read (ns ++ x ∷ [], s)) (IsParts headroom (ys ++ y ∷ [])) (Done (ys ++ y ∷ []))
+    (λ s mid. refl) (λ s. refl) (parts_exact headroom d (ns ++ x ∷ []) (ys ++ y ∷ []) preceding) (done_exact things Same d (Each NameStands) (ns ++ x ∷ []) (ys ++ y ∷ []) preceding)))
 
 names_below : (z : ContextModel) (ns : List ℕ) (ys : List (List ℕ)) → Each NameStands z ns ys → AllByRecursion (λ n. n < length z.names) ns
 names_below z [] [] h = tt

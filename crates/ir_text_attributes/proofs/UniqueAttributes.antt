@@ -155,23 +155,23 @@ part_one t y y' n n' (inr k) (inr l) =
 
 -- the end, or a `::` and more parts
 abbrev PartsEnd : ℕ → List (List ℕ) → Grammar Text (List (List ℕ))
-PartsEnd room front ys mid new = (Not IsMark DoubleColon mid × (ys ≡ front) × (new ≡ mid)) ⊎ ((next : Text) × IsMark DoubleColon mid next × IsParts room front ys next new)
+PartsEnd headroom preceding ys mid new = (Not IsMark DoubleColon mid × (ys ≡ preceding) × (new ≡ mid)) ⊎ ((next : Text) × IsMark DoubleColon mid next × IsParts headroom preceding ys next new)
 
-parts_end_one : (room : ℕ) (front : List (List ℕ)) → IsOne (IsParts room front) → IsOne (PartsEnd room front)
-parts_end_one room front more t y y' n n' (inl k) (inl l) = (k.1 ∙ sym l.1, k.2 ∙ sym l.2)
-parts_end_one room front more t y y' n n' (inl k) (inr l) = absurd (k.0 l.0 l.1)
-parts_end_one room front more t y y' n n' (inr k) (inl l) = absurd (l.0 k.0 k.1)
-parts_end_one room front more t y y' n n' (inr k) (inr l) =
+parts_end_one : (headroom : ℕ) (preceding : List (List ℕ)) → IsOne (IsParts headroom preceding) → IsOne (PartsEnd headroom preceding)
+parts_end_one headroom preceding more t y y' n n' (inl k) (inl l) = (k.1 ∙ sym l.1, k.2 ∙ sym l.2)
+parts_end_one headroom preceding more t y y' n n' (inl k) (inr l) = absurd (k.0 l.0 l.1)
+parts_end_one headroom preceding more t y y' n n' (inr k) (inl l) = absurd (l.0 k.0 k.1)
+parts_end_one headroom preceding more t y y' n n' (inr k) (inr l) =
     let e = mark_one DoubleColon t k.0 l.0 k.1 l.1 in
-    more k.0 y y' n n' k.2 (subst (λ m. IsParts room front y' m n') (sym e) l.2)
+    more k.0 y y' n n' k.2 (subst (λ m. IsParts headroom preceding y' m n') (sym e) l.2)
 
-parts_one : (room : ℕ) (front : List (List ℕ)) → IsOne (IsParts room front)
+parts_one : (headroom : ℕ) (preceding : List (List ℕ)) → IsOne (IsParts headroom preceding)
 unfolding IsParts
-parts_one zero front t y y' n n' k l = absurd k
-parts_one (suc room) front t y y' n n' k l =
+parts_one zero preceding t y y' n n' k l = absurd k
+parts_one (suc headroom) preceding t y y' n n' k l =
     let e = part_one t k.0 l.0 k.1 l.1 k.2 l.2 in
-    parts_end_one room (front ++ k.0 ∷ []) (parts_one room (front ++ k.0 ∷ [])) k.1 y y' n n' k.3
-    (subst (λ m. PartsEnd room (front ++ k.0 ∷ []) y' m n') (sym e.1) (subst (λ x. PartsEnd room (front ++ x ∷ []) y' l.1 n') (sym e.0) l.3))
+    parts_end_one headroom (preceding ++ k.0 ∷ []) (parts_one headroom (preceding ++ k.0 ∷ [])) k.1 y y' n n' k.3
+    (subst (λ m. PartsEnd headroom (preceding ++ k.0 ∷ []) y' m n') (sym e.1) (subst (λ x. PartsEnd headroom (preceding ++ x ∷ []) y' l.1 n') (sym e.0) l.3))
 
 symbol_one : IsOne IsSymbol
 symbol_one = then_one (IsParts many []) (λ parts. IsFine (Symbol parts)) (parts_one many []) (λ parts. fine_one (Symbol parts))

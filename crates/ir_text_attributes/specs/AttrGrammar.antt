@@ -114,10 +114,10 @@ IsPart n old new = Token (symbol n) old new ⊎ ((raw : List ℕ) × Token (quot
 
 -- the parts of `front` and at least one more, separated by `::`; at most `room` more
 unfoldable pub IsParts : ℕ → List (List ℕ) → Grammar Text (List (List ℕ))
-IsParts zero front ys old new = ⊥
-IsParts (suc room) front ys old new =
+IsParts zero preceding ys old new = ⊥
+IsParts (suc headroom) preceding ys old new =
     (n : List ℕ) × (mid : Text) × IsPart n old mid
-    × ((Not IsMark DoubleColon mid × (ys ≡ front ++ n ∷ []) × (new ≡ mid)) ⊎ ((next : Text) × IsMark DoubleColon mid next × IsParts room (front ++ n ∷ []) ys next new))
+    × ((Not IsMark DoubleColon mid × (ys ≡ preceding ++ n ∷ []) × (new ≡ mid)) ⊎ ((next : Text) × IsMark DoubleColon mid next × IsParts headroom (preceding ++ n ∷ []) ys next new))
 
 abbrev pub IsSymbol : Grammar Text AttrTerm
 IsSymbol = Then (IsParts many []) (λ parts. IsFine (Symbol parts))

@@ -180,7 +180,7 @@ parts_from go items s None = Read (items, s)
 -- the parts so far and at least one more, with at most `room` more
 unfoldable pub parts_at : ℕ → List ℕ → Parse Typed (List ℕ)
 parts_at zero items s = Wrong
-parts_at (suc room) items s = part_at s >>= λ x. parts_from (parts_at room (items ++ x.0 ∷ [])) (items ++ x.0 ∷ []) x.1 (after_typed DoubleColon x.1)
+parts_at (suc headroom) items s = part_at s >>= λ x. parts_from (parts_at headroom (items ++ x.0 ∷ [])) (items ++ x.0 ∷ []) x.1 (after_typed DoubleColon x.1)
 
 unfoldable pub symbol_attr_at : Parse Typed ℕ
 symbol_attr_at s = do

@@ -15,4 +15,4 @@ IsSingleAttr opaque bytes y = (rest end : List ℕ) × IsAttr opaque most_depth 
 -- allowed
 pub record SpellsAttr (opaque : Bool) (bytes : List ℕ) (y : AttrTerm) : Type 0 where
   pub text : text_reason bytes ≡ None
-  pub spelled : IsSingleAttr opaque bytes y
+  pub rendered : IsSingleAttr opaque bytes y

@@ -75,11 +75,11 @@ type TextAndRest<'a> = (Vec<u8>, &'a [u8]);
 /// Returns `front` with the body at the start of `bytes` appended, and the rest of the text. The body must begin with
 /// `bracket`.
 fn with_bracket<'a>(
-    front: Vec<u8>,
+    preceding: Vec<u8>,
     bracket: u8,
     bytes: &'a [u8],
 ) -> Result<TextAndRest<'a>, ReadError>
-    ensures { Returns (λ x. (x.0.items, x.1.now)) result (of_option (bracketed bracket front.items bytes.now)) }
+    ensures { Returns (λ x. (x.0.items, x.1.now)) result (of_option (bracketed bracket preceding.items bytes.now)) }
 {
     let is_begun = match bytes {
         [first, ..] => *first == bracket,
@@ -88,7 +88,7 @@ fn with_bracket<'a>(
     if !is_begun {
         return Err(ReadError::Refused(wrong(TextRefusal::Unexpected, bytes)));
     }
-    let mut text = front;
+    let mut text = preceding;
     let (inside, rest) = match body(bytes) {
         Ok(found) => found,
         Err(fault) => return Err(ReadError::Refused(fault)),
@@ -98,13 +98,13 @@ fn with_bracket<'a>(
 }
 
 /// Returns `front` with the body in angle brackets appended, if one follows, and the rest of the text.
-fn with_angles<'a>(front: Vec<u8>, rest: &'a [u8]) -> Result<TextAndRest<'a>, ReadError>
-    ensures { Returns (λ x. (x.0.items, x.1.now)) result (of_option (with_angles (front.items, rest.now))) }
+fn with_angles<'a>(preceding: Vec<u8>, rest: &'a [u8]) -> Result<TextAndRest<'a>, ReadError>
+    ensures { Returns (λ x. (x.0.items, x.1.now)) result (of_option (with_angles (preceding.items, rest.now))) }
 {
     let bytes = skip(rest);
     match bytes {
-        [b'<', ..] => with_bracket(front, b'<', bytes),
-        _ => Ok((front, rest)),
+        [b'<', ..] => with_bracket(preceding, b'<', bytes),
+        _ => Ok((preceding, rest)),
     }
 }
 
@@ -120,26 +120,26 @@ pub(crate) fn kept_text<'a>(
 ) -> Result<TextAndRest<'a>, ReadError>
     ensures { Returns (λ x. (x.0.items, x.1.now)) result (of_option (kept_text word.now rest.now)) }
 {
-    let front = Vec::from_slice(alloc, word)?;
+    let preceding = Vec::from_slice(alloc, word)?;
     if word == b"distinct".as_slice() {
-        let (text, rest) = match with_bracket(front, b'[', skip(rest)) {
+        let (text, rest) = match with_bracket(preceding, b'[', skip(rest)) {
             Ok(found) => found,
             Err(e) => return Err(e),
         };
         return with_angles(text, rest);
     }
     if word == b"loc".as_slice() {
-        return with_bracket(front, b'(', skip(rest));
+        return with_bracket(preceding, b'(', skip(rest));
     }
-    with_bracket(front, b'<', skip(rest))
+    with_bracket(preceding, b'<', skip(rest))
 }
 
 /// Returns the text of an opaque array and the rest of the text, given the text after the word `array`.
 pub(crate) fn array_text<'a>(alloc: Global, rest: &'a [u8]) -> Result<TextAndRest<'a>, ReadError>
     ensures { Returns (λ x. (x.0.items, x.1.now)) result (of_option (bracketed 60 array_word (skip rest.now))) }
 {
-    let front = Vec::from_slice(alloc, b"array")?;
-    with_bracket(front, b'<', skip(rest))
+    let preceding = Vec::from_slice(alloc, b"array")?;
+    with_bracket(preceding, b'<', skip(rest))
 }
 
 /// Returns a string literal with its quotes, as written in the text.

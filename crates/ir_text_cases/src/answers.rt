@@ -1,10 +1,10 @@
 //! Computes the answer to a line.
 ghost use Rattle.ir_tree.specs.Meaning.{IsSoundIn};
 
+use crate::lexemes::{bytes_of, first_word};
 use crate::near::near_of;
-use crate::pieces::{bytes_of, first_word};
 use crate::shown::{refused, shown, shown_op};
-use crate::tokens::front;
+use crate::tokens::preceding;
 use ir_text::printer::print;
 use ir_text::reader::{parse_attr, read_op};
 use ir_tree::sound::sound;
@@ -107,7 +107,7 @@ fn answer_bytes(
 ) -> Result<String, Refusal> {
     match kind {
         "attr" => attribute(alloc, ctx, bytes),
-        "token" => front(alloc, bytes),
+        "token" => preceding(alloc, bytes),
         _ => operation(alloc, ctx, kind, bytes),
     }
 }

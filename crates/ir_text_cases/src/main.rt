@@ -3,8 +3,8 @@
 #![tactic(auto)]
 
 mod answers;
+mod lexemes;
 mod near;
-mod pieces;
 mod shown;
 mod tokens;
 

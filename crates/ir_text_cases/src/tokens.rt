@@ -56,7 +56,7 @@ fn shown_token(alloc: Global, found: &Token<'_>, rest: &[u8]) -> Result<String, 
 }
 
 /// Returns the token at the front of a text, its text and the rest; or why no token begins there.
-pub fn front(alloc: Global, bytes: &[u8]) -> Result<String, Refusal> {
+pub fn preceding(alloc: Global, bytes: &[u8]) -> Result<String, Refusal> {
     match token(bytes) {
         Ok((found, rest)) => Ok(shown_token(alloc, &found, rest)?),
         Err(fault) => {

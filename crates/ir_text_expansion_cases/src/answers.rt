@@ -1,6 +1,6 @@
 //! Computes the answer to a line.
 use crate::lines::{bytes_of, shown, summed};
-use ir_text_expansion::expansion::{Expansion, expand};
+use ir_text_modules::expansion::{Expansion, expand};
 use ir_text_tokens::fault::Fault;
 use ir_types_interner::keyed::Keyed;
 use std::alloc::{AllocError, Global};

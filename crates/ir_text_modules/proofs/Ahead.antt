@@ -28,16 +28,16 @@ pub either_ahead : {B : Type 0} (m : Mark) (Q R : Grammar (List ℕ) B) → Ahea
 either_ahead m Q R other y a b new e (inl h) = inl (after_ahead m Q y a b new e h)
 either_ahead m Q R other y a b new e (inr h) = inr (not_ahead m a b e h.0, other y a b new e h.1)
 
-module _ {B : Type 0} (close : Mark) (P : List B → Grammar (List ℕ) B) (item : (front : List B) → Ahead (P front)) where
-  pub more_ahead : (room : ℕ) (front : List B) → Ahead (IsMore IsMark close P room front)
+module _ {B : Type 0} (close : Mark) (P : List B → Grammar (List ℕ) B) (item : (preceding : List B) → Ahead (P preceding)) where
+  pub more_ahead : (headroom : ℕ) (preceding : List B) → Ahead (IsMore IsMark close P headroom preceding)
   unfolding IsMore
-  more_ahead zero front y a b new e h = absurd h
-  more_ahead (suc room) front y a b new e h = (h.0, h.1, item front h.0 a b h.1 e h.2, h.3)
+  more_ahead zero preceding y a b new e h = absurd h
+  more_ahead (suc headroom) preceding y a b new e h = (h.0, h.1, item preceding h.0 a b h.1 e h.2, h.3)
 
-  pub list_ahead : (room : ℕ) → Ahead (IsList IsMark close P room)
+  pub list_ahead : (headroom : ℕ) → Ahead (IsList IsMark close P headroom)
   unfolding IsList
-  list_ahead room y a b new e (inl h) = inl (sym e ∙ h.0, h.1)
-  list_ahead room y a b new e (inr h) = inr (not_ahead close a b e h.0, more_ahead room [] y a b new e h.1)
+  list_ahead headroom y a b new e (inl h) = inl (sym e ∙ h.0, h.1)
+  list_ahead headroom y a b new e (inr h) = inr (not_ahead close a b e h.0, more_ahead headroom [] y a b new e h.1)
 
 -- a leading space
 pub space : {B : Type 0} (P : Grammar (List ℕ) B) → Ahead P → (y : B) (old new : List ℕ) → P y old new → P y (32 ∷ old) new

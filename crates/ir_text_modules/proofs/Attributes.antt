@@ -53,9 +53,9 @@ symbol_ahead y a b new e h = (h.0, h.1, parts_ahead many [] h.0 a b h.1 e h.2, h
     part_ahead y a b new e (inl h) = inl (sym e ∙ h)
     part_ahead y a b new e (inr h) = inr (h.0, sym e ∙ h.1, h.2)
 
-    parts_ahead : (room : ℕ) (front : List (List ℕ)) → Ahead (IsParts room front)
-    parts_ahead zero front y a b new e h = absurd h
-    parts_ahead (suc room) front y a b new e h = (h.0, h.1, part_ahead h.0 a b h.1 e h.2, h.3)
+    parts_ahead : (headroom : ℕ) (preceding : List (List ℕ)) → Ahead (IsParts headroom preceding)
+    parts_ahead zero preceding y a b new e h = absurd h
+    parts_ahead (suc headroom) preceding y a b new e h = (h.0, h.1, part_ahead h.0 a b h.1 e h.2, h.3)
 
 word_attr_ahead : (o : Bool) (depth : ℕ) (w : Word) (rest : List ℕ) → Ahead (IsWordAttr o (suc depth) w rest)
 word_attr_ahead o depth (Truth k) rest y a b new e h = h
@@ -111,9 +111,9 @@ texts_of_attrs (next_attr a as') = ap (λ (l : List (List ℕ)). attr_text a ∷
 abbrev pub IsReadAgain : Bool → ℕ → Type 0
 IsReadAgain o depth = (a : AttrTerm) (rest : List ℕ) → FitsAttr o depth a → EndsAttr o rest → IsAttr o depth a (attr_text a ++ rest) rest
 
-attrs_fit : (o : Bool) (depth : ℕ) (front : List AttrTerm) (as' : AttrTerms) → attrs_depth as' ≤ depth → are_written o as' ≡ true → AllFit (λ before. FitsAttr o depth) front (attrs_list as')
-attrs_fit o depth front no_attrs le e = tt
-attrs_fit o depth front (next_attr a as') le e = let p = and_parts (is_written o a) (are_written o as') e in ((omega arith, p.0), attrs_fit o depth (front ++ a ∷ []) as' (omega arith) p.1)
+attrs_fit : (o : Bool) (depth : ℕ) (preceding : List AttrTerm) (as' : AttrTerms) → attrs_depth as' ≤ depth → are_written o as' ≡ true → AllFit (λ before. FitsAttr o depth) preceding (attrs_list as')
+attrs_fit o depth preceding no_attrs le e = tt
+attrs_fit o depth preceding (next_attr a as') le e = let p = and_parts (is_written o a) (are_written o as') e in ((omega arith, p.0), attrs_fit o depth (preceding ++ a ∷ []) as' (omega arith) p.1)
 
 array_fine : (as' : AttrTerms) → attr_depth (Array as') ≤ 32 → attr_fault (Array as') ≡ None
 array_fine as' le = let e : nat_le (attr_depth (Array as')) 32 ≡ true = grind (arith, nat_tests) in rw e refl
@@ -138,13 +138,13 @@ some_attr_depth o (Overflow nsw nuw) e = omega arith
 some_attr_depth o (OpaqueOf text None) e = omega arith
 some_attr_depth o (OpaqueOf text (Some ty)) e = some_depth o ty (and_parts (is_attr_text text (Some ty)) (is_written_type o ty) (and_parts o (is_attr_text text (Some ty) && is_written_type o ty) e).1).1
 
-entries_fit : (o : Bool) (depth : ℕ) (front : List EntryTerm) (es : EntryTerms) → AreBeforeFirst front (entries_list es) → rises key_before (entries_list es) ≡ true → entries_depth es ≤ depth → are_written_entries o es ≡ true → AllFit (FitsEntry o depth) front (entries_list es)
-entries_fit o depth front no_entries b r le e = tt
-entries_fit o depth front (next_entry key a es) b r le e =
+entries_fit : (o : Bool) (depth : ℕ) (preceding : List EntryTerm) (es : EntryTerms) → AreBeforeFirst preceding (entries_list es) → rises key_before (entries_list es) ≡ true → entries_depth es ≤ depth → are_written_entries o es ≡ true → AllFit (FitsEntry o depth) preceding (entries_list es)
+entries_fit o depth preceding no_entries b r le e = tt
+entries_fit o depth preceding (next_entry key a es) b r le e =
     let p = and_parts (are_bytes_test key && is_written o a) (are_written_entries o es) e in
     let q = and_parts (are_bytes_test key) (is_written o a) p.0 in
-    let n = next_before front (key, a) (entries_list es) b r in
-    ((no_key front key b, are_bytes key q.0, (omega arith, q.1)), entries_fit o depth (front ++ (key, a) ∷ []) es n.0 n.1 (omega arith) p.1)
+    let n = next_before preceding (key, a) (entries_list es) b r in
+    ((no_key preceding key b, are_bytes key q.0, (omega arith, q.1)), entries_fit o depth (preceding ++ (key, a) ∷ []) es n.0 n.1 (omega arith) p.1)
 
 unit_again : (depth : ℕ) (rest : List ℕ) → 1 ≤ depth → IsUnitValue depth Flag rest rest
 unit_again zero rest le = absurd (omega (arith, le))
@@ -153,9 +153,9 @@ unit_again (suc depth) rest le = (refl, refl, refl)
 module _ (o : Bool) (depth : ℕ) (item : IsReadAgain o depth) where
   attr_items : Items CloseSquare (λ before. IsAttr o depth) attr_text (λ before. FitsAttr o depth) (EndsAttr o)
   attr_items = record {
-    reads = λ front a rest fit s. item a rest fit s;
-    ahead = λ front. attr_ahead o depth;
-    lacks = λ front. attr_lacks o depth;
+    reads = λ preceding a rest fit s. item a rest fit s;
+    ahead = λ preceding. attr_ahead o depth;
+    lacks = λ preceding. attr_lacks o depth;
     comma = comma_ends o;
     closing = square_ends o;
     closes = λ rest. mark_token CloseSquare rest tt;
@@ -171,16 +171,16 @@ module _ (o : Bool) (depth : ℕ) (item : IsReadAgain o depth) where
       let apart : attr_text (Array as') ++ rest ≡ 91 ∷ (row ++ 93 ∷ rest) = ap (λ (l : List ℕ). 91 ∷ l) (append_assoc row (93 ∷ []) rest) in
       rw apart (mark OpenSquare, row ++ 93 ∷ rest, mark_token OpenSquare (row ++ 93 ∷ rest) tt, (attrs_list as', rest, rw (texts_of_attrs as') inside, (rw (attrs_again as') (array_fine as' (omega arith)), rw (attrs_again as') refl, refl)))
 
-  entry_read : (front : List EntryTerm) (e : EntryTerm) (rest : List ℕ) → FitsEntry o depth front e → EndsEntry o rest → IsEntry depth (IsAttr o depth) front e (text_of_entry e ++ rest) rest
-  entry_read front e rest fit s =
+  entry_read : (preceding : List EntryTerm) (e : EntryTerm) (rest : List ℕ) → FitsEntry o depth preceding e → EndsEntry o rest → IsEntry depth (IsAttr o depth) preceding e (text_of_entry e ++ rest) rest
+  entry_read preceding e rest fit s =
       let k = entry_parts o (IsAttr o depth) (IsUnitValue depth) (attr_ahead o depth) e.0 e.1 rest fit.1 s (item e.1 rest fit.2 s.2) (λ f. unit_again depth rest (omega (arith, some_attr_depth o e.1 fit.2.1, fit.2.0))) in
       (e.0, k.0, k.1, (fit.0, (e.1, rest, k.2, (refl, refl))))
 
   entry_items : Items CloseCurly (IsEntry depth (IsAttr o depth)) text_of_entry (FitsEntry o depth) (EndsEntry o)
   entry_items = record {
     reads = entry_read;
-    ahead = λ front. then_ahead IsKey _ key_ahead;
-    lacks = λ front y a new h. key_lacks CloseCurly h.0 a h.1 h.2;
+    ahead = λ preceding. then_ahead IsKey _ key_ahead;
+    lacks = λ preceding y a new h. key_lacks CloseCurly h.0 a h.1 h.2;
     comma = comma_entry o;
     closing = close_entry o;
     closes = λ rest. mark_token CloseCurly rest tt;

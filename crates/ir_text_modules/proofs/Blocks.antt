@@ -30,7 +30,7 @@ use Rattle.ir_text_modules.proofs.Texts.{Names, argument_names, arguments_names,
 use Rattle.ir_text_modules.proofs.ModuleWords.{argument_word}
 use Rattle.ir_text_modules.proofs.ModuleValues.{source_id}
 use Rattle.ir_text_modules.proofs.Joined.{Joined, joined_argument}
-use Rattle.ir_text_modules.proofs.Front.{argument_name}
+use Rattle.ir_text_modules.proofs.Preceding.{argument_name}
 
 -- ---- blanks
 
@@ -71,58 +71,58 @@ argument_read o id r before m t s c rest lt fit ends fresh e =
     let back = 58 ∷ 32 ∷ typed in
     let apart : argument_text m t ++ c ∷ rest ≡ 37 ∷ (argument_word m ++ back) = ap (λ (l : List ℕ). 37 ∷ 97 ∷ 114 ∷ 103 ∷ l) (append_assoc (decimal m) (58 ∷ 32 ∷ type_text t) (c ∷ rest)) in
     let name : Token (value (argument_word m)) s.bytes back = e ∙ ap next_token apart ∙ value_token (argument_word m) back (argument_name m lt) refl in
-    let type : IsType o 32 t (32 ∷ typed) (c ∷ rest) = space (IsType o 32) (type_ahead o 32) t typed (c ∷ rest) (spelled c ends) in
+    let type : IsType o 32 t (32 ∷ typed) (c ∷ rest) = space (IsType o 32) (type_ahead o 32) t typed (c ∷ rest) (rendered c ends) in
     (argument_word m, seen_rest s back, (back, name, refl), (seen_rest s (32 ∷ typed), mark_seen Colon (seen_rest s back) (32 ∷ typed) (mark_token Colon (32 ∷ typed) refl), (t, seen_rest s (c ∷ rest), (c ∷ rest, type, refl), (with_argument id r (length before) m t s.scopes, (fresh, refl), refl, refl))))
   where
-    spelled : (c : ℕ) → (c ≡ 44) ⊎ (c ≡ 41) → IsType o 32 t (type_text t ++ c ∷ rest) (c ∷ rest)
-    spelled c (inl k) = subst (λ (d : ℕ). IsType o 32 t (type_text t ++ d ∷ rest) (d ∷ rest)) (sym k) (type_again o 32 (omega arith) t (44 ∷ rest) fit.0 fit.1 (comma_ends o rest))
-    spelled c (inr k) = subst (λ (d : ℕ). IsType o 32 t (type_text t ++ d ∷ rest) (d ∷ rest)) (sym k) (type_again o 32 (omega arith) t (41 ∷ rest) fit.0 fit.1 (round_ends o rest))
+    rendered : (c : ℕ) → (c ≡ 44) ⊎ (c ≡ 41) → IsType o 32 t (type_text t ++ c ∷ rest) (c ∷ rest)
+    rendered c (inl k) = subst (λ (d : ℕ). IsType o 32 t (type_text t ++ d ∷ rest) (d ∷ rest)) (sym k) (type_again o 32 (omega arith) t (44 ∷ rest) fit.0 fit.1 (comma_ends o rest))
+    rendered c (inr k) = subst (λ (d : ℕ). IsType o 32 t (type_text t ++ d ∷ rest) (d ∷ rest)) (sym k) (type_again o 32 (omega arith) t (41 ∷ rest) fit.0 fit.1 (round_ends o rest))
 
 -- ---- arguments up to the closing parenthesis
 
 module _ (o : Bool) (f : ℕ → ℕ) (scope : List Frame) (x r : ℕ) (away : (v : Value) → in_scope scope v ≡ true → (source_id (source_of v) == x) ≡ false) where
   -- the state after the arguments from index k on
-  pub record ArgumentsRead (room : ℕ) (front : List TypeTerm) (t : TypeTerm) (ts : List TypeTerm) (n : Names) (s : Seen) (rest : List ℕ) : Type 0 where
+  pub record ArgumentsRead (headroom : ℕ) (preceding : List TypeTerm) (t : TypeTerm) (ts : List TypeTerm) (n : Names) (s : Seen) (rest : List ℕ) : Type 0 where
     pub scopes : Scopes PackTerm
-    pub reads : IsMore IsMarkSeen CloseRound (IsArg o (f x) r) room front (front ++ t ∷ ts) s (record { bytes = rest; scopes = scopes; next = s.next })
-    pub joined : Joined o f (scope ++ arguments x r (length front + length (t ∷ ts)) ∷ []) (arguments_names x r (length front) (t ∷ ts) n) scopes.here
+    pub reads : IsMore IsMarkSeen CloseRound (IsArg o (f x) r) headroom preceding (preceding ++ t ∷ ts) s (record { bytes = rest; scopes = scopes; next = s.next })
+    pub joined : Joined o f (scope ++ arguments x r (length preceding + length (t ∷ ts)) ∷ []) (arguments_names x r (length preceding) (t ∷ ts) n) scopes.here
     pub outer : scopes.outer ≡ s.scopes.outer
 
-  pub arguments_more : (room : ℕ) (front : List TypeTerm) (t : TypeTerm) (ts : List TypeTerm) (n : Names) (s : Seen) (rest : List ℕ) → Joined o f (scope ++ arguments x r (length front) ∷ []) n s.scopes.here → n.arguments + length (t ∷ ts) < 2 ^ 128 → AllByRecursion (FitsType o 32) (t ∷ ts) → length (t ∷ ts) ≤ room
-      → next_token s.bytes ≡ next_token (argument_text n.arguments t ++ arguments_then (length front + 1) ts (n.arguments + 1) (41 ∷ rest)) → ArgumentsRead room front t ts n s rest
+  pub arguments_more : (headroom : ℕ) (preceding : List TypeTerm) (t : TypeTerm) (ts : List TypeTerm) (n : Names) (s : Seen) (rest : List ℕ) → Joined o f (scope ++ arguments x r (length preceding) ∷ []) n s.scopes.here → n.arguments + length (t ∷ ts) < 2 ^ 128 → AllByRecursion (FitsType o 32) (t ∷ ts) → length (t ∷ ts) ≤ headroom
+      → next_token s.bytes ≡ next_token (argument_text n.arguments t ++ arguments_then (length preceding + 1) ts (n.arguments + 1) (41 ∷ rest)) → ArgumentsRead headroom preceding t ts n s rest
   unfolding IsMore
-  arguments_more zero front t ts n s rest j small fit le e = absurd (omega (arith, le))
-  arguments_more (suc room) front t [] n s rest j small fit le e =
-      let k = length front in
+  arguments_more zero preceding t ts n s rest j small fit le e = absurd (omega (arith, le))
+  arguments_more (suc headroom) preceding t [] n s rest j small fit le e =
+      let k = length preceding in
       let one : k + length (t ∷ []) ≡ k + 1 = omega arith in
       record {
         scopes = with_argument (f x) r k n.arguments t s.scopes;
-        reads = (t, after_argument (f x) r k n.arguments t s (41 ∷ rest), argument_read o (f x) r front n.arguments t s 41 rest (omega arith) fit.0 (inr refl) (j.fresh_arguments n.arguments (omega arith) (omega arith)) e, inl (mark_seen CloseRound (after_argument (f x) r k n.arguments t s (41 ∷ rest)) rest (mark_token CloseRound rest tt), refl));
+        reads = (t, after_argument (f x) r k n.arguments t s (41 ∷ rest), argument_read o (f x) r preceding n.arguments t s 41 rest (omega arith) fit.0 (inr refl) (j.fresh_arguments n.arguments (omega arith) (omega arith)) e, inl (mark_seen CloseRound (after_argument (f x) r k n.arguments t s (41 ∷ rest)) rest (mark_token CloseRound rest tt), refl));
         joined = subst (λ (i : ℕ). Joined o f (scope ++ arguments x r i ∷ []) (argument_names x r k t n) (with_argument (f x) r k n.arguments t s.scopes).here) (sym one) (joined_argument o f scope n s.scopes.here x r k t away j (omega arith) fit.0);
         outer = refl;
       }
-  arguments_more (suc room) front t (u ∷ us) n s rest j small fit le e =
-      let k = length front in
-      let front' = front ++ t ∷ [] in
-      let grown : length front' ≡ k + 1 = length-append front (t ∷ []) ∙ omega arith in
+  arguments_more (suc headroom) preceding t (u ∷ us) n s rest j small fit le e =
+      let k = length preceding in
+      let preceding' = preceding ++ t ∷ [] in
+      let grown : length preceding' ≡ k + 1 = length-append preceding (t ∷ []) ∙ omega arith in
       let no_first : (k + 1 == 0) ≡ false = grind (arith, nat_tests) in
       let trailing = argument_text (n.arguments + 1) u ++ arguments_then (k + 1 + 1) us (n.arguments + 1 + 1) (41 ∷ rest) in
       let comma : arguments_then (k + 1) (u ∷ us) (n.arguments + 1) (41 ∷ rest) ≡ 44 ∷ 32 ∷ trailing = rw no_first refl in
       let here = e ∙ ap (λ (l : List ℕ). next_token (argument_text n.arguments t ++ l)) comma in
       let mid = after_argument (f x) r k n.arguments t s (44 ∷ 32 ∷ trailing) in
       let after = seen_rest mid (32 ∷ trailing) in
-      let first = argument_read o (f x) r front n.arguments t s 44 (32 ∷ trailing) (omega arith) fit.0 (inl refl) (j.fresh_arguments n.arguments (omega arith) (omega arith)) here in
+      let first = argument_read o (f x) r preceding n.arguments t s 44 (32 ∷ trailing) (omega arith) fit.0 (inl refl) (j.fresh_arguments n.arguments (omega arith) (omega arith)) here in
       let names = argument_names x r k t n in
       let there = joined_argument o f scope n s.scopes.here x r k t away j (omega arith) fit.0 in
       let joined = subst (λ (i : ℕ). Joined o f (scope ++ arguments x r i ∷ []) names mid.scopes.here) (sym grown) there in
-      let text : next_token (32 ∷ trailing) ≡ next_token (argument_text names.arguments u ++ arguments_then (length front' + 1) us (names.arguments + 1) (41 ∷ rest)) = blank_passed 32 trailing refl ∙ ap (λ (i : ℕ). next_token (argument_text (n.arguments + 1) u ++ arguments_then (i + 1) us (n.arguments + 1 + 1) (41 ∷ rest))) (sym grown) in
-      let more = arguments_more room front' u us names after rest joined (omega (arith, small)) fit.1 (omega arith) text in
-      let all : front ++ t ∷ u ∷ us ≡ front' ++ u ∷ us = sym (append_assoc front (t ∷ []) (u ∷ us)) in
+      let text : next_token (32 ∷ trailing) ≡ next_token (argument_text names.arguments u ++ arguments_then (length preceding' + 1) us (names.arguments + 1) (41 ∷ rest)) = blank_passed 32 trailing refl ∙ ap (λ (i : ℕ). next_token (argument_text (n.arguments + 1) u ++ arguments_then (i + 1) us (n.arguments + 1 + 1) (41 ∷ rest))) (sym grown) in
+      let more = arguments_more headroom preceding' u us names after rest joined (omega (arith, small)) fit.1 (omega arith) text in
+      let all : preceding ++ t ∷ u ∷ us ≡ preceding' ++ u ∷ us = sym (append_assoc preceding (t ∷ []) (u ∷ us)) in
       let open_yet = not_seen CloseRound mid (lacks_token (mark Comma) CloseRound (44 ∷ 32 ∷ trailing) (32 ∷ trailing) (mark_token Comma (32 ∷ trailing) tt) (λ e. absurd cc)) in
-      let count : length front' + length (u ∷ us) ≡ k + length (t ∷ u ∷ us) = omega (arith, grown) in
+      let count : length preceding' + length (u ∷ us) ≡ k + length (t ∷ u ∷ us) = omega (arith, grown) in
       record {
         scopes = more.scopes;
-        reads = (t, mid, first, inr (open_yet, after, mark_seen Comma mid (32 ∷ trailing) (mark_token Comma (32 ∷ trailing) tt), subst (λ l. IsMore IsMarkSeen CloseRound (IsArg o (f x) r) room front' l after (record { bytes = rest; scopes = more.scopes; next = s.next })) (sym all) more.reads));
-        joined = subst (λ (i : ℕ). Joined o f (scope ++ arguments x r i ∷ []) (arguments_names x r k (t ∷ u ∷ us) n) more.scopes.here) count (subst (λ (i : ℕ). Joined o f (scope ++ arguments x r (length front' + length (u ∷ us)) ∷ []) (arguments_names x r i (u ∷ us) names) more.scopes.here) grown more.joined);
+        reads = (t, mid, first, inr (open_yet, after, mark_seen Comma mid (32 ∷ trailing) (mark_token Comma (32 ∷ trailing) tt), subst (λ l. IsMore IsMarkSeen CloseRound (IsArg o (f x) r) headroom preceding' l after (record { bytes = rest; scopes = more.scopes; next = s.next })) (sym all) more.reads));
+        joined = subst (λ (i : ℕ). Joined o f (scope ++ arguments x r i ∷ []) (arguments_names x r k (t ∷ u ∷ us) n) more.scopes.here) count (subst (λ (i : ℕ). Joined o f (scope ++ arguments x r (length preceding' + length (u ∷ us)) ∷ []) (arguments_names x r i (u ∷ us) names) more.scopes.here) grown more.joined);
         outer = more.outer;
       }

@@ -152,18 +152,18 @@ item_read elem z rest k v s = from (is_truth elem) refl
 
 dense_items : (elem : TypeTerm) → IsNamed elem → Items Greater (λ before. IsItem elem) (number_text (is_truth elem)) (FitsItem elem) EndsItem
 dense_items elem k = record {
-  reads = λ front z rest fit s. item_read elem z rest k fit s;
-  ahead = λ front. item_ahead elem;
-  lacks = λ front. item_lacks elem;
+  reads = λ preceding z rest fit s. item_read elem z rest k fit s;
+  ahead = λ preceding. item_ahead elem;
+  lacks = λ preceding. item_lacks elem;
   comma = λ rest. (refl, refl);
   closing = λ rest. (refl, refl);
   closes = λ rest. mark_token Greater rest tt;
   open_yet = λ rest. lacks_token (mark Comma) Greater (44 ∷ rest) rest (mark_token Comma rest tt) (λ e. absurd cc);
 }
 
-all_fit : (elem : TypeTerm) (front zs : List ℤ) → list_all (is_value_number elem) zs ≡ true → AllFit (FitsItem elem) front zs
-all_fit elem front [] e = tt
-all_fit elem front (z ∷ zs) e = let p = and_parts (is_value_number elem z) (list_all (is_value_number elem) zs) e in (p.0, all_fit elem (front ++ z ∷ []) zs p.1)
+all_fit : (elem : TypeTerm) (preceding zs : List ℤ) → list_all (is_value_number elem) zs ≡ true → AllFit (FitsItem elem) preceding zs
+all_fit elem preceding [] e = tt
+all_fit elem preceding (z ∷ zs) e = let p = and_parts (is_value_number elem z) (list_all (is_value_number elem) zs) e in (p.0, all_fit elem (preceding ++ z ∷ []) zs p.1)
 
 items_read : (elem : TypeTerm) (zs : List ℤ) (rest : List ℕ) → IsNamed elem → list_all (is_value_number elem) zs ≡ true → length zs ≤ many → IsItems elem zs (items_text (is_truth elem) zs ++ 62 ∷ rest) rest
 items_read elem [] rest k v le = inr (lacks_token (mark Greater) Colon (62 ∷ rest) rest (mark_token Greater rest tt) (λ e. absurd cc), (rest, mark_token Greater rest tt, (refl, refl)))
@@ -173,7 +173,7 @@ items_read elem (z ∷ zs) rest k v le =
     let P = IsMore IsMark Greater (λ (before : List ℤ). IsItem elem) many [] in
     let more = more_again Greater (λ before. IsItem elem) text (FitsItem elem) EndsItem (dense_items elem k) many [] z zs rest (all_fit elem [] (z ∷ zs) v) le in
     let apart : items_text (is_truth elem) (z ∷ zs) ++ 62 ∷ rest ≡ 58 ∷ 32 ∷ inside = ap (λ (l : List ℕ). 58 ∷ 32 ∷ l) (append_assoc (text z) (parted (codes ", ") false (map text zs)) (62 ∷ rest)) in
-    rw apart (inl (32 ∷ inside, mark_token Colon (32 ∷ inside) refl, space P (more_ahead Greater (λ before. IsItem elem) (λ front. item_ahead elem) many []) (z ∷ zs) inside rest more))
+    rw apart (inl (32 ∷ inside, mark_token Colon (32 ∷ inside) refl, space P (more_ahead Greater (λ before. IsItem elem) (λ preceding. item_ahead elem) many []) (z ∷ zs) inside rest more))
 
 ends_word : (elem : TypeTerm) (zs : List ℤ) (rest : List ℕ) → Stops is_word (items_text (is_truth elem) zs ++ 62 ∷ rest)
 ends_word elem [] rest = refl

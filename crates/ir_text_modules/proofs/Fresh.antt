@@ -23,27 +23,27 @@ use Rattle.ir_text_modules.proofs.Small.{are_bytes}
 use Rattle.ir_text_modules.specs.Runs.{Runs}
 use Rattle.ir_text_modules.proofs.Fitting.{FitsHead}
 use Rattle.ir_text_modules.proofs.Texts.{Head, Names, results_names, results_then, name_then}
-use Rattle.ir_text_modules.proofs.ModuleValues.{Away, all_front}
+use Rattle.ir_text_modules.proofs.ModuleValues.{Away, all_preceding}
 use Rattle.ir_text_modules.proofs.Grown.{Grown}
 use Rattle.ir_text_modules.proofs.Joined.{Here, IsSeen, Joined, OwnNames, joined_nothing, joined_no_results, joined_results}
-use Rattle.ir_text_modules.proofs.Front.{result_read}
+use Rattle.ir_text_modules.proofs.Preceding.{result_read}
 use Rattle.ir_text_modules.proofs.Labels.{Plain}
 use Rattle.ir_text_modules.proofs.Tails.{finished}
 
 -- ---- ids
 
-runs_front : (f : ℕ → ℕ) (next : ℕ) (xs ys : List ℕ) → Runs f next (xs ++ ys) → Runs f next xs
-runs_front f next [] ys h = tt
-runs_front f next (x ∷ xs) ys h = (h.0, runs_front f (next + 1) xs ys h.1)
+runs_preceding : (f : ℕ → ℕ) (next : ℕ) (xs ys : List ℕ) → Runs f next (xs ++ ys) → Runs f next xs
+runs_preceding f next [] ys h = tt
+runs_preceding f next (x ∷ xs) ys h = (h.0, runs_preceding f (next + 1) xs ys h.1)
 
 runs_back : (f : ℕ → ℕ) (next : ℕ) (xs ys : List ℕ) → Runs f next (xs ++ ys) → Runs f (next + length xs) ys
 runs_back f next [] ys h = let e : next ≡ next + 0 = omega arith in subst (λ (i : ℕ). Runs f i ys) e h
 runs_back f next (x ∷ xs) ys h = let e : next + 1 + length xs ≡ next + length (x ∷ xs) = omega arith in subst (λ (i : ℕ). Runs f i ys) e (runs_back f (next + 1) xs ys h.1)
 
-distinct_front : (xs ys : List ℕ) → IsDistinct eqb (xs ++ ys) → IsDistinct eqb xs
+distinct_preceding : (xs ys : List ℕ) → IsDistinct eqb (xs ++ ys) → IsDistinct eqb xs
 unfolding IsDistinct
-distinct_front [] ys h = tt
-distinct_front (x ∷ xs) ys h = (all_front (λ y. eqb x y ≡ false) xs ys h.0, distinct_front xs ys h.1)
+distinct_preceding [] ys h = tt
+distinct_preceding (x ∷ xs) ys h = (all_preceding (λ y. eqb x y ≡ false) xs ys h.0, distinct_preceding xs ys h.1)
 
 distinct_back : (xs ys : List ℕ) → IsDistinct eqb (xs ++ ys) → IsDistinct eqb ys
 unfolding IsDistinct
@@ -63,13 +63,13 @@ pub record Fresh (f : ℕ → ℕ) (last : ℕ) (scope : List Frame) (n : Names)
   pub few_results : n.results + length xs < 2 ^ 128
   pub few_arguments : n.arguments + extra + 4096 * length xs < 2 ^ 128
 
-pub fresh_front : (f : ℕ → ℕ) (last : ℕ) (scope : List Frame) (n : Names) (next extra less : ℕ) (xs ys : List ℕ) → Fresh f last scope n next extra (xs ++ ys) → less ≤ extra → Fresh f last scope n next less xs
-fresh_front f last scope n next extra less xs ys h le =
+pub fresh_preceding : (f : ℕ → ℕ) (last : ℕ) (scope : List Frame) (n : Names) (next extra less : ℕ) (xs ys : List ℕ) → Fresh f last scope n next extra (xs ++ ys) → less ≤ extra → Fresh f last scope n next less xs
+fresh_preceding f last scope n next extra less xs ys h le =
     let count = length-append xs ys in
     record {
-      runs = runs_front f next xs ys h.runs;
-      distinct = distinct_front xs ys h.distinct;
-      away = λ v e. all_front _ xs ys (h.away v e);
+      runs = runs_preceding f next xs ys h.runs;
+      distinct = distinct_preceding xs ys h.distinct;
+      away = λ v e. all_preceding _ xs ys (h.away v e);
       below = omega (arith, h.below, count);
       few_results = omega (arith, h.few_results, count);
       few_arguments = omega (arith, h.few_arguments, count, le);
@@ -139,20 +139,20 @@ unfolding IsOp
 op_from o last depth y old new lt h = (lt, h)
 
 module _ (P : Grammar Seen Operation) where
-  pub ops_close : (room : ℕ) (front : List Operation) (old new : Seen) → 0 < room → IsMarkSeen CloseCurly old new → IsOps CloseCurly P room front front old new
+  pub ops_close : (headroom : ℕ) (preceding : List Operation) (old new : Seen) → 0 < headroom → IsMarkSeen CloseCurly old new → IsOps CloseCurly P headroom preceding preceding old new
   unfolding IsOps
-  ops_close zero front old new lt h = absurd (omega (arith, lt))
-  ops_close (suc room) front old new lt h = inl (h, refl)
+  ops_close zero preceding old new lt h = absurd (omega (arith, lt))
+  ops_close (suc headroom) preceding old new lt h = inl (h, refl)
 
-  pub ops_one : (room : ℕ) (front ys : List Operation) (y : Operation) (old mid new : Seen) → Not IsMarkSeen CloseCurly old → P y old mid → IsOps CloseCurly P room (front ++ y ∷ []) ys mid new → IsOps CloseCurly P (suc room) front ys old new
+  pub ops_one : (headroom : ℕ) (preceding ys : List Operation) (y : Operation) (old mid new : Seen) → Not IsMarkSeen CloseCurly old → P y old mid → IsOps CloseCurly P headroom (preceding ++ y ∷ []) ys mid new → IsOps CloseCurly P (suc headroom) preceding ys old new
   unfolding IsOps
-  ops_one room front ys y old mid new lacks h more = inr (lacks, y, mid, h, more)
+  ops_one headroom preceding ys y old mid new lacks h more = inr (lacks, y, mid, h, more)
 
 module _ {B : Type 0} (P : List B → Grammar Seen B) where
-  pub more_last : (room : ℕ) (front : List B) (y : B) (old mid new : Seen) → P front y old mid → IsMarkSeen CloseRound mid new → IsMore IsMarkSeen CloseRound P (suc room) front (front ++ y ∷ []) old new
+  pub more_last : (headroom : ℕ) (preceding : List B) (y : B) (old mid new : Seen) → P preceding y old mid → IsMarkSeen CloseRound mid new → IsMore IsMarkSeen CloseRound P (suc headroom) preceding (preceding ++ y ∷ []) old new
   unfolding IsMore
-  more_last room front y old mid new h k = (y, mid, h, inl (k, refl))
+  more_last headroom preceding y old mid new h k = (y, mid, h, inl (k, refl))
 
-  pub more_one : (room : ℕ) (front ys : List B) (y : B) (old mid next new : Seen) → P front y old mid → Not IsMarkSeen CloseRound mid → IsMarkSeen Comma mid next → IsMore IsMarkSeen CloseRound P room (front ++ y ∷ []) ys next new → IsMore IsMarkSeen CloseRound P (suc room) front ys old new
+  pub more_one : (headroom : ℕ) (preceding ys : List B) (y : B) (old mid next new : Seen) → P preceding y old mid → Not IsMarkSeen CloseRound mid → IsMarkSeen Comma mid next → IsMore IsMarkSeen CloseRound P headroom (preceding ++ y ∷ []) ys next new → IsMore IsMarkSeen CloseRound P (suc headroom) preceding ys old new
   unfolding IsMore
-  more_one room front ys y old mid next new h lacks comma more = (y, mid, h, inr (lacks, next, comma, more))
+  more_one headroom preceding ys y old mid next new h lacks comma more = (y, mid, h, inr (lacks, next, comma, more))

@@ -14,7 +14,7 @@ use Rattle.ir_text_tokens.proofs.Blanks.{skip_nothing}
 use Rattle.ir_text_tokens.proofs.Printed.{bare_token, name_again}
 use Rattle.ir_text_tokens.proofs.Wholes.{next_whole}
 use Rattle.ir_text_tokens.specs.Bodies.{begins, body_at, has_dot, is_none, is_plain_body, is_plain_memref, parted, scan}
-use Rattle.ir_text_tokens.proofs.Again.{reads_again, shorter, stands_at_the_front}
+use Rattle.ir_text_tokens.proofs.Again.{reads_again, shorter, stands_at_the_start}
 use Rattle.ir_text_types.specs.Grammars.{Grammar, Token}
 use Rattle.ir_text_types.specs.OpaqueTypes.{is_alone, is_angled, is_opaque_word, with_body, bracketed, word_text, dialect_text}
 use Rattle.ir_text_types.specs.Scalars.{memref_word}
@@ -32,15 +32,15 @@ pub inside : (x b r : List ℕ) → body_at (60 ∷ x) ≡ Some (b, r) → Insid
 inside x b r e = by_scan (scan (62 ∷ []) 0 x) refl e
   where
     from : (b r q : List ℕ) → scan (62 ∷ []) 0 x ≡ Ok q → q ≡ r → 60 ∷ x ≡ b ++ r → Inside x b r
-    from [] r q m p front = absurd (omega (arith, shorter 62 [] 0 x q m, ap length p, ap length front))
-    from (d ∷ w) r q m p front =
-        let head : 60 ≡ d = cc front in
-        let tail : x ≡ w ++ r = cc front in
+    from [] r q m p preceding = absurd (omega (arith, shorter 62 [] 0 x q m, ap length p, ap length preceding))
+    from (d ∷ w) r q m p preceding =
+        let head : 60 ≡ d = cc preceding in
+        let tail : x ≡ w ++ r = cc preceding in
         (w, ap (λ c. c ∷ w) (sym head), tail, ap (scan (62 ∷ []) 0) (sym tail) ∙ m ∙ ap Ok p)
 
     by_scan : (s : Result (List ℕ) Fault) → scan (62 ∷ []) 0 x ≡ s → parted (60 ∷ x) s ≡ Some (b, r) → Inside x b r
     by_scan (Err f) m k = absurd cc
-    by_scan (Ok q) m k = from b r q m (some_pair_parts (take (length (60 ∷ x) - length q) (60 ∷ x)) b q r k).1 (stands_at_the_front (60 ∷ x) b r e)
+    by_scan (Ok q) m k = from b r q m (some_pair_parts (take (length (60 ∷ x) - length q) (60 ∷ x)) b q r k).1 (stands_at_the_start (60 ∷ x) b r e)
 
 first : (l : List ℕ) → begins 60 l ≡ true → (x : List ℕ) × (l ≡ 60 ∷ x)
 first [] e = absurd cc
@@ -56,26 +56,26 @@ body_found v rest b = reads_again (60 ∷ v ++ []) (60 ∷ v) [] rest b.0
 
 -- the text before the body, and the body that is found
 abbrev joined : List ℕ → Option (List ℕ × List ℕ) → Option (List ℕ × List ℕ)
-joined front o = option_map (λ (b : List ℕ × List ℕ). (front ++ b.0, b.1)) o
+joined preceding o = option_map (λ (b : List ℕ × List ℕ). (preceding ++ b.0, b.1)) o
 
 -- a text of `front` and a body, with the rest of the text
 abbrev Bodied : List ℕ → List ℕ → List ℕ → List ℕ → Type 0
-Bodied front q text r = (v : List ℕ) × (text ≡ front ++ 60 ∷ v) × (q ≡ 60 ∷ v ++ r) × (scan (62 ∷ []) 0 (v ++ r) ≡ Ok r) × IsBody v
+Bodied preceding q text r = (v : List ℕ) × (text ≡ preceding ++ 60 ∷ v) × (q ≡ 60 ∷ v ++ r) × (scan (62 ∷ []) 0 (v ++ r) ≡ Ok r) × IsBody v
 
-bodied : (front q text r : List ℕ) → begins 60 q ≡ true → with_body front q ≡ Some (text, r) → Bodied front q text r
-bodied front q text r h e = by (body_at q) refl e
+bodied : (preceding q text r : List ℕ) → begins 60 q ≡ true → with_body preceding q ≡ Some (text, r) → Bodied preceding q text r
+bodied preceding q text r h e = by (body_at q) refl e
   where
-    made : (b x : List ℕ) → q ≡ 60 ∷ x → body_at (60 ∷ x) ≡ Some (b, r) → front ++ b ≡ text → Bodied front q text r
+    made : (b x : List ℕ) → q ≡ 60 ∷ x → body_at (60 ∷ x) ≡ Some (b, r) → preceding ++ b ≡ text → Bodied preceding q text r
     made b x is m k =
         let i = inside x b r m in
         let alone : body_at (60 ∷ i.0 ++ []) ≡ Some (60 ∷ i.0, []) = ap (λ l. body_at (l ++ [])) (sym i.1) ∙ reads_again (60 ∷ x) b r [] m ∙ ap (λ l. Some (l, [])) i.1 in
         let within = inside (i.0 ++ []) (60 ∷ i.0) [] alone in
-        (i.0, sym k ∙ ap (λ l. front ++ l) i.1, is ∙ ap (λ l. 60 ∷ l) i.2, i.3, (alone, ap (scan (62 ∷ []) 0) within.2 ∙ within.3))
+        (i.0, sym k ∙ ap (λ l. preceding ++ l) i.1, is ∙ ap (λ l. 60 ∷ l) i.2, i.3, (alone, ap (scan (62 ∷ []) 0) within.2 ∙ within.3))
 
-    by : (o : Option (List ℕ × List ℕ)) → body_at q ≡ o → joined front o ≡ Some (text, r) → Bodied front q text r
+    by : (o : Option (List ℕ × List ℕ)) → body_at q ≡ o → joined preceding o ≡ Some (text, r) → Bodied preceding q text r
     by None m k = absurd cc
     by (Some b) m k =
-        let p = some_pair_parts (front ++ b.0) text b.1 r k in
+        let p = some_pair_parts (preceding ++ b.0) text b.1 r k in
         let x = first q h in
         made b.0 x.0 x.1 (ap body_at (sym x.1) ∙ m ∙ ap (λ u. Some (b.0, u)) p.1) p.0
 

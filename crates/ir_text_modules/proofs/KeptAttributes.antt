@@ -17,7 +17,7 @@ use Rattle.ir_text_tokens.proofs.Blanks.{skip_nothing}
 use Rattle.ir_text_tokens.proofs.Printed.{bare_token, hash_token, mark_token}
 use Rattle.ir_text_tokens.proofs.Wholes.{next_whole}
 use Rattle.ir_text_tokens.specs.Bodies.{begins, body_at, has_dot, scan}
-use Rattle.ir_text_tokens.proofs.Again.{reads_again, stands_at_the_front}
+use Rattle.ir_text_tokens.proofs.Again.{reads_again, stands_at_the_start}
 use Rattle.ir_text_tokens.specs.Numbers.{integer_of, below_limit}
 use Rattle.ir_text_types.specs.Grammars.{Not, IsMark}
 use Rattle.ir_text_types.specs.Marks.{after}
@@ -113,32 +113,32 @@ abbrev AnyBody : ℕ → List ℕ → Type 0
 AnyBody b v = (begins b v ≡ true) × ((rest : List ℕ) → body_at (v ++ rest) ≡ Some (v, rest))
 
 abbrev joined : List ℕ → Option (List ℕ × List ℕ) → Option (List ℕ × List ℕ)
-joined front o = option_map (λ (b : List ℕ × List ℕ). (front ++ b.0, b.1)) o
+joined preceding o = option_map (λ (b : List ℕ × List ℕ). (preceding ++ b.0, b.1)) o
 
 nothing_is : (v : List ℕ) → body_at [] ≡ Some (v, []) → ⊥
 nothing_is v e = absurd cc
 
-begins_front : (b : ℕ) (v r : List ℕ) → ((rest : List ℕ) → body_at (v ++ rest) ≡ Some (v, rest)) → begins b (v ++ r) ≡ true → begins b v ≡ true
-begins_front b [] r h e = absurd (nothing_is [] (h []))
-begins_front b (c ∷ cs) r h e = e
+begins_preceding : (b : ℕ) (v r : List ℕ) → ((rest : List ℕ) → body_at (v ++ rest) ≡ Some (v, rest)) → begins b (v ++ r) ≡ true → begins b v ≡ true
+begins_preceding b [] r h e = absurd (nothing_is [] (h []))
+begins_preceding b (c ∷ cs) r h e = e
 
 abbrev Bodied : ℕ → List ℕ → List ℕ → List ℕ → List ℕ → Type 0
-Bodied b front q text r = (v : List ℕ) × (text ≡ front ++ v) × (q ≡ v ++ r) × AnyBody b v
+Bodied b preceding q text r = (v : List ℕ) × (text ≡ preceding ++ v) × (q ≡ v ++ r) × AnyBody b v
 
-bodied : (b : ℕ) (front q text r : List ℕ) → bracketed b front q ≡ Some (text, r) → Bodied b front q text r
-bodied b front q text r e = by (begins b q) refl e
+bodied : (b : ℕ) (preceding q text r : List ℕ) → bracketed b preceding q ≡ Some (text, r) → Bodied b preceding q text r
+bodied b preceding q text r e = by (begins b q) refl e
   where
-    found : begins b q ≡ true → (v s : List ℕ) → body_at q ≡ Some (v, s) → front ++ v ≡ text → s ≡ r → Bodied b front q text r
+    found : begins b q ≡ true → (v s : List ℕ) → body_at q ≡ Some (v, s) → preceding ++ v ≡ text → s ≡ r → Bodied b preceding q text r
     found h v s m k p =
-        let is : q ≡ v ++ r = stands_at_the_front q v s m ∙ ap (λ l. v ++ l) p in
+        let is : q ≡ v ++ r = stands_at_the_start q v s m ∙ ap (λ l. v ++ l) p in
         let all = λ (rest : List ℕ). reads_again q v s rest m in
-        (v, sym k, is, (begins_front b v r all (ap (begins b) (sym is) ∙ h), all))
+        (v, sym k, is, (begins_preceding b v r all (ap (begins b) (sym is) ∙ h), all))
 
-    by_body : begins b q ≡ true → (o : Option (List ℕ × List ℕ)) → body_at q ≡ o → joined front o ≡ Some (text, r) → Bodied b front q text r
+    by_body : begins b q ≡ true → (o : Option (List ℕ × List ℕ)) → body_at q ≡ o → joined preceding o ≡ Some (text, r) → Bodied b preceding q text r
     by_body h None m k = absurd cc
-    by_body h (Some x) m k = let p = some_pair_parts (front ++ x.0) text x.1 r k in found h x.0 x.1 m p.0 p.1
+    by_body h (Some x) m k = let p = some_pair_parts (preceding ++ x.0) text x.1 r k in found h x.0 x.1 m p.0 p.1
 
-    by : (t : Bool) → begins b q ≡ t → (if t then with_body front q else None) ≡ Some (text, r) → Bodied b front q text r
+    by : (t : Bool) → begins b q ≡ t → (if t then with_body preceding q else None) ≡ Some (text, r) → Bodied b preceding q text r
     by false h k = absurd cc
     by true h k = by_body h (body_at q) refl k
 
@@ -160,8 +160,8 @@ begins_there : (b : ℕ) (v rest : List ℕ) → begins b v ≡ true → begins 
 begins_there b [] rest e = absurd cc
 begins_there b (c ∷ cs) rest e = e
 
-bracketed_again : (b : ℕ) (front v rest : List ℕ) → AnyBody b v → bracketed b front (v ++ rest) ≡ Some (front ++ v, rest)
-bracketed_again b front v rest a = rw (begins_there b v rest a.0) (ap (joined front) (a.1 rest))
+bracketed_again : (b : ℕ) (preceding v rest : List ℕ) → AnyBody b v → bracketed b preceding (v ++ rest) ≡ Some (preceding ++ v, rest)
+bracketed_again b preceding v rest a = rw (begins_there b v rest a.0) (ap (joined preceding) (a.1 rest))
 
 round : IsBracket 40
 round = record { slash = refl; blank = refl; word = refl }
@@ -188,7 +188,7 @@ single b w q text back i same e =
 
 -- a body in square brackets, and an optional one in angle brackets
 abbrev angled : List ℕ → List ℕ → Option (List ℕ × List ℕ)
-angled front rest = with_angles (front, rest)
+angled preceding rest = with_angles (preceding, rest)
 
 double : (w q text back : List ℕ) → ((z : List ℕ) → kept_text w z ≡ option_and_then with_angles (bracketed 91 w (skip z))) → Follows back → option_and_then with_angles (bracketed 91 w (skip q)) ≡ Some (text, []) → WordAgain w text back
 double w q text back same s e = by (bracketed 91 w (skip q)) refl e

@@ -71,9 +71,9 @@ again bs raw back (Some n) k e =
     let p = some_pair_parts (string (take n bs)) (string raw) (drop (n + 1) bs) [] e in
     let within : suc n ≤ length bs = let w : string_len (closing bs) ≤ length bs = string_within bs in rw k at w in
     let found : closing (bs ++ back) ≡ Some n = closing_again bs [] back n (ap closing (append_nil bs) ∙ k) (omega (arith, within)) in
-    let front : take n (bs ++ back) ≡ raw = take-append-le n bs back (omega (arith, within)) ∙ ap raw_of p.0 in
+    let preceding : take n (bs ++ back) ≡ raw = take-append-le n bs back (omega (arith, within)) ∙ ap raw_of p.0 in
     let left : drop (n + 1) (bs ++ back) ≡ back = drop-append-le (n + 1) bs back (omega (arith, within)) ∙ ap (λ l. l ++ back) p.1 in
-    ap (λ o. named (parts (bs ++ back) o)) found ∙ (λ i. Some (string (front i), left i))
+    ap (λ o. named (parts (bs ++ back) o)) found ∙ (λ i. Some (string (preceding i), left i))
   where
     append_nil : (l : List ℕ) → l ++ [] ≡ l
     append_nil [] = refl

@@ -41,12 +41,12 @@ rises_next e f es h = and_parts (key_before e.0 f.0) (rises_after key_before f.0
 
 -- every key of the first list is less than the first key of the second
 abbrev pub AreBeforeFirst : List (List ℕ × AttrTerm) → List (List ℕ × AttrTerm) → Type 0
-AreBeforeFirst front [] = Unit {0}
-AreBeforeFirst front (e ∷ es) = AreBefore front e.0
+AreBeforeFirst preceding [] = Unit {0}
+AreBeforeFirst preceding (e ∷ es) = AreBefore preceding e.0
 
-pub next_before : (front : List (List ℕ × AttrTerm)) (e : List ℕ × AttrTerm) (es : List (List ℕ × AttrTerm)) → AreBefore front e.0 → rises key_before (e ∷ es) ≡ true → AreBeforeFirst (front ++ e ∷ []) es × (rises key_before es ≡ true)
-next_before front e [] b r = (tt, refl)
-next_before front e (f ∷ es) b r = let p = rises_next e f es r in (still_before front e.0 f.0 e.1 b p.0, p.1)
+pub next_before : (preceding : List (List ℕ × AttrTerm)) (e : List ℕ × AttrTerm) (es : List (List ℕ × AttrTerm)) → AreBefore preceding e.0 → rises key_before (e ∷ es) ≡ true → AreBeforeFirst (preceding ++ e ∷ []) es × (rises key_before es ≡ true)
+next_before preceding e [] b r = (tt, refl)
+next_before preceding e (f ∷ es) b r = let p = rises_next e f es r in (still_before preceding e.0 f.0 e.1 b p.0, p.1)
 
 pub no_key : (es : List EntryTerm) (k : List ℕ) → AreBefore es k → has_key bytes_eq k es ≡ false
 no_key [] k h = refl

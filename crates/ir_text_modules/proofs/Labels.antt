@@ -27,7 +27,7 @@ use Rattle.ir_text_modules.proofs.Texts.{Names, Ops, arguments_names, arguments_
 use Rattle.ir_text_modules.proofs.ModuleWords.{argument_word}
 use Rattle.ir_text_modules.proofs.ModuleValues.{source_id}
 use Rattle.ir_text_modules.proofs.Joined.{Here, Joined, in_last}
-use Rattle.ir_text_modules.proofs.Front.{argument_name}
+use Rattle.ir_text_modules.proofs.Preceding.{argument_name}
 use Rattle.ir_text_modules.proofs.Blocks.{AreBlank, blanks_passed, mark_seen, not_seen, arguments_more}
 use Rattle.std.proofs.lemmas.Bool.{and_parts}
 
@@ -70,14 +70,14 @@ block_word = codes "bb0"
 
 module _ (o : Bool) (f : ℕ → ℕ) (scope : List Frame) (x r : ℕ) (away : (v : Value) → in_scope scope v ≡ true → (source_id (source_of v) == x) ≡ false) where
   pub record LabelRead (args : List TypeTerm) (os : Ops) (n : Names) (s : Seen) (rest : List ℕ) : Type 0 where
-    pub front : Option (List TypeTerm)
+    pub preceding : Option (List TypeTerm)
     pub now : Seen
-    pub reads : IsHead o (f x) r front s now
+    pub reads : IsHead o (f x) r preceding s now
     pub text : next_token now.bytes ≡ next_token rest
     pub joined : Joined o f (scope ++ arguments x r (length args) ∷ []) (arguments_names x r 0 args n) now.scopes.here
     pub outer : now.scopes.outer ≡ s.scopes.outer
     pub same : now.next ≡ s.next
-    pub made : region_of front (op_list (ops_with_ids f os)) ≡ block args (ops_with_ids f os)
+    pub made : region_of preceding (op_list (ops_with_ids f os)) ≡ block args (ops_with_ids f os)
 
   pub label_again : (margin : List ℕ) (args : List TypeTerm) (os : Ops) (n : Names) (s : Seen) (rest : List ℕ) → AreBlank margin → Joined o f scope n s.scopes.here → n.arguments + length args < 2 ^ 128 → AllByRecursion (FitsType o 32) args → length args ≤ 256
       → next_token s.bytes ≡ next_token (label_then margin args os n rest) → PlainFirst o os rest → LabelRead args os n s rest
@@ -88,7 +88,7 @@ module _ (o : Bool) (f : ℕ → ℕ) (scope : List Frame) (x r : ℕ) (away : (
       let colon = mark_token Colon (10 ∷ rest) refl in
       let lacks = not_seen OpenRound trailing (lacks_token (mark Colon) OpenRound (58 ∷ 10 ∷ rest) (10 ∷ rest) colon (λ k. absurd cc)) in
       record {
-        front = Some [];
+        preceding = Some [];
         now = seen_rest s (10 ∷ rest);
         reads = (label block_word, 58 ∷ 10 ∷ rest, first, ([], ([], trailing, inr (lacks, (refl, refl)), (seen_rest s (10 ∷ rest), mark_seen Colon trailing (10 ∷ rest) colon, (refl, refl))), refl));
         text = blank_passed 10 rest refl;
@@ -98,7 +98,7 @@ module _ (o : Bool) (f : ℕ → ℕ) (scope : List Frame) (x r : ℕ) (away : (
         made = refl;
       }
   label_again margin [] (next t ts) n s rest blank j small fit few e plain = record {
-    front = None;
+    preceding = None;
     now = s;
     reads = (plain.lexeme, plain.trailing, e ∙ plain.token, plain.no_label (f x) r s);
     text = e;
@@ -118,7 +118,7 @@ module _ (o : Bool) (f : ℕ → ℕ) (scope : List Frame) (x r : ℕ) (away : (
       let lacks = not_seen CloseRound opened (argument_begins n.arguments t (arguments_then (0 + 1) ts (n.arguments + 1) last) (omega (arith, small))) in
       let count : 0 + length (t ∷ ts) ≡ length (t ∷ ts) = omega arith in
       record {
-        front = Some (t ∷ ts);
+        preceding = Some (t ∷ ts);
         now = seen_rest done (10 ∷ rest);
         reads = (label block_word, 40 ∷ inside, first, (t ∷ ts, (t ∷ ts, done, inl (opened, mark_seen OpenRound trailing inside (mark_token OpenRound inside tt), inr (lacks, more.reads)), (seen_rest done (10 ∷ rest), mark_seen Colon done (10 ∷ rest) (mark_token Colon (10 ∷ rest) refl), (refl, refl))), refl));
         text = blank_passed 10 rest refl;

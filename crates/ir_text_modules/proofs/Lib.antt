@@ -31,7 +31,7 @@ pub mod Texts
 pub mod ModuleWords
 pub mod ModuleValues
 pub mod Joined
-pub mod Front
+pub mod Preceding
 pub mod Blocks
 pub mod Fitting
 pub mod Grown
@@ -50,3 +50,9 @@ pub mod Encoded
 pub mod Modules
 pub mod OneTree
 pub mod AsItComes
+pub mod Parts
+pub mod Defining
+pub mod Ending
+pub mod Stays
+pub mod Standing
+pub mod Keeping

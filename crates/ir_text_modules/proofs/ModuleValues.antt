@@ -87,9 +87,9 @@ abbrev pub Away : Source → List ℕ → Type 0
 Away s xs = AllByRecursion (λ y. (source_id s == y) ≡ false) xs
 
 module _ {X : Type 0} (P : X → Type 0) where
-  pub all_front : (xs ys : List X) → AllByRecursion P (xs ++ ys) → AllByRecursion P xs
-  all_front [] ys h = tt
-  all_front (x ∷ xs) ys h = (h.0, all_front xs ys h.1)
+  pub all_preceding : (xs ys : List X) → AllByRecursion P (xs ++ ys) → AllByRecursion P xs
+  all_preceding [] ys h = tt
+  all_preceding (x ∷ xs) ys h = (h.0, all_preceding xs ys h.1)
 
   pub all_back : (xs ys : List X) → AllByRecursion P (xs ++ ys) → AllByRecursion P ys
   all_back [] ys h = h
@@ -123,7 +123,7 @@ mutual
   regions_keep s x r no_regions n none away = refl
   regions_keep s x r (region g rs) n none away =
       regions_keep s x (r + 1) rs (region_names x r g n) none (all_back _ (region_ids g) (regions_ids rs) away)
-      ∙ region_keeps s x r g n none (all_front _ (region_ids g) (regions_ids rs) away)
+      ∙ region_keeps s x r g n none (all_preceding _ (region_ids g) (regions_ids rs) away)
 
   pub region_keeps : (s : Source) (x r : ℕ) (g : Region) (n : Names) → NoArgument s x → Away s (region_ids g) → found (region_names x r g n).named s ≡ found n.named s
   region_keeps s x r empty n none away = refl
@@ -131,7 +131,7 @@ mutual
 
   pub ops_keep : (s : Source) (os : Ops) (n : Names) → Away s (ops_ids os) → found (ops_names os n).named s ≡ found n.named s
   ops_keep s no_ops n away = refl
-  ops_keep s (next t ts) n away = ops_keep s ts (op_names t n) (all_back _ (ids t) (ops_ids ts) away) ∙ op_keeps s t n (all_front _ (ids t) (ops_ids ts) away)
+  ops_keep s (next t ts) n away = ops_keep s ts (op_names t n) (all_back _ (ids t) (ops_ids ts) away) ∙ op_keeps s t n (all_preceding _ (ids t) (ops_ids ts) away)
 
 -- the results of an operation after its regions
 pub own_results : (h_id r : ℕ) (rs : Regions) (ts : List TypeTerm) (n : Names) (i : ℕ) (t : TypeTerm) → AllByRecursion (λ y. (h_id == y) ≡ false) (regions_ids rs) → slice_get ts i ≡ Some t

@@ -22,7 +22,7 @@ use Rattle.ir_text.specs.TypeText.{in_round}
 use Rattle.ir_text_modules.proofs.Small.{are_bytes}
 use Rattle.ir_tree_laws.specs.Renumbered.{value_with_id, with_ids, place_in, renumbered}
 use Rattle.ir_tree_laws.proofs.RenumberedFixed.{renumbered_stays}
-use Rattle.ir_tree_laws.proofs.RenumberedForm.{formed_renumbered}
+use Rattle.ir_tree_laws.proofs.RenumberedForm.{wellformed_renumbered}
 use Rattle.ir_tree_laws.proofs.RenumberedSame.{numbered, every_with, rise_with}
 use Rattle.ir_text_modules.specs.WrittenTrees.{IsWritable}
 use Rattle.ir_text_modules.proofs.Encoded.{text_is_within}
@@ -61,18 +61,18 @@ unfolding IsExplicit IsSingleOp
 explicit o f t root w single = (begins_so o t root w, single, root_with f t ∙ root)
 
 pub module_again : (o : Bool) (t : Operation) → IsValidTree is_isolated t → HasDistinctIds t → is_root t ≡ true → IsWritable o t → length (text_of t) ≤ most_bytes → Spells o (text_of t) (renumbered t)
-module_again o t formed distinct root w few =
+module_again o t wellformed distinct root w few =
     let f = place_in (ids t) in
     let test = dictionaries_rise key_before in
-    let single = single_again o f t (fits o t formed.counts w) formed.visible (places_run (ids t) distinct) distinct formed.shallow (few_ops t formed.counts) in
+    let single = single_again o f t (fits o t wellformed.counts w) wellformed.visible (places_run (ids t) distinct) distinct wellformed.shallow (few_ops t wellformed.counts) in
     record {
       text = text_is_within o t w few;
-      spelled = inl (explicit o f t root w single);
-      formed = formed_renumbered is_isolated t formed;
+      rendered = inl (explicit o f t root w single);
+      wellformed = wellformed_renumbered is_isolated t wellformed;
       numbered = numbered t distinct;
       sorted = every_with f test test (rise_with f key_before) t ∙ sorted_op o t w;
     }
 
 -- a module whose ids are in order is denoted unchanged
 pub numbered_again : (o : Bool) (t : Operation) → IsValidTree is_isolated t → IsNumberedFrom 0 t → is_root t ≡ true → IsWritable o t → length (text_of t) ≤ most_bytes → Spells o (text_of t) t
-numbered_again o t formed e root w few = subst (Spells o (text_of t)) (renumbered_stays is_isolated t formed e) (module_again o t formed (numbered_distinct 0 t e) root w few)
+numbered_again o t wellformed e root w few = subst (Spells o (text_of t)) (renumbered_stays is_isolated t wellformed e) (module_again o t wellformed (numbered_distinct 0 t e) root w few)

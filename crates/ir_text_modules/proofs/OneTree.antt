@@ -23,10 +23,10 @@ use Rattle.ir_text_operations.specs.Seen.{Seen, seen_fresh}
 use Rattle.ir_text_operations.specs.Spelling.{IsExplicit, IsImplicit, Spells, module_of}
 use Rattle.ir_text_operations.specs.Standing.{Both, BoundStands, FreeStands, OpStands, StateStands}
 use Rattle.ir_text_operations.proofs.Modules.{no_free, read_parts}
-use Rattle.ir_text_operations.proofs.OpLaws.{op_spelled, ops_spelled}
-use Rattle.ir_text.specs.Room.{HasRoom}
+use Rattle.ir_text_operations.proofs.OpLaws.{op_rendered, ops_rendered}
+use Rattle.ir_text.specs.Headroom.{HasHeadroom}
 use Rattle.ir_text.proofs.Sources.{within_limit}
-use Rattle.ir_text.proofs.WholeRoom.{op_room, ops_room}
+use Rattle.ir_text.proofs.WholeHeadroom.{op_headroom, ops_headroom}
 
 -- ---- a new context
 
@@ -59,9 +59,9 @@ abbrev ReadAs : {A B : Type 0} → ContextModel → Outcome (A × State) → (Co
 ReadAs {A = A} c r R y t = (x : A) × (s : State) × (r ≡ Read (x, s)) × IsExtendedBy c s.things × IsSound s.things × R s.things x y × StateStands s.things s t
 
 same_read : {A B : Type 0} (R : ContextModel → A → B → Type 0) → ((z : ContextModel) (x : A) (u v : B) → R z x u → R z x v → u ≡ v) → (c : ContextModel) (r : Outcome (A × State)) (u v : B) (s t : Seen) → (r ≡ Full → ⊥) → (r ≡ Full) ⊎ ReadAs c r R u s → (r ≡ Full) ⊎ ReadAs c r R v t → u ≡ v
-same_read R one c r u v s t room (inl e) k = absurd (room e)
-same_read R one c r u v s t room (inr h) (inl e) = absurd (room e)
-same_read R one c r u v s t room (inr h) (inr k) =
+same_read R one c r u v s t headroom (inl e) k = absurd (headroom e)
+same_read R one c r u v s t headroom (inr h) (inl e) = absurd (headroom e)
+same_read R one c r u v s t headroom (inr h) (inr k) =
     let q = read_parts h.0 k.0 h.1 k.1 (sym h.2 ∙ k.2) in
     one k.1.things k.0 u v (subst (λ (z : State). R z.things k.0 u) q.1 (subst (λ x. R h.1.things x u) q.0 h.5)) k.5
 
@@ -79,22 +79,22 @@ one_list z (x ∷ xs) (u ∷ us) (v ∷ vs) h k = λ i. one_meaning z x u v h.0 
 -- ---- texts
 
 module _ (o : Bool) (bytes : List ℕ) (few : length bytes ≤ 16777216) where
-  room : HasRoom bytes (new_things o)
-  room = record { names = omega (arith, word_count, few); types = omega (arith, few); attrs = omega (arith, few) }
+  headroom : HasHeadroom bytes (new_things o)
+  headroom = record { names = omega (arith, word_count, few); types = omega (arith, few); attrs = omega (arith, few) }
 
   one_root : (y z : Operation) (t u : Seen) → IsOp o no_names 1048576 129 y (seen_fresh 0 bytes) t → IsOp o no_names 1048576 129 z (seen_fresh 0 bytes) u → y ≡ z
   one_root y z t u h k =
       let c = new_things o in
-      same_read OpStands one_meaning c (op_at no_free 1048576 129 (fresh 0 bytes c)) y z t u (op_room no_free 1048576 129 0 c bytes room)
-      (op_spelled no_free no_names 1048576 129 0 c bytes y t (new_sound o) (λ x g w. unseen x) h)
-      (op_spelled no_free no_names 1048576 129 0 c bytes z u (new_sound o) (λ x g w. unseen x) k)
+      same_read OpStands one_meaning c (op_at no_free 1048576 129 (fresh 0 bytes c)) y z t u (op_headroom no_free 1048576 129 0 c bytes headroom)
+      (op_rendered no_free no_names 1048576 129 0 c bytes y t (new_sound o) (λ x g w. unseen x) h)
+      (op_rendered no_free no_names 1048576 129 0 c bytes z u (new_sound o) (λ x g w. unseen x) k)
 
   one_body : (ys zs : List Operation) (t u : Seen) → IsOps End (IsOp o no_names 1048576 128) 1048576 [] ys (seen_fresh 1 bytes) t → IsOps End (IsOp o no_names 1048576 128) 1048576 [] zs (seen_fresh 1 bytes) u → ys ≡ zs
   one_body ys zs t u h k =
       let c = new_things o in
-      same_read (Each OpStands) one_list c (ops_at End (op_at no_free 1048576 128) 1048576 [] (fresh 1 bytes c)) ys zs t u (ops_room no_free End 1048576 128 1 c bytes room)
-      (ops_spelled no_free no_names 1048576 128 1 c bytes ys t (new_sound o) (λ x g w. unseen x) h)
-      (ops_spelled no_free no_names 1048576 128 1 c bytes zs u (new_sound o) (λ x g w. unseen x) k)
+      same_read (Each OpStands) one_list c (ops_at End (op_at no_free 1048576 128) 1048576 [] (fresh 1 bytes c)) ys zs t u (ops_headroom no_free End 1048576 128 1 c bytes headroom)
+      (ops_rendered no_free no_names 1048576 128 1 c bytes ys t (new_sound o) (λ x g w. unseen x) h)
+      (ops_rendered no_free no_names 1048576 128 1 c bytes zs u (new_sound o) (λ x g w. unseen x) k)
 
   one_source : (y z : Operation) → IsExplicit o bytes y ⊎ IsImplicit o bytes y → IsExplicit o bytes z ⊎ IsImplicit o bytes z → y ≡ z
   unfolding IsExplicit IsImplicit
@@ -104,4 +104,4 @@ module _ (o : Bool) (bytes : List ℕ) (few : length bytes ≤ 16777216) where
   one_source y z (inr h) (inr k) = h.1.3 ∙ ap module_of (one_body h.1.0 k.1.0 h.1.1 k.1.1 h.1.2 k.1.2) ∙ sym k.1.3
 
 pub one_tree : (o : Bool) (bytes : List ℕ) (y z : Operation) → Spells o bytes y → Spells o bytes z → y ≡ z
-one_tree o bytes y z h k = one_source o bytes (within_limit bytes (sym h.text)) y z h.spelled k.spelled
+one_tree o bytes y z h k = one_source o bytes (within_limit bytes (sym h.text)) y z h.rendered k.rendered

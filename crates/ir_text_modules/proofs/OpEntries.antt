@@ -32,16 +32,16 @@ use Rattle.std.proofs.lemmas.Bool.{cases_Bool}
 abbrev FitsEntry : Bool → Option (List ℕ) → List EntryTerm → List EntryTerm → EntryTerm → Type 0
 FitsEntry o op properties before e = (is_refused bytes_eq (is_property op) properties e.0 before ≡ false) × AreBytes e.0 × FitsAttr o 32 e.1
 
-entry_read : (o : Bool) (op : Option (List ℕ)) (properties front : List EntryTerm) (e : EntryTerm) (rest : List ℕ) → FitsEntry o op properties front e → EndsEntry o rest → IsOpEntry o op properties front e (text_of_entry e ++ rest) rest
-entry_read o op properties front e rest fit s =
+entry_read : (o : Bool) (op : Option (List ℕ)) (properties preceding : List EntryTerm) (e : EntryTerm) (rest : List ℕ) → FitsEntry o op properties preceding e → EndsEntry o rest → IsOpEntry o op properties preceding e (text_of_entry e ++ rest) rest
+entry_read o op properties preceding e rest fit s =
     let k = entry_parts o (IsAttr o 32) (IsFine Flag) (attr_ahead o 32) e.0 e.1 rest fit.1 s (attr_again o 32 (omega arith) e.1 rest fit.2 s.2) (λ f. (refl, refl, refl)) in
     (e.0, k.0, k.1, (fit.0, (e.1, rest, k.2, (refl, refl))))
 
 entry_items : (o : Bool) (op : Option (List ℕ)) (properties : List EntryTerm) → Items CloseCurly (IsOpEntry o op properties) text_of_entry (FitsEntry o op properties) (EndsEntry o)
 entry_items o op properties = record {
   reads = entry_read o op properties;
-  ahead = λ front. then_ahead IsKey _ key_ahead;
-  lacks = λ front y a new h. key_lacks CloseCurly h.0 a h.1 h.2;
+  ahead = λ preceding. then_ahead IsKey _ key_ahead;
+  lacks = λ preceding y a new h. key_lacks CloseCurly h.0 a h.1 h.2;
   comma = comma_entry o;
   closing = close_entry o;
   closes = λ rest. mark_token CloseCurly rest tt;
@@ -68,20 +68,20 @@ few_stay f (e ∷ es) = elim (cases_Bool (f e)) [
   | inr n ↦ rw n (omega (arith, few_stay f es))
 ]
 
-room : (n m : ℕ) → n ≤ m → m < 256 → nat_le 256 n ≡ false
-room n m le lt = grind (arith, nat_tests)
+headroom : (n m : ℕ) → n ≤ m → m < 256 → nat_le 256 n ≡ false
+headroom n m le lt = grind (arith, nat_tests)
 
-admitted : (op : Option (List ℕ)) (properties front : List EntryTerm) (k : List ℕ) → AreBefore front k → length front < 256 → is_property op k ≡ false → has_key bytes_eq k properties ≡ false → is_refused bytes_eq (is_property op) properties k front ≡ false
-admitted op properties front k before few other apart =
-    rw (apart, no_key front k before, other) (room (length (staying (is_property op) front)) (length front) (few_stay (λ e. not (is_property op e.0)) front) few)
+admitted : (op : Option (List ℕ)) (properties preceding : List EntryTerm) (k : List ℕ) → AreBefore preceding k → length preceding < 256 → is_property op k ≡ false → has_key bytes_eq k properties ≡ false → is_refused bytes_eq (is_property op) properties k preceding ≡ false
+admitted op properties preceding k before few other apart =
+    rw (apart, no_key preceding k before, other) (headroom (length (staying (is_property op) preceding)) (length preceding) (few_stay (λ e. not (is_property op e.0)) preceding) few)
 
 -- ---- dictionaries
 
-all_fit : (o : Bool) (op : Option (List ℕ)) (properties front es : List EntryTerm) → AreBeforeFirst front es → rises key_before es ≡ true → length front + length es ≤ 256 → AllByRecursion (λ e. are_bytes_test e.0 ≡ true) es → AllByRecursion (λ e. FitsAttr o 32 e.1) es → AllByRecursion (λ e. (is_property op e.0 ≡ false) × (has_key bytes_eq e.0 properties ≡ false)) es → AllFit (FitsEntry o op properties) front es
-all_fit o op properties front [] b r le keys values others = tt
-all_fit o op properties front (e ∷ es) b r le keys values others =
-    let n = next_before front e es b r in
-    ((admitted op properties front e.0 b (omega arith) others.0.0 others.0.1, are_bytes e.0 keys.0, values.0), all_fit o op properties (front ++ e ∷ []) es n.0 n.1 (omega (arith, length-append front (e ∷ []))) keys.1 values.1 others.1)
+all_fit : (o : Bool) (op : Option (List ℕ)) (properties preceding es : List EntryTerm) → AreBeforeFirst preceding es → rises key_before es ≡ true → length preceding + length es ≤ 256 → AllByRecursion (λ e. are_bytes_test e.0 ≡ true) es → AllByRecursion (λ e. FitsAttr o 32 e.1) es → AllByRecursion (λ e. (is_property op e.0 ≡ false) × (has_key bytes_eq e.0 properties ≡ false)) es → AllFit (FitsEntry o op properties) preceding es
+all_fit o op properties preceding [] b r le keys values others = tt
+all_fit o op properties preceding (e ∷ es) b r le keys values others =
+    let n = next_before preceding e es b r in
+    ((admitted op properties preceding e.0 b (omega arith) others.0.0 others.0.1, are_bytes e.0 keys.0, values.0), all_fit o op properties (preceding ++ e ∷ []) es n.0 n.1 (omega (arith, length-append preceding (e ∷ []))) keys.1 values.1 others.1)
 
 no_others : (es : List EntryTerm) → AllByRecursion (λ e. (is_property None e.0 ≡ false) × (has_key {A = AttrTerm} bytes_eq e.0 [] ≡ false)) es
 no_others [] = tt

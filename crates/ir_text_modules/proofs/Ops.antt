@@ -30,14 +30,14 @@ use Rattle.ir_text_modules.proofs.Small.{lacks_token, are_bytes}
 use Rattle.ir_tree_laws.specs.Renumbered.{with_ids, regions_with_ids, region_with_ids, ops_with_ids}
 use Rattle.ir_text_modules.proofs.Fitting.{FitsOp, FitsRegions, FitsRegion, FitsOps}
 use Rattle.ir_text_modules.proofs.Texts.{Head, Names, Regions, Region, Ops, results_names, arguments_names, op_names, regions_names, region_names, tail_then, label_then, op_then, regions_then, region_then, ops_then}
-use Rattle.ir_text_modules.proofs.ModuleValues.{source_id, Away, all_front, all_back, argument_away, results_names_keep, regions_keep, region_keeps, own_results}
+use Rattle.ir_text_modules.proofs.ModuleValues.{source_id, Away, all_preceding, all_back, argument_away, results_names_keep, regions_keep, region_keeps, own_results}
 use Rattle.ir_text_modules.proofs.Joined.{IsSeen, Joined, joined_later, in_last, result_shown}
-use Rattle.ir_text_modules.proofs.Front.{start_of, start_again}
+use Rattle.ir_text_modules.proofs.Preceding.{start_of, start_again}
 use Rattle.ir_text_modules.proofs.Blocks.{AreBlank, blanks_passed, blanks_deeper, mark_seen, not_seen}
 use Rattle.ir_text_modules.proofs.Grown.{grown_results, grown_op, grown_regions, grown_region, grown_arguments}
 use Rattle.ir_text_modules.proofs.Labels.{Plain, PlainFirst, label_again}
 use Rattle.ir_text_modules.proofs.Tails.{tail_lacks, finished, finished_outer, tail_again}
-use Rattle.ir_text_modules.proofs.Fresh.{distinct_first, Fresh, fresh_front, fresh_back, in_inside, joined_inside, left_is, all_so, types_fit, same_types, types_count, joined_end, plain_head, op_from, ops_close, ops_one, more_last, more_one}
+use Rattle.ir_text_modules.proofs.Fresh.{distinct_first, Fresh, fresh_preceding, fresh_back, in_inside, joined_inside, left_is, all_so, types_fit, same_types, types_count, joined_end, plain_head, op_from, ops_close, ops_one, more_last, more_one}
 
 -- ---- the operands of each operation are visible to it
 
@@ -92,9 +92,9 @@ module _ (o : Bool) (f : ℕ → ℕ) (last : ℕ) where
     pub joined : Joined o f (scope ++ results_of t ∷ []) (op_names t n) scopes.here
     pub outer : scopes.outer ≡ s.scopes.outer
 
-  pub record OpsRead (d room : ℕ) (front : List Operation) (os : Ops) (s : Seen) (rest : List ℕ) : Type 0 where
+  pub record OpsRead (d headroom : ℕ) (preceding : List Operation) (os : Ops) (s : Seen) (rest : List ℕ) : Type 0 where
     pub scopes : Scopes PackTerm
-    pub reads : IsOps CloseCurly (IsOp o no_names last d) room front (front ++ op_list (ops_with_ids f os)) s (record { bytes = rest; scopes = scopes; next = s.next + length (ops_ids os) })
+    pub reads : IsOps CloseCurly (IsOp o no_names last d) headroom preceding (preceding ++ op_list (ops_with_ids f os)) s (record { bytes = rest; scopes = scopes; next = s.next + length (ops_ids os) })
     pub outer : scopes.outer ≡ s.scopes.outer
 
   -- the premise that one operation is parsed back
@@ -103,10 +103,10 @@ module _ (o : Bool) (f : ℕ → ℕ) (last : ℕ) where
 
   -- the premise that a list of operations is parsed back
   abbrev pub ReadsOps : ℕ → Ops → Type 0
-  ReadsOps d os = (room : ℕ) (front : List Operation) (margin close : List ℕ) (rest : List ℕ) (scope : List Frame) (n : Names) (s : Seen) → AreBlank margin → FitsOps o os → DominatedByOps scope os → ops_depth os ≤ d → length (ops_ids os) < room → Fresh f last scope n s.next 0 (ops_ids os) → Joined o f scope n s.scopes.here
-      → Token (mark CloseCurly) close rest → next_token s.bytes ≡ next_token (ops_then margin os n close) → OpsRead d room front os s rest
+  ReadsOps d os = (headroom : ℕ) (preceding : List Operation) (margin close : List ℕ) (rest : List ℕ) (scope : List Frame) (n : Names) (s : Seen) → AreBlank margin → FitsOps o os → DominatedByOps scope os → ops_depth os ≤ d → length (ops_ids os) < headroom → Fresh f last scope n s.next 0 (ops_ids os) → Joined o f scope n s.scopes.here
+      → Token (mark CloseCurly) close rest → next_token s.bytes ≡ next_token (ops_then margin os n close) → OpsRead d headroom preceding os s rest
 
-  nothing_more : (front : List Operation) → front ++ [] ≡ front
+  nothing_more : (preceding : List Operation) → preceding ++ [] ≡ preceding
   nothing_more [] = refl
   nothing_more (x ∷ xs) = ap (λ (l : List Operation). x ∷ l) (nothing_more xs)
 
@@ -114,19 +114,19 @@ module _ (o : Bool) (f : ℕ → ℕ) (last : ℕ) where
   some_id (op h rs) = omega arith
 
   pub no_ops_read : (d : ℕ) → ReadsOps d no_ops
-  no_ops_read d room front margin close rest scope n s blank fit dominated_by deep few fresh j closed e =
+  no_ops_read d headroom preceding margin close rest scope n s blank fit dominated_by deep few fresh j closed e =
       let count : s.next ≡ s.next + 0 = omega arith in
-      let h = ops_close (One d) room front s (seen_rest s rest) (omega (arith, few)) (mark_seen CloseCurly s rest (e ∙ closed)) in
+      let h = ops_close (One d) headroom preceding s (seen_rest s rest) (omega (arith, few)) (mark_seen CloseCurly s rest (e ∙ closed)) in
       record {
         scopes = s.scopes;
-        reads = subst (λ l. IsOps CloseCurly (One d) room front l s (record { bytes = rest; scopes = s.scopes; next = s.next + 0 })) (sym (nothing_more front)) (subst (λ (i : ℕ). IsOps CloseCurly (One d) room front front s (record { bytes = rest; scopes = s.scopes; next = i })) count h);
+        reads = subst (λ l. IsOps CloseCurly (One d) headroom preceding l s (record { bytes = rest; scopes = s.scopes; next = s.next + 0 })) (sym (nothing_more preceding)) (subst (λ (i : ℕ). IsOps CloseCurly (One d) headroom preceding preceding s (record { bytes = rest; scopes = s.scopes; next = i })) count h);
         outer = refl;
       }
 
   -- one operation, and then the operations after it
   pub next_read : (d : ℕ) (h : Head) (rs : Regions) (ts : Ops) → ReadsOp d (op h rs) → ReadsOps d ts → ReadsOps d (next (op h rs) ts)
-  next_read d h rs ts first others zero front margin close rest scope n s blank fit dominated_by deep few fresh j closed e = absurd (omega (arith, few))
-  next_read d h rs ts first others (suc room) front margin close rest scope n s blank fit dominated_by deep few fresh j closed e =
+  next_read d h rs ts first others zero preceding margin close rest scope n s blank fit dominated_by deep few fresh j closed e = absurd (omega (arith, few))
+  next_read d h rs ts first others (suc headroom) preceding margin close rest scope n s blank fit dominated_by deep few fresh j closed e =
       let t = op h rs in
       let m = op_names t n in
       let trailing = ops_then margin ts m close in
@@ -137,20 +137,20 @@ module _ (o : Bool) (f : ℕ → ℕ) (last : ℕ) where
       (λ (k : in_scope scope v ≡ true). all_back _ (ids t) (ops_ids ts) (fresh.away v k))
       (λ (k : shows v (results_of t) ≡ true). result_away v h.id (length h.results) (ops_ids ts) (all_back _ (regions_ids rs) (ops_ids ts) own.0) k)
       (in_last scope (results_of t) v i) in
-      let one = first margin scope n s trailing blank fit.0 dominated_by.0 (omega (arith, deep)) (fresh_front f last scope n s.next 0 0 (ids t) (ops_ids ts) fresh (omega arith)) j here in
+      let one = first margin scope n s trailing blank fit.0 dominated_by.0 (omega (arith, deep)) (fresh_preceding f last scope n s.next 0 0 (ids t) (ops_ids ts) fresh (omega arith)) j here in
       let mid : Seen = record { bytes = 10 ∷ trailing; scopes = one.scopes; next = s.next + length (ids t) } in
       let fresh_more = fresh_back f last scope (scope ++ results_of t ∷ []) n m s.next 0 0 (4096 * length (ids t)) (ids t) (ops_ids ts) fresh (grown_op o t n fit.0) (omega arith) away in
-      let more = others room (front ++ with_ids f t ∷ []) margin close rest (scope ++ results_of t ∷ []) m mid blank fit.1 dominated_by.1 (omega (arith, deep)) (omega (arith, few, count, some_id t)) fresh_more one.joined closed (blank_passed 10 trailing refl) in
+      let more = others headroom (preceding ++ with_ids f t ∷ []) margin close rest (scope ++ results_of t ∷ []) m mid blank fit.1 dominated_by.1 (omega (arith, deep)) (omega (arith, few, count, some_id t)) fresh_more one.joined closed (blank_passed 10 trailing refl) in
       let plain = op_plain o margin t n trailing fit.0 (omega (arith, fresh.few_results)) in
       let lacks = not_seen CloseCurly s (lacks_token plain.lexeme CloseCurly s.bytes plain.trailing (here ∙ plain.token) (plain.no_mark CloseCurly)) in
-      let ys = front ++ op_list (ops_with_ids f (next t ts)) in
-      let all : (front ++ with_ids f t ∷ []) ++ op_list (ops_with_ids f ts) ≡ ys = append_assoc front (with_ids f t ∷ []) (op_list (ops_with_ids f ts)) in
+      let ys = preceding ++ op_list (ops_with_ids f (next t ts)) in
+      let all : (preceding ++ with_ids f t ∷ []) ++ op_list (ops_with_ids f ts) ≡ ys = append_assoc preceding (with_ids f t ∷ []) (op_list (ops_with_ids f ts)) in
       let sum : s.next + length (ids t) + length (ops_ids ts) ≡ s.next + length (ops_ids (next t ts)) = omega (arith, count) in
-      let whole = ops_one (One d) room front _ (with_ids f t) s mid _ lacks one.reads more.reads in
+      let whole = ops_one (One d) headroom preceding _ (with_ids f t) s mid _ lacks one.reads more.reads in
       record {
         scopes = more.scopes;
-        reads = subst (λ l. IsOps CloseCurly (One d) (suc room) front l s (record { bytes = rest; scopes = more.scopes; next = s.next + length (ops_ids (next t ts)) })) all
-            (subst (λ (i : ℕ). IsOps CloseCurly (One d) (suc room) front ((front ++ with_ids f t ∷ []) ++ op_list (ops_with_ids f ts)) s (record { bytes = rest; scopes = more.scopes; next = i })) sum whole);
+        reads = subst (λ l. IsOps CloseCurly (One d) (suc headroom) preceding l s (record { bytes = rest; scopes = more.scopes; next = s.next + length (ops_ids (next t ts)) })) all
+            (subst (λ (i : ℕ). IsOps CloseCurly (One d) (suc headroom) preceding ((preceding ++ with_ids f t ∷ []) ++ op_list (ops_with_ids f ts)) s (record { bytes = rest; scopes = more.scopes; next = i })) sum whole);
         outer = more.outer ∙ one.outer;
       }
 
@@ -162,11 +162,11 @@ module _ (o : Bool) (f : ℕ → ℕ) (last : ℕ) where
 
   -- the premise that a region is parsed back
   abbrev pub ReadsRegion : ℕ → Region → Type 0
-  ReadsRegion d g = (margin : List ℕ) (isolated : Bool) (scope : List Frame) (x r : ℕ) (front : List RegionTerm) (n : Names) (s : Seen) (rest : List ℕ) → AreBlank margin → FitsRegion o g → DominatedByRegion scope x r g → region_depth g ≤ d → length (region_ids g) < 1048576 → length front ≡ r → Fresh f last scope n s.next 256 (region_ids g) → AllByRecursion (λ y. (x == y) ≡ false) (region_ids g) → ((v : Value) → in_scope scope v ≡ true → (source_id (source_of v) == x) ≡ false)
-      → Joined o f scope n (if isolated then [] else s.scopes.here) → next_token s.bytes ≡ next_token (region_then margin x r g n rest) → IsRegion o (Row d) (f x) isolated front (region_with_ids f g) s (trailing s rest (length (region_ids g)))
+  ReadsRegion d g = (margin : List ℕ) (isolated : Bool) (scope : List Frame) (x r : ℕ) (preceding : List RegionTerm) (n : Names) (s : Seen) (rest : List ℕ) → AreBlank margin → FitsRegion o g → DominatedByRegion scope x r g → region_depth g ≤ d → length (region_ids g) < 1048576 → length preceding ≡ r → Fresh f last scope n s.next 256 (region_ids g) → AllByRecursion (λ y. (x == y) ≡ false) (region_ids g) → ((v : Value) → in_scope scope v ≡ true → (source_id (source_of v) == x) ≡ false)
+      → Joined o f scope n (if isolated then [] else s.scopes.here) → next_token s.bytes ≡ next_token (region_then margin x r g n rest) → IsRegion o (Row d) (f x) isolated preceding (region_with_ids f g) s (trailing s rest (length (region_ids g)))
 
   pub empty_read : (d : ℕ) → ReadsRegion d empty
-  empty_read d margin isolated scope x r front n s rest blank fit dominated_by deep few place fresh own apart j e =
+  empty_read d margin isolated scope x r preceding n s rest blank fit dominated_by deep few place fresh own apart j e =
       let close = 125 ∷ rest in
       let closed = mark_token CloseCurly rest tt in
       let opened = seen_rest s close in
@@ -178,7 +178,7 @@ module _ (o : Bool) (f : ℕ → ℕ) (last : ℕ) where
       (opened, mark_seen OpenCurly s close (e ∙ mark_token OpenCurly close tt), (None, within, (mark CloseCurly, rest, closed, (refl, refl)), ([], record { bytes = rest; scopes = row.scopes; next = s.next + 0 }, row.reads, (refl, state))))
 
   pub block_read : (d : ℕ) (args : List TypeTerm) (os : Ops) → ReadsOps d os → ReadsRegion d (block args os)
-  block_read d args os ops margin isolated scope x r front n s rest blank fit dominated_by deep few place fresh own apart j e =
+  block_read d args os ops margin isolated scope x r preceding n s rest blank fit dominated_by deep few place fresh own apart j e =
       let m = arguments_names x r 0 args n in
       let close = margin ++ 125 ∷ rest in
       let closed : Token (mark CloseCurly) close rest = blanks_passed margin (125 ∷ rest) blank ∙ mark_token CloseCurly rest tt in
@@ -205,28 +205,28 @@ module _ (o : Bool) (f : ℕ → ℕ) (last : ℕ) where
       let state : trailing s rest (length (ops_ids os)) ≡ seen_outside ended =
       ap (λ (l : Scopes PackTerm). record { bytes = rest; scopes = l; next = s.next + length (ops_ids os) }) (sym scopes_back)
       ∙ ap (λ (i : ℕ). record { bytes = rest; scopes = left row.scopes; next = i + length (ops_ids os) }) (sym label.same) in
-      (opened, mark_seen OpenCurly s text (e ∙ mark_token OpenCurly text tt), (label.front, label.now, subst (λ (i : ℕ). IsHead o (f x) i label.front within label.now) (sym place) label.reads, (op_list (ops_with_ids f os), ended, row.reads, (sym label.made, state))))
+      (opened, mark_seen OpenCurly s text (e ∙ mark_token OpenCurly text tt), (label.preceding, label.now, subst (λ (i : ℕ). IsHead o (f x) i label.preceding within label.now) (sym place) label.reads, (op_list (ops_with_ids f os), ended, row.reads, (sym label.made, state))))
 
   -- the premise that regions are parsed back up to the closing parenthesis
   abbrev pub ReadsRegions : ℕ → Region → Regions → Type 0
-  ReadsRegions d g rs = (room : ℕ) (margin : List ℕ) (isolated : Bool) (scope : List Frame) (x r : ℕ) (front : List RegionTerm) (n : Names) (s : Seen) (rest : List ℕ) → AreBlank margin → FitsRegions o (region g rs) → DominatedByRegions scope x r (region g rs) → regions_depth (region g rs) ≤ d → length (regions_ids (region g rs)) < 1048576 → region_count (region g rs) ≤ room → length front ≡ r → Fresh f last scope n s.next (256 * region_count (region g rs)) (regions_ids (region g rs)) → AllByRecursion (λ y. (x == y) ≡ false) (regions_ids (region g rs)) → ((v : Value) → in_scope scope v ≡ true → (source_id (source_of v) == x) ≡ false)
+  ReadsRegions d g rs = (headroom : ℕ) (margin : List ℕ) (isolated : Bool) (scope : List Frame) (x r : ℕ) (preceding : List RegionTerm) (n : Names) (s : Seen) (rest : List ℕ) → AreBlank margin → FitsRegions o (region g rs) → DominatedByRegions scope x r (region g rs) → regions_depth (region g rs) ≤ d → length (regions_ids (region g rs)) < 1048576 → region_count (region g rs) ≤ headroom → length preceding ≡ r → Fresh f last scope n s.next (256 * region_count (region g rs)) (regions_ids (region g rs)) → AllByRecursion (λ y. (x == y) ≡ false) (regions_ids (region g rs)) → ((v : Value) → in_scope scope v ≡ true → (source_id (source_of v) == x) ≡ false)
       → Joined o f scope n (if isolated then [] else s.scopes.here) → next_token s.bytes ≡ next_token (region_then margin x r g n (regions_then margin x (r + 1) rs (region_names x r g n) (41 ∷ rest)))
-      → IsMore IsMarkSeen CloseRound (IsRegion o (Row d) (f x) isolated) room front (front ++ region_list (regions_with_ids f (region g rs))) s (trailing s rest (length (regions_ids (region g rs))))
+      → IsMore IsMarkSeen CloseRound (IsRegion o (Row d) (f x) isolated) headroom preceding (preceding ++ region_list (regions_with_ids f (region g rs))) s (trailing s rest (length (regions_ids (region g rs))))
 
   pub last_read : (d : ℕ) (g : Region) → ReadsRegion d g → ReadsRegions d g no_regions
-  last_read d g one zero margin isolated scope x r front n s rest blank fit dominated_by deep few count place fresh own apart j e = absurd (omega (arith, count))
-  last_read d g one (suc room) margin isolated scope x r front n s rest blank fit dominated_by deep few count place fresh own apart j e =
+  last_read d g one zero margin isolated scope x r preceding n s rest blank fit dominated_by deep few count place fresh own apart j e = absurd (omega (arith, count))
+  last_read d g one (suc headroom) margin isolated scope x r preceding n s rest blank fit dominated_by deep few count place fresh own apart j e =
       let sum = length-append (region_ids g) [] in
       let same : length (region_ids g) ≡ length (regions_ids (region g no_regions)) = omega (arith, sum) in
-      let fresh_one = fresh_front f last scope n s.next (256 * region_count (region g no_regions)) 256 (region_ids g) [] fresh (omega arith) in
-      let read = one margin isolated scope x r front n s (41 ∷ rest) blank fit.0 dominated_by.0 (omega (arith, deep)) (omega (arith, few, same)) place fresh_one (all_front _ (region_ids g) [] own) apart j e in
+      let fresh_one = fresh_preceding f last scope n s.next (256 * region_count (region g no_regions)) 256 (region_ids g) [] fresh (omega arith) in
+      let read = one margin isolated scope x r preceding n s (41 ∷ rest) blank fit.0 dominated_by.0 (omega (arith, deep)) (omega (arith, few, same)) place fresh_one (all_preceding _ (region_ids g) [] own) apart j e in
       let mid = trailing s (41 ∷ rest) (length (region_ids g)) in
-      subst (λ (i : ℕ). IsMore IsMarkSeen CloseRound (IsRegion o (Row d) (f x) isolated) (suc room) front (front ++ region_with_ids f g ∷ []) s (trailing s rest i)) same
-      (more_last (IsRegion o (Row d) (f x) isolated) room front (region_with_ids f g) s mid (seen_rest mid rest) read (mark_seen CloseRound mid rest (mark_token CloseRound rest tt)))
+      subst (λ (i : ℕ). IsMore IsMarkSeen CloseRound (IsRegion o (Row d) (f x) isolated) (suc headroom) preceding (preceding ++ region_with_ids f g ∷ []) s (trailing s rest i)) same
+      (more_last (IsRegion o (Row d) (f x) isolated) headroom preceding (region_with_ids f g) s mid (seen_rest mid rest) read (mark_seen CloseRound mid rest (mark_token CloseRound rest tt)))
 
   pub extra_read : (d : ℕ) (g k : Region) (rs : Regions) → ReadsRegion d g → ReadsRegions d k rs → ReadsRegions d g (region k rs)
-  extra_read d g k rs one others zero margin isolated scope x r front n s rest blank fit dominated_by deep few count place fresh own apart j e = absurd (omega (arith, count))
-  extra_read d g k rs one others (suc room) margin isolated scope x r front n s rest blank fit dominated_by deep few count place fresh own apart j e =
+  extra_read d g k rs one others zero margin isolated scope x r preceding n s rest blank fit dominated_by deep few count place fresh own apart j e = absurd (omega (arith, count))
+  extra_read d g k rs one others (suc headroom) margin isolated scope x r preceding n s rest blank fit dominated_by deep few count place fresh own apart j e =
       let m = region_names x r g n in
       let tail = regions_ids (region k rs) in
       let sum = length-append (region_ids g) tail in
@@ -234,23 +234,23 @@ module _ (o : Bool) (f : ℕ → ℕ) (last : ℕ) where
       let no_first : (r + 1 == 0) ≡ false = grind (arith, nat_tests) in
       let comma : regions_then margin x (r + 1) (region k rs) m (41 ∷ rest) ≡ 44 ∷ 32 ∷ ahead = rw no_first refl in
       let here = e ∙ ap (λ (l : List ℕ). next_token (region_then margin x r g n l)) comma in
-      let fresh_one = fresh_front f last scope n s.next (256 * region_count (region g (region k rs))) 256 (region_ids g) tail fresh (omega arith) in
-      let read = one margin isolated scope x r front n s (44 ∷ 32 ∷ ahead) blank fit.0 dominated_by.0 (omega (arith, deep)) (omega (arith, few, sum)) place fresh_one (all_front _ (region_ids g) tail own) apart j here in
+      let fresh_one = fresh_preceding f last scope n s.next (256 * region_count (region g (region k rs))) 256 (region_ids g) tail fresh (omega arith) in
+      let read = one margin isolated scope x r preceding n s (44 ∷ 32 ∷ ahead) blank fit.0 dominated_by.0 (omega (arith, deep)) (omega (arith, few, sum)) place fresh_one (all_preceding _ (region_ids g) tail own) apart j here in
       let mid = trailing s (44 ∷ 32 ∷ ahead) (length (region_ids g)) in
       let after = seen_rest mid (32 ∷ ahead) in
       let grown = grown_region o x r g n fit.0 in
       let fresh_more = fresh_back f last scope scope n m s.next (256 * region_count (region g (region k rs))) (256 * region_count (region k rs)) (256 + 4096 * length (region_ids g)) (region_ids g) tail fresh grown (omega arith) (λ v i. all_back _ (region_ids g) tail (fresh.away v i)) in
-      let keep : (v : Value) → in_scope scope v ≡ true → naming_of m.named v ≡ naming_of n.named v = λ v i. region_keeps (source_of v) x r g n (λ q a. argument_away (source_of v) x q a (apart v i)) (all_front _ (region_ids g) tail (fresh.away v i)) in
+      let keep : (v : Value) → in_scope scope v ≡ true → naming_of m.named v ≡ naming_of n.named v = λ v i. region_keeps (source_of v) x r g n (λ q a. argument_away (source_of v) x q a (apart v i)) (all_preceding _ (region_ids g) tail (fresh.away v i)) in
       let joined = joined_later o f scope n m (if isolated then [] else s.scopes.here) j keep grown.results grown.arguments in
-      let front' = front ++ region_with_ids f g ∷ [] in
-      let placed : length front' ≡ r + 1 = length-append front (region_with_ids f g ∷ []) ∙ omega (arith, place) in
-      let more = others room margin isolated scope x (r + 1) front' m after rest blank fit.1 dominated_by.1 (omega (arith, deep)) (omega (arith, few, sum)) (omega (arith, count)) placed fresh_more (all_back _ (region_ids g) tail own) apart joined (blank_passed 32 ahead refl) in
+      let preceding' = preceding ++ region_with_ids f g ∷ [] in
+      let placed : length preceding' ≡ r + 1 = length-append preceding (region_with_ids f g ∷ []) ∙ omega (arith, place) in
+      let more = others headroom margin isolated scope x (r + 1) preceding' m after rest blank fit.1 dominated_by.1 (omega (arith, deep)) (omega (arith, few, sum)) (omega (arith, count)) placed fresh_more (all_back _ (region_ids g) tail own) apart joined (blank_passed 32 ahead refl) in
       let open_yet = not_seen CloseRound mid (lacks_token (mark Comma) CloseRound (44 ∷ 32 ∷ ahead) (32 ∷ ahead) (mark_token Comma (32 ∷ ahead) tt) (λ e. absurd cc)) in
-      let all : front' ++ region_list (regions_with_ids f (region k rs)) ≡ front ++ region_list (regions_with_ids f (region g (region k rs))) = append_assoc front (region_with_ids f g ∷ []) (region_list (regions_with_ids f (region k rs))) in
+      let all : preceding' ++ region_list (regions_with_ids f (region k rs)) ≡ preceding ++ region_list (regions_with_ids f (region g (region k rs))) = append_assoc preceding (region_with_ids f g ∷ []) (region_list (regions_with_ids f (region k rs))) in
       let total : s.next + length (region_ids g) + length tail ≡ s.next + length (regions_ids (region g (region k rs))) = omega (arith, sum) in
-      let whole = more_one (IsRegion o (Row d) (f x) isolated) room front _ (region_with_ids f g) s mid after _ read open_yet (mark_seen Comma mid (32 ∷ ahead) (mark_token Comma (32 ∷ ahead) tt)) more in
-      subst (λ l. IsMore IsMarkSeen CloseRound (IsRegion o (Row d) (f x) isolated) (suc room) front l s (trailing s rest (length (regions_ids (region g (region k rs)))))) all
-      (subst (λ (i : ℕ). IsMore IsMarkSeen CloseRound (IsRegion o (Row d) (f x) isolated) (suc room) front (front' ++ region_list (regions_with_ids f (region k rs))) s (record { bytes = rest; scopes = s.scopes; next = i })) total whole)
+      let whole = more_one (IsRegion o (Row d) (f x) isolated) headroom preceding _ (region_with_ids f g) s mid after _ read open_yet (mark_seen Comma mid (32 ∷ ahead) (mark_token Comma (32 ∷ ahead) tt)) more in
+      subst (λ l. IsMore IsMarkSeen CloseRound (IsRegion o (Row d) (f x) isolated) (suc headroom) preceding l s (trailing s rest (length (regions_ids (region g (region k rs)))))) all
+      (subst (λ (i : ℕ). IsMore IsMarkSeen CloseRound (IsRegion o (Row d) (f x) isolated) (suc headroom) preceding (preceding' ++ region_list (regions_with_ids f (region k rs))) s (record { bytes = rest; scopes = s.scopes; next = i })) total whole)
 
   -- ---- one operation
 

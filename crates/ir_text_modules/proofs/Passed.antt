@@ -16,7 +16,7 @@ use Rattle.ir_text_tokens.specs.Printing.{is_bare_id}
 use Rattle.ir_text_tokens.specs.Tokens.{Lexeme, bare, bang, name_at, suffix_len, skip}
 use Rattle.ir_text_tokens.proofs.Blanks.{skip_nothing}
 use Rattle.ir_text_tokens.proofs.Decimals.{decimal_number, first_passes, rest_passes}
-use Rattle.ir_text_tokens.proofs.Fronts.{next_front}
+use Rattle.ir_text_tokens.proofs.Precedings.{next_preceding}
 use Rattle.ir_text_tokens.proofs.Printed.{name_again}
 use Rattle.ir_text_tokens.proofs.Wholes.{letter_word, next_whole}
 use Rattle.ir_text_tokens.specs.Bodies.{begins, closer_of, comma_ahead, fault_of, is_fine, is_none, is_plain_body, is_plain_memref, most_open, part_len, scan}
@@ -179,17 +179,17 @@ abbrev NoStar : List ℕ → Type 0
 NoStar a = begins 42 (skip a) ≡ false
 
 pub element_star : (M : Grammar (List ℕ) TypeTerm) (token : Lexeme) (y : TypeTerm) (a q new : List ℕ) → Token token a q → IsAfter true M token y q new → NoStar a
-element_star M (bare w) y a q new t h = rw (next_front a q (bare w) t) (letters w q (next_whole a q (bare w) t).0)
+element_star M (bare w) y a q new t h = rw (next_preceding a q (bare w) t) (letters w q (next_whole a q (bare w) t).0)
   where
     letters : (w q : List ℕ) → is_bare_id w ≡ true → begins 42 (w ++ q) ≡ false
     letters [] q e = absurd cc
     letters (c ∷ cs) q e = no_star c (and_parts (is_letter c) (prefix_len is_word cs == length cs) e).0
-element_star M (bang n) y a q new t h = rw (next_front a q (bang n) t) refl
+element_star M (bang n) y a q new t h = rw (next_preceding a q (bang n) t) refl
 element_star M _ y a q new t h = absurd h
 
 pub element_dimension : (M : Grammar (List ℕ) TypeTerm) (token : Lexeme) (y : TypeTerm) (a q new : List ℕ) → Token token a q → IsAfter true M token y q new → begins_dimension (skip a) ≡ false
 element_dimension M (bare w) y a q new t h = word_no_dimension w a q t
-element_dimension M (bang n) y a q new t h = rw (next_front a q (bang n) t) refl
+element_dimension M (bang n) y a q new t h = rw (next_preceding a q (bang n) t) refl
 element_dimension M _ y a q new t h = absurd h
 
 dimensions_star : (dims : List (Option ℕ)) (mid : List ℕ) → list_all is_dimension dims ≡ true → NoStar mid → NoStar (flat_map dimension_text dims ++ mid)

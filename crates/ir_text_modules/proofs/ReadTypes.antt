@@ -163,56 +163,56 @@ word_fits o (suc depth) t old new h = after_fits o (suc depth) (memref_read o de
 -- ---- lists
 
 module _ {B : Type 0} (F : B → Type 0) where
-  all_last : (front : List B) (y : B) → AllByRecursion F front → F y → AllByRecursion F (front ++ y ∷ [])
+  all_last : (preceding : List B) (y : B) → AllByRecursion F preceding → F y → AllByRecursion F (preceding ++ y ∷ [])
   all_last [] y a f = (f, tt)
   all_last (x ∷ xs) y a f = (a.0, all_last xs y a.1 f)
 
   -- every item has the property, and there are at most `room` of them
-  more_all : (close : Mark) (P : List B → Grammar (List ℕ) B) → ((front : List B) (y : B) (a b : List ℕ) → P front y a b → F y) → (room : ℕ) (front ys : List B) (old new : List ℕ) → IsMore IsMark close P room front ys old new → AllByRecursion F front
-      → AllByRecursion F ys × (length ys ≤ length front + room)
+  more_all : (close : Mark) (P : List B → Grammar (List ℕ) B) → ((preceding : List B) (y : B) (a b : List ℕ) → P preceding y a b → F y) → (headroom : ℕ) (preceding ys : List B) (old new : List ℕ) → IsMore IsMark close P headroom preceding ys old new → AllByRecursion F preceding
+      → AllByRecursion F ys × (length ys ≤ length preceding + headroom)
   unfolding IsMore
-  more_all close P item zero front ys old new h a = absurd h
-  more_all close P item (suc room) front ys old new h a = ⊎_elim
-      (λ (k : IsMark close h.1 new × (ys ≡ front ++ h.0 ∷ [])). (subst (AllByRecursion F) (sym k.1) extra, omega (arith, ap length k.1, count)))
-      (λ (k : ((n : List ℕ) → IsMark close h.1 n → ⊥) × (n : List ℕ) × IsMark Comma h.1 n × IsMore IsMark close P room (front ++ h.0 ∷ []) ys n new).
-      let more = more_all close P item room (front ++ h.0 ∷ []) ys k.1 new k.3 extra in
+  more_all close P item zero preceding ys old new h a = absurd h
+  more_all close P item (suc headroom) preceding ys old new h a = ⊎_elim
+      (λ (k : IsMark close h.1 new × (ys ≡ preceding ++ h.0 ∷ [])). (subst (AllByRecursion F) (sym k.1) extra, omega (arith, ap length k.1, count)))
+      (λ (k : ((n : List ℕ) → IsMark close h.1 n → ⊥) × (n : List ℕ) × IsMark Comma h.1 n × IsMore IsMark close P headroom (preceding ++ h.0 ∷ []) ys n new).
+      let more = more_all close P item headroom (preceding ++ h.0 ∷ []) ys k.1 new k.3 extra in
       (more.0, omega (arith, more.1, count)))
       h.3
     where
-      extra : AllByRecursion F (front ++ h.0 ∷ [])
-      extra = all_last front h.0 a (item front h.0 old h.1 h.2)
+      extra : AllByRecursion F (preceding ++ h.0 ∷ [])
+      extra = all_last preceding h.0 a (item preceding h.0 old h.1 h.2)
 
-      count : length (front ++ h.0 ∷ []) ≡ length front + 1
-      count = length-append front (h.0 ∷ [])
+      count : length (preceding ++ h.0 ∷ []) ≡ length preceding + 1
+      count = length-append preceding (h.0 ∷ [])
 
-  list_all_so : (close : Mark) (P : List B → Grammar (List ℕ) B) → ((front : List B) (y : B) (a b : List ℕ) → P front y a b → F y) → (room : ℕ) (ys : List B) (old new : List ℕ) → IsList IsMark close P room ys old new → AllByRecursion F ys × (length ys ≤ room)
+  list_all_so : (close : Mark) (P : List B → Grammar (List ℕ) B) → ((preceding : List B) (y : B) (a b : List ℕ) → P preceding y a b → F y) → (headroom : ℕ) (ys : List B) (old new : List ℕ) → IsList IsMark close P headroom ys old new → AllByRecursion F ys × (length ys ≤ headroom)
   unfolding IsList
-  list_all_so close P item room ys old new (inl h) = (subst (AllByRecursion F) (sym h.1) tt, omega (arith, ap (λ (l : List B). length l) h.1))
-  list_all_so close P item room ys old new (inr h) = let more = more_all close P item room [] ys old new h.1 tt in (more.0, omega (arith, more.1))
+  list_all_so close P item headroom ys old new (inl h) = (subst (AllByRecursion F) (sym h.1) tt, omega (arith, ap (λ (l : List B). length l) h.1))
+  list_all_so close P item headroom ys old new (inr h) = let more = more_all close P item headroom [] ys old new h.1 tt in (more.0, omega (arith, more.1))
 
 -- ---- function types, if their parts have the property
 
 module _ (o : Bool) (depth : ℕ) (part : (t : TypeTerm) (old new : List ℕ) → IsType o depth t old new → FitsType o depth t) where
-  types_so : (room : ℕ) (ts : List TypeTerm) (old new : List ℕ) → IsTypes (IsType o depth) room ts old new → AllByRecursion (FitsType o depth) ts × (length ts ≤ room)
+  types_so : (headroom : ℕ) (ts : List TypeTerm) (old new : List ℕ) → IsTypes (IsType o depth) headroom ts old new → AllByRecursion (FitsType o depth) ts × (length ts ≤ headroom)
   unfolding IsTypes
-  types_so room ts old new h = list_all_so (FitsType o depth) CloseRound (λ before. IsType o depth) (λ front. part) room ts old new h
+  types_so headroom ts old new h = list_all_so (FitsType o depth) CloseRound (λ before. IsType o depth) (λ preceding. part) headroom ts old new h
 
-  outputs_so : (room : ℕ) (ts : List TypeTerm) (old new : List ℕ) → 1 ≤ room → IsOutputs (IsType o depth) room ts old new → AllByRecursion (FitsType o depth) ts × (length ts ≤ room)
+  outputs_so : (headroom : ℕ) (ts : List TypeTerm) (old new : List ℕ) → 1 ≤ headroom → IsOutputs (IsType o depth) headroom ts old new → AllByRecursion (FitsType o depth) ts × (length ts ≤ headroom)
   unfolding IsOutputs
-  outputs_so room ts old new some (inl h) = types_so room ts h.0 new h.2
-  outputs_so room ts old new some (inr h) =
+  outputs_so headroom ts old new some (inl h) = types_so headroom ts h.0 new h.2
+  outputs_so headroom ts old new some (inr h) =
       let one = h.1 in
       (subst (AllByRecursion (FitsType o depth)) (sym one.3.0) (part one.0 old one.1 one.2, tt), omega (arith, some, ap (λ (l : List TypeTerm). length l) one.3.0))
 
   -- the inputs and outputs have the property and are within their limits
-  signature_so : (room : ℕ) (x : List TypeTerm × List TypeTerm) (old new : List ℕ) → 1 ≤ room → IsSignature (IsType o depth) room x old new
-      → (AllByRecursion (FitsType o depth) x.0 × (length x.0 ≤ many)) × (AllByRecursion (FitsType o depth) x.1 × (length x.1 ≤ room))
+  signature_so : (headroom : ℕ) (x : List TypeTerm × List TypeTerm) (old new : List ℕ) → 1 ≤ headroom → IsSignature (IsType o depth) headroom x old new
+      → (AllByRecursion (FitsType o depth) x.0 × (length x.0 ≤ many)) × (AllByRecursion (FitsType o depth) x.1 × (length x.1 ≤ headroom))
   unfolding IsSignature
-  signature_so room x old new some h =
+  signature_so headroom x old new some h =
       let trailing = h.3.2 in
       let ins = types_so many h.0 old h.1 h.2 in
-      let outs = outputs_so room trailing.0 h.3.0 trailing.1 some trailing.2 in
-      subst (λ (y : List TypeTerm × List TypeTerm). (AllByRecursion (FitsType o depth) y.0 × (length y.0 ≤ many)) × (AllByRecursion (FitsType o depth) y.1 × (length y.1 ≤ room))) (sym trailing.3.0) (ins, outs)
+      let outs = outputs_so headroom trailing.0 h.3.0 trailing.1 some trailing.2 in
+      subst (λ (y : List TypeTerm × List TypeTerm). (AllByRecursion (FitsType o depth) y.0 × (length y.0 ≤ many)) × (AllByRecursion (FitsType o depth) y.1 × (length y.1 ≤ headroom))) (sym trailing.3.0) (ins, outs)
 
   function_so : (t : TypeTerm) (old new : List ℕ) → IsFunction (IsType o depth) t old new → FitsType o (suc depth) t
   unfolding IsFunction

@@ -4,8 +4,8 @@ use Rattle.ir_types.specs.Things.{ContextModel}
 use Rattle.ir_tree.specs.Tree.{Op}
 use Rattle.ir_text_tokens.specs.declared.fault.Fault.{Fault}
 use Rattle.ir_text.specs.Public.{IsNone, IsOnly, Spells}
-use Rattle.ir_text_expansion.specs.Stays.{has_more}
-use Rattle.ir_text_expansion.proofs.Stays.{stays}
+use Rattle.ir_text_modules.specs.Stays.{has_more}
+use Rattle.ir_text_modules.proofs.Stays.{stays}
 use Rattle.ir_text_modules.specs.Modules.{SpellsModule, read_fault, read_text}
 
 module _ (opaque : Bool) (text : List ℕ) where

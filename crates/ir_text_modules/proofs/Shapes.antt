@@ -11,7 +11,7 @@ use Rattle.ir_text_tokens.specs.Bytes.{is_letter, is_word}
 use Rattle.ir_text_tokens.specs.Tokens.{bare, skip}
 use Rattle.ir_text_tokens.specs.Printing.{is_bare_id}
 use Rattle.ir_text_tokens.proofs.Decimals.{decimal_number, first_passes}
-use Rattle.ir_text_tokens.proofs.Fronts.{next_front}
+use Rattle.ir_text_tokens.proofs.Precedings.{next_preceding}
 use Rattle.ir_text_tokens.proofs.Wholes.{next_whole}
 use Rattle.ir_text_types.specs.Grammars.{Token}
 use Rattle.ir_text_types.specs.ShapeGrammar.{is_decimal, begins_dimension, AreDimensions}
@@ -50,7 +50,7 @@ word_stops [] rest e = absurd cc
 word_stops (c ∷ cs) rest e = no_dimension c (and_parts (is_letter c) (prefix_len is_word cs == length cs) e).0
 
 pub word_no_dimension : (w mid rest : List ℕ) → Token (bare w) mid rest → begins_dimension (skip mid) ≡ false
-word_no_dimension w mid rest word = rw (next_front mid rest (bare w) word) (word_stops w rest (next_whole mid rest (bare w) word).0)
+word_no_dimension w mid rest word = rw (next_preceding mid rest (bare w) word) (word_stops w rest (next_whole mid rest (bare w) word).0)
 
 pub dimensions_again : (dims : List (Option ℕ)) (mid : List ℕ) → list_all is_dimension dims ≡ true → begins_dimension (skip mid) ≡ false → AreDimensions dims (flat_map dimension_text dims ++ mid) mid
 dimensions_again [] mid e none = (none, refl)

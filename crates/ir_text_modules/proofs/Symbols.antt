@@ -41,19 +41,19 @@ ends_part : (ns : List (List ℕ)) (rest : List ℕ) → Stops is_suffix rest �
 ends_part [] rest s = s
 ends_part (n ∷ ns) rest s = refl
 
-parts_again : (o : Bool) (room : ℕ) (front : List (List ℕ)) (n : List ℕ) (ns : List (List ℕ)) (rest : List ℕ) → list_all are_bytes_test (n ∷ ns) ≡ true → length (n ∷ ns) ≤ room → EndsAttr o rest → IsParts room front (front ++ n ∷ ns) (part_text n ++ others ns rest) rest
+parts_again : (o : Bool) (headroom : ℕ) (preceding : List (List ℕ)) (n : List ℕ) (ns : List (List ℕ)) (rest : List ℕ) → list_all are_bytes_test (n ∷ ns) ≡ true → length (n ∷ ns) ≤ headroom → EndsAttr o rest → IsParts headroom preceding (preceding ++ n ∷ ns) (part_text n ++ others ns rest) rest
 unfolding IsParts
-parts_again o zero front n ns rest e le s = absurd (omega (arith, le))
-parts_again o (suc room) front n [] rest e le s = (n, rest, (part_again n rest (are_bytes n (and_parts _ _ e).0) (ends_suffix o rest s)).part, inl (ends_colons o rest s, refl, refl))
-parts_again o (suc room) front n (m ∷ ms) rest e le s =
+parts_again o zero preceding n ns rest e le s = absurd (omega (arith, le))
+parts_again o (suc headroom) preceding n [] rest e le s = (n, rest, (part_again n rest (are_bytes n (and_parts _ _ e).0) (ends_suffix o rest s)).part, inl (ends_colons o rest s, refl, refl))
+parts_again o (suc headroom) preceding n (m ∷ ms) rest e le s =
     let p = and_parts (are_bytes_test n) (list_all are_bytes_test (m ∷ ms)) e in
     let tail = part_text m ++ others ms rest in
     let apart : others (m ∷ ms) rest ≡ 58 ∷ 58 ∷ tail = ap (λ (l : List ℕ). 58 ∷ 58 ∷ l) (append_assoc (part_text m) (parted (codes "::") false (map part_text ms)) rest) in
-    let all : front ++ n ∷ m ∷ ms ≡ (front ++ n ∷ []) ++ m ∷ ms = sym (append_assoc front (n ∷ []) (m ∷ ms)) in
-    let more = parts_again o room (front ++ n ∷ []) m ms rest p.1 (omega arith) s in
+    let all : preceding ++ n ∷ m ∷ ms ≡ (preceding ++ n ∷ []) ++ m ∷ ms = sym (append_assoc preceding (n ∷ []) (m ∷ ms)) in
+    let more = parts_again o headroom (preceding ++ n ∷ []) m ms rest p.1 (omega arith) s in
     let here = part_again n (58 ∷ 58 ∷ tail) (are_bytes n p.0) refl in
-    subst (λ l. IsParts (suc room) front (front ++ n ∷ m ∷ ms) (part_text n ++ l) rest) (sym apart)
-    (n, 58 ∷ 58 ∷ tail, here.part, inr (tail, mark_token DoubleColon tail tt, subst (λ l. IsParts room (front ++ n ∷ []) l tail rest) (sym all) more))
+    subst (λ l. IsParts (suc headroom) preceding (preceding ++ n ∷ m ∷ ms) (part_text n ++ l) rest) (sym apart)
+    (n, 58 ∷ 58 ∷ tail, here.part, inr (tail, mark_token DoubleColon tail tt, subst (λ l. IsParts headroom (preceding ++ n ∷ []) l tail rest) (sym all) more))
 
 pub symbol_read : (o : Bool) (depth : ℕ) (parts : List (List ℕ)) (rest : List ℕ) → are_parts parts ≡ true → EndsAttr o rest → Begins o depth (Symbol parts) (attr_text (Symbol parts) ++ rest) rest
 symbol_read o depth [] rest e s = absurd cc

@@ -32,7 +32,7 @@ use Rattle.ir_text_modules.proofs.Types.{function_type_again, line_ends}
 use Rattle.ir_tree_laws.specs.Renumbered.{regions_with_ids, with_ids}
 use Rattle.ir_text_modules.proofs.Fitting.{FitsHead}
 use Rattle.ir_text_modules.proofs.Texts.{Head, Regions, tail_then}
-use Rattle.ir_text_modules.proofs.Front.{start_of, bound_of, bound_types, bound_values, result_words}
+use Rattle.ir_text_modules.proofs.Preceding.{start_of, bound_of, bound_types, bound_values, result_words}
 
 -- the text after the attributes
 abbrev pub types_then : Head → Named → List ℕ → List ℕ

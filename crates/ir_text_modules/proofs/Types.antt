@@ -201,18 +201,18 @@ abbrev pub IsReadAgain : Bool → ℕ → Type 0
 IsReadAgain o depth = (t : TypeTerm) (rest : List ℕ) → type_depth t ≤ depth → is_written_type o t ≡ true → EndsType o rest → IsType o depth t (type_text t ++ rest) rest
 
 module _ (o : Bool) where
-  all_fit : (depth : ℕ) (front : List TypeTerm) (ts : TypeTerms) → types_depth ts ≤ depth → are_written_types o ts ≡ true → AllFit (λ before. FitsType o depth) front (type_list ts)
-  all_fit depth front no_types le e = tt
-  all_fit depth front (next_type t ts) le e =
+  all_fit : (depth : ℕ) (preceding : List TypeTerm) (ts : TypeTerms) → types_depth ts ≤ depth → are_written_types o ts ≡ true → AllFit (λ before. FitsType o depth) preceding (type_list ts)
+  all_fit depth preceding no_types le e = tt
+  all_fit depth preceding (next_type t ts) le e =
       let p = and_parts (is_written_type o t) (are_written_types o ts) e in
-      ((omega arith, p.0), all_fit depth (front ++ t ∷ []) ts (omega arith) p.1)
+      ((omega arith, p.0), all_fit depth (preceding ++ t ∷ []) ts (omega arith) p.1)
 
   module _ (depth : ℕ) (item : IsReadAgain o depth) where
     type_items : Items CloseRound (λ before. IsType o depth) type_text (λ before. FitsType o depth) (EndsType o)
     type_items = record {
-      reads = λ front y rest fit s. item y rest fit.0 fit.1 s;
-      ahead = λ front. type_ahead o depth;
-      lacks = λ front. type_lacks o CloseRound (λ e. absurd cc) depth;
+      reads = λ preceding y rest fit s. item y rest fit.0 fit.1 s;
+      ahead = λ preceding. type_ahead o depth;
+      lacks = λ preceding. type_lacks o CloseRound (λ e. absurd cc) depth;
       comma = λ rest. comma_ends o rest;
       closing = λ rest. round_ends o rest;
       closes = λ rest. mark_token CloseRound rest tt;
@@ -220,53 +220,53 @@ module _ (o : Bool) where
     }
 
     -- types in parentheses
-    round_again : (room : ℕ) (ts : TypeTerms) (rest : List ℕ) → types_depth ts ≤ depth → are_written_types o ts ≡ true → length (type_list ts) ≤ room → After IsMark OpenRound (IsTypes (IsType o depth) room) (type_list ts) (in_round (type_texts ts) ++ rest) rest
+    round_again : (headroom : ℕ) (ts : TypeTerms) (rest : List ℕ) → types_depth ts ≤ depth → are_written_types o ts ≡ true → length (type_list ts) ≤ headroom → After IsMark OpenRound (IsTypes (IsType o depth) headroom) (type_list ts) (in_round (type_texts ts) ++ rest) rest
     unfolding IsTypes
-    round_again room ts rest le e count =
+    round_again headroom ts rest le e count =
         let row = parted (codes ", ") true (type_texts ts) in
-        let inside = list_again CloseRound (λ before. IsType o depth) type_text (λ before. FitsType o depth) (EndsType o) type_items room (type_list ts) rest (all_fit depth [] ts le e) count in
+        let inside = list_again CloseRound (λ before. IsType o depth) type_text (λ before. FitsType o depth) (EndsType o) type_items headroom (type_list ts) rest (all_fit depth [] ts le e) count in
         let apart : in_round (type_texts ts) ++ rest ≡ 40 ∷ (row ++ 41 ∷ rest) = ap (λ (l : List ℕ). 40 ∷ l) (append_assoc row (41 ∷ []) rest) in
         rw apart (row ++ 41 ∷ rest, mark_token OpenRound (row ++ 41 ∷ rest) tt, rw (texts_again ts) inside)
 
     -- a single output type
-    lone_again : (room : ℕ) (t : TypeTerm) (rest : List ℕ) → is_function t ≡ false → depth ≤ 32 → type_depth t ≤ depth → is_written_type o t ≡ true → EndsType o rest → IsOutputs (IsType o depth) room (t ∷ []) ((type_text t ++ []) ++ rest) rest
+    lone_again : (headroom : ℕ) (t : TypeTerm) (rest : List ℕ) → is_function t ≡ false → depth ≤ 32 → type_depth t ≤ depth → is_written_type o t ≡ true → EndsType o rest → IsOutputs (IsType o depth) headroom (t ∷ []) ((type_text t ++ []) ++ rest) rest
     unfolding IsOutputs
-    lone_again room t rest plain small le e s =
+    lone_again headroom t rest plain small le e s =
         let k = word_again o t depth rest plain le small e s in
         rw (append_assoc (type_text t) [] rest) (inr (word_lacks o (IsMemref o depth) OpenRound k.0 t (type_text t ++ rest) k.1 rest k.2 k.3, (t, rest, item t rest le e s, (refl, refl))))
 
-    outputs_again : (room : ℕ) (ts : TypeTerms) (rest : List ℕ) → depth ≤ 32 → types_depth ts ≤ depth → are_written_types o ts ≡ true → length (type_list ts) ≤ room → EndsType o rest → IsOutputs (IsType o depth) room (type_list ts) (outputs_text (is_lone ts) (type_texts ts) ++ rest) rest
+    outputs_again : (headroom : ℕ) (ts : TypeTerms) (rest : List ℕ) → depth ≤ 32 → types_depth ts ≤ depth → are_written_types o ts ≡ true → length (type_list ts) ≤ headroom → EndsType o rest → IsOutputs (IsType o depth) headroom (type_list ts) (outputs_text (is_lone ts) (type_texts ts) ++ rest) rest
     unfolding IsOutputs
-    outputs_again room no_types rest small le e count s = inl (round_again room no_types rest le e count)
-    outputs_again room (next_type (Integer sign w) no_types) rest small le e count s = lone_again room (Integer sign w) rest refl small (omega arith) (and_parts _ _ e).0 s
-    outputs_again room (next_type Index no_types) rest small le e count s = lone_again room Index rest refl small (omega arith) refl s
-    outputs_again room (next_type (Memref dims elem) no_types) rest small le e count s = lone_again room (Memref dims elem) rest refl small (omega arith) (and_parts _ _ e).0 s
-    outputs_again room (next_type (OpaqueType text) no_types) rest small le e count s = lone_again room (OpaqueType text) rest refl small (omega arith) (and_parts _ _ e).0 s
-    outputs_again room (next_type (Function ins outs) no_types) rest small le e count s = inl (round_again room (next_type (Function ins outs) no_types) rest le e count)
-    outputs_again room (next_type t (next_type u us)) rest small le e count s = inl (round_again room (next_type t (next_type u us)) rest le e count)
+    outputs_again headroom no_types rest small le e count s = inl (round_again headroom no_types rest le e count)
+    outputs_again headroom (next_type (Integer sign w) no_types) rest small le e count s = lone_again headroom (Integer sign w) rest refl small (omega arith) (and_parts _ _ e).0 s
+    outputs_again headroom (next_type Index no_types) rest small le e count s = lone_again headroom Index rest refl small (omega arith) refl s
+    outputs_again headroom (next_type (Memref dims elem) no_types) rest small le e count s = lone_again headroom (Memref dims elem) rest refl small (omega arith) (and_parts _ _ e).0 s
+    outputs_again headroom (next_type (OpaqueType text) no_types) rest small le e count s = lone_again headroom (OpaqueType text) rest refl small (omega arith) (and_parts _ _ e).0 s
+    outputs_again headroom (next_type (Function ins outs) no_types) rest small le e count s = inl (round_again headroom (next_type (Function ins outs) no_types) rest le e count)
+    outputs_again headroom (next_type t (next_type u us)) rest small le e count s = inl (round_again headroom (next_type t (next_type u us)) rest le e count)
 
-    outputs_ahead : (room : ℕ) → Ahead (IsOutputs (IsType o depth) room)
+    outputs_ahead : (headroom : ℕ) → Ahead (IsOutputs (IsType o depth) headroom)
     unfolding IsOutputs
-    outputs_ahead room = either_ahead OpenRound (IsTypes (IsType o depth) room) (Then (IsType o depth) (λ y. Done (y ∷ []))) (then_ahead (IsType o depth) (λ y. Done (y ∷ [])) (type_ahead o depth))
+    outputs_ahead headroom = either_ahead OpenRound (IsTypes (IsType o depth) headroom) (Then (IsType o depth) (λ y. Done (y ∷ []))) (then_ahead (IsType o depth) (λ y. Done (y ∷ [])) (type_ahead o depth))
 
     -- inputs and outputs
-    signature_again : (room : ℕ) (ins outs : TypeTerms) (rest : List ℕ) → depth ≤ 32 → types_depth ins ≤ depth → types_depth outs ≤ depth → are_written_types o ins ≡ true → are_written_types o outs ≡ true → length (type_list ins) ≤ many → length (type_list outs) ≤ room → EndsType o rest
-        → After IsMark OpenRound (IsSignature (IsType o depth) room) (type_list ins, type_list outs) (type_text (Function ins outs) ++ rest) rest
+    signature_again : (headroom : ℕ) (ins outs : TypeTerms) (rest : List ℕ) → depth ≤ 32 → types_depth ins ≤ depth → types_depth outs ≤ depth → are_written_types o ins ≡ true → are_written_types o outs ≡ true → length (type_list ins) ≤ many → length (type_list outs) ≤ headroom → EndsType o rest
+        → After IsMark OpenRound (IsSignature (IsType o depth) headroom) (type_list ins, type_list outs) (type_text (Function ins outs) ++ rest) rest
     unfolding IsSignature
-    signature_again room ins outs rest small li lo ei eo ci co s =
+    signature_again headroom ins outs rest small li lo ei eo ci co s =
         let back = outputs_text (is_lone outs) (type_texts outs) ++ rest in
         let inputs = round_again many ins (32 ∷ 45 ∷ 62 ∷ 32 ∷ back) li ei ci in
-        let outputs = space (IsOutputs (IsType o depth) room) (outputs_ahead room) (type_list outs) back rest (outputs_again room outs rest small lo eo co s) in
+        let outputs = space (IsOutputs (IsType o depth) headroom) (outputs_ahead headroom) (type_list outs) back rest (outputs_again headroom outs rest small lo eo co s) in
         let apart : type_text (Function ins outs) ++ rest ≡ in_round (type_texts ins) ++ (32 ∷ 45 ∷ 62 ∷ 32 ∷ back) = append_assoc (in_round (type_texts ins)) (codes " -> " ++ outputs_text (is_lone outs) (type_texts outs)) rest in
         rw apart (inputs.0, inputs.1, (type_list ins, 32 ∷ 45 ∷ 62 ∷ 32 ∷ back, inputs.2, (32 ∷ back, space_token (mark Arrow) (45 ∷ 62 ∷ 32 ∷ back) (32 ∷ back) (mark_token Arrow (32 ∷ back) tt), (type_list outs, rest, outputs, (refl, refl)))))
 
     function_again : (ins outs : TypeTerms) (rest : List ℕ) → depth ≤ 32 → type_depth (Function ins outs) ≤ 32 → types_depth ins ≤ depth → types_depth outs ≤ depth → is_written_type o (Function ins outs) ≡ true → EndsType o rest → After IsMark OpenRound (IsFunction (IsType o depth)) (Function ins outs) (type_text (Function ins outs) ++ rest) rest
     unfolding IsFunction
-    function_again ins outs rest room small li lo e s =
+    function_again ins outs rest headroom small li lo e s =
         let p = and_parts (nat_le (length (type_list ins)) many && nat_le (length (type_list outs)) many) (are_written_types o ins && are_written_types o outs) e in
         let c = and_parts (nat_le (length (type_list ins)) many) (nat_le (length (type_list outs)) many) p.0 in
         let w = and_parts (are_written_types o ins) (are_written_types o outs) p.1 in
-        let k = signature_again many ins outs rest room li lo w.0 w.1 (leb-true (length (type_list ins)) many c.0) (leb-true (length (type_list outs)) many c.1) s in
+        let k = signature_again many ins outs rest headroom li lo w.0 w.1 (leb-true (length (type_list ins)) many c.0) (leb-true (length (type_list outs)) many c.1) s in
         (k.0, k.1, ((type_list ins, type_list outs), rest, k.2, (rw (terms_again ins, terms_again outs) (shallow ins outs small), rw (terms_again ins, terms_again outs) refl, refl)))
       where
         shallow : (ins outs : TypeTerms) → type_depth (Function ins outs) ≤ 32 → type_fault (Function ins outs) ≡ None

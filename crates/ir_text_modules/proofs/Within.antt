@@ -3,8 +3,8 @@ use Rattle.std.proofs.Common.{◌≤◌, ℕ, ◌-◌, Bool, true, false, List, 
 use Rattle.std.specs.Prelude.{if◌then◌else◌, nat_lt}
 use Rattle.ir_text_tokens.specs.declared.fault.Fault.{Fault}
 use Rattle.ir_text_aliases.specs.declared.mark.Mark.{Mark}
-use Rattle.ir_text_expansion.specs.Expanded.{Expanded, end_of, place_in}
-use Rattle.ir_text_expansion.specs.Marks.{carried}
+use Rattle.ir_text_modules.specs.Expanded.{Expanded, end_of, place_in}
+use Rattle.ir_text_modules.specs.Marks.{carried}
 
 either : (b : Bool) (x y n : ℕ) → x ≤ n → y ≤ n → (if b then x else y) ≤ n
 either true x y n l m = l
@@ -14,7 +14,7 @@ carried_within : (len : ℕ) (ms : List Mark) (end at : ℕ) → end ≤ len →
 unfolding carried
 carried_within len [] end at l = l
 carried_within len (m ∷ ms) end at l =
-    either (nat_lt at m.front) ((len - m.left) - (m.front - at)) _ len (omega arith)
+    either (nat_lt at m.scanned) ((len - m.left) - (m.scanned - at)) _ len (omega arith)
     (either (nat_lt at m.past) (len - m.left) (carried len ms end at) len (omega arith) (carried_within len ms end at l))
 
 end_within : (len : ℕ) (f : Option Fault) → end_of len f ≤ len

@@ -6,3 +6,11 @@ pub mod WrittenAttributes
 pub mod Standing
 pub mod Runs
 pub mod WrittenTrees
+pub mod Recursion
+pub mod Definitions
+pub mod Steps
+pub mod Endings
+pub mod Marks
+pub mod Expanded
+pub mod Expansions
+pub mod Stays

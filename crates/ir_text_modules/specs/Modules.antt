@@ -3,7 +3,7 @@ use Rattle.std.specs.Prelude.{◌≡◌, ℕ, List, Bool, true, false, Option, N
 use Rattle.ir_tree.specs.Meaning.{Operation}
 use Rattle.ir_text_tokens.specs.declared.fault.Fault.{Fault}
 use Rattle.ir_text.specs.Public.{Spells}
-use Rattle.ir_text_expansion.specs.Expanded.{expanded}
+use Rattle.ir_text_modules.specs.Expanded.{expanded}
 
 -- the text to parse: without opaque types and attributes the whole text, otherwise its expansion, without aliases and
 -- locations

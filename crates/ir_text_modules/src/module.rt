@@ -3,15 +3,15 @@ ghost use Rattle.std.specs.Prelude.{◌≡◌, ◌≤◌, ℕ, IfOk, IfErr, Err,
 ghost use Rattle.ir_types.specs.Refusals.{number_of};
 ghost use Rattle.ir_tree.specs.Meaning.{IsSoundIn};
 ghost use Rattle.ir_text.specs.Public.{IsNone, IsOnly, IsTextRefusal, Spells};
-ghost use Rattle.ir_text_expansion.specs.Expanded.{expanded};
-ghost use Rattle.ir_text_expansion.specs.Expansions.{expansion_of};
-ghost use Rattle.ir_text_expansion.specs.Stays.{has_more};
+ghost use Rattle.ir_text_modules.specs.Expanded.{expanded};
+ghost use Rattle.ir_text_modules.specs.Expansions.{expansion_of};
+ghost use Rattle.ir_text_modules.specs.Stays.{has_more};
 ghost use Rattle.ir_text_modules.specs.Modules.{SpellsModule};
 
+use crate::expansion::{Expansion, expand};
+use crate::unchanged::has_more;
 use ir_text::error::ReadError;
 use ir_text::reader::read_new;
-use ir_text_expansion::expansion::{Expansion, expand};
-use ir_text_expansion::unchanged::has_more;
 use ir_text_tokens::refusal::TextRefusal;
 use ir_tree::tree::TreeOp;
 use ir_types::context::Context;
@@ -41,7 +41,7 @@ pub fn read_module(
     ensures mode { IfOk result (λ x. x.0.opaque ≡ opaque) }
     ensures refused { (r : Refusal) (o : ℕ) → result ≡ Err (ReadError.Refused r o) → IsNone (SpellsModule opaque text.now) }
     ensures told { IfErr result (λ e. IsTextRefusal text.now e) }
-    ensures room { (o : ℕ) → result ≡ Err (ReadError.Full o) → ⊥ }
+    ensures headroom { (o : ℕ) → result ≡ Err (ReadError.Full o) → ⊥ }
 {
     if !opaque {
         return read_plain(alloc, key, text);
@@ -61,7 +61,7 @@ fn read_plain(alloc: Global, key: u64, text: &[u8]) -> Result<(Context, TreeOp),
     ensures mode { IfOk result (λ x. x.0.opaque ≡ false) }
     ensures refused { (r : Refusal) (o : ℕ) → result ≡ Err (ReadError.Refused r o) → IsNone (SpellsModule false text.now) }
     ensures told { IfErr result (λ e. IsTextRefusal text.now e) }
-    ensures room { (o : ℕ) → result ≡ Err (ReadError.Full o) → ⊥ }
+    ensures headroom { (o : ℕ) → result ≡ Err (ReadError.Full o) → ⊥ }
 {
     read_new(alloc, key, false, text)
 }
@@ -75,7 +75,7 @@ fn read_unchanged(alloc: Global, key: u64, text: &[u8]) -> Result<(Context, Tree
     ensures mode { IfOk result (λ x. x.0.opaque ≡ true) }
     ensures refused { (r : Refusal) (o : ℕ) → result ≡ Err (ReadError.Refused r o) → IsNone (SpellsModule true text.now) }
     ensures told { IfErr result (λ e. IsTextRefusal text.now e) }
-    ensures room { (o : ℕ) → result ≡ Err (ReadError.Full o) → ⊥ }
+    ensures headroom { (o : ℕ) → result ≡ Err (ReadError.Full o) → ⊥ }
 {
     read_new(alloc, key, true, text)
 }
@@ -88,7 +88,7 @@ fn read_expanded(alloc: Global, key: u64, text: &[u8]) -> Result<(Context, TreeO
     ensures mode { IfOk result (λ x. x.0.opaque ≡ true) }
     ensures refused { (r : Refusal) (o : ℕ) → result ≡ Err (ReadError.Refused r o) → IsNone (SpellsModule true text.now) }
     ensures told { IfErr result (λ e. IsTextRefusal text.now e) }
-    ensures room { (o : ℕ) → result ≡ Err (ReadError.Full o) → ⊥ }
+    ensures headroom { (o : ℕ) → result ≡ Err (ReadError.Full o) → ⊥ }
 {
     let Ok(expansion) = expand(alloc, Keyed::new(key), text) else {
         return Err(ReadError::Memory);

@@ -12,7 +12,7 @@ ghost use Rattle.ir_text_tokens.specs.Limits.{most_bytes};
 ghost use Rattle.ir_text_operations.specs.Free.{no_names};
 ghost use Rattle.ir_text_operations.specs.Spelling.{IsSingleOp, Spells, is_root};
 ghost use Rattle.ir_text.specs.Printing.{Printed, put_op, text_of};
-ghost use Rattle.ir_text_expansion.specs.Stays.{has_more};
+ghost use Rattle.ir_text_modules.specs.Stays.{has_more};
 ghost use Rattle.ir_text_modules.specs.Modules.{SpellsModule};
 ghost use Rattle.ir_text_modules.specs.Runs.{Runs};
 ghost use Rattle.ir_text_modules.specs.Standing.{unwritten};

@@ -18,6 +18,6 @@ IsAfter close bytes (Err e) = (after close bytes ≡ None) × Fails e (of_option
 module _ {S A : Type 0} (after : Mark → S → Option S) (close : Mark) (p : List A → Parse S A) where
   -- a step parses one item after others and what follows it: the list continues, ends or is wrong
   abbrev pub Steps : List A → S → Result AfterItem ReadError → List A → (List ℕ → S) → Type 0
-  Steps items s (Ok (More rest)) new at = (room : ℕ) → more_at after close p (suc room) items s ≡ more_at after close p room new (at rest.now)
-  Steps items s (Ok (End rest)) new at = (room : ℕ) → more_at after close p (suc room) items s ≡ Read (new, at rest.now)
-  Steps items s (Err e) new at = (room : ℕ) → Fails e (more_at after close p (suc room) items s)
+  Steps items s (Ok (More rest)) new at = (headroom : ℕ) → more_at after close p (suc headroom) items s ≡ more_at after close p headroom new (at rest.now)
+  Steps items s (Ok (End rest)) new at = (headroom : ℕ) → more_at after close p (suc headroom) items s ≡ Read (new, at rest.now)
+  Steps items s (Err e) new at = (headroom : ℕ) → Fails e (more_at after close p (suc headroom) items s)

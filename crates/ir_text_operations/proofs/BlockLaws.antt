@@ -27,7 +27,7 @@ use Rattle.ir_text_types.specs.Typed.{Text, Typed}
 use Rattle.ir_text_types.specs.Worlds.{From}
 use Rattle.ir_text_types.specs.Standing.{TypeStands}
 use Rattle.ir_text_types.specs.Laws.{Each}
-use Rattle.ir_text_types.proofs.Worlds.{bind_assoc, later, Exact, exact_where, exact_spelled, then_exact, done_exact, after_exact, either_exact}
+use Rattle.ir_text_types.proofs.Worlds.{bind_assoc, later, Exact, exact_where, exact_rendered, then_exact, done_exact, after_exact, either_exact}
 use Rattle.ir_text_types.proofs.TextLaws.{things, Same}
 use Rattle.ir_text_types.proofs.TypeLaws.{type_exact}
 use Rattle.ir_text_names.specs.States.{State, to_bytes, after_in, typed, with_typed, with_scopes, inside, outside}
@@ -38,7 +38,7 @@ use Rattle.ir_text_operations.specs.OpReading.{ops_from, ops_at, region_at, regi
 use Rattle.ir_text_operations.specs.Seen.{PackTerm, Seen, seen_scopes, seen_inside, seen_outside, IsMarkSeen, InText, IsBound}
 use Rattle.ir_text_operations.specs.OpGrammar.{IsName, IsArg, IsLabelArgs, IsHeadFrom, IsHead, IsOps, RegionTerm, IsRegion, IsRegions}
 use Rattle.ir_text_operations.specs.Standing.{Equals, Both, StateStands, OpStands, RegionStands}
-use Rattle.ir_text_operations.proofs.FrontLaws.{name_exact, begin_exact, items_exact, some_items_exact}
+use Rattle.ir_text_operations.proofs.PrecedingLaws.{name_exact, begin_exact, items_exact, some_items_exact}
 use Rattle.ir_text_operations.proofs.EntryLaws.{each_length}
 use Rattle.ir_text_operations.proofs.NameLaws.{held, state_marks, trailing_exact, state_token, in_typed, in_text, typed_exact, text_exact, inside_exact, outside_exact, each_more, bind_scoped, scoped_exact}
 
@@ -122,7 +122,7 @@ HeadStands = Both (Each TypeStands)
 
 labelled_exact : (id r : ℕ) (c : ContextModel) → Exact held StateStands c HeadStands (λ s. label_args_at id r s >>= λ a. Read (Some a.0, a.1)) (λ y old new. (args : List TypeTerm) × IsLabelArgs c.opaque id r args old new × (y ≡ Some args))
 labelled_exact id r c =
-    exact_spelled held StateStands c HeadStands (λ s. label_args_at id r s >>= λ a. Read (Some a.0, a.1)) (Then (IsLabelArgs c.opaque id r) (λ args. Done (Some args))) (λ y old new. (args : List TypeTerm) × IsLabelArgs c.opaque id r args old new × (y ≡ Some args))
+    exact_rendered held StateStands c HeadStands (λ s. label_args_at id r s >>= λ a. Read (Some a.0, a.1)) (Then (IsLabelArgs c.opaque id r) (λ args. Done (Some args))) (λ y old new. (args : List TypeTerm) × IsLabelArgs c.opaque id r args old new × (y ≡ Some args))
     (λ y t t' k. (k.0, subst (λ u. IsLabelArgs c.opaque id r k.0 t u) (sym k.3.1) k.2, k.3.0)) (λ y t t' k. (k.0, t', k.1, (k.2, refl)))
     (then_exact held StateStands c (Each TypeStands) HeadStands (label_args_at id r) (IsLabelArgs c.opaque id r) (λ a s. Read (Some a, s)) (λ args. Done (Some args)) (label_args_exact id r c) (λ d xs ys g stand.
     done_exact held StateStands d HeadStands (Some xs) (Some ys) stand))
@@ -139,28 +139,28 @@ head_exact id r c = state_token c HeadStands (head_from id r) (IsHeadFrom c.opaq
 
 module _ (close : Mark) (p : Parse State Op) (P : Grammar Seen Operation) (base : ContextModel) (item : (c : ContextModel) → IsExtendedBy base c → Exact held StateStands c OpStands p P) where
   abbrev Goes : ℕ → List Operation → Grammar Seen (List Operation)
-  Goes room front = Either IsMarkSeen close (Done front) (Then P (λ y. IsOps close P room (front ++ y ∷ [])))
+  Goes headroom preceding = Either IsMarkSeen close (Done preceding) (Then P (λ y. IsOps close P headroom (preceding ++ y ∷ [])))
 
   abbrev Ends : ℕ → List Operation → Grammar Seen (List Operation)
-  Ends room front ys old new = (IsMarkSeen close old new × (ys ≡ front)) ⊎ (Not IsMarkSeen close old × (y : Operation) × (mid : Seen) × P y old mid × IsOps close P room (front ++ y ∷ []) ys mid new)
+  Ends headroom preceding ys old new = (IsMarkSeen close old new × (ys ≡ preceding)) ⊎ (Not IsMarkSeen close old × (y : Operation) × (mid : Seen) × P y old mid × IsOps close P headroom (preceding ++ y ∷ []) ys mid new)
 
-  goes_into : (room : ℕ) (front ys : List Operation) (t t' : Seen) → Goes room front ys t t' → Ends room front ys t t'
-  goes_into room front ys t t' (inl k) = inl (subst (λ u. IsMarkSeen close t u) (sym k.2.1) k.1, k.2.0)
-  goes_into room front ys t t' (inr k) = inr (k.0, k.1.0, k.1.1, k.1.2, k.1.3)
+  goes_into : (headroom : ℕ) (preceding ys : List Operation) (t t' : Seen) → Goes headroom preceding ys t t' → Ends headroom preceding ys t t'
+  goes_into headroom preceding ys t t' (inl k) = inl (subst (λ u. IsMarkSeen close t u) (sym k.2.1) k.1, k.2.0)
+  goes_into headroom preceding ys t t' (inr k) = inr (k.0, k.1.0, k.1.1, k.1.2, k.1.3)
 
-  goes_back : (room : ℕ) (front ys : List Operation) (t t' : Seen) → Ends room front ys t t' → Goes room front ys t t'
-  goes_back room front ys t t' (inl k) = inl (t', k.0, (k.1, refl))
-  goes_back room front ys t t' (inr k) = inr (k.0, (k.1, k.2, k.3, k.4))
+  goes_back : (headroom : ℕ) (preceding ys : List Operation) (t t' : Seen) → Ends headroom preceding ys t t' → Goes headroom preceding ys t t'
+  goes_back headroom preceding ys t t' (inl k) = inl (t', k.0, (k.1, refl))
+  goes_back headroom preceding ys t t' (inr k) = inr (k.0, (k.1, k.2, k.3, k.4))
 
-  pub ops_exact : (room : ℕ) (c : ContextModel) → IsExtendedBy base c → (xs : List Op) (ys : List Operation) → From (λ z. Each OpStands z xs ys) c → Exact held StateStands c (Each OpStands) (ops_at close p room xs) (IsOps close P room ys)
+  pub ops_exact : (headroom : ℕ) (c : ContextModel) → IsExtendedBy base c → (xs : List Op) (ys : List Operation) → From (λ z. Each OpStands z xs ys) c → Exact held StateStands c (Each OpStands) (ops_at close p headroom xs) (IsOps close P headroom ys)
   unfolding ops_at IsOps
   ops_exact zero c b xs ys r = record { found = λ s t x s' g sound h e. absurd cc; only = λ s t y t' g sound h k. absurd k }
-  ops_exact (suc room) c b xs ys r =
-      exact_spelled held StateStands c (Each OpStands) (λ s. ops_from close p (ops_at close p room) xs s (after_in close s)) (Goes room ys) (Ends room ys) (goes_into room ys) (goes_back room ys)
-      (either_exact held StateStands after_in IsMarkSeen state_marks c (Each OpStands) close (ops_from close p (ops_at close p room) xs) (λ s. Read (xs, s)) (λ s. p s >>= λ x. ops_at close p room (xs ++ x.0 ∷ []) x.1) (Done ys) (Then P (λ y. IsOps close P room (ys ++ y ∷ [])))
+  ops_exact (suc headroom) c b xs ys r =
+      exact_rendered held StateStands c (Each OpStands) (λ s. ops_from close p (ops_at close p headroom) xs s (after_in close s)) (Goes headroom ys) (Ends headroom ys) (goes_into headroom ys) (goes_back headroom ys)
+      (either_exact held StateStands after_in IsMarkSeen state_marks c (Each OpStands) close (ops_from close p (ops_at close p headroom) xs) (λ s. Read (xs, s)) (λ s. p s >>= λ x. ops_at close p headroom (xs ++ x.0 ∷ []) x.1) (Done ys) (Then P (λ y. IsOps close P headroom (ys ++ y ∷ [])))
       (λ s mid. refl) (λ s. refl) (done_exact held StateStands c (Each OpStands) xs ys r)
-      (then_exact held StateStands c OpStands (Each OpStands) p P (λ x. ops_at close p room (xs ++ x ∷ [])) (λ y. IsOps close P room (ys ++ y ∷ [])) (item c b) (λ d x y g stand.
-      ops_exact room d (grows_trans base c d b g) (xs ++ x ∷ []) (ys ++ y ∷ []) (λ z k w. each_more OpStands z xs ys x y (r z (grows_trans c d z g k) w) (stand z k w)))))
+      (then_exact held StateStands c OpStands (Each OpStands) p P (λ x. ops_at close p headroom (xs ++ x ∷ [])) (λ y. IsOps close P headroom (ys ++ y ∷ [])) (item c b) (λ d x y g stand.
+      ops_exact headroom d (grows_trans base c d b g) (xs ++ x ∷ []) (ys ++ y ∷ []) (λ z k w. each_more OpStands z xs ys x y (r z (grows_trans c d z g k) w) (stand z k w)))))
 
 -- ---- regions
 

@@ -17,7 +17,7 @@ use Rattle.ir_text_attributes.specs.AttrGrammar.{EntryTerm, IsKey, IsAttr}
 use Rattle.ir_text_types.specs.Worlds.{From}
 use Rattle.ir_text_types.specs.Standing.{NameStands, AttrStands}
 use Rattle.ir_text_types.specs.Laws.{Each}
-use Rattle.ir_text_types.proofs.Worlds.{Exact, exact_where, exact_spelled, nothing_exact, then_exact, done_exact, after_exact, either_exact}
+use Rattle.ir_text_types.proofs.Worlds.{Exact, exact_where, exact_rendered, nothing_exact, then_exact, done_exact, after_exact, either_exact}
 use Rattle.ir_text_types.proofs.TextLaws.{things, Same, typed_marks}
 use Rattle.ir_text_attributes.proofs.PartLaws.{keys_agree, key_exact, value_exact}
 use Rattle.ir_text_attributes.proofs.AttrLaws.{attr_exact}
@@ -25,7 +25,7 @@ use Rattle.ir_text_operations.specs.Entries.{moved, staying, is_refused}
 use Rattle.ir_text_operations.specs.EntryReading.{is_property_in, refused_in, value_here, entry_at, entries_at, some_properties, properties_from, properties_at, attributes_from, attributes_at}
 use Rattle.ir_text_operations.specs.OpGrammar.{is_property, IsEntryValue, IsOpEntry, IsEntries, IsProperties, IsAttributes}
 use Rattle.ir_text_operations.specs.Standing.{Both, EntryStands}
-use Rattle.ir_text_operations.proofs.FrontLaws.{items_exact}
+use Rattle.ir_text_operations.proofs.PrecedingLaws.{items_exact}
 
 -- ---- lists whose items denote each other
 
@@ -89,24 +89,24 @@ with_value k o = o >>= λ a. Read ((k, a.0), a.1)
 module _ (o : Bool) (d : ContextModel) (mode : d.opaque ≡ o) (k : ℕ) (y : List ℕ) (stands : From (λ z. NameStands z k y) d) where
   allowed_exact : (b : Bool) → Exact things Same d EntryStands (λ s. with_value k (if b then Wrong else value_here 32 s)) (When (b ≡ false) (Then (IsEntryValue o) (λ a. Done (y, a))))
   allowed_exact true =
-      exact_spelled things Same d EntryStands (λ s. Wrong) (λ v old new. ⊥) (When (true ≡ false) (Then (IsEntryValue o) (λ a. Done (y, a)))) (λ v t t' e. absurd e) (λ v t t' e. absurd (true≢false e.0))
+      exact_rendered things Same d EntryStands (λ s. Wrong) (λ v old new. ⊥) (When (true ≡ false) (Then (IsEntryValue o) (λ a. Done (y, a)))) (λ v t t' e. absurd e) (λ v t t' e. absurd (true≢false e.0))
       (nothing_exact things Same d EntryStands)
   allowed_exact false =
-      exact_spelled things Same d EntryStands (λ s. with_value k (value_here 32 s)) (Then (IsEntryValue o) (λ a. Done (y, a))) (When (false ≡ false) (Then (IsEntryValue o) (λ a. Done (y, a)))) (λ v t t' e. (refl, e)) (λ v t t' e. e.1)
+      exact_rendered things Same d EntryStands (λ s. with_value k (value_here 32 s)) (Then (IsEntryValue o) (λ a. Done (y, a))) (When (false ≡ false) (Then (IsEntryValue o) (λ a. Done (y, a)))) (λ v t t' e. (refl, e)) (λ v t t' e. e.1)
       (then_exact things Same d AttrStands EntryStands (value_here 32) (IsEntryValue o) (λ a s. Read ((k, a), s)) (λ a. Done (y, a)) (value_read o d mode) (λ e a v g r.
       done_exact things Same e EntryStands (k, a) (y, v) (λ z j w. (stands z (grows_trans d e z g j) w, r z j w))))
 
 module _ (base : ContextModel) (op : Option ℕ) (name : Option (List ℕ)) (ps : Entries) (qs : List EntryTerm) (names : From (λ z. Both NameStands z op name) base) (before : From (λ z. Each EntryStands z ps qs) base) where
   entry_exact : (c : ContextModel) (es : Entries) (fs : List EntryTerm) → IsExtendedBy base c → From (λ z. Each EntryStands z es fs) c → Exact things Same c EntryStands (entry_at op ps es) (IsOpEntry base.opaque name qs fs)
   unfolding entry_at
-  entry_exact c es fs b front =
+  entry_exact c es fs b preceding =
       then_exact things Same c NameStands EntryStands key_at IsKey (λ k s. with_value k (if refused_in s.1 op ps k es then Wrong else value_here 32 s)) (λ y. When (is_refused bytes_eq (is_property name) qs y fs ≡ false) (Then (IsEntryValue base.opaque) (λ a. Done (y, a))))
       (key_exact c) (λ d k y g r.
       exact_where things Same d EntryStands (λ s. with_value k (if refused_in s.1 op ps k es then Wrong else value_here 32 s)) (λ s. with_value k (if is_refused bytes_eq (is_property name) qs y fs then Wrong else value_here 32 s)) (When (is_refused bytes_eq (is_property name) qs y fs ≡ false) (Then (IsEntryValue base.opaque) (λ a. Done (y, a))))
       (λ s h sound.
       let up = grows_trans c d s.1 g h in
       let all = grows_trans base c s.1 b up in
-      ap (λ t. with_value k (if t then Wrong else value_here 32 s)) (refused_same s.1 op name ps qs k y es fs sound (names s.1 all sound) (before s.1 all sound) (r s.1 h sound) (front s.1 up sound)))
+      ap (λ t. with_value k (if t then Wrong else value_here 32 s)) (refused_same s.1 op name ps qs k y es fs sound (names s.1 all sound) (before s.1 all sound) (r s.1 h sound) (preceding s.1 up sound)))
       (allowed_exact base.opaque d (g.opaque ∙ b.opaque) k y r (is_refused bytes_eq (is_property name) qs y fs)))
 
   entries_exact : Exact things Same base (Each EntryStands) (entries_at op ps) (IsEntries base.opaque name qs)

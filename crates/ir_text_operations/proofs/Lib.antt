@@ -1,6 +1,6 @@
 pub mod BlockLaws
 pub mod EntryLaws
-pub mod FrontLaws
+pub mod PrecedingLaws
 pub mod MadeLaws
 pub mod Members
 pub mod Modules
@@ -13,5 +13,5 @@ pub mod Placing
 pub mod Plain
 pub mod Roomy
 pub mod Singles
-pub mod Spelled
+pub mod Rendered
 pub mod Uses

@@ -7,7 +7,7 @@ use Rattle.ir_types.specs.Things.{ContextModel, IsName, IsExtendedBy}
 use Rattle.ir_types.specs.Sound.{IsSound}
 use Rattle.ir_types.specs.Terms.{name_term, type_term, attr_term}
 use Rattle.ir_types.specs.Words.{is_isolated}
-use Rattle.ir_types.proofs.Growth.{grows_refl, front_length}
+use Rattle.ir_types.proofs.Growth.{grows_refl, preceding_length}
 use Rattle.ir_types.proofs.Terms.{name_stays}
 use Rattle.std.proofs.lemmas.Option.{slice_get_within}
 use Rattle.ir_types.proofs.CallNumbers.{name_stands, new_name}
@@ -40,7 +40,7 @@ use Rattle.ir_text_names.specs.States.{State, fresh}
 use Rattle.ir_text_operations.specs.Seen.{Seen, seen_fresh}
 use Rattle.ir_tree.specs.declared.value.Value.{Value}
 use Rattle.ir_text_operations.specs.Free.{value_named, free_bound, no_types, no_names}
-use Rattle.ir_text_operations.specs.FrontReading.{Frees}
+use Rattle.ir_text_operations.specs.PrecedingReading.{Frees}
 use Rattle.ir_text_operations.specs.OpReading.{op_at, ops_at}
 use Rattle.ir_text_operations.specs.OpGrammar.{IsOp}
 use Rattle.ir_text_operations.specs.Standing.{Both, BoundStands, FreeStands, StateStands, OpStands}
@@ -161,7 +161,7 @@ explicit_wrong bytes c sound e y h = ⊎_elim
 -- ---- an implicit root
 
 name_is_there : (c d : ContextModel) (n : ℕ) → IsExtendedBy c d → IsName c n → is_name d n ≡ true
-name_is_there c d n g h = lt-ltb n (length d.names) (omega (arith, h, front_length c.names d.names g.names))
+name_is_there c d n g h = lt-ltb n (length d.names) (omega (arith, h, preceding_length c.names d.names g.names))
 
 with_parts : (z : ContextModel) (n : ℕ) (xs : List Op) (ys : List Operation) → name_term z n ≡ module_word → Each OpStands z xs ys → meaning z (module_with n xs) ≡ module_of ys
 with_parts z n xs ys name h = λ i. op (record { id = 0; name = name i; operands = []; results = []; properties = []; attributes = [] }) (region (block [] (ops_are z xs ys h i)) no_regions)
@@ -250,13 +250,13 @@ module _ (c : ContextModel) where
   pub numbers_are : (t : Op) → ids (meaning c t) ≡ ids t
   numbers_are t = map_ids (name_term c) (type_term c) (attr_term c) t
 
-  pub spelled_of : (o : Bool) (bytes : List ℕ) (t : Op) → IsOnly (IsSource o bytes) c t → text_reason bytes ≡ None → IsModuleTree c t → IsOnly (Spells o bytes) c t
-  spelled_of o bytes t h text w = record {
+  pub rendered_of : (o : Bool) (bytes : List ℕ) (t : Op) → IsOnly (IsSource o bytes) c t → text_reason bytes ≡ None → IsModuleTree c t → IsOnly (Spells o bytes) c t
+  rendered_of o bytes t h text w = record {
     known = h.known;
     holds = record {
       text = text;
-      spelled = h.holds;
-      formed = record {
+      rendered = h.holds;
+      wellformed = record {
         visible = subst IsTrue (sym (map_operands_visible (name_term c) (type_term c) (attr_term c) is_isolated t)) w.0.visible;
         shallow = rw (map_depth (name_term c) (type_term c) (attr_term c) t) w.0.shallow;
         counts = subst IsTrue (sym (map_counts (name_term c) (type_term c) (attr_term c) t)) w.0.counts;
@@ -264,27 +264,27 @@ module _ (c : ContextModel) where
       numbered = subst (λ xs. xs ≡ range_with_len 0 (length xs)) (sym (numbers_are t)) w.1;
       sorted = subst IsTrue (sym (all_rise t)) w.2.sorted;
     };
-    only = λ y s. h.only y s.spelled;
+    only = λ y s. h.only y s.rendered;
   }
 
   pub none_of : (o : Bool) (bytes : List ℕ) (t : Op) → IsOnly (IsSource o bytes) c t → (IsModuleTree c t → ⊥) → IsNone (Spells o bytes)
   none_of o bytes t h not_whole y s =
-      let same : y ≡ meaning c t = h.only y s.spelled in
-      let formed : IsValidTree is_isolated (meaning c t) = subst (IsValidTree is_isolated) same s.formed in
+      let same : y ≡ meaning c t = h.only y s.rendered in
+      let wellformed : IsValidTree is_isolated (meaning c t) = subst (IsValidTree is_isolated) same s.wellformed in
       let numbered : IsNumberedFrom 0 (meaning c t) = subst (λ (u : Operation). ids u ≡ range_with_len 0 (length (ids u))) same s.numbered in
       let sorted : IsTrue (every (dictionaries_rise key_before) (meaning c t)) = subst (λ (u : Operation). IsTrue (every (dictionaries_rise key_before) u)) same s.sorted in
       not_whole (
         record {
-          visible = subst IsTrue (map_operands_visible (name_term c) (type_term c) (attr_term c) is_isolated t) formed.visible;
-          shallow = rw (← map_depth (name_term c) (type_term c) (attr_term c) t) formed.shallow;
-          counts = subst IsTrue (map_counts (name_term c) (type_term c) (attr_term c) t) formed.counts;
+          visible = subst IsTrue (map_operands_visible (name_term c) (type_term c) (attr_term c) is_isolated t) wellformed.visible;
+          shallow = rw (← map_depth (name_term c) (type_term c) (attr_term c) t) wellformed.shallow;
+          counts = subst IsTrue (map_counts (name_term c) (type_term c) (attr_term c) t) wellformed.counts;
         },
         subst (λ xs. xs ≡ range_with_len 0 (length xs)) (numbers_are t) numbered,
         record { known = h.known; sorted = subst IsTrue (all_rise t) sorted },
       )
 
 pub source_none : (o : Bool) (bytes : List ℕ) → IsNone (IsSource o bytes) → IsNone (Spells o bytes)
-source_none o bytes none y s = none y s.spelled
+source_none o bytes none y s = none y s.rendered
 
 pub text_none : (o : Bool) (bytes : List ℕ) (r : TextRefusal × ℕ) → text_reason bytes ≡ Some r → IsNone (Spells o bytes)
 text_none o bytes r e y s = let t = s.text in absurd cc

@@ -28,7 +28,7 @@ use Rattle.ir_text_operations.specs.OpGrammar.{result_terms, IsBoundResults, IsF
 use Rattle.ir_text_names.specs.Packs.{Counted, counts}
 use Rattle.ir_text_operations.specs.Standing.{Both, PackStands, BindingStands, HereStands, ScopesStand, StateStands}
 use Rattle.ir_text_operations.proofs.EntryLaws.{each_length}
-use Rattle.ir_text_operations.proofs.FrontLaws.{known, SameText, Plain, find_stands, shift_exact, token_exact}
+use Rattle.ir_text_operations.proofs.PrecedingLaws.{known, SameText, Plain, find_stands, shift_exact, token_exact}
 
 abbrev pub held : State → ContextModel
 held s = s.things

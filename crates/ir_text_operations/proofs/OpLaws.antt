@@ -23,13 +23,13 @@ use Rattle.ir_text_types.specs.TypeGrammar.{IsFunctionType}
 use Rattle.ir_text_types.specs.Worlds.{From}
 use Rattle.ir_text_types.specs.Standing.{NameStands, TypeStands}
 use Rattle.ir_text_types.specs.Laws.{Each, SignatureStands}
-use Rattle.ir_text_types.proofs.Worlds.{bind_assoc, later, Exact, Step, Reads, exact_where, exact_spelled, nothing_exact, then_exact, after_exact}
+use Rattle.ir_text_types.proofs.Worlds.{bind_assoc, later, Exact, Step, Reads, exact_where, exact_rendered, nothing_exact, then_exact, after_exact}
 use Rattle.ir_text_types.proofs.TextLaws.{things, Same}
 use Rattle.ir_text_types.proofs.TypeLaws.{function_type_exact}
 use Rattle.ir_text_attributes.proofs.NodeLaws as attrs
 use Rattle.ir_text_names.specs.declared.bound.TypedValue.{TypedValue}
 use Rattle.ir_text_names.specs.States.{State, to_bytes, after_in, typed, with_typed, with_scopes, fresh}
-use Rattle.ir_text_operations.specs.FrontReading.{Frees, Start, start_at}
+use Rattle.ir_text_operations.specs.PrecedingReading.{Frees, Start, start_at}
 use Rattle.ir_text_attributes.specs.AttrReading.{Entries}
 use Rattle.ir_text_operations.specs.EntryReading.{properties_at, attributes_at}
 use Rattle.ir_text_operations.specs.Made.{made}
@@ -39,7 +39,7 @@ use Rattle.ir_text_operations.specs.Seen.{BoundTerm, PackTerm, Seen, seen_rest, 
 use Rattle.ir_text_attributes.specs.AttrGrammar.{EntryTerm}
 use Rattle.ir_text_operations.specs.OpGrammar.{FreeTerms, StartTerm, RegionTerm, is_property, IsStart, IsProperties, IsAttributes, IsRegions, IsFinished, IsOps, IsTail, IsOpWith, IsOp}
 use Rattle.ir_text_operations.specs.Standing.{BoundStands, FreeStands, HereStands, StateStands, StartStands, EntryStands, RegionStands, OpStands}
-use Rattle.ir_text_operations.proofs.FrontLaws.{begin_exact, shift_exact, start_exact}
+use Rattle.ir_text_operations.proofs.PrecedingLaws.{begin_exact, shift_exact, start_exact}
 use Rattle.ir_text_operations.proofs.EntryLaws.{properties_exact, attributes_exact}
 use Rattle.ir_text_operations.proofs.NameLaws.{held, state_marks, in_typed, in_text, typed_exact, text_exact, finish_scoped, scoped_exact}
 use Rattle.ir_text_operations.proofs.BlockLaws.{ops_exact, regions_exact}
@@ -50,9 +50,9 @@ use Rattle.ir_text_operations.proofs.MadeLaws.{op_stands}
 module _ {A B : Type 0} (c : ContextModel) (R : ContextModel → A → B → Type 0) where
   -- a test that decides the condition of the grammar
   pub when_exact : (b : Bool) (F : Type 0) (p : Parse State A) (P : Grammar Seen B) → (b ≡ true → F) → (F → b ≡ true) → Exact held StateStands c R p P → Exact held StateStands c R (λ s. if b then p s else Wrong) (When F P)
-  when_exact true F p P into back k = exact_spelled held StateStands c R p P (When F P) (λ y t t' j. (into refl, j)) (λ y t t' j. j.1) k
+  when_exact true F p P into back k = exact_rendered held StateStands c R p P (When F P) (λ y t t' j. (into refl, j)) (λ y t t' j. j.1) k
   when_exact false F p P into back k =
-      exact_spelled held StateStands c R (λ s. Wrong) (λ y old new. ⊥) (When F P) (λ y t t' j. absurd j) (λ y t t' j. absurd (true≢false (sym (back j.0)))) (nothing_exact held StateStands c R)
+      exact_rendered held StateStands c R (λ s. Wrong) (λ y old new. ⊥) (When F P) (λ y t t' j. absurd j) (λ y t t' j. absurd (true≢false (sym (back j.0)))) (nothing_exact held StateStands c R)
 
   -- a parser of a single possible value
   pub alone_exact : (p : Parse State A) (y : B) → Exact held StateStands c R p (Done y) → Exact held StateStands c (λ z x (u : Unit {0}). R z x y) p (Done tt)
@@ -162,7 +162,7 @@ module _ (id name : ℕ) (h : Start) (ps : Entries) (gs : List Region) where
       finished_exact : Exact held StateStands c OpStands finishing (Ends fs terms.1)
       finished_exact =
           let results : h.results ≡ begin.results = (starts c (grows_refl c) sound).0 in
-          exact_spelled held StateStands c OpStands finishing
+          exact_rendered held StateStands c OpStands finishing
           (λ v old new. (scopes : Scopes PackTerm) × IsFinished id h.results terms.1 old.scopes scopes × (v ≡ term_now) × (new ≡ seen_scopes old scopes)) (Ends fs terms.1)
           (λ y t t' k. (k.0, subst (λ r. IsFinished id r terms.1 t.scopes k.0) results k.1, k.3, k.2)) (λ y t t' k. (k.0, subst (λ r. IsFinished id r terms.1 t.scopes k.0) (sym results) k.1, k.3, k.2))
           (scoped_exact c OpStands op_now term_now op_now_stands (finish id h.results sig.1) (IsFinished id h.results terms.1) (finish_scoped id c h.results sig.1 terms.1 (λ z g w. (types z g w).1)))
@@ -290,12 +290,12 @@ module _ (free : Frees) (outer : FreeTerms) (base : ContextModel) (frees : From 
 
     in_name : (c : ContextModel) → h.name ≡ begin.name → Exact held StateStands c NameStands (in_typed (name_in h.name)) (Done begin.name)
     in_name c same =
-        exact_spelled held StateStands c NameStands (in_typed (name_in h.name)) (InText (Done h.name)) (Done begin.name) (λ y t t' k. (k.1.0 ∙ same, k.2 ∙ ap (seen_rest t) k.1.1)) (λ y t t' k. (t.bytes, (k.0 ∙ sym same, refl), k.1))
+        exact_rendered held StateStands c NameStands (in_typed (name_in h.name)) (InText (Done h.name)) (Done begin.name) (λ y t t' k. (k.1.0 ∙ same, k.2 ∙ ap (seen_rest t) k.1.1)) (λ y t t' k. (t.bytes, (k.0 ∙ sym same, refl), k.1))
         (typed_exact c NameStands (name_in h.name) (Done h.name) (attrs.name_exact c h.name))
 
     named_exact : (c : ContextModel) → IsExtendedBy base c → IsSound c → From (λ z. StartStands z h begin) c → Exact held StateStands c OpStands (at_name id h) (Propertied id begin)
     named_exact c b sound starts =
-        exact_spelled held StateStands c OpStands (at_name id h) (Then (Done {B = Unit {0}} tt) (λ u. Propertied id begin)) (Propertied id begin) (done_alone (Propertied id begin)) (alone_done (Propertied id begin))
+        exact_rendered held StateStands c OpStands (at_name id h) (Then (Done {B = Unit {0}} tt) (λ u. Propertied id begin)) (Propertied id begin) (done_alone (Propertied id begin)) (alone_done (Propertied id begin))
         (then_exact held StateStands c (λ z n (u : Unit {0}). NameStands z n begin.name) OpStands (in_typed (name_in h.name)) (Done tt) (λ n s. at_properties id h n (isolated_in s.things n) s) (λ u. Propertied id begin)
         (alone_exact c NameStands (in_typed (name_in h.name)) begin.name (in_name c (starts c (grows_refl c) sound).1)) (λ d n u g names.
         begin_exact held StateStands d OpStands (λ s. at_properties id h n (isolated_in s.things n)) (λ t. Propertied id begin) (λ s t k fine now.
@@ -312,7 +312,7 @@ module _ (free : Frees) (outer : FreeTerms) (base : ContextModel) (frees : From 
   pub op_with_exact : (c : ContextModel) → IsExtendedBy base c → Exact held StateStands c OpStands (op_with free p) (IsOpWith base.opaque outer P)
   op_with_exact c b =
       exact_where held StateStands c OpStands (op_with free p) (λ s. at_start s.scopes.here s.next s) (IsOpWith base.opaque outer P) (λ s g sound. op_same s)
-      (exact_spelled held StateStands c OpStands (λ s. at_start s.scopes.here s.next s) (λ y old new. Started old.scopes.here old.next y old new) (IsOpWith base.opaque outer P) started_into started_back
+      (exact_rendered held StateStands c OpStands (λ s. at_start s.scopes.here s.next s) (λ y old new. Started old.scopes.here old.next y old new) (IsOpWith base.opaque outer P) started_into started_back
       (begin_exact held StateStands c OpStands (λ s. at_start s.scopes.here s.next) (λ t. Started t.scopes.here t.next) (λ s t g sound now.
       subst (λ n. Exact held StateStands s.things OpStands (at_start s.scopes.here s.next) (Started t.scopes.here n)) (now s.things (grows_refl s.things) sound).2
       (started_exact s.things (grows_trans base c s.things b g) s.scopes.here t.scopes.here s.next (λ z k w. (now z k w).1.0)))))
@@ -362,9 +362,9 @@ module _ (free : Frees) (outer : FreeTerms) (last : ℕ) where
       let r = f.3.stands s.things (grows_refl s.things) f.3.sound in
       (f.3.grows, f.3.sound, r.0, f.1, subst (λ y. IsOp c.opaque outer last depth y (seen_fresh next bytes) f.1) (sym r.1) f.2, f.3.agree s.things (grows_refl s.things) f.3.sound)
 
-  pub op_spelled : (depth next : ℕ) (c : ContextModel) (bytes : Text) (y : Operation) (t : Seen) → IsSound c → From (λ z. FreeStands z free outer) c → IsOp c.opaque outer last depth y (seen_fresh next bytes) t
+  pub op_rendered : (depth next : ℕ) (c : ContextModel) (bytes : Text) (y : Operation) (t : Seen) → IsSound c → From (λ z. FreeStands z free outer) c → IsOp c.opaque outer last depth y (seen_fresh next bytes) t
       → (op_at free last depth (fresh next bytes c) ≡ Full) ⊎ ((o : Op) × (s : State) × (op_at free last depth (fresh next bytes c) ≡ Read (o, s)) × IsExtendedBy c s.things × IsSound s.things × OpStands s.things o y × StateStands s.things s t)
-  op_spelled depth next c bytes y t sound frees k = ⊎_elim
+  op_rendered depth next c bytes y t sound frees k = ⊎_elim
       (λ (e : op_at free last depth (fresh next bytes c) ≡ Full). inl e)
       (λ (f : (o : Op) × (s : State) × (op_at free last depth (fresh next bytes c) ≡ Read (o, s)) × Step held StateStands OpStands (fresh next bytes c) o y s t).
       inr (f.0, f.1, f.2, f.3.grows, f.3.sound, f.3.stands f.1.things (grows_refl f.1.things) f.3.sound, f.3.agree f.1.things (grows_refl f.1.things) f.3.sound))
@@ -377,10 +377,10 @@ module _ (free : Frees) (outer : FreeTerms) (last : ℕ) where
       let r = f.3.stands s.things (grows_refl s.things) f.3.sound in
       (f.3.grows, f.3.sound, each_known s.things os f.0 r, f.1, subst (λ ys. IsOps End (IsOp c.opaque outer last depth) 1048576 [] ys (seen_fresh next bytes) f.1) (sym (each_meaning s.things os f.0 r)) f.2, f.3.agree s.things (grows_refl s.things) f.3.sound)
 
-  pub ops_spelled : (depth next : ℕ) (c : ContextModel) (bytes : Text) (ys : List Operation) (t : Seen) → IsSound c → From (λ z. FreeStands z free outer) c → IsOps End (IsOp c.opaque outer last depth) 1048576 [] ys (seen_fresh next bytes) t
+  pub ops_rendered : (depth next : ℕ) (c : ContextModel) (bytes : Text) (ys : List Operation) (t : Seen) → IsSound c → From (λ z. FreeStands z free outer) c → IsOps End (IsOp c.opaque outer last depth) 1048576 [] ys (seen_fresh next bytes) t
       → (ops_at End (op_at free last depth) 1048576 [] (fresh next bytes c) ≡ Full)
       ⊎ ((os : List Op) × (s : State) × (ops_at End (op_at free last depth) 1048576 [] (fresh next bytes c) ≡ Read (os, s)) × IsExtendedBy c s.things × IsSound s.things × Each OpStands s.things os ys × StateStands s.things s t)
-  ops_spelled depth next c bytes ys t sound frees k = ⊎_elim
+  ops_rendered depth next c bytes ys t sound frees k = ⊎_elim
       (λ (e : ops_at End (op_at free last depth) 1048576 [] (fresh next bytes c) ≡ Full). inl e)
       (λ (f : (os : List Op) × (s : State) × (ops_at End (op_at free last depth) 1048576 [] (fresh next bytes c) ≡ Read (os, s)) × Step held StateStands (Each OpStands) (fresh next bytes c) os ys s t).
       inr (f.0, f.1, f.2, f.3.grows, f.3.sound, f.3.stands f.1.things (grows_refl f.1.things) f.3.sound, f.3.agree f.1.things (grows_refl f.1.things) f.3.sound))

@@ -22,7 +22,7 @@ use Rattle.ir_text_names.specs.Packs.{Counted}
 use Rattle.ir_text_names.specs.States.{State, after_in, typed, with_typed, with_scopes, inside, outside}
 use Rattle.ir_text_attributes.specs.AttrReading.{Entries}
 use Rattle.ir_text_operations.specs.EntryReading.{properties_at, attributes_at}
-use Rattle.ir_text_operations.specs.FrontReading.{Frees, Start, start_at, op_name_at, uses_at}
+use Rattle.ir_text_operations.specs.PrecedingReading.{Frees, Start, start_at, op_name_at, uses_at}
 use Rattle.ir_text_operations.specs.Made.{region_of}
 use Rattle.ir_text_operations.specs.OpReading.{bound_types, op_of, signature_here, tail_at, begun, region_at, regions_at, ops_at, op_with, op_at}
 use Rattle.ir_text_operations.specs.Openings.{IsOfText, Opened, called_at, opening_at, result_types_at, finished_at}

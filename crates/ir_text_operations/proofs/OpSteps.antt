@@ -9,15 +9,15 @@ use Rattle.ir_text_names.specs.States.{State, after_in}
 use Rattle.ir_text_operations.specs.OpReading.{ops_at}
 
 module _ (close : Mark) (p : Parse State Op) where
-  module _ (items : List Op) (room i : ℕ) (s : State) (total : Outcome (List Op × State)) (so_far : ops_at close p (room - i) items s ≡ total) (lt : i < room) where
-    one : room - i ≡ suc (room - (i + 1))
+  module _ (items : List Op) (headroom i : ℕ) (s : State) (total : Outcome (List Op × State)) (so_far : ops_at close p (headroom - i) items s ≡ total) (lt : i < headroom) where
+    one : headroom - i ≡ suc (headroom - (i + 1))
     one = omega arith
 
     pub closes : (end : State) → after_in close s ≡ Some end → total ≡ Read (items, end)
     unfolding ops_at
     closes end closed = sym so_far ∙ rw (one, closed) refl
 
-    pub goes_on : (x : Op) (mid : State) → after_in close s ≡ None → p s ≡ Read (x, mid) → ops_at close p (room - (i + 1)) (items ++ x ∷ []) mid ≡ total
+    pub goes_on : (x : Op) (mid : State) → after_in close s ≡ None → p s ≡ Read (x, mid) → ops_at close p (headroom - (i + 1)) (items ++ x ∷ []) mid ≡ total
     unfolding ops_at
     goes_on x mid going item = sym (rw (one, going, item) refl) ∙ so_far
 
@@ -25,8 +25,8 @@ module _ (close : Mark) (p : Parse State Op) where
     unfolding ops_at
     no_item e going fails = fails_with e (p s) total (λ none. sym so_far ∙ rw (one, going, none) refl) (λ none. sym so_far ∙ rw (one, going, none) refl) fails
 
-  pub is_full : (items : List Op) (room i : ℕ) (s : State) (total : Outcome (List Op × State)) → ops_at close p (room - i) items s ≡ total → room ≤ i → total ≡ Wrong
+  pub is_full : (items : List Op) (headroom i : ℕ) (s : State) (total : Outcome (List Op × State)) → ops_at close p (headroom - i) items s ≡ total → headroom ≤ i → total ≡ Wrong
   unfolding ops_at
-  is_full items room i s total so_far le =
-      let k : room - i ≡ 0 = omega arith in
+  is_full items headroom i s total so_far le =
+      let k : headroom - i ≡ 0 = omega arith in
       sym so_far ∙ rw k refl

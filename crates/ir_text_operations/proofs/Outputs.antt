@@ -23,48 +23,48 @@ read_parts {A} {S} x y s t e =
     (ap (λ (q : A × S). q.0) p, ap (λ (q : A × S). q.1) p)
 
 module _ {S A : Type 0} (after : Mark → S → Option S) (close : Mark) (p : List A → Parse S A) where
-  from_length : (room : ℕ) → ((items : List A) (s : S) (xs : List A) (s' : S) → more_at after close p room items s ≡ Read (xs, s') → length xs ≤ length items + room)
-      → (items : List A) (x : A) (mid : S) (xs : List A) (s' : S) (o : Option S) → more_from after close p (more_at after close p room) (items ++ x ∷ []) mid o ≡ Read (xs, s') → length xs ≤ length items + suc room
-  from_length room go items x mid xs s' (Some end) e =
+  from_length : (headroom : ℕ) → ((items : List A) (s : S) (xs : List A) (s' : S) → more_at after close p headroom items s ≡ Read (xs, s') → length xs ≤ length items + headroom)
+      → (items : List A) (x : A) (mid : S) (xs : List A) (s' : S) (o : Option S) → more_from after close p (more_at after close p headroom) (items ++ x ∷ []) mid o ≡ Read (xs, s') → length xs ≤ length items + suc headroom
+  from_length headroom go items x mid xs s' (Some end) e =
       let same = (read_parts (items ++ x ∷ []) xs end s' e).0 in
       rw (← same) (omega (arith, length-append items (x ∷ [])))
-  from_length room go items x mid xs s' None e =
-      let c = option_read (after Comma mid) (more_at after close p room (items ++ x ∷ [])) (xs, s') e in
+  from_length headroom go items x mid xs s' None e =
+      let c = option_read (after Comma mid) (more_at after close p headroom (items ++ x ∷ [])) (xs, s') e in
       omega (arith, go (items ++ x ∷ []) c.0 xs s' c.2, length-append items (x ∷ []))
 
-  more_length : (room : ℕ) (items : List A) (s : S) (xs : List A) (s' : S) → more_at after close p room items s ≡ Read (xs, s') → length xs ≤ length items + room
+  more_length : (headroom : ℕ) (items : List A) (s : S) (xs : List A) (s' : S) → more_at after close p headroom items s ≡ Read (xs, s') → length xs ≤ length items + headroom
   unfolding more_at
   more_length zero items s xs s' e = absurd cc
-  more_length (suc room) items s xs s' e =
-      let b = bind_read (p items s) (λ x. more_from after close p (more_at after close p room) (items ++ x.0 ∷ []) x.1 (after close x.1)) (xs, s') e in
-      from_length room (more_length room) items b.0.0 b.0.1 xs s' (after close b.0.1) b.2
+  more_length (suc headroom) items s xs s' e =
+      let b = bind_read (p items s) (λ x. more_from after close p (more_at after close p headroom) (items ++ x.0 ∷ []) x.1 (after close x.1)) (xs, s') e in
+      from_length headroom (more_length headroom) items b.0.0 b.0.1 xs s' (after close b.0.1) b.2
 
-  list_from_length : (room : ℕ) (s : S) (xs : List A) (s' : S) (o : Option S) → list_from after close p room s o ≡ Read (xs, s') → length xs ≤ room
-  list_from_length room s xs s' (Some end) e = rw (← (read_parts [] xs end s' e).0) (omega arith)
-  list_from_length room s xs s' None e = omega (arith, more_length room [] s xs s' e)
+  list_from_length : (headroom : ℕ) (s : S) (xs : List A) (s' : S) (o : Option S) → list_from after close p headroom s o ≡ Read (xs, s') → length xs ≤ headroom
+  list_from_length headroom s xs s' (Some end) e = rw (← (read_parts [] xs end s' e).0) (omega arith)
+  list_from_length headroom s xs s' None e = omega (arith, more_length headroom [] s xs s' e)
 
-  pub list_length : (room : ℕ) (s : S) (xs : List A) (s' : S) → list_at after close p room s ≡ Read (xs, s') → length xs ≤ room
+  pub list_length : (headroom : ℕ) (s : S) (xs : List A) (s' : S) → list_at after close p headroom s ≡ Read (xs, s') → length xs ≤ headroom
   unfolding list_at
-  list_length room s xs s' e = list_from_length room s xs s' (after close s) e
+  list_length headroom s xs s' e = list_from_length headroom s xs s' (after close s) e
 
-types_length : (p : Parse Typed ℕ) (room : ℕ) (s : Typed) (xs : List ℕ) (s' : Typed) → types_at p room s ≡ Read (xs, s') → length xs ≤ room
+types_length : (p : Parse Typed ℕ) (headroom : ℕ) (s : Typed) (xs : List ℕ) (s' : Typed) → types_at p headroom s ≡ Read (xs, s') → length xs ≤ headroom
 unfolding types_at
-types_length p room s xs s' e = list_length after_typed CloseRound (λ before. p) room s xs s' e
+types_length p headroom s xs s' e = list_length after_typed CloseRound (λ before. p) headroom s xs s' e
 
-outputs_length : (p : Parse Typed ℕ) (room : ℕ) (s : Typed) (xs : List ℕ) (s' : Typed) (o : Option Typed) → 1 ≤ room → outputs_from p room s o ≡ Read (xs, s') → length xs ≤ room
-outputs_length p room s xs s' (Some c) h e = types_length p room c xs s' e
-outputs_length p room s xs s' None h e =
+outputs_length : (p : Parse Typed ℕ) (headroom : ℕ) (s : Typed) (xs : List ℕ) (s' : Typed) (o : Option Typed) → 1 ≤ headroom → outputs_from p headroom s o ≡ Read (xs, s') → length xs ≤ headroom
+outputs_length p headroom s xs s' (Some c) h e = types_length p headroom c xs s' e
+outputs_length p headroom s xs s' None h e =
     let b = bind_read (p s) (λ x. Read (x.0 ∷ [], x.1)) (xs, s') e in
     rw (← (read_parts (b.0.0 ∷ []) xs b.0.1 s' b.2).0) h
 
-signature_length : (p : Parse Typed ℕ) (room : ℕ) (s : Typed) (x : List ℕ × List ℕ) (s' : Typed) → 1 ≤ room → signature_at p room s ≡ Read (x, s') → length x.1 ≤ room
+signature_length : (p : Parse Typed ℕ) (headroom : ℕ) (s : Typed) (x : List ℕ × List ℕ) (s' : Typed) → 1 ≤ headroom → signature_at p headroom s ≡ Read (x, s') → length x.1 ≤ headroom
 unfolding signature_at outputs_at
-signature_length p room s x s' h e =
-    let i = bind_read (types_at p many s) (λ inputs. of_option (after_typed Arrow inputs.1) >>= λ a. outputs_at p room a >>= λ outputs. Read ((inputs.0, outputs.0), outputs.1)) (x, s') e in
-    let a = option_read (after_typed Arrow i.0.1) (λ a. outputs_at p room a >>= λ outputs. Read ((i.0.0, outputs.0), outputs.1)) (x, s') i.2 in
-    let o = bind_read (outputs_at p room a.0) (λ outputs. Read ((i.0.0, outputs.0), outputs.1)) (x, s') a.2 in
+signature_length p headroom s x s' h e =
+    let i = bind_read (types_at p many s) (λ inputs. of_option (after_typed Arrow inputs.1) >>= λ a. outputs_at p headroom a >>= λ outputs. Read ((inputs.0, outputs.0), outputs.1)) (x, s') e in
+    let a = option_read (after_typed Arrow i.0.1) (λ a. outputs_at p headroom a >>= λ outputs. Read ((i.0.0, outputs.0), outputs.1)) (x, s') i.2 in
+    let o = bind_read (outputs_at p headroom a.0) (λ outputs. Read ((i.0.0, outputs.0), outputs.1)) (x, s') a.2 in
     let same : o.0.0 ≡ x.1 = ap (λ (q : List ℕ × List ℕ). q.1) (read_parts (i.0.0, o.0.0) x o.0.1 s' o.2).0 in
-    rw (← same) (outputs_length p room a.0 o.0.0 o.0.1 (after_typed OpenRound a.0) h o.1)
+    rw (← same) (outputs_length p headroom a.0 o.0.0 o.0.1 (after_typed OpenRound a.0) h o.1)
 
 -- an operation has at most 256 results
 pub function_type_length : (s : Typed) (x : List ℕ × List ℕ) (s' : Typed) → signature_here s ≡ Read (x, s') → length x.1 ≤ 256

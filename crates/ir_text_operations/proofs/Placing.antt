@@ -22,7 +22,7 @@ module _ {K A : Type 0} (before : K → K → Bool) where
           rw h (subst (λ m. f ∷ put_among before e fs ≡ take m (f ∷ fs) ++ e ∷ drop m (f ∷ fs)) one (ap (λ (l : List (K × A)). f ∷ l) rest))
 
   -- inserting two lists: the second one is inserted first
-  pub put_both : (done front back : List (K × A)) → put_all before done (front ++ back) ≡ put_all before (put_all before done back) front
+  pub put_both : (done preceding back : List (K × A)) → put_all before done (preceding ++ back) ≡ put_all before (put_all before done back) preceding
   put_both done [] back = refl
   put_both done (f ∷ fs) back = ap (put_among before f) (put_both done fs back)
 

@@ -8,7 +8,7 @@ use Rattle.ir_text_tokens.specs.Bytes.{is_letter}
 use Rattle.ir_text_tokens.specs.Tokens.{Lexeme, mark, string, value, label, hash, bang, symbol, quoted, skip, next, first_token, token_at, sign_at, symbol_at, mark_at, mark_of, longer, name_parts, string_parts, number_at, hex_len, digits_len, fraction_len, trailing_first}
 use Rattle.ir_text_types.specs.Outcomes.{Outcome, Read, ◌>>=◌, of_option}
 use Rattle.ir_text_names.specs.declared.bound.TypedValue.{TypedValue}
-use Rattle.ir_text_operations.specs.FrontReading.{place_of, place_from, place_at, first_at, member_at}
+use Rattle.ir_text_operations.specs.PrecedingReading.{place_of, place_from, place_at, first_at, member_at}
 
 module _ (bytes : List ℕ) where
   -- the token is no index of a value

@@ -8,7 +8,7 @@ use Rattle.ir_text_tokens.specs.declared.refusal.TextRefusal.{TextRefusal}
 use Rattle.ir_types.specs.Things.{ContextModel, IsExtendedBy, IsType}
 use Rattle.ir_types.specs.Sound.{IsSound}
 use Rattle.ir_types.specs.Terms.{name_term, type_term, attr_term}
-use Rattle.ir_types.proofs.Growth.{grows_refl, front_length}
+use Rattle.ir_types.proofs.Growth.{grows_refl, preceding_length}
 use Rattle.ir_types.proofs.Terms.{type_stays}
 use Rattle.ir_tree.specs.declared.value.Value.{Value}
 use Rattle.ir_tree.specs.Tree.{Op}
@@ -27,7 +27,7 @@ use Rattle.ir_text_types.specs.declared.error.ReadError.{ReadError}
 use Rattle.ir_text_operations.specs.declared.single.OpError.{OpError}
 use Rattle.ir_text_operations.specs.declared.single.OpError.TheVariants.{Text}
 use Rattle.ir_text_operations.specs.Free.{value_named, free_bound, free_term, bound_term}
-use Rattle.ir_text_operations.specs.FrontReading.{Frees}
+use Rattle.ir_text_operations.specs.PrecedingReading.{Frees}
 use Rattle.ir_text_operations.specs.OpReading.{op_at}
 use Rattle.ir_text_operations.specs.Seen.{seen_fresh}
 use Rattle.ir_text_operations.specs.OpGrammar.{FreeTerms, IsOp}
@@ -50,7 +50,7 @@ module _ (types : Value → Option ℕ) (c : ContextModel) (known : (v : Value) 
   type_free z g v None e = tt
   type_free z g v (Some ty) e =
       let of_c : IsType c ty = subst (λ o. IfSome o (λ ty. IsType c ty)) e (known v) in
-      (refl, (omega (arith, of_c, front_length c.types z.types g.types), type_stays c z ty g of_c))
+      (refl, (omega (arith, of_c, preceding_length c.types z.types g.types), type_stays c z ty g of_c))
 
   name_free : (z : ContextModel) → IsExtendedBy c z → (o : Option Value) → Both BoundStands z (option_and_then (λ v. option_map (λ ty. record { value = v; ty = ty }) (types v)) o) (option_map (bound_term c) (option_and_then (λ v. option_map (λ ty. record { value = v; ty = ty }) (types v)) o))
   name_free z g None = tt
@@ -132,23 +132,23 @@ module _ (free : Frees) (outer : FreeTerms) (last first : ℕ) (bytes : List ℕ
 -- ---- the checks after the parse
 
 module _ (o : Bool) (outer : FreeTerms) (first : ℕ) (bytes : List ℕ) where
-  pub part_spelled : (c : ContextModel) (t : Op) → text_reason bytes ≡ None → IsOnly (IsSingleOp o outer (last_from first) first bytes) c t → IsLoneTree first c t → IsOnly (SpellsOp o outer first bytes) c t
-  part_spelled c t text h w = record {
+  pub part_rendered : (c : ContextModel) (t : Op) → text_reason bytes ≡ None → IsOnly (IsSingleOp o outer (last_from first) first bytes) c t → IsLoneTree first c t → IsOnly (SpellsOp o outer first bytes) c t
+  part_rendered c t text h w = record {
     known = h.known;
     holds = record {
       text = text;
-      spelled = h.holds;
+      rendered = h.holds;
       shallow = rw (map_depth (name_term c) (type_term c) (attr_term c) t) w.0;
       counts = subst IsTrue (sym (map_counts (name_term c) (type_term c) (attr_term c) t)) w.1;
       numbered = subst (λ xs. xs ≡ range_with_len first (length xs)) (sym (numbers_are c t)) w.2;
       sorted = subst IsTrue (sym (all_rise c t)) w.3.sorted;
     };
-    only = λ y s. h.only y s.spelled;
+    only = λ y s. h.only y s.rendered;
   }
 
   pub no_part : (c : ContextModel) (t : Op) → IsOnly (IsSingleOp o outer (last_from first) first bytes) c t → (IsLoneTree first c t → ⊥) → IsNone (SpellsOp o outer first bytes)
   no_part c t h not_part y s =
-      let same : y ≡ meaning c t = h.only y s.spelled in
+      let same : y ≡ meaning c t = h.only y s.rendered in
       let shallow : depth (meaning c t) ≤ most_around = subst (λ (u : Operation). depth u ≤ most_around) same s.shallow in
       let counts : IsTrue (counts_fit (meaning c t)) = subst (λ (u : Operation). IsTrue (counts_fit u)) same s.counts in
       let numbered : IsNumberedFrom first (meaning c t) = subst (λ (u : Operation). ids u ≡ range_with_len first (length (ids u))) same s.numbered in
@@ -161,7 +161,7 @@ module _ (o : Bool) (outer : FreeTerms) (first : ℕ) (bytes : List ℕ) where
       )
 
   pub single_none : IsNone (IsSingleOp o outer (last_from first) first bytes) → IsNone (SpellsOp o outer first bytes)
-  single_none none y s = none y s.spelled
+  single_none none y s = none y s.rendered
 
   pub no_text : (r : TextRefusal × ℕ) → text_reason bytes ≡ Some r → IsNone (SpellsOp o outer first bytes)
   no_text r e y s = let t = s.text in absurd cc

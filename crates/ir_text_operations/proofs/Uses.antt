@@ -9,7 +9,7 @@ use Rattle.ir_text_names.specs.declared.bound.TypedValue.{TypedValue}
 use Rattle.ir_text_types.specs.Typed.{Text}
 use Rattle.ir_text_names.specs.NameReading.{name_from, value_name_at}
 use Rattle.ir_text_operations.specs.Free.{seen_as}
-use Rattle.ir_text_operations.specs.FrontReading.{Frees, member_of, use_from, use_at}
+use Rattle.ir_text_operations.specs.PrecedingReading.{Frees, member_of, use_from, use_at}
 
 module _ (free : Frees) (here : List (Binding (List TypedValue))) where
   abbrev seen : List ℕ × Text → Outcome (TypedValue × Text)

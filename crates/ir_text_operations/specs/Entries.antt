@@ -13,12 +13,12 @@ module _ {K A : Type 0} (is_property : K → Bool) where
   staying es = filter (λ e. not (is_property e.0)) es
 
   -- the dictionary that the key belongs to has as many entries as a dictionary may have
-  abbrev pub no_room : List (K × A) → K → List (K × A) → Bool
-  no_room properties k es = if is_property k then nat_le most_entries (length properties + length (moved es)) else nat_le most_entries (length (staying es))
+  abbrev pub no_headroom : List (K × A) → K → List (K × A) → Bool
+  no_headroom properties k es = if is_property k then nat_le most_entries (length properties + length (moved es)) else nat_le most_entries (length (staying es))
 
 -- whether an entry with the key can't follow these entries, after these properties
 abbrev pub is_refused : {K A : Type 0} → (K → K → Bool) → (K → Bool) → List (K × A) → K → List (K × A) → Bool
-is_refused same is_property properties k es = (has_key same k properties || has_key same k es) || no_room is_property properties k es
+is_refused same is_property properties k es = (has_key same k properties || has_key same k es) || no_headroom is_property properties k es
 
 -- both dictionaries of an operation, sorted by their keys: an attribute whose key is a property's is among the
 -- properties

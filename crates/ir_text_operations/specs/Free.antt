@@ -25,8 +25,8 @@ abbrev pub before_dot : List ℕ → ℕ
 before_dot bytes = prefix_len (λ b. not (b == 46)) bytes
 
 abbrev pub after_dot : List ℕ → List ℕ → Option (List ℕ × List ℕ)
-after_dot front [] = None
-after_dot front (dot ∷ back) = Some (front, back)
+after_dot preceding [] = None
+after_dot preceding (dot ∷ back) = Some (preceding, back)
 
 -- the text before the first dot and the text after it
 abbrev pub at_dot : List ℕ → Option (List ℕ × List ℕ)

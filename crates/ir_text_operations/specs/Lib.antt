@@ -1,6 +1,6 @@
 pub mod Limits
 pub mod Free
-pub mod FrontReading
+pub mod PrecedingReading
 pub mod Entries
 pub mod EntryReading
 pub mod Made

@@ -141,10 +141,10 @@ module _ (opaque : Bool) where
 
 module _ (close : Mark) (P : Grammar Seen Operation) where
   unfoldable pub IsOps : ℕ → List Operation → Grammar Seen (List Operation)
-  IsOps zero front ys old new = ⊥
-  IsOps (suc room) front ys old new =
-      (IsMarkSeen close old new × (ys ≡ front))
-      ⊎ (Not IsMarkSeen close old × (y : Operation) × (mid : Seen) × P y old mid × IsOps room (front ++ y ∷ []) ys mid new)
+  IsOps zero preceding ys old new = ⊥
+  IsOps (suc headroom) preceding ys old new =
+      (IsMarkSeen close old new × (ys ≡ preceding))
+      ⊎ (Not IsMarkSeen close old × (y : Operation) × (mid : Seen) × P y old mid × IsOps headroom (preceding ++ y ∷ []) ys mid new)
 
 abbrev pub RegionTerm : Type 0
 RegionTerm = RegionOf (List ℕ) TypeTerm AttrTerm

@@ -15,7 +15,7 @@ use Rattle.ir_text_types.specs.TypeReading.{function_type_at}
 use Rattle.ir_text_names.specs.declared.bound.TypedValue.{TypedValue}
 use Rattle.ir_text_names.specs.BlockReading.{finish, head_at}
 use Rattle.ir_text_names.specs.States.{State, after_in, typed, with_typed, with_scopes, inside, outside}
-use Rattle.ir_text_operations.specs.FrontReading.{Frees, Start, start_at}
+use Rattle.ir_text_operations.specs.PrecedingReading.{Frees, Start, start_at}
 use Rattle.ir_text_operations.specs.Made.{region_of, made}
 use Rattle.ir_text_attributes.specs.AttrReading.{Entries}
 use Rattle.ir_text_operations.specs.EntryReading.{is_property_in, properties_at, attributes_at}
@@ -29,7 +29,7 @@ module _ (close : Mark) (p : Parse State Op) where
 
   unfoldable pub ops_at : ℕ → List Op → Parse State (List Op)
   ops_at zero items s = Wrong
-  ops_at (suc room) items s = ops_from (ops_at room) items s (after_in close s)
+  ops_at (suc headroom) items s = ops_from (ops_at headroom) items s (after_in close s)
 
 -- the names of a region go out of scope at its end
 unfoldable pub region_at : Parse State (List Op) → ℕ → Bool → List Region → Parse State Region

@@ -17,7 +17,7 @@ use Rattle.ir_text_operations.specs.declared.opening.Opening.{Opening}
 use Rattle.ir_text_operations.specs.Entries.{properties_of, attributes_of}
 use Rattle.ir_text_attributes.specs.AttrReading.{Entries}
 use Rattle.ir_text_operations.specs.EntryReading.{is_property_in, properties_at}
-use Rattle.ir_text_operations.specs.FrontReading.{Frees, Start, start_view, start_at, op_name_at}
+use Rattle.ir_text_operations.specs.PrecedingReading.{Frees, Start, start_view, start_at, op_name_at}
 use Rattle.ir_text_operations.specs.OpReading.{bound_types, signature_here}
 
 -- the error is one of the text or of memory, and not a full context
@@ -41,7 +41,7 @@ pub record Opened : Type 0 where
   pub written : Entries
 
 abbrev pub opening_view : Opening → Opened
-opening_view o = record { start = start_view o.front; name = o.name; isolated = o.isolated; written = o.written.items }
+opening_view o = record { start = start_view o.preceding; name = o.name; isolated = o.isolated; written = o.written.items }
 
 unfoldable pub opening_at : Frees → List (Binding (List TypedValue)) → Parse Typed Opened
 opening_at free here s = do

@@ -6,7 +6,7 @@ use Rattle.ir_tree.specs.Tree.{Op}
 use Rattle.ir_text_types.specs.Marks.{after}
 use Rattle.ir_text_types.specs.Outcomes.{Outcome, Read, ◌>>=◌, of_option}
 use Rattle.ir_text_names.specs.States.{State}
-use Rattle.ir_text_operations.specs.FrontReading.{Frees}
+use Rattle.ir_text_operations.specs.PrecedingReading.{Frees}
 use Rattle.ir_text_operations.specs.Limits.{most_levels}
 use Rattle.ir_text_operations.specs.OpReading.{op_at}
 

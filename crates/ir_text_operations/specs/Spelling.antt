@@ -57,8 +57,8 @@ IsImplicit opaque bytes t =
 -- allowed
 pub record Spells (opaque : Bool) (bytes : List ℕ) (t : Operation) : Type 0 where
   pub text : text_reason bytes ≡ None
-  pub spelled : IsExplicit opaque bytes t ⊎ IsImplicit opaque bytes t
-  pub formed : IsValidTree is_isolated t
+  pub rendered : IsExplicit opaque bytes t ⊎ IsImplicit opaque bytes t
+  pub wellformed : IsValidTree is_isolated t
   pub numbered : IsNumberedFrom 0 t
   pub sorted : IsTrue (every (dictionaries_rise key_before) t)
 
@@ -77,7 +77,7 @@ IsSingleOp opaque free last next bytes t = (end : Seen) × (rest : List ℕ) × 
 -- grammar, or free
 pub record SpellsOp (opaque : Bool) (free : FreeTerms) (next : ℕ) (bytes : List ℕ) (t : Operation) : Type 0 where
   pub text : text_reason bytes ≡ None
-  pub spelled : IsSingleOp opaque free (last_from next) next bytes t
+  pub rendered : IsSingleOp opaque free (last_from next) next bytes t
   pub shallow : depth t ≤ most_around
   pub counts : IsTrue (counts_fit t)
   pub numbered : IsNumberedFrom next t

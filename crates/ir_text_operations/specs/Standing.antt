@@ -14,7 +14,7 @@ use Rattle.ir_text_types.specs.Laws.{Each}
 use Rattle.ir_text_attributes.specs.AttrGrammar.{EntryTerm}
 use Rattle.ir_text_names.specs.declared.bound.TypedValue.{TypedValue}
 use Rattle.ir_text_names.specs.States.{State}
-use Rattle.ir_text_operations.specs.FrontReading.{Frees, Start}
+use Rattle.ir_text_operations.specs.PrecedingReading.{Frees, Start}
 use Rattle.ir_text_operations.specs.Seen.{BoundTerm, PackTerm, Seen}
 use Rattle.ir_text_operations.specs.OpGrammar.{FreeTerms, StartTerm, RegionTerm}
 

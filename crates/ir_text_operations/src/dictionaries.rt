@@ -3,7 +3,7 @@ ghost use Rattle.std.specs.Prelude.{◌≡◌, ◌≤◌, OnOk, IfOk, not, lengt
 ghost use Rattle.std.specs.List.{prefix_len};
 ghost use Rattle.ir_tree.specs.Meaning.{key_before_in};
 ghost use Rattle.ir_text_attributes.specs.Keyed.{put_among, put_all};
-ghost use Rattle.ir_text_operations.specs.Entries.{moved, staying, no_room, properties_of, attributes_of};
+ghost use Rattle.ir_text_operations.specs.Entries.{moved, staying, no_headroom, properties_of, attributes_of};
 ghost use Rattle.ir_text_operations.specs.EntryReading.{is_property_in, refused_in};
 
 use ir_text_attributes::dictionaries::Entry;
@@ -42,14 +42,14 @@ fn staying_count(ctx: &Context, op: &Option<NameId>, entries: &[Entry]) -> usize
 }
 
 /// Returns whether the dictionary that a key belongs to is full.
-pub fn no_room(
+pub fn no_headroom(
     ctx: &Context,
     op: &Option<NameId>,
     properties: &[Entry],
     key: NameId,
     entries: &[Entry],
 ) -> bool
-    ensures { result ≡ no_room (is_property_in ctx.now op.now) properties.now key entries.now }
+    ensures { result ≡ no_headroom (is_property_in ctx.now op.now) properties.now key entries.now }
 {
     if let [] = properties {
         if entries.len() < MOST_ENTRIES {

@@ -4,7 +4,7 @@ ghost use Rattle.ir_types.specs.Things.{IsExtendedBy};
 ghost use Rattle.ir_text_types.specs.Outcomes.{Returns};
 ghost use Rattle.ir_text_operations.specs.EntryReading.{refused_in, entry_at, entries_at, some_properties, properties_at, attributes_at};
 
-use crate::dictionaries::no_room;
+use crate::dictionaries::no_headroom;
 use crate::limits::MOST_WRITTEN;
 use ir_text_attributes::dictionaries::{Entry, has_key, key, value};
 use ir_text_names::lists::{AfterItem, after_item};
@@ -31,7 +31,7 @@ fn refusal(
     if has_key(key, properties) || has_key(key, before) {
         return Some(TextRefusal::DuplicateKey);
     }
-    if no_room(ctx, op, properties, key, before) {
+    if no_headroom(ctx, op, properties, key, before) {
         return Some(TextRefusal::TooMany);
     }
     None

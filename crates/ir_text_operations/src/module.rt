@@ -282,7 +282,7 @@ fn source(alloc: Global, ctx: &mut Context, bytes: &[u8]) -> Result<TreeOp, Read
 pub fn check_dominance(alloc: Global, ctx: &Context, tree: &TreeOp) -> Result<(), ReadError>
     ensures ok { IfOk result (λ _. IsModuleTree ctx.now tree.now) }
     ensures refused { (f : TextFault) → result ≡ Err (ReadError.Refused f) → IsModuleTree ctx.now tree.now → ⊥ }
-    ensures room { (left : ℕ) → result ≡ Err (ReadError.Full left) → ⊥ }
+    ensures headroom { (left : ℕ) → result ≡ Err (ReadError.Full left) → ⊥ }
 {
     match check(alloc, ctx, tree) {
         Ok(()) => {}

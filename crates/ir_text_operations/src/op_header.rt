@@ -8,7 +8,7 @@ ghost use Rattle.ir_text_tokens.specs.Strings.{string_bytes};
 ghost use Rattle.ir_text_types.specs.Outcomes.{Returns};
 ghost use Rattle.ir_text_operations.specs.Free.{free_bound};
 ghost use Rattle.ir_text_operations.specs.Openings.{called_at};
-ghost use Rattle.ir_text_operations.specs.FrontReading.{op_name_at, first_at, member_at, member_of, use_at, uses_at, start_at, start_view};
+ghost use Rattle.ir_text_operations.specs.PrecedingReading.{op_name_at, first_at, member_at, member_of, use_at, uses_at, start_at, start_view};
 
 use crate::outer_names::free_bound;
 use ir_text_names::bound::TypedValue;
@@ -55,7 +55,7 @@ fn has_escape(raw: &[u8]) -> bool
 }
 
 /// Returns the bytes that the text between two quotes denotes. A text without escapes is borrowed, not copied.
-#[tactic(auto, using(crate::proofs::Spelled::plain_is))]
+#[tactic(auto, using(crate::proofs::Rendered::plain_is))]
 fn unescaped_name<'a>(alloc: Global, raw: &'a [u8]) -> Result<CowSlice<'a, u8>, AllocError>
     ensures { IfOk result (λ s. cow_slice_items s ≡ string_bytes raw.now) }
 {
@@ -67,7 +67,7 @@ fn unescaped_name<'a>(alloc: Global, raw: &'a [u8]) -> Result<CowSlice<'a, u8>, 
 }
 
 /// Parses the name of an operation, which isn't empty.
-#[tactic(auto, unfolding(crate::specs::FrontReading::op_name_at))]
+#[tactic(auto, unfolding(crate::specs::PrecedingReading::op_name_at))]
 fn op_name<'a>(
     alloc: Global,
     bytes: &'a [u8],
@@ -121,7 +121,7 @@ fn numbered(pack: &ValueGroup, digits: &[u8]) -> Option<TypedValue>
 }
 
 /// Returns the value of a pack at the index after a hash sign, or the first value if there is no hash sign.
-#[tactic(auto, unfolding(crate::specs::FrontReading::member_at, crate::specs::FrontReading::place_at))]
+#[tactic(auto, unfolding(crate::specs::PrecedingReading::member_at, crate::specs::PrecedingReading::place_at))]
 fn numbered_member<'a>(
     pack: &ValueGroup,
     bytes: &'a [u8],
@@ -199,7 +199,7 @@ fn operand<'a, O: Outer>(
 }
 
 /// Parses operands up to the closing parenthesis, at most as many as an operation may have.
-#[tactic(auto, unfolding(ir_text_types::specs::Lists::list_at, crate::specs::FrontReading::uses_at))]
+#[tactic(auto, unfolding(ir_text_types::specs::Lists::list_at, crate::specs::PrecedingReading::uses_at))]
 fn operands<'a, O: Outer>(
     alloc: Global,
     outer: &O,

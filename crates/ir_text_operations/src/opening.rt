@@ -19,7 +19,7 @@ use std::alloc::Global;
 /// An operation up to its regions, with its name interned.
 #[derive(Drop)]
 pub(crate) struct Opening<'a> {
-    pub front: OpHeader<'a>,
+    pub preceding: OpHeader<'a>,
     pub name: NameId,
     /// Whether the regions see no names from outside.
     pub isolated: bool,
@@ -41,11 +41,11 @@ pub(crate) fn read_opening<'a, O: Outer>(
     ensures reads { Returns (λ x. (opening_view x.0, (x.1.now, ctx.new))) result (opening_at (free_bound (O.types outer.now)) names.now.here (bytes.now, ctx.old)) }
     ensures grows { IsExtendedBy ctx.old ctx.new }
 {
-    let (front, trailing) = match start(alloc, outer, names, bytes) {
+    let (preceding, trailing) = match start(alloc, outer, names, bytes) {
         Ok(found) => found,
         Err(e) => return Err(e),
     };
-    let name = match steps::name(ctx, front.name.as_slice(), trailing) {
+    let name = match steps::name(ctx, preceding.name.as_slice(), trailing) {
         Ok(name) => name,
         Err(e) => return Err(e),
     };
@@ -55,7 +55,7 @@ pub(crate) fn read_opening<'a, O: Outer>(
         Err(e) => return Err(e),
     };
     let opening = Opening {
-        front,
+        preceding,
         name,
         isolated,
         written,

@@ -72,9 +72,9 @@ fn before_dot(bytes: &[u8]) -> usize
 fn at_dot(bytes: &[u8]) -> Option<(&[u8], &[u8])>
     ensures { option_map (λ p. (p.0.now, p.1.now)) result ≡ at_dot bytes.now }
 {
-    let (front, tail) = bytes.split_at(before_dot(bytes));
+    let (preceding, tail) = bytes.split_at(before_dot(bytes));
     match tail {
-        [_, back @ ..] => Some((front, back)),
+        [_, back @ ..] => Some((preceding, back)),
         _ => None,
     }
 }
@@ -83,10 +83,10 @@ fn at_dot(bytes: &[u8]) -> Option<(&[u8], &[u8])>
 fn two_numbers(bytes: &[u8]) -> Option<(u32, u32)>
     ensures { result ≡ two_numbers bytes.now }
 {
-    let Some((front, back)) = at_dot(bytes) else {
+    let Some((preceding, back)) = at_dot(bytes) else {
         return None;
     };
-    match (number_of(front), number_of(back)) {
+    match (number_of(preceding), number_of(back)) {
         (Some(first), Some(second)) => Some((first, second)),
         _ => None,
     }
@@ -104,10 +104,10 @@ fn result_named(bytes: &[u8]) -> Option<Value>
 fn arg_named(bytes: &[u8]) -> Option<Value>
     ensures { result ≡ arg_named bytes.now }
 {
-    let Some((front, back)) = at_dot(bytes) else {
+    let Some((preceding, back)) = at_dot(bytes) else {
         return None;
     };
-    match (number_of(front), two_numbers(back)) {
+    match (number_of(preceding), two_numbers(back)) {
         (Some(id), Some((region, place))) => Some(Value::Arg(OpId::new(id), region, place)),
         _ => None,
     }

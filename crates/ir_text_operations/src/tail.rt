@@ -4,7 +4,7 @@ ghost use Rattle.ir_tree.specs.View.{region_view};
 ghost use Rattle.ir_types.specs.Things.{IsExtendedBy};
 ghost use Rattle.ir_text_types.specs.Outcomes.{Returns};
 ghost use Rattle.ir_text_names.specs.States.{state_of};
-ghost use Rattle.ir_text_operations.specs.FrontReading.{start_view};
+ghost use Rattle.ir_text_operations.specs.PrecedingReading.{start_view};
 ghost use Rattle.ir_text_operations.specs.Openings.{AreDictionaries, result_types_at, finished_at};
 ghost use Rattle.ir_text_operations.specs.OpReading.{bound_types, op_of, tail_at};
 
@@ -63,18 +63,25 @@ fn finished<'a>(
     scope: &mut Scope<'a>,
     ctx: &mut Context,
     id: u32,
-    front: &OpHeader<'a>,
+    preceding: &OpHeader<'a>,
     bytes: &'a [u8],
 ) -> Result<(Vec<TypeId>, &'a [u8]), ReadError>
-    ensures reads { Returns (λ x. (x.0.items, state_of x.1.now scope.new ctx.new)) result (finished_at id (start_view front.now) (state_of bytes.now scope.old ctx.old)) }
+    ensures reads { Returns (λ x. (x.0.items, state_of x.1.now scope.new ctx.new)) result (finished_at id (start_view preceding.now) (state_of bytes.now scope.old ctx.old)) }
     ensures grows { IsExtendedBy ctx.old ctx.new }
 {
-    let (results, rest) = match outputs(alloc, ctx, &front.operands, bytes) {
+    let (results, rest) = match outputs(alloc, ctx, &preceding.operands, bytes) {
         Ok(found) => found,
         Err(e) => return Err(e),
     };
     let left = skip(bytes).len();
-    match finish(alloc, &mut scope.names, id, &front.results, &results, left) {
+    match finish(
+        alloc,
+        &mut scope.names,
+        id,
+        &preceding.results,
+        &results,
+        left,
+    ) {
         Ok(()) => Ok((results, rest)),
         Err(e) => Err(e),
     }
@@ -114,10 +121,10 @@ fn made(
     results: Vec<TypeId>,
     regions: Vec<TreeRegion>,
 ) -> Result<TreeOp, AllocError>
-    ensures { IfOk result (λ o. o ≡ op_of ctx.now id opening.entry.name opening.entry.front.operands.items opening.entry.written.items others.now results.items (map region_view regions.items)) }
+    ensures { IfOk result (λ o. o ≡ op_of ctx.now id opening.entry.name opening.entry.preceding.operands.items opening.entry.written.items others.now results.items (map region_view regions.items)) }
 {
     let Opening {
-        front,
+        preceding,
         name,
         written,
         ..
@@ -126,7 +133,7 @@ fn made(
         Ok(found) => found,
         Err(e) => return Err(e),
     };
-    let operands = match values_of(alloc, &front.operands) {
+    let operands = match values_of(alloc, &preceding.operands) {
         Ok(operands) => operands,
         Err(e) => return Err(e),
     };
@@ -152,14 +159,14 @@ fn tail<'a>(
     regions: Vec<TreeRegion>,
     bytes: &'a [u8],
 ) -> Result<(TreeOp, &'a [u8]), ReadError>
-    ensures reads { Returns (λ x. (x.0, state_of x.1.now scope.new ctx.new)) result (tail_at id opening.entry.name (start_view opening.entry.front) opening.entry.written.items (map region_view regions.items) (state_of bytes.now scope.old ctx.old)) }
+    ensures reads { Returns (λ x. (x.0, state_of x.1.now scope.new ctx.new)) result (tail_at id opening.entry.name (start_view opening.entry.preceding) opening.entry.written.items (map region_view regions.items) (state_of bytes.now scope.old ctx.old)) }
     ensures grows { IsExtendedBy ctx.old ctx.new }
 {
     let (others, rest) = match attributes(alloc, ctx, opening.name, &opening.written, bytes) {
         Ok(found) => found,
         Err(e) => return Err(e),
     };
-    let (results, rest) = match finished(alloc, scope, ctx, id, &opening.front, rest) {
+    let (results, rest) = match finished(alloc, scope, ctx, id, &opening.preceding, rest) {
         Ok(found) => found,
         Err(e) => return Err(e),
     };
@@ -183,7 +190,7 @@ pub(crate) fn closing<'a>(
     start: &'a [u8],
     bytes: &'a [u8],
 ) -> Result<(TreeOp, &'a [u8]), ReadError>
-    ensures reads { Returns (λ x. (x.0, state_of x.1.now scope.new ctx.new)) result (tail_at id opening.entry.name (start_view opening.entry.front) opening.entry.written.items (map region_view regions.items) (state_of bytes.now scope.old ctx.old)) }
+    ensures reads { Returns (λ x. (x.0, state_of x.1.now scope.new ctx.new)) result (tail_at id opening.entry.name (start_view opening.entry.preceding) opening.entry.written.items (map region_view regions.items) (state_of bytes.now scope.old ctx.old)) }
     ensures grows { IsExtendedBy ctx.old ctx.new }
 {
     let trailing = opening.trailing;

@@ -83,8 +83,8 @@ again (c ∷ w) (o ∷ os) zero r rest e = again_step c w o os r rest (λ ps n f
 
 -- ---- bodies
 
-front : (w q : List ℕ) → take (length (w ++ q) - length q) (w ++ q) ≡ w
-front w q = let e : length (w ++ q) - length q ≡ length w = omega (arith, length-append w q) in rw e (take-append_seam w q)
+preceding : (w q : List ℕ) → take (length (w ++ q) - length q) (w ++ q) ≡ w
+preceding w q = let e : length (w ++ q) - length q ≡ length w = omega (arith, length-append w q) in rw e (take-append_seam w q)
 
 -- a body that is found: its opening bracket, the text inside, and its closing bracket
 abbrev Found : List ℕ → List ℕ → List ℕ → Type 0
@@ -100,21 +100,21 @@ found (c ∷ cs) b r e = by_bracket (closer_of c) refl e
         let parts = some_pair_parts (take (length (c ∷ cs) - length q) (c ∷ cs)) b q r e in
         let p = ends (d ∷ []) 0 cs q m in
         let whole : c ∷ cs ≡ c ∷ p.0 ++ q = ap (λ l. c ∷ l) p.1 in
-        let is : b ≡ c ∷ p.0 = sym parts.0 ∙ ap (λ l. take (length l - length q) l) whole ∙ front (c ∷ p.0) q in
+        let is : b ≡ c ∷ p.0 = sym parts.0 ∙ ap (λ l. take (length l - length q) l) whole ∙ preceding (c ∷ p.0) q in
         rw (← parts.1) (c, d, p.0, k, whole, is, ap (scan (d ∷ []) 0) (sym p.1) ∙ m)
 
     by_bracket : (u : Option ℕ) → closer_of c ≡ u → parted (c ∷ cs) (trailing_first u (c ∷ cs) cs) ≡ Some (b, r) → Found (c ∷ cs) b r
     by_bracket None k e = absurd cc
     by_bracket (Some d) k e = by_scan d k (scan (d ∷ []) 0 cs) refl e
 
-pub stands_at_the_front : (bytes b r : List ℕ) → body_at bytes ≡ Some (b, r) → bytes ≡ b ++ r
-stands_at_the_front bytes b r e = let f = found bytes b r e in f.4 ∙ ap (λ l. l ++ r) (sym f.5)
+pub stands_at_the_start : (bytes b r : List ℕ) → body_at bytes ≡ Some (b, r) → bytes ≡ b ++ r
+stands_at_the_start bytes b r e = let f = found bytes b r e in f.4 ∙ ap (λ l. l ++ r) (sym f.5)
 
 pub reads_again : (bytes b r rest : List ℕ) → body_at bytes ≡ Some (b, r) → body_at (b ++ rest) ≡ Some (b, rest)
 reads_again bytes b r rest e =
     let f = found bytes b r e in
     let m = again f.2 (f.1 ∷ []) 0 r rest f.6 in
-    rw f.5 (rw (f.3, m) (ap (λ v. Some (v, rest)) (front (f.0 ∷ f.2) rest)))
+    rw f.5 (rw (f.3, m) (ap (λ v. Some (v, rest)) (preceding (f.0 ∷ f.2) rest)))
 
 -- the rest of the text after a body is no longer than the text
 pub within : (bytes r : List ℕ) → scanned bytes ≡ Ok r → length r ≤ length bytes

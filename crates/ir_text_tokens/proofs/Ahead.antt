@@ -61,9 +61,9 @@ deep_ahead items new o c d all tail a e h p full n =
 
 pub opened_ahead : (items new newer : List ℕ) (o c d : ℕ) (all tail : List ℕ) → all ≡ c ∷ tail → (c == o) ≡ false → closer_of c ≡ Some d → new ≡ items ++ o ∷ [] → (length new == 32) ≡ false → newer ≡ new ++ d ∷ []
     → IsNoComma c (reverse items) → comma_ahead (o ∷ reverse items) 0 all ≡ comma_ahead (reverse newer) 0 tail
-opened_ahead items new newer o c d all tail a e h p room q n =
+opened_ahead items new newer o c d all tail a e h p headroom q n =
     ap (comma_ahead (o ∷ reverse items) 0) a
-    ∙ opening c o d (reverse items) tail n e h (ap (λ n. n == most_open) (counted items new o p) ∙ room)
+    ∙ opening c o d (reverse items) tail n e h (ap (λ n. n == most_open) (counted items new o p) ∙ headroom)
     ∙ ap (λ l. comma_ahead l 0 tail) (sym (ap reverse q ∙ pushed new d ∙ ap (λ l. d ∷ l) (ap reverse p ∙ pushed items o)))
 
 -- ---- ends

@@ -145,11 +145,11 @@ undivided_again w r rest lt =
     let n = suffix_len (w ++ r) in
     let same = name_again w r rest lt in
     let le : n ≤ length w = omega (arith, lt) in
-    let front : take n (w ++ rest) ≡ take n (w ++ r) = take-append-le n w rest le ∙ sym (take-append-le n w r le) in
+    let preceding : take n (w ++ rest) ≡ take n (w ++ r) = take-append-le n w rest le ∙ sym (take-append-le n w r le) in
     let some : 0 < length (drop n w) = omega (arith, lt, length-drop n w) in
     let trailing : begins 60 (drop n (w ++ rest)) ≡ begins 60 (drop n (w ++ r)) =
     ap (begins 60) (drop-append-le n w rest le) ∙ begins_again 60 (drop n w) r rest some ∙ ap (begins 60) (sym (drop-append-le n w r le)) in
-    rw same (rw (front, trailing) refl)
+    rw same (rw (preceding, trailing) refl)
 
 -- ---- what begins with a byte
 

@@ -4,7 +4,7 @@ pub mod Kept
 pub mod Escapes
 pub mod Decimals
 pub mod Printed
-pub mod Fronts
+pub mod Precedings
 pub mod Wholes
 pub mod Marks
 pub mod Blanks

@@ -47,9 +47,9 @@ deep items new o c d all tail f a e n p full h l =
 
 pub opened : (items new newer : List ℕ) (o c d : ℕ) (all tail : List ℕ) → all ≡ c ∷ tail → (c == o) ≡ false → closer_of c ≡ Some d → new ≡ items ++ o ∷ [] → (length new == 32) ≡ false → newer ≡ new ++ d ∷ []
     → scan (o ∷ reverse items) 0 all ≡ scan (reverse newer) 0 tail
-opened items new newer o c d all tail a e n p room q =
+opened items new newer o c d all tail a e n p headroom q =
     ap (scan (o ∷ reverse items) 0) a
-    ∙ opening_step c o d (reverse items) tail e n (ap (λ n. n == most_open) (counted items new o p) ∙ room)
+    ∙ opening_step c o d (reverse items) tail e n (ap (λ n. n == most_open) (counted items new o p) ∙ headroom)
     ∙ ap (λ l. scan l 0 tail) (sym (ap reverse q ∙ pushed new d ∙ ap (λ l. d ∷ l) (ap reverse p ∙ pushed items o)))
 
 -- ---- if no byte or no bracket is left

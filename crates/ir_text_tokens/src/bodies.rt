@@ -184,11 +184,11 @@ fn inner<'a>(
 ) -> Result<&'a [u8], Fault>
     requires all { all.now ≡ byte ∷ tail.now }
     requires other { (byte == nearest) ≡ false }
-    requires room { array_vec_len coming.old < 32 }
+    requires headroom { array_vec_len coming.old < 32 }
     ensures ok { IfOk result (λ r. scan (nearest ∷ reverse coming.old.items) 0 all.now ≡ scan (reverse coming.new.items) 0 r.now) }
     ensures ahead { IfOk result (λ r. IsNoComma byte (reverse coming.old.items) → comma_ahead (nearest ∷ reverse coming.old.items) 0 all.now ≡ comma_ahead (reverse coming.new.items) 0 r.now) }
     ensures shorter { IfOk result (λ r. length r.now ≤ length tail.now) }
-    ensures room { array_vec_len coming.new ≤ 32 }
+    ensures headroom { array_vec_len coming.new ≤ 32 }
     ensures err { IfErr result (λ f. scan (nearest ∷ reverse coming.old.items) 0 all.now ≡ Err f) }
     ensures stuck { IfErr result (λ f. IsNoComma byte (reverse coming.old.items) → comma_ahead (nearest ∷ reverse coming.old.items) 0 all.now ≡ false) }
 {
@@ -216,11 +216,11 @@ fn step<'a>(
     tail: &'a [u8],
 ) -> Result<&'a [u8], Fault>
     requires all { all.now ≡ byte ∷ tail.now }
-    requires room { array_vec_len coming.old < 32 }
+    requires headroom { array_vec_len coming.old < 32 }
     ensures ok { IfOk result (λ r. scan (nearest ∷ reverse coming.old.items) 0 all.now ≡ scan (reverse coming.new.items) 0 r.now) }
     ensures ahead { IfOk result (λ r. IsNoComma byte (reverse coming.old.items) → comma_ahead (nearest ∷ reverse coming.old.items) 0 all.now ≡ comma_ahead (reverse coming.new.items) 0 r.now) }
     ensures shorter { IfOk result (λ r. length r.now ≤ length tail.now) }
-    ensures room { array_vec_len coming.new ≤ 32 }
+    ensures headroom { array_vec_len coming.new ≤ 32 }
     ensures err { IfErr result (λ f. scan (nearest ∷ reverse coming.old.items) 0 all.now ≡ Err f) }
     ensures stuck { IfErr result (λ f. IsNoComma byte (reverse coming.old.items) → comma_ahead (nearest ∷ reverse coming.old.items) 0 all.now ≡ false) }
 {

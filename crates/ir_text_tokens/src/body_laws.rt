@@ -3,8 +3,8 @@ ghost use Rattle.std.specs.Prelude.{◌≡◌, ◌++◌, ℕ, List, Some};
 ghost use Rattle.ir_text_tokens.specs.Bodies.{body_at};
 
 /// A body followed by the rest of the text is the whole text.
-#[tactic(auto, using(crate::proofs::Again::stands_at_the_front))]
-pub fn bodies_stand_at_the_front()
+#[tactic(auto, using(crate::proofs::Again::stands_at_the_start))]
+pub fn bodies_stand_at_the_start()
     ensures { (bytes b r : List ℕ) → body_at bytes ≡ Some (b, r) → bytes ≡ b ++ r }
 {}
 

@@ -10,7 +10,7 @@ ghost use Rattle.ir_text_tokens.specs.Printing.{AreBytes, ClosesMark, IsWhole, S
 ghost use Rattle.ir_text_tokens.specs.declared.token.Mark.{Mark};
 
 /// After blanks and comments, the text is the token that is read, followed by the rest. The lexer skips nothing else.
-pub fn tokens_stand_at_the_front()
+pub fn tokens_stand_at_the_start()
     ensures { (bytes rest : List ℕ) (t : Lexeme) → next bytes ≡ Some (t, rest) → skip bytes ≡ lexeme_text t ++ rest }
 {}
 

@@ -152,17 +152,17 @@ fn number(bytes: &[u8]) -> (Token<'_>, &[u8])
 {
     let hex = hex_len(bytes);
     if hex != 0 {
-        let (front, rest) = bytes.split_at(hex);
-        return (Token::Integer(front), rest);
+        let (preceding, rest) = bytes.split_at(hex);
+        return (Token::Integer(preceding), rest);
     }
     let digits = run_len(bytes, Class::Digit);
-    let (front, rest) = bytes.split_at(digits);
+    let (preceding, rest) = bytes.split_at(digits);
     let fraction = fraction_len(rest);
     if fraction == 0 {
-        return (Token::Integer(front), rest);
+        return (Token::Integer(preceding), rest);
     }
-    let (front, rest) = bytes.split_at(digits + fraction);
-    (Token::Float(front), rest)
+    let (preceding, rest) = bytes.split_at(digits + fraction);
+    (Token::Float(preceding), rest)
 }
 
 /// Returns the length of the suffix identifier at the front, or 0.
@@ -312,8 +312,8 @@ fn token_at<'a>(byte: u8, all: &'a [u8], tail: &'a [u8]) -> Result<(Token<'a>, &
         return Ok(number(all));
     }
     if is_letter(byte) {
-        let (front, rest) = all.split_at(run_len(all, Class::Word));
-        return Ok((Token::Bare(front), rest));
+        let (preceding, rest) = all.split_at(run_len(all, Class::Word));
+        return Ok((Token::Bare(preceding), rest));
     }
     sign(byte, all, tail)
 }

@@ -9,9 +9,9 @@ use Rattle.ir_text_types.specs.TypeReading.{element_at, memref_at, type_at, sign
 use Rattle.ir_text_types.specs.TypeGrammar.{IsMemref, IsType as IsTypeText}
 use Rattle.ir_text_types.proofs.TypeLaws.{element_exact, memref_exact, type_exact, signature_exact, func_stands}
 
-pub signature_known : (o : Bool) (depth room : ℕ) (bytes rest : List ℕ) (c d : ContextModel) (x : List ℕ × List ℕ) → IsSound c → signature_at (type_at o depth) room (bytes, c) ≡ Read (x, (rest, d)) → TypeIsOf d (Func x.0 x.1)
-signature_known o depth room bytes rest c d x sound e =
-    let f = (signature_exact (type_at o depth) (IsTypeText o depth) (type_exact o depth) room c).found (bytes, c) bytes x (rest, d) (grows_refl c) sound (λ z g w. refl) e in
+pub signature_known : (o : Bool) (depth headroom : ℕ) (bytes rest : List ℕ) (c d : ContextModel) (x : List ℕ × List ℕ) → IsSound c → signature_at (type_at o depth) headroom (bytes, c) ≡ Read (x, (rest, d)) → TypeIsOf d (Func x.0 x.1)
+signature_known o depth headroom bytes rest c d x sound e =
+    let f = (signature_exact (type_at o depth) (IsTypeText o depth) (type_exact o depth) headroom c).found (bytes, c) bytes x (rest, d) (grows_refl c) sound (λ z g w. refl) e in
     (func_stands d x f.0 (f.3.stands d (grows_refl d) f.3.sound)).0
 
 pub element_known : (o : Bool) (depth : ℕ) (bytes rest : List ℕ) (c d : ContextModel) (n : ℕ) → IsSound c → element_at o (memref_at o depth) (bytes, c) ≡ Read (n, (rest, d)) → IsType d n

@@ -24,15 +24,15 @@ got None x e = absurd cc
 got (Some y) x e = cc
 
 module _ {S A : Type 0} (after : Mark → S → Option S) (close : Mark) (p : List A → Parse S A) where
-  pub starts : (room : ℕ) (s : S) → after close s ≡ None → more_at after close p room [] s ≡ list_at after close p room s
+  pub starts : (headroom : ℕ) (s : S) → after close s ≡ None → more_at after close p headroom [] s ≡ list_at after close p headroom s
   unfolding list_at
-  starts room s e = rw e refl
+  starts headroom s e = rw e refl
 
-  module _ (items : List A) (room i : ℕ) (s : S) (total : Outcome (List A × S)) (so_far : more_at after close p (room - i) items s ≡ total) (lt : i < room) where
-    one : room - i ≡ suc (room - (i + 1))
+  module _ (items : List A) (headroom i : ℕ) (s : S) (total : Outcome (List A × S)) (so_far : more_at after close p (headroom - i) items s ≡ total) (lt : i < headroom) where
+    one : headroom - i ≡ suc (headroom - (i + 1))
     one = omega arith
 
-    pub goes_on : (x : A) (mid next : S) → p items s ≡ Read (x, mid) → after close mid ≡ None → after Comma mid ≡ Some next → more_at after close p (room - (i + 1)) (items ++ x ∷ []) next ≡ total
+    pub goes_on : (x : A) (mid next : S) → p items s ≡ Read (x, mid) → after close mid ≡ None → after Comma mid ≡ Some next → more_at after close p (headroom - (i + 1)) (items ++ x ∷ []) next ≡ total
     unfolding more_at
     goes_on x mid next item going comma = sym (rw (one, item, going, comma) refl) ∙ so_far
 
@@ -48,8 +48,8 @@ module _ {S A : Type 0} (after : Mark → S → Option S) (close : Mark) (p : Li
     unfolding more_at
     no_comma e x mid item going fails = fails_option e (after Comma mid) total (λ none. sym so_far ∙ rw (one, item, going, none) refl) fails
 
-  pub is_full : (items : List A) (room i : ℕ) (s : S) (total : Outcome (List A × S)) → more_at after close p (room - i) items s ≡ total → room ≤ i → total ≡ Wrong
+  pub is_full : (items : List A) (headroom i : ℕ) (s : S) (total : Outcome (List A × S)) → more_at after close p (headroom - i) items s ≡ total → headroom ≤ i → total ≡ Wrong
   unfolding more_at
-  is_full items room i s total so_far le =
-      let k : room - i ≡ 0 = omega arith in
+  is_full items headroom i s total so_far le =
+      let k : headroom - i ≡ 0 = omega arith in
       sym so_far ∙ rw k refl

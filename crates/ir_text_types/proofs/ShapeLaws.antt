@@ -140,9 +140,9 @@ plain_only (Some size) old new k = from k.0 k.2 k.3 k.4
         let all = c ∷ (cs ++ k.1) in
         let digit = (and_parts (is_ascii_digit c) (list_all is_ascii_digit cs) h).0 in
         let len : digits_len all ≡ length (c ∷ cs) = run_ends is_ascii_digit (c ∷ cs) k.1 (all_run (c ∷ cs) h) (stops k.1 new k.5) in
-        let front : take (digits_len all) all ≡ c ∷ cs = ap (λ n. take n all) len ∙ take-append_seam (c ∷ cs) k.1 in
+        let preceding : take (digits_len all) all ≡ c ∷ cs = ap (λ n. take n all) len ∙ take-append_seam (c ∷ cs) k.1 in
         let back : drop (digits_len all) all ≡ k.1 = ap (λ n. drop n all) len ∙ drop-append_seam (c ∷ cs) k.1 in
-        let value : place_value 10 (take (digits_len all) all) ≡ size = ap (place_value 10) front ∙ sym v in
+        let value : place_value 10 (take (digits_len all) all) ≡ size = ap (place_value 10) preceding ∙ sym v in
         let same : written (digits_len all) all ≡ crossed (Some size) k.1 = λ i. crossed (Some (value i)) (back i) in
         ap plain e ∙ plain_digits c (cs ++ k.1) digit ∙ same ∙ crossed_only (Some size) k.1 new k.5
 
@@ -162,16 +162,16 @@ plain_found d old new e = from (skip old) refl e
     as_mark : (c : ℕ) (cs : List ℕ) → skip old ≡ c ∷ cs → (c == 63) ≡ true → crossed None cs ≡ Some (d, new) → IsDimension d old new
     as_mark c cs h q e =
         let k = crossed_found None d cs new e in
-        let spelled : IsDimension None old new = (cs, h ∙ ap (λ b. b ∷ cs) (eqb-true c 63 q), k.1) in
-        subst (λ x. IsDimension x old new) (sym k.0) spelled
+        let rendered : IsDimension None old new = (cs, h ∙ ap (λ b. b ∷ cs) (eqb-true c 63 q), k.1) in
+        subst (λ x. IsDimension x old new) (sym k.0) rendered
 
     as_digits : (c : ℕ) (cs : List ℕ) → skip old ≡ c ∷ cs → is_ascii_digit c ≡ true → written (digits_len (c ∷ cs)) (c ∷ cs) ≡ Some (d, new) → IsDimension d old new
     as_digits c cs h digit e =
         let all = c ∷ cs in
         let n = digits_len all in
         let k = crossed_found (Some (place_value 10 (take n all))) d (drop n all) new e in
-        let spelled : IsDimension (Some (place_value 10 (take n all))) old new = (take n all, drop n all, h ∙ sym (take-append-drop n all), run_decimal c cs digit, refl, k.1) in
-        subst (λ x. IsDimension x old new) (sym k.0) spelled
+        let rendered : IsDimension (Some (place_value 10 (take n all))) old new = (take n all, drop n all, h ∙ sym (take-append-drop n all), run_decimal c cs digit, refl, k.1) in
+        subst (λ x. IsDimension x old new) (sym k.0) rendered
 
     by_digit : (c : ℕ) (cs : List ℕ) (t : Bool) → is_ascii_digit c ≡ t → skip old ≡ c ∷ cs → (if t then written (digits_len (c ∷ cs)) (c ∷ cs) else None) ≡ Some (d, new) → IsDimension d old new
     by_digit c cs true q h e = as_digits c cs h q e
@@ -236,47 +236,47 @@ dimension_found d old new e = from (plain (skip old)) refl (sym (guard_plain (sk
 
 -- ---- dimensions
 
-pub dimensions_only : (room : ℕ) (front ds : List (Option ℕ)) (old new : List ℕ) → list_all is_dimension ds ≡ true → length ds ≤ room → AreDimensions ds old new → dimensions_at room front old ≡ Some (front ++ ds, new)
+pub dimensions_only : (headroom : ℕ) (preceding ds : List (Option ℕ)) (old new : List ℕ) → list_all is_dimension ds ≡ true → length ds ≤ headroom → AreDimensions ds old new → dimensions_at headroom preceding old ≡ Some (preceding ++ ds, new)
 unfolding dimensions_at
-dimensions_only zero front [] old new h le k = rw (k.0, k.1, append-nil front) refl
-dimensions_only (suc room) front [] old new h le k = rw (k.0, k.1, append-nil front) refl
-dimensions_only zero front (d ∷ ds) old new h le k = absurd (omega (arith, le))
-dimensions_only (suc room) front (d ∷ ds) old new h le k =
+dimensions_only zero preceding [] old new h le k = rw (k.0, k.1, append-nil preceding) refl
+dimensions_only (suc headroom) preceding [] old new h le k = rw (k.0, k.1, append-nil preceding) refl
+dimensions_only zero preceding (d ∷ ds) old new h le k = absurd (omega (arith, le))
+dimensions_only (suc headroom) preceding (d ∷ ds) old new h le k =
     let b = and_parts (is_dimension d) (list_all is_dimension ds) h in
-    let less : length ds ≤ room = omega (arith, le) in
-    rw (begins_only d old k.0 k.1, dimension_only d old k.0 b.0 k.1) (dimensions_only room (front ++ d ∷ []) ds k.0 new b.1 less k.2 ∙ ap (λ l. Some (l, new)) (append_assoc front (d ∷ []) ds))
+    let less : length ds ≤ headroom = omega (arith, le) in
+    rw (begins_only d old k.0 k.1, dimension_only d old k.0 b.0 k.1) (dimensions_only headroom (preceding ++ d ∷ []) ds k.0 new b.1 less k.2 ∙ ap (λ l. Some (l, new)) (append_assoc preceding (d ∷ []) ds))
 
 abbrev pair : List (Option ℕ) → List ℕ → Option (List (Option ℕ) × List ℕ)
 pair ds rest = Some (ds, rest)
 
 -- the dimensions that were parsed after those of `front`
 abbrev Found : ℕ → List (Option ℕ) → List (Option ℕ) → (old new : List ℕ) → Type 0
-Found room front all old new = (ds : List (Option ℕ)) × (all ≡ front ++ ds) × (list_all is_dimension ds ≡ true) × IsShape room ds old new
+Found headroom preceding all old new = (ds : List (Option ℕ)) × (all ≡ preceding ++ ds) × (list_all is_dimension ds ≡ true) × IsShape headroom ds old new
 
-end_found : (room : ℕ) (front all : List (Option ℕ)) (old new : List ℕ) → begins_dimension (skip old) ≡ false → pair front old ≡ pair all new → Found room front all old new
-end_found room front all old new none e =
-    let k = some_pair_parts front all old new e in
-    ([], sym k.0 ∙ sym (append-nil front), refl, (omega arith, (none, sym k.1)))
+end_found : (headroom : ℕ) (preceding all : List (Option ℕ)) (old new : List ℕ) → begins_dimension (skip old) ≡ false → pair preceding old ≡ pair all new → Found headroom preceding all old new
+end_found headroom preceding all old new none e =
+    let k = some_pair_parts preceding all old new e in
+    ([], sym k.0 ∙ sym (append-nil preceding), refl, (omega arith, (none, sym k.1)))
 
-more_found : (room : ℕ) (front all : List (Option ℕ)) (d : Option ℕ) (old mid new : List ℕ) → dimension_at old ≡ Some (d, mid) → Found room (front ++ d ∷ []) all mid new → Found (suc room) front all old new
-more_found room front all d old mid new e f =
+more_found : (headroom : ℕ) (preceding all : List (Option ℕ)) (d : Option ℕ) (old mid new : List ℕ) → dimension_at old ≡ Some (d, mid) → Found headroom (preceding ++ d ∷ []) all mid new → Found (suc headroom) preceding all old new
+more_found headroom preceding all d old mid new e f =
     let k = dimension_found d old mid e in
-    let le : suc (length f.0) ≤ suc room = omega (arith, f.3.0) in
-    (d ∷ f.0, f.1 ∙ append_assoc front (d ∷ []) f.0, rw (k.0, f.2) refl, (le, (mid, k.1, f.3.1)))
+    let le : suc (length f.0) ≤ suc headroom = omega (arith, f.3.0) in
+    (d ∷ f.0, f.1 ∙ append_assoc preceding (d ∷ []) f.0, rw (k.0, f.2) refl, (le, (mid, k.1, f.3.1)))
 
-pub dimensions_found : (room : ℕ) (front all : List (Option ℕ)) (old new : List ℕ) → dimensions_at room front old ≡ Some (all, new) → Found room front all old new
+pub dimensions_found : (headroom : ℕ) (preceding all : List (Option ℕ)) (old new : List ℕ) → dimensions_at headroom preceding old ≡ Some (all, new) → Found headroom preceding all old new
 unfolding dimensions_at
-dimensions_found zero front all old new e = by_case (begins_dimension (skip old)) refl e
+dimensions_found zero preceding all old new e = by_case (begins_dimension (skip old)) refl e
   where
-    by_case : (t : Bool) → begins_dimension (skip old) ≡ t → (if t then None else pair front old) ≡ pair all new → Found zero front all old new
+    by_case : (t : Bool) → begins_dimension (skip old) ≡ t → (if t then None else pair preceding old) ≡ pair all new → Found zero preceding all old new
     by_case true h e = absurd cc
-    by_case false h e = end_found zero front all old new h e
-dimensions_found (suc room) front all old new e = by_case (λ d mid. dimensions_found room (front ++ d ∷ []) all mid new) (begins_dimension (skip old)) refl e
+    by_case false h e = end_found zero preceding all old new h e
+dimensions_found (suc headroom) preceding all old new e = by_case (λ d mid. dimensions_found headroom (preceding ++ d ∷ []) all mid new) (begins_dimension (skip old)) refl e
   where
-    by_case : ((d : Option ℕ) (mid : List ℕ) → dimensions_at room (front ++ d ∷ []) mid ≡ Some (all, new) → Found room (front ++ d ∷ []) all mid new) → (t : Bool) → begins_dimension (skip old) ≡ t
-        → (if t then option_and_then (λ (x : Option ℕ × List ℕ). dimensions_at room (front ++ x.0 ∷ []) x.1) (dimension_at old) else pair front old) ≡ pair all new → Found (suc room) front all old new
-    by_case rest false h e = end_found (suc room) front all old new h e
-    by_case rest true h e = option_and_then_some (λ (x : Option ℕ × List ℕ). dimensions_at room (front ++ x.0 ∷ []) x.1) (dimension_at old) (all, new) e (λ x at more. more_found room front all x.0 old x.1 new at (rest x.0 x.1 more))
+    by_case : ((d : Option ℕ) (mid : List ℕ) → dimensions_at headroom (preceding ++ d ∷ []) mid ≡ Some (all, new) → Found headroom (preceding ++ d ∷ []) all mid new) → (t : Bool) → begins_dimension (skip old) ≡ t
+        → (if t then option_and_then (λ (x : Option ℕ × List ℕ). dimensions_at headroom (preceding ++ x.0 ∷ []) x.1) (dimension_at old) else pair preceding old) ≡ pair all new → Found (suc headroom) preceding all old new
+    by_case rest false h e = end_found (suc headroom) preceding all old new h e
+    by_case rest true h e = option_and_then_some (λ (x : Option ℕ × List ℕ). dimensions_at headroom (preceding ++ x.0 ∷ []) x.1) (dimension_at old) (all, new) e (λ x at more. more_found headroom preceding all x.0 old x.1 new at (rest x.0 x.1 more))
 
 -- ---- the grammar is unambiguous
 

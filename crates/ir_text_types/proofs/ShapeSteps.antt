@@ -7,12 +7,12 @@ use Rattle.ir_text_types.specs.ShapeGrammar.{begins_dimension}
 use Rattle.ir_text_types.specs.ShapeReading.{dimension_at, dimensions_at}
 use Rattle.ir_text_types.proofs.ListSteps.{fails_option}
 
-module _ (items : List (Option ℕ)) (room i : ℕ) (bytes : List ℕ) (total : Option (List (Option ℕ) × List ℕ)) (so_far : dimensions_at (room - i) items bytes ≡ total) where
-  module _ (lt : i < room) where
-    one : room - i ≡ suc (room - (i + 1))
+module _ (items : List (Option ℕ)) (headroom i : ℕ) (bytes : List ℕ) (total : Option (List (Option ℕ) × List ℕ)) (so_far : dimensions_at (headroom - i) items bytes ≡ total) where
+  module _ (lt : i < headroom) where
+    one : headroom - i ≡ suc (headroom - (i + 1))
     one = omega arith
 
-    pub goes_on : (x : Option ℕ) (mid : List ℕ) → begins_dimension (skip bytes) ≡ true → dimension_at bytes ≡ Some (x, mid) → dimensions_at (room - (i + 1)) (items ++ x ∷ []) mid ≡ total
+    pub goes_on : (x : Option ℕ) (mid : List ℕ) → begins_dimension (skip bytes) ≡ true → dimension_at bytes ≡ Some (x, mid) → dimensions_at (headroom - (i + 1)) (items ++ x ∷ []) mid ≡ total
     unfolding dimensions_at
     goes_on x mid begins item = sym (rw (one, begins, item) refl) ∙ so_far
 
@@ -25,8 +25,8 @@ module _ (items : List (Option ℕ)) (room i : ℕ) (bytes : List ℕ) (total : 
     no_dimension e begins fails =
         fails_option e (dimension_at bytes) (of_option total) (λ none. let k : total ≡ None = sym so_far ∙ rw (one, begins, none) refl in rw k refl) fails
 
-  module _ (le : room ≤ i) where
-    zero_left : room - i ≡ 0
+  module _ (le : headroom ≤ i) where
+    zero_left : headroom - i ≡ 0
     zero_left = omega arith
 
     pub last_ends : begins_dimension (skip bytes) ≡ false → total ≡ Some (items, bytes)

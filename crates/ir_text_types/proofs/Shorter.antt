@@ -3,7 +3,7 @@ use Rattle.std.specs.Prelude.{if◌then◌else◌, option_map}
 use Rattle.std.proofs.Common.{◌≡◌, ◌∙◌, ◌≤◌, ◌+◌, ℕ, Bool, true, false, List, ◌∷◌, ◌++◌, length, Option, Some, None, refl, ap, length-append, arith}
 use Rattle.ir_text_tokens.specs.Tokens.{skip}
 use Rattle.ir_text_tokens.specs.Bodies.{begins, has_dot, body_at}
-use Rattle.ir_text_tokens.proofs.Again.{stands_at_the_front}
+use Rattle.ir_text_tokens.proofs.Again.{stands_at_the_start}
 use Rattle.ir_text_types.specs.OpaqueTypes.{is_alone, with_body, bracketed, word_text, dialect_text}
 
 -- a result leaves at most n bytes
@@ -11,19 +11,19 @@ abbrev pub IsWithin : ℕ → Option (List ℕ × List ℕ) → Type 0
 IsWithin n None = Unit {0}
 IsWithin n (Some x) = length x.1 ≤ n
 
-pub with_body_within : (front bytes : List ℕ) → IsWithin (length bytes) (with_body front bytes)
-with_body_within front bytes = go (body_at bytes) refl
+pub with_body_within : (preceding bytes : List ℕ) → IsWithin (length bytes) (with_body preceding bytes)
+with_body_within preceding bytes = go (body_at bytes) refl
   where
-    go : (o : Option (List ℕ × List ℕ)) → body_at bytes ≡ o → IsWithin (length bytes) (option_map (λ (b : List ℕ × List ℕ). (front ++ b.0, b.1)) o)
+    go : (o : Option (List ℕ × List ℕ)) → body_at bytes ≡ o → IsWithin (length bytes) (option_map (λ (b : List ℕ × List ℕ). (preceding ++ b.0, b.1)) o)
     go None e = tt
-    go (Some b) e = let l = ap length (stands_at_the_front bytes b.0 b.1 e) ∙ length-append b.0 b.1 in omega (arith, l)
+    go (Some b) e = let l = ap length (stands_at_the_start bytes b.0 b.1 e) ∙ length-append b.0 b.1 in omega (arith, l)
 
 pub within_if : (n : ℕ) (b : Bool) (x y : Option (List ℕ × List ℕ)) → IsWithin n x → IsWithin n y → IsWithin n (if b then x else y)
 within_if n true x y h k = h
 within_if n false x y h k = k
 
-pub bracketed_within : (bracket : ℕ) (front bytes : List ℕ) → IsWithin (length bytes) (bracketed bracket front bytes)
-bracketed_within bracket front bytes = within_if (length bytes) (begins bracket bytes) (with_body front bytes) None (with_body_within front bytes) tt
+pub bracketed_within : (bracket : ℕ) (preceding bytes : List ℕ) → IsWithin (length bytes) (bracketed bracket preceding bytes)
+bracketed_within bracket preceding bytes = within_if (length bytes) (begins bracket bytes) (with_body preceding bytes) None (with_body_within preceding bytes) tt
 
 pub within_more : (m n : ℕ) (o : Option (List ℕ × List ℕ)) → m ≤ n → IsWithin m o → IsWithin n o
 within_more m n None le h = tt

@@ -19,10 +19,10 @@ pub text_exact : {A : Type 0} (c : ContextModel) (p : List ℕ → Option (A × 
 text_exact {A = A} c p P into from = record {
   found = λ s t x s' g sound h e.
       let b = option_read (p s.0) (kept s.1) (x, s') e in
-      let spelled : P b.0.0 t b.0.1 = subst (λ u. P b.0.0 u b.0.1) (text_now s t sound h) (into s.0 b.0.1 b.0.0 b.1) in
+      let rendered : P b.0.0 t b.0.1 = subst (λ u. P b.0.0 u b.0.1) (text_now s t sound h) (into s.0 b.0.1 b.0.0 b.1) in
       let same : (b.0.0, (b.0.1, s.1)) ≡ (x, s') = cc (b.2) in
       subst (λ (q : A × Typed). Comes things Same (λ z x y. x ≡ y) P s t q.0 q.1) same
-      (b.0.0, b.0.1, spelled, record { grows = grows_refl s.1; sound = sound; stands = λ z j w. refl; agree = λ z j w. refl });
+      (b.0.0, b.0.1, rendered, record { grows = grows_refl s.1; sound = sound; stands = λ z j w. refl; agree = λ z j w. refl });
   only = λ s t y t' g sound h k.
       let read : p s.0 ≡ Some (y, t') = ap p (text_now s t sound h) ∙ from t t' y k in
       rw read (inr (y, (t', s.1), refl, record { grows = grows_refl s.1; sound = sound; stands = λ z j w. refl; agree = λ z j w. refl }));

@@ -40,7 +40,7 @@ use Rattle.ir_text_types.specs.TypeGrammar.{types_of, IsScalar, IsOpaque, IsWord
 use Rattle.ir_text_types.specs.Worlds.{From}
 use Rattle.ir_text_types.specs.Standing.{TypeStands}
 use Rattle.ir_text_types.specs.Laws.{TypesStand, SignatureStands}
-use Rattle.ir_text_types.proofs.Worlds.{bind_read, option_read, Exact, Step, Comes, Reads, step_on, reads_on, exact_spelled, nothing_exact, choice_exact, guard_exact, some_exact, then_exact, done_exact, after_exact, either_exact, list_exact}
+use Rattle.ir_text_types.proofs.Worlds.{bind_read, option_read, Exact, Step, Comes, Reads, step_on, reads_on, exact_rendered, nothing_exact, choice_exact, guard_exact, some_exact, then_exact, done_exact, after_exact, either_exact, list_exact}
 use Rattle.ir_text_types.proofs.TextLaws.{things, Same, text_now, typed_marks}
 use Rattle.ir_text_types.proofs.TokenLaws.{text_exact, trailing_exact, token_exact}
 use Rattle.ir_text_types.proofs.ShapeLaws.{dimensions_only, dimensions_found}
@@ -214,11 +214,11 @@ memref_stands z dims ds n y e h = (h.0, λ i. terms.Memref (e i) (h.1 i))
 node_exact : (word : List ℕ) (c : ContextModel) (o : Option TypeNode) → scalar_of word ≡ o
     → Exact things Same c TypeStands (λ s. of_option o >>= λ n. type_done n s) (λ y old new. (n : TypeNode) × (o ≡ Some n) × (y ≡ type_from [] n) × (new ≡ old))
 node_exact word c None e =
-    exact_spelled things Same c TypeStands (λ s. Wrong) (λ y old new. ⊥) (λ y old new. (n : TypeNode) × (None ≡ Some n) × (y ≡ type_from [] n) × (new ≡ old))
+    exact_rendered things Same c TypeStands (λ s. Wrong) (λ y old new. ⊥) (λ y old new. (n : TypeNode) × (None ≡ Some n) × (y ≡ type_from [] n) × (new ≡ old))
     (λ y t t' k. absurd k) (λ y t t' k. let no : None ≡ Some k.0 = k.1 in absurd cc) (nothing_exact things Same c TypeStands)
 node_exact word c (Some v) e =
     let w = scalar_word word v e in
-    exact_spelled things Same c TypeStands (type_done v) (DoneIf (type_fault (type_from [] v) ≡ None) (type_from [] v)) (λ y old new. (n : TypeNode) × (Some v ≡ Some n) × (y ≡ type_from [] n) × (new ≡ old))
+    exact_rendered things Same c TypeStands (type_done v) (DoneIf (type_fault (type_from [] v) ≡ None) (type_from [] v)) (λ y old new. (n : TypeNode) × (Some v ≡ Some n) × (y ≡ type_from [] n) × (new ≡ old))
     (λ y t t' k. (v, refl, k.1, k.2)) (λ y t t' k. let same : v ≡ k.0 = cc (k.1) in (word_fine v w, k.2 ∙ ap (type_from []) (sym same), k.3))
     (type_done_exact c v (type_from [] v) (λ z g k. word_stands v z w))
 
@@ -226,7 +226,7 @@ node_exact word c (Some v) e =
 
 opaque_exact : (found : Option (List ℕ × List ℕ)) (c : ContextModel) → Exact things Same c TypeStands (λ s. opaque_done found s.1) (λ y old new. IsOpaque found y new)
 opaque_exact found c =
-    exact_spelled things Same c TypeStands (λ s. opaque_done found s.1)
+    exact_rendered things Same c TypeStands (λ s. opaque_done found s.1)
     (λ y old new. (x : List ℕ × List ℕ) × (found ≡ Some x) × DoneIf (type_fault (terms.OpaqueType x.0) ≡ None) (terms.OpaqueType x.0) y x.1 new)
     (λ y old new. IsOpaque found y new)
     (λ y t t' k. (k.0, k.1, k.2.1, k.2.2)) (λ y t t' k. (k.0, k.1, (refl, k.2, k.3)))
@@ -262,7 +262,7 @@ pub memref_exact : (o : Bool) (depth : ℕ) (c : ContextModel) → Exact things 
 unfolding memref_at IsMemref
 memref_exact o zero c = record { found = λ s t x s' g sound h e. absurd cc; only = λ s t y t' g sound h k. absurd k }
 memref_exact o (suc depth) c =
-    exact_spelled things Same c TypeStands (memref_at o (suc depth)) (After IsMark Less (Then IsGoodShape (Elements o depth))) (IsMemref o (suc depth))
+    exact_rendered things Same c TypeStands (memref_at o (suc depth)) (After IsMark Less (Then IsGoodShape (Elements o depth))) (IsMemref o (suc depth))
     (λ y t t' k. (k.0, k.1, (k.2.0, k.2.1, k.2.2.1, k.2.3)))
     (λ y t t' k. (k.0, k.1, (k.2.0, k.2.1, (dims_fine k.2.0 k.2.3.0 k.2.3.3.2.0, k.2.2), k.2.3)))
     (after_exact things Same after_typed IsMark typed_marks c TypeStands Less _ _
@@ -292,23 +292,23 @@ func_stands z x y h = (
 )
 
 module _ (p : Parse Typed ℕ) (P : Grammar (List ℕ) TypeTerm) (item : (c : ContextModel) → Exact things Same c TypeStands p P) where
-  pub types_exact : (room : ℕ) (c : ContextModel) → Exact things Same c TypesStand (types_at p room) (IsTypes P room)
+  pub types_exact : (headroom : ℕ) (c : ContextModel) → Exact things Same c TypesStand (types_at p headroom) (IsTypes P headroom)
   unfolding types_at IsTypes
-  types_exact room c = list_exact things Same after_typed IsMark typed_marks TypeStands CloseRound (λ before. p) (λ before. P) (λ d xs ys r. item d) room c
+  types_exact headroom c = list_exact things Same after_typed IsMark typed_marks TypeStands CloseRound (λ before. p) (λ before. P) (λ d xs ys r. item d) headroom c
 
-  pub outputs_exact : (room : ℕ) (c : ContextModel) → Exact things Same c TypesStand (outputs_at p room) (IsOutputs P room)
+  pub outputs_exact : (headroom : ℕ) (c : ContextModel) → Exact things Same c TypesStand (outputs_at p headroom) (IsOutputs P headroom)
   unfolding outputs_at IsOutputs
-  outputs_exact room c =
-      either_exact things Same after_typed IsMark typed_marks c TypesStand OpenRound (outputs_from p room) (types_at p room) (λ s. p s >>= λ x. Read (x.0 ∷ [], x.1)) (IsTypes P room) (Then P (λ y. Done (y ∷ [])))
-      (λ s mid. refl) (λ s. refl) (types_exact room c)
+  outputs_exact headroom c =
+      either_exact things Same after_typed IsMark typed_marks c TypesStand OpenRound (outputs_from p headroom) (types_at p headroom) (λ s. p s >>= λ x. Read (x.0 ∷ [], x.1)) (IsTypes P headroom) (Then P (λ y. Done (y ∷ [])))
+      (λ s mid. refl) (λ s. refl) (types_exact headroom c)
       (then_exact things Same c TypeStands TypesStand p P (λ x s. Read (x ∷ [], s)) (λ y. Done (y ∷ [])) (item c) (λ d x y g r.
       done_exact things Same d TypesStand (x ∷ []) (y ∷ []) (λ z k w. (r z k w, tt))))
 
-  pub signature_exact : (room : ℕ) (c : ContextModel) → Exact things Same c SignatureStands (signature_at p room) (IsSignature P room)
+  pub signature_exact : (headroom : ℕ) (c : ContextModel) → Exact things Same c SignatureStands (signature_at p headroom) (IsSignature P headroom)
   unfolding signature_at IsSignature
-  signature_exact room c =
+  signature_exact headroom c =
       then_exact things Same c TypesStand SignatureStands _ _ _ _ (types_exact many c) (λ d inputs ins g r.
-      after_exact things Same after_typed IsMark typed_marks d SignatureStands Arrow _ _ (then_exact things Same d TypesStand SignatureStands _ _ _ _ (outputs_exact room d) (λ e outputs outs h k.
+      after_exact things Same after_typed IsMark typed_marks d SignatureStands Arrow _ _ (then_exact things Same d TypesStand SignatureStands _ _ _ _ (outputs_exact headroom d) (λ e outputs outs h k.
       done_exact things Same e SignatureStands (inputs, outputs) (ins, outs) (λ z l w. (r z (grows_trans d e z h l) w, k z l w)))))
 
   pub function_exact : (c : ContextModel) → Exact things Same c TypeStands (function_at p) (IsFunction P)
@@ -337,14 +337,14 @@ pub type_read : (o : Bool) (depth : ℕ) (c d : ContextModel) (bytes rest : List
 type_read o depth c d bytes rest n sound e =
     let f = (type_exact o depth c).found (bytes, c) bytes n (rest, d) (grows_refl c) sound (λ z g w. refl) e in
     let r = f.3.stands d (grows_refl d) f.3.sound in
-    let spelled : IsType o depth (type_term d n) bytes f.1 = subst (λ y. IsType o depth y bytes f.1) (sym r.1) f.2 in
-    (f.3.grows, f.3.sound, r.0, subst (λ b. IsType o depth (type_term d n) bytes b) (sym (text_now (rest, d) f.1 f.3.sound f.3.agree)) spelled)
+    let rendered : IsType o depth (type_term d n) bytes f.1 = subst (λ y. IsType o depth y bytes f.1) (sym r.1) f.2 in
+    (f.3.grows, f.3.sound, r.0, subst (λ b. IsType o depth (type_term d n) bytes b) (sym (text_now (rest, d) f.1 f.3.sound f.3.agree)) rendered)
 
 abbrev pair : {A : Type 0} → A → ContextModel → List ℕ → Outcome (A × Typed)
 pair x d b = Read (x, (b, d))
 
-pub type_spelled : (o : Bool) (depth : ℕ) (c : ContextModel) (bytes rest : List ℕ) (y : TypeTerm) → IsSound c → IsType o depth y bytes rest → (type_at o depth (bytes, c) ≡ Full) ⊎ ((n : ℕ) × (d : ContextModel) × (type_at o depth (bytes, c) ≡ Read (n, (rest, d))) × IsExtendedBy c d × IsSound d × TypeStands d n y)
-type_spelled o depth c bytes rest y sound k = ⊎_elim
+pub type_rendered : (o : Bool) (depth : ℕ) (c : ContextModel) (bytes rest : List ℕ) (y : TypeTerm) → IsSound c → IsType o depth y bytes rest → (type_at o depth (bytes, c) ≡ Full) ⊎ ((n : ℕ) × (d : ContextModel) × (type_at o depth (bytes, c) ≡ Read (n, (rest, d))) × IsExtendedBy c d × IsSound d × TypeStands d n y)
+type_rendered o depth c bytes rest y sound k = ⊎_elim
     (λ (e : type_at o depth (bytes, c) ≡ Full). inl e)
     (λ (f : (n : ℕ) × (s : Typed) × (type_at o depth (bytes, c) ≡ Read (n, s)) × Step things Same TypeStands (bytes, c) n y s rest).
     inr (f.0, f.1.1, f.2 ∙ ap (pair f.0 f.1.1) (text_now f.1 rest f.3.sound f.3.agree), f.3.grows, f.3.sound, f.3.stands f.1.1 (grows_refl f.1.1) f.3.sound))
@@ -370,12 +370,12 @@ function_type_read o c d bytes rest x sound e =
     let outs = stand_map d x.1 f.0.1 r.1 in
     let y : List TypeTerm × List TypeTerm = (map (type_term d) x.0, map (type_term d) x.1) in
     let same : f.0 ≡ y = λ i. (sym ins.1 i, sym outs.1 i) in
-    let spelled : IsFunctionType o y bytes f.1 = subst (λ y'. IsFunctionType o y' bytes f.1) same f.2 in
-    (f.3.grows, f.3.sound, ins.0, outs.0, subst (λ b. IsFunctionType o y bytes b) (sym (text_now (rest, d) f.1 f.3.sound f.3.agree)) spelled)
+    let rendered : IsFunctionType o y bytes f.1 = subst (λ y'. IsFunctionType o y' bytes f.1) same f.2 in
+    (f.3.grows, f.3.sound, ins.0, outs.0, subst (λ b. IsFunctionType o y bytes b) (sym (text_now (rest, d) f.1 f.3.sound f.3.agree)) rendered)
 
-pub function_type_spelled : (o : Bool) (c : ContextModel) (bytes rest : List ℕ) (y : List TypeTerm × List TypeTerm) → IsSound c → IsFunctionType o y bytes rest
+pub function_type_rendered : (o : Bool) (c : ContextModel) (bytes rest : List ℕ) (y : List TypeTerm × List TypeTerm) → IsSound c → IsFunctionType o y bytes rest
     → (function_type_at o (bytes, c) ≡ Full) ⊎ ((x : List ℕ × List ℕ) × (d : ContextModel) × (function_type_at o (bytes, c) ≡ Read (x, (rest, d))) × IsExtendedBy c d × IsSound d × SignatureStands d x y)
-function_type_spelled o c bytes rest y sound k = ⊎_elim
+function_type_rendered o c bytes rest y sound k = ⊎_elim
     (λ (e : function_type_at o (bytes, c) ≡ Full). inl e)
     (λ (f : (x : List ℕ × List ℕ) × (s : Typed) × (function_type_at o (bytes, c) ≡ Read (x, s)) × Step things Same SignatureStands (bytes, c) x y s rest).
     inr (f.0, f.1.1, f.2 ∙ ap (pair f.0 f.1.1) (text_now f.1 rest f.3.sound f.3.agree), f.3.grows, f.3.sound, f.3.stands f.1.1 (grows_refl f.1.1) f.3.sound))

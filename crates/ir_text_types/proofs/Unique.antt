@@ -43,37 +43,37 @@ module _ {T : Type 0} where
     either_one m P Q first second t y y' n n' (inr k) (inl l) = absurd (k.0 l.0 l.1)
     either_one m P Q first second t y y' n n' (inr k) (inr l) = second t y y' n n' k.1 l.1
 
-    module _ {B : Type 0} (close : Mark) (P : List B → Grammar T B) (item : (front : List B) → IsOne (P front)) where
+    module _ {B : Type 0} (close : Mark) (P : List B → Grammar T B) (item : (preceding : List B) → IsOne (P preceding)) where
       -- the end, or a comma and more items
       abbrev Ends : (ℕ → List B → Grammar T (List B)) → ℕ → List B → Grammar T (List B)
-      Ends more room ys all mid new = (Tok close mid new × (all ≡ ys)) ⊎ (Not Tok close mid × (next : T) × Tok Comma mid next × more room ys all next new)
+      Ends more headroom ys all mid new = (Tok close mid new × (all ≡ ys)) ⊎ (Not Tok close mid × (next : T) × Tok Comma mid next × more headroom ys all next new)
 
-      ends_one : (room : ℕ) (ys : List B) → IsOne (IsMore Tok close P room ys) → IsOne (Ends (IsMore Tok close P) room ys)
-      ends_one room ys more t y y' n n' (inl k) (inl l) = (k.1 ∙ sym l.1, tok_one close t n n' k.0 l.0)
-      ends_one room ys more t y y' n n' (inl k) (inr l) = absurd (l.0 n k.0)
-      ends_one room ys more t y y' n n' (inr k) (inl l) = absurd (k.0 n' l.0)
-      ends_one room ys more t y y' n n' (inr k) (inr l) =
+      ends_one : (headroom : ℕ) (ys : List B) → IsOne (IsMore Tok close P headroom ys) → IsOne (Ends (IsMore Tok close P) headroom ys)
+      ends_one headroom ys more t y y' n n' (inl k) (inl l) = (k.1 ∙ sym l.1, tok_one close t n n' k.0 l.0)
+      ends_one headroom ys more t y y' n n' (inl k) (inr l) = absurd (l.0 n k.0)
+      ends_one headroom ys more t y y' n n' (inr k) (inl l) = absurd (k.0 n' l.0)
+      ends_one headroom ys more t y y' n n' (inr k) (inr l) =
           let e = tok_one Comma t k.1 l.1 k.2 l.2 in
-          more k.1 y y' n n' k.3 (subst (λ mid. IsMore Tok close P room ys y' mid n') (sym e) l.3)
+          more k.1 y y' n n' k.3 (subst (λ mid. IsMore Tok close P headroom ys y' mid n') (sym e) l.3)
 
-      pub more_one : (room : ℕ) (front : List B) → IsOne (IsMore Tok close P room front)
+      pub more_one : (headroom : ℕ) (preceding : List B) → IsOne (IsMore Tok close P headroom preceding)
       unfolding IsMore
-      more_one zero front t y y' n n' k l = absurd k
-      more_one (suc room) front t y y' n n' k l =
-          let e = item front t k.0 l.0 k.1 l.1 k.2 l.2 in
-          ends_one room (front ++ k.0 ∷ []) (more_one room (front ++ k.0 ∷ [])) k.1 y y' n n' k.3
-          (subst (λ mid. Ends (IsMore Tok close P) room (front ++ k.0 ∷ []) y' mid n') (sym e.1) (subst (λ x. Ends (IsMore Tok close P) room (front ++ x ∷ []) y' l.1 n') (sym e.0) l.3))
+      more_one zero preceding t y y' n n' k l = absurd k
+      more_one (suc headroom) preceding t y y' n n' k l =
+          let e = item preceding t k.0 l.0 k.1 l.1 k.2 l.2 in
+          ends_one headroom (preceding ++ k.0 ∷ []) (more_one headroom (preceding ++ k.0 ∷ [])) k.1 y y' n n' k.3
+          (subst (λ mid. Ends (IsMore Tok close P) headroom (preceding ++ k.0 ∷ []) y' mid n') (sym e.1) (subst (λ x. Ends (IsMore Tok close P) headroom (preceding ++ x ∷ []) y' l.1 n') (sym e.0) l.3))
 
-      list_from_one : (room : ℕ) (t : T) (y y' : List B) (n n' : T)
-          → (Tok close t n × (y ≡ [])) ⊎ (Not Tok close t × IsMore Tok close P room [] y t n) → (Tok close t n' × (y' ≡ [])) ⊎ (Not Tok close t × IsMore Tok close P room [] y' t n') → (y ≡ y') × (n ≡ n')
-      list_from_one room t y y' n n' (inl k) (inl l) = (k.1 ∙ sym l.1, tok_one close t n n' k.0 l.0)
-      list_from_one room t y y' n n' (inl k) (inr l) = absurd (l.0 n k.0)
-      list_from_one room t y y' n n' (inr k) (inl l) = absurd (k.0 n' l.0)
-      list_from_one room t y y' n n' (inr k) (inr l) = more_one room [] t y y' n n' k.1 l.1
+      list_from_one : (headroom : ℕ) (t : T) (y y' : List B) (n n' : T)
+          → (Tok close t n × (y ≡ [])) ⊎ (Not Tok close t × IsMore Tok close P headroom [] y t n) → (Tok close t n' × (y' ≡ [])) ⊎ (Not Tok close t × IsMore Tok close P headroom [] y' t n') → (y ≡ y') × (n ≡ n')
+      list_from_one headroom t y y' n n' (inl k) (inl l) = (k.1 ∙ sym l.1, tok_one close t n n' k.0 l.0)
+      list_from_one headroom t y y' n n' (inl k) (inr l) = absurd (l.0 n k.0)
+      list_from_one headroom t y y' n n' (inr k) (inl l) = absurd (k.0 n' l.0)
+      list_from_one headroom t y y' n n' (inr k) (inr l) = more_one headroom [] t y y' n n' k.1 l.1
 
-      pub list_one : (room : ℕ) → IsOne (IsList Tok close P room)
+      pub list_one : (headroom : ℕ) → IsOne (IsList Tok close P headroom)
       unfolding IsList
-      list_one room = list_from_one room
+      list_one headroom = list_from_one headroom
 
 -- ---- tokens and types
 
@@ -91,8 +91,8 @@ scalar_one t y y' n n' k l =
     let node : k.1 ≡ l.1 = cc (some) in
     (k.4 ∙ ap (type_from []) node ∙ sym l.4, e.1)
 
-shape_one : (room : ℕ) → IsOne (IsShape room)
-shape_one room t y y' n n' k l = dimensions_one y y' t n n' k.1 l.1
+shape_one : (headroom : ℕ) → IsOne (IsShape headroom)
+shape_one headroom t y y' n n' k l = dimensions_one y y' t n n' k.1 l.1
 
 opaque_one : (found : Option (List ℕ × List ℕ)) (y y' : TypeTerm) (n n' : List ℕ) → IsOpaque found y n → IsOpaque found y' n' → (y ≡ y') × (n ≡ n')
 opaque_one found y y' n n' k l =
@@ -133,17 +133,17 @@ memref_one o (suc depth) t y y' n n' k l =
     after_one IsMark mark_one Greater _ (done_if_one (type_fault (Memref dims elem) ≡ None) (Memref dims elem))))) t y y' n n' k l
 
 module _ (P : Grammar (List ℕ) TypeTerm) (item : IsOne P) where
-  types_one : (room : ℕ) → IsOne (IsTypes P room)
+  types_one : (headroom : ℕ) → IsOne (IsTypes P headroom)
   unfolding IsTypes
-  types_one room = list_one IsMark mark_one CloseRound (λ before. P) (λ before. item) room
+  types_one headroom = list_one IsMark mark_one CloseRound (λ before. P) (λ before. item) headroom
 
-  outputs_one : (room : ℕ) → IsOne (IsOutputs P room)
+  outputs_one : (headroom : ℕ) → IsOne (IsOutputs P headroom)
   unfolding IsOutputs
-  outputs_one room = either_one IsMark mark_one OpenRound (IsTypes P room) (Then P (λ y. Done (y ∷ []))) (types_one room) (then_one P (λ y. Done (y ∷ [])) item (λ y. done_one (y ∷ [])))
+  outputs_one headroom = either_one IsMark mark_one OpenRound (IsTypes P headroom) (Then P (λ y. Done (y ∷ []))) (types_one headroom) (then_one P (λ y. Done (y ∷ [])) item (λ y. done_one (y ∷ [])))
 
-  signature_one : (room : ℕ) → IsOne (IsSignature P room)
+  signature_one : (headroom : ℕ) → IsOne (IsSignature P headroom)
   unfolding IsSignature
-  signature_one room = then_one (IsTypes P many) _ (types_one many) (λ inputs. after_one IsMark mark_one Arrow _ (then_one (IsOutputs P room) _ (outputs_one room) (λ outputs. done_one (inputs, outputs))))
+  signature_one headroom = then_one (IsTypes P many) _ (types_one many) (λ inputs. after_one IsMark mark_one Arrow _ (then_one (IsOutputs P headroom) _ (outputs_one headroom) (λ outputs. done_one (inputs, outputs))))
 
   function_one : IsOne (IsFunction P)
   unfolding IsFunction

@@ -79,8 +79,8 @@ module _ {S T : Type 0} (things : S → ContextModel) (Same : ContextModel → S
   }
 
   -- an equivalent grammar
-  pub exact_spelled : {A B : Type 0} (c : ContextModel) (R : ContextModel → A → B → Type 0) (p : Parse S A) (P Q : Grammar T B) → ((y : B) (t t' : T) → P y t t' → Q y t t') → ((y : B) (t t' : T) → Q y t t' → P y t t') → Exact c R p P → Exact c R p Q
-  exact_spelled c R p P Q into from k = record {
+  pub exact_rendered : {A B : Type 0} (c : ContextModel) (R : ContextModel → A → B → Type 0) (p : Parse S A) (P Q : Grammar T B) → ((y : B) (t t' : T) → P y t t' → Q y t t') → ((y : B) (t t' : T) → Q y t t' → P y t t') → Exact c R p P → Exact c R p Q
+  exact_rendered c R p P Q into from k = record {
     found = λ s t x s' g sound h e. let f = k.found s t x s' g sound h e in (f.0, f.1, into f.0 t f.1 f.2, f.3);
     only = λ s t y t' g sound h j. k.only s t y t' g sound h (from y t t' j);
   }
@@ -106,12 +106,12 @@ module _ {S T : Type 0} (things : S → ContextModel) (Same : ContextModel → S
   -- one of two parsers, chosen by a test
   pub choice_exact : {A B : Type 0} (c : ContextModel) (R : ContextModel → A → B → Type 0) (b : Bool) (p q : Parse S A) (P Q : Grammar T B) → Exact c R p P → Exact c R q Q
       → Exact c R (λ s. if b then p s else q s) (λ y old new. ((b ≡ true) × P y old new) ⊎ ((b ≡ false) × Q y old new))
-  choice_exact {B = B} c R true p q P Q first second = exact_spelled c R p P (λ y old new. ((true ≡ true) × P y old new) ⊎ ((true ≡ false) × Q y old new)) (λ y t t' k. inl (refl, k)) back first
+  choice_exact {B = B} c R true p q P Q first second = exact_rendered c R p P (λ y old new. ((true ≡ true) × P y old new) ⊎ ((true ≡ false) × Q y old new)) (λ y t t' k. inl (refl, k)) back first
     where
       back : (y : B) (t t' : T) → ((true ≡ true) × P y t t') ⊎ ((true ≡ false) × Q y t t') → P y t t'
       back y t t' (inl k) = k.1
       back y t t' (inr k) = absurd (true≢false k.0)
-  choice_exact {B = B} c R false p q P Q first second = exact_spelled c R q Q (λ y old new. ((false ≡ true) × P y old new) ⊎ ((false ≡ false) × Q y old new)) (λ y t t' k. inr (refl, k)) back second
+  choice_exact {B = B} c R false p q P Q first second = exact_rendered c R q Q (λ y old new. ((false ≡ true) × P y old new) ⊎ ((false ≡ false) × Q y old new)) (λ y t t' k. inr (refl, k)) back second
     where
       back : (y : B) (t t' : T) → ((false ≡ true) × P y t t') ⊎ ((false ≡ false) × Q y t t') → Q y t t'
       back y t t' (inl k) = absurd (true≢false (sym k.0))
@@ -120,7 +120,7 @@ module _ {S T : Type 0} (things : S → ContextModel) (Same : ContextModel → S
   -- a parser under a test
   pub guard_exact : {A B : Type 0} (c : ContextModel) (R : ContextModel → A → B → Type 0) (b : Bool) (p : Parse S A) (P : Grammar T B) → Exact c R p P → Exact c R (λ s. if b then p s else Wrong) (λ y old new. (b ≡ true) × P y old new)
   guard_exact {A = A} {B = B} c R b p P first =
-      exact_spelled c R (λ s. if b then p s else Wrong) (λ y old new. ((b ≡ true) × P y old new) ⊎ ((b ≡ false) × ⊥)) (λ y old new. (b ≡ true) × P y old new) into (λ y t t' k. inl k)
+      exact_rendered c R (λ s. if b then p s else Wrong) (λ y old new. ((b ≡ true) × P y old new) ⊎ ((b ≡ false) × ⊥)) (λ y old new. (b ≡ true) × P y old new) into (λ y t t' k. inl k)
       (choice_exact c R b p (λ s. Wrong) P (λ y old new. ⊥) first (nothing_exact c R))
     where
       into : (y : B) (t t' : T) → ((b ≡ true) × P y t t') ⊎ ((b ≡ false) × ⊥) → (b ≡ true) × P y t t'
@@ -130,11 +130,11 @@ module _ {S T : Type 0} (things : S → ContextModel) (Same : ContextModel → S
   -- a parser of an optional value
   pub some_exact : {A B N : Type 0} (c : ContextModel) (R : ContextModel → A → B → Type 0) (o : Option N) (p : N → Parse S A) (P : N → Grammar T B) → ((n : N) → Exact c R (p n) (P n))
       → Exact c R (λ s. of_option o >>= λ n. p n s) (λ y old new. (n : N) × (o ≡ Some n) × P n y old new)
-  some_exact {B = B} {N = N} c R None p P each = exact_spelled c R (λ s. Wrong) (λ y old new. ⊥) (λ y old new. (n : N) × (None ≡ Some n) × P n y old new) (λ y t t' k. absurd k) back (nothing_exact c R)
+  some_exact {B = B} {N = N} c R None p P each = exact_rendered c R (λ s. Wrong) (λ y old new. ⊥) (λ y old new. (n : N) × (None ≡ Some n) × P n y old new) (λ y t t' k. absurd k) back (nothing_exact c R)
     where
       back : (y : B) (t t' : T) → (n : N) × (None ≡ Some n) × P n y t t' → ⊥
       back y t t' k = let e : None ≡ Some k.0 = k.1 in absurd cc
-  some_exact {B = B} {N = N} c R (Some v) p P each = exact_spelled c R (p v) (P v) (λ y old new. (n : N) × (Some v ≡ Some n) × P n y old new) (λ y t t' k. (v, refl, k)) back (each v)
+  some_exact {B = B} {N = N} c R (Some v) p P each = exact_rendered c R (p v) (P v) (λ y old new. (n : N) × (Some v ≡ Some n) × P n y old new) (λ y t t' k. (v, refl, k)) back (each v)
     where
       back : (y : B) (t t' : T) → (n : N) × (Some v ≡ Some n) × P n y t t' → P v y t t'
       back y t t' k = let same : k.0 ≡ v = cc (k.1) in subst (λ n. P n y t t') same k.2
@@ -226,64 +226,64 @@ module _ {S T : Type 0} (things : S → ContextModel) (Same : ContextModel → S
       module _ (close : Mark) (p : List A → Parse S A) (P : List B → Grammar T B)
           (item : (c : ContextModel) (xs : List A) (ys : List B) → From (λ z. Each R z xs ys) c → Exact c R (p xs) (P ys)) where
         -- after an item: the end, or a comma and more items
-        module _ (room : ℕ) (more : (c : ContextModel) (xs : List A) (ys : List B) → From (λ z. Each R z xs ys) c → Exact c (Each R) (more_at after close p room xs) (IsMore Tok close P room ys)) where
+        module _ (headroom : ℕ) (more : (c : ContextModel) (xs : List A) (ys : List B) → From (λ z. Each R z xs ys) c → Exact c (Each R) (more_at after close p headroom xs) (IsMore Tok close P headroom ys)) where
           abbrev Ends : List B → Grammar T (List B)
-          Ends ys all mid new = (Tok close mid new × (all ≡ ys)) ⊎ (Not Tok close mid × (next : T) × Tok Comma mid next × IsMore Tok close P room ys all next new)
+          Ends ys all mid new = (Tok close mid new × (all ≡ ys)) ⊎ (Not Tok close mid × (next : T) × Tok Comma mid next × IsMore Tok close P headroom ys all next new)
 
           abbrev ends : List A → S → Option S → Outcome (List A × S)
-          ends xs mid o = more_from after close p (more_at after close p room) xs mid o
+          ends xs mid o = more_from after close p (more_at after close p headroom) xs mid o
 
           ends_found : (xs : List A) (ys : List B) (mid : S) (mid' : T) (o : Option S) → after close mid ≡ o → From (λ z. Each R z xs ys) (things mid) → IsSound (things mid) → Agree mid mid' → (all : List A) (s' : S) → ends xs mid o ≡ Read (all, s') → Comes (Each R) (Ends ys) mid mid' all s'
-          ends_found xs ys mid mid' (Some end) e front sound h all s' f =
+          ends_found xs ys mid mid' (Some end) e preceding sound h all s' f =
               let q = parts xs all end s' f in
               let m = marks.found close mid mid' end sound h e in
-              rw (← q.0, ← q.1) (ys, m.0, inl (m.1, refl), record { grows = m.2; sound = m.3; stands = later (λ z. Each R z xs ys) (things mid) (things end) m.2 front; agree = m.4 })
-          ends_found xs ys mid mid' None e front sound h all s' f =
-              let b = option_read (after Comma mid) (more_at after close p room xs) (all, s') f in
+              rw (← q.0, ← q.1) (ys, m.0, inl (m.1, refl), record { grows = m.2; sound = m.3; stands = later (λ z. Each R z xs ys) (things mid) (things end) m.2 preceding; agree = m.4 })
+          ends_found xs ys mid mid' None e preceding sound h all s' f =
+              let b = option_read (after Comma mid) (more_at after close p headroom xs) (all, s') f in
               let m = marks.found Comma mid mid' b.0 sound h b.1 in
-              let n = (more (things b.0) xs ys (later (λ z. Each R z xs ys) (things mid) (things b.0) m.2 front)).found b.0 m.0 all s' (grows_refl (things b.0)) m.3 m.4 b.2 in
+              let n = (more (things b.0) xs ys (later (λ z. Each R z xs ys) (things mid) (things b.0) m.2 preceding)).found b.0 m.0 all s' (grows_refl (things b.0)) m.3 m.4 b.2 in
               (n.0, n.1, inr (marks.none close mid mid' sound h e, m.0, m.1, n.2), step_on (Each R) mid b.0 all n.0 s' n.1 m.2 n.3)
 
           ends_only : (xs : List A) (ys : List B) (mid : S) (mid' : T) → From (λ z. Each R z xs ys) (things mid) → IsSound (things mid) → Agree mid mid' → (all' : List B) (t' : T) → Ends ys all' mid' t' → Reads (Each R) mid (ends xs mid (after close mid)) all' t'
-          ends_only xs ys mid mid' front sound h all' t' (inl k) =
+          ends_only xs ys mid mid' preceding sound h all' t' (inl k) =
               let m = marks.only close mid mid' t' sound h k.0 in
-              rw (k.1, m.1) (inr (xs, m.0, refl, record { grows = m.2; sound = m.3; stands = later (λ z. Each R z xs ys) (things mid) (things m.0) m.2 front; agree = m.4 }))
-          ends_only xs ys mid mid' front sound h all' t' (inr k) =
+              rw (k.1, m.1) (inr (xs, m.0, refl, record { grows = m.2; sound = m.3; stands = later (λ z. Each R z xs ys) (things mid) (things m.0) m.2 preceding; agree = m.4 }))
+          ends_only xs ys mid mid' preceding sound h all' t' (inr k) =
               let m = marks.only Comma mid mid' k.1 sound h k.2 in
-              let n = (more (things m.0) xs ys (later (λ z. Each R z xs ys) (things mid) (things m.0) m.2 front)).only m.0 k.1 all' t' (grows_refl (things m.0)) m.3 m.4 k.3 in
-              rw (marks.lacks close mid mid' sound h k.0, m.1) (reads_on (Each R) mid m.0 (more_at after close p room xs m.0) all' t' m.2 n)
+              let n = (more (things m.0) xs ys (later (λ z. Each R z xs ys) (things mid) (things m.0) m.2 preceding)).only m.0 k.1 all' t' (grows_refl (things m.0)) m.3 m.4 k.3 in
+              rw (marks.lacks close mid mid' sound h k.0, m.1) (reads_on (Each R) mid m.0 (more_at after close p headroom xs m.0) all' t' m.2 n)
 
-        pub more_exact : (room : ℕ) (c : ContextModel) (xs : List A) (ys : List B) → From (λ z. Each R z xs ys) c → Exact c (Each R) (more_at after close p room xs) (IsMore Tok close P room ys)
+        pub more_exact : (headroom : ℕ) (c : ContextModel) (xs : List A) (ys : List B) → From (λ z. Each R z xs ys) c → Exact c (Each R) (more_at after close p headroom xs) (IsMore Tok close P headroom ys)
         unfolding more_at IsMore
         more_exact zero c xs ys r = record { found = λ s t x s' g sound h e. absurd cc; only = λ s t y t' g sound h k. absurd k }
-        more_exact (suc room) c xs ys r = record {
+        more_exact (suc headroom) c xs ys r = record {
           found = λ s t all s' g sound h e.
-              let a = bind_read (p xs s) (λ x. more_from after close p (more_at after close p room) (xs ++ x.0 ∷ []) x.1 (after close x.1)) (all, s') e in
+              let a = bind_read (p xs s) (λ x. more_from after close p (more_at after close p headroom) (xs ++ x.0 ∷ []) x.1 (after close x.1)) (all, s') e in
               let f = (item c xs ys r).found s t a.0.0 a.0.1 g sound h a.1 in
-              let front : From (λ z. Each R z (xs ++ a.0.0 ∷ []) (ys ++ f.0 ∷ [])) (things a.0.1) = λ z k w. each_push z xs ys a.0.0 f.0 (r z (grows_trans c (things s) z g (grows_trans (things s) (things a.0.1) z f.3.grows k)) w) (f.3.stands z k w) in
-              let n = ends_found room (more_exact room) (xs ++ a.0.0 ∷ []) (ys ++ f.0 ∷ []) a.0.1 f.1 (after close a.0.1) refl front f.3.sound f.3.agree all s' a.2 in
+              let preceding : From (λ z. Each R z (xs ++ a.0.0 ∷ []) (ys ++ f.0 ∷ [])) (things a.0.1) = λ z k w. each_push z xs ys a.0.0 f.0 (r z (grows_trans c (things s) z g (grows_trans (things s) (things a.0.1) z f.3.grows k)) w) (f.3.stands z k w) in
+              let n = ends_found headroom (more_exact headroom) (xs ++ a.0.0 ∷ []) (ys ++ f.0 ∷ []) a.0.1 f.1 (after close a.0.1) refl preceding f.3.sound f.3.agree all s' a.2 in
               (n.0, n.1, (f.0, f.1, f.2, n.2), step_on (Each R) s a.0.1 all n.0 s' n.1 f.3.grows n.3);
           only = λ s t all t' g sound h k.
-              reads_then R (Each R) s (p xs s) (λ x. more_from after close p (more_at after close p room) (xs ++ x.0 ∷ []) x.1 (after close x.1)) k.0 k.1 all t' ((item c xs ys r).only s t k.0 k.1 g sound h k.2) (λ x s' f.
-              let front : From (λ z. Each R z (xs ++ x ∷ []) (ys ++ k.0 ∷ [])) (things s') = λ z j w. each_push z xs ys x k.0 (r z (grows_trans c (things s) z g (grows_trans (things s) (things s') z f.grows j)) w) (f.stands z j w) in
-              ends_only room (more_exact room) (xs ++ x ∷ []) (ys ++ k.0 ∷ []) s' k.1 front f.sound f.agree all t' k.3);
+              reads_then R (Each R) s (p xs s) (λ x. more_from after close p (more_at after close p headroom) (xs ++ x.0 ∷ []) x.1 (after close x.1)) k.0 k.1 all t' ((item c xs ys r).only s t k.0 k.1 g sound h k.2) (λ x s' f.
+              let preceding : From (λ z. Each R z (xs ++ x ∷ []) (ys ++ k.0 ∷ [])) (things s') = λ z j w. each_push z xs ys x k.0 (r z (grows_trans c (things s) z g (grows_trans (things s) (things s') z f.grows j)) w) (f.stands z j w) in
+              ends_only headroom (more_exact headroom) (xs ++ x ∷ []) (ys ++ k.0 ∷ []) s' k.1 preceding f.sound f.agree all t' k.3);
         }
 
-        pub list_exact : (room : ℕ) (c : ContextModel) → Exact c (Each R) (list_at after close p room) (IsList Tok close P room)
+        pub list_exact : (headroom : ℕ) (c : ContextModel) → Exact c (Each R) (list_at after close p headroom) (IsList Tok close P headroom)
         unfolding list_at IsList
-        list_exact room c = record {
+        list_exact headroom c = record {
           found = λ s t all s' g sound h e. from s t all s' (after close s) refl sound h e;
           only = λ s t all t' g sound h k. ⊎_elim
               (λ (k : Tok close t t' × (all ≡ [])). let m = marks.only close s t t' sound h k.0 in rw (k.1, m.1) (inr ([], m.0, refl, record { grows = m.2; sound = m.3; stands = λ z j w. tt; agree = m.4 })))
-              (λ (k : Not Tok close t × IsMore Tok close P room [] all t t'). rw (marks.lacks close s t sound h k.0) ((more_exact room (things s) [] [] (λ z j w. tt)).only s t all t' (grows_refl (things s)) sound h k.1))
+              (λ (k : Not Tok close t × IsMore Tok close P headroom [] all t t'). rw (marks.lacks close s t sound h k.0) ((more_exact headroom (things s) [] [] (λ z j w. tt)).only s t all t' (grows_refl (things s)) sound h k.1))
               k;
         }
           where
-            from : (s : S) (t : T) (all : List A) (s' : S) (o : Option S) → after close s ≡ o → IsSound (things s) → Agree s t → list_from after close p room s o ≡ Read (all, s') → Comes (Each R) (IsList Tok close P room) s t all s'
+            from : (s : S) (t : T) (all : List A) (s' : S) (o : Option S) → after close s ≡ o → IsSound (things s) → Agree s t → list_from after close p headroom s o ≡ Read (all, s') → Comes (Each R) (IsList Tok close P headroom) s t all s'
             from s t all s' (Some end) e sound h f =
                 let q = parts [] all end s' f in
                 let m = marks.found close s t end sound h e in
                 rw (← q.0, ← q.1) ([], m.0, inl (m.1, refl), record { grows = m.2; sound = m.3; stands = λ z j w. tt; agree = m.4 })
             from s t all s' None e sound h f =
-                let n = (more_exact room (things s) [] [] (λ z j w. tt)).found s t all s' (grows_refl (things s)) sound h f in
+                let n = (more_exact headroom (things s) [] [] (λ z j w. tt)).found s t all s' (grows_refl (things s)) sound h f in
                 (n.0, n.1, inr (marks.none close s t sound h e, n.2), n.3)

@@ -39,14 +39,14 @@ module _ {T : Type 0} (Tok : Mark → T → T → Type 0) where
   module _ {B : Type 0} (close : Mark) (P : List B → Grammar T B) where
     -- one item after those of `front`, and then the end, or a comma and one more item; at most `room` items
     unfoldable pub IsMore : ℕ → List B → Grammar T (List B)
-    IsMore zero front ys old new = ⊥
-    IsMore (suc room) front ys old new =
-        (y : B) × (mid : T) × P front y old mid
-        × ((Tok close mid new × (ys ≡ front ++ y ∷ [])) ⊎ (Not close mid × (next : T) × Tok Comma mid next × IsMore room (front ++ y ∷ []) ys next new))
+    IsMore zero preceding ys old new = ⊥
+    IsMore (suc headroom) preceding ys old new =
+        (y : B) × (mid : T) × P preceding y old mid
+        × ((Tok close mid new × (ys ≡ preceding ++ y ∷ [])) ⊎ (Not close mid × (next : T) × Tok Comma mid next × IsMore headroom (preceding ++ y ∷ []) ys next new))
 
     -- the closing mark, or items up to the closing mark
     unfoldable pub IsList : ℕ → Grammar T (List B)
-    IsList room ys old new = (Tok close old new × (ys ≡ [])) ⊎ (Not close old × IsMore room [] ys old new)
+    IsList headroom ys old new = (Tok close old new × (ys ≡ [])) ⊎ (Not close old × IsMore headroom [] ys old new)
 
 -- the next token of a text, with the blanks and comments before it
 abbrev pub Token : Lexeme → (bytes rest : List ℕ) → Type 0

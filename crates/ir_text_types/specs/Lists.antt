@@ -12,11 +12,11 @@ module _ {S A : Type 0} (after : Mark → S → Option S) (close : Mark) (p : Li
   -- the items so far and the items that are left up to the closing mark: at least one and at most `room` are left
   unfoldable pub more_at : ℕ → List A → Parse S (List A)
   more_at zero items s = Wrong
-  more_at (suc room) items s = p items s >>= λ x. more_from (more_at room) (items ++ x.0 ∷ []) x.1 (after close x.1)
+  more_at (suc headroom) items s = p items s >>= λ x. more_from (more_at headroom) (items ++ x.0 ∷ []) x.1 (after close x.1)
 
   abbrev pub list_from : ℕ → S → Option S → Outcome (List A × S)
-  list_from room s (Some end) = Read ([], end)
-  list_from room s None = more_at room [] s
+  list_from headroom s (Some end) = Read ([], end)
+  list_from headroom s None = more_at headroom [] s
 
   unfoldable pub list_at : ℕ → Parse S (List A)
-  list_at room s = list_from room s (after close s)
+  list_at headroom s = list_from headroom s (after close s)

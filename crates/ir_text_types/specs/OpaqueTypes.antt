@@ -38,11 +38,11 @@ is_opaque_word word rest = (is_alone word || is_angled word) || (bytes_eq word m
 
 -- `front` with the body appended, and the rest of the text
 abbrev pub with_body : List ℕ → List ℕ → Option (List ℕ × List ℕ)
-with_body front bytes = option_map (λ (b : List ℕ × List ℕ). (front ++ b.0, b.1)) (body_at bytes)
+with_body preceding bytes = option_map (λ (b : List ℕ × List ℕ). (preceding ++ b.0, b.1)) (body_at bytes)
 
 -- the same, if the body begins with this bracket
 abbrev pub bracketed : ℕ → List ℕ → List ℕ → Option (List ℕ × List ℕ)
-bracketed bracket front bytes = if begins bracket bytes then with_body front bytes else None
+bracketed bracket preceding bytes = if begins bracket bytes then with_body preceding bytes else None
 
 -- the text of an opaque type that begins with a word, without blanks after the word, and the rest of the text
 abbrev pub word_text : List ℕ → List ℕ → Option (List ℕ × List ℕ)

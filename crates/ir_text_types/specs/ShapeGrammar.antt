@@ -32,4 +32,4 @@ AreDimensions (d ∷ ds) old new = (mid : List ℕ) × IsDimension d old mid × 
 
 -- at most `room` dimensions
 abbrev pub IsShape : ℕ → Grammar (List ℕ) (List (Option ℕ))
-IsShape room dims old new = (length dims ≤ room) × AreDimensions dims old new
+IsShape headroom dims old new = (length dims ≤ headroom) × AreDimensions dims old new

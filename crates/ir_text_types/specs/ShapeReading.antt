@@ -36,7 +36,7 @@ dimension_at bytes = dimension_from (skip bytes)
 
 -- the dimensions so far and the ones that are left, at most `room`
 unfoldable pub dimensions_at : ℕ → List (Option ℕ) → List ℕ → Option (List (Option ℕ) × List ℕ)
-dimensions_at zero front bytes = if begins_dimension (skip bytes) then None else Some (front, bytes)
-dimensions_at (suc room) front bytes =
-    if begins_dimension (skip bytes) then option_and_then (λ x. dimensions_at room (front ++ x.0 ∷ []) x.1) (dimension_at bytes)
-    else Some (front, bytes)
+dimensions_at zero preceding bytes = if begins_dimension (skip bytes) then None else Some (preceding, bytes)
+dimensions_at (suc headroom) preceding bytes =
+    if begins_dimension (skip bytes) then option_and_then (λ x. dimensions_at headroom (preceding ++ x.0 ∷ []) x.1) (dimension_at bytes)
+    else Some (preceding, bytes)

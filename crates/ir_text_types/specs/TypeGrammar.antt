@@ -61,15 +61,15 @@ module _ (opaque : Bool) where
 module _ (P : Grammar Text TypeTerm) where
   -- types up to a closing parenthesis, at most `room`
   unfoldable pub IsTypes : ℕ → Grammar Text (List TypeTerm)
-  IsTypes room = IsList IsMark CloseRound (λ before. P) room
+  IsTypes headroom = IsList IsMark CloseRound (λ before. P) headroom
 
   -- one type that is no function type, or types in parentheses
   unfoldable pub IsOutputs : ℕ → Grammar Text (List TypeTerm)
-  IsOutputs room = Either IsMark OpenRound (IsTypes room) (Then P (λ y. Done (y ∷ [])))
+  IsOutputs headroom = Either IsMark OpenRound (IsTypes headroom) (Then P (λ y. Done (y ∷ [])))
 
   -- inputs and outputs after the opening parenthesis
   unfoldable pub IsSignature : ℕ → Grammar Text (List TypeTerm × List TypeTerm)
-  IsSignature room = Then (IsTypes many) (λ inputs. After IsMark Arrow (Then (IsOutputs room) (λ outputs. Done (inputs, outputs))))
+  IsSignature headroom = Then (IsTypes many) (λ inputs. After IsMark Arrow (Then (IsOutputs headroom) (λ outputs. Done (inputs, outputs))))
 
   -- a function type that isn't deeper than the depth limit of types
   unfoldable pub IsFunction : Grammar Text TypeTerm

@@ -81,22 +81,22 @@ module _ (opaque : Bool) where
 module _ (p : Parse Typed ℕ) where
   -- types up to a closing parenthesis, at most `room`
   unfoldable pub types_at : ℕ → Parse Typed (List ℕ)
-  types_at room = list_at after_typed CloseRound (λ before. p) room
+  types_at headroom = list_at after_typed CloseRound (λ before. p) headroom
 
   abbrev pub outputs_from : ℕ → Typed → Option Typed → Outcome (List ℕ × Typed)
-  outputs_from room s (Some c) = types_at room c
-  outputs_from room s None = p s >>= λ x. Read (x.0 ∷ [], x.1)
+  outputs_from headroom s (Some c) = types_at headroom c
+  outputs_from headroom s None = p s >>= λ x. Read (x.0 ∷ [], x.1)
 
   -- one type, or types in parentheses
   unfoldable pub outputs_at : ℕ → Parse Typed (List ℕ)
-  outputs_at room s = outputs_from room s (after_typed OpenRound s)
+  outputs_at headroom s = outputs_from headroom s (after_typed OpenRound s)
 
   -- the types of a function type after its opening parenthesis
   unfoldable pub signature_at : ℕ → Parse Typed (List ℕ × List ℕ)
-  signature_at room s = do
+  signature_at headroom s = do
     inputs ← types_at many s
     a ← of_option (after_typed Arrow inputs.1)
-    outputs ← outputs_at room a
+    outputs ← outputs_at headroom a
     Read ((inputs.0, outputs.0), outputs.1)
 
   unfoldable pub function_at : Parse Typed ℕ

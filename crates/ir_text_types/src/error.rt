@@ -69,7 +69,7 @@ pub fn within_limits(bytes: &[u8]) -> Result<(), ReadError>
     ensures error { result_err result ≡ text_error bytes.now }
     ensures ok { IfOk result (λ _. text_reason bytes.now ≡ None) }
     ensures refused { (f : TextFault) → result ≡ Err (ReadError.Refused f) → text_reason bytes.now ≡ None → ⊥ }
-    ensures room { (left : ℕ) → result ≡ Err (ReadError.Full left) → ⊥ }
+    ensures headroom { (left : ℕ) → result ≡ Err (ReadError.Full left) → ⊥ }
 {
     match check_text(bytes) {
         Ok(()) => Ok(()),

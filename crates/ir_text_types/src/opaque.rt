@@ -109,10 +109,10 @@ pub fn is_opaque_word(word: &[u8], rest: &[u8]) -> bool
 }
 
 /// Returns `front` with the body at the start of `bytes` appended, and the rest of the text.
-fn with_body<'a>(front: Vec<u8>, bytes: &'a [u8]) -> Result<(Items<u8>, &'a [u8]), ReadError>
-    ensures { Returns (λ x. (x.0, x.1.now)) result (of_option (with_body front.items bytes.now)) }
+fn with_body<'a>(preceding: Vec<u8>, bytes: &'a [u8]) -> Result<(Items<u8>, &'a [u8]), ReadError>
+    ensures { Returns (λ x. (x.0, x.1.now)) result (of_option (with_body preceding.items bytes.now)) }
 {
-    let mut text = front;
+    let mut text = preceding;
     let (inside, rest) = match body(bytes) {
         Ok(found) => found,
         Err(fault) => return Err(ReadError::Refused(fault)),
@@ -132,13 +132,13 @@ pub fn word_text<'a>(
 ) -> Result<(Items<u8>, &'a [u8]), ReadError>
     ensures { Returns (λ x. (x.0, x.1.now)) result (of_option (word_text word.now rest.now)) }
 {
-    let front = Vec::from_slice(alloc, word)?;
+    let preceding = Vec::from_slice(alloc, word)?;
     if is_alone(word) {
-        return Ok((Items::new(front), rest));
+        return Ok((Items::new(preceding), rest));
     }
     let bytes = skip(rest);
     match bytes {
-        [b'<', ..] => with_body(front, bytes),
+        [b'<', ..] => with_body(preceding, bytes),
         _ => Err(ReadError::Refused(wrong(TextRefusal::Unexpected, bytes))),
     }
 }
@@ -166,12 +166,12 @@ pub fn dialect_text<'a>(
 ) -> Result<(Items<u8>, &'a [u8]), ReadError>
     ensures { Returns (λ x. (x.0, x.1.now)) result (of_option (dialect_text sign name.now rest.now)) }
 {
-    let front = signed(alloc, sign, name)?;
+    let preceding = signed(alloc, sign, name)?;
     if matches!(rest, [b'<', ..]) {
-        return with_body(front, rest);
+        return with_body(preceding, rest);
     }
     if has_dot(name) {
-        Ok((Items::new(front), rest))
+        Ok((Items::new(preceding), rest))
     } else {
         Err(ReadError::Refused(wrong(TextRefusal::LeftOut, start)))
     }

@@ -286,9 +286,9 @@ fn types<'a>(
     bytes: &'a [u8],
     opaque: bool,
     depth: u32,
-    room: usize,
+    headroom: usize,
 ) -> Result<(Vec<TypeId>, &'a [u8]), ReadError>
-    ensures reads { Returns (λ x. (x.0.items, (x.1.now, ctx.new))) result (types_at (type_at opaque depth) room (bytes.now, ctx.old)) }
+    ensures reads { Returns (λ x. (x.0.items, (x.1.now, ctx.new))) result (types_at (type_at opaque depth) headroom (bytes.now, ctx.old)) }
     ensures grows { IsExtendedBy ctx.old ctx.new }
 {
     let mut items = Vec::new(alloc);
@@ -296,7 +296,7 @@ fn types<'a>(
         return Ok((items, rest));
     }
     let mut rest = bytes;
-    'items: for _ in 0..room {
+    'items: for _ in 0..headroom {
         let (item, tail) = match ty(alloc, ctx, rest, opaque, depth) {
             Ok(found) => found,
             Err(e) => return Err(e),
@@ -327,13 +327,13 @@ fn outputs<'a>(
     bytes: &'a [u8],
     opaque: bool,
     depth: u32,
-    room: usize,
+    headroom: usize,
 ) -> Result<(Vec<TypeId>, &'a [u8]), ReadError>
-    ensures reads { Returns (λ x. (x.0.items, (x.1.now, ctx.new))) result (outputs_at (type_at opaque depth) room (bytes.now, ctx.old)) }
+    ensures reads { Returns (λ x. (x.0.items, (x.1.now, ctx.new))) result (outputs_at (type_at opaque depth) headroom (bytes.now, ctx.old)) }
     ensures grows { IsExtendedBy ctx.old ctx.new }
 {
     if let Some(rest) = after(bytes, Mark::OpenRound) {
-        return types(alloc, ctx, rest, opaque, depth, room);
+        return types(alloc, ctx, rest, opaque, depth, headroom);
     }
     let (item, rest) = match ty(alloc, ctx, bytes, opaque, depth) {
         Ok(found) => found,
@@ -352,9 +352,9 @@ fn signature<'a>(
     bytes: &'a [u8],
     opaque: bool,
     depth: u32,
-    room: usize,
+    headroom: usize,
 ) -> Result<((Vec<TypeId>, Vec<TypeId>), &'a [u8]), ReadError>
-    ensures reads { Returns (λ x. ((x.0.0.items, x.0.1.items), (x.1.now, ctx.new))) result (signature_at (type_at opaque depth) room (bytes.now, ctx.old)) }
+    ensures reads { Returns (λ x. ((x.0.0.items, x.0.1.items), (x.1.now, ctx.new))) result (signature_at (type_at opaque depth) headroom (bytes.now, ctx.old)) }
     ensures grows { IsExtendedBy ctx.old ctx.new }
 {
     let (inputs, rest) = match types(alloc, ctx, bytes, opaque, depth, MANY) {
@@ -362,7 +362,7 @@ fn signature<'a>(
         Err(e) => return Err(e),
     };
     let rest = expect(rest, Mark::Arrow)?;
-    let (outputs, rest) = match outputs(alloc, ctx, rest, opaque, depth, room) {
+    let (outputs, rest) = match outputs(alloc, ctx, rest, opaque, depth, headroom) {
         Ok(found) => found,
         Err(e) => return Err(e),
     };

@@ -2,7 +2,7 @@
 use Rattle.std.proofs.Common.{◌≡◌, refl, ap, sym, ◌∙◌, ℕ, ◌<◌, Bool, true, ◌&&◌, List, [], ◌∷◌, length, length-append, arith}
 use Rattle.std.specs.List.{list_all}
 use Rattle.std.proofs.lemmas.Bool.{ltb-true, lt-ltb, and_parts, and_from}
-use Rattle.ir_types.specs.Things.{ContextModel, IsExtendedBy, IsFront}
+use Rattle.ir_types.specs.Things.{ContextModel, IsExtendedBy, IsPreceding}
 use Rattle.ir_types.specs.Terms.{name_term, type_term, attr_term}
 use Rattle.ir_types.specs.Sound.{Holds, IsSound}
 use Rattle.ir_types.proofs.Terms.{name_stays, type_stays, attr_stays, name_term_one, type_term_one, attr_term_one}
@@ -59,7 +59,7 @@ module _ {N T A : Type 0} (p q r : OpOf N T A → Bool) (follows : (t : OpOf N T
         and_from (every r o) (ops_every r os) (every_follows o b.0 c.0) (ops_follow os b.1 c.1)
 
 -- ids of a context are ids of an extended one
-pub longer : {X : Type 0} (xs ys : List X) (n : ℕ) → IsFront xs ys → n < length xs → n < length ys
+pub longer : {X : Type 0} (xs ys : List X) (n : ℕ) → IsPreceding xs ys → n < length xs → n < length ys
 longer xs ys n f h = omega (arith, ap length f.1, length-append xs f.0)
 
 module _ {N T A : Type 0} (n n' : N → Bool) (q q' : T → Bool) (a a' : A → Bool) (names : (x : N) → n x ≡ true → n' x ≡ true) (types : (x : T) → q x ≡ true → q' x ≡ true) (attrs : (x : A) → a x ≡ true → a' x ≡ true) where

@@ -33,7 +33,7 @@ pub record IsWellFormed {N T A : Type 0} (isolated : N → Bool) (m : ModuleOf N
   pub distinct : HasDistinctIds m.tree
   pub below : All (λ x. x < m.next) (ids m.tree)
   pub next : m.next ≤ most_next
-  pub formed : IsValidTree isolated m.tree
+  pub wellformed : IsValidTree isolated m.tree
 
 -- the first fault of a tree, if there is one: an operand that isn't visible, an operation beyond the depth limit, a
 -- count beyond its limit

@@ -52,7 +52,7 @@ pub fn meaning_of_edits()
 {}
 
 /// A tree is well-formed exactly if it has no fault.
-pub fn formed_has_no_fault()
+pub fn wellformed_has_no_fault()
     ensures { (isolated : ℕ → Bool) (t : Op) → (fault isolated t ≡ None) ↔ IsValidTree isolated t }
 {}
 

@@ -73,7 +73,7 @@ fn dominated_by(alloc: Global, state: &State, text: &str) -> Result<String, Allo
 }
 
 /// Answers a read of the tree.
-fn asked(alloc: Global, state: &State, call: &str, rest: &str) -> Result<String, AllocError> {
+fn requested(alloc: Global, state: &State, call: &str, rest: &str) -> Result<String, AllocError> {
     let tree = &state.tree;
     match call {
         "depth" => written::number(alloc, depth(tree)),
@@ -98,6 +98,6 @@ pub fn answer(alloc: Global, state: &mut State, line: &str) -> Result<String, Al
         "context" => written::done(alloc, grow(alloc, &mut state.context, rest)),
         "tree" => tree(alloc, state, rest),
         "edit" => edits::edited(alloc, state, rest),
-        _ => asked(alloc, state, call, rest),
+        _ => requested(alloc, state, call, rest),
     }
 }

@@ -36,12 +36,12 @@ module _ {N T A : Type 0} where
     region_stands_around x p path r empty = refl
     region_stands_around x p path r (block args os) = ops_stands_around x p path r args [] os
 
-    ops_stands_around : (x : ℕ) (p : OpOf N T A) (path : List (StepOf N T A)) (r : ℕ) (args : List T) (front : List (OpOf N T A)) (os : OpsOf N T A) → option_map many (stand_in x (ops_stands p path r args front os)) ≡ ops_around x (length path + 1) os
-    ops_stands_around x p path r args front no_ops = refl
-    ops_stands_around x p path r args front (next o os) =
-        let one : length (step p r args front os ∷ path) ≡ length path + 1 = omega arith in
-        joined_first many x (stands (step p r args front os ∷ path) o) (ops_stands p path r args (front ++ o ∷ []) os)
-        ∙ λ i. first_of ((stands_around x (step p r args front os ∷ path) o ∙ ap (λ n. around_in x n o) one) i) (ops_stands_around x p path r args (front ++ o ∷ []) os i)
+    ops_stands_around : (x : ℕ) (p : OpOf N T A) (path : List (StepOf N T A)) (r : ℕ) (args : List T) (preceding : List (OpOf N T A)) (os : OpsOf N T A) → option_map many (stand_in x (ops_stands p path r args preceding os)) ≡ ops_around x (length path + 1) os
+    ops_stands_around x p path r args preceding no_ops = refl
+    ops_stands_around x p path r args preceding (next o os) =
+        let one : length (step p r args preceding os ∷ path) ≡ length path + 1 = omega arith in
+        joined_first many x (stands (step p r args preceding os ∷ path) o) (ops_stands p path r args (preceding ++ o ∷ []) os)
+        ∙ λ i. first_of ((stands_around x (step p r args preceding os ∷ path) o ∙ ap (λ n. around_in x n o) one) i) (ops_stands_around x p path r args (preceding ++ o ∷ []) os i)
 
   -- ids
   pub stand_present : (path : List (StepOf N T A)) (t : OpOf N T A) (s : StandOf N T A) → In s (stands path t) → list_any (λ y. eqb y (stand_id s)) (ids t) ≡ true

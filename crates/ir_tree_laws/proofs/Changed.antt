@@ -24,7 +24,7 @@ use Rattle.ir_tree_laws.proofs.Members.{stand, within, has_around, joined_ops, o
 use Rattle.ir_tree_laws.proofs.Around.{stand_present, present_stand, around_there, gone_within, member_of_place}
 use Rattle.ir_tree_laws.proofs.Without.{left_member, same_head, left_dominated_by_same}
 use Rattle.ir_tree_laws.proofs.Put.{of_point, region_each, child}
-use Rattle.ir_tree_laws.proofs.Formed.{from_formed, ids_below}
+use Rattle.ir_tree_laws.proofs.Wellformed.{from_wellformed, ids_below}
 use Rattle.ir_tree_laws.proofs.PutForm.{put_place, put_found, put_back, put_cases, landed}
 use Rattle.ir_tree_laws.proofs.Shift as shift
 use Rattle.ir_tree_laws.proofs.Shift.{still_among, inner_of, inner_place}
@@ -140,8 +140,8 @@ module _ {N T A : Type 0} where
       let u = with_id m.next o in
       let id = own_id m.next o in
       let after = put_keeps isolated place o m w leaf e in
-      let g = from_formed isolated (put place u m.tree) after.formed in
-      let g0 = from_formed isolated m.tree w.formed in
+      let g = from_wellformed isolated (put place u m.tree) after.wellformed in
+      let g0 = from_wellformed isolated m.tree w.wellformed in
       let root : (head (put place u m.tree)).id ≡ (head m.tree).id = ap (λ (h : HeadOf N T A). h.id) (same_root place u m.tree) in
       record {
         there = ap (λ z. place_of z (put place u m.tree)) (sym id) ∙ put_place place u m.tree may;
@@ -237,17 +237,17 @@ module _ {N T A : Type 0} where
         absurd (omega (arith, l)))
   ]
 
-  pub kept_front : (x : ℕ) (front : List (OpOf N T A)) (os : OpsOf N T A) → drop_op x (ops_each_list (dropping x) (joined_ops front os)) ≡ joined_ops (filter (λ o. not (eqb (head o).id x)) (map (each_list (dropping x)) front)) (drop_op x (ops_each_list (dropping x) os))
-  kept_front x [] os = refl
-  kept_front x (op h rs ∷ fs) os =
+  pub kept_preceding : (x : ℕ) (preceding : List (OpOf N T A)) (os : OpsOf N T A) → drop_op x (ops_each_list (dropping x) (joined_ops preceding os)) ≡ joined_ops (filter (λ o. not (eqb (head o).id x)) (map (each_list (dropping x)) preceding)) (drop_op x (ops_each_list (dropping x) os))
+  kept_preceding x [] os = refl
+  kept_preceding x (op h rs ∷ fs) os =
       elim (eqb h.id x) as (λ b. cond b (drop_op x (ops_each_list (dropping x) (joined_ops fs os))) (next (each_list (dropping x) (op h rs)) (drop_op x (ops_each_list (dropping x) (joined_ops fs os))))
       ≡ joined_ops (cond (not b) (each_list (dropping x) (op h rs) ∷ filter (λ o. not (eqb (head o).id x)) (map (each_list (dropping x)) fs)) (filter (λ o. not (eqb (head o).id x)) (map (each_list (dropping x)) fs))) (drop_op x (ops_each_list (dropping x) os)))
-      [ true ↦ kept_front x fs os | false ↦ ap (next (each_list (dropping x) (op h rs))) (kept_front x fs os) ]
+      [ true ↦ kept_preceding x fs os | false ↦ ap (next (each_list (dropping x) (op h rs))) (kept_preceding x fs os) ]
 
   each_block : (x r : ℕ) (q : OpOf N T A) (args : List T) (os : OpsOf N T A) → region_at r (regions q) ≡ Some (block args os) → region_at r (regions (each_list (dropping x) q)) ≡ Some (block args (drop_op x (ops_each_list (dropping x) os)))
   each_block x r (op h rs) args os e = region_each (dropping x) h.id 0 r rs ∙ ap (option_map (region_each_list (dropping x) h.id (0 + r))) e
 
-  pub joined_among : (b : ℕ) (front : List (OpOf N T A)) (os : OpsOf N T A) → is_among b os ≡ true → is_among b (joined_ops front os) ≡ true
+  pub joined_among : (b : ℕ) (preceding : List (OpOf N T A)) (os : OpsOf N T A) → is_among b os ≡ true → is_among b (joined_ops preceding os) ≡ true
   joined_among b [] os h = h
   joined_among b (f ∷ fs) os h = or_right (eqb (head f).id b) (is_among b (joined_ops fs os)) (joined_among b fs os h)
 
@@ -258,29 +258,29 @@ module _ {N T A : Type 0} where
     up : In (stand (each_list (dropping x) a.parent) (map (left_step x) q)) (stands [] u)
     up = left_member x t (stand a.parent q) (around_there t o a q h).1 (around_stays x t d o a q h id)
 
-    at : region_at a.region (regions (each_list (dropping x) a.parent)) ≡ Some (block a.args (drop_op x (ops_each_list (dropping x) (joined_ops a.front (next o a.rest)))))
-    at = each_block x a.region a.parent a.args (joined_ops a.front (next o a.rest)) (shape t o a q h)
+    at : region_at a.region (regions (each_list (dropping x) a.parent)) ≡ Some (block a.args (drop_op x (ops_each_list (dropping x) (joined_ops a.preceding (next o a.rest)))))
+    at = each_block x a.region a.parent a.args (joined_ops a.preceding (next o a.rest)) (shape t o a q h)
 
     -- the operation after x is another one
     trailing : (p : OpOf N T A) (os : OpsOf N T A) → a.rest ≡ next p os → eqb (head p).id x ≡ false
     trailing p os e = elim (bool_cases (eqb (head p).id x)) [
       | inr k ↦ k
-      | inl k ↦ (let c = step a.parent a.region a.args (a.front ++ o ∷ []) os in
-          let list : region_at a.region (regions a.parent) ≡ Some (block a.args (joined_ops (a.front ++ o ∷ []) (next p os))) = shape t o a q h ∙ ap (λ (z : OpsOf N T A). Some (block a.args (joined_ops a.front (next o z)))) e ∙ ap (λ z. Some (block a.args z)) (sym (joined_more a.front o (next p os))) in
-          let m : In (stand p (c ∷ q)) (stands [] t) = within a.parent q (stand p (c ∷ q)) (child a.parent q a.region a.args (joined_ops (a.front ++ o ∷ []) (next p os)) (stand p (c ∷ q)) list (ops_child a.parent q a.region a.args [] (a.front ++ o ∷ []) p os)) [] t (around_there t o a q h).1 in
+      | inl k ↦ (let c = step a.parent a.region a.args (a.preceding ++ o ∷ []) os in
+          let list : region_at a.region (regions a.parent) ≡ Some (block a.args (joined_ops (a.preceding ++ o ∷ []) (next p os))) = shape t o a q h ∙ ap (λ (z : OpsOf N T A). Some (block a.args (joined_ops a.preceding (next o z)))) e ∙ ap (λ z. Some (block a.args z)) (sym (joined_more a.preceding o (next p os))) in
+          let m : In (stand p (c ∷ q)) (stands [] t) = within a.parent q (stand p (c ∷ q)) (child a.parent q a.region a.args (joined_ops (a.preceding ++ o ∷ []) (next p os)) (stand p (c ∷ q)) list (ops_child a.parent q a.region a.args [] (a.preceding ++ o ∷ []) p os)) [] t (around_there t o a q h).1 in
           let same = same_stand t d (stand p (c ∷ q)) (stand o (a ∷ q)) m h (eqb-true (head p).id x k ∙ sym id) in
           let paths : c ∷ q ≡ a ∷ q = ap (λ (z : StandOf N T A). z.path) same in
           let steps : c ≡ a = cc in
-          let l = ap (λ (z : StepOf N T A). length z.front) steps in
-          let n = length-append a.front (o ∷ []) in
+          let l = ap (λ (z : StepOf N T A). length z.preceding) steps in
+          let n = length-append a.preceding (o ∷ []) in
           absurd (omega (arith, l, n)))
     ]
 
-    among : (rest : OpsOf N T A) → a.rest ≡ rest → is_in_list (first_id rest) (Some (drop_op x (ops_each_list (dropping x) (joined_ops a.front (next o a.rest))))) ≡ true
+    among : (rest : OpsOf N T A) → a.rest ≡ rest → is_in_list (first_id rest) (Some (drop_op x (ops_each_list (dropping x) (joined_ops a.preceding (next o a.rest))))) ≡ true
     among no_ops e = refl
     among (next p os) e =
-        still_among x (head p).id (dropping x) (joined_ops a.front (next o a.rest)) (trailing p os e)
-        (joined_among (head p).id a.front (next o a.rest) (or_right (eqb (head o).id (head p).id) _ (ap (is_among (head p).id) e ∙ or_left (eqb (head p).id (head p).id) _ (eq-eqb (head p).id (head p).id refl))))
+        still_among x (head p).id (dropping x) (joined_ops a.preceding (next o a.rest)) (trailing p os e)
+        (joined_among (head p).id a.preceding (next o a.rest) (or_right (eqb (head o).id (head p).id) _ (ap (is_among (head p).id) e ∙ or_left (eqb (head p).id (head p).id) _ (eq-eqb (head p).id (head p).id refl))))
 
     pub point_left : (place : Place) → place_in (a ∷ q) ≡ Some place → has_place place (without x t) ≡ true
     point_left place e =
@@ -290,7 +290,7 @@ module _ {N T A : Type 0} where
           parent = each_list (dropping x) a.parent;
           found = ap (λ (g : HeadOf N T A). find g.id u) (sym (same_head x (dropping x) a.parent)) ∙ stand_found u (left_distinct x t d) (stand (each_list (dropping x) a.parent) (map (left_step x) q)) up;
           args = a.args;
-          list = drop_op x (ops_each_list (dropping x) (joined_ops a.front (next o a.rest)));
+          list = drop_op x (ops_each_list (dropping x) (joined_ops a.preceding (next o a.rest)));
           is = at;
           among = among a.rest refl;
         }))
@@ -302,8 +302,8 @@ module _ {N T A : Type 0} where
         (seen_from isolated u (left_distinct x t d) (map (left_step x) (a ∷ q)) v seen (λ b p same.
         let first : left_step x a ≡ b = cc in
         let later : map (left_step x) q ≡ p = cc in
-        subst (λ (z : StepOf N T A). In (stand z.parent p) (stands [] u) × ((os : OpsOf N T A) × (region_at z.region (regions z.parent) ≡ Some (block z.args (joined_ops z.front os))))) first
-        (subst (λ l. In (stand (each_list (dropping x) a.parent) l) (stands [] u)) later up, (drop_op x (ops_each_list (dropping x) (next o a.rest)), at ∙ ap (λ z. Some (block a.args z)) (kept_front x a.front (next o a.rest)))))).is
+        subst (λ (z : StepOf N T A). In (stand z.parent p) (stands [] u) × ((os : OpsOf N T A) × (region_at z.region (regions z.parent) ≡ Some (block z.args (joined_ops z.preceding os))))) first
+        (subst (λ l. In (stand (each_list (dropping x) a.parent) l) (stands [] u)) later up, (drop_op x (ops_each_list (dropping x) (next o a.rest)), at ∙ ap (λ z. Some (block a.args z)) (kept_preceding x a.preceding (next o a.rest)))))).is
 
   pub may_restore : (isolated : N → Bool) (x : ℕ) (place : Place) (fresh : Bool) (m n : ModuleOf N T A) → IsWellFormed isolated n → Takes x place fresh n m → (o : OpOf N T A) → find x n.tree ≡ Some o → MayRestore x place fresh o m
   may_restore isolated x place fresh m n w c o f =
@@ -328,12 +328,12 @@ module _ {N T A : Type 0} where
           let there : In (stand s.here (a ∷ q)) (stands [] n.tree) = subst (λ l. In (stand s.here l) (stands [] n.tree)) p h in
           let found : Some s.here ≡ Some o = sym (stand_found n.tree w.distinct s h) ∙ ap (λ z. find z n.tree) id ∙ f in
           let is : s.here ≡ o = cc in
-          let g = from_formed isolated n.tree w.formed in
+          let g = from_wellformed isolated n.tree w.wellformed in
           record {
             point = ap (has_place place) c.left ∙ point_left isolated x n.tree w.distinct s.here a q there id place (sym (ap place_in p) ∙ e);
             values = each_all (λ v. has_value v m.tree) (head o).operands (λ v i. ap (has_value v) c.left ∙ value_left isolated x n.tree w.distinct s.here a q there id v
                 (sym (ap (λ l. dominated_by isolated l v) p) ∙ all_each (dominated_by isolated s.path) (head s.here).operands (g.dominated_by_own s h) v (subst (λ (z : OpOf N T A). In v (head z).operands) (sym is) i)));
             newest = λ k. newer fresh k c.next;
-            room = λ k. let e = gone fresh k c.next in let n = w.next in omega (arith, e, n);
+            headroom = λ k. let e = gone fresh k c.next in let n = w.next in omega (arith, e, n);
             below = λ k. let lt = ids_below n.next n.tree w.below s h in let same = same_next fresh k c.next in omega (arith, lt, same, id);
           }

@@ -310,6 +310,6 @@ module _ {N T A M U B : Type 0} (f : N → M) (g : T → U) (h : A → B) where
     point = sym (map_has_place place m.tree) ∙ r.point;
     values = sym (ap (list_all (λ v. has_value v (map_tree f g h m.tree))) (same_operands o) ∙ all_alike (λ v. has_value v (map_tree f g h m.tree)) (λ v. has_value v m.tree) (λ v. map_has_value v m.tree) (head o).operands) ∙ r.values;
     newest = r.newest;
-    room = r.room;
+    headroom = r.headroom;
     below = r.below;
   }

@@ -21,7 +21,7 @@ use Rattle.ir_tree_laws.proofs.Stretches.{Parted, part, parted_ids, left_ids}
 use Rattle.ir_tree_laws.proofs.Put.{Landed, region_each}
 use Rattle.ir_tree_laws.proofs.PutForm.{landed, put_distinct, put_back, put_cases, parent_absent}
 use Rattle.ir_tree_laws.proofs.Values.{shape}
-use Rattle.ir_tree_laws.proofs.Changed.{kept_front}
+use Rattle.ir_tree_laws.proofs.Changed.{kept_preceding}
 use Rattle.std.proofs.lemmas.Bool.{cases_Bool}
 
 -- a list is split at a number that occurs once
@@ -46,9 +46,9 @@ module _ {N T A : Type 0} where
   all_ids [] = []
   all_ids (o ∷ os) = ids o ++ all_ids os
 
-  joined_ids : (front : List (OpOf N T A)) (os : OpsOf N T A) → ops_ids (joined_ops front os) ≡ all_ids front ++ ops_ids os
+  joined_ids : (preceding : List (OpOf N T A)) (os : OpsOf N T A) → ops_ids (joined_ops preceding os) ≡ all_ids preceding ++ ops_ids os
   joined_ids [] os = refl
-  joined_ids (o ∷ front) os = ap (λ l. ids o ++ l) (joined_ids front os) ∙ sym (append_assoc (ids o) (all_ids front) (ops_ids os))
+  joined_ids (o ∷ preceding) os = ap (λ l. ids o ++ l) (joined_ids preceding os) ∙ sym (append_assoc (ids o) (all_ids preceding) (ops_ids os))
 
   -- the ids in the regions after region r
   abbrev later_ids : ℕ → RegionsOf N T A → List ℕ
@@ -69,25 +69,25 @@ module _ {N T A : Type 0} where
   first_more (suc r) (region g rs) args os e = ap (λ l. region_ids g ++ l) (first_more r rs args os e) ∙ sym (append_assoc (region_ids g) (first_ids r rs) (ops_ids os))
 
   -- the ids before an operation and after it in pre-order, read from its path
-  abbrev beside : StepOf N T A → List ℕ
-  beside a = (head a.parent).id ∷ (first_ids a.region (regions a.parent) ++ all_ids a.front)
+  abbrev next_to : StepOf N T A → List ℕ
+  next_to a = (head a.parent).id ∷ (first_ids a.region (regions a.parent) ++ all_ids a.preceding)
 
   abbrev before : List (StepOf N T A) → List ℕ
   before [] = []
-  before (a ∷ q) = before q ++ beside a
+  before (a ∷ q) = before q ++ next_to a
 
   abbrev trailing : List (StepOf N T A) → List ℕ
   trailing [] = []
   trailing (a ∷ q) = ops_ids a.rest ++ (later_ids a.region (regions a.parent) ++ trailing q)
 
-  around_ids : (o : OpOf N T A) (a : StepOf N T A) → region_at a.region (regions a.parent) ≡ Some (block a.args (joined_ops a.front (next o a.rest)))
-      → ids a.parent ≡ beside a ++ (ids o ++ (ops_ids a.rest ++ later_ids a.region (regions a.parent)))
+  around_ids : (o : OpOf N T A) (a : StepOf N T A) → region_at a.region (regions a.parent) ≡ Some (block a.args (joined_ops a.preceding (next o a.rest)))
+      → ids a.parent ≡ next_to a ++ (ids o ++ (ops_ids a.rest ++ later_ids a.region (regions a.parent)))
   around_ids o a e =
       own a.parent
-      ∙ ap (λ l. (head a.parent).id ∷ l) (ids_around a.region (regions a.parent) a.args (joined_ops a.front (next o a.rest)) e
-      ∙ ap (λ l. f ++ (l ++ z)) (joined_ids a.front (next o a.rest))
-      ∙ ap (λ l. f ++ l) (append_assoc (all_ids a.front) (ids o ++ ops_ids a.rest) z ∙ ap (λ l. all_ids a.front ++ l) (append_assoc (ids o) (ops_ids a.rest) z))
-      ∙ sym (append_assoc f (all_ids a.front) (ids o ++ (ops_ids a.rest ++ z))))
+      ∙ ap (λ l. (head a.parent).id ∷ l) (ids_around a.region (regions a.parent) a.args (joined_ops a.preceding (next o a.rest)) e
+      ∙ ap (λ l. f ++ (l ++ z)) (joined_ids a.preceding (next o a.rest))
+      ∙ ap (λ l. f ++ l) (append_assoc (all_ids a.preceding) (ids o ++ ops_ids a.rest) z ∙ ap (λ l. all_ids a.preceding ++ l) (append_assoc (ids o) (ops_ids a.rest) z))
+      ∙ sym (append_assoc f (all_ids a.preceding) (ids o ++ (ops_ids a.rest ++ z))))
     where
       own : (o : OpOf N T A) → ids o ≡ (head o).id ∷ regions_ids (regions o)
       own (op h rs) = refl
@@ -108,8 +108,8 @@ module _ {N T A : Type 0} where
       let z = later_ids a.region (regions a.parent) in
       preorder t a.parent q (around_there t o a q h).1
       ∙ ap (λ l. before q ++ (l ++ trailing q)) (around_ids o a (shape t o a q h))
-      ∙ ap (λ l. before q ++ l) (append_assoc (beside a) (ids o ++ (rest ++ z)) (trailing q) ∙ ap (λ l. beside a ++ l) (append_assoc (ids o) (rest ++ z) (trailing q) ∙ ap (λ l. ids o ++ l) (append_assoc rest z (trailing q))))
-      ∙ sym (append_assoc (before q) (beside a) (ids o ++ (rest ++ (z ++ trailing q))))
+      ∙ ap (λ l. before q ++ l) (append_assoc (next_to a) (ids o ++ (rest ++ z)) (trailing q) ∙ ap (λ l. next_to a ++ l) (append_assoc (ids o) (rest ++ z) (trailing q) ∙ ap (λ l. ids o ++ l) (append_assoc rest z (trailing q))))
+      ∙ sym (append_assoc (before q) (next_to a) (ids o ++ (rest ++ (z ++ trailing q))))
 
   -- removing an operation that isn't in the tree
   first_untouched : (x r y k : ℕ) (rs : RegionsOf N T A) → Absent x (first_ids r rs) → first_ids r (regions_each_list (dropping x) y k rs) ≡ first_ids r rs
@@ -119,13 +119,13 @@ module _ {N T A : Type 0} where
       let b = absent_parts x (region_ids g) (first_ids r rs) a in
       λ i. region_ids (region_untouched x y k g b.0 i) ++ first_untouched x r y (k + 1) rs b.1 i
 
-  front_untouched : (x : ℕ) (front : List (OpOf N T A)) → Absent x (all_ids front) → all_ids (filter (λ o. not (eqb (head o).id x)) (map (each_list (dropping x)) front)) ≡ all_ids front
-  front_untouched x [] a = refl
-  front_untouched x (op h rs ∷ front) a =
-      let b = absent_parts x (ids (op h rs)) (all_ids front) a in
+  preceding_untouched : (x : ℕ) (preceding : List (OpOf N T A)) → Absent x (all_ids preceding) → all_ids (filter (λ o. not (eqb (head o).id x)) (map (each_list (dropping x)) preceding)) ≡ all_ids preceding
+  preceding_untouched x [] a = refl
+  preceding_untouched x (op h rs ∷ preceding) a =
+      let b = absent_parts x (ids (op h rs)) (all_ids preceding) a in
       let c = neither _ _ b.0 in
-      (λ i. all_ids (cond (not (c.0 i)) (each_list (dropping x) (op h rs) ∷ filter (λ o. not (eqb (head o).id x)) (map (each_list (dropping x)) front)) (filter (λ o. not (eqb (head o).id x)) (map (each_list (dropping x)) front))))
-      ∙ λ i. ids (without_absent x (op h rs) b.0 i) ++ front_untouched x front b.1 i
+      (λ i. all_ids (cond (not (c.0 i)) (each_list (dropping x) (op h rs) ∷ filter (λ o. not (eqb (head o).id x)) (map (each_list (dropping x)) preceding)) (filter (λ o. not (eqb (head o).id x)) (map (each_list (dropping x)) preceding))))
+      ∙ λ i. ids (without_absent x (op h rs) b.0 i) ++ preceding_untouched x preceding b.1 i
 
   last_dropped : (x : ℕ) (o : OpOf N T A) → (head o).id ≡ x → drop_op x (ops_each_list (dropping x) (next o no_ops)) ≡ no_ops
   last_dropped x (op h rs) e = ap (λ b. cond b no_ops (next (each_list (dropping x) (op h rs)) no_ops)) (eq-eqb h.id x e)
@@ -155,14 +155,14 @@ module _ {N T A : Type 0} (place : Place) (o t : OpOf N T A) (may : MayPut place
   pub put_part : Parted (head o).id ((landed place o t may).step_in ∷ (landed place o t may).path) o (put place o t)
   put_part = part after distinct o a here.path here.there
 
-  pub put_left_ids : ids t ≡ map (λ (z : StandOf N T A). stand_id z) put_part.front ++ map (λ (z : StandOf N T A). stand_id z) put_part.back
+  pub put_left_ids : ids t ≡ map (λ (z : StandOf N T A). stand_id z) put_part.preceding ++ map (λ (z : StandOf N T A). stand_id z) put_part.back
   put_left_ids = ap ids (sym (put_back place o t may)) ∙ left_ids x path o after put_part
 
-  pub put_ids : ids (put place o t) ≡ map (λ (z : StandOf N T A). stand_id z) put_part.front ++ (ids o ++ map (λ (z : StandOf N T A). stand_id z) put_part.back)
+  pub put_ids : ids (put place o t) ≡ map (λ (z : StandOf N T A). stand_id z) put_part.preceding ++ (ids o ++ map (λ (z : StandOf N T A). stand_id z) put_part.back)
   put_ids = parted_ids x path o after put_part
 
-  abbrev front : List ℕ
-  front = map (λ (z : StandOf N T A). stand_id z) put_part.front
+  abbrev preceding : List ℕ
+  preceding = map (λ (z : StandOf N T A). stand_id z) put_part.preceding
 
   abbrev back : List ℕ
   back = map (λ (z : StandOf N T A). stand_id z) put_part.back
@@ -176,15 +176,15 @@ module _ {N T A : Type 0} (place : Place) (o t : OpOf N T A) (may : MayPut place
   by_path : ids after ≡ before path ++ (ids o ++ trailing path)
   by_path = preorder after o path here.there
 
-  front_is : front ≡ before path
-  front_is =
-      one_cut x front (before path) (regions_ids (regions o) ++ back) (regions_ids (regions o) ++ trailing path) (once front back put_ids) (once (before path) (trailing path) by_path)
-      (ap (λ l. front ++ l) (sym (own o back)) ∙ sym put_ids ∙ by_path ∙ ap (λ l. before path ++ l) (own o (trailing path)))
+  preceding_is : preceding ≡ before path
+  preceding_is =
+      one_cut x preceding (before path) (regions_ids (regions o) ++ back) (regions_ids (regions o) ++ trailing path) (once preceding back put_ids) (once (before path) (trailing path) by_path)
+      (ap (λ l. preceding ++ l) (sym (own o back)) ∙ sym put_ids ∙ by_path ∙ ap (λ l. before path ++ l) (own o (trailing path)))
 
   back_is : back ≡ trailing path
   back_is =
       append_cancel_left (ids o) back (trailing path)
-      (append_cancel_left front (ids o ++ back) (ids o ++ trailing path) (sym put_ids ∙ by_path ∙ ap (λ l. l ++ (ids o ++ trailing path)) (sym front_is)))
+      (append_cancel_left preceding (ids o ++ back) (ids o ++ trailing path) (sym put_ids ∙ by_path ∙ ap (λ l. l ++ (ids o ++ trailing path)) (sym preceding_is)))
 
   -- the place's parent, before
   abbrev parent : OpOf N T A
@@ -196,32 +196,32 @@ module _ {N T A : Type 0} (place : Place) (o t : OpOf N T A) (may : MayPut place
     | inl k ↦ ap (λ z. find z t) (sym (ap (λ (h : HeadOf N T A). h.id) (same_head x (dropping x) a.parent) ∙ here.parent)) ∙ stand_found t may.distinct (left_stand x (stand a.parent here.path)) k.0
   ]
 
-  last_in : a.rest ≡ no_ops → beside a ≡ place.parent ∷ first_ids (place.region + 1) (regions parent)
+  last_in : a.rest ≡ no_ops → next_to a ≡ place.parent ∷ first_ids (place.region + 1) (regions parent)
   last_in e =
       let rs = regions a.parent in
       let f = dropping x in
-      let two = absent_parts x (before here.path) (beside a) (once (before path) (trailing path) by_path) in
-      let three = absent_parts x (first_ids a.region rs) (all_ids a.front) (neither _ _ two.1).1 in
-      let kept = filter (λ o. not (eqb (head o).id x)) (map (each_list f) a.front) in
+      let two = absent_parts x (before here.path) (next_to a) (once (before path) (trailing path) by_path) in
+      let three = absent_parts x (first_ids a.region rs) (all_ids a.preceding) (neither _ _ two.1).1 in
+      let kept = filter (λ o. not (eqb (head o).id x)) (map (each_list f) a.preceding) in
       let list : region_at a.region (regions parent) ≡ Some (block a.args (joined_ops kept no_ops)) =
       ap (region_at a.region) (each_regions f a.parent)
       ∙ region_each f (head a.parent).id 0 a.region rs
       ∙ ap (option_map (region_each_list f (head a.parent).id (0 + a.region))) (shape after o a here.path here.there)
-      ∙ ap (λ os. Some (block a.args os)) (kept_front x a.front (next o a.rest) ∙ ap (λ os. joined_ops kept os) (ap (λ os. drop_op x (ops_each_list f (next o os))) e ∙ last_dropped x o refl)) in
+      ∙ ap (λ os. Some (block a.args os)) (kept_preceding x a.preceding (next o a.rest) ∙ ap (λ os. joined_ops kept os) (ap (λ os. drop_op x (ops_each_list f (next o os))) e ∙ last_dropped x o refl)) in
       let more : place.region + 1 ≡ suc a.region = let r = here.region in omega (arith, r) in
-      (λ i. here.parent i ∷ (first_ids a.region rs ++ all_ids a.front))
+      (λ i. here.parent i ∷ (first_ids a.region rs ++ all_ids a.preceding))
       ∙ ap (λ l. place.parent ∷ l) (
-      (λ i. (sym (first_untouched x a.region (head a.parent).id 0 rs three.0) ∙ ap (first_ids a.region) (sym (each_regions f a.parent))) i ++ sym (front_untouched x a.front three.1) i)
+      (λ i. (sym (first_untouched x a.region (head a.parent).id 0 rs three.0) ∙ ap (first_ids a.region) (sym (each_regions f a.parent))) i ++ sym (preceding_untouched x a.preceding three.1) i)
       ∙ ap (λ l. first_ids a.region (regions parent) ++ l) (sym (joined_ids kept no_ops ∙ append-nil (all_ids kept)))
       ∙ sym (first_more a.region (regions parent) a.args (joined_ops kept no_ops) list)
       ∙ ap (λ n. first_ids n (regions parent)) (sym more))
 
   -- the inserted operation is at the position of the place
-  pub put_cut : IsCutAt place t (map (λ (z : StandOf N T A). stand_id z) put_part.front) (map (λ (z : StandOf N T A). stand_id z) put_part.back)
+  pub put_cut : IsCutAt place t (map (λ (z : StandOf N T A). stand_id z) put_part.preceding) (map (λ (z : StandOf N T A). stand_id z) put_part.back)
   put_cut = go place.before a.rest refl here.before
     where
-      go : (b : Option ℕ) (os : OpsOf N T A) → a.rest ≡ os → first_id a.rest ≡ b → IsCutBefore b place t front back
-      go None no_ops r e = (parent, before here.path, parent_found, front_is ∙ ap (λ l. before here.path ++ l) (last_in r))
+      go : (b : Option ℕ) (os : OpsOf N T A) → a.rest ≡ os → first_id a.rest ≡ b → IsCutBefore b place t preceding back
+      go None no_ops r e = (parent, before here.path, parent_found, preceding_is ∙ ap (λ l. before here.path ++ l) (last_in r))
       go None (next p os) r e = (let bad : Some (head p).id ≡ None = sym (ap first_id r) ∙ e in absurd cc)
       go (Some b) no_ops r e = (let bad : None ≡ Some b = sym (ap (first_id {N = N} {T = T} {A = A}) r) ∙ e in absurd cc)
       go (Some b) (next (op h rs) os) r e =

@@ -42,10 +42,10 @@ module _ {N T A : Type 0} (isolated : N → Bool) where
       let h = head a.parent in
       let b = arguments h.id a.region (length a.args) in
       let i = inside isolated h (scope_of isolated path) in
-      list_any-append (shows v) (i ++ b ∷ []) (map results_of a.front)
-      ∙ (λ j. list_any-append (shows v) i (b ∷ []) j || any_mapped (shows v) results_of a.front j)
-      ∙ turn (in_scope i v) (shows v b) (list_any (λ o. shows v (results_of o)) a.front)
-      ∙ λ j. list_any (λ o. shows v (results_of o)) a.front || (shows v b || ((in_scope_inside isolated) h (scope_of isolated path) v ∙ ap (λ c. not (isolated h.name) && c) (dominated_by_scope path v)) j)
+      list_any-append (shows v) (i ++ b ∷ []) (map results_of a.preceding)
+      ∙ (λ j. list_any-append (shows v) i (b ∷ []) j || any_mapped (shows v) results_of a.preceding j)
+      ∙ turn (in_scope i v) (shows v b) (list_any (λ o. shows v (results_of o)) a.preceding)
+      ∙ λ j. list_any (λ o. shows v (results_of o)) a.preceding || (shows v b || ((in_scope_inside isolated) h (scope_of isolated path) v ∙ ap (λ c. not (isolated h.name) && c) (dominated_by_scope path v)) j)
 
   -- whether v is visible at operation x of a tree, and whether each operand is
   pub stands_visible : (t : OpOf N T A) (x : ℕ) (v : Value) → visible isolated t x v ≡ list_any (λ (s : StandOf N T A). eqb (stand_id s) x && dominated_by isolated s.path v) (stands [] t)
@@ -68,10 +68,10 @@ module _ {N T A : Type 0} (isolated : N → Bool) where
     -- the values visible at an operation: the results of earlier operations of its list, the arguments of its block,
     -- and, unless the parent is isolated from above, the values visible at the parent
     pub visible_by_cases : (s : StandOf N T A) → In s (stands [] t) → (a : StepOf N T A) (q : List (StepOf N T A)) → s.path ≡ a ∷ q → (v : Value)
-        → visible isolated t (stand_id s) v ≡ (list_any (λ o. shows v (results_of o)) a.front || (shows v (arguments (head a.parent).id a.region (length a.args)) || not (isolated (head a.parent).name) && visible isolated t (head a.parent).id v))
+        → visible isolated t (stand_id s) v ≡ (list_any (λ o. shows v (results_of o)) a.preceding || (shows v (arguments (head a.parent).id a.region (length a.args)) || not (isolated (head a.parent).name) && visible isolated t (head a.parent).id v))
     visible_by_cases s h a q e v =
         visible_there s h v ∙ ap (λ p. dominated_by isolated p v) e
-        ∙ ap (λ b. list_any (λ o. shows v (results_of o)) a.front || (shows v (arguments (head a.parent).id a.region (length a.args)) || not (isolated (head a.parent).name) && b)) (sym (visible_there (stand a.parent q) around v))
+        ∙ ap (λ b. list_any (λ o. shows v (results_of o)) a.preceding || (shows v (arguments (head a.parent).id a.region (length a.args)) || not (isolated (head a.parent).name) && b)) (sym (visible_there (stand a.parent q) around v))
       where
         around : In (stand a.parent q) (stands [] t)
         around = elim (has_around [] t s h) [
@@ -97,5 +97,5 @@ module _ {N T A : Type 0} (isolated : N → Bool) where
         ∙ stands_every (λ o. list_all (visible isolated t (head o).id) (head o).operands) [] t
 
     pub visible_of_found : (x : ℕ) (s : StandOf N T A) (a : StepOf N T A) (q : List (StepOf N T A)) (v : Value) → stand_of x t ≡ Some s → s.path ≡ a ∷ q
-        → visible isolated t x v ≡ (list_any (λ o. shows v (results_of o)) a.front || (shows v (arguments (head a.parent).id a.region (length a.args)) || not (isolated (head a.parent).name) && visible isolated t (head a.parent).id v))
+        → visible isolated t x v ≡ (list_any (λ o. shows v (results_of o)) a.preceding || (shows v (arguments (head a.parent).id a.region (length a.args)) || not (isolated (head a.parent).name) && visible isolated t (head a.parent).id v))
     visible_of_found x s a q v e p = let m = member x (stands [] t) s e in ap (λ z. visible isolated t z v) (sym m.1) ∙ visible_by_cases s m.0 a q p v

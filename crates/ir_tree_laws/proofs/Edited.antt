@@ -40,21 +40,21 @@ module _ {N T A : Type 0} (place : Place) (o t : OpOf N T A) (may : MayPut place
         (put_part place o t may).gone,
       )
 
-  pub put_order : (front back : List ℕ) × (ids t ≡ front ++ back) × (ids (put place o t) ≡ front ++ (ids o ++ back)) × IsCutAt place t front back
+  pub put_order : (preceding back : List ℕ) × (ids t ≡ preceding ++ back) × (ids (put place o t) ≡ preceding ++ (ids o ++ back)) × IsCutAt place t preceding back
   put_order =
       let w = put_part place o t may in
-      (map (λ (z : StandOf N T A). stand_id z) w.front, map (λ (z : StandOf N T A). stand_id z) w.back, put_left_ids place o t may, put_ids place o t may, put_cut place o t may)
+      (map (λ (z : StandOf N T A). stand_id z) w.preceding, map (λ (z : StandOf N T A). stand_id z) w.back, put_left_ids place o t may, put_ids place o t may, put_cut place o t may)
 
   pub put_op_count : op_count (put place o t) ≡ op_count t + op_count o
   put_op_count =
       let l = landed place o t may in
       parted_count (head o).id (l.step_in ∷ l.path) o (put place o t) (put_part place o t may) ∙ ap (λ u. op_count u + op_count o) (put_back place o t may)
 
-  pub put_uses : (v : Value) → (front back : List (ℕ × ℕ)) × (uses_of v t ≡ front ++ back) × (uses_of v (put place o t) ≡ front ++ (uses_of v o ++ back))
+  pub put_uses : (v : Value) → (preceding back : List (ℕ × ℕ)) × (uses_of v t ≡ preceding ++ back) × (uses_of v (put place o t) ≡ preceding ++ (uses_of v o ++ back))
   put_uses v =
       let l = landed place o t may in
       let w = put_part place o t may in (
-        gather (λ s. operand_uses v (stand_id s) 0 (head s.here).operands) w.front,
+        gather (λ s. operand_uses v (stand_id s) 0 (head s.here).operands) w.preceding,
         gather (λ s. operand_uses v (stand_id s) 0 (head s.here).operands) w.back,
         ap (uses_of v) (sym (put_back place o t may)) ∙ left_uses_of (head o).id (l.step_in ∷ l.path) o (put place o t) w v,
         parted_uses (head o).id (l.step_in ∷ l.path) o (put place o t) w v,
@@ -76,18 +76,18 @@ module _ {N T A : Type 0} (x : ℕ) (t o : OpOf N T A) (d : HasDistinctIds t) (f
     taken_part.gone,
   )
 
-  pub taken_order : (front back : List ℕ) × (ids t ≡ front ++ (ids o ++ back)) × (ids (without x t) ≡ front ++ back)
+  pub taken_order : (preceding back : List ℕ) × (ids t ≡ preceding ++ (ids o ++ back)) × (ids (without x t) ≡ preceding ++ back)
   taken_order =
       let w = taken_part in
-      (map (λ (z : StandOf N T A). stand_id z) w.front, map (λ (z : StandOf N T A). stand_id z) w.back, parted_ids x (inner.step_in ∷ inner.path) o t w, left_ids x (inner.step_in ∷ inner.path) o t w)
+      (map (λ (z : StandOf N T A). stand_id z) w.preceding, map (λ (z : StandOf N T A). stand_id z) w.back, parted_ids x (inner.step_in ∷ inner.path) o t w, left_ids x (inner.step_in ∷ inner.path) o t w)
 
   pub taken_op_count : op_count t ≡ op_count (without x t) + op_count o
   taken_op_count = parted_count x (inner.step_in ∷ inner.path) o t taken_part
 
-  pub taken_uses : (v : Value) → (front back : List (ℕ × ℕ)) × (uses_of v t ≡ front ++ (uses_of v o ++ back)) × (uses_of v (without x t) ≡ front ++ back)
+  pub taken_uses : (v : Value) → (preceding back : List (ℕ × ℕ)) × (uses_of v t ≡ preceding ++ (uses_of v o ++ back)) × (uses_of v (without x t) ≡ preceding ++ back)
   taken_uses v =
       let w = taken_part in (
-        gather (λ s. operand_uses v (stand_id s) 0 (head s.here).operands) w.front,
+        gather (λ s. operand_uses v (stand_id s) 0 (head s.here).operands) w.preceding,
         gather (λ s. operand_uses v (stand_id s) 0 (head s.here).operands) w.back,
         parted_uses x (inner.step_in ∷ inner.path) o t w v,
         left_uses_of x (inner.step_in ∷ inner.path) o t w v,

@@ -136,11 +136,11 @@ module _ {N T A : Type 0} (f : HeadOf N T A → HeadOf N T A) where
     region_each_same p path r empty c = refl
     region_each_same p path r (block args os) c = ap (block args) (ops_each_same p path r args [] os c)
 
-    ops_each_same : (p : OpOf N T A) (path : List (StepOf N T A)) (r : ℕ) (args : List T) (front : List (OpOf N T A)) (os : OpsOf N T A) → ((s : StandOf N T A) → In s (ops_stands p path r args front os) → f (head s.here) ≡ head s.here) → ops_each_head f os ≡ os
-    ops_each_same p path r args front no_ops c = refl
-    ops_each_same p path r args front (next o os) c = λ i.
-        next (each_same (step p r args front os ∷ path) o (λ s k. c s (in_left s (stands (step p r args front os ∷ path) o) (ops_stands p path r args (front ++ o ∷ []) os) k)) i)
-        (ops_each_same p path r args (front ++ o ∷ []) os (λ s k. c s (in_right s (stands (step p r args front os ∷ path) o) (ops_stands p path r args (front ++ o ∷ []) os) k)) i)
+    ops_each_same : (p : OpOf N T A) (path : List (StepOf N T A)) (r : ℕ) (args : List T) (preceding : List (OpOf N T A)) (os : OpsOf N T A) → ((s : StandOf N T A) → In s (ops_stands p path r args preceding os) → f (head s.here) ≡ head s.here) → ops_each_head f os ≡ os
+    ops_each_same p path r args preceding no_ops c = refl
+    ops_each_same p path r args preceding (next o os) c = λ i.
+        next (each_same (step p r args preceding os ∷ path) o (λ s k. c s (in_left s (stands (step p r args preceding os ∷ path) o) (ops_stands p path r args (preceding ++ o ∷ []) os) k)) i)
+        (ops_each_same p path r args (preceding ++ o ∷ []) os (λ s k. c s (in_right s (stands (step p r args preceding os ∷ path) o) (ops_stands p path r args (preceding ++ o ∷ []) os) k)) i)
 
 module _ {N T A : Type 0} (f g : HeadOf N T A → HeadOf N T A) where
   mutual

@@ -16,7 +16,7 @@ use Rattle.ir_tree.specs.Uses.{same_value, operand_uses, uses_of}
 use Rattle.ir_tree.specs.Edits.{each_head, regions_each_head, at, put_operand, with_operand, put_value, put_values, with_value_replaced, same_key, put_entry, drop_entry, change_entry, entry_at, part_of, change_part, with_entry}
 use Rattle.ir_tree.specs.Meaning.{rises, rises_after, dictionaries_rise}
 use Rattle.ir_tree.specs.WellFormed.{ModuleOf, IsValidTree, IsWellFormed}
-use Rattle.ir_tree_laws.specs.Reasons.{set_operand_reason, set_entry_reason, entry_reason, has_room}
+use Rattle.ir_tree_laws.specs.Reasons.{set_operand_reason, set_entry_reason, entry_reason, has_headroom}
 use Rattle.ir_tree_laws.specs.Stands.{StandOf, stand_id, stands, dominated_by, edit_stand, edit_step, gather}
 use Rattle.ir_tree_laws.specs.Members.{In}
 use Rattle.ir_tree_laws.proofs.Listed.{in_mapped, in_left, in_right, all_each, each_all, both, both_hold, bool_cases, either}
@@ -24,7 +24,7 @@ use Rattle.ir_tree_laws.proofs.Readings.{stands_ids, stands_every, stands_uses}
 use Rattle.ir_tree_laws.proofs.Members.{stand_found}
 use Rattle.ir_tree_laws.proofs.DominatedBy.{visible_there, all_same}
 use Rattle.ir_tree_laws.proofs.Heads.{each_stands, Alike, each_dominated_by}
-use Rattle.ir_tree_laws.proofs.Formed.{from_formed, to_formed}
+use Rattle.ir_tree_laws.proofs.Wellformed.{from_wellformed, to_wellformed}
 use Rattle.ir_tree_laws.proofs.Reasoned.{no_operand_reason, no_entry_reason, no_unless}
 use Rattle.ir_tree.proofs.Heads.{part_operands}
 
@@ -78,11 +78,11 @@ module _ {N T A : Type 0} (f : HeadOf N T A → HeadOf N T A) (alike : (h : Head
   member_edited : (t : OpOf N T A) (u : StandOf N T A) → In u (stands [] (each_head f t)) → (s : StandOf N T A) × In s (stands [] t) × (u ≡ edit_stand f s)
   member_edited t u h = in_mapped (edit_stand f) u (stands [] t) (subst (λ (l : List (StandOf N T A)). In u l) (each_stands f [] t) h)
 
-  pub edit_formed : (isolated : N → Bool) (t : OpOf N T A) → IsValidTree isolated t → ((s : StandOf N T A) → In s (stands [] t) → list_all (dominated_by isolated s.path) (f (head s.here)).operands ≡ true)
+  pub edit_wellformed : (isolated : N → Bool) (t : OpOf N T A) → IsValidTree isolated t → ((s : StandOf N T A) → In s (stands [] t) → list_all (dominated_by isolated s.path) (f (head s.here)).operands ≡ true)
       → ((s : StandOf N T A) → In s (stands [] t) → head_fits (f (head s.here)) ≡ true) → IsValidTree isolated (each_head f t)
-  edit_formed isolated t formed own fits =
-      let g = from_formed isolated t formed in
-      to_formed isolated (each_head f t) (record {
+  edit_wellformed isolated t wellformed own fits =
+      let g = from_wellformed isolated t wellformed in
+      to_wellformed isolated (each_head f t) (record {
         dominated_by_own = λ u h. let m = member_edited t u h in
             ap (λ (z : StandOf N T A). list_all (dominated_by isolated z.path) (head z.here).operands) m.2
             ∙ ap (λ (h : HeadOf N T A). list_all (dominated_by isolated (map (edit_step f) m.0.path)) h.operands) (head_each m.0.here)
@@ -103,7 +103,7 @@ module _ {N T A : Type 0} (f : HeadOf N T A → HeadOf N T A) (alike : (h : Head
     distinct = subst (IsDistinct eqb) (sym (edit_ids m.tree)) w.distinct;
     below = subst (λ l. All (λ y. y < m.next) l) (sym (edit_ids m.tree)) w.below;
     next = w.next;
-    formed = edit_formed isolated m.tree w.formed own fits;
+    wellformed = edit_wellformed isolated m.tree w.wellformed own fits;
   }
 
 module _ {N T A : Type 0} where
@@ -124,7 +124,7 @@ module _ {N T A : Type 0} (isolated : N → Bool) where
   -- an operand
   pub operand_keeps : (x k : ℕ) (v : Value) (m : ModuleOf N T A) → IsWellFormed isolated m → visible isolated m.tree x v ≡ true → IsWellFormed isolated (record m { tree = with_operand x k v m.tree })
   operand_keeps x k v m w seen =
-      let g = from_formed isolated m.tree w.formed in
+      let g = from_wellformed isolated m.tree w.wellformed in
       edit_well_formed (at x (put_operand k v)) (alike_at x (put_operand k v) (λ h. record { id = refl; name = refl; results = refl })) isolated m w
       (λ s h. elim (bool_cases (eqb (stand_id s) x)) [
         | inl e ↦ ap (λ b. list_all (dominated_by isolated s.path) (cond b (put_operand k v (head s.here)) (head s.here)).operands) e
@@ -146,7 +146,7 @@ module _ {N T A : Type 0} (isolated : N → Bool) where
   -- all uses of a value replaced by another, which is visible at each user
   pub replaced_keeps : (old new : Value) (m : ModuleOf N T A) → IsWellFormed isolated m → list_all (λ u. visible isolated m.tree u.0 new) (uses_of old m.tree) ≡ true → IsWellFormed isolated (record m { tree = with_value_replaced old new m.tree })
   replaced_keeps old new m w seen =
-      let g = from_formed isolated m.tree w.formed in
+      let g = from_wellformed isolated m.tree w.wellformed in
       edit_well_formed (put_values old new) (λ h. record { id = refl; name = refl; results = refl }) isolated m w
       (λ s h. each_all (dominated_by isolated s.path) (map (put_value old new) (head s.here).operands) (λ v i.
       let r = in_mapped (put_value old new) v (head s.here).operands i in
@@ -202,7 +202,7 @@ module _ {N A : Type 0} (before : N → N → Bool) where
 
     pub changed_fits : (k : N) (a : Option A) (es : List (N × A)) → rises before es ≡ true → items_fit es ≡ true → entry_reason before k a es ≡ None → items_fit (change_entry before k a es) ≡ true
     changed_fits k None es r f e = let d = drop_shorter k es in let l = leb-true (length es) most_items f in le-leb (length (drop_entry before k es)) most_items (omega (arith, d, l))
-    changed_fits k (Some a) es r f e = elim (either (nat_lt (length es) most_items) (is_some (entry_at before k es)) (no_unless (has_room before k es) Full None e).0) [
+    changed_fits k (Some a) es r f e = elim (either (nat_lt (length es) most_items) (is_some (entry_at before k es)) (no_unless (has_headroom before k es) Full None e).0) [
       | inl h ↦ (let d = put_longer k a es in let l = ltb-true (length es) most_items h in le-leb (length (put_entry before k a es)) most_items (omega (arith, d, l)))
       | inr h ↦ ap (λ n. nat_le n most_items) (put_same k a es r h) ∙ f
     ]
@@ -225,7 +225,7 @@ module _ {N T A : Type 0} (isolated : N → Bool) (before : N → N → Bool) (t
   pub entry_keeps : (x : ℕ) (part : Part) (k : N) (a : Option A) (m : ModuleOf N T A) → IsWellFormed isolated m → every (dictionaries_rise before) m.tree ≡ true → set_entry_reason before x part k a m.tree ≡ None
       → IsWellFormed isolated (record m { tree = with_entry before x part k a m.tree })
   entry_keeps x part k a m w sorted e =
-      let g = from_formed isolated m.tree w.formed in
+      let g = from_wellformed isolated m.tree w.wellformed in
       let n = no_entry_reason before x part k a m.tree e in
       let c = change_part part (change_entry before k a) in
       edit_well_formed (at x (change_part part (change_entry before k a))) (alike_at x (change_part part (change_entry before k a)) (alike_part part (change_entry before k a))) isolated m w

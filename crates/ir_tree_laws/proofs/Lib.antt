@@ -8,7 +8,7 @@ pub mod Without
 pub mod Around
 pub mod Stretches
 pub mod Put
-pub mod Formed
+pub mod Wellformed
 pub mod PutForm
 pub mod Shift
 pub mod Reasoned

@@ -34,11 +34,11 @@ module _ {N T A : Type 0} where
       region_within p b r empty k = absurd k
       region_within p b r (block args os) k = ops_within p b r args [] os k
 
-      ops_within : (p : OpOf N T A) (b : List (StepOf N T A)) (r : ℕ) (args : List T) (front : List (OpOf N T A)) (os : OpsOf N T A) → In (stand o q) (ops_stands p b r args front os) → In s (ops_stands p b r args front os)
-      ops_within p b r args front no_ops k = absurd k
-      ops_within p b r args front (next u os) k = elim (in_parts _ (stands (step p r args front os ∷ b) u) (ops_stands p b r args (front ++ u ∷ []) os) k) [
-        | inl l ↦ in_left s (stands (step p r args front os ∷ b) u) (ops_stands p b r args (front ++ u ∷ []) os) (within (step p r args front os ∷ b) u l)
-        | inr l ↦ in_right s (stands (step p r args front os ∷ b) u) (ops_stands p b r args (front ++ u ∷ []) os) (ops_within p b r args (front ++ u ∷ []) os l)
+      ops_within : (p : OpOf N T A) (b : List (StepOf N T A)) (r : ℕ) (args : List T) (preceding : List (OpOf N T A)) (os : OpsOf N T A) → In (stand o q) (ops_stands p b r args preceding os) → In s (ops_stands p b r args preceding os)
+      ops_within p b r args preceding no_ops k = absurd k
+      ops_within p b r args preceding (next u os) k = elim (in_parts _ (stands (step p r args preceding os ∷ b) u) (ops_stands p b r args (preceding ++ u ∷ []) os) k) [
+        | inl l ↦ in_left s (stands (step p r args preceding os ∷ b) u) (ops_stands p b r args (preceding ++ u ∷ []) os) (within (step p r args preceding os ∷ b) u l)
+        | inr l ↦ in_right s (stands (step p r args preceding os ∷ b) u) (ops_stands p b r args (preceding ++ u ∷ []) os) (ops_within p b r args (preceding ++ u ∷ []) os l)
       ]
 
   -- each operation but the first has a parent in the list
@@ -73,19 +73,19 @@ module _ {N T A : Type 0} where
     region_around p b r empty s k f = absurd k
     region_around p b r (block args os) s k f = ops_around p b r args [] os s k f
 
-    ops_around : (p : OpOf N T A) (b : List (StepOf N T A)) (r : ℕ) (args : List T) (front : List (OpOf N T A)) (os : OpsOf N T A) (s : StandOf N T A)
-        → In s (ops_stands p b r args front os) → ((u : StandOf N T A) → In u (ops_stands p b r args front os) → In u (stands b p)) → HasAround s (stand p b ∷ ops_stands p b r args front os)
-    ops_around p b r args front no_ops s k f = absurd k
-    ops_around p b r args front (next o os) s k f =
-        let a = step p r args front os in
+    ops_around : (p : OpOf N T A) (b : List (StepOf N T A)) (r : ℕ) (args : List T) (preceding : List (OpOf N T A)) (os : OpsOf N T A) (s : StandOf N T A)
+        → In s (ops_stands p b r args preceding os) → ((u : StandOf N T A) → In u (ops_stands p b r args preceding os) → In u (stands b p)) → HasAround s (stand p b ∷ ops_stands p b r args preceding os)
+    ops_around p b r args preceding no_ops s k f = absurd k
+    ops_around p b r args preceding (next o os) s k f =
+        let a = step p r args preceding os in
         let xs = stands (a ∷ b) o in
-        let ys = ops_stands p b r args (front ++ o ∷ []) os in
+        let ys = ops_stands p b r args (preceding ++ o ∷ []) os in
         elim (in_parts s xs ys k) [
           | inl l ↦ elim (has_around (a ∷ b) o s l) [
             | inl e ↦ (a, b, ap (λ (z : StandOf N T A). z.path) e, f s (in_left s xs ys l), inl refl)
             | inr w ↦ wider s (stand p b) xs (xs ++ ys) (λ z m. inr (in_left z xs ys m)) w
           ]
-          | inr l ↦ wider_right s (stand p b) xs ys (ops_around p b r args (front ++ o ∷ []) os s l (λ u m. f u (in_right u xs ys m)))
+          | inr l ↦ wider_right s (stand p b) xs ys (ops_around p b r args (preceding ++ o ∷ []) os s l (λ u m. f u (in_right u xs ys m)))
         ]
 
   -- an operation of a list with the operations before it
@@ -93,14 +93,14 @@ module _ {N T A : Type 0} where
   joined_ops [] os = os
   joined_ops (o ∷ fs) os = next o (joined_ops fs os)
 
-  pub ops_child : (p : OpOf N T A) (b : List (StepOf N T A)) (r : ℕ) (args : List T) (front fs : List (OpOf N T A)) (o : OpOf N T A) (os : OpsOf N T A)
-      → In (stand o (step p r args (front ++ fs) os ∷ b)) (ops_stands p b r args front (joined_ops fs (next o os)))
-  ops_child p b r args front [] o os =
-      in_left _ (stands (step p r args front os ∷ b) o) (ops_stands p b r args (front ++ o ∷ []) os)
-      (subst (λ (l : List (OpOf N T A)). In (stand o (step p r args l os ∷ b)) (stands (step p r args front os ∷ b) o)) (sym (append-nil front)) (itself (step p r args front os ∷ b) o))
-  ops_child p b r args front (u ∷ fs) o os =
-      in_right _ (stands (step p r args front (joined_ops fs (next o os)) ∷ b) u) (ops_stands p b r args (front ++ u ∷ []) (joined_ops fs (next o os)))
-      (subst (λ (l : List (OpOf N T A)). In (stand o (step p r args l os ∷ b)) (ops_stands p b r args (front ++ u ∷ []) (joined_ops fs (next o os)))) (append_assoc front (u ∷ []) fs) (ops_child p b r args (front ++ u ∷ []) fs o os))
+  pub ops_child : (p : OpOf N T A) (b : List (StepOf N T A)) (r : ℕ) (args : List T) (preceding fs : List (OpOf N T A)) (o : OpOf N T A) (os : OpsOf N T A)
+      → In (stand o (step p r args (preceding ++ fs) os ∷ b)) (ops_stands p b r args preceding (joined_ops fs (next o os)))
+  ops_child p b r args preceding [] o os =
+      in_left _ (stands (step p r args preceding os ∷ b) o) (ops_stands p b r args (preceding ++ o ∷ []) os)
+      (subst (λ (l : List (OpOf N T A)). In (stand o (step p r args l os ∷ b)) (stands (step p r args preceding os ∷ b) o)) (sym (append-nil preceding)) (itself (step p r args preceding os ∷ b) o))
+  ops_child p b r args preceding (u ∷ fs) o os =
+      in_right _ (stands (step p r args preceding (joined_ops fs (next o os)) ∷ b) u) (ops_stands p b r args (preceding ++ u ∷ []) (joined_ops fs (next o os)))
+      (subst (λ (l : List (OpOf N T A)). In (stand o (step p r args l os ∷ b)) (ops_stands p b r args (preceding ++ u ∷ []) (joined_ops fs (next o os)))) (append_assoc preceding (u ∷ []) fs) (ops_child p b r args (preceding ++ u ∷ []) fs o os))
 
   -- if ids are distinct, each member is the one with its id
   all_in : (x : ℕ) (ss : List (StandOf N T A)) → AllByRecursion (λ y. eqb x y ≡ false) (map (λ (s : StandOf N T A). stand_id s) ss) → (s : StandOf N T A) → In s ss → eqb x (stand_id s) ≡ false

@@ -60,18 +60,18 @@ module _ {N T A : Type 0} where
 
   -- a list with an operation inserted at a place
   pub record Split (before : Option ℕ) (o : OpOf N T A) (os : OpsOf N T A) : Type 0 where
-    pub front : List (OpOf N T A)
+    pub preceding : List (OpOf N T A)
     pub rest : OpsOf N T A
-    pub is : os ≡ joined_ops front (next o rest)
+    pub is : os ≡ joined_ops preceding (next o rest)
     pub first : first_id rest ≡ before
 
   split_last : (o : OpOf N T A) (os : OpsOf N T A) → Split None o (put_last o os)
-  split_last o no_ops = record { front = []; rest = no_ops; is = refl; first = refl }
-  split_last o (next p os) = let s = split_last o os in record { front = p ∷ s.front; rest = s.rest; is = ap (next p) s.is; first = s.first }
+  split_last o no_ops = record { preceding = []; rest = no_ops; is = refl; first = refl }
+  split_last o (next p os) = let s = split_last o os in record { preceding = p ∷ s.preceding; rest = s.rest; is = ap (next p) s.is; first = s.first }
 
   split_step : (b : ℕ) (o p : OpOf N T A) (os : OpsOf N T A) → (is_among b os ≡ true → Split (Some b) o (put_before b o os)) → (c : Bool) → eqb (head p).id b ≡ c → (c || is_among b os) ≡ true → Split (Some b) o (cond c (next o (next p os)) (next p (put_before b o os)))
-  split_step b o p os f true e h = record { front = []; rest = next p os; is = refl; first = ap Some (eqb-true (head p).id b e) }
-  split_step b o p os f false e h = let s = f h in record { front = p ∷ s.front; rest = s.rest; is = ap (next p) s.is; first = s.first }
+  split_step b o p os f true e h = record { preceding = []; rest = next p os; is = refl; first = ap Some (eqb-true (head p).id b e) }
+  split_step b o p os f false e h = let s = f h in record { preceding = p ∷ s.preceding; rest = s.rest; is = ap (next p) s.is; first = s.first }
 
   split_before : (b : ℕ) (o : OpOf N T A) (os : OpsOf N T A) → is_among b os ≡ true → Split (Some b) o (put_before b o os)
   split_before b o no_ops h = absurd (true≢false (sym h))
@@ -167,8 +167,8 @@ module _ {N T A : Type 0} where
       let split = split_in place.before o os (same_among (put_here place o) place.before s.list ∙ s.among) in
       let at = block_put place o s.parent s.args s.list id s.is in
       let q = put place o s.parent in
-      let a = step q place.region s.args split.front split.rest in
-      let m : In (stand o (a ∷ u.0.path)) (ops_stands q u.0.path place.region s.args [] (put_in place.before o os)) = subst (λ (l : OpsOf N T A). In (stand o (a ∷ u.0.path)) (ops_stands q u.0.path place.region s.args [] l)) (sym split.is) (ops_child q u.0.path place.region s.args [] split.front o split.rest) in
+      let a = step q place.region s.args split.preceding split.rest in
+      let m : In (stand o (a ∷ u.0.path)) (ops_stands q u.0.path place.region s.args [] (put_in place.before o os)) = subst (λ (l : OpsOf N T A). In (stand o (a ∷ u.0.path)) (ops_stands q u.0.path place.region s.args [] l)) (sym split.is) (ops_child q u.0.path place.region s.args [] split.preceding o split.rest) in
       let inside = child q u.0.path place.region s.args (put_in place.before o os) (stand o (a ∷ u.0.path)) at m in
       let up : In (stand q u.0.path) (stands [] t') = subst (λ (z : OpOf N T A). In (stand z u.0.path) (stands [] t')) u.3 u.1 in
       record {

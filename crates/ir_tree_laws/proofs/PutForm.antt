@@ -26,7 +26,7 @@ use Rattle.ir_tree_laws.proofs.Around.{stands_around, stand_present, gone_within
 use Rattle.ir_tree_laws.proofs.Without.{left_member, same_head, left_dominated_by, without_stands}
 use Rattle.ir_tree_laws.proofs.DominatedBy.{visible_there, all_same}
 use Rattle.ir_tree_laws.proofs.Put.{point_of, Landed, lands}
-use Rattle.ir_tree_laws.proofs.Formed.{FormedEach, from_formed, to_formed, within_depth, list_fits, no_more}
+use Rattle.ir_tree_laws.proofs.Wellformed.{WellformedEach, from_wellformed, to_wellformed, within_depth, list_fits, no_more}
 
 module _ {N T A : Type 0} (place : Place) (o t : OpOf N T A) (may : MayPut place o t) where
   abbrev after : OpOf N T A
@@ -108,7 +108,7 @@ module _ {N T A : Type 0} (place : Place) (o t : OpOf N T A) (may : MayPut place
       ]
 
   module _ (isolated : N → Bool) where
-    pub put_each : FormedEach isolated t → Fitting isolated → FormedEach isolated after
+    pub put_each : WellformedEach isolated t → Fitting isolated → WellformedEach isolated after
     put_each f fit = record {
       dominated_by_own = λ s h. elim (put_cases s h) [
         | inl k ↦ each_all (dominated_by isolated s.path) (head s.here).operands (λ v m. left_dominated_by x isolated s.path v
@@ -130,8 +130,8 @@ module _ {N T A : Type 0} (place : Place) (o t : OpOf N T A) (may : MayPut place
       ];
     }
 
-    pub put_formed : IsValidTree isolated t → Fitting isolated → IsValidTree isolated (put place o t)
-    put_formed f fit = to_formed isolated after (put_each (from_formed isolated t f) fit)
+    pub put_wellformed : IsValidTree isolated t → Fitting isolated → IsValidTree isolated (put place o t)
+    put_wellformed f fit = to_wellformed isolated after (put_each (from_wellformed isolated t f) fit)
 
   -- ids below a number
   pub put_below : (n : ℕ) → ((s : StandOf N T A) → In s (stands [] t) → stand_id s < n) → ((y : ℕ) → has_id y o ≡ true → y < n) → (s : StandOf N T A) → In s (stands [] after) → stand_id s < n

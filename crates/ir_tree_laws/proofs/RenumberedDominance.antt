@@ -88,8 +88,8 @@ module _ {N T A : Type 0} (f : ℕ → ℕ) where
         ops_seen_with : (b : Bool) (os : OpsOf N T A) → TellsApart f (ops_ids os) → ops_seen isolated (f x) (value_with_id f v) b (ops_with_ids f os) ≡ ops_seen isolated x v b os
         ops_seen_with b no_ops k = refl
         ops_seen_with b (next o os) k =
-            let front = told_left f (ids o) (ops_ids os) k in
-            (λ i. seen_with b o front i || ops_seen isolated (f x) (value_with_id f v) (b || shows_op o front v i) (ops_with_ids f os))
+            let preceding = told_left f (ids o) (ops_ids os) k in
+            (λ i. seen_with b o preceding i || ops_seen isolated (f x) (value_with_id f v) (b || shows_op o preceding v i) (ops_with_ids f os))
             ∙ ap (λ c. seen_at isolated x v b o || c) (ops_seen_with (b || shows v (results_of o)) os (told_right f (ids o) (ops_ids os) k))
 
     pub visible_with : (t : OpOf N T A) → TellsApart f (ids t) → (x : ℕ) (v : Value) → visible isolated (with_ids f t) (f x) (value_with_id f v) ≡ visible isolated t x v
@@ -121,11 +121,11 @@ module _ {N T A : Type 0} (f : ℕ → ℕ) where
       ops_operands_with : (new old : List Frame) (os : OpsOf N T A) → Same f new old → TellsApart f (ops_ids os) → ops_operands_seen isolated new (ops_with_ids f os) ≡ ops_operands_seen isolated old os
       ops_operands_with new old no_ops s k = refl
       ops_operands_with new old (next o os) s k =
-          let front = told_left f (ids o) (ops_ids os) k in
+          let preceding = told_left f (ids o) (ops_ids os) k in
           let a = results_of (with_ids f o) in
           let b = results_of o in
-          let inner = ops_operands_with (new ++ a ∷ []) (old ++ b ∷ []) os (same_last f new old a b s (shows_op o front)) (told_right f (ids o) (ops_ids os) k) in
-          λ i. operands_with new old o s front i && inner i
+          let inner = ops_operands_with (new ++ a ∷ []) (old ++ b ∷ []) os (same_last f new old a b s (shows_op o preceding)) (told_right f (ids o) (ops_ids os) k) in
+          λ i. operands_with new old o s preceding i && inner i
 
     pub operands_visible_with : (t : OpOf N T A) → TellsApart f (ids t) → operands_visible isolated (with_ids f t) ≡ operands_visible isolated t
     operands_visible_with t k = sym (seen_operands_visible isolated (with_ids f t)) ∙ operands_with [] [] t (λ v. refl) k ∙ seen_operands_visible isolated t

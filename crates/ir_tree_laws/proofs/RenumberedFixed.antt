@@ -110,9 +110,9 @@ module _ (f : ℕ → ℕ) where
         ops_stay s no_ops a k e = refl
         ops_stay s (next o os) a k e =
             let p = and_parts (operands_dominate isolated s o) (ops_operands_seen isolated (s ++ results_of o ∷ []) os) e in
-            let front = leaves_left (ids o) (ops_ids os) k in
-            let trailing = ops_stay (s ++ results_of o ∷ []) os (last_stays s (results_of o) a (op_stays o front)) (leaves_right (ids o) (ops_ids os) k) p.1 in
-            λ i. next (stays s o a front p.0 i) (trailing i)
+            let preceding = leaves_left (ids o) (ops_ids os) k in
+            let trailing = ops_stay (s ++ results_of o ∷ []) os (last_stays s (results_of o) a (op_stays o preceding)) (leaves_right (ids o) (ops_ids os) k) p.1 in
+            λ i. next (stays s o a preceding p.0 i) (trailing i)
 
 pub renumbered_stays : {N T A : Type 0} (isolated : N → Bool) (t : OpOf N T A) → IsValidTree isolated t → IsNumberedFrom 0 t → renumbered t ≡ t
 renumbered_stays isolated t w e = stays (place_in (ids t)) isolated [] t (λ v h. absurd (true≢false (sym h))) left (seen_operands_visible isolated t ∙ w.visible)

@@ -32,7 +32,7 @@ use Rattle.ir_tree_laws.proofs.Without.{member_left, same_head}
 use Rattle.ir_tree_laws.proofs.DominatedBy.{visible_there}
 use Rattle.ir_tree_laws.proofs.Stretches.{part, parted_ids, left_ids}
 use Rattle.ir_tree_laws.proofs.Put.{point_of, of_point, region_each, child}
-use Rattle.ir_tree_laws.proofs.Formed.{from_formed, greatest_within}
+use Rattle.ir_tree_laws.proofs.Wellformed.{from_wellformed, greatest_within}
 use Rattle.ir_tree_laws.proofs.Values.{seen_by}
 use Rattle.ir_tree_laws.proofs.Changed.{point_left}
 use Rattle.ir_tree_laws.proofs.Edited.{around_stays}
@@ -73,7 +73,7 @@ module _ {N T A : Type 0} where
       let b = operand_found x k n.tree new c.is in
       let s = found_stands x m.tree a.0 a.1 in
       let z = found_stands x n.tree b.0 b.1 in
-      let g = from_formed isolated m.tree w.formed in
+      let g = from_wellformed isolated m.tree w.wellformed in
       let own : In old (head s.0.here).operands = subst (λ (o : OpOf N T A). In old (head o).operands) (sym s.3) (got_in (head a.0).operands k old a.2) in
       let saw : visible isolated m.tree x old ≡ true = ap (λ y. visible isolated m.tree y old) (sym s.2) ∙ visible_there isolated m.tree w.distinct s.0 s.1 old ∙ all_each (dominated_by isolated s.0.path) (head s.0.here).operands (g.dominated_by_own s.0 s.1) old own in
       let dominated_by_it : visible isolated n.tree x old ≡ true = ap (λ t. visible isolated t x old) c.after ∙ head_visible (at x (put_operand k new)) (alike_operand x k new) isolated m.tree x old ∙ saw in
@@ -89,11 +89,11 @@ module _ {N T A : Type 0} where
   inside_goes t d o a q h y e = elim (bool_cases (has_id y o)) [
     | inr k ↦ k
     | inl k ↦ (let w = part t d o a q h in
-        let front = map (λ (z : StandOf N T A). stand_id z) w.front in
+        let preceding = map (λ (z : StandOf N T A). stand_id z) w.preceding in
         let back = map (λ (z : StandOf N T A). stand_id z) w.back in
-        let all = halves front (ids o ++ back) (subst (IsDistinct eqb) (parted_ids (head o).id (a ∷ q) o t w) d) in
+        let all = halves preceding (ids o ++ back) (subst (IsDistinct eqb) (parted_ids (head o).id (a ∷ q) o t w) d) in
         let mid = halves (ids o) back all.right in
-        absurd (elim (parts front back (sym (ap (list_any (λ z. eqb z y)) (left_ids (head o).id (a ∷ q) o t w)) ∙ e)) [
+        absurd (elim (parts preceding back (sym (ap (list_any (λ z. eqb z y)) (left_ids (head o).id (a ∷ q) o t w)) ∙ e)) [
           | inl f ↦ true≢false (sym (join (ids o) back k) ∙ all.disjoint y f)
           | inr b ↦ true≢false (sym b ∙ mid.disjoint y k)
         ]))
@@ -110,7 +110,7 @@ module _ {N T A : Type 0} where
       join [] ys h = absurd (true≢false (sym h))
       join (x ∷ xs) ys h = elim (either (eqb x y) (list_any (λ z. eqb z y) xs) h) [ inl k ↦ or_left (eqb x y) _ k | inr k ↦ or_right (eqb x y) _ (join xs ys k) ]
 
-  pub among_split : (b : ℕ) (os : OpsOf N T A) → is_among b os ≡ true → (front : List (OpOf N T A)) × (p : OpOf N T A) × (rest : OpsOf N T A) × (os ≡ joined_ops front (next p rest)) × ((head p).id ≡ b)
+  pub among_split : (b : ℕ) (os : OpsOf N T A) → is_among b os ≡ true → (preceding : List (OpOf N T A)) × (p : OpOf N T A) × (rest : OpsOf N T A) × (os ≡ joined_ops preceding (next p rest)) × ((head p).id ≡ b)
   among_split b no_ops h = absurd (true≢false (sym h))
   among_split b (next p os) h = elim (either (eqb (head p).id b) (is_among b os) h) [
     | inl k ↦ ([], p, os, refl, eqb-true (head p).id b k)
@@ -174,7 +174,7 @@ module _ {N T A : Type 0} where
   -- the depth of an operation at its place is within the limit
   pub fits_there : (isolated : N → Bool) (m : ModuleOf N T A) → IsWellFormed isolated m → (o : OpOf N T A) (a : StepOf N T A) (q : List (StepOf N T A)) → In (stand o (a ∷ q)) (stands [] m.tree) → length q + 1 + depth o ≤ most_around
   fits_there isolated m w o a q h =
-      let g = from_formed isolated m.tree w.formed in
+      let g = from_wellformed isolated m.tree w.wellformed in
       let e = stands_depth (a ∷ q) o in
       let n = greatest_within (λ (s : StandOf N T A). length s.path) most_around (stands (a ∷ q) o) (λ s k. g.shallow s (within o (a ∷ q) s k [] m.tree h)) in
       omega (arith, e, n)
@@ -225,7 +225,7 @@ module _ {N T A : Type 0} where
           (passed _ IntoItself _ (ap (λ f. not (leads_inside old f)) found ∙ ap not outside)
           (passed _ OtherTable _ (same_tables (table_of is_table x n.tree) (table_of is_table x (shifted x old n.tree)) (c.table ∙ ap (table_of is_table x) (sym back)))
           (passed _ TooDeepHere _ ((λ i. fits_around (levels_in (found i)) (around_is i)) ∙ le-leb (length q + 1 + depth o) most_around (fits_there isolated m w o a q there))
-          (passed _ NotVisible None (ap (operands_visible isolated) back ∙ w.formed.visible) refl))))))
+          (passed _ NotVisible None (ap (operands_visible isolated) back ∙ w.wellformed.visible) refl))))))
         where
           before_out : (b : Option ℕ) → old.before ≡ b → has_place old (without x m.tree) ≡ true → ((y : ℕ) → has_id y (without x m.tree) ≡ true → has_id y s.here ≡ false) → before_within b (Some s.here) ≡ false
           before_out None k h f = refl

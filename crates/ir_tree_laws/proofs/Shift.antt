@@ -24,7 +24,7 @@ use Rattle.ir_tree_laws.proofs.Around.{stands_around, stand_present, present_sta
 use Rattle.ir_tree_laws.proofs.Without.{left_member, member_left, same_head}
 use Rattle.ir_tree_laws.proofs.DominatedBy.{stands_operands}
 use Rattle.ir_tree_laws.proofs.Put.{Point, point_of, of_point, region_each}
-use Rattle.ir_tree_laws.proofs.Formed.{from_formed, to_formed, within_depth, list_fits, no_more}
+use Rattle.ir_tree_laws.proofs.Wellformed.{from_wellformed, to_wellformed, within_depth, list_fits, no_more}
 use Rattle.ir_tree_laws.proofs.PutForm as put_form
 use Rattle.ir_tree_laws.specs.Restores.{MayPut}
 
@@ -226,11 +226,11 @@ module _ {N T A : Type 0} (x : ℕ) (place : Place) (t o : OpOf N T A) (d : HasD
           cc
 
   module _ (isolated : N → Bool) where
-    pub shift_formed : IsValidTree isolated t → operands_visible isolated (put place o (without x t)) ≡ true → fits_around (depth o) (around place.parent t) ≡ true → IsValidTree isolated (put place o (without x t))
-    shift_formed formed seen levels =
-        let f = from_formed isolated t formed in
+    pub shift_wellformed : IsValidTree isolated t → operands_visible isolated (put place o (without x t)) ≡ true → fits_around (depth o) (around place.parent t) ≡ true → IsValidTree isolated (put place o (without x t))
+    shift_wellformed wellformed seen levels =
+        let f = from_wellformed isolated t wellformed in
         let l = put_form.landed place o u may_shift in
-        to_formed isolated after (record {
+        to_wellformed isolated after (record {
           dominated_by_own = all_each (λ (s : StandOf N T A). list_all (dominated_by isolated s.path) (head s.here).operands) (stands [] after) (sym (stands_operands isolated after) ∙ seen);
           shallow = λ s h. let c = shift_cases s h in elim c.4 [
             | inl k ↦ (let a = f.shallow c.0 c.1 in omega (arith, a, k))

@@ -59,8 +59,8 @@ module _ {N T A : Type 0} (isolated : N → Bool) where
   argument_within : (x r k : ℕ) (t : OpOf N T A) → eqb (head t).id x ≡ false → (path : List (StepOf N T A)) (o : OpOf N T A) → In (stand o path) (stands [] t) → dominated_by isolated path (Arg x r k) ≡ true → gone_in x o path ≡ true
   argument_within x r k t root [] o h e = absurd (true≢false (sym e))
   argument_within x r k t root (a ∷ q) o h e =
-      elim (either (list_any (λ f. shows (Arg x r k) (results_of f)) a.front) _ e) [
-        | inl m ↦ absurd (true≢false (sym m ∙ none a.front))
+      elim (either (list_any (λ f. shows (Arg x r k) (results_of f)) a.preceding) _ e) [
+        | inl m ↦ absurd (true≢false (sym m ∙ none a.preceding))
         | inr m ↦ or_right (eqb (head o).id x) (gone_in x a.parent q) (elim (either (shows (Arg x r k) (arguments (head a.parent).id a.region (length a.args))) _ m) [
           | inl l ↦ own q (around_there t o a q h).1 (eqb-true x (head a.parent).id (both (eqb x (head a.parent).id) _ l).0)
           | inr l ↦ argument_within x r k t root q a.parent (around_there t o a q h).1 (both (not (isolated (head a.parent).name)) (dominated_by isolated q (Arg x r k)) l).1
@@ -82,7 +82,7 @@ module _ {N T A : Type 0} (isolated : N → Bool) where
       own (b ∷ q) h s = or_left (eqb (head a.parent).id x) (gone_in x b.parent q) (eq-eqb (head a.parent).id x (sym s))
 
   -- an operation of a well-formed tree is shifted
-  module _ (x : ℕ) (place : Place) (t o : OpOf N T A) (d : HasDistinctIds t) (found : find x t ≡ Some o) (root : eqb (head t).id x ≡ false) (point : has_place place t ≡ true) (out : leads_inside place (Some o) ≡ false) (formed : operands_visible isolated t ≡ true) where
+  module _ (x : ℕ) (place : Place) (t o : OpOf N T A) (d : HasDistinctIds t) (found : find x t ≡ Some o) (root : eqb (head t).id x ≡ false) (point : has_place place t ≡ true) (out : leads_inside place (Some o) ≡ false) (wellformed : operands_visible isolated t ≡ true) where
     abbrev after : OpOf N T A
     after = shifted x place t
 
@@ -164,7 +164,7 @@ module _ {N T A : Type 0} (isolated : N → Bool) where
     -- with both, all operands are visible
     module _ (inner : every (λ q. list_all (visible isolated (shifted x place t) (head q).id) (head q).operands) o ≡ true) (users : UsersSee) where
       was_seen : (s : StandOf N T A) → In s (stands [] t) → (v : Value) → In v (head s.here).operands → visible isolated t (stand_id s) v ≡ true
-      was_seen s h v m = all_each (visible isolated t (stand_id s)) (head s.here).operands (each_dominated_by t d formed s h) v m
+      was_seen s h v m = all_each (visible isolated t (stand_id s)) (head s.here).operands (each_dominated_by t d wellformed s h) v m
 
       -- a use of one of its results outside
       result_seen : (s : StandOf N T A) → In s (stands [] t) → (k : ℕ) → In (Result x k) (head s.here).operands → visible isolated after (stand_id s) (Result x k) ≡ true

@@ -29,24 +29,24 @@ filter_none p (x ∷ xs) f = (λ i. cond (f x (inl refl) i) (x ∷ filter p xs) 
 module _ {N T A : Type 0} where
   -- the list of an operation, with the parts before and after it in a longer list
   pub record Stretch (s : StandOf N T A) (ss : List (StandOf N T A)) : Type 0 where
-    pub front : List (StandOf N T A)
+    pub preceding : List (StandOf N T A)
     pub back : List (StandOf N T A)
-    pub is : ss ≡ front ++ (stands s.path s.here ++ back)
+    pub is : ss ≡ preceding ++ (stands s.path s.here ++ back)
 
   longer_left : (s : StandOf N T A) (xs ys : List (StandOf N T A)) → Stretch s xs → Stretch s (xs ++ ys)
   longer_left s xs ys w = record {
-    front = w.front;
+    preceding = w.preceding;
     back = w.back ++ ys;
-    is = ap (λ l. l ++ ys) w.is ∙ append_assoc w.front (stands s.path s.here ++ w.back) ys ∙ ap (λ l. w.front ++ l) (append_assoc (stands s.path s.here) w.back ys);
+    is = ap (λ l. l ++ ys) w.is ∙ append_assoc w.preceding (stands s.path s.here ++ w.back) ys ∙ ap (λ l. w.preceding ++ l) (append_assoc (stands s.path s.here) w.back ys);
   }
 
   longer_right : (s : StandOf N T A) (xs ys : List (StandOf N T A)) → Stretch s ys → Stretch s (xs ++ ys)
-  longer_right s xs ys w = record { front = xs ++ w.front; back = w.back; is = ap (λ l. xs ++ l) w.is ∙ sym (append_assoc xs w.front (stands s.path s.here ++ w.back)) }
+  longer_right s xs ys w = record { preceding = xs ++ w.preceding; back = w.back; is = ap (λ l. xs ++ l) w.is ∙ sym (append_assoc xs w.preceding (stands s.path s.here ++ w.back)) }
 
   mutual
     pub stretch : (b : List (StepOf N T A)) (t : OpOf N T A) (s : StandOf N T A) → In s (stands b t) → Stretch s (stands b t)
     stretch b (op h rs) s (inl e) = record {
-      front = [];
+      preceding = [];
       back = [];
       is = ap (λ (z : StandOf N T A). stands z.path z.here) (sym e) ∙ sym (append-nil (stands s.path s.here));
     }
@@ -63,11 +63,11 @@ module _ {N T A : Type 0} where
     region_stretch p b r empty s k = absurd k
     region_stretch p b r (block args os) s k = ops_stretch p b r args [] os s k
 
-    ops_stretch : (p : OpOf N T A) (b : List (StepOf N T A)) (r : ℕ) (args : List T) (front : List (OpOf N T A)) (os : OpsOf N T A) (s : StandOf N T A) → In s (ops_stands p b r args front os) → Stretch s (ops_stands p b r args front os)
-    ops_stretch p b r args front no_ops s k = absurd k
-    ops_stretch p b r args front (next o os) s k = elim (in_parts s (stands (step p r args front os ∷ b) o) (ops_stands p b r args (front ++ o ∷ []) os) k) [
-      | inl l ↦ longer_left s (stands (step p r args front os ∷ b) o) (ops_stands p b r args (front ++ o ∷ []) os) (stretch (step p r args front os ∷ b) o s l)
-      | inr l ↦ longer_right s (stands (step p r args front os ∷ b) o) (ops_stands p b r args (front ++ o ∷ []) os) (ops_stretch p b r args (front ++ o ∷ []) os s l)
+    ops_stretch : (p : OpOf N T A) (b : List (StepOf N T A)) (r : ℕ) (args : List T) (preceding : List (OpOf N T A)) (os : OpsOf N T A) (s : StandOf N T A) → In s (ops_stands p b r args preceding os) → Stretch s (ops_stands p b r args preceding os)
+    ops_stretch p b r args preceding no_ops s k = absurd k
+    ops_stretch p b r args preceding (next o os) s k = elim (in_parts s (stands (step p r args preceding os ∷ b) o) (ops_stands p b r args (preceding ++ o ∷ []) os) k) [
+      | inl l ↦ longer_left s (stands (step p r args preceding os ∷ b) o) (ops_stands p b r args (preceding ++ o ∷ []) os) (stretch (step p r args preceding os ∷ b) o s l)
+      | inr l ↦ longer_right s (stands (step p r args preceding os ∷ b) o) (ops_stands p b r args (preceding ++ o ∷ []) os) (ops_stretch p b r args (preceding ++ o ∷ []) os s l)
     ]
 
   -- two members of one id are in the same part of a list
@@ -83,20 +83,20 @@ module _ {N T A : Type 0} where
 
   -- the list of a tree, split by operation x
   pub record Parted (x : ℕ) (path : List (StepOf N T A)) (o t : OpOf N T A) : Type 0 where
-    pub front : List (StandOf N T A)
+    pub preceding : List (StandOf N T A)
     pub back : List (StandOf N T A)
-    pub is : stands [] t ≡ front ++ (stands path o ++ back)
+    pub is : stands [] t ≡ preceding ++ (stands path o ++ back)
     pub gone : filter (is_gone x) (stands [] t) ≡ stands path o
-    pub kept : filter (keep x) (stands [] t) ≡ front ++ back
-    pub left : stands [] (without x t) ≡ map (left_stand x) (front ++ back)
+    pub kept : filter (keep x) (stands [] t) ≡ preceding ++ back
+    pub left : stands [] (without x t) ≡ map (left_stand x) (preceding ++ back)
 
   pub part : (t : OpOf N T A) → HasDistinctIds t → (o : OpOf N T A) (a : StepOf N T A) (q : List (StepOf N T A)) → In (stand o (a ∷ q)) (stands [] t) → Parted (head o).id (a ∷ q) o t
   part t d o a q h = record {
-    front = w.front;
+    preceding = w.preceding;
     back = w.back;
     is = w.is;
-    gone = ap (filter (is_gone x)) w.is ∙ filter-append (is_gone x) w.front (mid ++ w.back)
-        ∙ ((λ i. filter_none (is_gone x) w.front front_stays i ++ filter-append (is_gone x) mid w.back i)
+    gone = ap (filter (is_gone x)) w.is ∙ filter-append (is_gone x) w.preceding (mid ++ w.back)
+        ∙ ((λ i. filter_none (is_gone x) w.preceding preceding_stays i ++ filter-append (is_gone x) mid w.back i)
         ∙ ((λ i. filter_all (is_gone x) mid mid_goes i ++ filter_none (is_gone x) w.back back_stays i) ∙ append-nil mid));
     kept = kept;
     left = without_stands x t ∙ ap (map (left_stand x)) kept;
@@ -114,11 +114,11 @@ module _ {N T A : Type 0} where
       own : gone_in (head o).id o (a ∷ q) ≡ true
       own = or_left (eqb (head o).id (head o).id) (gone_in (head o).id a.parent q) (eq-eqb (head o).id (head o).id refl)
 
-      d' : IsDistinct eqb (map (λ (z : StandOf N T A). stand_id z) (w.front ++ (mid ++ w.back)))
+      d' : IsDistinct eqb (map (λ (z : StandOf N T A). stand_id z) (w.preceding ++ (mid ++ w.back)))
       d' = subst (λ (l : List (StandOf N T A)). IsDistinct eqb (map (λ (z : StandOf N T A). stand_id z) l)) w.is (subst (IsDistinct eqb) (sym (stands_ids [] t)) d)
 
       d'' : IsDistinct eqb (map (λ (z : StandOf N T A). stand_id z) (mid ++ w.back))
-      d'' = (halves (map (λ (z : StandOf N T A). stand_id z) w.front) (map (λ (z : StandOf N T A). stand_id z) (mid ++ w.back)) (subst (IsDistinct eqb) (map-append (λ (z : StandOf N T A). stand_id z) w.front (mid ++ w.back)) d')).right
+      d'' = (halves (map (λ (z : StandOf N T A). stand_id z) w.preceding) (map (λ (z : StandOf N T A). stand_id z) (mid ++ w.back)) (subst (IsDistinct eqb) (map-append (λ (z : StandOf N T A). stand_id z) w.preceding (mid ++ w.back)) d')).right
 
       -- the removed operations are in the middle
       inside : (s : StandOf N T A) → In s (stands [] t) → is_gone (head o).id s ≡ true → In s (stands (a ∷ q) o)
@@ -130,26 +130,26 @@ module _ {N T A : Type 0} where
       back_in : (l : List (StandOf N T A)) (s : StandOf N T A) → In s l → l ≡ stands [] t → In s (stands [] t)
       back_in l s k e = subst (In s) e k
 
-      front_stays : (s : StandOf N T A) → In s w.front → is_gone (head o).id s ≡ false
-      front_stays s k = elim (bool_cases (is_gone (head o).id s)) [
+      preceding_stays : (s : StandOf N T A) → In s w.preceding → is_gone (head o).id s ≡ false
+      preceding_stays s k = elim (bool_cases (is_gone (head o).id s)) [
         | inr e ↦ e
-        | inl e ↦ absurd (parted w.front (mid ++ w.back) d' s s k (in_left s mid w.back (inside s (back_in (w.front ++ (mid ++ w.back)) s (in_left s w.front (mid ++ w.back) k) (sym w.is)) e)) refl)
+        | inl e ↦ absurd (parted w.preceding (mid ++ w.back) d' s s k (in_left s mid w.back (inside s (back_in (w.preceding ++ (mid ++ w.back)) s (in_left s w.preceding (mid ++ w.back) k) (sym w.is)) e)) refl)
       ]
 
       back_stays : (s : StandOf N T A) → In s w.back → is_gone (head o).id s ≡ false
       back_stays s k = elim (bool_cases (is_gone (head o).id s)) [
         | inr e ↦ e
-        | inl e ↦ absurd (parted mid w.back d'' s s (inside s (back_in (w.front ++ (mid ++ w.back)) s (in_right s w.front (mid ++ w.back) (in_right s mid w.back k)) (sym w.is)) e) k refl)
+        | inl e ↦ absurd (parted mid w.back d'' s s (inside s (back_in (w.preceding ++ (mid ++ w.back)) s (in_right s w.preceding (mid ++ w.back) (in_right s mid w.back k)) (sym w.is)) e) k refl)
       ]
 
       mid_goes : (s : StandOf N T A) → In s mid → is_gone (head o).id s ≡ true
       mid_goes s k = within_gone (head o).id o (a ∷ q) own s k
 
-      kept : filter (keep (head o).id) (stands [] t) ≡ w.front ++ w.back
+      kept : filter (keep (head o).id) (stands [] t) ≡ w.preceding ++ w.back
       kept =
           ap (filter (keep x)) w.is
-          ∙ filter-append (keep x) w.front (mid ++ w.back)
-          ∙ (λ i. filter_all (keep x) w.front (λ s k. ap not (front_stays s k)) i ++ (filter-append (keep x) mid w.back ∙ λ j. op_goes x (a ∷ q) o own j ++ filter_all (keep x) w.back (λ s k. ap not (back_stays s k)) j) i)
+          ∙ filter-append (keep x) w.preceding (mid ++ w.back)
+          ∙ (λ i. filter_all (keep x) w.preceding (λ s k. ap not (preceding_stays s k)) i ++ (filter-append (keep x) mid w.back ∙ λ j. op_goes x (a ∷ q) o own j ++ filter_all (keep x) w.back (λ s k. ap not (back_stays s k)) j) i)
 
   -- lists computed from an operation's head are unchanged
   pub gather_left : {Y : Type 0} (f : StandOf N T A → List Y) (x : ℕ) → ((s : StandOf N T A) → f (left_stand x s) ≡ f s) → (ss : List (StandOf N T A)) → gather f (map (left_stand x) ss) ≡ gather f ss
@@ -164,48 +164,48 @@ module _ {N T A : Type 0} where
   ids_left x (s ∷ ss) = λ i. (same_head x (dropping x) s.here i).id ∷ ids_left x ss i
 
   module _ (x : ℕ) (path : List (StepOf N T A)) (o t : OpOf N T A) (w : Parted x path o t) where
-    abbrev front_ids : List ℕ
-    front_ids = map (λ (z : StandOf N T A). stand_id z) w.front
+    abbrev preceding_ids : List ℕ
+    preceding_ids = map (λ (z : StandOf N T A). stand_id z) w.preceding
 
     abbrev back_ids : List ℕ
     back_ids = map (λ (z : StandOf N T A). stand_id z) w.back
 
-    pub parted_ids : ids t ≡ map (λ (z : StandOf N T A). stand_id z) w.front ++ (ids o ++ map (λ (z : StandOf N T A). stand_id z) w.back)
+    pub parted_ids : ids t ≡ map (λ (z : StandOf N T A). stand_id z) w.preceding ++ (ids o ++ map (λ (z : StandOf N T A). stand_id z) w.back)
     parted_ids =
         sym (stands_ids [] t)
         ∙ ap (map (λ (z : StandOf N T A). stand_id z)) w.is
-        ∙ map-append (λ (z : StandOf N T A). stand_id z) w.front (stands path o ++ w.back)
-        ∙ ap (λ l. front_ids ++ l) (map-append (λ (z : StandOf N T A). stand_id z) (stands path o) w.back ∙ ap (λ l. l ++ back_ids) (stands_ids path o))
+        ∙ map-append (λ (z : StandOf N T A). stand_id z) w.preceding (stands path o ++ w.back)
+        ∙ ap (λ l. preceding_ids ++ l) (map-append (λ (z : StandOf N T A). stand_id z) (stands path o) w.back ∙ ap (λ l. l ++ back_ids) (stands_ids path o))
 
-    pub left_ids : ids (without x t) ≡ map (λ (z : StandOf N T A). stand_id z) w.front ++ map (λ (z : StandOf N T A). stand_id z) w.back
+    pub left_ids : ids (without x t) ≡ map (λ (z : StandOf N T A). stand_id z) w.preceding ++ map (λ (z : StandOf N T A). stand_id z) w.back
     left_ids =
         sym (stands_ids [] (without x t))
         ∙ ap (map (λ (z : StandOf N T A). stand_id z)) w.left
-        ∙ ids_left x (w.front ++ w.back)
-        ∙ map-append (λ (z : StandOf N T A). stand_id z) w.front w.back
+        ∙ ids_left x (w.preceding ++ w.back)
+        ∙ map-append (λ (z : StandOf N T A). stand_id z) w.preceding w.back
 
     pub parted_count : op_count t ≡ op_count (without x t) + op_count o
     parted_count =
         let a = ap length parted_ids in
         let b = ap length left_ids in
-        let c = length-append front_ids (ids o ++ back_ids) in
+        let c = length-append preceding_ids (ids o ++ back_ids) in
         let e = length-append (ids o) back_ids in
-        let f = length-append front_ids back_ids in
+        let f = length-append preceding_ids back_ids in
         omega (arith, a, b, c, e, f)
 
     abbrev used : Value → StandOf N T A → List (ℕ × ℕ)
     used v s = operand_uses v (stand_id s) 0 (head s.here).operands
 
-    pub parted_uses : (v : Value) → uses_of v t ≡ gather (λ s. operand_uses v (stand_id s) 0 (head s.here).operands) w.front ++ (uses_of v o ++ gather (λ s. operand_uses v (stand_id s) 0 (head s.here).operands) w.back)
+    pub parted_uses : (v : Value) → uses_of v t ≡ gather (λ s. operand_uses v (stand_id s) 0 (head s.here).operands) w.preceding ++ (uses_of v o ++ gather (λ s. operand_uses v (stand_id s) 0 (head s.here).operands) w.back)
     parted_uses v =
         sym (stands_uses v [] t)
         ∙ ap (gather (used v)) w.is
-        ∙ gather-append (used v) w.front (stands path o ++ w.back)
-        ∙ ap (λ l. gather (used v) w.front ++ l) (gather-append (used v) (stands path o) w.back ∙ ap (λ l. l ++ gather (used v) w.back) (stands_uses v path o))
+        ∙ gather-append (used v) w.preceding (stands path o ++ w.back)
+        ∙ ap (λ l. gather (used v) w.preceding ++ l) (gather-append (used v) (stands path o) w.back ∙ ap (λ l. l ++ gather (used v) w.back) (stands_uses v path o))
 
-    pub left_uses_of : (v : Value) → uses_of v (without x t) ≡ gather (λ s. operand_uses v (stand_id s) 0 (head s.here).operands) w.front ++ gather (λ s. operand_uses v (stand_id s) 0 (head s.here).operands) w.back
+    pub left_uses_of : (v : Value) → uses_of v (without x t) ≡ gather (λ s. operand_uses v (stand_id s) 0 (head s.here).operands) w.preceding ++ gather (λ s. operand_uses v (stand_id s) 0 (head s.here).operands) w.back
     left_uses_of v =
         sym (stands_uses v [] (without x t))
         ∙ ap (gather (used v)) w.left
-        ∙ gather_left (used v) x (left_uses v x) (w.front ++ w.back)
-        ∙ gather-append (used v) w.front w.back
+        ∙ gather_left (used v) x (left_uses v x) (w.preceding ++ w.back)
+        ∙ gather-append (used v) w.preceding w.back

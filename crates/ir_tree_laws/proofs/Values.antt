@@ -26,9 +26,9 @@ got (x ∷ xs) (suc k) h = got xs k (omega (arith, h))
 module _ {N T A : Type 0} where
   -- each path is consistent: its lists are those of its blocks
   abbrev pub ShapeOf : StandOf N T A → Type 0
-  ShapeOf s = (a : StepOf N T A) × (q : List (StepOf N T A)) × (s.path ≡ a ∷ q) × (region_at a.region (regions a.parent) ≡ Some (block a.args (joined_ops a.front (next s.here a.rest))))
+  ShapeOf s = (a : StepOf N T A) × (q : List (StepOf N T A)) × (s.path ≡ a ∷ q) × (region_at a.region (regions a.parent) ≡ Some (block a.args (joined_ops a.preceding (next s.here a.rest))))
 
-  pub joined_more : (front : List (OpOf N T A)) (o : OpOf N T A) (os : OpsOf N T A) → joined_ops (front ++ o ∷ []) os ≡ joined_ops front (next o os)
+  pub joined_more : (preceding : List (OpOf N T A)) (o : OpOf N T A) (os : OpsOf N T A) → joined_ops (preceding ++ o ∷ []) os ≡ joined_ops preceding (next o os)
   joined_more [] o os = refl
   joined_more (f ∷ fs) o os = ap (next f) (joined_more fs o os)
 
@@ -48,37 +48,37 @@ module _ {N T A : Type 0} where
     region_shape p b r empty s k e = absurd k
     region_shape p b r (block args os) s k e = ops_shape p b r args [] os s k e
 
-    ops_shape : (p : OpOf N T A) (b : List (StepOf N T A)) (r : ℕ) (args : List T) (front : List (OpOf N T A)) (os : OpsOf N T A) (s : StandOf N T A) → In s (ops_stands p b r args front os) → region_at r (regions p) ≡ Some (block args (joined_ops front os)) → ShapeOf s
-    ops_shape p b r args front no_ops s k e = absurd k
-    ops_shape p b r args front (next o os) s k e = elim (in_parts s (stands (step p r args front os ∷ b) o) (ops_stands p b r args (front ++ o ∷ []) os) k) [
-      | inl l ↦ elim (op_shape (step p r args front os ∷ b) o s l) [
-        | inl i ↦ (step p r args front os, b, ap (λ (z : StandOf N T A). z.path) i, e ∙ ap (λ (z : StandOf N T A). Some (block args (joined_ops front (next z.here os)))) (sym i))
+    ops_shape : (p : OpOf N T A) (b : List (StepOf N T A)) (r : ℕ) (args : List T) (preceding : List (OpOf N T A)) (os : OpsOf N T A) (s : StandOf N T A) → In s (ops_stands p b r args preceding os) → region_at r (regions p) ≡ Some (block args (joined_ops preceding os)) → ShapeOf s
+    ops_shape p b r args preceding no_ops s k e = absurd k
+    ops_shape p b r args preceding (next o os) s k e = elim (in_parts s (stands (step p r args preceding os ∷ b) o) (ops_stands p b r args (preceding ++ o ∷ []) os) k) [
+      | inl l ↦ elim (op_shape (step p r args preceding os ∷ b) o s l) [
+        | inl i ↦ (step p r args preceding os, b, ap (λ (z : StandOf N T A). z.path) i, e ∙ ap (λ (z : StandOf N T A). Some (block args (joined_ops preceding (next z.here os)))) (sym i))
         | inr w ↦ w
       ]
-      | inr l ↦ ops_shape p b r args (front ++ o ∷ []) os s l (e ∙ ap (λ z. Some (block args z)) (sym (joined_more front o os)))
+      | inr l ↦ ops_shape p b r args (preceding ++ o ∷ []) os s l (e ∙ ap (λ z. Some (block args z)) (sym (joined_more preceding o os)))
     ]
 
-  pub shape : (t o : OpOf N T A) (a : StepOf N T A) (q : List (StepOf N T A)) → In (stand o (a ∷ q)) (stands [] t) → region_at a.region (regions a.parent) ≡ Some (block a.args (joined_ops a.front (next o a.rest)))
+  pub shape : (t o : OpOf N T A) (a : StepOf N T A) (q : List (StepOf N T A)) → In (stand o (a ∷ q)) (stands [] t) → region_at a.region (regions a.parent) ≡ Some (block a.args (joined_ops a.preceding (next o a.rest)))
   shape t o a q h = elim (op_shape [] t (stand o (a ∷ q)) h) [
     | inl k ↦ (let bad : a ∷ q ≡ [] = ap (λ (z : StandOf N T A). z.path) k in absurd cc)
     | inr w ↦ (let same : a ∷ q ≡ w.0 ∷ w.1 = w.2 in
         let first : w.0 ≡ a = cc in
-        subst (λ (z : StepOf N T A). region_at z.region (regions z.parent) ≡ Some (block z.args (joined_ops z.front (next o z.rest)))) first w.3)
+        subst (λ (z : StepOf N T A). region_at z.region (regions z.parent) ≡ Some (block z.args (joined_ops z.preceding (next o z.rest)))) first w.3)
   ]
 
   -- one of the earlier operations, with those before and after it
-  pub split_front : (f : OpOf N T A) (front : List (OpOf N T A)) (os : OpsOf N T A) → In f front → (pre : List (OpOf N T A)) × (rest : OpsOf N T A) × (joined_ops front os ≡ joined_ops pre (next f rest)) × (length pre < length front)
-  split_front f [] os h = absurd h
-  split_front f (o ∷ fs) os (inl e) = ([], joined_ops fs os, ap (λ z. next z (joined_ops fs os)) (sym e), omega arith)
-  split_front f (o ∷ fs) os (inr h) = let r = split_front f fs os h in let n = r.3 in (o ∷ r.0, r.1, ap (next o) r.2, omega (arith, n))
+  pub split_preceding : (f : OpOf N T A) (preceding : List (OpOf N T A)) (os : OpsOf N T A) → In f preceding → (pre : List (OpOf N T A)) × (rest : OpsOf N T A) × (joined_ops preceding os ≡ joined_ops pre (next f rest)) × (length pre < length preceding)
+  split_preceding f [] os h = absurd h
+  split_preceding f (o ∷ fs) os (inl e) = ([], joined_ops fs os, ap (λ z. next z (joined_ops fs os)) (sym e), omega arith)
+  split_preceding f (o ∷ fs) os (inr h) = let r = split_preceding f fs os h in let n = r.3 in (o ∷ r.0, r.1, ap (next o) r.2, omega (arith, n))
 
-  pub front_stands : (t p : OpOf N T A) (q : List (StepOf N T A)) (r : ℕ) (args : List T) (front : List (OpOf N T A)) (os : OpsOf N T A) (f : OpOf N T A)
-      → In (stand p q) (stands [] t) → region_at r (regions p) ≡ Some (block args (joined_ops front os)) → In f front → (a : StepOf N T A) × In (stand f (a ∷ q)) (stands [] t) × (length a.front < length front)
-  front_stands t p q r args front os f up at h =
-      let s = split_front f front os h in
+  pub preceding_stands : (t p : OpOf N T A) (q : List (StepOf N T A)) (r : ℕ) (args : List T) (preceding : List (OpOf N T A)) (os : OpsOf N T A) (f : OpOf N T A)
+      → In (stand p q) (stands [] t) → region_at r (regions p) ≡ Some (block args (joined_ops preceding os)) → In f preceding → (a : StepOf N T A) × In (stand f (a ∷ q)) (stands [] t) × (length a.preceding < length preceding)
+  preceding_stands t p q r args preceding os f up at h =
+      let s = split_preceding f preceding os h in
       let a = step p r args s.0 s.1 in (
         a,
-        within p q (stand f (a ∷ q)) (child p q r args (joined_ops front os) (stand f (a ∷ q)) at
+        within p q (stand f (a ∷ q)) (child p q r args (joined_ops preceding os) (stand f (a ∷ q)) at
             (subst (λ l. In (stand f (a ∷ q)) (ops_stands p q r args [] l)) (sym s.2) (ops_child p q r args [] s.0 f s.1))) [] t up,
         s.3,
       )
@@ -107,7 +107,7 @@ module _ {N T A : Type 0} where
 
   -- an operation earlier in the list of another, or of one of its ancestors, or an ancestor
   abbrev pub Nearer : StandOf N T A → List (StepOf N T A) → Type 0
-  Nearer u path = (length u.path < length path) ⊎ ((a : StepOf N T A) × (b : StepOf N T A) × (q : List (StepOf N T A)) × (u.path ≡ a ∷ q) × (path ≡ b ∷ q) × (length a.front < length b.front))
+  Nearer u path = (length u.path < length path) ⊎ ((a : StepOf N T A) × (b : StepOf N T A) × (q : List (StepOf N T A)) × (u.path ≡ a ∷ q) × (path ≡ b ∷ q) × (length a.preceding < length b.preceding))
 
   pub record SeenOf (isolated : N → Bool) (t : OpOf N T A) (path : List (StepOf N T A)) (v : Value) : Type 0 where
     pub owner : StandOf N T A
@@ -118,24 +118,24 @@ module _ {N T A : Type 0} where
 
   -- the values visible at the end of a path
   pub seen_from : (isolated : N → Bool) (t : OpOf N T A) → HasDistinctIds t → (path : List (StepOf N T A)) (v : Value) → dominated_by isolated path v ≡ true
-      → ((a : StepOf N T A) (q : List (StepOf N T A)) → path ≡ a ∷ q → In (stand a.parent q) (stands [] t) × ((os : OpsOf N T A) × (region_at a.region (regions a.parent) ≡ Some (block a.args (joined_ops a.front os)))))
+      → ((a : StepOf N T A) (q : List (StepOf N T A)) → path ≡ a ∷ q → In (stand a.parent q) (stands [] t) × ((os : OpsOf N T A) × (region_at a.region (regions a.parent) ≡ Some (block a.args (joined_ops a.preceding os)))))
       → SeenOf isolated t path v
   seen_from isolated t d [] v e f = absurd (true≢false (sym e))
   seen_from isolated t d (a ∷ q) v e f =
       let g = f a q refl in
-      elim (either (list_any (λ o. shows v (results_of o)) a.front) _ e) [
-        | inl k ↦ (let w = one_any (λ o. shows v (results_of o)) a.front k in
-            let u = front_stands t a.parent q a.region a.args a.front g.1.0 w.0 g.0 g.1.1 w.1 in
+      elim (either (list_any (λ o. shows v (results_of o)) a.preceding) _ e) [
+        | inl k ↦ (let w = one_any (λ o. shows v (results_of o)) a.preceding k in
+            let u = preceding_stands t a.parent q a.region a.args a.preceding g.1.0 w.0 g.0 g.1.1 w.1 in
             let r = result_value t d (stand w.0 (u.0 ∷ q)) u.1 v w.2 in
             record { owner = stand w.0 (u.0 ∷ q); there = u.1; id = r.0; is = r.1; nearer = inr (u.0, a, q, refl, refl, u.2) })
         | inr k ↦ elim (either (shows v (arguments (head a.parent).id a.region (length a.args))) _ k) [
-          | inl l ↦ (let r = argument_value t d (stand a.parent q) g.0 a.region a.args (joined_ops a.front g.1.0) g.1.1 v l in
+          | inl l ↦ (let r = argument_value t d (stand a.parent q) g.0 a.region a.args (joined_ops a.preceding g.1.0) g.1.1 v l in
               record { owner = stand a.parent q; there = g.0; id = r.0; is = r.1; nearer = inl (omega arith) })
           | inr l ↦ up_one g.0 (seen_from isolated t d q v (both (not (isolated (head a.parent).name)) (dominated_by isolated q v) l).1 (λ b p same. around_it a.parent q g.0 b p same))
         ]
       ]
     where
-      around_it : (o : OpOf N T A) (q : List (StepOf N T A)) → In (stand o q) (stands [] t) → (b : StepOf N T A) (p : List (StepOf N T A)) → q ≡ b ∷ p → In (stand b.parent p) (stands [] t) × ((os : OpsOf N T A) × (region_at b.region (regions b.parent) ≡ Some (block b.args (joined_ops b.front os))))
+      around_it : (o : OpOf N T A) (q : List (StepOf N T A)) → In (stand o q) (stands [] t) → (b : StepOf N T A) (p : List (StepOf N T A)) → q ≡ b ∷ p → In (stand b.parent p) (stands [] t) × ((os : OpsOf N T A) × (region_at b.region (regions b.parent) ≡ Some (block b.args (joined_ops b.preceding os))))
       around_it o q h b p same =
           let m : In (stand o (b ∷ p)) (stands [] t) = subst (λ l. In (stand o l) (stands [] t)) same h in
           ((around_there t o b p m).1, (next o b.rest, shape t o b p m))
@@ -164,6 +164,6 @@ module _ {N T A : Type 0} where
       apart u path (inr w) same =
           let two : w.0 ∷ w.2 ≡ w.1 ∷ w.2 = sym w.3 ∙ same ∙ w.4 in
           let one : w.0 ≡ w.1 = cc in
-          let l = ap (λ (z : StepOf N T A). length z.front) one in
+          let l = ap (λ (z : StepOf N T A). length z.preceding) one in
           let n = w.5 in
           omega (arith, n, l)

@@ -45,18 +45,18 @@ module _ {N T A : Type 0} (x : ℕ) where
     region_goes p path r empty e = refl
     region_goes p path r (block args os) e = ops_go p path r args [] os e
 
-    ops_go : (p : OpOf N T A) (path : List (StepOf N T A)) (r : ℕ) (args : List T) (front : List (OpOf N T A)) (os : OpsOf N T A) → gone_in x p path ≡ true → filter keep (ops_stands p path r args front os) ≡ []
-    ops_go p path r args front no_ops e = refl
-    ops_go p path r args front (next o os) e =
-        filter-append keep (stands (step p r args front os ∷ path) o) (ops_stands p path r args (front ++ o ∷ []) os)
-        ∙ λ i. op_goes (step p r args front os ∷ path) o (or_right (eqb (head o).id x) (gone_in x p path) e) i ++ ops_go p path r args (front ++ o ∷ []) os e i
+    ops_go : (p : OpOf N T A) (path : List (StepOf N T A)) (r : ℕ) (args : List T) (preceding : List (OpOf N T A)) (os : OpsOf N T A) → gone_in x p path ≡ true → filter keep (ops_stands p path r args preceding os) ≡ []
+    ops_go p path r args preceding no_ops e = refl
+    ops_go p path r args preceding (next o os) e =
+        filter-append keep (stands (step p r args preceding os ∷ path) o) (ops_stands p path r args (preceding ++ o ∷ []) os)
+        ∙ λ i. op_goes (step p r args preceding os ∷ path) o (or_right (eqb (head o).id x) (gone_in x p path) e) i ++ ops_go p path r args (preceding ++ o ∷ []) os e i
 
   -- a list of operations before another
   abbrev kept : List (OpOf N T A) → List (OpOf N T A)
   kept os = filter stays (map (each_list d) os)
 
-  one_more : (front : List (OpOf N T A)) (o : OpOf N T A) → kept (front ++ o ∷ []) ≡ kept front ++ kept (o ∷ [])
-  one_more front o = ap (filter stays) (map-append (each_list d) front (o ∷ [])) ∙ filter-append stays (map (each_list d) front) (map (each_list d) (o ∷ []))
+  one_more : (preceding : List (OpOf N T A)) (o : OpOf N T A) → kept (preceding ++ o ∷ []) ≡ kept preceding ++ kept (o ∷ [])
+  one_more preceding o = ap (filter stays) (map-append (each_list d) preceding (o ∷ [])) ∙ filter-append stays (map (each_list d) preceding) (map (each_list d) (o ∷ []))
 
   split_left : (ss us : List (StandOf N T A)) → map (left_stand x) (filter keep (ss ++ us)) ≡ map (left_stand x) (filter keep ss) ++ map (left_stand x) (filter keep us)
   split_left ss us = ap (map (left_stand x)) (filter-append keep ss us) ∙ map-append (left_stand x) (filter keep ss) (filter keep us)
@@ -78,26 +78,26 @@ module _ {N T A : Type 0} (x : ℕ) where
     region_left p path y k r empty e = refl
     region_left p path y k r (block args os) e = ops_left p path r args [] os e
 
-    ops_left : (p : OpOf N T A) (path : List (StepOf N T A)) (r : ℕ) (args : List T) (front : List (OpOf N T A)) (os : OpsOf N T A) → gone_in x p path ≡ false
-        → ops_stands (each_list d p) (map (left_step x) path) r args (kept front) (drop_op x (ops_each_list d os)) ≡ map (left_stand x) (filter keep (ops_stands p path r args front os))
-    ops_left p path r args front no_ops e = refl
-    ops_left p path r args front (next o os) e =
-        let a = step p r args front os in
-        let later = ops_left p path r args (front ++ o ∷ []) os e in
+    ops_left : (p : OpOf N T A) (path : List (StepOf N T A)) (r : ℕ) (args : List T) (preceding : List (OpOf N T A)) (os : OpsOf N T A) → gone_in x p path ≡ false
+        → ops_stands (each_list d p) (map (left_step x) path) r args (kept preceding) (drop_op x (ops_each_list d os)) ≡ map (left_stand x) (filter keep (ops_stands p path r args preceding os))
+    ops_left p path r args preceding no_ops e = refl
+    ops_left p path r args preceding (next o os) e =
+        let a = step p r args preceding os in
+        let later = ops_left p path r args (preceding ++ o ∷ []) os e in
         let q = map (left_step x) path in
         let ls = drop_op x (ops_each_list d os) in
         let same : eqb (head (each_list d o)).id x ≡ eqb (head o).id x = ap (λ (h : HeadOf N T A). eqb h.id x) (same_head d o) in
         elim (bool_cases (eqb (head o).id x)) [
           | inl k ↦
-              ap (λ b. ops_stands (each_list d p) q r args (kept front) (cond b ls (next (each_list d o) ls))) (same ∙ k)
-              ∙ ap (λ l. ops_stands (each_list d p) q r args l ls) (sym (one_more front o ∙ ap (λ b. kept front ++ cond (not b) (each_list d o ∷ []) []) (same ∙ k) ∙ append-nil (kept front)))
+              ap (λ b. ops_stands (each_list d p) q r args (kept preceding) (cond b ls (next (each_list d o) ls))) (same ∙ k)
+              ∙ ap (λ l. ops_stands (each_list d p) q r args l ls) (sym (one_more preceding o ∙ ap (λ b. kept preceding ++ cond (not b) (each_list d o ∷ []) []) (same ∙ k) ∙ append-nil (kept preceding)))
               ∙ later
-              ∙ sym (split_left (stands (a ∷ path) o) (ops_stands p path r args (front ++ o ∷ []) os)
-              ∙ ap (λ l. map (left_stand x) l ++ map (left_stand x) (filter keep (ops_stands p path r args (front ++ o ∷ []) os))) (op_goes (a ∷ path) o (or_left (eqb (head o).id x) (gone_in x p path) k)))
+              ∙ sym (split_left (stands (a ∷ path) o) (ops_stands p path r args (preceding ++ o ∷ []) os)
+              ∙ ap (λ l. map (left_stand x) l ++ map (left_stand x) (filter keep (ops_stands p path r args (preceding ++ o ∷ []) os))) (op_goes (a ∷ path) o (or_left (eqb (head o).id x) (gone_in x p path) k)))
           | inr k ↦
-              ap (λ b. ops_stands (each_list d p) q r args (kept front) (cond b ls (next (each_list d o) ls))) (same ∙ k)
-              ∙ (λ i. left_stands (a ∷ path) o (λ j. k j || e j) i ++ (ap (λ l. ops_stands (each_list d p) q r args l ls) (sym (one_more front o ∙ ap (λ b. kept front ++ cond (not b) (each_list d o ∷ []) []) (same ∙ k))) ∙ later) i)
-              ∙ sym (split_left (stands (a ∷ path) o) (ops_stands p path r args (front ++ o ∷ []) os))
+              ap (λ b. ops_stands (each_list d p) q r args (kept preceding) (cond b ls (next (each_list d o) ls))) (same ∙ k)
+              ∙ (λ i. left_stands (a ∷ path) o (λ j. k j || e j) i ++ (ap (λ l. ops_stands (each_list d p) q r args l ls) (sym (one_more preceding o ∙ ap (λ b. kept preceding ++ cond (not b) (each_list d o ∷ []) []) (same ∙ k))) ∙ later) i)
+              ∙ sym (split_left (stands (a ∷ path) o) (ops_stands p path r args (preceding ++ o ∷ []) os))
         ]
 
   -- the list of a whole tree
@@ -156,12 +156,12 @@ module _ {N T A : Type 0} (x : ℕ) where
 
         go : head (each_list d a.parent) ≡ head a.parent → (dominated_by isolated (map (left_step x) path) v ≡ true → dominated_by isolated path v ≡ true) → dominated_by isolated (a ∷ path) v ≡ true
         go same later =
-            let f = list_any (showing v) a.front in
+            let f = list_any (showing v) a.preceding in
             let up = dominated_by isolated path v in
             let up' = dominated_by isolated (map (left_step x) path) v in
-            let e2 : (list_any (showing v) (kept a.front) || (own (head a.parent) || not (isolated (head a.parent).name) && up')) ≡ true = sym (λ i. list_any (showing v) (kept a.front) || (own (same i) || not (isolated (same i).name) && up')) ∙ e in
-            elim (either (list_any (showing v) (kept a.front)) _ e2) [
-              | inl k ↦ or_left f _ (fewer_show v a.front k)
+            let e2 : (list_any (showing v) (kept a.preceding) || (own (head a.parent) || not (isolated (head a.parent).name) && up')) ≡ true = sym (λ i. list_any (showing v) (kept a.preceding) || (own (same i) || not (isolated (same i).name) && up')) ∙ e in
+            elim (either (list_any (showing v) (kept a.preceding)) _ e2) [
+              | inl k ↦ or_left f _ (fewer_show v a.preceding k)
               | inr k ↦ or_right f _ (elim (either (own (head a.parent)) _ k) [
                 | inl l ↦ or_left (own (head a.parent)) _ l
                 | inr l ↦ or_right (own (head a.parent)) _ (let b = both (not (isolated (head a.parent).name)) up' l in (λ i. b.0 i && later b.1 i))
@@ -172,4 +172,4 @@ module _ {N T A : Type 0} (x : ℕ) where
     pub left_dominated_by_same : (v : Value) → eqb (owner_of v).0 x ≡ false → (path : List (StepOf N T A)) → dominated_by isolated (map (left_step x) path) v ≡ dominated_by isolated path v
     left_dominated_by_same v e [] = refl
     left_dominated_by_same v e (a ∷ path) = λ i.
-        same_show v e a.front i || (shows v (arguments (same_head d a.parent i).id a.region (length a.args)) || not (isolated (same_head d a.parent i).name) && left_dominated_by_same v e path i)
+        same_show v e a.preceding i || (shows v (arguments (same_head d a.parent i).id a.region (length a.args)) || not (isolated (same_head d a.parent i).name) && left_dominated_by_same v e path i)

@@ -13,9 +13,9 @@ first_ids (suc n) (region g rs) = region_ids g ++ first_ids n rs
 -- a tree's ids are split directly before the next operation at a place; if there is none, directly after the operations
 -- inside the regions of the place's parent, up to the region of the place
 abbrev pub IsCutBefore : {N T A : Type 0} → Option ℕ → Place → OpOf N T A → List ℕ → List ℕ → Type 0
-IsCutBefore (Some b) place t front back = (ids : List ℕ) × (back ≡ b ∷ ids)
-IsCutBefore {N} {T} {A} None place t front back = (p : OpOf N T A) × (before : List ℕ) × (find place.parent t ≡ Some p) × (front ≡ before ++ (place.parent ∷ first_ids (place.region + 1) (regions p)))
+IsCutBefore (Some b) place t preceding back = (ids : List ℕ) × (back ≡ b ∷ ids)
+IsCutBefore {N} {T} {A} None place t preceding back = (p : OpOf N T A) × (before : List ℕ) × (find place.parent t ≡ Some p) × (preceding ≡ before ++ (place.parent ∷ first_ids (place.region + 1) (regions p)))
 
 -- a tree's ids, in pre-order, are split at a place
 abbrev pub IsCutAt : {N T A : Type 0} → Place → OpOf N T A → List ℕ → List ℕ → Type 0
-IsCutAt place t front back = IsCutBefore place.before place t front back
+IsCutAt place t preceding back = IsCutBefore place.before place t preceding back

@@ -72,9 +72,9 @@ abbrev pub is_before : {N T A : Type 0} → ℕ → ℕ → OpOf N T A → Bool
 is_before a b t = in_list (goes_before a b) (list_of a t)
 
 -- whether a value's owner is before operation x in its list, or the value is an argument of the block of the place
-abbrev pub is_beside : {N T A : Type 0} → ℕ → Place → Value → OpOf N T A → Bool
-is_beside x place (Result y k) t = is_before y x t
-is_beside x place (Arg y r k) t = eqb y place.parent && eqb r place.region
+abbrev pub is_next_to : {N T A : Type 0} → ℕ → Place → Value → OpOf N T A → Bool
+is_next_to x place (Result y k) t = is_before y x t
+is_next_to x place (Arg y r k) t = eqb y place.parent && eqb r place.region
 
 -- whether b is after the first a in a list of ids
 abbrev pub comes_after : ℕ → ℕ → List ℕ → Bool

@@ -114,13 +114,13 @@ abbrev pub users_see : {N T A : Type 0} → (N → Bool) → Value → Value →
 users_see isolated old new t = list_all (λ u. visible isolated t u.0 new) (uses_of old t)
 
 -- whether a dictionary can take one more entry, or has the key already
-abbrev pub has_room : {N A : Type 0} → (N → N → Bool) → N → List (N × A) → Bool
-has_room before k es = nat_lt (length es) most_items || is_some (entry_at before k es)
+abbrev pub has_headroom : {N A : Type 0} → (N → N → Bool) → N → List (N × A) → Bool
+has_headroom before k es = nat_lt (length es) most_items || is_some (entry_at before k es)
 
 -- the reason against setting key k of a dictionary, or removing it
 abbrev pub entry_reason : {N A : Type 0} → (N → N → Bool) → N → Option A → List (N × A) → Option Refusal
 entry_reason before k None es = unless (is_some (entry_at before k es)) NoSuchKey None
-entry_reason before k (Some a) es = unless (has_room before k es) Full None
+entry_reason before k (Some a) es = unless (has_headroom before k es) Full None
 
 -- the same, for one dictionary of an operation that may be missing
 abbrev pub found_entry_reason : {N T A : Type 0} → (N → N → Bool) → Part → N → Option A → Option (OpOf N T A) → Option Refusal

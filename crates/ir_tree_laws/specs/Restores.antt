@@ -16,7 +16,7 @@ pub record MayRestore {N T A : Type 0} (x : ℕ) (place : Place) (fresh : Bool) 
   pub point : has_place place m.tree ≡ true
   pub values : list_all (λ v. has_value v m.tree) (head o).operands ≡ true
   pub newest : fresh ≡ true → m.next ≡ x
-  pub room : fresh ≡ true → x < most_next
+  pub headroom : fresh ≡ true → x < most_next
   pub below : fresh ≡ false → x < m.next
 
 -- operation x is in the module and isn't the root, holds no operation, and has no uses

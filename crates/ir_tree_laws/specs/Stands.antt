@@ -15,7 +15,7 @@ pub record StepOf (N T A : Type 0) : Type 0 where
   pub parent : OpOf N T A
   pub region : ℕ
   pub args : List T
-  pub front : List (OpOf N T A)
+  pub preceding : List (OpOf N T A)
   pub rest : OpsOf N T A
 
 -- an operation with its path: its own position and those of its ancestors, innermost first; empty for the root
@@ -41,9 +41,9 @@ abbrev mutual
   region_stands p path r (block args os) = ops_stands p path r args [] os
 
   pub ops_stands : {N T A : Type 0} → OpOf N T A → List (StepOf N T A) → ℕ → List T → List (OpOf N T A) → OpsOf N T A → List (StandOf N T A)
-  ops_stands p path r args front no_ops = []
-  ops_stands p path r args front (next o os) =
-      stands (record { parent = p; region = r; args = args; front = front; rest = os } ∷ path) o ++ ops_stands p path r args (front ++ o ∷ []) os
+  ops_stands p path r args preceding no_ops = []
+  ops_stands p path r args preceding (next o os) =
+      stands (record { parent = p; region = r; args = args; preceding = preceding; rest = os } ∷ path) o ++ ops_stands p path r args (preceding ++ o ∷ []) os
 
 -- the first member of the list with this id
 abbrev pub stand_in : {N T A : Type 0} → ℕ → List (StandOf N T A) → Option (StandOf N T A)
@@ -83,14 +83,14 @@ table_in is_table (a ∷ path) = if is_table (head a.parent).name then Some (hea
 abbrev pub scope_of : {N T A : Type 0} → (N → Bool) → List (StepOf N T A) → List Frame
 scope_of isolated [] = []
 scope_of isolated (a ∷ path) =
-    (inside isolated (head a.parent) (scope_of isolated path) ++ arguments (head a.parent).id a.region (length a.args) ∷ []) ++ map results_of a.front
+    (inside isolated (head a.parent) (scope_of isolated path) ++ arguments (head a.parent).id a.region (length a.args) ∷ []) ++ map results_of a.preceding
 
 -- whether a value is visible at the end of a path: it is a result of an earlier operation of the block, or an argument
 -- of the block, or it is visible at the parent and the parent isn't isolated from above
 abbrev pub dominated_by : {N T A : Type 0} → (N → Bool) → List (StepOf N T A) → Value → Bool
 dominated_by isolated [] v = false
 dominated_by isolated (a ∷ path) v =
-    list_any (λ o. shows v (results_of o)) a.front || (shows v (arguments (head a.parent).id a.region (length a.args)) || not (isolated (head a.parent).name) && dominated_by isolated path v)
+    list_any (λ o. shows v (results_of o)) a.preceding || (shows v (arguments (head a.parent).id a.region (length a.args)) || not (isolated (head a.parent).name) && dominated_by isolated path v)
 
 -- an operation of the list with its scope
 abbrev pub site_of : {N T A : Type 0} → (N → Bool) → StandOf N T A → Site N T A
@@ -111,7 +111,7 @@ is_gone x s = gone_in x s.here s.path
 
 -- a step of a path, in the tree with its heads changed
 abbrev pub edit_step : {N T A : Type 0} → (HeadOf N T A → HeadOf N T A) → StepOf N T A → StepOf N T A
-edit_step f a = record { parent = each_head f a.parent; region = a.region; args = a.args; front = map (each_head f) a.front; rest = ops_each_head f a.rest }
+edit_step f a = record { parent = each_head f a.parent; region = a.region; args = a.args; preceding = map (each_head f) a.preceding; rest = ops_each_head f a.rest }
 
 -- an operation with its path, in the tree with its heads changed
 abbrev pub edit_stand : {N T A : Type 0} → (HeadOf N T A → HeadOf N T A) → StandOf N T A → StandOf N T A
@@ -127,7 +127,7 @@ left_step x a = record {
   parent = each_list (dropping x) a.parent;
   region = a.region;
   args = a.args;
-  front = filter (λ o. not (eqb (head o).id x)) (map (each_list (dropping x)) a.front);
+  preceding = filter (λ o. not (eqb (head o).id x)) (map (each_list (dropping x)) a.preceding);
   rest = drop_op x (ops_each_list (dropping x) a.rest);
 }
 

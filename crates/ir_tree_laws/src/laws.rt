@@ -20,7 +20,7 @@ ghost use Rattle.ir_tree.specs.Places.{first_id, place_of, put, shifted, without
 ghost use Rattle.ir_tree.specs.WellFormed.{IsWellFormed, Module, ModuleOf};
 ghost use Rattle.ir_tree_laws.specs.Stands.{StandOf, StepOf, edit_stand, gather, greatest, first_some, is_gone, left_stand, place_at, place_in, dominated_by, stand_id, stand_of, stands, table_in};
 ghost use Rattle.ir_tree_laws.specs.Tables.{table_of};
-ghost use Rattle.ir_tree_laws.specs.Reads.{around, is_before, is_beside, last_id, list_of, next_of, parent_of, prev_of};
+ghost use Rattle.ir_tree_laws.specs.Reads.{around, is_before, is_next_to, last_id, list_of, next_of, parent_of, prev_of};
 ghost use Rattle.ir_tree_laws.specs.Reasons.{fits_around, has_place, hold_none, leads_inside, put_reason, set_entry_reason, set_operand_reason, shift_reason, take_reason, with_id};
 ghost use Rattle.ir_tree_laws.specs.Changes.{NextAfter, SetsEntry, SetsOperand, Shifts, Takes, entry_in};
 ghost use Rattle.ir_tree_laws.specs.Values.{has_value, type_of_value};
@@ -48,20 +48,20 @@ pub fn trees_are_read_off_their_list<N, T, A>()
 /// visible at the root. Stated once by the path, and once by reads of the tree.
 pub fn dominance_is_by_cases<N, T, A>()
     ensures inner { (isolated : N → Bool) (t : OpOf N T A) → HasDistinctIds t → (x : ℕ) (s : StandOf N T A) (a : StepOf N T A) (q : List (StepOf N T A)) (v : TreeValue) → stand_of x t ≡ Some s → s.path ≡ a ∷ q
-        → visible isolated t x v ≡ (list_any (λ o. shows v (results_of o)) a.front || (shows v (arguments (head a.parent).id a.region (length a.args)) || not (isolated (head a.parent).name) && visible isolated t (head a.parent).id v)) }
+        → visible isolated t x v ≡ (list_any (λ o. shows v (results_of o)) a.preceding || (shows v (arguments (head a.parent).id a.region (length a.args)) || not (isolated (head a.parent).name) && visible isolated t (head a.parent).id v)) }
     ensures by_place { (isolated : N → Bool) (t : OpOf N T A) → HasDistinctIds t → (x : ℕ) (place : Point) (p : OpOf N T A) (v : TreeValue) → place_of x t ≡ Some place → find place.parent t ≡ Some p
-        → visible isolated t x v ≡ (has_value v t && is_beside x place v t || not (isolated (head p).name) && visible isolated t place.parent v) }
+        → visible isolated t x v ≡ (has_value v t && is_next_to x place v t || not (isolated (head p).name) && visible isolated t place.parent v) }
     ensures root { (isolated : N → Bool) (t : OpOf N T A) (v : TreeValue) → HasDistinctIds t → visible isolated t (head t).id v ≡ false }
     ensures operands { (isolated : N → Bool) (t : OpOf N T A) → HasDistinctIds t → operands_visible isolated t ≡ every (λ o. list_all (visible isolated t (head o).id) (head o).operands) t }
 {}
 
 /// If ids are distinct, the neighbours of an operation are those in its path.
-pub fn operations_beside_are_those_of_the_path<N, T, A>()
-    ensures list { (t : OpOf N T A) → HasDistinctIds t → (x : ℕ) (s : StandOf N T A) (a : StepOf N T A) (q : List (StepOf N T A)) → stand_of x t ≡ Some s → s.path ≡ a ∷ q → list_of x t ≡ Some (ops_of (a.front ++ s.here ∷ op_list a.rest)) }
+pub fn operations_next_to_are_those_of_the_path<N, T, A>()
+    ensures list { (t : OpOf N T A) → HasDistinctIds t → (x : ℕ) (s : StandOf N T A) (a : StepOf N T A) (q : List (StepOf N T A)) → stand_of x t ≡ Some s → s.path ≡ a ∷ q → list_of x t ≡ Some (ops_of (a.preceding ++ s.here ∷ op_list a.rest)) }
     ensures parent { (t : OpOf N T A) → HasDistinctIds t → (x : ℕ) (s : StandOf N T A) (a : StepOf N T A) (q : List (StepOf N T A)) → stand_of x t ≡ Some s → s.path ≡ a ∷ q → parent_of x t ≡ Some (head a.parent).id }
     ensures next { (t : OpOf N T A) → HasDistinctIds t → (x : ℕ) (s : StandOf N T A) (a : StepOf N T A) (q : List (StepOf N T A)) → stand_of x t ≡ Some s → s.path ≡ a ∷ q → next_of x t ≡ first_id a.rest }
-    ensures prev { (t : OpOf N T A) → HasDistinctIds t → (x : ℕ) (s : StandOf N T A) (a : StepOf N T A) (q : List (StepOf N T A)) → stand_of x t ≡ Some s → s.path ≡ a ∷ q → prev_of x t ≡ last_id (ops_of a.front) }
-    ensures before { (t : OpOf N T A) → HasDistinctIds t → (x : ℕ) (s : StandOf N T A) (a : StepOf N T A) (q : List (StepOf N T A)) → stand_of x t ≡ Some s → s.path ≡ a ∷ q → (y : ℕ) → is_before y x t ≡ list_any (λ f. eqb (head f).id y) a.front }
+    ensures prev { (t : OpOf N T A) → HasDistinctIds t → (x : ℕ) (s : StandOf N T A) (a : StepOf N T A) (q : List (StepOf N T A)) → stand_of x t ≡ Some s → s.path ≡ a ∷ q → prev_of x t ≡ last_id (ops_of a.preceding) }
+    ensures before { (t : OpOf N T A) → HasDistinctIds t → (x : ℕ) (s : StandOf N T A) (a : StepOf N T A) (q : List (StepOf N T A)) → stand_of x t ≡ Some s → s.path ≡ a ∷ q → (y : ℕ) → is_before y x t ≡ list_any (λ f. eqb (head f).id y) a.preceding }
 {}
 
 /// The list of a tree after an edit of heads, and after an operation is taken out.
@@ -79,14 +79,14 @@ pub fn what_is_put_stands_at_its_place<N, T, A>()
     ensures distinct { (place : Point) (o t : OpOf N T A) → MayPut place o t → HasDistinctIds (put place o t) }
     ensures list { (place : Point) (o t : OpOf N T A) → MayPut place o t → stands [] t ≡ map (left_stand (head o).id) (filter (λ s. not (is_gone (head o).id s)) (stands [] (put place o t))) }
     ensures inside { (place : Point) (o t : OpOf N T A) → MayPut place o t → (path : List (StepOf N T A)) × (place_in path ≡ Some place) × (around place.parent t ≡ Some (length path - 1)) × (filter (is_gone (head o).id) (stands [] (put place o t)) ≡ stands path o) }
-    ensures order { (place : Point) (o t : OpOf N T A) → MayPut place o t → (front back : List ℕ) × (ids t ≡ front ++ back) × (ids (put place o t) ≡ front ++ (ids o ++ back)) × IsCutAt place t front back }
+    ensures order { (place : Point) (o t : OpOf N T A) → MayPut place o t → (preceding back : List ℕ) × (ids t ≡ preceding ++ back) × (ids (put place o t) ≡ preceding ++ (ids o ++ back)) × IsCutAt place t preceding back }
     ensures count { (place : Point) (o t : OpOf N T A) → MayPut place o t → op_count (put place o t) ≡ op_count t + op_count o }
-    ensures uses { (place : Point) (o t : OpOf N T A) → MayPut place o t → (v : TreeValue) → (front back : List (ℕ × ℕ)) × (uses_of v t ≡ front ++ back) × (uses_of v (put place o t) ≡ front ++ (uses_of v o ++ back)) }
+    ensures uses { (place : Point) (o t : OpOf N T A) → MayPut place o t → (v : TreeValue) → (preceding back : List (ℕ × ℕ)) × (uses_of v t ≡ preceding ++ back) × (uses_of v (put place o t) ≡ preceding ++ (uses_of v o ++ back)) }
 {}
 
 /// Inserting into an operation after it was inserted equals inserting into it before. The same holds for taking out. So
 /// a whole tree can be inserted, or taken out, operation by operation.
-pub fn what_is_put_comes_piece_by_piece<N, T, A>()
+pub fn what_is_put_comes_chunk_by_chunk<N, T, A>()
     ensures put { (place into : Point) (o c t : OpOf N T A) → has_id into.parent t ≡ false → put into c (put place o t) ≡ put place (put into c o) t }
     ensures without { (y : ℕ) (place : Point) (o t : OpOf N T A) → eqb (head o).id y ≡ false → has_id y t ≡ false → without y (put place o t) ≡ put place (without y o) t }
     ensures may { (place into : Point) (o c t : OpOf N T A) → MayPut place o t → MayPut into c o → ((y : ℕ) → has_id y c ≡ true → has_id y t ≡ false) → MayPut into c (put place o t) }
@@ -98,9 +98,9 @@ pub fn what_is_put_comes_piece_by_piece<N, T, A>()
 /// are taken out, the list has the other operations, in order.
 pub fn what_is_taken_was_one_stretch<N, T, A>()
     ensures inside { (x : ℕ) (t o : OpOf N T A) → HasDistinctIds t → find x t ≡ Some o → eqb (head t).id x ≡ false → (path : List (StepOf N T A)) × (place_in path ≡ place_of x t) × (around x t ≡ Some (length path)) × (filter (is_gone x) (stands [] t) ≡ stands path o) }
-    ensures order { (x : ℕ) (t o : OpOf N T A) → HasDistinctIds t → find x t ≡ Some o → eqb (head t).id x ≡ false → (front back : List ℕ) × (ids t ≡ front ++ (ids o ++ back)) × (ids (without x t) ≡ front ++ back) }
+    ensures order { (x : ℕ) (t o : OpOf N T A) → HasDistinctIds t → find x t ≡ Some o → eqb (head t).id x ≡ false → (preceding back : List ℕ) × (ids t ≡ preceding ++ (ids o ++ back)) × (ids (without x t) ≡ preceding ++ back) }
     ensures count { (x : ℕ) (t o : OpOf N T A) → HasDistinctIds t → find x t ≡ Some o → eqb (head t).id x ≡ false → op_count t ≡ op_count (without x t) + op_count o }
-    ensures uses { (x : ℕ) (t o : OpOf N T A) → HasDistinctIds t → find x t ≡ Some o → eqb (head t).id x ≡ false → (v : TreeValue) → (front back : List (ℕ × ℕ)) × (uses_of v t ≡ front ++ (uses_of v o ++ back)) × (uses_of v (without x t) ≡ front ++ back) }
+    ensures uses { (x : ℕ) (t o : OpOf N T A) → HasDistinctIds t → find x t ≡ Some o → eqb (head t).id x ≡ false → (v : TreeValue) → (preceding back : List (ℕ × ℕ)) × (uses_of v t ≡ preceding ++ (uses_of v o ++ back)) × (uses_of v (without x t) ≡ preceding ++ back) }
 {}
 
 /// An operation that remains after another is taken out keeps its head, its nearest table and its depth. The values

@@ -33,7 +33,7 @@ pub fn other_ids_keep_the_heads()
 pub fn other_ids_keep_the_dominance()
     ensures dominance { (isolated : List ℕ → Bool) (f : ℕ → ℕ) (t : Operation) (x : ℕ) (v : Value) → TellsApart f (ids t) → visible isolated (with_ids f t) (f x) (value_with_id f v) ≡ visible isolated t x v }
     ensures operands { (isolated : List ℕ → Bool) (f : ℕ → ℕ) (t : Operation) → TellsApart f (ids t) → operands_visible isolated (with_ids f t) ≡ operands_visible isolated t }
-    ensures formed { (isolated : List ℕ → Bool) (f : ℕ → ℕ) (t : Operation) → TellsApart f (ids t) → IsValidTree isolated t → IsValidTree isolated (with_ids f t) }
+    ensures wellformed { (isolated : List ℕ → Bool) (f : ℕ → ℕ) (t : Operation) → TellsApart f (ids t) → IsValidTree isolated t → IsValidTree isolated (with_ids f t) }
     ensures distinct { (f : ℕ → ℕ) (t : Operation) → TellsApart f (ids t) → HasDistinctIds t → HasDistinctIds (with_ids f t) }
 {}
 
@@ -49,7 +49,7 @@ pub fn places_tell_apart()
 pub fn trees_are_renumbered()
     ensures numbered { (t : Operation) → HasDistinctIds t → IsNumberedFrom 0 (renumbered t) }
     ensures distinct { (t : Operation) → HasDistinctIds t → HasDistinctIds (renumbered t) }
-    ensures formed { (isolated : List ℕ → Bool) (t : Operation) → IsValidTree isolated t → IsValidTree isolated (renumbered t) }
+    ensures wellformed { (isolated : List ℕ → Bool) (t : Operation) → IsValidTree isolated t → IsValidTree isolated (renumbered t) }
     ensures dominance { (isolated : List ℕ → Bool) (t : Operation) (x : ℕ) (v : Value) → visible isolated (renumbered t) (place_in (ids t) x) (value_with_id (place_in (ids t)) v) ≡ visible isolated t x v }
     ensures stays { (isolated : List ℕ → Bool) (t : Operation) → IsValidTree isolated t → IsNumberedFrom 0 t → renumbered t ≡ t }
 {}

@@ -41,8 +41,8 @@ pub neither_back : (a b : Option Refusal) → a ≡ None → b ≡ None → firs
 neither_back a b e f = rw e f
 
 -- a list that isn't full can take one more item
-pub room : {A : Type 0} (is : A → Bool) (x : A) (xs : List A) → length xs ≤ most_things → full_reason is xs ≡ None → length (with_last is x xs) ≤ most_things
-room is x xs few e = ⊎_elim
+pub headroom : {A : Type 0} (is : A → Bool) (x : A) (xs : List A) → length xs ≤ most_things → full_reason is xs ≡ None → length (with_last is x xs) ≤ most_things
+headroom is x xs few e = ⊎_elim
     (λ (h : (list_any is xs ≡ true) × (with_last is x xs ≡ xs)). let l = ap length h.1 in omega arith)
     (λ (h : (list_any is xs ≡ false) × (with_last is x xs ≡ xs ++ x ∷ [])).
     let l = length-with_last is x xs in
@@ -53,8 +53,8 @@ room is x xs few e = ⊎_elim
     (with_last-cases is x xs)
 
 -- a known item needs no capacity
-found_room : {A : Type 0} (is : A → Bool) (xs : List A) → list_any is xs ≡ true → full_reason is xs ≡ None
-found_room is xs h = rw h refl
+found_headroom : {A : Type 0} (is : A → Bool) (xs : List A) → list_any is xs ≡ true → full_reason is xs ≡ None
+found_headroom is xs h = rw h refl
 
 -- a dictionary of known names without duplicate keys is stored sorted
 few_entries : (n : ℕ) → (if nat_le n most_entries then None else Some TooMany) ≡ None → n ≤ most_entries
@@ -88,13 +88,13 @@ kept_in_order c (attr.Opaque text ty) apart of_c few once = tt
 -- an accepted call keeps a context sound
 pub accepted_name : (bytes : List ℕ) (c : ContextModel) → IsSound c → name_reason bytes c ≡ None → IsSound (with_name bytes c).1
 accepted_name bytes c s fine =
-    let few = room (bytes_eq bytes) bytes c.names s.holds.few_names fine in
+    let few = headroom (bytes_eq bytes) bytes c.names s.holds.few_names fine in
     sound_name bytes c s (subst (λ l. length l ≤ most_things) (sym (name_names bytes c)) few)
 
 pub accepted_type : (node : TypeNode) (c : ContextModel) → IsSound c → TypeIsOf c node → type_reason node c ≡ None → IsSound (with_type node c).1
 accepted_type node c s of_c fine =
     let r = neither (type_fault (type_node_term c node)) (full_reason (same_type node) c.types) fine in
-    let few = room (same_type node) node c.types s.holds.few_types r.1 in
+    let few = headroom (same_type node) node c.types s.holds.few_types r.1 in
     sound_type node c s of_c r.0 (subst (λ l. length l ≤ most_things) (sym (type_types node c)) few)
 
 pub accepted_attr : (node : AttrNode) (c : ContextModel) → IsSound c → AttrIsOf c node → attr_reason node c ≡ None → IsSound (with_attr node c).1
@@ -104,7 +104,7 @@ accepted_attr node c s of_c fine =
     let r = neither (attr_fault (attr_node_term c node)) (first_reason (count_reason node) (first_reason full (key_reason node))) fine in
     let q = neither (count_reason node) (first_reason full (key_reason node)) r.1 in
     let p = neither full (key_reason node) q.1 in
-    let few = room (same_attr k) k c.attrs s.holds.few_attrs p.0 in
+    let few = headroom (same_attr k) k c.attrs s.holds.few_attrs p.0 in
     sound_attr node c s of_c r.0 (kept_in_order c node s.names_apart of_c q.0 p.1) (subst (λ l. length l ≤ most_things) (sym (attr_attrs node c)) few)
 
 -- entries with increasing keys have no duplicate key
@@ -131,19 +131,19 @@ kept_once names _ apart h = refl
 
 -- a known item is refused only if memory runs out
 pub known_name_reason : (c : ContextModel) (n : ℕ) (bytes : List ℕ) → slice_get c.names n ≡ Some bytes → name_reason bytes c ≡ None
-known_name_reason c n bytes at = found_room (bytes_eq bytes) c.names (known_found bytes_eq name_is name_refl bytes c.names n at)
+known_name_reason c n bytes at = found_headroom (bytes_eq bytes) c.names (known_found bytes_eq name_is name_refl bytes c.names n at)
 
 pub known_type_reason : (c : ContextModel) (n : ℕ) (node : TypeNode) → Holds c → slice_get c.types n ≡ Some node → type_reason node c ≡ None
 known_type_reason c n node h at =
     let fault : type_fault (type_node_term c node) ≡ None = ap type_fault (sym (type_term_is c n node h at)) ∙ h.types_fine n (slice_get_within c.types n node at) in
-    neither_back (type_fault (type_node_term c node)) (full_reason (same_type node) c.types) fault (found_room (same_type node) c.types (known_found same_type same_type_is same_type_refl node c.types n at))
+    neither_back (type_fault (type_node_term c node)) (full_reason (same_type node) c.types) fault (found_headroom (same_type node) c.types (known_found same_type same_type_is same_type_refl node c.types n at))
 
 pub known_attr_reason : (c : ContextModel) (n : ℕ) (node : AttrNode) → IsSound c → slice_get c.attrs n ≡ Some node → attr_reason node c ≡ None
 known_attr_reason c n node s at =
     let h = s.holds in
     let fault : attr_fault (attr_node_term c node) ≡ None = ap attr_fault (sym (attr_term_is c n node h at)) ∙ h.attrs_fine n (slice_get_within c.attrs n node at) in
     let in_order = h.attrs_kept n node at in
-    let there = ap (λ k. full_reason (same_attr k) c.attrs) (kept_known c n node h at) ∙ found_room (same_attr node) c.attrs (known_found same_attr same_attr_is same_attr_refl node c.attrs n at) in
+    let there = ap (λ k. full_reason (same_attr k) c.attrs) (kept_known c n node h at) ∙ found_headroom (same_attr node) c.attrs (known_found same_attr same_attr_is same_attr_refl node c.attrs n at) in
     let full = full_reason (same_attr (kept c.names node)) c.attrs in
     neither_back (attr_fault (attr_node_term c node)) (first_reason (count_reason node) (first_reason full (key_reason node))) fault
     (neither_back (count_reason node) (first_reason full (key_reason node)) (kept_count c.names node in_order)

@@ -36,9 +36,9 @@ last_place (y ∷ ys) x = last_place ys x
 pub by_end : {A : Type 0} (P : List A → Type 0) → P [] → ((xs : List A) (x : A) → P xs → P (xs ++ x ∷ [])) → (xs : List A) → P xs
 by_end {A} P start step xs = go [] xs start
   where
-    go : (front rest : List A) → P front → P (front ++ rest)
-    go front [] p = subst P (sym (append-nil front)) p
-    go front (x ∷ rest) p = subst P (append_assoc front (x ∷ []) rest) (go (front ++ x ∷ []) rest (step front x p))
+    go : (preceding rest : List A) → P preceding → P (preceding ++ rest)
+    go preceding [] p = subst P (sym (append-nil preceding)) p
+    go preceding (x ∷ rest) p = subst P (append_assoc preceding (x ∷ []) rest) (go (preceding ++ x ∷ []) rest (step preceding x p))
 
 -- two lists have the same items below an index
 abbrev pub Agree : {B : Type 0} → B → ℕ → List B → List B → Type 0
@@ -64,20 +64,20 @@ module _ {A B : Type 0} (make : List B → A → B) where
   length-built xs = omega (arith, length-built_onto [] xs)
 
   -- earlier results are kept when the list grows
-  pub built_onto_front : (done : List B) (xs : List A) → (more : List B) × (built_onto make done xs ≡ done ++ more)
-  built_onto_front done [] = ([], sym (append-nil done))
-  built_onto_front done (x ∷ xs) =
-      let rest = built_onto_front (done ++ make done x ∷ []) xs in
+  pub built_onto_preceding : (done : List B) (xs : List A) → (more : List B) × (built_onto make done xs ≡ done ++ more)
+  built_onto_preceding done [] = ([], sym (append-nil done))
+  built_onto_preceding done (x ∷ xs) =
+      let rest = built_onto_preceding (done ++ make done x ∷ []) xs in
       (make done x ∷ rest.0, rest.1 ∙ append_assoc done (make done x ∷ []) rest.0)
 
-  pub built_front : (xs ys : List A) → (more : List B) × (built make (xs ++ ys) ≡ built make xs ++ more)
-  built_front xs ys =
-      let rest = built_onto_front (built make xs) ys in
+  pub built_preceding : (xs ys : List A) → (more : List B) × (built make (xs ++ ys) ≡ built make xs ++ more)
+  built_preceding xs ys =
+      let rest = built_onto_preceding (built make xs) ys in
       (rest.0, built_onto-append [] xs ys ∙ rest.1)
 
   pub built_agree : (d : B) (n : ℕ) (xs ys : List A) → n ≤ length xs → Agree d n (built make (xs ++ ys)) (built make xs)
   built_agree d n xs ys h i k =
-      let rest = built_front xs ys in
+      let rest = built_preceding xs ys in
       ap (λ l. get_or l i d) rest.1 ∙ get_or-append (built make xs) rest.0 d i (omega (arith, length-built xs))
 
 -- two functions that agree on each item of a list build the same list
@@ -100,8 +100,8 @@ module _ {A B : Type 0} (make : List B → A → B) (d : B) (Below : ℕ → A �
   abbrev pub IsClosed : List A → Type 0
   IsClosed xs = (i : ℕ) (x : A) → slice_get xs i ≡ Some x → Below i x
 
-  pub closed_front : (xs : List A) (x : A) → IsClosed (xs ++ x ∷ []) → IsClosed xs
-  closed_front xs x h i y at = h i y (place_stays xs (x ∷ []) i y at)
+  pub closed_preceding : (xs : List A) (x : A) → IsClosed (xs ++ x ∷ []) → IsClosed xs
+  closed_preceding xs x h i y at = h i y (place_stays xs (x ∷ []) i y at)
 
   -- the result for an item, when it is added, is its result in the whole list
   pub built_is : (xs : List A) → IsClosed xs → (i : ℕ) (x : A) → slice_get xs i ≡ Some x → get_or (built make xs) i d ≡ make (built make xs) x
@@ -115,7 +115,7 @@ module _ {A B : Type 0} (make : List B → A → B) (d : B) (Below : ℕ → A �
       (⊎_elim
       (λ (p : slice_get xs i ≡ Some y).
       let within = slice_get_within xs i y p in
-      get_or-append done (t ∷ []) d i (omega arith) ∙ ih (closed_front xs x closed) i y p ∙ sym (closely i (done ++ t ∷ []) done (agree_longer d i done (t ∷ []) (omega arith)) y (closed i y at)))
+      get_or-append done (t ∷ []) d i (omega arith) ∙ ih (closed_preceding xs x closed) i y p ∙ sym (closely i (done ++ t ∷ []) done (agree_longer d i done (t ∷ []) (omega arith)) y (closed i y at)))
       (λ (p : (i ≡ length xs) × (x ≡ y)).
       let at_end : i ≡ length done = omega (arith, p.0) in
       ap (λ k. get_or (done ++ t ∷ []) k d) at_end ∙ get_or-append_seam done t [] d ∙ ap (make done) p.1 ∙ sym (closely i (done ++ t ∷ []) done (agree_longer d i done (t ∷ []) (omega arith)) y (closed i y at)))
@@ -123,8 +123,8 @@ module _ {A B : Type 0} (make : List B → A → B) (d : B) (Below : ℕ → A �
 
   -- if the function is injective, distinct items have distinct results
   module _ (more : (m n : ℕ) (x : A) → m ≤ n → Below m x → Below n x) (one : (done : List B) → AreTold d done → (a b : A) → Below (length done) a → Below (length done) b → make done a ≡ make done b → a ≡ b) where
-    apart_front : (xs : List A) (x : A) → AreApart (xs ++ x ∷ []) → AreApart xs
-    apart_front xs x h i j y a b = h i j y (place_stays xs (x ∷ []) i y a) (place_stays xs (x ∷ []) j y b)
+    apart_preceding : (xs : List A) (x : A) → AreApart (xs ++ x ∷ []) → AreApart xs
+    apart_preceding xs x h i j y a b = h i j y (place_stays xs (x ∷ []) i y a) (place_stays xs (x ∷ []) j y b)
 
     -- an earlier item isn't the next one
     not_next : (xs : List A) (x : A) → IsClosed (xs ++ x ∷ []) → AreApart (xs ++ x ∷ []) → AreTold d (built make xs) → (i : ℕ) → i < length xs → get_or (built make xs) i d ≡ make (built make xs) x → ⊥
@@ -134,8 +134,8 @@ module _ {A B : Type 0} (make : List B → A → B) (d : B) (Below : ℕ → A �
         let node = get_or xs i x in
         let at : slice_get xs i ≡ Some node = slice_get-get_or xs i x h in
         let below : Below (length done) x = subst (λ n. Below n x) (sym len) (closed (length xs) x (last_place xs x)) in
-        let is : get_or done i d ≡ make done node = built_is xs (closed_front xs x closed) i node at in
-        let same : node ≡ x = one done told node x (more i (length done) node (omega arith) (closed_front xs x closed i node at)) below (sym is ∙ e) in
+        let is : get_or done i d ≡ make done node = built_is xs (closed_preceding xs x closed) i node at in
+        let same : node ≡ x = one done told node x (more i (length done) node (omega arith) (closed_preceding xs x closed i node at)) below (sym is ∙ e) in
         let place : i ≡ length xs = apart i (length xs) x (place_stays xs (x ∷ []) i x (at ∙ ap Some same)) (last_place xs x) in
         absurd (omega arith)
 
@@ -145,7 +145,7 @@ module _ {A B : Type 0} (make : List B → A → B) (d : B) (Below : ℕ → A �
         (λ xs x ih closed apart.
         let done = built make xs in
         let t = make done x in
-        let told = ih (closed_front xs x closed) (apart_front xs x apart) in
+        let told = ih (closed_preceding xs x closed) (apart_preceding xs x apart) in
         let len : length done ≡ length xs = length-built make xs in
         let not = not_next xs x closed apart told in
         let long : length (done ++ t ∷ []) ≡ length done + 1 = length-append done (t ∷ []) in

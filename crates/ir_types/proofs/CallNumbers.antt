@@ -10,7 +10,7 @@ use Rattle.ir_types_interner.specs.Interned.{with_last}
 use Rattle.ir_types_interner.proofs.Placed.{Found, Lacks, where_is, with_last-found, with_last-absent}
 use Rattle.ir_types.specs.declared.node.TypeNode.{TypeNode}
 use Rattle.ir_types.specs.declared.node.AttrNode.{AttrNode}
-use Rattle.ir_types.specs.Things.{ContextModel, TypeIsOf, AttrIsOf, IsFront, IsExtendedBy}
+use Rattle.ir_types.specs.Things.{ContextModel, TypeIsOf, AttrIsOf, IsPreceding, IsExtendedBy}
 use Rattle.ir_types.specs.Terms.{Index, Flag, name_term, type_from, type_terms, type_term, type_node_term, attr_from, attr_terms, attr_term, attr_node_term}
 use Rattle.ir_types.specs.Same.{same_type, same_attr}
 use Rattle.ir_types.specs.Dictionaries.{kept}
@@ -97,7 +97,7 @@ known_attr c n node s at =
     ∙ (λ i. (known_place same_attr same_attr_is same_attr_refl node c.attrs n s.attrs_apart at i, record c { attrs = known_stays same_attr same_attr_is same_attr_refl node c.attrs n at i }))
 
 -- an item keeps its index in every longer list
-pub place_in : {A : Type 0} (xs ys : List A) (i : ℕ) (x : A) → IsFront xs ys → slice_get xs i ≡ Some x → slice_get ys i ≡ Some x
+pub place_in : {A : Type 0} (xs ys : List A) (i : ℕ) (x : A) → IsPreceding xs ys → slice_get xs i ≡ Some x → slice_get ys i ≡ Some x
 place_in xs ys i x f at = ap (λ l. slice_get l i) f.1 ∙ place_stays xs f.0 i x at
 
 -- two calls, in either order, return the same id exactly if the items are equal

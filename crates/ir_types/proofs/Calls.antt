@@ -35,8 +35,8 @@ module _ {A : Type 0} (is : A → Bool) (xs : List A) where
   pub full_absent : list_any is xs ≡ false → most_things ≤ length xs → full_reason is xs ≡ Some TooMany
   full_absent h k = rw (h, le-leb most_things (length xs) k) refl
 
-  pub full_room : length xs < most_things → full_reason is xs ≡ None
-  full_room h = go (nat_le most_things (length xs)) refl (list_any is xs)
+  pub full_headroom : length xs < most_things → full_reason is xs ≡ None
+  full_headroom h = go (nat_le most_things (length xs)) refl (list_any is xs)
     where
       go : (b : Bool) → nat_le most_things (length xs) ≡ b → (a : Bool) → cond (not a && nat_le most_things (length xs)) (Some TooMany) None ≡ None
       go true e a = absurd (omega (arith, leb-true most_things (length xs) e))

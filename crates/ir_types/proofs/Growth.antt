@@ -7,12 +7,12 @@ use Rattle.std.proofs.lemmas.List.{append-nil}
 use Rattle.ir_types_interner.specs.Interned.{with_last}
 use Rattle.ir_types.specs.declared.node.TypeNode.{TypeNode}
 use Rattle.ir_types.specs.declared.node.AttrNode.{AttrNode}
-use Rattle.ir_types.specs.Things.{ContextModel, IsFront, IsExtendedBy}
+use Rattle.ir_types.specs.Things.{ContextModel, IsPreceding, IsExtendedBy}
 use Rattle.ir_types.specs.Same.{same_type, same_attr}
 use Rattle.ir_types.specs.Dictionaries.{kept}
 use Rattle.ir_types.specs.Interning.{with_name, with_type, with_attr}
 use Rattle.ir_types.proofs.Building.{Agree, agree_longer}
-use Rattle.ir_types.proofs.Placing.{with_last_front}
+use Rattle.ir_types.proofs.Placing.{with_last_preceding}
 
 -- names are equal if their bytes are
 pub name_is : (x y : List ℕ) → bytes_eq x y ≡ true → x ≡ y
@@ -22,28 +22,28 @@ pub name_refl : (x : List ℕ) → bytes_eq x x ≡ true
 name_refl x = (bytes_decides x x).1 refl
 
 -- a list is a prefix of itself, and being a prefix is transitive
-pub front_refl : {A : Type 0} (xs : List A) → IsFront xs xs
-front_refl xs = ([], sym (append-nil xs))
+pub preceding_refl : {A : Type 0} (xs : List A) → IsPreceding xs xs
+preceding_refl xs = ([], sym (append-nil xs))
 
-pub front_trans : {A : Type 0} (xs ys zs : List A) → IsFront xs ys → IsFront ys zs → IsFront xs zs
-front_trans xs ys zs f g = (f.0 ++ g.0, g.1 ∙ ap (λ l. l ++ g.0) f.1 ∙ append_assoc xs f.0 g.0)
+pub preceding_trans : {A : Type 0} (xs ys zs : List A) → IsPreceding xs ys → IsPreceding ys zs → IsPreceding xs zs
+preceding_trans xs ys zs f g = (f.0 ++ g.0, g.1 ∙ ap (λ l. l ++ g.0) f.1 ∙ append_assoc xs f.0 g.0)
 
-pub front_length : {A : Type 0} (xs ys : List A) → IsFront xs ys → length xs ≤ length ys
-front_length xs ys f = let e = ap length f.1 ∙ length-append xs f.0 in omega arith
+pub preceding_length : {A : Type 0} (xs ys : List A) → IsPreceding xs ys → length xs ≤ length ys
+preceding_length xs ys f = let e = ap length f.1 ∙ length-append xs f.0 in omega arith
 
-pub front_agree : {A : Type 0} (d : A) (xs ys : List A) → IsFront xs ys → Agree d (length xs) ys xs
-front_agree d xs ys f i h = ap (λ l. get_or l i d) f.1 ∙ agree_longer d (length xs) xs f.0 (omega arith) i h
+pub preceding_agree : {A : Type 0} (d : A) (xs ys : List A) → IsPreceding xs ys → Agree d (length xs) ys xs
+preceding_agree d xs ys f i h = ap (λ l. get_or l i d) f.1 ∙ agree_longer d (length xs) xs f.0 (omega arith) i h
 
 -- extension
 pub grows_refl : (c : ContextModel) → IsExtendedBy c c
-grows_refl c = record { names = front_refl c.names; types = front_refl c.types; attrs = front_refl c.attrs; opaque = refl }
+grows_refl c = record { names = preceding_refl c.names; types = preceding_refl c.types; attrs = preceding_refl c.attrs; opaque = refl }
 
 pub grows_trans : (b c d : ContextModel) → IsExtendedBy b c → IsExtendedBy c d → IsExtendedBy b d
 grows_trans b c d g h =
     record {
-      names = front_trans b.names c.names d.names g.names h.names;
-      types = front_trans b.types c.types d.types g.types h.types;
-      attrs = front_trans b.attrs c.attrs d.attrs g.attrs h.attrs;
+      names = preceding_trans b.names c.names d.names g.names h.names;
+      types = preceding_trans b.types c.types d.types g.types h.types;
+      attrs = preceding_trans b.attrs c.attrs d.attrs g.attrs h.attrs;
       opaque = h.opaque ∙ g.opaque;
     }
 
@@ -87,12 +87,12 @@ attr_attrs node c = refl
 -- each call extends the context
 pub grows_name : (bytes : List ℕ) (c : ContextModel) → IsExtendedBy c (with_name bytes c).1
 unfolding with_name
-grows_name bytes c = record { names = with_last_front (bytes_eq bytes) bytes c.names; types = front_refl c.types; attrs = front_refl c.attrs; opaque = refl }
+grows_name bytes c = record { names = with_last_preceding (bytes_eq bytes) bytes c.names; types = preceding_refl c.types; attrs = preceding_refl c.attrs; opaque = refl }
 
 pub grows_type : (node : TypeNode) (c : ContextModel) → IsExtendedBy c (with_type node c).1
 unfolding with_type
-grows_type node c = record { names = front_refl c.names; types = with_last_front (same_type node) node c.types; attrs = front_refl c.attrs; opaque = refl }
+grows_type node c = record { names = preceding_refl c.names; types = with_last_preceding (same_type node) node c.types; attrs = preceding_refl c.attrs; opaque = refl }
 
 pub grows_attr : (node : AttrNode) (c : ContextModel) → IsExtendedBy c (with_attr node c).1
 unfolding with_attr
-grows_attr node c = record { names = front_refl c.names; types = front_refl c.types; attrs = with_last_front (same_attr (kept c.names node)) (kept c.names node) c.attrs; opaque = refl }
+grows_attr node c = record { names = preceding_refl c.names; types = preceding_refl c.types; attrs = with_last_preceding (same_attr (kept c.names node)) (kept c.names node) c.attrs; opaque = refl }

@@ -22,8 +22,8 @@ use Rattle.ir_types.specs.Words.{operations, keys, visibilities, words}
 use Rattle.ir_types.specs.Sound.{Holds, IsSound, IsKept}
 use Rattle.ir_types.proofs.Building.{push_cases}
 use Rattle.ir_types.proofs.SameNodes.{same_type_is, same_type_refl, same_attr_is, same_attr_refl}
-use Rattle.ir_types.proofs.Placing.{with_last-cases, with_last_front, apart_with}
-use Rattle.ir_types.proofs.Growth.{front_refl, front_length, front_agree, name_is, name_refl, type_types}
+use Rattle.ir_types.proofs.Placing.{with_last-cases, with_last_preceding, apart_with}
+use Rattle.ir_types.proofs.Growth.{preceding_refl, preceding_length, preceding_agree, name_is, name_refl, type_types}
 use Rattle.ir_types.proofs.Terms.{parts_below_more, type_terms_push, attr_terms_push, length-type_terms, length-attr_terms, type_stays, attr_stays, attr_terms_names, attr_terms_types}
 use Rattle.ir_types.proofs.KeptOrder.{kept_of, kept_fault, kept_depth_from, kept_stays}
 use Rattle.ir_types.specs.Limits.{most_things}
@@ -37,8 +37,8 @@ enough_names names e = let l : length (take 54 names) ≡ 54 = ap length e in om
 pub holds_names : (c : ContextModel) (more : List (List ℕ)) → Holds c → length (c.names ++ more) ≤ most_things → Holds (record c { names = c.names ++ more })
 holds_names c more h few =
     let d : ContextModel = record c { names = c.names ++ more } in
-    let g : IsExtendedBy c d = record { names = (more, refl); types = front_refl c.types; attrs = front_refl c.attrs; opaque = refl } in
-    let longer = front_length c.names d.names g.names in
+    let g : IsExtendedBy c d = record { names = (more, refl); types = preceding_refl c.types; attrs = preceding_refl c.attrs; opaque = refl } in
+    let longer = preceding_length c.names d.names g.names in
     record {
       few_names = few;
       few_types = h.few_types;
@@ -48,21 +48,21 @@ holds_names c more h few =
       attrs_refer = λ i node at. parts_below_more (length c.names) (length c.types) i (length d.names) (length c.types) i node longer (omega arith) (omega arith) (h.attrs_refer i node at);
       types_fine = h.types_fine;
       attrs_fine = λ i k. ap attr_fault (attr_stays c d i h g k) ∙ h.attrs_fine i k;
-      attrs_kept = λ i node at. kept_stays (length c.names) (length c.types) i c.names d.names (front_agree [] c.names d.names g.names) node (h.attrs_refer i node at) (h.attrs_kept i node at);
+      attrs_kept = λ i node at. kept_stays (length c.names) (length c.types) i c.names d.names (preceding_agree [] c.names d.names g.names) node (h.attrs_refer i node at) (h.attrs_kept i node at);
     }
 
 pub holds_name : (bytes : List ℕ) (c : ContextModel) → Holds c → length ((with_name bytes c).1).names ≤ most_things → Holds (with_name bytes c).1
 unfolding with_name
 holds_name bytes c h few =
-    let f = with_last_front (bytes_eq bytes) bytes c.names in
+    let f = with_last_preceding (bytes_eq bytes) bytes c.names in
     subst (λ ns. Holds (record c { names = ns })) (sym f.1) (holds_names c f.0 h (subst (λ ns. length ns ≤ most_things) f.1 few))
 
 -- one more type
 pub holds_push_type : (node : TypeNode) (c : ContextModel) → Holds c → TypeIsOf c node → type_fault (type_node_term c node) ≡ None → length (c.types ++ node ∷ []) ≤ most_things → Holds (record c { types = c.types ++ node ∷ [] })
 holds_push_type node c h of_c fine few =
     let d : ContextModel = record c { types = c.types ++ node ∷ [] } in
-    let g : IsExtendedBy c d = record { names = front_refl c.names; types = (node ∷ [], refl); attrs = front_refl c.attrs; opaque = refl } in
-    let longer = front_length c.types d.types g.types in
+    let g : IsExtendedBy c d = record { names = preceding_refl c.names; types = (node ∷ [], refl); attrs = preceding_refl c.attrs; opaque = refl } in
+    let longer = preceding_length c.types d.types g.types in
     let len : length d.types ≡ length c.types + 1 = length-append c.types (node ∷ []) in
     let made = type_terms_push c node in
     let count = length-type_terms c in
@@ -98,7 +98,7 @@ holds_type node c h of_c fine few = ⊎_elim
 pub holds_push_attr : (node : AttrNode) (c : ContextModel) → Holds c → AttrIsOf c node → attr_fault (attr_node_term c node) ≡ None → IsKept c.names node → length (c.attrs ++ node ∷ []) ≤ most_things → Holds (record c { attrs = c.attrs ++ node ∷ [] })
 holds_push_attr node c h of_c fine in_order few =
     let d : ContextModel = record c { attrs = c.attrs ++ node ∷ [] } in
-    let g : IsExtendedBy c d = record { names = front_refl c.names; types = front_refl c.types; attrs = (node ∷ [], refl); opaque = refl } in
+    let g : IsExtendedBy c d = record { names = preceding_refl c.names; types = preceding_refl c.types; attrs = (node ∷ [], refl); opaque = refl } in
     let len : length d.attrs ≡ length c.attrs + 1 = length-append c.attrs (node ∷ []) in
     let made = attr_terms_push c node in
     let count = length-attr_terms c in

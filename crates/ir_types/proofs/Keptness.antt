@@ -39,7 +39,7 @@ module _ (names : List (List ℕ)) (n : ℕ) (node : AttrNode) (es : List (ℕ �
 
   -- a dictionary with a duplicate key is refused
   pub dictionary_duplicate : has_duplicate (map (λ (e : ℕ × ℕ). e.0) es) ≡ true → n < most_things → Err DuplicateKey ≡ checked (dictionary_reason n node) (kept names node)
-  dictionary_duplicate duplicate room =
+  dictionary_duplicate duplicate headroom =
       let small : nat_le most_things n ≡ false = go (nat_le most_things n) refl in
       rw (is, le-leb (length es) most_entries few, duplicate, small) refl
     where

@@ -4,7 +4,7 @@ use Rattle.std.proofs.Common.{◌≡◌, ℕ, zero, suc, ◌+◌, ◌≤◌, Boo
 use Rattle.std.proofs.lemmas.List.{append-nil}
 use Rattle.ir_types_interner.specs.Interned.{with_last, AreApart}
 use Rattle.ir_types_interner.proofs.Placed.{Found, Lacks, where_is, with_last-found, with_last-absent}
-use Rattle.ir_types.specs.Things.{IsFront}
+use Rattle.ir_types.specs.Things.{IsPreceding}
 use Rattle.ir_types.proofs.Building.{push_cases, nothing_at, last_place}
 use Rattle.std.proofs.lemmas.Bool.{cases_Bool}
 
@@ -13,8 +13,8 @@ module _ {A : Type 0} (p : A → Bool) (x : A) where
   pub with_last-cases : (xs : List A) → ((list_any p xs ≡ true) × (with_last p x xs ≡ xs)) ⊎ ((list_any p xs ≡ false) × (with_last p x xs ≡ xs ++ x ∷ []))
   with_last-cases xs = ⊎_elim (λ h. inl (h, with_last-found p x xs h)) (λ h. inr (h, with_last-absent p x xs h)) (cases_Bool (list_any p xs))
 
-  pub with_last_front : (xs : List A) → IsFront xs (with_last p x xs)
-  with_last_front xs = ⊎_elim
+  pub with_last_preceding : (xs : List A) → IsPreceding xs (with_last p x xs)
+  with_last_preceding xs = ⊎_elim
       (λ (h : (list_any p xs ≡ true) × (with_last p x xs ≡ xs)). ([], h.1 ∙ sym (append-nil xs)))
       (λ (h : (list_any p xs ≡ false) × (with_last p x xs ≡ xs ++ x ∷ [])). (x ∷ [], h.1))
       (with_last-cases xs)

@@ -16,7 +16,7 @@ use Rattle.ir_types.specs.Terms.{TypeTerm, Index, Function, Memref, next_type, A
 use Rattle.ir_types.specs.Interning.{with_name, with_type}
 use Rattle.ir_types.specs.Sound.{Holds, IsSound}
 use Rattle.ir_types.proofs.Building.{Agree, AreTold, built-push, built_agree, built_same, built_is, built_told, length-built}
-use Rattle.ir_types.proofs.Growth.{front_agree, grows_name, grows_type, name_attrs, type_attrs}
+use Rattle.ir_types.proofs.Growth.{preceding_agree, grows_name, grows_type, name_attrs, type_attrs}
 
 -- a node has the same meaning in lists that agree on its components
 types_agree : (n : ℕ) (ys zs : List TypeTerm) → Agree Index n ys zs → (ids : List ℕ) → AllByRecursion (λ t. t < n) ids → types_at ys ids ≡ types_at zs ids
@@ -102,7 +102,7 @@ length-attr_terms c = length-built (attr_from c.names (type_terms c)) c.attrs
 
 -- an id has the same meaning in an extended context
 pub name_stays : (c d : ContextModel) (n : ℕ) → IsExtendedBy c d → IsName c n → name_term d n ≡ name_term c n
-name_stays c d n g h = front_agree [] c.names d.names g.names n h
+name_stays c d n g h = preceding_agree [] c.names d.names g.names n h
 
 pub type_terms_agree : (c d : ContextModel) → IsExtendedBy c d → Agree Index (length c.types) (type_terms d) (type_terms c)
 type_terms_agree c d g i h = ap (λ l. get_or (built type_from l) i Index) g.types.1 ∙ built_agree type_from Index (length c.types) c.types g.types.0 (omega arith) i h
@@ -117,7 +117,7 @@ type_node_stays c d node g of_c = type_from_agree (length c.types) (type_terms d
 alike : (c d : ContextModel) → Holds c → IsExtendedBy c d → (i : ℕ) (node : AttrNode) → slice_get c.attrs i ≡ Some node → (known : List AttrTerm) → attr_from d.names (type_terms d) known node ≡ attr_from c.names (type_terms c) known node
 alike c d holds g i node at known =
     attr_from_agree (length c.names) (length c.types) i d.names c.names (type_terms d) (type_terms c) known known
-    (front_agree [] c.names d.names g.names) (type_terms_agree c d g) (λ k h. refl) node (holds.attrs_refer i node at)
+    (preceding_agree [] c.names d.names g.names) (type_terms_agree c d g) (λ k h. refl) node (holds.attrs_refer i node at)
 
 pub attr_terms_alike : (c d : ContextModel) → Holds c → IsExtendedBy c d → built (attr_from d.names (type_terms d)) c.attrs ≡ attr_terms c
 attr_terms_alike c d holds g = built_same (attr_from d.names (type_terms d)) (attr_from c.names (type_terms c)) c.attrs (alike c d holds g)
@@ -133,7 +133,7 @@ attr_stays c d n holds g h = attr_terms_agree c d holds g n h
 pub attr_node_stays : (c d : ContextModel) (node : AttrNode) → Holds c → IsExtendedBy c d → AttrIsOf c node → attr_node_term d node ≡ attr_node_term c node
 attr_node_stays c d node holds g of_c =
     attr_from_agree (length c.names) (length c.types) (length c.attrs) d.names c.names (type_terms d) (type_terms c) (attr_terms d) (attr_terms c)
-    (front_agree [] c.names d.names g.names) (type_terms_agree c d g) (attr_terms_agree c d holds g) node of_c
+    (preceding_agree [] c.names d.names g.names) (type_terms_agree c d g) (attr_terms_agree c d holds g) node of_c
 
 -- if no attribute is added, all keep their meanings
 pub attr_terms_stay : (c d : ContextModel) → Holds c → IsExtendedBy c d → d.attrs ≡ c.attrs → attr_terms d ≡ attr_terms c

@@ -48,11 +48,11 @@ pub none_left : {X : Type 0} (xs : List X) → length xs < 1 → xs ≡ []
 none_left [] l = refl
 none_left (x ∷ xs) l = absurd (omega (arith, l))
 
-pub list_later : (x : ℕ) (front back : List ℕ) → list_any (λ y. eqb y x) (front ++ x ∷ back) ≡ true
+pub list_later : (x : ℕ) (preceding back : List ℕ) → list_any (λ y. eqb y x) (preceding ++ x ∷ back) ≡ true
 list_later x [] back = ap (λ b. b || list_any (λ y. eqb y x) back) (eq-eqb x x refl)
-list_later x (y ∷ front) back = elim (bool_cases (eqb y x)) [
-  | inl e ↦ ap (λ b. b || list_any (λ z. eqb z x) (front ++ x ∷ back)) e
-  | inr e ↦ ap (λ b. b || list_any (λ z. eqb z x) (front ++ x ∷ back)) e ∙ list_later x front back
+list_later x (y ∷ preceding) back = elim (bool_cases (eqb y x)) [
+  | inl e ↦ ap (λ b. b || list_any (λ z. eqb z x) (preceding ++ x ∷ back)) e
+  | inr e ↦ ap (λ b. b || list_any (λ z. eqb z x) (preceding ++ x ∷ back)) e ∙ list_later x preceding back
 ]
 
 pub append_none : (xs : List ℕ) → xs ++ [] ≡ xs

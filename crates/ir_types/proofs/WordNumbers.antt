@@ -53,16 +53,16 @@ all_at p [] (suc i) x h e = absurd (cc)
 all_at p (y ∷ ys) zero x h e = let f : y ≡ x = cc in ap p (sym f) ∙ first_so (p y) (list_all p ys) h
 all_at p (y ∷ ys) (suc i) x h e = all_at p ys i x (second_so (p y) (list_all p ys) h) e
 
-front : {A : Type 0} (xs : List A) (i k : ℕ) (x : A) → slice_get (take i xs) k ≡ Some x → (k < i) × (slice_get xs k ≡ Some x)
-front [] zero k x e = absurd (cc)
-front [] (suc i) k x e = absurd (cc)
-front (y ∷ ys) zero k x e = absurd (cc)
-front (y ∷ ys) (suc i) zero x e = (omega arith, e)
-front (y ∷ ys) (suc i) (suc k) x e = let r = front ys i k x e in (omega (arith, r.0), r.1)
+preceding : {A : Type 0} (xs : List A) (i k : ℕ) (x : A) → slice_get (take i xs) k ≡ Some x → (k < i) × (slice_get xs k ≡ Some x)
+preceding [] zero k x e = absurd (cc)
+preceding [] (suc i) k x e = absurd (cc)
+preceding (y ∷ ys) zero k x e = absurd (cc)
+preceding (y ∷ ys) (suc i) zero x e = (omega arith, e)
+preceding (y ∷ ys) (suc i) (suc k) x e = let r = preceding ys i k x e in (omega (arith, r.0), r.1)
 
 -- a context has each word at its id
 pub word_at_number : (c : ContextModel) (w : ℕ) (bytes : List ℕ) → Holds c → slice_get words w ≡ Some bytes → slice_get c.names w ≡ Some bytes
-word_at_number c w bytes holds is = (front c.names 54 w bytes (ap (λ l. slice_get l w) holds.words_first ∙ is)).1
+word_at_number c w bytes holds is = (preceding c.names 54 w bytes (ap (λ l. slice_get l w) holds.words_first ∙ is)).1
 
 -- and at no other id
 pub word_law : (c : ContextModel) (n w : ℕ) (bytes : List ℕ) → IsSound c → slice_get words w ≡ Some bytes → ((n < length c.names) × (name_term c n ≡ bytes)) ↔ (n ≡ w)
@@ -204,7 +204,7 @@ absent_from b (x ∷ xs) each = rw (each 0 x refl, absent_from b xs (λ k y e. e
 pub next_word : (i : ℕ) (bytes : List ℕ) (names : List (List ℕ)) → names ≡ take i words → slice_get words i ≡ Some bytes → with_last (bytes_eq bytes) bytes names ≡ take (i + 1) words
 next_word i bytes names before at =
     let new : list_any (bytes_eq bytes) (take i words) ≡ false = absent_from bytes (take i words) (λ k x e. false_from_ne_true (bytes_eq bytes x) (λ h.
-    let f = front words i k x e in
+    let f = preceding words i k x e in
     let same : k ≡ i = words_apart k i bytes (f.1 ∙ ap Some (sym ((bytes_eq-Decides bytes x).0 h))) at in
     absurd (omega (arith, f.0)))) in
     ap (with_last (bytes_eq bytes) bytes) before

@@ -4,7 +4,7 @@ use Rattle.std.specs.Fmt.{decimal}
 use Rattle.ir_types_interner.specs.declared.intern.InternFault.{InternFault}
 use Rattle.ir_types_interner.specs.declared.intern.InternFault.TheVariants as fault
 use Rattle.ir_types.specs.declared.refusal.Refusal.{Refusal}
-use Rattle.ir_types.specs.declared.refusal.Refusal.TheVariants.{BadToken, Unexpected, UnknownValue, Redefined, TypeMismatch, BadWidth, BadValue, MultipleBlocks, Successors, TooDeep, TooMany, DuplicateKey, LeftOut, NotUtf8, NoSuchOp, NoSuchValue, HasUses, NotVisible, TypeDiffers, NoSuchIndex, NoSuchKey, IntoItself, OtherTable, IsRoot, NotEmpty, Full, IdsExhausted, TooDeepHere, TooManyMarks, NoMark, Memory, Stale, NoSuchKind, KindTaken, BadLimit, NotLegalised, ChainTooDeep, Unreconciled, BadTarget, BadCommand}
+use Rattle.ir_types.specs.declared.refusal.Refusal.TheVariants.{BadToken, Unexpected, UnknownValue, Redefined, TypeMismatch, BadWidth, BadValue, MultipleBlocks, Successors, TooDeep, TooMany, DuplicateKey, LeftOut, NotUtf8, NoSuchOp, NoSuchValue, HasUses, NotVisible, TypeDiffers, NoSuchIndex, NoSuchKey, IntoItself, OtherTable, IsRoot, NotEmpty, Full, IdsExhausted, TooDeepHere, TooManyMarks, NoMark, Memory, Stale, NoSuchKind, KindTaken, BadLimit, NotLegalised, ChainTooDeep, Unreconciled, BadTarget, BadCommand, NotProved}
 
 -- the number of a refusal
 abbrev pub number_of : Refusal → ℕ
@@ -48,6 +48,7 @@ number_of ChainTooDeep = 52
 number_of Unreconciled = 53
 number_of BadTarget = 54
 number_of BadCommand = 60
+number_of NotProved = 61
 
 -- the word of a refusal
 abbrev pub word_of : Refusal → List ℕ
@@ -91,6 +92,7 @@ word_of ChainTooDeep = codes "ChainTooDeep"
 word_of Unreconciled = codes "Unreconciled"
 word_of BadTarget = codes "BadTarget"
 word_of BadCommand = codes "BadCommand"
+word_of NotProved = codes "NotProved"
 
 -- the printed form: the number and the word
 abbrev pub text_of : Refusal → List ℕ

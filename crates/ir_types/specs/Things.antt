@@ -58,12 +58,12 @@ abbrev pub AttrIsOf : ContextModel → AttrNode → Type 0
 AttrIsOf c node = PartsBelow (length c.names) (length c.types) (length c.attrs) node
 
 -- one list is a prefix of another
-abbrev pub IsFront : {A : Type 0} → List A → List A → Type 0
-IsFront {A} xs ys = (more : List A) × (ys ≡ xs ++ more)
+abbrev pub IsPreceding : {A : Type 0} → List A → List A → Type 0
+IsPreceding {A} xs ys = (more : List A) × (ys ≡ xs ++ more)
 
 -- a context with more items appended: no id changes its meaning
 pub record IsExtendedBy (old new : ContextModel) : Type 0 where
-  pub names : IsFront old.names new.names
-  pub types : IsFront old.types new.types
-  pub attrs : IsFront old.attrs new.attrs
+  pub names : IsPreceding old.names new.names
+  pub types : IsPreceding old.types new.types
+  pub attrs : IsPreceding old.attrs new.attrs
   pub opaque : new.opaque ≡ old.opaque

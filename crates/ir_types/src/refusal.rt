@@ -90,6 +90,8 @@ pub enum Refusal {
     BadTarget = 54,
     /// A line that isn't a command.
     BadCommand = 60,
+    /// A list of `rewrite .. proved` with a pattern that isn't proved for the module.
+    NotProved = 61,
 }
 
 impl Refusal {
@@ -145,6 +147,7 @@ impl Refusal {
             Refusal::Unreconciled => "Unreconciled",
             Refusal::BadTarget => "BadTarget",
             Refusal::BadCommand => "BadCommand",
+            Refusal::NotProved => "NotProved",
         }
     }
 }

@@ -65,13 +65,13 @@ fn digit(byte: u8) -> u8 {
 }
 
 /// Writes the bytes of the text after a `\`.
-fn write_piece(out: &mut Vec<u8>, piece: &[u8]) -> Result<(), AllocError> {
-    match piece {
+fn write_chunk(out: &mut Vec<u8>, chunk: &[u8]) -> Result<(), AllocError> {
+    match chunk {
         [b'x', high, low, rest @ ..] => {
             out.push(digit(*high).wrapping_mul(16).wrapping_add(digit(*low)))?;
             out.extend_from_slice(rest)
         }
-        _ => out.extend_from_slice(piece),
+        _ => out.extend_from_slice(chunk),
     }
 }
 
@@ -79,8 +79,8 @@ fn write_piece(out: &mut Vec<u8>, piece: &[u8]) -> Result<(), AllocError> {
 fn write_text(out: &mut Vec<u8>, text: &str) -> Result<(), AllocError> {
     let (plain, rest) = text.split_once('\\').unwrap_or((text, ""));
     out.extend_from_slice(plain.as_bytes())?;
-    for piece in rest.split('\\') {
-        write_piece(out, piece.as_bytes())?;
+    for chunk in rest.split('\\') {
+        write_chunk(out, chunk.as_bytes())?;
     }
     Ok(())
 }

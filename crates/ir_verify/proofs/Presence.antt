@@ -33,12 +33,12 @@ module _ {F : Type 0} (fact : Surroundings → F) (w : World) (x : ℕ) where
   pub isnt_there : None ≡ fact_of fact (module_in w).tree x → has_id x (module_in w).tree ≡ false
   isnt_there e =
       map_has_id (name_term w.ctx) (type_term w.ctx) (attr_term w.ctx) x (tree_in w)
-      ∙ gone w.store w.formed.distinct x (none_mapped contents (surroundings x (tree_in w)) (sym (none_mapped fact (option_map contents (surroundings x (tree_in w))) (e ∙ around))))
+      ∙ gone w.store w.wellformed.distinct x (none_mapped contents (surroundings x (tree_in w)) (sym (none_mapped fact (option_map contents (surroundings x (tree_in w))) (e ∙ around))))
 
   pub is_there : (r : F) → Some r ≡ fact_of fact (module_in w).tree x → has_id x (module_in w).tree ≡ true
   is_there r e = elim (bool_cases (has_id x (tree_in w))) [
     | inl h ↦ same_there w x h
-    | inr h ↦ (let none : surroundings x (tree_in w) ≡ None = nothing_around w.store w.formed.distinct x (absent w.store w.formed.distinct x h) in
+    | inr h ↦ (let none : surroundings x (tree_in w) ≡ None = nothing_around w.store w.wellformed.distinct x (absent w.store w.wellformed.distinct x h) in
         let no : Some r ≡ None = e ∙ around ∙ ap (λ s. option_map fact (option_map contents s)) none in
         absurd cc)
   ]

@@ -9,7 +9,7 @@ use Rattle.ir_types.specs.Terms.{TypeTerm, AttrTerm}
 use Rattle.op_registry.specs.declared.definition.TypeRule.{TypeRule}
 use Rattle.op_registry.specs.declared.definition.TypeRule.TheVariants as type
 use Rattle.op_registry.specs.Rows.{TypesRow, RegionRow, Row}
-use Rattle.op_registry.specs.Registry.{beside}
+use Rattle.op_registry.specs.Registry.{next_to}
 use Rattle.op_registry.specs.Properties.{type_of}
 use Rattle.listeners_support.specs.Nodes.{NodeOf}
 use Rattle.listeners_support.specs.Surroundings.{SurroundingsOf, OuterOf}
@@ -32,7 +32,7 @@ is_named node name = bytes_eq node.head.name name
 
 -- the property of an operation at a key
 abbrev pub property : List ℕ → Node → Option AttrTerm
-property key node = beside key node.head.properties
+property key node = next_to key node.head.properties
 
 -- the inputs and outputs of the function type in an operation's properties
 abbrev pub function_type : Node → Option (List TypeTerm × List TypeTerm)

@@ -10,7 +10,7 @@ use Rattle.ir_event.proofs.Flat.{first_head, heads_ids, found_head}
 use Rattle.listeners.specs.declared.key.Use.{Use}
 use Rattle.listeners.specs.Uses.{operand_uses, uses_in, in_order}
 use Rattle.listeners.specs.Others.{is_other, others}
-use Rattle.listeners.proofs.Cutting.{moved_front}
+use Rattle.listeners.proofs.Cutting.{moved_preceding}
 use Rattle.listeners.proofs.Others.{after_alike, only_append, own_in, own_out}
 use Rattle.listeners.proofs.Places.{Replaced, uses_at, uses_by_heads}
 use Rattle.ir_event.proofs.of_types.Sorting.{flips_eq}
@@ -41,7 +41,7 @@ module _ {N T A : Type 0} (x : ℕ) where
           let here : List Use = operand_uses h.id 0 h.operands in
           let own : List Use = operand_uses x 0 g.operands in
           after_alike here (uses_at hs) (own ++ others x (uses_at hs)) (later first)
-          ∙ moved_front here own (others x (uses_at hs))
+          ∙ moved_preceding here own (others x (uses_at hs))
           ∙ ap (λ l. in_order (own ++ l)) (sym (only_append (is_other x) here (uses_at hs) ∙ ap (λ l. l ++ others x (uses_at hs)) (own_in x h.id 0 h.operands (flips_eq x h.id ∙ is))))
 
   -- the uses of a tree are those of an operation's operands and those by the others
@@ -57,9 +57,9 @@ module _ {N T A : Type 0} (x : ℕ) where
 pub replaced_others : (x : ℕ) (u v : Use) (us vs : List Use) → u.user ≡ x → v.user ≡ x → Replaced u v us vs → others x us ≡ others x vs
 replaced_others x u v us vs a b r =
     ap (others x) r.was
-    ∙ only_append (is_other x) r.front (u ∷ r.back)
-    ∙ ap (λ l. others x r.front ++ l) (left u a r.back ∙ sym (left v b r.back))
-    ∙ sym (only_append (is_other x) r.front (v ∷ r.back))
+    ∙ only_append (is_other x) r.preceding (u ∷ r.back)
+    ∙ ap (λ l. others x r.preceding ++ l) (left u a r.back ∙ sym (left v b r.back))
+    ∙ sym (only_append (is_other x) r.preceding (v ∷ r.back))
     ∙ sym (ap (others x) r.is)
   where
     left : (u : Use) → u.user ≡ x → (ws : List Use) → others x (u ∷ ws) ≡ others x ws

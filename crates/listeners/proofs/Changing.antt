@@ -26,7 +26,7 @@ use Rattle.listeners.specs.Keys.{key_of, keys_of}
 use Rattle.listeners.specs.Others.{is_other, only, others}
 use Rattle.listeners.specs.Listings.{operand_count, listed_uses, user_uses, forgotten}
 use Rattle.listeners.specs.Tables.{changed_uses, is_unchanged}
-use Rattle.listeners.proofs.Cutting.{moved_front}
+use Rattle.listeners.proofs.Cutting.{moved_preceding}
 use Rattle.listeners.proofs.Listed.{keys_joined}
 use Rattle.listeners.proofs.Others.{after_alike, only_append, only_both, only_same, only_turned, own_in, own_only, own_out}
 use Rattle.ir_event.proofs.of_types.Sorting.{flips_eq}
@@ -77,7 +77,7 @@ module _ (x : ℕ) where
           ap (λ r. in_order (changed_uses (match_ordering r ((x, v) ∷ e ∷ es) ((e.0, v) ∷ es) (e ∷ insert_entry nat_cmp es x v)) ++ ws)) l
           ∙ ap in_order (append_assoc here put ws)
           ∙ after_alike here (put ++ ws) (own ++ (others x (changed_uses es) ++ ws)) later
-          ∙ moved_front here own (others x (changed_uses es) ++ ws)
+          ∙ moved_preceding here own (others x (changed_uses es) ++ ws)
           ∙ ap (λ k. in_order (own ++ k)) (sym (append_assoc here (others x (changed_uses es)) ws) ∙ ap (λ k. k ++ ws) (sym stays))
 
   -- the listed uses of unchanged operations, if x changed too
@@ -186,11 +186,11 @@ user_counts p u vs live counts = user_only p u vs ∙ λ i. cond (live i) (cond 
 -- the keys of listed uses, user by user
 pub next_user : (p : ℕ → Bool) (u : User) (us : List User) (vs own trailing : List Value) (old new start : List UseKey) → own ≡ take u.count vs → trailing ≡ drop u.count vs
     → old ++ keys_of (only p (listed_uses (u ∷ us) vs)) ≡ start → new ≡ old ++ keys_of (only p (user_uses u own)) → new ++ keys_of (only p (listed_uses us trailing)) ≡ start
-next_user p u us vs own trailing old new start front back was is =
+next_user p u us vs own trailing old new start preceding back was is =
     (λ i. is i ++ keys_of (only p (listed_uses us (back i))))
     ∙ append_assoc old (keys_of (only p (user_uses u own))) (keys_of (only p (listed_uses us (drop u.count vs))))
     ∙ ap (λ l. old ++ l) (
-    (λ i. keys_of (only p (user_uses u (front i))) ++ keys_of (only p (listed_uses us (drop u.count vs))))
+    (λ i. keys_of (only p (user_uses u (preceding i))) ++ keys_of (only p (listed_uses us (drop u.count vs))))
     ∙ sym (ap keys_of (only_append p (user_uses u (take u.count vs)) (listed_uses us (drop u.count vs))) ∙ keys_joined (only p (user_uses u (take u.count vs))) (only p (listed_uses us (drop u.count vs))))
     )
     ∙ was
@@ -202,9 +202,9 @@ changed_joined (e ∷ es) fs = ap (λ us. operand_uses e.0 0 e.1.operands.items 
 
 pub both_parts : (r : Result (Unit {0}) AllocError) (old mid new : List UseKey) (near far all : List (ℕ × OperandChange)) → all ≡ near ++ far → mid ≡ old ++ keys_of (changed_uses near) → OnOk r (new ≡ mid ++ keys_of (changed_uses far))
     → OnOk r (new ≡ old ++ keys_of (changed_uses all))
-both_parts (Ok u) old mid new near far all is front back =
+both_parts (Ok u) old mid new near far all is preceding back =
     back
-    ∙ ap (λ ks. ks ++ keys_of (changed_uses far)) front
+    ∙ ap (λ ks. ks ++ keys_of (changed_uses far)) preceding
     ∙ append_assoc old (keys_of (changed_uses near)) (keys_of (changed_uses far))
     ∙ ap (λ ks. old ++ ks) (sym (map-append key_of (changed_uses near) (changed_uses far)) ∙ ap keys_of (sym (changed_joined near far)) ∙ ap (λ es. keys_of (changed_uses es)) (sym is))
-both_parts (Err u) old mid new near far all is front back = tt
+both_parts (Err u) old mid new near far all is preceding back = tt

@@ -18,9 +18,9 @@ use Rattle.listeners.specs.Uses.{operand_uses, uses_in, regions_uses, region_use
 use Rattle.listeners.proofs.Orders.{put_among}
 
 -- the ordered list doesn't depend on the order of insertion
-pub moved_front : (us vs ws : List Use) → in_order (us ++ (vs ++ ws)) ≡ in_order (vs ++ (us ++ ws))
-moved_front us [] ws = refl
-moved_front us (v ∷ vs) ws = put_among us (vs ++ ws) v ∙ ap (put_use v) (moved_front us vs ws)
+pub moved_preceding : (us vs ws : List Use) → in_order (us ++ (vs ++ ws)) ≡ in_order (vs ++ (us ++ ws))
+moved_preceding us [] ws = refl
+moved_preceding us (v ∷ vs) ws = put_among us (vs ++ ws) v ∙ ap (put_use v) (moved_preceding us vs ws)
 
 module _ {N T A : Type 0} where
   abbrev own : StandOf N T A → List Use
@@ -40,18 +40,18 @@ module _ {N T A : Type 0} where
     region_uses_stands p path r empty = refl
     region_uses_stands p path r (block args os) = ops_uses_stands p path r args [] os
 
-    ops_uses_stands : (p : OpOf N T A) (path : List (StepOf N T A)) (r : ℕ) (args : List T) (front : List (OpOf N T A)) (os : OpsOf N T A) → gather own (ops_stands p path r args front os) ≡ ops_uses os
-    ops_uses_stands p path r args front no_ops = refl
-    ops_uses_stands p path r args front (next o os) =
-        gather-append own (stands (step p r args front os ∷ path) o) (ops_stands p path r args (front ++ o ∷ []) os)
-        ∙ λ i. uses_stands (step p r args front os ∷ path) o i ++ ops_uses_stands p path r args (front ++ o ∷ []) os i
+    ops_uses_stands : (p : OpOf N T A) (path : List (StepOf N T A)) (r : ℕ) (args : List T) (preceding : List (OpOf N T A)) (os : OpsOf N T A) → gather own (ops_stands p path r args preceding os) ≡ ops_uses os
+    ops_uses_stands p path r args preceding no_ops = refl
+    ops_uses_stands p path r args preceding (next o os) =
+        gather-append own (stands (step p r args preceding os ∷ path) o) (ops_stands p path r args (preceding ++ o ∷ []) os)
+        ∙ λ i. uses_stands (step p r args preceding os ∷ path) o i ++ ops_uses_stands p path r args (preceding ++ o ∷ []) os i
 
   -- the uses of a removed operation were among the others
   pub record Cut (o t u : OpOf N T A) : Type 0 where
-    pub front : List Use
+    pub preceding : List Use
     pub back : List Use
-    pub was : uses_in t ≡ front ++ (uses_in o ++ back)
-    pub is : uses_in u ≡ front ++ back
+    pub was : uses_in t ≡ preceding ++ (uses_in o ++ back)
+    pub is : uses_in u ≡ preceding ++ back
 
   pub taken : (x : ℕ) (t o : OpOf N T A) → HasDistinctIds t → find x t ≡ Some o → eqb (head t).id x ≡ false → Cut o t (without x t)
   taken x t o d found inner =
@@ -59,20 +59,20 @@ module _ {N T A : Type 0} where
       let q = inner_of x t o found inner in
       let path = q.step_in ∷ q.path in
       record {
-        front = gather own w.front;
+        preceding = gather own w.preceding;
         back = gather own w.back;
         was = sym (uses_stands [] t)
             ∙ ap (gather own) w.is
-            ∙ gather-append own w.front (stands path o ++ w.back)
-            ∙ ap (λ l. gather own w.front ++ l) (gather-append own (stands path o) w.back ∙ ap (λ l. l ++ gather own w.back) (uses_stands path o));
+            ∙ gather-append own w.preceding (stands path o ++ w.back)
+            ∙ ap (λ l. gather own w.preceding ++ l) (gather-append own (stands path o) w.back ∙ ap (λ l. l ++ gather own w.back) (uses_stands path o));
         is = sym (uses_stands [] (without x t))
             ∙ ap (gather own) w.left
-            ∙ gather_left own x (λ s. ap (λ (h : HeadOf N T A). operand_uses h.id 0 h.operands) (same_head x (dropping x) s.here)) (w.front ++ w.back)
-            ∙ gather-append own w.front w.back;
+            ∙ gather_left own x (λ s. ap (λ (h : HeadOf N T A). operand_uses h.id 0 h.operands) (same_head x (dropping x) s.here)) (w.preceding ++ w.back)
+            ∙ gather-append own w.preceding w.back;
       }
 
   pub cut_order : (o t u : OpOf N T A) → Cut o t u → in_order (uses_in t) ≡ in_order (uses_in o ++ uses_in u)
-  cut_order o t u c = ap in_order c.was ∙ moved_front c.front (uses_in o) c.back ∙ ap (λ l. in_order (uses_in o ++ l)) (sym c.is)
+  cut_order o t u c = ap in_order c.was ∙ moved_preceding c.preceding (uses_in o) c.back ∙ ap (λ l. in_order (uses_in o ++ l)) (sym c.is)
 
   -- an operation without nested operations has only the uses of its operands
   none_inside : (rs : RegionsOf N T A) → HoldNone rs → regions_uses rs ≡ []

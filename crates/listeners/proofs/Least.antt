@@ -4,7 +4,7 @@ use Rattle.std.proofs.lemmas.Bool.Decides.{leb_tells}
 use Rattle.ir_event.specs.tree_laws.Members.{In}
 use Rattle.ir_event.proofs.of_tree_laws.Listed.{in_filter, in_filtered, both, both_hold, all_each, each_all, any_one, one_any}
 use Rattle.listeners.specs.Reached.{IsReached, reached, among, lives, joins, rounds, reached_ones}
-use Rattle.ir_event.proofs.of_tree_laws.Formed.{filter_shorter}
+use Rattle.ir_event.proofs.of_tree_laws.Wellformed.{filter_shorter}
 
 pub in_among : (x : ℕ) (xs : List ℕ) → In x xs → among x xs ≡ true
 in_among x xs h = any_one (λ z. eqb z x) xs x h (eq-eqb x x refl)

@@ -65,8 +65,8 @@ pub own_in : (x y k : ℕ) (vs : List Value) → eqb x y ≡ false → others x 
 own_in x y k vs e = own_only (is_other x) y k vs ∙ ap (λ b. cond (not b) (operand_uses y k vs) []) e
 
 -- the remaining uses don't depend on the order
-front : (x : ℕ) (u : Use) (us vs : List Use) → in_order (others x us) ≡ in_order (others x vs) → in_order (others x (u ∷ us)) ≡ in_order (others x (u ∷ vs))
-front x u us vs e =
+preceding : (x : ℕ) (u : Use) (us vs : List Use) → in_order (others x us) ≡ in_order (others x vs) → in_order (others x (u ∷ us)) ≡ in_order (others x (u ∷ vs))
+preceding x u us vs e =
     elim (not (eqb x u.user)) as (λ b. in_order (cond b (u ∷ others x us) (others x us)) ≡ in_order (cond b (u ∷ others x vs) (others x vs))) [ true ↦ ap (put_use u) e | false ↦ e ]
 
 either_first : (a b : Bool) (u v : Use) (l : List Use) → in_order (cond b (v ∷ cond a (u ∷ l) l) (cond a (u ∷ l) l)) ≡ in_order (cond a (u ∷ cond b (v ∷ l) l) (cond b (v ∷ l) l))
@@ -81,12 +81,12 @@ put_others x u (v ∷ vs) = go (put_others x u vs) (is_gt (use_cmp u v)) refl
   where
     go : in_order (others x (put_use u vs)) ≡ in_order (others x (u ∷ vs)) → (b : Bool) → is_gt (use_cmp u v) ≡ b → in_order (others x (put_use u (v ∷ vs))) ≡ in_order (others x (u ∷ v ∷ vs))
     go later true e =
-        ap (λ l. in_order (others x l)) (put_after u v vs e) ∙ front x v (put_use u vs) (u ∷ vs) later ∙ either_first (not (eqb x u.user)) (not (eqb x v.user)) u v (others x vs)
+        ap (λ l. in_order (others x l)) (put_after u v vs e) ∙ preceding x v (put_use u vs) (u ∷ vs) later ∙ either_first (not (eqb x u.user)) (not (eqb x v.user)) u v (others x vs)
     go later false e = ap (λ l. in_order (others x l)) (put_first u v vs e)
 
 others_order : (x : ℕ) (us : List Use) → in_order (others x (in_order us)) ≡ in_order (others x us)
 others_order x [] = refl
-others_order x (u ∷ us) = put_others x u (in_order us) ∙ front x u (in_order us) us (others_order x us)
+others_order x (u ∷ us) = put_others x u (in_order us) ∙ preceding x u (in_order us) us (others_order x us)
 
 pub others_alike : (x : ℕ) (us vs : List Use) → in_order us ≡ in_order vs → in_order (others x us) ≡ in_order (others x vs)
 others_alike x us vs e = sym (others_order x us) ∙ ap (λ l. in_order (others x l)) e ∙ others_order x vs

@@ -22,25 +22,25 @@ uses_at (h ∷ hs) = operand_uses h.id 0 h.operands ++ uses_at hs
 
 -- the second list has v where the first has u
 pub record Replaced (u v : Use) (us vs : List Use) : Type 0 where
-  pub front : List Use
+  pub preceding : List Use
   pub back : List Use
-  pub was : us ≡ front ++ u ∷ back
-  pub is : vs ≡ front ++ v ∷ back
+  pub was : us ≡ preceding ++ u ∷ back
+  pub is : vs ≡ preceding ++ v ∷ back
 
 trailing : (u v : Use) (us vs ws : List Use) → Replaced u v us vs → Replaced u v (us ++ ws) (vs ++ ws)
 trailing u v us vs ws r = record {
-  front = r.front;
+  preceding = r.preceding;
   back = r.back ++ ws;
-  was = ap (λ l. l ++ ws) r.was ∙ append_assoc r.front (u ∷ r.back) ws;
-  is = ap (λ l. l ++ ws) r.is ∙ append_assoc r.front (v ∷ r.back) ws;
+  was = ap (λ l. l ++ ws) r.was ∙ append_assoc r.preceding (u ∷ r.back) ws;
+  is = ap (λ l. l ++ ws) r.is ∙ append_assoc r.preceding (v ∷ r.back) ws;
 }
 
 before : (u v : Use) (ws us vs : List Use) → Replaced u v us vs → Replaced u v (ws ++ us) (ws ++ vs)
 before u v ws us vs r = record {
-  front = ws ++ r.front;
+  preceding = ws ++ r.preceding;
   back = r.back;
-  was = ap (λ l. ws ++ l) r.was ∙ sym (append_assoc ws r.front (u ∷ r.back));
-  is = ap (λ l. ws ++ l) r.is ∙ sym (append_assoc ws r.front (v ∷ r.back));
+  was = ap (λ l. ws ++ l) r.was ∙ sym (append_assoc ws r.preceding (u ∷ r.back));
+  is = ap (λ l. ws ++ l) r.is ∙ sym (append_assoc ws r.preceding (v ∷ r.back));
 }
 
 -- a use of a value
@@ -54,7 +54,7 @@ set_among x n (suc k) old new [] h = absurd cc
 set_among x n zero old new (v ∷ vs) h =
     let e : v ≡ old = cc in
     let m : n ≡ n + 0 = omega arith in
-    record { front = []; back = operand_uses x (n + 1) vs; was = λ i. one_use (e i) x (m i) ∷ operand_uses x (n + 1) vs; is = λ i. one_use new x (m i) ∷ operand_uses x (n + 1) vs }
+    record { preceding = []; back = operand_uses x (n + 1) vs; was = λ i. one_use (e i) x (m i) ∷ operand_uses x (n + 1) vs; is = λ i. one_use new x (m i) ∷ operand_uses x (n + 1) vs }
 set_among x n (suc k) old new (v ∷ vs) h =
     let m : (n + 1) + k ≡ n + suc k = omega arith in
     let r = set_among x (n + 1) k old new vs h in

@@ -25,7 +25,7 @@ pub(crate) fn collect(alloc: Global, world: &World) -> Result<Listing, AllocErro
         return Err(AllocError);
     };
     let counts = count(&world.store, &ops);
-    let mut out = Listing::with_room(alloc, counts.users, counts.operands)?;
+    let mut out = Listing::with_headroom(alloc, counts.users, counts.operands)?;
     push_all(&world.store, &ops, &mut out)?;
     Ok(out)
 }

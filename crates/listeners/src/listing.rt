@@ -53,7 +53,7 @@ impl Listing {
     }
 
     /// Returns an empty listing with capacity for these numbers of users and operands.
-    pub(crate) fn with_room(
+    pub(crate) fn with_headroom(
         alloc: Global,
         users: usize,
         operands: usize,

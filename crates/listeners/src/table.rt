@@ -32,14 +32,14 @@ impl UseTable {
     }
 
     /// Returns the table of listed uses. A change of an operation with an id below `bound` is found in one step.
-    pub(crate) fn with_room(
+    pub(crate) fn with_headroom(
         alloc: Global,
         listed: Listing,
         bound: usize,
     ) -> Result<UseTable, AllocError>
         ensures { IfOk result (λ table. table_uses table ≡ listed) }
     {
-        let changed = IdMap::with_room(alloc, bound)?;
+        let changed = IdMap::with_headroom(alloc, bound)?;
         Ok(UseTable { listed, changed })
     }
 

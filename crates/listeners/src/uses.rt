@@ -52,8 +52,8 @@ fn table_in(alloc: Global, world: &World) -> Result<UseTable, AllocError>
 {
     let listed = collect(alloc, world)?;
     // If ids ascend, operations with operands have ids below this. The number only affects how much memory is reserved.
-    let room = listed.len().saturating_add(64);
-    UseTable::with_room(alloc, listed, room)
+    let headroom = listed.len().saturating_add(64);
+    UseTable::with_headroom(alloc, listed, headroom)
 }
 
 impl Analysis for Uses {

@@ -13,7 +13,7 @@ module _ (words groups new_words new_groups : List ℕ) (at : ℕ) (is : IsIndex
   indexed clear some = record {
     few = omega (arith, is.few, long);
     short = omega (arith, is.short, wide);
-    room = omega (arith, is.room, long, wide);
+    headroom = omega (arith, is.headroom, long, wide);
     clear = λ w z. elim (cases_eq w at) [
       | inl e ↦ ap (slice_index new_words) e ∙ clear (ap (bit_of new_groups) (sym e) ∙ z)
       | inr ne ↦ same w ne ∙ is.clear w (sym (others w ne) ∙ z)

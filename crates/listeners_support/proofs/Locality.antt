@@ -104,10 +104,10 @@ module _ {N T A : Type 0} (x : ℕ) where
       outer (a ∷ q) i = λ k. Some (record { name = (left_head x a.parent k).name; ended = ended a q i a.rest refl (left_list x a.rest) refl k })
 
   -- for any position of x: the operation before x and its parent are needed only at the end of a block
-  abbrev pub Fronts : StandOf N T A → Type 0
-  Fronts s = (a : StepOf N T A) (q : List (StepOf N T A)) (o : OpOf N T A) (rest : OpsOf N T A) → s.path ≡ a ∷ q → a.rest ≡ next o rest → (head o).id ≡ x → left_list x a.rest ≡ no_ops → ⊥
+  abbrev pub Precedings : StandOf N T A → Type 0
+  Precedings s = (a : StepOf N T A) (q : List (StepOf N T A)) (o : OpOf N T A) (rest : OpsOf N T A) → s.path ≡ a ∷ q → a.rest ≡ next o rest → (head o).id ≡ x → left_list x a.rest ≡ no_ops → ⊥
 
-  pub any_alike : (t : OpOf N T A) → HasDistinctIds t → (place : Place) → place_of x t ≡ Some place → (s : StandOf N T A) → In s (stands [] t) → (place.before ≡ None → stand_id s ≡ place.parent → ⊥) → (place.before ≡ None → Fronts s) → AlikeStands (left_stand x s) s
+  pub any_alike : (t : OpOf N T A) → HasDistinctIds t → (place : Place) → place_of x t ≡ Some place → (s : StandOf N T A) → In s (stands [] t) → (place.before ≡ None → stand_id s ≡ place.parent → ⊥) → (place.before ≡ None → Precedings s) → AlikeStands (left_stand x s) s
   any_alike t dist place at s h apart f = go place.before refl
     where
       go : (b : Option ℕ) → place.before ≡ b → AlikeStands (left_stand x s) s
@@ -116,7 +116,7 @@ module _ {N T A : Type 0} (x : ℕ) where
 
   -- removing x, or inserting it
   pub taken_leaves : (t w : OpOf N T A) (dt : HasDistinctIds t) (dw : HasDistinctIds w) (is : w ≡ without x t) (bare : (o : OpOf N T A) → find x t ≡ Some o → HoldNone (regions o)) (place : Place) → place_of x t ≡ Some place → ((v : Value) → (owner_of v).0 ≡ x → uses_of v t ≡ [])
-      → (y : ℕ) → (y ≡ x → ⊥) → (place.before ≡ None → y ≡ place.parent → ⊥) → ((s : StandOf N T A) → In s (stands [] t) → stand_id s ≡ y → place.before ≡ None → Fronts s) → surroundings y w ≡ surroundings y t
+      → (y : ℕ) → (y ≡ x → ⊥) → (place.before ≡ None → y ≡ place.parent → ⊥) → ((s : StandOf N T A) → In s (stands [] t) → stand_id s ≡ y → place.before ≡ None → Precedings s) → surroundings y w ≡ surroundings y t
   taken_leaves t w dt dw is bare place at unused y apart outside f =
       sym (same_surroundings y t w
       (both AlikeStands y t w dt dw (λ s h i.

@@ -26,7 +26,7 @@ module _ {N T A M U B : Type 0} (f : N → M) (g : T → U) (h : A → B) where
   tree = map_tree f g h
 
   abbrev map_step : StepOf N T A → StepOf M U B
-  map_step a = record { parent = tree a.parent; region = a.region; args = map g a.args; front = map tree a.front; rest = map_ops f g h a.rest }
+  map_step a = record { parent = tree a.parent; region = a.region; args = map g a.args; preceding = map tree a.preceding; rest = map_ops f g h a.rest }
 
   abbrev map_stand : StandOf N T A → StandOf M U B
   map_stand s = record { here = tree s.here; path = map map_step s.path }
@@ -44,13 +44,13 @@ module _ {N T A M U B : Type 0} (f : N → M) (g : T → U) (h : A → B) where
     map_region_stands p path r empty = refl
     map_region_stands p path r (block args os) = map_ops_stands p path r args [] os
 
-    map_ops_stands : (p : OpOf N T A) (path : List (StepOf N T A)) (r : ℕ) (args : List T) (front : List (OpOf N T A)) (os : OpsOf N T A)
-        → ops_stands (tree p) (map map_step path) r (map g args) (map tree front) (map_ops f g h os) ≡ map map_stand (ops_stands p path r args front os)
-    map_ops_stands p path r args front no_ops = refl
-    map_ops_stands p path r args front (next o os) =
-        let a = step p r args front os in
-        (λ i. map_stands (a ∷ path) o i ++ (ap (λ l. ops_stands (tree p) (map map_step path) r (map g args) l (map_ops f g h os)) (sym (map-append tree front (o ∷ []))) ∙ map_ops_stands p path r args (front ++ o ∷ []) os) i)
-        ∙ sym (map-append map_stand (stands (a ∷ path) o) (ops_stands p path r args (front ++ o ∷ []) os))
+    map_ops_stands : (p : OpOf N T A) (path : List (StepOf N T A)) (r : ℕ) (args : List T) (preceding : List (OpOf N T A)) (os : OpsOf N T A)
+        → ops_stands (tree p) (map map_step path) r (map g args) (map tree preceding) (map_ops f g h os) ≡ map map_stand (ops_stands p path r args preceding os)
+    map_ops_stands p path r args preceding no_ops = refl
+    map_ops_stands p path r args preceding (next o os) =
+        let a = step p r args preceding os in
+        (λ i. map_stands (a ∷ path) o i ++ (ap (λ l. ops_stands (tree p) (map map_step path) r (map g args) l (map_ops f g h os)) (sym (map-append tree preceding (o ∷ []))) ∙ map_ops_stands p path r args (preceding ++ o ∷ []) os) i)
+        ∙ sym (map-append map_stand (stands (a ∷ path) o) (ops_stands p path r args (preceding ++ o ∷ []) os))
 
   same_id : (o : OpOf N T A) → (head (tree o)).id ≡ (head o).id
   same_id (op k rs) = refl

@@ -109,7 +109,7 @@ module _ {N T A : Type 0} (x : ℕ) where
     -- only x, its parents, the operation that becomes the last of its old block, and the operation before its new
     -- place may get another context
     pub moved_far : (y : ℕ) → (y ≡ x → ⊥) → (y ≡ old.parent → ⊥) → (y ≡ new.parent → ⊥) → (last_at old.parent old.region n ≡ Some y → ⊥) → (prev_of x n ≡ Some y → ⊥) → surroundings y n ≡ surroundings y m
-    moved_far y apart outside_old outside_new not_last not_front =
+    moved_far y apart outside_old outside_new not_last not_preceding =
         sym (same_surroundings y m n
         (both AlikeStands y m n d e
         (λ s h i. let r = moved m n d e (sym is) (sym same) s h (λ k. apart (sym i ∙ k)) in (r.0, r.1, r.2 ∙ i, alike s r.0 h r.1 i (r.2 ∙ i) r.3))
@@ -119,14 +119,14 @@ module _ {N T A : Type 0} (x : ℕ) where
         there : (t : OpOf N T A) (s : StandOf N T A) (a : StepOf N T A) (q : List (StepOf N T A)) → In s (stands [] t) → s.path ≡ a ∷ q → In (stand s.here (a ∷ q)) (stands [] t)
         there t s a q h p = subst (λ l. In (stand s.here l) (stands [] t)) p h
 
-        not_in_front : (r : StandOf N T A) → In r (stands [] n) → stand_id r ≡ y → (b : StepOf N T A) (q : List (StepOf N T A)) (o : OpOf N T A) (rest : OpsOf N T A) → r.path ≡ b ∷ q → b.rest ≡ next o rest → (head o).id ≡ x → ⊥
-        not_in_front r h i b q o rest j k l = not_front (ap (λ z. prev_of z n) (sym l) ∙ prev_is n e r.here b q o rest (there n r b q h j) k ∙ ap Some i)
+        not_in_preceding : (r : StandOf N T A) → In r (stands [] n) → stand_id r ≡ y → (b : StepOf N T A) (q : List (StepOf N T A)) (o : OpOf N T A) (rest : OpsOf N T A) → r.path ≡ b ∷ q → b.rest ≡ next o rest → (head o).id ≡ x → ⊥
+        not_in_preceding r h i b q o rest j k l = not_preceding (ap (λ z. prev_of z n) (sym l) ∙ prev_is n e r.here b q o rest (there n r b q h j) k ∙ ap Some i)
 
         ends : (s r : StandOf N T A) → In s (stands [] m) → In r (stands [] n) → stand_id r ≡ y → left_stand x r ≡ left_stand x s
             → (a : StepOf N T A) (q : List (StepOf N T A)) (o : OpOf N T A) (rest : OpsOf N T A) → s.path ≡ a ∷ q → a.rest ≡ next o rest → (head o).id ≡ x → left_list x a.rest ≡ no_ops
             → (b : StepOf N T A) (p : List (StepOf N T A)) → r.path ≡ b ∷ p → left_step x b ≡ left_step x a → (l : OpsOf N T A) → b.rest ≡ l → ⊥
         ends s r h k i same a q o rest j l g none b p c f (next z zs) u =
-            not_in_front r k i b p z zs c u (first_gone x z zs b.rest u (ap (λ (w : StepOf N T A). w.rest) f ∙ none))
+            not_in_preceding r k i b p z zs c u (first_gone x z zs b.rest u (ap (λ (w : StepOf N T A). w.rest) f ∙ none))
         ends s r h k i same a q o rest j l g none b p c f no_ops u =
             let at = placed_there m d x old was_at o _ q (next_in m d s.here a q o rest (there m s a q h j) l) g in
             let id : (head b.parent).id ≡ old.parent = ap (λ (z : HeadOf N T A). z.id) (sym (left_head x b.parent)) ∙ ap (λ (w : StepOf N T A). (head w.parent).id) f ∙ ap (λ (z : HeadOf N T A). z.id) (left_head x a.parent) ∙ at.0 in
@@ -139,7 +139,7 @@ module _ {N T A : Type 0} (x : ℕ) where
             let a = far_alike x m d old was_at s h (λ z. outside_old (sym i ∙ z)) (λ a p o rest f g l none.
             let b = left_some r.path (left_step x a) (map (left_step x) p) (ap (λ (z : StandOf N T A). z.path) q ∙ ap (map (left_step x)) f) in
             ends s r h k j q a p o rest f g l none b.0 b.1 b.2 b.3 b.0.rest refl) in
-            let b = far_alike x n e new is_at r k (λ z. outside_new (sym j ∙ z)) (λ b p o rest f g l none. not_in_front r k j b p o rest f g l) in
+            let b = far_alike x n e new is_at r k (λ z. outside_new (sym j ∙ z)) (λ b p o rest f g l none. not_in_preceding r k j b p o rest f g l) in
             record {
               node = sym a.node ∙ ap (λ (z : StandOf N T A). node_of z.here) (sym q) ∙ b.node;
               lasts = sym a.lasts ∙ ap (λ (z : StandOf N T A). last_names (regions z.here)) (sym q) ∙ b.lasts;

@@ -56,23 +56,23 @@ module _ {N T A : Type 0} where
   took : (x : ℕ) (place : Place) (fresh : Bool) (m n : ModuleOf N T A) → HasDistinctIds m.tree → HasDistinctIds n.tree → Takes x place fresh m n
       → (y : ℕ) → (In y (x ∷ if_end place.before (place.parent ∷ if_any (last_at place.parent place.region n.tree) [])) → ⊥) → surroundings y n.tree ≡ surroundings y m.tree
   took x place fresh m n d e k y far =
-      let beside = place.parent ∷ if_any (last_at place.parent place.region n.tree) [] in
-      taken_leaves x m.tree n.tree d e k.left k.empty place k.there k.unused y (λ i. far (inl i)) (λ b i. far (inr (in_end y place.before beside b (inl i))))
+      let next_to = place.parent ∷ if_any (last_at place.parent place.region n.tree) [] in
+      taken_leaves x m.tree n.tree d e k.left k.empty place k.there k.unused y (λ i. far (inl i)) (λ b i. far (inr (in_end y place.before next_to b (inl i))))
       (λ s h i b a q o rest f g l none.
       let apart : stand_id s ≡ x → ⊥ = λ j. far (inl (sym i ∙ j)) in
       let left = taken x m.tree n.tree d e k.left k.empty s h apart in
       let at = placed_there m.tree d x place k.there o _ q (next_in m.tree d s.here a q o rest (there m.tree s a q h f) g) l in
       let last = last_is n.tree e (left_stand x s).here (left_step x a) (map (left_step x) q) (there n.tree (left_stand x s) (left_step x a) (map (left_step x) q) left (ap (map (left_step x)) f)) none in
       let id : (head (left_step x a).parent).id ≡ place.parent = ap (λ (z : HeadOf N T A). z.id) (left_head x a.parent) ∙ at.0 in
-      far (inr (in_end y place.before beside b (inr (in_any y (last_at place.parent place.region n.tree) [] ((λ w. last_at (sym id w) (sym at.1 w) n.tree) ∙ last ∙ ap Some (left_id x s ∙ i)))))))
+      far (inr (in_end y place.before next_to b (inr (in_any y (last_at place.parent place.region n.tree) [] ((λ w. last_at (sym id w) (sym at.1 w) n.tree) ∙ last ∙ ap Some (left_id x s ∙ i)))))))
 
   put_in : (x : ℕ) (place : Place) (fresh : Bool) (m n : ModuleOf N T A) → HasDistinctIds m.tree → HasDistinctIds n.tree → Takes x place fresh n m
       → (y : ℕ) → (In y (x ∷ if_end place.before (place.parent ∷ if_any (prev_of x n.tree) [])) → ⊥) → surroundings y n.tree ≡ surroundings y m.tree
   put_in x place fresh m n d e k y far =
-      let beside = place.parent ∷ if_any (prev_of x n.tree) [] in
-      sym (taken_leaves x n.tree m.tree e d k.left k.empty place k.there k.unused y (λ i. far (inl i)) (λ b i. far (inr (in_end y place.before beside b (inl i))))
+      let next_to = place.parent ∷ if_any (prev_of x n.tree) [] in
+      sym (taken_leaves x n.tree m.tree e d k.left k.empty place k.there k.unused y (λ i. far (inl i)) (λ b i. far (inr (in_end y place.before next_to b (inl i))))
       (λ s h i b a q o rest f g l none.
-      far (inr (in_end y place.before beside b (inr (in_any y (prev_of x n.tree) [] (ap (λ z. prev_of z n.tree) (sym l) ∙ prev_is n.tree e s.here a q o rest (there n.tree s a q h f) g ∙ ap Some i)))))))
+      far (inr (in_end y place.before next_to b (inr (in_any y (prev_of x n.tree) [] (ap (λ z. prev_of z n.tree) (sym l) ∙ prev_is n.tree e s.here a q o rest (there n.tree s a q h f) g ∙ ap Some i)))))))
 
 pub far_same : (c : ContextModel) (e : Event) (m n : Module) → Step c e m n → (y : ℕ) → (In y (near e n.tree) → ⊥) → surroundings y n.tree ≡ surroundings y m.tree
 far_same c (Put x place fresh) m n s y far = put_in x place fresh m n s.before.distinct s.after.distinct s.changes y far

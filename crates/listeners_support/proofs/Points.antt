@@ -22,40 +22,40 @@ use Rattle.ir_event.proofs.Facts.{joined_more}
 
 module _ {N T A : Type 0} where
   -- the last of a list
-  pub last_joined : (front : List (OpOf N T A)) (o : OpOf N T A) → last_id (joined_ops front (next o no_ops)) ≡ Some (head o).id
+  pub last_joined : (preceding : List (OpOf N T A)) (o : OpOf N T A) → last_id (joined_ops preceding (next o no_ops)) ≡ Some (head o).id
   last_joined [] o = refl
   last_joined (f ∷ fs) o = ap (λ l. first_of l (Some (head f).id)) (last_joined fs o)
 
-  last_snoc : (front : List (OpOf N T A)) (o : OpOf N T A) → last_id (ops_of (front ++ o ∷ [])) ≡ Some (head o).id
+  last_snoc : (preceding : List (OpOf N T A)) (o : OpOf N T A) → last_id (ops_of (preceding ++ o ∷ [])) ≡ Some (head o).id
   last_snoc [] o = refl
   last_snoc (f ∷ fs) o = ap (λ l. first_of l (Some (head f).id)) (last_snoc fs o)
 
   -- an operation of a block of an operation in the tree
-  pub stands_in : (t p : OpOf N T A) (path : List (StepOf N T A)) (r : ℕ) (args : List T) (front : List (OpOf N T A)) (o : OpOf N T A) (rest : OpsOf N T A)
-      → In (stand p path) (stands [] t) → region_at r (regions p) ≡ Some (block args (joined_ops front (next o rest))) → In (stand o (step p r args front rest ∷ path)) (stands [] t)
-  stands_in t p path r args front o rest h e =
-      let s = stand o (step p r args front rest ∷ path) in
-      within p path s (child p path r args (joined_ops front (next o rest)) s e (ops_child p path r args [] front o rest)) [] t h
+  pub stands_in : (t p : OpOf N T A) (path : List (StepOf N T A)) (r : ℕ) (args : List T) (preceding : List (OpOf N T A)) (o : OpOf N T A) (rest : OpsOf N T A)
+      → In (stand p path) (stands [] t) → region_at r (regions p) ≡ Some (block args (joined_ops preceding (next o rest))) → In (stand o (step p r args preceding rest ∷ path)) (stands [] t)
+  stands_in t p path r args preceding o rest h e =
+      let s = stand o (step p r args preceding rest ∷ path) in
+      within p path s (child p path r args (joined_ops preceding (next o rest)) s e (ops_child p path r args [] preceding o rest)) [] t h
 
   module _ (t : OpOf N T A) (d : HasDistinctIds t) where
     -- the operation after another one is in the tree
     pub next_in : (s : OpOf N T A) (a : StepOf N T A) (q : List (StepOf N T A)) (o : OpOf N T A) (rest : OpsOf N T A) → In (stand s (a ∷ q)) (stands [] t) → a.rest ≡ next o rest
-        → In (stand o (step a.parent a.region a.args (a.front ++ s ∷ []) rest ∷ q)) (stands [] t)
+        → In (stand o (step a.parent a.region a.args (a.preceding ++ s ∷ []) rest ∷ q)) (stands [] t)
     next_in s a q o rest h e =
-        stands_in t a.parent q a.region a.args (a.front ++ s ∷ []) o rest (around_there t s a q h).1
-        (shape t s a q h ∙ ap (λ l. Some (block a.args l)) (ap (λ l. joined_ops a.front (next s l)) e ∙ joined_more a.front s (next o rest)))
+        stands_in t a.parent q a.region a.args (a.preceding ++ s ∷ []) o rest (around_there t s a q h).1
+        (shape t s a q h ∙ ap (λ l. Some (block a.args l)) (ap (λ l. joined_ops a.preceding (next s l)) e ∙ joined_more a.preceding s (next o rest)))
 
     -- the operation before it is that one
     pub prev_is : (s : OpOf N T A) (a : StepOf N T A) (q : List (StepOf N T A)) (o : OpOf N T A) (rest : OpsOf N T A) → In (stand s (a ∷ q)) (stands [] t) → a.rest ≡ next o rest → prev_of (head o).id t ≡ Some (head s).id
-    prev_is s a q o rest h e = prev_there t d o (step a.parent a.region a.args (a.front ++ s ∷ []) rest) q (next_in s a q o rest h e) ∙ last_snoc a.front s
+    prev_is s a q o rest h e = prev_there t d o (step a.parent a.region a.args (a.preceding ++ s ∷ []) rest) q (next_in s a q o rest h e) ∙ last_snoc a.preceding s
 
     -- an operation without an operation after it is the last of its block
     pub last_is : (s : OpOf N T A) (a : StepOf N T A) (q : List (StepOf N T A)) → In (stand s (a ∷ q)) (stands [] t) → a.rest ≡ no_ops → last_at (head a.parent).id a.region t ≡ Some (head s).id
     last_is s a q h e =
         let found = stand_found t d (stand a.parent q) (around_there t s a q h).1 in
         ap (option_and_then last_id) (ap (option_and_then (λ o. option_and_then ops_in (region_at a.region (regions o)))) found ∙ ap (option_and_then ops_in) (shape t s a q h))
-        ∙ ap (λ l. last_id (joined_ops a.front (next s l))) e
-        ∙ last_joined a.front s
+        ∙ ap (λ l. last_id (joined_ops a.preceding (next s l))) e
+        ∙ last_joined a.preceding s
 
     -- an operation with a known place is at that place
     pub placed_there : (x : ℕ) (place : Place) → place_of x t ≡ Some place → (o : OpOf N T A) (a : StepOf N T A) (q : List (StepOf N T A)) → In (stand o (a ∷ q)) (stands [] t) → (head o).id ≡ x
@@ -101,16 +101,16 @@ module _ {N T A : Type 0} where
     region_again p b c r empty s k = absurd k
     region_again p b c r (block args os) s k = ops_again p b c r args [] os s k
 
-    ops_again : (p : OpOf N T A) (b c : List (StepOf N T A)) (r : ℕ) (args : List T) (front : List (OpOf N T A)) (os : OpsOf N T A) (s : StandOf N T A) → In s (ops_stands p b r args front os) → Again s (ops_stands p c r args front os)
-    ops_again p b c r args front no_ops s k = absurd k
-    ops_again p b c r args front (next o os) s k =
-        let a = step p r args front os in
+    ops_again : (p : OpOf N T A) (b c : List (StepOf N T A)) (r : ℕ) (args : List T) (preceding : List (OpOf N T A)) (os : OpsOf N T A) (s : StandOf N T A) → In s (ops_stands p b r args preceding os) → Again s (ops_stands p c r args preceding os)
+    ops_again p b c r args preceding no_ops s k = absurd k
+    ops_again p b c r args preceding (next o os) s k =
+        let a = step p r args preceding os in
         let xs = stands (a ∷ c) o in
-        let ys = ops_stands p c r args (front ++ o ∷ []) os in
-        elim (in_parts s (stands (a ∷ b) o) (ops_stands p b r args (front ++ o ∷ []) os) k) [
+        let ys = ops_stands p c r args (preceding ++ o ∷ []) os in
+        elim (in_parts s (stands (a ∷ b) o) (ops_stands p b r args (preceding ++ o ∷ []) os) k) [
           | inl l ↦ elim (again (a ∷ b) (a ∷ c) o s l) [
             | inl e ↦ (stand o (a ∷ c), in_left (stand o (a ∷ c)) xs ys (itself (a ∷ c) o), ap (λ (z : StandOf N T A). z.here) (sym e), ap (λ (z : StandOf N T A). outer_of z.path) (sym e))
             | inr w ↦ more s xs (xs ++ ys) (λ z m. in_left z xs ys m) w
           ]
-          | inr l ↦ more s ys (xs ++ ys) (λ z m. in_right z xs ys m) (ops_again p b c r args (front ++ o ∷ []) os s l)
+          | inr l ↦ more s ys (xs ++ ys) (λ z m. in_right z xs ys m) (ops_again p b c r args (preceding ++ o ∷ []) os s l)
         ]

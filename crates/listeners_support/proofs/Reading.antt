@@ -20,7 +20,7 @@ use Rattle.ir_event.specs.tree_laws.Members.{In}
 use Rattle.ir_event.proofs.of_tree_laws.Readings.{stands_find}
 use Rattle.ir_event.proofs.of_tree_laws.Members.{stand, joined_ops, member, stand_of_member, found_stands, stand_found}
 use Rattle.ir_event.proofs.of_tree_laws.Around.{around_there, member_of_place, place_of_member, absent_find, present_stand}
-use Rattle.ir_event.proofs.of_tree_laws.Formed.{from_formed}
+use Rattle.ir_event.proofs.of_tree_laws.Wellformed.{from_wellformed}
 use Rattle.ir_event.proofs.of_tree_laws.Values.{seen_by}
 use Rattle.ir_event.proofs.of_tree_laws.Listed.{all_each, both, bool_cases}
 use Rattle.listeners_support.specs.Surroundings.{OuterOf, last_name, last_names, ended_by, outer_of, surround, surroundings}
@@ -29,11 +29,11 @@ use Rattle.listeners_support.proofs.Points.{stands_in, last_joined}
 
 module _ {N T A : Type 0} where
   -- a list that isn't empty, split before its last item
-  split_last : (o : OpOf N T A) (os : OpsOf N T A) → (front : List (OpOf N T A)) × (z : OpOf N T A) × (next o os ≡ joined_ops front (next z no_ops))
+  split_last : (o : OpOf N T A) (os : OpsOf N T A) → (preceding : List (OpOf N T A)) × (z : OpOf N T A) × (next o os ≡ joined_ops preceding (next z no_ops))
   split_last o no_ops = ([], o, refl)
   split_last o (next p os) = let s = split_last p os in (o ∷ s.0, s.1, ap (next o) s.2)
 
-  pub name_joined : (front : List (OpOf N T A)) (z : OpOf N T A) → last_name (joined_ops front (next z no_ops)) ≡ Some (head z).name
+  pub name_joined : (preceding : List (OpOf N T A)) (z : OpOf N T A) → last_name (joined_ops preceding (next z no_ops)) ≡ Some (head z).name
   name_joined [] z = refl
   name_joined (f ∷ fs) z = ap (λ l. first_of l (Some (head f).name)) (name_joined fs z)
 
@@ -232,7 +232,7 @@ module _ (s : Stored) (d : HasDistinctIds s.module_of.tree) where
       ∙ ap (λ (m : Node). 5 + length m.head.operands + 2 * length m.arguments) p.node
 
   -- its operands are values of the tree, and it has few regions
-  module _ (isolated : ℕ → Bool) (formed : IsValidTree isolated s.module_of.tree) where
+  module _ (isolated : ℕ → Bool) (wellformed : IsValidTree isolated s.module_of.tree) where
     all_of : (P : Value → Type 0) (vs : List Value) → ((v : Value) → In v vs → P v) → All P vs
     all_of P [] f = All-nil P
     all_of P (v ∷ vs) f = All-cons P v vs (f v (inl refl)) (all_of P vs (λ u h. f u (inr h)))
@@ -247,7 +247,7 @@ module _ (s : Stored) (d : HasDistinctIds s.module_of.tree) where
         let t = s.module_of.tree in
         let here = p.here in
         let at = (member x (stands [] t) here p.there).0 in
-        let each = (from_formed isolated t formed).dominated_by_own here at in
+        let each = (from_wellformed isolated t wellformed).dominated_by_own here at in
         let own = all_of (λ v. has_value v t ≡ true) (head here.here).operands (λ v h. (seen_by isolated t d here at v (all_each (dominated_by isolated here.path) (head here.here).operands each v h)).is) in
         subst (λ (m : Node). All (λ v. has_value v t ≡ true) m.head.operands) p.node (subst (λ (h : HeadOf ℕ ℕ ℕ). All (λ v. has_value v t ≡ true) h.operands) (sym (head_shown here.here)) own)
 
@@ -255,7 +255,7 @@ module _ (s : Stored) (d : HasDistinctIds s.module_of.tree) where
     few_regions x n p =
         let t = s.module_of.tree in
         let at = (member x (stands [] t) p.here p.there).0 in
-        let own = few p.here.here ((from_formed isolated t formed).fits p.here at) in
+        let own = few p.here.here ((from_wellformed isolated t wellformed).fits p.here at) in
         let count = regions_counted p.here.here in
         let same = ap (λ (m : Node). length m.arguments) p.node in
         omega (arith, own, count, same)

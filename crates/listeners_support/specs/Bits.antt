@@ -34,6 +34,6 @@ IsNext words from x = (from ≤ x) × (has words x ≡ true) × ((y : ℕ) → f
 pub record IsIndexed (words groups : List ℕ) : Type 0 where
   pub few : length words ≤ 67108864
   pub short : length groups ≤ 67108864
-  pub room : length words ≤ 64 * length groups
+  pub headroom : length words ≤ 64 * length groups
   pub clear : (w : ℕ) → bit_of groups w ≡ 0 → slice_index words w ≡ 0
   pub set : (w : ℕ) → bit_of groups w ≡ 1 → slice_index words w ≡ 0 → ⊥

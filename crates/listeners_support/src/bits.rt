@@ -86,7 +86,7 @@ pub(crate) fn clear_bit(words: &mut Vec<u64>, at: usize) -> bool
 
 /// Appends words so that the list has word `word`.
 pub(crate) fn extend(words: &mut Vec<u64>, word: usize) -> Result<(), AllocError>
-    ensures room { OnOk result (word < length words.new.items) }
+    ensures headroom { OnOk result (word < length words.new.items) }
     ensures grows { length words.old.items ≤ length words.new.items }
     ensures few { length words.new.items ≤ max (length words.old.items) (word + 1) }
     ensures same { (w : ℕ) → slice_index words.new.items w ≡ slice_index words.old.items w }

@@ -231,8 +231,8 @@ fn near_put(
     match place.before {
         Some(_) => [Some(op)].to_vec(alloc),
         None => {
-            let front = view.prev(op);
-            [Some(op), Some(place.parent), front].to_vec(alloc)
+            let preceding = view.prev(op);
+            [Some(op), Some(place.parent), preceding].to_vec(alloc)
         }
     }
 }
@@ -275,8 +275,15 @@ fn near_ops(
         Event::SetEntry { op, .. } => lasts(alloc, view, *op),
         Event::Shift { op, old, new } => {
             let last = view.last(old.parent, old.region);
-            let front = view.prev(*op);
-            [Some(*op), Some(old.parent), Some(new.parent), last, front].to_vec(alloc)
+            let preceding = view.prev(*op);
+            [
+                Some(*op),
+                Some(old.parent),
+                Some(new.parent),
+                last,
+                preceding,
+            ]
+            .to_vec(alloc)
         }
     }
 }

@@ -83,7 +83,7 @@ impl<V> IdMap<V> {
 
 impl<V: Drop> IdMap<V> {
     /// Returns an empty map in which ids below `bound` will be found in one step.
-    pub fn with_room(alloc: Global, bound: usize) -> Result<IdMap<V>, AllocError>
+    pub fn with_headroom(alloc: Global, bound: usize) -> Result<IdMap<V>, AllocError>
         ensures { IfOk result (λ m. IsEmpty m) }
     {
         let mut near = Vec::with_capacity(alloc, bound)?;

@@ -7,7 +7,7 @@ ghost use Rattle.ir_event.specs.types.Things.{ContextModel, IsName, IsAttr, Attr
 ghost use Rattle.ir_event.specs.types.Terms.{TypeTerm, AttrTerm, attr_from, attr_term, name_term};
 ghost use Rattle.ir_event.specs.types.WordNames.{word_bytes};
 ghost use Rattle.ir_event.specs.trees.Maps.{map_entry};
-ghost use Rattle.ir_event.specs.registry.Registry.{beside};
+ghost use Rattle.ir_event.specs.registry.Registry.{next_to};
 ghost use Rattle.ir_event.specs.registry.Properties as properties;
 
 use ir_event::types::context::Context;
@@ -20,7 +20,7 @@ use ir_event::types::word::Word;
 pub fn entry(ctx: &Context, entries: &[(NameId, AttrId)], key: Word) -> Option<AttrId>
     requires { All (λ e. IsName ctx.now e.0 × IsAttr ctx.now e.1) entries.now }
     ensures entry { option_map (attr_term ctx.now) result
-        ≡ beside (word_bytes key) (map (map_entry (name_term ctx.now) (attr_term ctx.now)) entries.now) }
+        ≡ next_to (word_bytes key) (map (map_entry (name_term ctx.now) (attr_term ctx.now)) entries.now) }
     ensures attr { IfSome result (λ a. IsAttr ctx.now a) }
 {
     let mut rest = entries;

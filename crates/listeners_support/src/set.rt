@@ -37,7 +37,7 @@ impl BitSet {
 
     /// Extends the capacity to a number and all numbers below it.
     pub fn reserve(&mut self, number: u32) -> Result<(), AllocError>
-        ensures room { OnOk result (number < 64 * length self.new) }
+        ensures headroom { OnOk result (number < 64 * length self.new) }
         ensures grows { length self.old ≤ length self.new }
         ensures same { (x : ℕ) → has self.new x ≡ has self.old x }
     {
@@ -49,7 +49,7 @@ impl BitSet {
     /// Adds a number within the capacity. Needs no memory.
     pub fn insert(&mut self, number: u32)
         requires { number < 64 * length self.old }
-        ensures room { length self.new ≡ length self.old }
+        ensures headroom { length self.new ≡ length self.old }
         ensures has { (x : ℕ) → has self.new x ≡ has_with number true self.old x }
     {
         let word = number as usize / 64;
@@ -59,7 +59,7 @@ impl BitSet {
 
     /// Removes a number, if it is in the set. Needs no memory.
     pub fn remove(&mut self, number: u32)
-        ensures room { length self.new ≡ length self.old }
+        ensures headroom { length self.new ≡ length self.old }
         ensures has { (x : ℕ) → has self.new x ≡ has_with number false self.old x }
     {
         let word = number as usize / 64;

@@ -6,7 +6,7 @@ use Rattle.std.proofs.lemmas.List.Elements.{All-head, All-tail}
 use Rattle.ir_event.specs.types.Things.{ContextModel, IsExtendedBy, IsName, IsType, IsAttr}
 use Rattle.ir_event.specs.types.Sound.{Holds, IsSound}
 use Rattle.ir_event.specs.types.Terms.{TypeTerm, AttrTerm, name_term, type_term}
-use Rattle.ir_event.proofs.of_types.Growth.{front_length, grows_refl}
+use Rattle.ir_event.proofs.of_types.Growth.{preceding_length, grows_refl}
 use Rattle.ir_event.proofs.of_types.Terms.{name_stays, type_stays, attr_stays}
 use Rattle.ir_event.specs.trees.declared.place.Place.{Place}
 use Rattle.ir_event.specs.trees.Tree.{head}
@@ -61,13 +61,13 @@ somes f (x ∷ xs) = ap (λ l. Some (f x) ∷ l) (somes f xs)
 
 module _ (b c : ContextModel) (holds : Holds b) (g : IsExtendedBy b c) where
   pub name_more : (n : ℕ) → IsName b n → IsName c n
-  name_more n h = let l = front_length b.names c.names g.names in omega (arith, l, h)
+  name_more n h = let l = preceding_length b.names c.names g.names in omega (arith, l, h)
 
   type_more : (n : ℕ) → IsType b n → IsType c n
-  type_more n h = let l = front_length b.types c.types g.types in omega (arith, l, h)
+  type_more n h = let l = preceding_length b.types c.types g.types in omega (arith, l, h)
 
   pub attr_more : (n : ℕ) → IsAttr b n → IsAttr c n
-  attr_more n h = let l = front_length b.attrs c.attrs g.attrs in omega (arith, l, h)
+  attr_more n h = let l = preceding_length b.attrs c.attrs g.attrs in omega (arith, l, h)
 
   names_stay : (ns : List ℕ) → All (IsName b) ns → map (name_term c) ns ≡ map (name_term b) ns
   names_stay ns a = map_all (IsName b) (name_term c) (name_term b) ns a (λ n h. name_stays b c n g h)

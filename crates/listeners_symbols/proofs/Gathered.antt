@@ -113,7 +113,7 @@ pub read_right : (w : World) (x : ℕ) (n : Node) (table : Table) (tables : Tabl
 read_right w x n table tables r shown is read has right =
     let c = w.ctx in
     let t = (module_in w).tree in
-    let d = meaning_distinct c (tree_in w) w.formed.distinct in
+    let d = meaning_distinct c (tree_in w) w.wellformed.distinct in
     let z = present_stand [] t x has in
     let s = z.0 in
     let there : stand_of x t ≡ Some s = ap (λ y. stand_of y t) (sym z.2) ∙ stand_of_member t d s z.1 in

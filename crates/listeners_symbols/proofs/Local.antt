@@ -209,14 +209,14 @@ mutual
   region_again p b c j r empty s k = absurd k
   region_again p b c j r (block args os) s k = ops_again p b c j r args [] os s k
 
-  ops_again : (p : Operation) (b c : Path) → table_in is_table b ≡ table_in is_table c → (r : ℕ) (args : List TypeTerm) (front : List Operation) (os : OpsOf (List ℕ) TypeTerm AttrTerm) (s : Stand)
-      → In s (ops_stands p b r args front os) → Again s (ops_stands p c r args front os)
-  ops_again p b c j r args front no_ops s k = absurd k
-  ops_again p b c j r args front (next o os) s k =
-      let a = step p r args front os in
+  ops_again : (p : Operation) (b c : Path) → table_in is_table b ≡ table_in is_table c → (r : ℕ) (args : List TypeTerm) (preceding : List Operation) (os : OpsOf (List ℕ) TypeTerm AttrTerm) (s : Stand)
+      → In s (ops_stands p b r args preceding os) → Again s (ops_stands p c r args preceding os)
+  ops_again p b c j r args preceding no_ops s k = absurd k
+  ops_again p b c j r args preceding (next o os) s k =
+      let a = step p r args preceding os in
       let xs = stands (a ∷ c) o in
-      let ys = ops_stands p c r args (front ++ o ∷ []) os in
-      elim (in_parts s (stands (a ∷ b) o) (ops_stands p b r args (front ++ o ∷ []) os) k) [
+      let ys = ops_stands p c r args (preceding ++ o ∷ []) os in
+      elim (in_parts s (stands (a ∷ b) o) (ops_stands p b r args (preceding ++ o ∷ []) os) k) [
         | inl l ↦ elim (again (a ∷ b) (a ∷ c) (under a b c j) o s l) [
           | inl e ↦ (
             stand o (a ∷ c),
@@ -228,7 +228,7 @@ mutual
           )
           | inr w ↦ more s xs (xs ++ ys) (λ z m. in_left z xs ys m) w
         ]
-        | inr l ↦ more s ys (xs ++ ys) (λ z m. in_right z xs ys m) (ops_again p b c j r args (front ++ o ∷ []) os s l)
+        | inr l ↦ more s ys (xs ++ ys) (λ z m. in_right z xs ys m) (ops_again p b c j r args (preceding ++ o ∷ []) os s l)
       ]
 
 -- a moved operation

@@ -14,7 +14,7 @@ use Rattle.ir_event.specs.trees.Ids.{first_of}
 use Rattle.ir_event.specs.trees.Meaning.{Operation}
 use Rattle.ir_event.specs.tree_laws.Values.{type_of_value}
 use Rattle.ir_event.specs.tree_laws.Stands.{StepOf, StandOf, stand_of, table_in}
-use Rattle.op_registry.specs.Registry.{beside}
+use Rattle.op_registry.specs.Registry.{next_to}
 use Rattle.op_registry.specs.Properties.{string_of, type_of}
 use Rattle.ir_event.specs.types.SameTypes.{function_of}
 
@@ -70,12 +70,12 @@ is_call name = bytes_eq name (codes "func.call")
 
 abbrev pub symbol_of : Head → Option (List ℕ)
 symbol_of h =
-    if is_table h.name || is_function h.name then option_and_then string_of (beside (codes "sym_name") h.properties)
+    if is_table h.name || is_function h.name then option_and_then string_of (next_to (codes "sym_name") h.properties)
     else None
 
 -- the string with the key `sym_name` of a dictionary
 abbrev pub name_in : List (List ℕ × AttrTerm) → Option (List ℕ)
-name_in entries = option_and_then string_of (beside (codes "sym_name") entries)
+name_in entries = option_and_then string_of (next_to (codes "sym_name") entries)
 
 -- the string with the key `sym_name` of an operation, in its properties or else in its attributes
 abbrev pub name_of : Head → Option (List ℕ)
@@ -88,13 +88,13 @@ says_private (Some visibility) = bytes_eq visibility (codes "private")
 
 -- whether an operation's `sym_visibility` is private (Symbols and Symbol Tables, "Symbol Visibility")
 abbrev pub is_private : Head → Bool
-is_private h = says_private (option_and_then string_of (beside (codes "sym_visibility") h.properties))
+is_private h = says_private (option_and_then string_of (next_to (codes "sym_visibility") h.properties))
 
 -- the inputs and outputs of a function, by its `function_type`
 abbrev pub signature_of : Head → Option (List TypeTerm × List TypeTerm)
 signature_of h =
     if is_function h.name
-    then option_and_then function_of (option_and_then type_of (beside (codes "function_type") h.properties)) else None
+    then option_and_then function_of (option_and_then type_of (next_to (codes "function_type") h.properties)) else None
 
 -- the parts of a symbol reference
 abbrev pub parts_of : AttrTerm → Option (List (List ℕ))
@@ -103,7 +103,7 @@ parts_of _ = None
 
 -- the symbol that an operation calls, by its `callee`
 abbrev pub callee_of : Head → Option (List (List ℕ))
-callee_of h = if is_call h.name then option_and_then parts_of (beside (codes "callee") h.properties) else None
+callee_of h = if is_call h.name then option_and_then parts_of (next_to (codes "callee") h.properties) else None
 
 -- the call of an operation whose operands have these types
 abbrev pub call_of : Head → List (Option TypeTerm) → Option (CallOf (List ℕ) TypeTerm)

@@ -7,7 +7,7 @@ ghost use Rattle.ir_event.specs.types.Terms.{TypeTerm, AttrTerm, attr_from, attr
 ghost use Rattle.ir_event.specs.types.WordNames.{word_bytes};
 ghost use Rattle.ir_event.specs.trees.Maps.{map_entry};
 ghost use Rattle.op_registry.specs.Properties as properties;
-ghost use Rattle.op_registry.specs.Registry.{beside};
+ghost use Rattle.op_registry.specs.Registry.{next_to};
 ghost use Rattle.ir_event.specs.Modules.{NodeIsOf};
 ghost use Rattle.listeners_symbols.specs.Roles as roles;
 ghost use Rattle.listeners_symbols.specs.Table.{head_meaning, signature_meaning, SignatureIsOf};
@@ -63,7 +63,7 @@ pub(crate) fn name_of(ctx: &Context, node: &Node<'_>) -> Option<NameId>
 fn visibility_of(ctx: &Context, node: &Node<'_>) -> Option<NameId>
     requires { NodeIsOf ctx.now node.now }
     ensures { option_map (name_term ctx.now) result ≡ option_and_then properties.string_of
-        (beside (word_bytes Word.SymVisibility) (head_meaning ctx.now node.now.head).properties) }
+        (next_to (word_bytes Word.SymVisibility) (head_meaning ctx.now node.now.head).properties) }
 {
     let attr = entry(ctx, node.properties(), Word::SymVisibility)?;
     string_of(ctx, attr)

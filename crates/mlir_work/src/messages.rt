@@ -2,9 +2,11 @@
 //! what was expected, and what to do.
 
 use itoa::Buffer;
-use mlir_work_cli::positions::{column_of, front, indentation, line_at, line_feeds, token_at};
+use mlir_work_cli::pattern_reasons::write_pattern_reason;
+use mlir_work_cli::positions::{column_of, indentation, line_at, line_feeds, preceding};
 use mlir_work_cli::refusal::Refusal;
 use mlir_work_cli::run::ParseError;
+use mlir_work_cli::text_tokens::{token_at, write_found};
 use mlir_work_cli::unsupported::UnsupportedConstruct;
 use mlir_work_cli::words::trim;
 use std::alloc::{AllocError, Global};
@@ -55,20 +57,6 @@ fn unsupported_expected(unsupported: UnsupportedConstruct) -> &'static str {
         UnsupportedConstruct::Word => "expected a type or an attribute: write a string in quotes",
         _ => "expected an operation, a type or an attribute in generic form: correct the text",
     }
-}
-
-/// Appends what was found at a byte: `found`, the token, and a comma.
-fn write_found(out: &mut Vec<u8>, text: &[u8], offset: usize) -> Result<(), AllocError> {
-    let token = token_at(text, offset);
-    if offset >= text.len() {
-        return out.extend_from_slice(b"found the end of the text, ");
-    }
-    if token.is_empty() {
-        return out.extend_from_slice(b"found another byte, ");
-    }
-    out.extend_from_slice(b"found `")?;
-    out.extend_from_slice(token)?;
-    out.extend_from_slice(b"`, ")
 }
 
 /// Appends that the token at a byte isn't modelled, and what to do.
@@ -127,7 +115,7 @@ fn write_place_of(
     text: &[u8],
     offset: usize,
 ) -> Result<(), AllocError> {
-    let before = front(text, offset);
+    let before = preceding(text, offset);
     let line = first_line.saturating_add(line_feeds(before));
     write_place(out, file, line, column_of(before))
 }
@@ -174,49 +162,6 @@ pub(crate) fn module_message(
     )?;
     out.push(b'\n')?;
     Ok(out)
-}
-
-/// Returns what was expected in a pattern, and what to do.
-fn wanted_of_pattern(refusal: Refusal) -> &'static str {
-    match refusal {
-        Refusal::BadToken => "expected a token: remove the byte",
-        Refusal::Unexpected =>
-            "expected another token: write NAME dialect.op(%a, c) => dialect.op(%a, c) where ..",
-        Refusal::UnknownValue => "expected a name of the left side: correct the name",
-        Refusal::Redefined => "expected a new name: rename one of the two patterns",
-        Refusal::TypeMismatch => "expected operands and types that fit the operation: correct them",
-        Refusal::BadWidth => "expected 1 to 128 bits: correct the width",
-        Refusal::BadValue =>
-            "expected a number in the range of its type: correct the number, or its type",
-        Refusal::LeftOut =>
-            "expected an operation that patterns can match: docs/PATTERNS.md lists them",
-        _ => "expected another text: docs/PATTERNS.md says which",
-    }
-}
-
-/// Returns whether a token is the arrow of a type, which some write in a pattern in place of `=>`.
-fn is_thin_arrow(token: &[u8]) -> bool {
-    token == b"->".as_slice()
-}
-
-/// Returns what was expected in a pattern in place of a token, and what to do. A pattern with `->` wants `=>`.
-fn wanted_in_pattern(token: &[u8], refusal: Refusal) -> &'static str {
-    if is_thin_arrow(token) {
-        "expected `=>`: write NAME OLD => NEW"
-    } else {
-        wanted_of_pattern(refusal)
-    }
-}
-
-/// Appends why a pattern was refused at a byte.
-fn write_pattern_reason(
-    out: &mut Vec<u8>,
-    text: &[u8],
-    offset: usize,
-    refusal: Refusal,
-) -> Result<(), AllocError> {
-    write_found(out, text, offset)?;
-    out.extend_from_slice(wanted_in_pattern(token_at(text, offset), refusal).as_bytes())
 }
 
 /// Returns the message on a refused line of a pattern file. `at` is the byte of the line's pattern.

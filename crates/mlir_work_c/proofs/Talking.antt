@@ -183,10 +183,10 @@ talked_whole opaque limit input s told short few opened talks =
     let live : Live (live_setting opaque limit) (all_shown any_analysis boxes) (state s).held read lines h.0 h.1 = record {
       begun = state s;
       accepted = true;
-      front = [];
+      preceding = [];
       later = h.0;
       rest = h.1;
-      begins = record { panel = (state s).panel; front = opened.attached.1; attached = attached; state_is = unmarked (state s) opened.unmarked; out_is = sym (append-nil opened.attached.1 ∙ silent) };
+      begins = record { panel = (state s).panel; preceding = opened.attached.1; attached = attached; state_is = unmarked (state s) opened.unmarked; out_is = sym (append-nil opened.attached.1 ∙ silent) };
       lives = subst (λ (u : Sitting). Lives (live_setting opaque limit) read 1 u lines h.0 h.1) (opened_sitting s opened.empty) h.2;
       status_is = refl;
       out_is = refl;

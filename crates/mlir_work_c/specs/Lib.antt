@@ -2,7 +2,7 @@ pub mod Slots
 pub mod Calls
 pub mod Numbers
 pub mod Edits
-pub mod Asked
+pub mod Requested
 pub mod Answers
 pub mod Stepped
 pub mod Opened

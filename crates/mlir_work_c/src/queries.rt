@@ -3,7 +3,7 @@ ghost use Rattle.std.specs.Prelude.{◌≡◌, [], MatchOption, None, Some, true
 ghost use Rattle.ir_event.specs.store.Using.{is_use};
 ghost use Rattle.ir_event.specs.trees.Uses.{uses_of};
 ghost use Rattle.mlir_work_c.specs.Calls.{IsHeld};
-ghost use Rattle.mlir_work_c.specs.Asked.{asked, first_in, has_in, is_asked, last_in, next_in, operand_in, parent_in, prev_in, root_in, Told, ToldUse, uses_in};
+ghost use Rattle.mlir_work_c.specs.Requested.{requested, first_in, has_in, is_requested, last_in, next_in, operand_in, parent_in, prev_in, root_in, Told, ToldUse, uses_in};
 ghost use Rattle.mlir_work_c.specs.Numbers.{number_of as told, value_of as told_value};
 ghost use Rattle.mlir_work_c.specs.Queries.{tree_of};
 
@@ -20,7 +20,7 @@ use std::alloc::Global;
 pub extern "C" fn mlir_work_has(alloc: Global, held: &mut Handle, operation: u32) -> bool
     requires kept { IsHeld held.old.slot.value }
     ensures same { held.new.slot.value ≡ held.old.slot.value }
-    ensures told { result ≡ is_asked (has_in operation) held.old.slot.value }
+    ensures told { result ≡ is_requested (has_in operation) held.old.slot.value }
 {
     let Some(found) = held.take(alloc) else {
         return false;
@@ -35,7 +35,7 @@ pub extern "C" fn mlir_work_has(alloc: Global, held: &mut Handle, operation: u32
 pub extern "C" fn mlir_work_root(alloc: Global, held: &mut Handle) -> u64
     requires kept { IsHeld held.old.slot.value }
     ensures same { held.new.slot.value ≡ held.old.slot.value }
-    ensures told { result ≡ told (asked root_in held.old.slot.value) }
+    ensures told { result ≡ told (requested root_in held.old.slot.value) }
 {
     let Some(found) = held.take(alloc) else {
         return no_number();
@@ -50,7 +50,7 @@ pub extern "C" fn mlir_work_root(alloc: Global, held: &mut Handle) -> u64
 pub extern "C" fn mlir_work_parent(alloc: Global, held: &mut Handle, operation: u32) -> u64
     requires kept { IsHeld held.old.slot.value }
     ensures same { held.new.slot.value ≡ held.old.slot.value }
-    ensures told { result ≡ told (asked (parent_in operation) held.old.slot.value) }
+    ensures told { result ≡ told (requested (parent_in operation) held.old.slot.value) }
 {
     let Some(found) = held.take(alloc) else {
         return no_number();
@@ -65,7 +65,7 @@ pub extern "C" fn mlir_work_parent(alloc: Global, held: &mut Handle, operation: 
 pub extern "C" fn mlir_work_next(alloc: Global, held: &mut Handle, operation: u32) -> u64
     requires kept { IsHeld held.old.slot.value }
     ensures same { held.new.slot.value ≡ held.old.slot.value }
-    ensures told { result ≡ told (asked (next_in operation) held.old.slot.value) }
+    ensures told { result ≡ told (requested (next_in operation) held.old.slot.value) }
 {
     let Some(found) = held.take(alloc) else {
         return no_number();
@@ -80,7 +80,7 @@ pub extern "C" fn mlir_work_next(alloc: Global, held: &mut Handle, operation: u3
 pub extern "C" fn mlir_work_previous(alloc: Global, held: &mut Handle, operation: u32) -> u64
     requires kept { IsHeld held.old.slot.value }
     ensures same { held.new.slot.value ≡ held.old.slot.value }
-    ensures told { result ≡ told (asked (prev_in operation) held.old.slot.value) }
+    ensures told { result ≡ told (requested (prev_in operation) held.old.slot.value) }
 {
     let Some(found) = held.take(alloc) else {
         return no_number();
@@ -100,7 +100,7 @@ pub extern "C" fn mlir_work_first(
 ) -> u64
     requires kept { IsHeld held.old.slot.value }
     ensures same { held.new.slot.value ≡ held.old.slot.value }
-    ensures told { result ≡ told (asked (first_in operation region) held.old.slot.value) }
+    ensures told { result ≡ told (requested (first_in operation region) held.old.slot.value) }
 {
     let Some(found) = held.take(alloc) else {
         return no_number();
@@ -120,7 +120,7 @@ pub extern "C" fn mlir_work_last(
 ) -> u64
     requires kept { IsHeld held.old.slot.value }
     ensures same { held.new.slot.value ≡ held.old.slot.value }
-    ensures told { result ≡ told (asked (last_in operation region) held.old.slot.value) }
+    ensures told { result ≡ told (requested (last_in operation region) held.old.slot.value) }
 {
     let Some(found) = held.take(alloc) else {
         return no_number();
@@ -141,7 +141,7 @@ pub extern "C" fn mlir_work_operand(
 ) -> bool
     requires kept { IsHeld held.old.slot.value }
     ensures same { held.new.slot.value ≡ held.old.slot.value }
-    ensures told { Told (asked (operand_in operation operand) held.old.slot.value) value.old value.new result }
+    ensures told { Told (requested (operand_in operation operand) held.old.slot.value) value.old value.new result }
 {
     let Some(found) = held.take(alloc) else {
         return false;

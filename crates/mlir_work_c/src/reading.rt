@@ -1,7 +1,7 @@
 //! The C functions that read operations, their entries and their uses, and the texts of interned numbers. They change
 //! nothing.
 ghost use Rattle.std.specs.Prelude.{◌≡◌, option_map};
-ghost use Rattle.mlir_work_c.specs.Asked.{asked};
+ghost use Rattle.mlir_work_c.specs.Requested.{requested};
 ghost use Rattle.mlir_work_c.specs.Calls.{IsHeld};
 ghost use Rattle.mlir_work_c.specs.Numbers.{number_of as told, value_of as told_value};
 ghost use Rattle.mlir_work_c.specs.Reading.{MayWrite, Writes, WritesItems, WritesOperations, WritesUsesOf, argument_count_in, attribute_in, attribute_of_key_in, attribute_text_in, counts_in, entry_numbers, name_in, name_number_in, name_text_in, property_in, property_of_key_in, region_in, type_in, type_text_in};
@@ -41,7 +41,7 @@ pub extern "C" fn mlir_work_operations(alloc: Global, held: &mut Handle, into: &
 pub extern "C" fn mlir_work_region_of(alloc: Global, held: &mut Handle, operation: u32) -> u64
     requires kept { IsHeld held.old.slot.value }
     ensures same { held.new.slot.value ≡ held.old.slot.value }
-    ensures told { result ≡ told (asked (region_in operation) held.old.slot.value) }
+    ensures told { result ≡ told (requested (region_in operation) held.old.slot.value) }
 {
     let Some(found) = held.take(alloc) else {
         return no_number();
@@ -56,7 +56,7 @@ pub extern "C" fn mlir_work_region_of(alloc: Global, held: &mut Handle, operatio
 pub extern "C" fn mlir_work_name_of(alloc: Global, held: &mut Handle, operation: u32) -> u64
     requires kept { IsHeld held.old.slot.value }
     ensures same { held.new.slot.value ≡ held.old.slot.value }
-    ensures told { result ≡ told (asked (name_in operation) held.old.slot.value) }
+    ensures told { result ≡ told (requested (name_in operation) held.old.slot.value) }
 {
     let Some(found) = held.take(alloc) else {
         return no_number();
@@ -76,7 +76,7 @@ pub extern "C" fn mlir_work_counts(
 ) -> bool
     requires kept { IsHeld held.old.slot.value }
     ensures same { held.new.slot.value ≡ held.old.slot.value }
-    ensures told { Writes (asked (counts_in operation) held.old.slot.value) counts.old counts.new result }
+    ensures told { Writes (requested (counts_in operation) held.old.slot.value) counts.old counts.new result }
 {
     let Some(found) = held.take(alloc) else {
         return false;
@@ -100,7 +100,7 @@ pub extern "C" fn mlir_work_argument_count(
 ) -> u64
     requires kept { IsHeld held.old.slot.value }
     ensures same { held.new.slot.value ≡ held.old.slot.value }
-    ensures told { result ≡ told (asked (argument_count_in operation region) held.old.slot.value) }
+    ensures told { result ≡ told (requested (argument_count_in operation region) held.old.slot.value) }
 {
     let Some(found) = held.take(alloc) else {
         return no_number();
@@ -119,7 +119,7 @@ pub extern "C" fn mlir_work_value_type(
 ) -> u64
     requires kept { IsHeld held.old.slot.value }
     ensures same { held.new.slot.value ≡ held.old.slot.value }
-    ensures told { result ≡ told (asked (type_in (told_value value.now)) held.old.slot.value) }
+    ensures told { result ≡ told (requested (type_in (told_value value.now)) held.old.slot.value) }
 {
     let Some(found) = held.take(alloc) else {
         return no_number();
@@ -140,7 +140,7 @@ pub extern "C" fn mlir_work_property_at(
 ) -> bool
     requires kept { IsHeld held.old.slot.value }
     ensures same { held.new.slot.value ≡ held.old.slot.value }
-    ensures told { Writes (option_map entry_numbers (asked (property_in operation index) held.old.slot.value)) entry.old entry.new result }
+    ensures told { Writes (option_map entry_numbers (requested (property_in operation index) held.old.slot.value)) entry.old entry.new result }
 {
     let Some(found) = held.take(alloc) else {
         return false;
@@ -168,7 +168,7 @@ pub extern "C" fn mlir_work_attribute_at(
 ) -> bool
     requires kept { IsHeld held.old.slot.value }
     ensures same { held.new.slot.value ≡ held.old.slot.value }
-    ensures told { Writes (option_map entry_numbers (asked (attribute_in operation index) held.old.slot.value)) entry.old entry.new result }
+    ensures told { Writes (option_map entry_numbers (requested (attribute_in operation index) held.old.slot.value)) entry.old entry.new result }
 {
     let Some(found) = held.take(alloc) else {
         return false;
@@ -195,7 +195,7 @@ pub extern "C" fn mlir_work_property_by_key(
 ) -> u64
     requires kept { IsHeld held.old.slot.value }
     ensures same { held.new.slot.value ≡ held.old.slot.value }
-    ensures told { result ≡ told (asked (property_of_key_in operation key) held.old.slot.value) }
+    ensures told { result ≡ told (requested (property_of_key_in operation key) held.old.slot.value) }
 {
     let Some(found) = held.take(alloc) else {
         return no_number();
@@ -215,7 +215,7 @@ pub extern "C" fn mlir_work_attribute_by_key(
 ) -> u64
     requires kept { IsHeld held.old.slot.value }
     ensures same { held.new.slot.value ≡ held.old.slot.value }
-    ensures told { result ≡ told (asked (attribute_of_key_in operation key) held.old.slot.value) }
+    ensures told { result ≡ told (requested (attribute_of_key_in operation key) held.old.slot.value) }
 {
     let Some(found) = held.take(alloc) else {
         return no_number();
@@ -250,7 +250,7 @@ pub extern "C" fn mlir_work_uses(
 pub extern "C" fn mlir_work_find_name(alloc: Global, held: &mut Handle, text: &[u8]) -> u64
     requires kept { IsHeld held.old.slot.value }
     ensures same { held.new.slot.value ≡ held.old.slot.value }
-    ensures told { result ≡ told (asked (name_number_in text.now) held.old.slot.value) }
+    ensures told { result ≡ told (requested (name_number_in text.now) held.old.slot.value) }
 {
     let Some(found) = held.take(alloc) else {
         return no_number();
@@ -270,7 +270,7 @@ pub extern "C" fn mlir_work_name_text(
 ) -> u64
     requires kept { IsHeld held.old.slot.value }
     ensures same { held.new.slot.value ≡ held.old.slot.value }
-    ensures told { WritesItems (asked (name_text_in name) held.old.slot.value) into.old into.new result }
+    ensures told { WritesItems (requested (name_text_in name) held.old.slot.value) into.old into.new result }
 {
     let Some(found) = held.take(alloc) else {
         return no_number();
@@ -303,7 +303,7 @@ pub extern "C" fn mlir_work_type_text(
 ) -> u64
     requires kept { IsHeld held.old.slot.value }
     ensures same { held.new.slot.value ≡ held.old.slot.value }
-    ensures told { MayWrite (asked (type_text_in ty) held.old.slot.value) into.old into.new result }
+    ensures told { MayWrite (requested (type_text_in ty) held.old.slot.value) into.old into.new result }
 {
     let Some(found) = held.take(alloc) else {
         return no_number();
@@ -326,7 +326,7 @@ pub extern "C" fn mlir_work_attribute_text(
 ) -> u64
     requires kept { IsHeld held.old.slot.value }
     ensures same { held.new.slot.value ≡ held.old.slot.value }
-    ensures told { MayWrite (asked (attribute_text_in attribute) held.old.slot.value) into.old into.new result }
+    ensures told { MayWrite (requested (attribute_text_in attribute) held.old.slot.value) into.old into.new result }
 {
     let Some(found) = held.take(alloc) else {
         return no_number();

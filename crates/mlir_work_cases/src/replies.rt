@@ -15,7 +15,7 @@ use mlir_work_session::writing::{WriteFault, write_all};
 use std::alloc::{AllocError, Global};
 
 /// Every refusal.
-const REFUSALS: [Refusal; 40] = [
+const REFUSALS: [Refusal; 41] = [
     Refusal::BadToken,
     Refusal::Unexpected,
     Refusal::UnknownValue,
@@ -56,6 +56,7 @@ const REFUSALS: [Refusal; 40] = [
     Refusal::Unreconciled,
     Refusal::BadTarget,
     Refusal::BadCommand,
+    Refusal::NotProved,
 ];
 
 /// The refusal with a word, or `Memory`.

@@ -38,20 +38,20 @@ fn put(out: &mut Vec<u8>, byte: u8, rest: &[u8]) -> Result<(), AllocError> {
 }
 
 /// Appends the bytes of the text after a `\`.
-fn write_piece(out: &mut Vec<u8>, piece: &[u8]) -> Result<(), AllocError> {
-    match piece {
+fn write_chunk(out: &mut Vec<u8>, chunk: &[u8]) -> Result<(), AllocError> {
+    match chunk {
         [b'n', rest @ ..] => put(out, b'\n', rest),
         [b't', rest @ ..] => put(out, b'\t', rest),
         [b'r', rest @ ..] => put(out, b'\r', rest),
         [b'x', high, low, rest @ ..] => put(out, pair(*high, *low), rest),
-        _ => put(out, b'\\', piece),
+        _ => put(out, b'\\', chunk),
     }
 }
 
 /// Appends the bytes of each piece after a `\`.
-fn write_pieces(out: &mut Vec<u8>, text: &str) -> Result<(), AllocError> {
-    for piece in text.split('\\') {
-        write_piece(out, piece.as_bytes())?;
+fn write_chunks(out: &mut Vec<u8>, text: &str) -> Result<(), AllocError> {
+    for chunk in text.split('\\') {
+        write_chunk(out, chunk.as_bytes())?;
     }
     Ok(())
 }
@@ -61,7 +61,7 @@ fn write_text(out: &mut Vec<u8>, text: &str) -> Result<(), AllocError> {
     match text.split_once('\\') {
         Some((plain, rest)) => {
             out.extend_from_slice(plain.as_bytes())?;
-            write_pieces(out, rest)
+            write_chunks(out, rest)
         }
         None => out.extend_from_slice(text.as_bytes()),
     }

@@ -1,4 +1,4 @@
 pub mod Told
 mod Joined
 mod Ending
-mod Fronts
+mod Precedings

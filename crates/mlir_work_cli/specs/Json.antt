@@ -2,7 +2,7 @@
 use Rattle.std.specs.Prelude.{◌≡◌, ℕ, List, ◌⊎◌, Bool, true}
 use Rattle.mlir_work_run.specs.session.Panels.{Shown}
 use Rattle.mlir_work_run.specs.session.Reads.{Intake, IsReadFault, IsReadWhole}
-use Rattle.mlir_work_run.specs.session.Writes.{Grows, GrowsFront, Stream}
+use Rattle.mlir_work_run.specs.session.Writes.{Grows, GrowsPreceding, Stream}
 use Rattle.mlir_work_json.specs.Lines.{json_text}
 use Rattle.mlir_work_run.specs.Ends.{IsFinal}
 use Rattle.mlir_work_run.specs.Whole.{IsOutput, Setting}
@@ -21,4 +21,4 @@ ReadsFor taken left status = (IsFinal status × IsReadWhole taken left) ⊎ ((st
 abbrev pub IsTold : ℕ → List ℕ → Stream → Stream → Bool → ℕ → Type 0
 IsTold status out old new handed told =
     ((told ≡ status) × Grows old new (json_text out) × (handed ≡ true))
-    ⊎ ((told ≡ 4) × GrowsFront old new (json_text out))
+    ⊎ ((told ≡ 4) × GrowsPreceding old new (json_text out))

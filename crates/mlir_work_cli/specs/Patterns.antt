@@ -28,11 +28,11 @@ place_of line (errors.Refused fault) = length (trim line) - fault.left
 
 -- `line` is the `n`-th line, and `new` is the registry after the lines before it
 pub record IsReadUpTo (registry new : RegistryModel) (lines : List (List ℕ)) (n : ℕ) (line : List ℕ) : Type 0 where
-  pub front : List (List ℕ)
+  pub preceding : List (List ℕ)
   pub trailing : List (List ℕ)
-  pub are : lines ≡ front ++ line ∷ trailing
-  pub counted : n ≡ suc (length front)
-  pub makes : defined_by registry front ≡ Ok new
+  pub are : lines ≡ preceding ++ line ∷ trailing
+  pub counted : n ≡ suc (length preceding)
+  pub makes : defined_by registry preceding ≡ Ok new
 
 -- the `n`-th line is the first malformed one: the lines before it are read, and it is refused
 pub record IsFirstWrong (registry new : RegistryModel) (lines : List (List ℕ)) (n : ℕ) (line : List ℕ) (fault : Fault) : Type 0 where

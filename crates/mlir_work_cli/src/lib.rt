@@ -4,7 +4,7 @@
 //! - `inputs` builds one input from the files and commands of the command line.
 //! - `reading` reads a file of user patterns, one a line, into the pattern registry.
 //! - `json` writes the output of a run as JSON.
-//! - `positions` finds lines, columns and tokens of a text.
+//! - `positions` finds lines and columns of a text.
 #![tactic(auto)]
 
 pub mod input_laws;
@@ -18,7 +18,7 @@ mod text;
 
 pub use ir_event::trees::count;
 pub use ir_event::types::refusal;
-pub use mlir_work_notes::unsupported;
+pub use mlir_work_notes::{pattern_reasons, text_tokens, unsupported};
 pub use mlir_work_run::{dry_run, input, live, run, sink, source, watched, writing};
 pub use mlir_work_script_base::words;
 pub use user_patterns_registry::registry;

@@ -18,7 +18,7 @@ use Rattle.mlir_work_json.specs.Replies.{answer_members, place_members, refusal_
 use Rattle.mlir_work_json.specs.declared.form.LineKind.TheVariants.{Reply}
 use Rattle.mlir_work_script_base.specs.Numbers.{value_after}
 use Rattle.mlir_work_script_base.proofs.Printed.{numerals}
-use Rattle.mlir_work_script_base.proofs.Spanning.{take_front}
+use Rattle.mlir_work_script_base.proofs.Spanning.{take_preceding}
 
 -- ---- cells
 
@@ -43,18 +43,18 @@ whole_len_last (b ∷ bs) h =
     let ih = whole_len_last bs parts.1 in
     rw (plain.0, plain.1, ih) refl
 
-drop_front : (xs : List ℕ) (y : ℕ) (ys : List ℕ) → drop (suc (length xs)) (xs ++ y ∷ ys) ≡ ys
-drop_front [] y ys = refl
-drop_front (x ∷ xs) y ys = drop_front xs y ys
+drop_preceding : (xs : List ℕ) (y : ℕ) (ys : List ℕ) → drop (suc (length xs)) (xs ++ y ∷ ys) ≡ ys
+drop_preceding [] y ys = refl
+drop_preceding (x ∷ xs) y ys = drop_preceding xs y ys
 
 drop_whole : (xs : List ℕ) → drop (length xs + 1) xs ≡ []
 drop_whole xs = grind (arith, common_steps)
 
 cell_whole : (w rest : List ℕ) → is_whole w ≡ true → cell (w ++ 32 ∷ rest) ≡ w
-cell_whole w rest h = ap (λ n. take n (w ++ 32 ∷ rest)) (whole_len w rest h) ∙ take_front w (32 ∷ rest)
+cell_whole w rest h = ap (λ n. take n (w ++ 32 ∷ rest)) (whole_len w rest h) ∙ take_preceding w (32 ∷ rest)
 
 after_whole : (w rest : List ℕ) → is_whole w ≡ true → trailing (w ++ 32 ∷ rest) ≡ rest
-after_whole w rest h = ap (λ n. drop (n + 1) (w ++ 32 ∷ rest)) (whole_len w rest h) ∙ (ap (λ n. drop n (w ++ 32 ∷ rest)) (add-one (length w)) ∙ drop_front w 32 rest)
+after_whole w rest h = ap (λ n. drop (n + 1) (w ++ 32 ∷ rest)) (whole_len w rest h) ∙ (ap (λ n. drop n (w ++ 32 ∷ rest)) (add-one (length w)) ∙ drop_preceding w 32 rest)
 
 cell_last : (w : List ℕ) → is_whole w ≡ true → cell w ≡ w
 cell_last w h = ap (λ n. take n w) (whole_len_last w h) ∙ take_all (length w) w (omega arith)
@@ -88,9 +88,9 @@ no_zero false d ds e h = rw e refl
 number_of_digits : (ds : List ℕ) → all_ascii_digits ds ≡ true → 0 < length ds → (get_or ds 0 0 ≡ 48 → length ds ≡ 1) → value_after 0 ds < 2 ^ 32 → number_of ds ≡ Some (value_after 0 ds)
 number_of_digits [] h l z s = absurd (omega arith)
 number_of_digits (d ∷ ds) h l z s =
-    let front = no_zero (d == 48) d ds refl z in
+    let preceding = no_zero (d == 48) d ds refl z in
     let small : nat_lt (value_after 0 (d ∷ ds)) (2 ^ 32) ≡ true = grind (arith, s) in
-    rw (front, h, small) refl
+    rw (preceding, h, small) refl
 
 not_zero : (n : ℕ) → n < 2 ^ 64 → get_or (decimal n) 0 0 ≡ 48 → length (decimal n) ≡ 1
 not_zero zero l e = ap length (decimal_digit 0 (omega arith))

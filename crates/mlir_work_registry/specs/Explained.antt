@@ -9,17 +9,17 @@ use Rattle.mlir_work_registry.specs.Notices.{Notice, Plain, Checked}
 use Rattle.mlir_work_registry.specs.Told.{checked_line, reply_line, reply_text, surprise_line}
 
 -- `1 refused 22 HasUses`
-abbrev pub refused_front : ℕ → Refusal → List ℕ
-refused_front n refusal = decimal n ++ (codes " refused " ++ text_of refusal)
+abbrev pub refused_preceding : ℕ → Refusal → List ℕ
+refused_preceding n refusal = decimal n ++ (codes " refused " ++ text_of refusal)
 
 -- `1 refused 13 LeftOut at 14`
-abbrev pub refused_at_front : ℕ → Refusal → ℕ → List ℕ
-refused_at_front n refusal offset = decimal n ++ (codes " refused " ++ (text_of refusal ++ (codes " at " ++ decimal offset)))
+abbrev pub refused_at_preceding : ℕ → Refusal → ℕ → List ℕ
+refused_at_preceding n refusal offset = decimal n ++ (codes " refused " ++ (text_of refusal ++ (codes " at " ++ decimal offset)))
 
 -- the line of the reply to command `n`; only a refusal has a note, after its word or its offset
 abbrev pub explained_reply : ℕ → Response → List ℕ → List ℕ
-explained_reply n (Replied (Refused refusal)) about = refused_front n refusal ++ (about ++ codes "\n")
-explained_reply n (TextRefusedAt refusal offset) about = refused_at_front n refusal offset ++ (about ++ codes "\n")
+explained_reply n (Replied (Refused refusal)) about = refused_preceding n refusal ++ (about ++ codes "\n")
+explained_reply n (TextRefusedAt refusal offset) about = refused_at_preceding n refusal offset ++ (about ++ codes "\n")
 explained_reply n (Replied Done) about = reply_line n (Replied Done)
 explained_reply n (Replied (DoneAs x)) about = reply_line n (Replied (DoneAs x))
 explained_reply n (Replied (DoneWith outcome)) about = reply_line n (Replied (DoneWith outcome))

@@ -8,8 +8,8 @@ use Rattle.rewriter_machine.specs.Machine.{Done, Refused}
 use Rattle.mlir_work_script.specs.RegistryCommands.{RegistryCommand, Define, Forget, Patterns, Check, Sample}
 use Rattle.user_patterns_text.specs.Refusing.{Outcome}
 use Rattle.user_patterns_widths.specs.Passing.{is_passing}
-use Rattle.user_patterns_registry.specs.CheckResult.{IsCheckResult, IsUntried, asked_width, said_of}
-use Rattle.user_patterns_registry.specs.Rows.{rows_text}
+use Rattle.user_patterns_registry.specs.CheckResult.{IsCheckResult, IsUntried, requested_width, said_of}
+use Rattle.user_patterns_registry.specs.Rows.{refutation_text, rows_text}
 use Rattle.user_patterns_registry.specs.Sampled.{IsSampled, IsUnsampled}
 use Rattle.user_patterns_registry.specs.declared.check_result.CheckResult.{CheckResult}
 use Rattle.user_patterns_registry.specs.declared.check_result.CheckResult.TheVariants as judgement
@@ -39,16 +39,17 @@ judgement_rows k (judgement.Holds w) = []
 judgement_rows k judgement.AllWidths = []
 judgement_rows k (judgement.Vacuous w) = []
 judgement_rows k (judgement.Fails counterexample) = rows_text k.variables counterexample
+judgement_rows k (judgement.Refuted w r) = refutation_text k.variables r
 judgement_rows k (judgement.Sampled w) = []
 
--- the summary of a check result. The check tries all values but no poison: if the pattern matches a `select`, or its
--- replacement has a division or a remainder, the summary is only that no counterexample was found. (No such pattern has
--- the result `AllWidths`, which covers only sums, differences, products and bitwise operations.)
+-- the summary of a check result. A check up to a width tries all values but no poison: if the pattern matches a
+-- `select`, or its replacement has a division or a remainder, the summary is only that no counterexample was found
 abbrev pub said_for : Kept → CheckResult → CheckSummary
 said_for k (judgement.Holds w) = if is_passing k.shape then said.Holds w else said.Sampled w
 said_for k judgement.AllWidths = said_of judgement.AllWidths
 said_for k (judgement.Vacuous w) = said_of (judgement.Vacuous w)
 said_for k (judgement.Fails counterexample) = said_of (judgement.Fails counterexample)
+said_for k (judgement.Refuted w r) = said_of (judgement.Refuted w r)
 said_for k (judgement.Sampled w) = said_of (judgement.Sampled w)
 
 -- the summary and the rows are those of a true check result
@@ -57,7 +58,7 @@ IsSaid is_true k said bytes = (j : CheckResult) × is_true j × (said ≡ said_f
 
 -- the summary of a check of a pattern up to a width, and the summary of a test with samples
 abbrev pub IsChecked : Kept → Option ℕ → CheckSummary → List ℕ → Type 0
-IsChecked k asked said bytes = IsSaid (IsCheckResult k.shape asked) k said bytes
+IsChecked k requested said bytes = IsSaid (IsCheckResult k.shape requested) k said bytes
 
 abbrev pub IsSampledAs : Kept → ℕ → CheckSummary → List ℕ → Type 0
 IsSampledAs k w said bytes = IsSaid (IsSampled k.shape w) k said bytes
@@ -69,10 +70,10 @@ IsNoted is_said name b notice bytes c =
 
 -- a named pattern is checked and the summary is recorded; or the width is refused, or no pattern has the name
 abbrev pub Checks : Option Kept → List ℕ → Option ℕ → RegistryModel → Notice → List ℕ → RegistryModel → Type 0
-Checks None name asked b notice bytes c = IsRefused NoSuchKey b notice bytes c
-Checks (Some k) name asked b notice bytes c =
-    IsNoted (IsChecked k asked) name b notice bytes c
-    ⊎ (IsUntried k.shape (asked_width k.shape asked) × IsRefused BadLimit b notice bytes c)
+Checks None name requested b notice bytes c = IsRefused NoSuchKey b notice bytes c
+Checks (Some k) name requested b notice bytes c =
+    IsNoted (IsChecked k requested) name b notice bytes c
+    ⊎ (IsUntried k.shape (requested_width k.shape requested) × IsRefused BadLimit b notice bytes c)
 
 -- the same for a test with samples
 abbrev pub Samples : Option Kept → List ℕ → ℕ → RegistryModel → Notice → List ℕ → RegistryModel → Type 0
@@ -85,7 +86,7 @@ abbrev pub IsShelved : RegistryCommand → RegistryModel → Notice → List ℕ
 IsShelved (Define text) b notice bytes c = IsDefined (defined b text) text b notice bytes c
 IsShelved (Forget name) b notice bytes c = Forgets (found name b) name b notice bytes c
 IsShelved Patterns b notice bytes c = (notice ≡ Plain (Replied Done)) × (bytes ≡ listing_text b) × (c ≡ b)
-IsShelved (Check name asked) b notice bytes c = Checks (found name b) name asked b notice bytes c
+IsShelved (Check name requested) b notice bytes c = Checks (found name b) name requested b notice bytes c
 IsShelved (Sample name w) b notice bytes c = Samples (found name b) name w b notice bytes c
 
 -- with registry `b`, a registry command may get this response, with these bytes below it, and lead to registry `c`

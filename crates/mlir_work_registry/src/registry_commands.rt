@@ -5,7 +5,7 @@ ghost use Rattle.ir_text_tokens.specs.Refusals.{refusal_of};
 ghost use Rattle.rewriter_machine.specs.Commands.{Replied, TextRefusedAt};
 ghost use Rattle.rewriter_machine.specs.Machine.{Refused};
 ghost use Rattle.mlir_work_script.specs.RegistryCommands.{Check, Define, Forget, Patterns, Sample, registry_order_of};
-ghost use Rattle.user_patterns_registry.specs.CheckResult.{IsRefused, asked_width};
+ghost use Rattle.user_patterns_registry.specs.CheckResult.{IsRefused, requested_width};
 ghost use Rattle.user_patterns_registry.specs.Sampled.{IsNotSampled};
 ghost use Rattle.user_patterns_registry.specs.Registry.{registry_model, kept_view, noted};
 ghost use Rattle.mlir_work_registry.specs.Notices.{Checked, IsWithin, Plain, notice_of};
@@ -21,7 +21,7 @@ use std::alloc::{AllocError, Global};
 use user_patterns_registry::check_command::check_pattern;
 use user_patterns_registry::check_result::{CheckResult, CheckSummary};
 use user_patterns_registry::define::define as define_in;
-use user_patterns_registry::listing::{listing, rows};
+use user_patterns_registry::listing::{listing, refutation_rows, rows};
 use user_patterns_registry::registry::{
     PatternRegistry, RegisteredPattern, find, forget as forget_in, record_result,
 };
@@ -93,6 +93,7 @@ fn rows_of(
         CheckResult::AllWidths => Ok(Vec::new(alloc)),
         CheckResult::Vacuous(_) => Ok(Vec::new(alloc)),
         CheckResult::Fails(counterexample) => rows(alloc, held, counterexample),
+        CheckResult::Refuted(_, refutation) => refutation_rows(alloc, held, refutation),
         CheckResult::Sampled(_) => Ok(Vec::new(alloc)),
     }
 }
@@ -107,8 +108,9 @@ fn wide(width: Option<u32>) -> Option<u64>
     }
 }
 
-/// Returns the summary of a check result. The check tries no poison operands. If the pattern matches a `select`, or its
-/// replacement has a division or a remainder, the summary is therefore only that no counterexample was found.
+/// Returns the summary of a check result. A check up to a width tries no poison operands. If the pattern matches a
+/// `select`, or its replacement has a division or a remainder, the summary is therefore only that no counterexample was
+/// found.
 fn said_for(held: &RegisteredPattern, judgement: &CheckResult) -> CheckSummary
     ensures { result ≡ said_for (kept_view held.now) judgement.now }
 {
@@ -131,7 +133,7 @@ fn checked(
     width: Option<u32>,
 ) -> Result<(CheckSummary, Vec<u8>), Refusal>
     ensures ok { IfOk result (λ x. IsChecked (kept_view held.now) width x.0 x.1.items) }
-    ensures err { IfErr result (IsRefused (kept_view held.now).shape (asked_width (kept_view held.now).shape width)) }
+    ensures err { IfErr result (IsRefused (kept_view held.now).shape (requested_width (kept_view held.now).shape width)) }
 {
     let judgement = match check_pattern(alloc, &held.pattern, wide(width)) {
         Ok(judgement) => judgement,

@@ -1,7 +1,7 @@
 //! Writes responses with notes on refusals.
 ghost use Rattle.mlir_work_script_base.specs.Writes.{Writes};
 ghost use Rattle.std.specs.Prelude.{◌++◌, codes};
-ghost use Rattle.mlir_work_registry.specs.Explained.{explained_line, explained_reply, refused_at_front, refused_front, told_text};
+ghost use Rattle.mlir_work_registry.specs.Explained.{explained_line, explained_reply, refused_at_preceding, refused_preceding, told_text};
 ghost use Rattle.mlir_work_registry.specs.Notices.{notice_of};
 ghost use Rattle.mlir_work_registry.specs.Replies.{response_of};
 ghost use Rattle.rewriter_machine.specs.Commands.{Replied, TextRefusedAt};
@@ -26,8 +26,12 @@ fn write_after<W: Sink>(writer: &mut W, about: &[u8]) -> Result<(), WriteFault>
 }
 
 /// Writes the refusal of a command, without the end of the line.
-fn write_refused_front<W: Sink>(writer: &mut W, n: u64, refusal: Refusal) -> Result<(), WriteFault>
-    ensures { Writes (W.stream writer.old) (W.stream writer.new) (refused_front n refusal) result }
+fn write_refused_preceding<W: Sink>(
+    writer: &mut W,
+    n: u64,
+    refusal: Refusal,
+) -> Result<(), WriteFault>
+    ensures { Writes (W.stream writer.old) (W.stream writer.new) (refused_preceding n refusal) result }
 {
     let mut command = Buffer::new();
     let mut number = Buffer::new();
@@ -44,13 +48,13 @@ fn write_refused_front<W: Sink>(writer: &mut W, n: u64, refusal: Refusal) -> Res
 }
 
 /// Writes the refusal of a command's text, without the end of the line.
-fn write_refused_at_front<W: Sink>(
+fn write_refused_at_preceding<W: Sink>(
     writer: &mut W,
     n: u64,
     refusal: Refusal,
     offset: usize,
 ) -> Result<(), WriteFault>
-    ensures { Writes (W.stream writer.old) (W.stream writer.new) (refused_at_front n refusal offset) result }
+    ensures { Writes (W.stream writer.old) (W.stream writer.new) (refused_at_preceding n refusal offset) result }
 {
     let mut command = Buffer::new();
     let mut number = Buffer::new();
@@ -78,7 +82,7 @@ fn write_refused_about<W: Sink>(
 ) -> Result<(), WriteFault>
     ensures { Writes (W.stream writer.old) (W.stream writer.new) (explained_reply n (Replied (Refused refusal)) about.now) result }
 {
-    match write_refused_front(writer, n, refusal) {
+    match write_refused_preceding(writer, n, refusal) {
         Ok(()) => write_after(writer, about),
         Err(fault) => Err(fault),
     }
@@ -94,7 +98,7 @@ fn write_refused_at_about<W: Sink>(
 ) -> Result<(), WriteFault>
     ensures { Writes (W.stream writer.old) (W.stream writer.new) (explained_reply n (TextRefusedAt refusal offset) about.now) result }
 {
-    match write_refused_at_front(writer, n, refusal, offset) {
+    match write_refused_at_preceding(writer, n, refusal, offset) {
         Ok(()) => write_after(writer, about),
         Err(fault) => Err(fault),
     }

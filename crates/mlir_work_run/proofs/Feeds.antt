@@ -7,7 +7,7 @@ use Rattle.std.proofs.lemmas.Grind.{common_steps}
 use Rattle.std.specs.Io.KnownBytes.{Consumes, IsAtEnd, Keeps}
 use Rattle.mlir_work_script_base.specs.Lines.{is_newline, line_of, after_line}
 use Rattle.mlir_work_script_base.specs.Parts.{at_divider}
-use Rattle.mlir_work_script_base.proofs.Spanning.{Passed, begins, begins_script, ends_module, front_is, passes}
+use Rattle.mlir_work_script_base.proofs.Spanning.{Passed, begins, begins_script, ends_module, preceding_is, passes}
 use Rattle.mlir_work_run.specs.Feeding.{HasFeed, HasLine, IsLong, IsMore, StartsLong, TakesLine, TakesModule, waiting}
 
 pub keeps_same : (a : Option (List ℕ)) → Keeps a a
@@ -88,17 +88,17 @@ after_all (b ∷ bs) more none = after_all_at b bs more (is_newline b) refl none
 abbrev IsCut : List ℕ → List ℕ → Type 0
 IsCut kept more = (line_of (kept ++ more) ≡ line_of kept) × (after_line (kept ++ more) ≡ after_line kept ++ more)
 
-front_at : (b : ℕ) (bs more : List ℕ) → HasFeed (b ∷ bs) → (t : Bool) → is_newline b ≡ t → (HasFeed bs → IsCut bs more) → IsCut (b ∷ bs) more
-front_at b bs more h true e ih = (rw e refl, rw e refl)
-front_at b bs more h false e ih =
+preceding_at : (b : ℕ) (bs more : List ℕ) → HasFeed (b ∷ bs) → (t : Bool) → is_newline b ≡ t → (HasFeed bs → IsCut bs more) → IsCut (b ∷ bs) more
+preceding_at b bs more h true e ih = (rw e refl, rw e refl)
+preceding_at b bs more h false e ih =
     let shorter : HasFeed bs = let g = rw e at h in omega (arith, g) in
     let cut = ih shorter in (rw e (ap (λ (xs : List ℕ). b ∷ xs) cut.0), rw e cut.1)
 
 -- if a prefix of a text has a whole line, that line is the first line of the text, and the rest of the prefix
 -- precedes the remaining text
-pub line_front : (kept more : List ℕ) → HasFeed kept → IsCut kept more
-line_front [] more h = absurd (omega (arith, h))
-line_front (b ∷ bs) more h = front_at b bs more h (is_newline b) refl (λ g. line_front bs more g)
+pub line_preceding : (kept more : List ℕ) → HasFeed kept → IsCut kept more
+line_preceding [] more h = absurd (omega (arith, h))
+line_preceding (b ∷ bs) more h = preceding_at b bs more h (is_newline b) refl (λ g. line_preceding bs more g)
 
 -- a line with its line feed
 abbrev Spans : List ℕ → Type 0
@@ -116,7 +116,7 @@ spans (b ∷ bs) = spans_at b bs (is_newline b) refl (spans bs)
 first_is : (bs : List ℕ) → (bs ≡ take (length bs - length (after_line bs)) bs ++ after_line bs) × (line_of (take (length bs - length (after_line bs)) bs) ≡ line_of bs)
 first_is bs =
     let h = spans bs in
-    let f : take (length bs - length (after_line bs)) bs ≡ h.0 = front_is bs h.0 (after_line bs) (sym h.1) in
+    let f : take (length bs - length (after_line bs)) bs ≡ h.0 = preceding_is bs h.0 (after_line bs) (sym h.1) in
     (rw f h.1, rw f h.2)
 
 -- the buffer has the first line of the pending input, and it was taken
@@ -126,7 +126,7 @@ taken (Some all) kept None line rest keeps has is trailing = absurd keeps
 taken (Some all) kept (Some left) line rest keeps has is trailing =
     let first = first_is kept in
     let same : line ≡ take (length kept - length (after_line kept)) kept = is ∙ ap (λ (xs : List ℕ). take (length kept - length xs) kept) trailing in
-    let cut : IsCut kept left = elim has [ inl feed ↦ line_front kept left feed | inr end ↦ rw (end, append-nil, append-nil) (refl, refl) ] in
+    let cut : IsCut kept left = elim has [ inl feed ↦ line_preceding kept left feed | inr end ↦ rw (end, append-nil, append-nil) (refl, refl) ] in
     let whole : kept ≡ line ++ after_line kept = first.0 ∙ ap (λ (xs : List ℕ). xs ++ after_line kept) (sym same) in (
       sym keeps ∙ ap (λ (xs : List ℕ). xs ++ left) whole ∙ append_assoc line (after_line kept) left ∙ ap (λ (xs : List ℕ). line ++ (xs ++ left)) (sym trailing),
       ap line_of same ∙ first.1 ∙ sym cut.0 ∙ ap line_of keeps,
@@ -148,7 +148,7 @@ pub long_line : (most : ℕ) (a : Option (List ℕ)) (kept : List ℕ) (left : O
 long_line most None kept left keeps has lt = tt
 long_line most (Some all) kept None keeps has lt = absurd keeps
 long_line most (Some all) kept (Some left) keeps has lt =
-    let cut : IsCut kept left = elim has [ inl feed ↦ line_front kept left feed | inr end ↦ rw (end, append-nil, append-nil) (refl, refl) ] in
+    let cut : IsCut kept left = elim has [ inl feed ↦ line_preceding kept left feed | inr end ↦ rw (end, append-nil, append-nil) (refl, refl) ] in
     rw (sym keeps, cut.1) (omega (arith, lt, length-append kept left, length-append (after_line kept) left))
 
 -- more bytes are pending than a line may have
@@ -185,16 +185,16 @@ before_divider (Some all) None c text line h k e = absurd h
 before_divider (Some all) (Some rest) None text line h k e = absurd k
 before_divider (Some all) (Some rest) (Some new) text line h k e =
     let here : at_divider rest ≡ true = sym (undivided line rest k.1) ∙ e in
-    (sym (front_is all text rest h.1) ∙ ends_module all rest here h.0, k.2 ∙ begins_script all rest here h.0)
+    (sym (preceding_is all text rest h.1) ∙ ends_module all rest here h.0, k.2 ∙ begins_script all rest here h.0)
 
 pub before_end : (a b c : Option (List ℕ)) (text : List ℕ) → Before a b text → IsAtEnd b → Keeps b c → TakesModule a c text
 before_end None b c text h end k = tt
 before_end (Some all) None c text h end k = absurd h
 before_end (Some all) (Some rest) None text h end k = absurd k
 before_end (Some all) (Some rest) (Some new) text h end k =
-    let front : take (length all - length rest) all ≡ text = front_is all text rest h.1 in
+    let preceding : take (length all - length rest) all ≡ text = preceding_is all text rest h.1 in
     let none : rest ≡ [] = end in (
-      rw (front, none, append-nil) at h.0.module_text,
+      rw (preceding, none, append-nil) at h.0.module_text,
       k ∙ none ∙ rw none at h.0.script_text,
     )
 

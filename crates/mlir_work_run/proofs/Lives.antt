@@ -21,8 +21,8 @@ use Rattle.mlir_work_session.specs.Reads.{Intake}
 use Rattle.mlir_work_session.specs.Replies.{module_refused_line}
 use Rattle.mlir_work_session.specs.Registry.{RegistryModel}
 use Rattle.mlir_work_session.specs.WriteFault.{WriteFault}
-use Rattle.mlir_work_session.specs.Writes.{Fails, Grows, GrowsFront, Stays, Stream, joined}
-use Rattle.mlir_work_session.proofs.Joins.{front_join, front_more, grows_fails, grows_join, grows_none, grows_stays}
+use Rattle.mlir_work_session.specs.Writes.{Fails, Grows, GrowsPreceding, Stays, Stream, joined}
+use Rattle.mlir_work_session.proofs.Joins.{preceding_join, preceding_more, grows_fails, grows_join, grows_none, grows_stays}
 use Rattle.mlir_work_session.proofs.Runs.{line_answered, status_before, worse_after}
 use Rattle.mlir_work_run.specs.Ends.{HandedOut, IsFinal}
 use Rattle.mlir_work_run.specs.Live.{Anywhere, AreFirst, BeforeTooLong, HasFailedLive, IsLive, IsLiveOf, IsTooLong, IsUpTo, Live, LiveEnded, LiveEndedAt, LiveLeaves, Lives, MayStop, divider_bytes, exit_of, halt_of, halted_of, whole_lines}
@@ -185,7 +185,7 @@ module _ (setting : Setting) (before : ℕ) (begun : Sitting) where
 
   -- a write of the line's answer failed
   pub lived_cut : (o mid new : Option (List ℕ)) (read more n : ℕ) (s t : Sitting) (accepted handed : Bool) (a b c : Stream) (line told_out : List ℕ) (told : Option Bool) → Lived o mid read n s accepted a b → TakesLine mid new line → 0 < length line → length line ≤ most_script_bytes → more ≡ read + length line →
-      IsAnswered (way_at setting more) n s (line_expects (line_of line)) (line_says (line_of line)) t told told_out → GrowsFront b c told_out → IfSome o (λ script. LiveEnded before (Lives setting before 1 begun) (whole_lines script) a c handed (Err WriteFailed))
+      IsAnswered (way_at setting more) n s (line_expects (line_of line)) (line_says (line_of line)) t told told_out → GrowsPreceding b c told_out → IfSome o (λ script. LiveEnded before (Lives setting before 1 begun) (whole_lines script) a c handed (Err WriteFailed))
   lived_cut None mid new read more n s t accepted handed a b c line told_out told h takes some short is answered wrote = tt
   lived_cut (Some all) None new read more n s t accepted handed a b c line told_out told h takes some short is answered wrote = absurd h
   lived_cut (Some all) (Some left) None read more n s t accepted handed a b c line told_out told h takes some short is answered wrote = absurd takes
@@ -197,53 +197,53 @@ module _ (setting : Setting) (before : ℕ) (begun : Sitting) where
         out ++ told_out,
         (whole_lines rest, cut ∙ ap (λ (xs : List (List ℕ)). lines ++ xs) next ∙ sym (append_assoc lines (line ∷ []) (whole_lines rest))),
         goes_so_far (lines ++ line ∷ []) (read + length line) (number_after n told) t (accepted_after accepted told) (out ++ told_out) step,
-        front_join a b c out told_out grows wrote,
+        preceding_join a b c out told_out grows wrote,
       )
 
 -- ---- a module and the lines after it
 
 module _ (setting : Setting) (boxes : List Shown) (m : Module) (before : ℕ) where
-  live_of : (s : State) (accepted : Bool) (front : List ℕ) → Begun setting.options.ends boxes m s accepted front → (lines : List (List ℕ)) (later : ℕ) (rest : List ℕ) → Lives setting before 1 (opening setting.start s) lines later rest → Live setting boxes m before lines (worse accepted later) (front ++ rest)
-  live_of s accepted front h lines later rest k = record { begun = s; accepted = accepted; front = front; later = later; rest = rest; begins = h; lives = k; status_is = refl; out_is = refl }
+  live_of : (s : State) (accepted : Bool) (preceding : List ℕ) → Begun setting.options.ends boxes m s accepted preceding → (lines : List (List ℕ)) (later : ℕ) (rest : List ℕ) → Lives setting before 1 (opening setting.start s) lines later rest → Live setting boxes m before lines (worse accepted later) (preceding ++ rest)
+  live_of s accepted preceding h lines later rest k = record { begun = s; accepted = accepted; preceding = preceding; later = later; rest = rest; begins = h; lives = k; status_is = refl; out_is = refl }
 
   abbrev After : State → List ℕ → Bool → Stream → Stream → Type 0
-  After s front accepted a b = Begun setting.options.ends boxes m s accepted front × Grows a b front
+  After s preceding accepted a b = Begun setting.options.ends boxes m s accepted preceding × Grows a b preceding
 
-  up_to_after : (May : MayStop) (s : State) (accepted : Bool) (front : List ℕ) (all : List (List ℕ)) (a b c : Stream) → After s front accepted a b → IsUpTo May (Lives setting before 1 (opening setting.start s)) all b c → IsUpTo May (Live setting boxes m before) all a c
-  up_to_after May s accepted front all a b c (h, wrote) (lines, later, rest, first, may, lives, more) = (lines, worse accepted later, front ++ rest, first, may, live_of s accepted front h lines later rest lives, grows_join a b c front rest wrote more)
+  up_to_after : (May : MayStop) (s : State) (accepted : Bool) (preceding : List ℕ) (all : List (List ℕ)) (a b c : Stream) → After s preceding accepted a b → IsUpTo May (Lives setting before 1 (opening setting.start s)) all b c → IsUpTo May (Live setting boxes m before) all a c
+  up_to_after May s accepted preceding all a b c (h, wrote) (lines, later, rest, first, may, lives, more) = (lines, worse accepted later, preceding ++ rest, first, may, live_of s accepted preceding h lines later rest lives, grows_join a b c preceding rest wrote more)
 
   -- nothing was written after the answer to the module
-  none_after : (s : State) (accepted : Bool) (front : List ℕ) (all : List (List ℕ)) (a b c : Stream) → After s front accepted a b → Stays b c → IsUpTo Anywhere (Live setting boxes m before) all a c
-  none_after s accepted front all a b c (h, wrote) stays = ([], worse accepted 0, front ++ [], (all, refl), tt, live_of s accepted front h [] 0 [] (refl, refl), rw append-nil (grows_stays a b c front wrote stays))
+  none_after : (s : State) (accepted : Bool) (preceding : List ℕ) (all : List (List ℕ)) (a b c : Stream) → After s preceding accepted a b → Stays b c → IsUpTo Anywhere (Live setting boxes m before) all a c
+  none_after s accepted preceding all a b c (h, wrote) stays = ([], worse accepted 0, preceding ++ [], (all, refl), tt, live_of s accepted preceding h [] 0 [] (refl, refl), rw append-nil (grows_stays a b c preceding wrote stays))
 
   -- the status of the lines, and of the whole run
   abbrev pub worse_of : Bool → Result ℕ Halt → Result ℕ Halt
   worse_of accepted (Ok status) = Ok (worse accepted status)
   worse_of accepted (Err halt) = Err halt
 
-  trailing : (s : State) (accepted : Bool) (front : List ℕ) (all : List (List ℕ)) (a b c : Stream) (handed : Bool) (r q : Result ℕ Halt) → q ≡ worse_of accepted r → After s front accepted a b → LiveEnded before (Lives setting before 1 (opening setting.start s)) all b c handed r → LiveEnded before (Live setting boxes m before) all a c handed q
-  trailing s accepted front all a b c handed (Ok later) q is (h, wrote) (rest, lives, more, on) = rw is (front ++ rest, live_of s accepted front h all later rest lives, grows_join a b c front rest wrote more, on)
-  trailing s accepted front all a b c handed (Err ReadFailed) q is had (on, inl stays) = rw is (on, inr (none_after s accepted front all a b c had stays))
-  trailing s accepted front all a b c handed (Err ReadFailed) q is had (on, inr h) = rw is (on, inr (up_to_after Anywhere s accepted front all a b c had h))
-  trailing s accepted front all a b c handed (Err NoMemory) q is had (on, h) = rw is (on, up_to_after Anywhere s accepted front all a b c had h)
-  trailing s accepted front all a b c handed (Err TooLong) q is had (on, h) = rw is (on, up_to_after (BeforeTooLong before all) s accepted front all a b c had h)
-  trailing s accepted front all a b c handed (Err WriteFailed) q is (h, wrote) (lines, later, rest, first, lives, more) = rw is (lines, worse accepted later, front ++ rest, first, live_of s accepted front h lines later rest lives, front_join a b c front rest wrote more)
+  trailing : (s : State) (accepted : Bool) (preceding : List ℕ) (all : List (List ℕ)) (a b c : Stream) (handed : Bool) (r q : Result ℕ Halt) → q ≡ worse_of accepted r → After s preceding accepted a b → LiveEnded before (Lives setting before 1 (opening setting.start s)) all b c handed r → LiveEnded before (Live setting boxes m before) all a c handed q
+  trailing s accepted preceding all a b c handed (Ok later) q is (h, wrote) (rest, lives, more, on) = rw is (preceding ++ rest, live_of s accepted preceding h all later rest lives, grows_join a b c preceding rest wrote more, on)
+  trailing s accepted preceding all a b c handed (Err ReadFailed) q is had (on, inl stays) = rw is (on, inr (none_after s accepted preceding all a b c had stays))
+  trailing s accepted preceding all a b c handed (Err ReadFailed) q is had (on, inr h) = rw is (on, inr (up_to_after Anywhere s accepted preceding all a b c had h))
+  trailing s accepted preceding all a b c handed (Err NoMemory) q is had (on, h) = rw is (on, up_to_after Anywhere s accepted preceding all a b c had h)
+  trailing s accepted preceding all a b c handed (Err TooLong) q is had (on, h) = rw is (on, up_to_after (BeforeTooLong before all) s accepted preceding all a b c had h)
+  trailing s accepted preceding all a b c handed (Err WriteFailed) q is (h, wrote) (lines, later, rest, first, lives, more) = rw is (lines, worse accepted later, preceding ++ rest, first, live_of s accepted preceding h lines later rest lives, preceding_join a b c preceding rest wrote more)
 
-  after_if : (o : Option (List ℕ)) (s : State) (accepted : Bool) (front : List ℕ) (a b c : Stream) (handed : Bool) (r q : Result ℕ Halt) → q ≡ worse_of accepted r → Begun setting.options.ends boxes m s accepted front → Grows a b front →
+  after_if : (o : Option (List ℕ)) (s : State) (accepted : Bool) (preceding : List ℕ) (a b c : Stream) (handed : Bool) (r q : Result ℕ Halt) → q ≡ worse_of accepted r → Begun setting.options.ends boxes m s accepted preceding → Grows a b preceding →
       IfSome o (λ script. LiveEnded before (Lives setting before 1 (opening setting.start s)) (whole_lines script) b c handed r) → IfSome o (λ script. LiveEnded before (Live setting boxes m before) (whole_lines script) a c handed q)
-  after_if None s accepted front a b c handed r q is h wrote more = tt
-  after_if (Some script) s accepted front a b c handed r q is h wrote more = trailing s accepted front (whole_lines script) a b c handed r q is (h, wrote) more
+  after_if None s accepted preceding a b c handed r q is h wrote more = tt
+  after_if (Some script) s accepted preceding a b c handed r q is h wrote more = trailing s accepted preceding (whole_lines script) a b c handed r q is (h, wrote) more
 
   -- the registry was empty at the first line
-  pub after_registry : (o : Option (List ℕ)) (s : State) (registry : RegistryModel) (accepted : Bool) (front : List ℕ) (a b c : Stream) (handed : Bool) (r q : Result ℕ Halt) → registry ≡ setting.start → q ≡ worse_of accepted r → Begun setting.options.ends boxes m s accepted front → Grows a b front →
+  pub after_registry : (o : Option (List ℕ)) (s : State) (registry : RegistryModel) (accepted : Bool) (preceding : List ℕ) (a b c : Stream) (handed : Bool) (r q : Result ℕ Halt) → registry ≡ setting.start → q ≡ worse_of accepted r → Begun setting.options.ends boxes m s accepted preceding → Grows a b preceding →
       IfSome o (λ script. LiveEnded before (Lives setting before 1 (record { state = s; registry = registry })) (whole_lines script) b c handed r) → IfSome o (λ script. LiveEnded before (Live setting boxes m before) (whole_lines script) a c handed q)
-  after_registry o s registry accepted front a b c handed r q none is h wrote more =
-      after_if o s accepted front a b c handed r q is h wrote (subst (λ (k : RegistryModel). IfSome o (λ script. LiveEnded before (Lives setting before 1 (record { state = s; registry = k })) (whole_lines script) b c handed r)) none more)
+  after_registry o s registry accepted preceding a b c handed r q none is h wrote more =
+      after_if o s accepted preceding a b c handed r q is h wrote (subst (λ (k : RegistryModel). IfSome o (λ script. LiveEnded before (Lives setting before 1 (record { state = s; registry = k })) (whole_lines script) b c handed r)) none more)
 
   -- a write of the answer to the module failed
-  pub begun_cut : (o : Option (List ℕ)) (s : State) (accepted : Bool) (front : List ℕ) (a b : Stream) (handed : Bool) → Begun setting.options.ends boxes m s accepted front → GrowsFront a b front → IfSome o (λ script. LiveEnded before (Live setting boxes m before) (whole_lines script) a b handed (Err WriteFailed))
-  begun_cut None s accepted front a b handed h wrote = tt
-  begun_cut (Some script) s accepted front a b handed h wrote = ([], worse accepted 0, front ++ [], (whole_lines script, refl), live_of s accepted front h [] 0 [] (refl, refl), front_more a b front [] wrote)
+  pub begun_cut : (o : Option (List ℕ)) (s : State) (accepted : Bool) (preceding : List ℕ) (a b : Stream) (handed : Bool) → Begun setting.options.ends boxes m s accepted preceding → GrowsPreceding a b preceding → IfSome o (λ script. LiveEnded before (Live setting boxes m before) (whole_lines script) a b handed (Err WriteFailed))
+  begun_cut None s accepted preceding a b handed h wrote = tt
+  begun_cut (Some script) s accepted preceding a b handed h wrote = ([], worse accepted 0, preceding ++ [], (whole_lines script, refl), live_of s accepted preceding h [] 0 [] (refl, refl), preceding_more a b preceding [] wrote)
 
 -- ---- weakening the end of a run
 
@@ -289,7 +289,7 @@ module _ (P : List (List ℕ) → ℕ → List ℕ → Type 0) (all : List (List
   then_ended before handed (Err ReadFailed) (on, inr h) = (on, inr (then_up_to Anywhere h))
   then_ended before handed (Err NoMemory) (on, h) = (on, then_up_to Anywhere h)
   then_ended before handed (Err TooLong) (on, h) = (on, then_up_to (BeforeTooLong before all) h)
-  then_ended before handed (Err WriteFailed) (lines, st, o, first, p, h) = (lines, st, o, first, p, front_join a b c [] o (grows_stays a a b [] (grows_none a) stays) h)
+  then_ended before handed (Err WriteFailed) (lines, st, o, first, p, h) = (lines, st, o, first, p, preceding_join a b c [] o (grows_stays a a b [] (grows_none a) stays) h)
 
 -- ---- whole inputs
 

@@ -44,8 +44,8 @@ pub numbered_meaning : (c : ContextModel) (t : Op) → IsNumberedFrom 0 (meaning
 numbered_meaning c t e = rw (map_ids (name_term c) (type_term c) (attr_term c) t) at e
 
 -- a tree of term numbers is valid if the tree that it denotes is
-pub formed_meaning : (c : ContextModel) (t : Op) → IsValidTree is_isolated (meaning c t) → IsValidTree (isolated_in c) t
-formed_meaning c t w = record {
+pub wellformed_meaning : (c : ContextModel) (t : Op) → IsValidTree is_isolated (meaning c t) → IsValidTree (isolated_in c) t
+wellformed_meaning c t w = record {
   visible = subst IsTrue (map_operands_visible (name_term c) (type_term c) (attr_term c) is_isolated t) w.visible;
   shallow = rw (← map_depth (name_term c) (type_term c) (attr_term c) t) w.shallow;
   counts = subst IsTrue (map_counts (name_term c) (type_term c) (attr_term c) t) w.counts;

@@ -72,7 +72,7 @@ session_of : (setting : Setting) (boxes : List Shown) (m : Module) (input : List
 session_of setting boxes m input status out h = record {
   panel = h.begins.panel;
   accepted = h.accepted;
-  front = h.begins.front;
+  preceding = h.begins.preceding;
   later = h.later;
   rest = h.rest;
   attached = h.begins.attached;

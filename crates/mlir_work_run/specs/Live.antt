@@ -13,7 +13,7 @@ use Rattle.mlir_work_session.specs.Panels.{Shown}
 use Rattle.mlir_work_session.specs.Parts.{module_text}
 use Rattle.mlir_work_session.specs.Reads.{Intake}
 use Rattle.mlir_work_session.specs.WriteFault.{WriteFault}
-use Rattle.mlir_work_session.specs.Writes.{Grows, GrowsFront, Stays, Stream, joined}
+use Rattle.mlir_work_session.specs.Writes.{Grows, GrowsPreceding, Stays, Stream, joined}
 use Rattle.mlir_work_run.specs.Ends.{IsFinal}
 use Rattle.mlir_work_run.specs.Whole.{IsOutput, IsTooMany, IsUnparsed, IsWorldOf, Setting, way_at}
 use Rattle.mlir_work_run.specs.declared.live.Halt.{Halt}
@@ -43,13 +43,13 @@ Lives setting read n s (line ∷ lines) status out =
 pub record Live (setting : Setting) (boxes : List Shown) (m : Module) (read : ℕ) (lines : List (List ℕ)) (status : ℕ) (out : List ℕ) : Type 0 where
   pub begun : State
   pub accepted : Bool
-  pub front : List ℕ
+  pub preceding : List ℕ
   pub later : ℕ
   pub rest : List ℕ
-  pub begins : Begun setting.options.ends boxes m begun accepted front
+  pub begins : Begun setting.options.ends boxes m begun accepted preceding
   pub lives : Lives setting read 1 (opening setting.start begun) lines later rest
   pub status_is : status ≡ worse accepted later
-  pub out_is : out ≡ front ++ rest
+  pub out_is : out ≡ preceding ++ rest
 
 -- this status and these bytes are a live answer to the text of a module and the lines after it
 abbrev pub IsLive : Setting → List Shown → List ℕ → List (List ℕ) → ℕ → List ℕ → Type 0
@@ -127,7 +127,7 @@ IsUpTo May P all old new =
 abbrev pub IsCutOff : (List (List ℕ) → ℕ → List ℕ → Type 0) → List (List ℕ) → Stream → Stream → Type 0
 IsCutOff P all old new =
     (lines : List (List ℕ)) × (status : ℕ) × (out : List ℕ)
-    × AreFirst all lines × P lines status out × GrowsFront old new out
+    × AreFirst all lines × P lines status out × GrowsPreceding old new out
 
 -- all lines were answered as `P` says, and the answers were flushed; or only the first lines were answered, with
 -- flushed answers, because a read failed (maybe before anything was written), memory ran out for the next line, or

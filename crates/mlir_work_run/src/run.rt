@@ -143,7 +143,7 @@ fn next_free(tree: &TreeOp) -> Option<u32>
 pub fn hold(alloc: Global, ctx: Context, tree: TreeOp) -> Option<World>
     requires sound { IsSoundIn ctx tree }
     requires numbered { IsNumberedFrom 0 tree }
-    requires formed { IsValidTree (isolated_in ctx) tree }
+    requires wellformed { IsValidTree (isolated_in ctx) tree }
     ensures module { IfSome result (λ w. module_in w ≡ record { tree = meaning ctx tree; next = op_count tree }) }
     ensures ctx { IfSome result (λ w. w.ctx ≡ ctx) }
     ensures slotted { IfSome result (λ w. TracksRemovedKeys w.store) }

@@ -15,6 +15,7 @@ use Rattle.ir_event.specs.types.declared.refusal.Refusal.TheVariants.{OtherTable
 use Rattle.ir_event.specs.types.declared.refusal.Refusal.TheVariants.{TooDeepHere, TooManyMarks, NoMark, Memory, Stale}
 use Rattle.ir_event.specs.types.declared.refusal.Refusal.TheVariants.{NoSuchKind, KindTaken, BadLimit, NotLegalised}
 use Rattle.ir_event.specs.types.declared.refusal.Refusal.TheVariants.{ChainTooDeep, Unreconciled, BadTarget, BadCommand}
+use Rattle.ir_event.specs.types.declared.refusal.Refusal.TheVariants.{NotProved}
 use Rattle.mlir_work_script_base.specs.Numbers.{number_of}
 use Rattle.mlir_work_script_base.specs.Words.{trim, word_of, after_word}
 
@@ -25,7 +26,7 @@ all_refusals =
     ∷ Successors ∷ TooDeep ∷ TooMany ∷ DuplicateKey ∷ LeftOut ∷ NotUtf8 ∷ NoSuchOp ∷ NoSuchValue ∷ HasUses
     ∷ NotVisible ∷ TypeDiffers ∷ NoSuchIndex ∷ NoSuchKey ∷ IntoItself ∷ OtherTable ∷ IsRoot ∷ NotEmpty ∷ Full
     ∷ IdsExhausted ∷ TooDeepHere ∷ TooManyMarks ∷ NoMark ∷ Memory ∷ Stale ∷ NoSuchKind ∷ KindTaken ∷ BadLimit
-    ∷ NotLegalised ∷ ChainTooDeep ∷ Unreconciled ∷ BadTarget ∷ BadCommand ∷ []
+    ∷ NotLegalised ∷ ChainTooDeep ∷ Unreconciled ∷ BadTarget ∷ BadCommand ∷ NotProved ∷ []
 
 -- whether a number is a refusal's
 abbrev pub is_number_of : Option ℕ → Refusal → Bool

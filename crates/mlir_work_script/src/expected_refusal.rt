@@ -8,7 +8,7 @@ use mlir_work_script_base::numbers::parse_number;
 use mlir_work_script_base::words::{is_text, split_word, trim};
 
 /// All refusals in the order of their numbers.
-const REFUSALS: [Refusal; 40] = [
+const REFUSALS: [Refusal; 41] = [
     Refusal::BadToken,
     Refusal::Unexpected,
     Refusal::UnknownValue,
@@ -49,6 +49,7 @@ const REFUSALS: [Refusal; 40] = [
     Refusal::Unreconciled,
     Refusal::BadTarget,
     Refusal::BadCommand,
+    Refusal::NotProved,
 ];
 
 fn all_refusals() -> &'static [Refusal]

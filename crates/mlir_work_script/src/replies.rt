@@ -215,33 +215,33 @@ pub fn write_module_refused<W: Sink>(
 /// Writes a word in two parts between two texts.
 fn write_between<'a, W: Sink>(
     writer: &mut W,
-    front: &'a [u8],
+    preceding: &'a [u8],
     stem: &'a [u8],
     digits: &'a [u8],
     back: &'a [u8],
 ) -> Result<(), WriteFault>
     ensures { Writes (W.stream writer.old) (W.stream writer.new)
-        (front.now ++ (stem.now ++ (digits.now ++ back.now))) result }
+        (preceding.now ++ (stem.now ++ (digits.now ++ back.now))) result }
 {
-    write_all(writer, &[front, stem, digits, back])
+    write_all(writer, &[preceding, stem, digits, back])
 }
 
 /// Writes the word of a kind between two texts.
 fn write_with_kind<W: Sink>(
     writer: &mut W,
-    front: &[u8],
+    preceding: &[u8],
     kind: Kind,
     back: &[u8],
 ) -> Result<(), WriteFault>
-    ensures { Writes (W.stream writer.old) (W.stream writer.new) (front.now ++ (kind_word kind ++ back.now)) result }
+    ensures { Writes (W.stream writer.old) (W.stream writer.new) (preceding.now ++ (kind_word kind ++ back.now)) result }
 {
     match name_of(kind) {
-        Some(name) => write_between(writer, front, name, b"", back),
+        Some(name) => write_between(writer, preceding, name, b"", back),
         None => {
             let mut number = Buffer::new();
             write_between(
                 writer,
-                front,
+                preceding,
                 b"kind",
                 number.format(kind.number()).as_bytes(),
                 back,

@@ -11,4 +11,3 @@ pub mod Spanning
 pub mod Quotes
 pub mod Listed
 pub mod Wording
-pub mod Feeds

@@ -29,15 +29,15 @@ undivided : (bs : List ℕ) → at_divider bs ≡ false → (module_from true bs
 undivided [] e = (refl, refl)
 undivided (b ∷ bs) e = (rw e refl, rw e refl)
 
-pub take_front : (front back : List ℕ) → take (length front) (front ++ back) ≡ front
-take_front [] back = refl
-take_front (b ∷ front) back = ap (λ l. b ∷ l) (take_front front back)
+pub take_preceding : (preceding back : List ℕ) → take (length preceding) (preceding ++ back) ≡ preceding
+take_preceding [] back = refl
+take_preceding (b ∷ preceding) back = ap (λ l. b ∷ l) (take_preceding preceding back)
 
 -- the text before a suffix
-pub front_is : (input front back : List ℕ) → front ++ back ≡ input → take (length input - length back) input ≡ front
-front_is input front back e =
-    let n : length input - length back ≡ length front = rw (← e) (omega (arith, length-append front back)) in
-    rw n (rw (← e) (take_front front back))
+pub preceding_is : (input preceding back : List ℕ) → preceding ++ back ≡ input → take (length input - length back) input ≡ preceding
+preceding_is input preceding back e =
+    let n : length input - length back ≡ length preceding = rw (← e) (omega (arith, length-append preceding back)) in
+    rw n (rw (← e) (take_preceding preceding back))
 
 -- no line before `rest` is the divider
 pub record Passed (input rest : List ℕ) : Type 0 where
@@ -47,19 +47,19 @@ pub record Passed (input rest : List ℕ) : Type 0 where
 
 pub begins : (input : List ℕ) → Passed input input
 begins input =
-    let e = front_is input [] input refl in
+    let e = preceding_is input [] input refl in
     record { whole = rw e refl; module_text = rw e refl; script_text = refl }
 
 pub passes : (input rest : List ℕ) → at_divider rest ≡ false → Passed input rest → Passed input (after_line rest)
 passes input rest e h =
     let l = spans rest in
-    let front = take (length input - length rest) input in
+    let preceding = take (length input - length rest) input in
     let u = undivided rest e in
-    let w : (front ++ l.0) ++ after_line rest ≡ input = append_assoc front l.0 (after_line rest) ∙ ap (λ r. front ++ r) (sym l.1.whole) ∙ h.whole in
-    let f = front_is input (front ++ l.0) (after_line rest) w in
+    let w : (preceding ++ l.0) ++ after_line rest ≡ input = append_assoc preceding l.0 (after_line rest) ∙ ap (λ r. preceding ++ r) (sym l.1.whole) ∙ h.whole in
+    let f = preceding_is input (preceding ++ l.0) (after_line rest) w in
     record {
       whole = rw f w;
-      module_text = rw f (append_assoc front l.0 (module_from true (after_line rest)) ∙ ap (λ r. front ++ r) (sym (u.0 ∙ l.1.module_text)) ∙ h.module_text);
+      module_text = rw f (append_assoc preceding l.0 (module_from true (after_line rest)) ∙ ap (λ r. preceding ++ r) (sym (u.0 ∙ l.1.module_text)) ∙ h.module_text);
       script_text = sym (u.1 ∙ l.1.script_text) ∙ h.script_text;
     }
 

@@ -16,8 +16,8 @@ insertion_point_of (code.Start op region) = points.Start op region
 insertion_point_of (code.End op region) = points.End op region
 
 -- an insertion point next to an operation, and the rest of the text
-abbrev pub beside_in : (ℕ → points.Point) → List ℕ → Option (points.Point × List ℕ)
-beside_in make text = option_map (λ op. (make op, after_word text)) (op_of (word_of text))
+abbrev pub next_to_in : (ℕ → points.Point) → List ℕ → Option (points.Point × List ℕ)
+next_to_in make text = option_map (λ op. (make op, after_word text)) (op_of (word_of text))
 
 abbrev pub inside_from : (ℕ → ℕ → points.Point) → Option ℕ → Option ℕ → List ℕ → Option (points.Point × List ℕ)
 inside_from make (Some op) (Some region) rest = Some (make op region, rest)
@@ -32,8 +32,8 @@ inside_in make text =
 -- the insertion point with this first word
 abbrev pub point_named : List ℕ → List ℕ → Option (points.Point × List ℕ)
 point_named name rest =
-    if bytes_eq name (codes "before") then beside_in points.Before rest
-    else if bytes_eq name (codes "after") then beside_in points.After rest
+    if bytes_eq name (codes "before") then next_to_in points.Before rest
+    else if bytes_eq name (codes "after") then next_to_in points.After rest
     else if bytes_eq name (codes "start") then inside_in points.Start rest
     else if bytes_eq name (codes "end") then inside_in points.End rest
     else None

@@ -14,4 +14,3 @@ pub mod Subjects
 pub mod Writes
 pub mod Limits
 pub mod Reads
-pub mod Feeding

@@ -12,9 +12,9 @@ abbrev pub is_edge : ℕ → Bool
 is_edge b = (b == 32) || ((b == 9) || (b == 13))
 
 -- a text without leading spaces, tabs and carriage returns
-abbrev pub trim_front : List ℕ → List ℕ
-trim_front [] = []
-trim_front (b ∷ bs) = if is_edge b then trim_front bs else b ∷ bs
+abbrev pub trim_preceding : List ℕ → List ℕ
+trim_preceding [] = []
+trim_preceding (b ∷ bs) = if is_edge b then trim_preceding bs else b ∷ bs
 
 -- puts byte `b` before a text whose end is trimmed
 abbrev pub onto_cut : ℕ → List ℕ → List ℕ
@@ -28,7 +28,7 @@ trim_back (b ∷ bs) = onto_cut b (trim_back bs)
 
 -- a line trimmed at both ends
 abbrev pub trim : List ℕ → List ℕ
-trim line = trim_back (trim_front line)
+trim line = trim_back (trim_preceding line)
 
 -- a text without leading blanks
 abbrev pub skip_blanks : List ℕ → List ℕ

@@ -3,7 +3,7 @@ ghost use Rattle.std.specs.Prelude.{◌≡◌};
 ghost use Rattle.std.specs.Option.{option_map};
 ghost use Rattle.rewriter_machine.specs.Points as points;
 ghost use Rattle.mlir_work_script_base.specs.Numbers.{number_of};
-ghost use Rattle.mlir_work_script_base.specs.InsertionPoints.{insertion_point_of, beside_in, inside_in, point_in};
+ghost use Rattle.mlir_work_script_base.specs.InsertionPoints.{insertion_point_of, next_to_in, inside_in, point_in};
 ghost use Rattle.mlir_work_script_base.specs.Values.{op_of};
 ghost use Rattle.mlir_work_script_base.specs.Words.{word_of, after_word};
 
@@ -45,7 +45,7 @@ fn number_in(text: &[u8]) -> (Option<u32>, &[u8])
 
 /// Parses the argument of `before #N`, and returns the rest of the text.
 fn before(text: &[u8]) -> Option<(InsertionPoint, &[u8])>
-    ensures { option_map (λ x. (insertion_point_of x.0, x.1.now)) result ≡ beside_in points.Before text.now }
+    ensures { option_map (λ x. (insertion_point_of x.0, x.1.now)) result ≡ next_to_in points.Before text.now }
 {
     let (op, rest) = op_in(text);
     let op = op?;
@@ -54,7 +54,7 @@ fn before(text: &[u8]) -> Option<(InsertionPoint, &[u8])>
 
 /// Parses the argument of `after #N`, and returns the rest of the text.
 fn after(text: &[u8]) -> Option<(InsertionPoint, &[u8])>
-    ensures { option_map (λ x. (insertion_point_of x.0, x.1.now)) result ≡ beside_in points.After text.now }
+    ensures { option_map (λ x. (insertion_point_of x.0, x.1.now)) result ≡ next_to_in points.After text.now }
 {
     let (op, rest) = op_in(text);
     let op = op?;

@@ -1,8 +1,7 @@
 //! The lexical layer of scripts: reads an input, splits it into lines and words, parses names and clauses, and writes
 //! bytes. The crate knows no command.
 //!
-//! - `input` reads a whole input, and `feed` and `parts` read it line by line: a line is read only after the output
-//!   was flushed.
+//! - `input` reads a whole input.
 //! - `lines`, `words`, `items` and `cuts` split texts.
 //! - `numbers`, `values`, `subject`, `kind`, `keys`, `insertion_points`, `rule_name` and `clauses` parse the parts of
 //!   commands.
@@ -12,7 +11,6 @@
 pub mod cells;
 pub mod clauses;
 pub mod cuts;
-pub mod feed;
 pub mod input;
 pub mod insertion_points;
 pub mod items;
@@ -21,7 +19,6 @@ pub mod kind;
 pub mod laws;
 pub mod lines;
 pub mod numbers;
-pub mod parts;
 pub mod rule_name;
 pub mod sink;
 pub mod source;

@@ -1,7 +1,7 @@
 //! Splits lines into words.
 ghost use Rattle.std.specs.Prelude.{◌≡◌, position};
 ghost use Rattle.std.specs.Str.{is_utf8};
-ghost use Rattle.mlir_work_script_base.specs.Words.{is_blank, is_edge, trim_front, trim_back, trim, skip_blanks, word_of};
+ghost use Rattle.mlir_work_script_base.specs.Words.{is_blank, is_edge, trim_preceding, trim_back, trim, skip_blanks, word_of};
 ghost use Rattle.mlir_work_script_base.specs.Words.{after_word};
 
 /// Returns whether a byte is a space or a tab.
@@ -18,8 +18,8 @@ fn is_edge(b: u8) -> bool
     b == b' ' || b == b'\t' || b == b'\r'
 }
 
-fn trim_front(text: &[u8]) -> &[u8]
-    ensures { result.now ≡ trim_front text.now }
+fn trim_preceding(text: &[u8]) -> &[u8]
+    ensures { result.now ≡ trim_preceding text.now }
 {
     let mut rest = text;
     while let [first, tail @ ..] = rest {
@@ -35,11 +35,11 @@ fn trim_back(text: &[u8]) -> &[u8]
     ensures { result.now ≡ trim_back text.now }
 {
     let mut rest = text;
-    while let [front @ .., last] = rest {
+    while let [preceding @ .., last] = rest {
         if !is_edge(*last) {
             break;
         }
-        rest = front;
+        rest = preceding;
     }
     rest
 }
@@ -48,7 +48,7 @@ fn trim_back(text: &[u8]) -> &[u8]
 pub fn trim(line: &[u8]) -> &[u8]
     ensures { result.now ≡ trim line.now }
 {
-    trim_back(trim_front(line))
+    trim_back(trim_preceding(line))
 }
 
 pub(crate) fn skip_blanks(text: &[u8]) -> &[u8]

@@ -25,11 +25,11 @@ pub fn write<W: Sink>(writer: &mut W, bytes: &[u8]) -> Result<(), WriteFault>
 }
 
 /// Writes the pieces one after another. After a fault, a prefix of them was written.
-pub fn write_all<W: Sink>(writer: &mut W, pieces: &[&[u8]]) -> Result<(), WriteFault>
-    ensures { Writes (W.stream writer.old) (W.stream writer.new) (joined (map (λ piece. piece.now) pieces.now)) result }
+pub fn write_all<W: Sink>(writer: &mut W, chunks: &[&[u8]]) -> Result<(), WriteFault>
+    ensures { Writes (W.stream writer.old) (W.stream writer.new) (joined (map (λ chunk. chunk.now) chunks.now)) result }
 {
-    for piece in pieces {
-        match write(writer, piece) {
+    for chunk in chunks {
+        match write(writer, chunk) {
             Ok(()) => {}
             Err(fault) => return Err(fault),
         }

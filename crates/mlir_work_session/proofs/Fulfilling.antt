@@ -4,7 +4,7 @@ use Rattle.std.specs.Prelude.{is_some, option_map, OnOk}
 use Rattle.ir_event.specs.types.declared.refusal.Refusal.{Refusal}
 use Rattle.ir_event.specs.types.declared.refusal.Refusal.TheVariants.{Memory, NoSuchKey, NoSuchKind, NoSuchOp}
 use Rattle.ir_event.specs.Modules.{Module}
-use Rattle.mlir_work_transforms.specs.rewriter.Commands.{AppliesRule, RuleName, Asked, Ask, Misplaced, Target, Unparsed, Follows, Response, Replied, TextRefusedAt}
+use Rattle.mlir_work_transforms.specs.rewriter.Commands.{AppliesRule, RuleName, Requested, Ask, Misplaced, Target, Unparsed, Follows, Response, Replied, TextRefusedAt}
 use Rattle.mlir_work_transforms.specs.rewriter.Machine as call
 use Rattle.mlir_work_transforms.specs.rewriter.Machine.{State, Call, Reply, Done, Refused, Shows, Nothing, Transformation, Tree, Goes}
 use Rattle.mlir_work_transforms.specs.rewriter.Panels.{Shown}
@@ -13,7 +13,7 @@ use Rattle.mlir_work_session_base.specs.IdsText.{ids_text}
 use Rattle.mlir_work_session.specs.Machine.{AsksWhy, AttachesKind, RunsSessionCommand, OrdersIn, SessionSetting, limit_or, order_bytes, told_if, AsksAbout, order_shows, shows_about}
 use Rattle.mlir_work_script_base.specs.declared.subject.Subject.{Subject}
 use Rattle.mlir_work_session_base.specs.Subjects.{absent, is_there}
-use Rattle.mlir_work_registry.specs.Replies.{IsBounded, is_accepted}
+use Rattle.mlir_work_transforms.specs.registry.Replies.{IsBounded, is_accepted}
 use Rattle.mlir_work_transforms.specs.greedy.Changes.{canonical_reply, rewriting}
 use Rattle.mlir_work_transforms.specs.greedy.Tracing.{trace_of}
 use Rattle.mlir_work_transforms.specs.greedy.PatternSet.{by_rules}
@@ -24,7 +24,7 @@ use Rattle.mlir_work_transforms.specs.Rewriting.{rewriting_named, rules_named}
 use Rattle.mlir_work_transforms.specs.TraceText.{trace_by, trace_text, traced_rules, tracing}
 use Rattle.mlir_work_transforms.specs.Rule.{Rule}
 use Rattle.mlir_work_transforms.specs.At.{canonicalizing_at}
-use Rattle.mlir_work_transforms.specs.WhyText.{asked_rules, why_lines, why_text}
+use Rattle.mlir_work_transforms.specs.WhyText.{requested_rules, why_lines, why_text}
 use Rattle.ir_event.specs.trees.Ids.{has_id}
 use Rattle.mlir_work_session.proofs.Obeying.{some_goes}
 use Rattle.mlir_work_session.proofs.Panels.{all_stay}
@@ -32,14 +32,14 @@ use Rattle.mlir_work_session.proofs.Panels.{all_stay}
 module _ (setting : SessionSetting) where
   -- a session command that calls the machine
   pub fulfils_call : (s t : State) (o : SessionCommand) (c : Call) (reply : Reply) (shows : Shows) → OrdersIn setting o s.held (Ask c) → Goes s c reply shows t → RunsSessionCommand setting s o (Replied reply) (order_bytes setting o s.held (Replied reply) shows) t
-  fulfils_call s t o c reply shows asks goes = record { asked = Ask c; shows = shows; asks = asks; follows = goes; text = refl }
+  fulfils_call s t o c reply shows asks goes = record { requested = Ask c; shows = shows; asks = asks; follows = goes; text = refl }
 
   -- ---- attaching
 
   -- `attach` of a kind without an analysis is refused
   pub fulfils_unsupplied : (kind : ℕ) (s : State) → setting.supply kind ≡ None → RunsSessionCommand setting s (Attach kind) (Replied (Refused NoSuchKind)) [] s
   fulfils_unsupplied kind s e =
-      record { asked = Misplaced NoSuchKind; shows = Nothing; asks = subst (λ (o : Option Shown). AttachesKind o (Misplaced NoSuchKind)) (sym e) refl; follows = (refl, refl, refl); text = refl }
+      record { requested = Misplaced NoSuchKind; shows = Nothing; asks = subst (λ (o : Option Shown). AttachesKind o (Misplaced NoSuchKind)) (sym e) refl; follows = (refl, refl, refl); text = refl }
 
   asks_supplied : (kind : ℕ) (a : Shown) (m : Module) → setting.supply kind ≡ Some a → OrdersIn setting (Attach kind) m (Ask (call.Attach a))
   asks_supplied kind a m e = subst (λ (o : Option Shown). AttachesKind o (Ask (call.Attach a))) (sym e) refl
@@ -61,7 +61,7 @@ module _ (setting : SessionSetting) where
   -- a report about a missing operation or value is refused
   pub fulfils_no_subject : (kind : ℕ) (subject : Subject) (s : State) → is_there subject s.held.tree ≡ false → RunsSessionCommand setting s (ReportOf kind subject) (Replied (Refused (absent subject))) [] s
   fulfils_no_subject kind subject s e =
-      record { asked = Misplaced (absent subject); shows = Nothing; asks = subst (λ (there : Bool). AsksAbout there kind subject (Misplaced (absent subject))) (sym e) refl; follows = (refl, refl, refl); text = refl }
+      record { requested = Misplaced (absent subject); shows = Nothing; asks = subst (λ (there : Bool). AsksAbout there kind subject (Misplaced (absent subject))) (sym e) refl; follows = (refl, refl, refl); text = refl }
 
   asks_about : (kind : ℕ) (subject : Subject) (m : Module) → is_there subject m.tree ≡ true → OrdersIn setting (ReportOf kind subject) m (Ask (call.Report kind))
   asks_about kind subject m e = subst (λ (there : Bool). AsksAbout there kind subject (Ask (call.Report kind))) (sym e) refl
@@ -76,7 +76,7 @@ module _ (setting : SessionSetting) where
   -- `rewrite` with a name that isn't a rule's is refused
   pub fulfils_unruled : (names : List RuleName) (limit : Option ℕ) (s : State) → rewriting_named names (limit_or setting.session_options.limit limit) ≡ None → RunsSessionCommand setting s (Rewrite names limit) (Replied (Refused NoSuchKey)) [] s
   fulfils_unruled names limit s e =
-      record { asked = Misplaced NoSuchKey; shows = Nothing; asks = subst (λ (o : Option Transformation). AppliesRule o (Misplaced NoSuchKey)) (sym e) refl; follows = (refl, refl, refl); text = refl }
+      record { requested = Misplaced NoSuchKey; shows = Nothing; asks = subst (λ (o : Option Transformation). AppliesRule o (Misplaced NoSuchKey)) (sym e) refl; follows = (refl, refl, refl); text = refl }
 
   asks_ruled : (names : List RuleName) (limit : Option ℕ) (f : Transformation) (m : Module) → rewriting_named names (limit_or setting.session_options.limit limit) ≡ Some f → OrdersIn setting (Rewrite names limit) m (Ask (call.Change f))
   asks_ruled names limit f m e = subst (λ (o : Option Transformation). AppliesRule o (Ask (call.Change f))) (sym e) refl
@@ -99,7 +99,7 @@ module _ (setting : SessionSetting) where
   -- `trace` with a name that isn't a rule's is refused
   pub fulfils_untold : (names : Option (List RuleName)) (limit : Option ℕ) (s : State) → tracing names (limit_or setting.session_options.limit limit) ≡ None → RunsSessionCommand setting s (Trace names limit) (Replied (Refused NoSuchKey)) [] s
   fulfils_untold names limit s e =
-      record { asked = Misplaced NoSuchKey; shows = Nothing; asks = subst (λ (o : Option Transformation). AppliesRule o (Misplaced NoSuchKey)) (sym e) refl; follows = (refl, refl, refl); text = refl }
+      record { requested = Misplaced NoSuchKey; shows = Nothing; asks = subst (λ (o : Option Transformation). AppliesRule o (Misplaced NoSuchKey)) (sym e) refl; follows = (refl, refl, refl); text = refl }
 
   asks_told : (names : Option (List RuleName)) (limit : Option ℕ) (f : Transformation) (m : Module) → tracing names (limit_or setting.session_options.limit limit) ≡ Some f → OrdersIn setting (Trace names limit) m (Ask (call.Change f))
   asks_told names limit f m e = subst (λ (o : Option Transformation). AppliesRule o (Ask (call.Change f))) (sym e) refl
@@ -134,24 +134,24 @@ module _ (setting : SessionSetting) where
   -- ---- answers to `why`
 
   -- `why` with a name that isn't a rule's is refused
-  pub fulfils_unasked : (x : ℕ) (name : Option RuleName) (s : State) → asked_rules name x s.held ≡ None → RunsSessionCommand setting s (Why x name) (Replied (Refused NoSuchKey)) [] s
+  pub fulfils_unasked : (x : ℕ) (name : Option RuleName) (s : State) → requested_rules name x s.held ≡ None → RunsSessionCommand setting s (Why x name) (Replied (Refused NoSuchKey)) [] s
   fulfils_unasked x name s e =
-      record { asked = Misplaced NoSuchKey; shows = Nothing; asks = subst (λ (o : Option (List Rule)). AsksWhy o (has_id x s.held.tree) (Misplaced NoSuchKey)) (sym e) refl; follows = (refl, refl, refl); text = refl }
+      record { requested = Misplaced NoSuchKey; shows = Nothing; asks = subst (λ (o : Option (List Rule)). AsksWhy o (has_id x s.held.tree) (Misplaced NoSuchKey)) (sym e) refl; follows = (refl, refl, refl); text = refl }
 
   -- `why` of a missing operation is refused
-  pub fulfils_absent : (x : ℕ) (name : Option RuleName) (rs : List Rule) (s : State) → asked_rules name x s.held ≡ Some rs → has_id x s.held.tree ≡ false → RunsSessionCommand setting s (Why x name) (Replied (Refused NoSuchOp)) [] s
+  pub fulfils_absent : (x : ℕ) (name : Option RuleName) (rs : List Rule) (s : State) → requested_rules name x s.held ≡ Some rs → has_id x s.held.tree ≡ false → RunsSessionCommand setting s (Why x name) (Replied (Refused NoSuchOp)) [] s
   fulfils_absent x name rs s e gone =
-      record { asked = Misplaced NoSuchOp; shows = Nothing; asks = subst (λ (o : Option (List Rule)). AsksWhy o (has_id x s.held.tree) (Misplaced NoSuchOp)) (sym e) (subst (λ (b : Bool). AsksWhy (Some rs) b (Misplaced NoSuchOp)) (sym gone) refl); follows = (refl, refl, refl); text = refl }
+      record { requested = Misplaced NoSuchOp; shows = Nothing; asks = subst (λ (o : Option (List Rule)). AsksWhy o (has_id x s.held.tree) (Misplaced NoSuchOp)) (sym e) (subst (λ (b : Bool). AsksWhy (Some rs) b (Misplaced NoSuchOp)) (sym gone) refl); follows = (refl, refl, refl); text = refl }
 
-  asks_why : (x : ℕ) (name : Option RuleName) (rs : List Rule) (m : Module) → asked_rules name x m ≡ Some rs → has_id x m.tree ≡ true → OrdersIn setting (Why x name) m (Ask call.Print)
+  asks_why : (x : ℕ) (name : Option RuleName) (rs : List Rule) (m : Module) → requested_rules name x m ≡ Some rs → has_id x m.tree ≡ true → OrdersIn setting (Why x name) m (Ask call.Print)
   asks_why x name rs m e there = subst (λ (o : Option (List Rule)). AsksWhy o (has_id x m.tree) (Ask call.Print)) (sym e) (subst (λ (b : Bool). AsksWhy (Some rs) b (Ask call.Print)) (sym there) refl)
 
-  pub fulfils_why : (x : ℕ) (name : Option RuleName) (rs : List Rule) (s : State) (bytes : List ℕ) → asked_rules name x s.held ≡ Some rs → has_id x s.held.tree ≡ true → bytes ≡ why_lines rs x s.held → RunsSessionCommand setting s (Why x name) (Replied Done) bytes s
+  pub fulfils_why : (x : ℕ) (name : Option RuleName) (rs : List Rule) (s : State) (bytes : List ℕ) → requested_rules name x s.held ≡ Some rs → has_id x s.held.tree ≡ true → bytes ≡ why_lines rs x s.held → RunsSessionCommand setting s (Why x name) (Replied Done) bytes s
   fulfils_why x name rs s bytes e there is =
       rw (is ∙ ap (λ o. why_text o x s.held) (sym e)) (fulfils_call s s (Why x name) call.Print Done (Tree s.held.tree) (asks_why x name rs s.held e there) (record { answer = inl refl; panel = refl }))
 
   -- `why`, refused since memory ran out
-  pub fulfils_unwhy : (x : ℕ) (name : Option RuleName) (rs : List Rule) (s : State) → asked_rules name x s.held ≡ Some rs → has_id x s.held.tree ≡ true → RunsSessionCommand setting s (Why x name) (Replied (Refused Memory)) [] s
+  pub fulfils_unwhy : (x : ℕ) (name : Option RuleName) (rs : List Rule) (s : State) → requested_rules name x s.held ≡ Some rs → has_id x s.held.tree ≡ true → RunsSessionCommand setting s (Why x name) (Replied (Refused Memory)) [] s
   fulfils_unwhy x name rs s e there = fulfils_call s s (Why x name) call.Print (Refused Memory) Nothing (asks_why x name rs s.held e there) (record { answer = inr (refl, refl); panel = refl })
 
   -- ---- each session command has an answer, and none is refused at a byte
@@ -174,7 +174,7 @@ module _ (setting : SessionSetting) where
   by_trace s names limit None e = (Replied (Refused NoSuchKey), [], s, fulfils_untold names limit s e)
   by_trace s names limit (Some f) e = by_call s (Trace names limit) (call.Change f) (asks_told names limit f s.held e)
 
-  by_why : (s : State) (x : ℕ) (name : Option RuleName) (o : Option (List Rule)) (b : Bool) → asked_rules name x s.held ≡ o → has_id x s.held.tree ≡ b → SomeFulfilled s (Why x name)
+  by_why : (s : State) (x : ℕ) (name : Option RuleName) (o : Option (List Rule)) (b : Bool) → requested_rules name x s.held ≡ o → has_id x s.held.tree ≡ b → SomeFulfilled s (Why x name)
   by_why s x name None b e there = (Replied (Refused NoSuchKey), [], s, fulfils_unasked x name s e)
   by_why s x name (Some rs) false e there = (Replied (Refused NoSuchOp), [], s, fulfils_absent x name rs s e there)
   by_why s x name (Some rs) true e there = (Replied Done, why_lines rs x s.held, s, fulfils_why x name rs s (why_lines rs x s.held) e there refl)
@@ -191,7 +191,7 @@ module _ (setting : SessionSetting) where
   some_fulfilled s (Trace names limit) = by_trace s names limit (tracing names (limit_or setting.session_options.limit limit)) refl
   some_fulfilled s (TraceConvert target) = by_call s (TraceConvert target) (call.Change (conversion target)) refl
   some_fulfilled s (CanonAt x limit) = by_call s (CanonAt x limit) (call.Change (canonicalizing_at (limit_or setting.session_options.limit limit) x)) refl
-  some_fulfilled s (Why x name) = by_why s x name (asked_rules name x s.held) (has_id x s.held.tree) refl refl
+  some_fulfilled s (Why x name) = by_why s x name (requested_rules name x s.held) (has_id x s.held.tree) refl refl
 
 -- the trace of a rewrite by rules, if the list of lines was empty at first
 pub told_trace : (rs : List Rule) (n limit : ℕ) (m : Module) (called : Result Ended Refusal) (before after bytes : List ℕ) (names : List (List ℕ)) → n ≡ limit → before ≡ [] → names ≡ [] → OnOk called (after ≡ before ++ trace_text names (trace_of (by_rules rs) n m))
@@ -225,7 +225,7 @@ never_unparsed setting (Trace names limit) m refusal offset asks = go (tracing n
     go (Some f) e = absurd cc
 never_unparsed setting (TraceConvert target) m refusal offset asks = absurd (let e : Unparsed refusal offset ≡ Ask (call.Change (conversion target)) = asks in cc)
 never_unparsed setting (CanonAt x limit) m refusal offset asks = absurd (let e : Unparsed refusal offset ≡ Ask (call.Change (canonicalizing_at (limit_or setting.session_options.limit limit) x)) = asks in cc)
-never_unparsed setting (Why x name) m refusal offset asks = go (asked_rules name x m) (has_id x m.tree) asks
+never_unparsed setting (Why x name) m refusal offset asks = go (requested_rules name x m) (has_id x m.tree) asks
   where
     go : (o : Option (List Rule)) (b : Bool) → AsksWhy o b (Unparsed refusal offset) → ⊥
     go None b e = absurd cc
@@ -238,11 +238,11 @@ never_unparsed setting (ReportOf kind subject) m refusal offset asks = go (is_th
     go true e = absurd cc
 never_unparsed setting PrintIds m refusal offset asks = absurd (let e : Unparsed refusal offset ≡ Ask call.Print = asks in cc)
 
-not_at : (setting : SessionSetting) (s t : State) (o : SessionCommand) (asked : Asked) (shows : Shows) (refusal : Refusal) (offset : ℕ) → OrdersIn setting o s.held asked → Follows s asked (TextRefusedAt refusal offset) shows t → ⊥
+not_at : (setting : SessionSetting) (s t : State) (o : SessionCommand) (requested : Requested) (shows : Shows) (refusal : Refusal) (offset : ℕ) → OrdersIn setting o s.held requested → Follows s requested (TextRefusedAt refusal offset) shows t → ⊥
 not_at setting s t o (Ask c) shows refusal offset asks follows = follows
 not_at setting s t o (Misplaced why) shows refusal offset asks follows = absurd (let e : TextRefusedAt refusal offset ≡ Replied (Refused why) = follows.0 in cc)
 not_at setting s t o (Unparsed why place) shows refusal offset asks follows = never_unparsed setting o s.held why place asks
 
 pub fulfils_bounded : (bytes : ℕ) (setting : SessionSetting) (s : State) (o : SessionCommand) (response : Response) (shown : List ℕ) (t : State) → RunsSessionCommand setting s o response shown t → IsBounded bytes response
 fulfils_bounded bytes setting s o response shown t h = λ refusal offset is.
-    absurd (not_at setting s t o h.asked h.shows refusal offset h.asks (subst (λ (r : Response). Follows s h.asked r h.shows t) is h.follows))
+    absurd (not_at setting s t o h.requested h.shows refusal offset h.asks (subst (λ (r : Response). Follows s h.requested r h.shows t) is h.follows))

@@ -6,7 +6,7 @@ pub mod Fulfilling
 pub mod Owning
 pub mod About
 pub mod Mixes
-pub mod Room
+pub mod Headroom
 pub mod Listings
 pub mod Runs
 pub mod Asking

@@ -4,7 +4,7 @@ use Rattle.std.specs.Prelude.{is_some, option_map, OnOk}
 use Rattle.ir_event.specs.types.declared.refusal.Refusal.{Refusal}
 use Rattle.ir_event.specs.types.declared.refusal.Refusal.TheVariants.{Full, Memory, NoSuchKey}
 use Rattle.ir_event.specs.Modules.{Module}
-use Rattle.mlir_work_transforms.specs.rewriter.Commands.{AppliesRule, Asked, Ask, Misplaced, Unparsed, Follows, Response, Replied, TextRefusedAt}
+use Rattle.mlir_work_transforms.specs.rewriter.Commands.{AppliesRule, Requested, Ask, Misplaced, Unparsed, Follows, Response, Replied, TextRefusedAt}
 use Rattle.mlir_work_transforms.specs.rewriter.Machine as call
 use Rattle.mlir_work_transforms.specs.rewriter.Machine.{State, Call, Reply, Refused, Nothing, Transformation, Goes, IsFullSo}
 use Rattle.mlir_work_transforms.specs.greedy.Changes.{canonical_reply, rewriting}
@@ -13,16 +13,16 @@ use Rattle.mlir_work_transforms.specs.greedy.PatternSet.{RuleOrPatternModel, by_
 use Rattle.mlir_work_transforms.specs.greedy.declared.outcome.Outcome.{Outcome as Ended}
 use Rattle.mlir_work_transforms.specs.TraceText.{trace_text}
 use Rattle.mlir_work_script.specs.SessionCommands.{SessionCommand}
-use Rattle.mlir_work_registry.specs.Replies.{IsBounded, is_accepted}
-use Rattle.mlir_work_registry.specs.Registry.{RegistryModel}
-use Rattle.mlir_work_transforms.specs.RuleLists.{Listed, all_listed, attempts_in, mixed_trace, mixing, names_in}
+use Rattle.mlir_work_transforms.specs.registry.Replies.{IsBounded, is_accepted}
+use Rattle.mlir_work_transforms.specs.registry.Registry.{RegistryModel}
+use Rattle.mlir_work_transforms.specs.RuleLists.{Listed, all_listed, attempts_in, rule_list_trace, mixing, names_in}
 use Rattle.mlir_work_transforms.specs.Unproved.{unproved_of}
 use Rattle.mlir_work_session.specs.declared.options.SessionOptions.{SessionOptions}
 use Rattle.mlir_work_session.specs.Machine.{IsContextFull, RunsSessionCommand, SessionSetting, limit_or, told_if}
-use Rattle.mlir_work_session.specs.RuleLists.{RunsListCommand, ListCommand, ListCommandRoom, Mixes, list_command_bytes, list_command_change, list_command_trace}
+use Rattle.mlir_work_session.specs.RuleLists.{RunsListCommand, ListCommand, ListCommandHeadroom, Mixes, list_command_bytes, list_command_change, list_command_trace}
 use Rattle.mlir_work_session.proofs.Fulfilling.{SomeFulfilled, fulfils_bounded, some_fulfilled}
 use Rattle.mlir_work_session.proofs.Panels.{all_stay}
-use Rattle.mlir_work_session.proofs.Room.{other_room, replied, widened}
+use Rattle.mlir_work_session.proofs.Headroom.{other_headroom, replied, widened}
 
 -- a called transformation leads to the next state
 pub follows_called : (s t : State) (f : Transformation) (reply : Reply) (response : Response) → response ≡ Replied reply → Goes s (call.Change f) reply Nothing t → Follows s (Ask (call.Change f)) response Nothing t
@@ -49,7 +49,7 @@ module _ (session_options : SessionOptions) (registry : RegistryModel) (x : List
   -- a list with a name that is neither a rule's nor a pattern's is refused
   pub mixes_unnamed : (s : State) → all_listed registry x.names ≡ None → Mixes session_options registry x s (Replied (Refused NoSuchKey)) [] s
   mixes_unnamed s e = record {
-    asked = Misplaced NoSuchKey;
+    requested = Misplaced NoSuchKey;
     asks = subst (λ (o : Option Transformation). AppliesRule o (Misplaced NoSuchKey)) (sym (ap (option_map (λ ls. change (attempts_in ls))) e)) refl;
     follows = (refl, refl, refl);
     text = refused_bytes session_options registry x s.held NoSuchKey;
@@ -62,7 +62,7 @@ module _ (session_options : SessionOptions) (registry : RegistryModel) (x : List
   pub mixes_found : (s t : State) (response : Response) (bytes : List ℕ) (ls : List Listed) (candidates : List RuleOrPatternModel) (n : ℕ) → all_listed registry x.names ≡ Some ls → candidates ≡ attempts_in ls → n ≡ limit_or session_options.limit x.limit
       → Follows s (Ask (call.Change (rewriting (by_attempts candidates) n))) response Nothing t → bytes ≡ list_command_bytes session_options registry x s.held response → Mixes session_options registry x s response bytes t
   mixes_found s t response bytes ls candidates n e is same follows text = record {
-    asked = Ask (call.Change (change (attempts_in ls)));
+    requested = Ask (call.Change (change (attempts_in ls)));
     asks = asks_named ls e;
     follows = subst (λ (k : ℕ). Follows s (Ask (call.Change (rewriting (by_attempts (attempts_in ls)) k))) response Nothing t) same (subst (λ (bs : List RuleOrPatternModel). Follows s (Ask (call.Change (rewriting (by_attempts bs) n))) response Nothing t) is follows);
     text = text;
@@ -75,7 +75,7 @@ module _ (session_options : SessionOptions) (registry : RegistryModel) (x : List
       go : (o : Option (List Listed)) → all_listed registry x.names ≡ o → Mixes session_options registry x s (Replied (Refused refusal)) [] s
       go None e = absurd (let f : false ≡ true = sym (ap is_some e) ∙ there in cc)
       go (Some ls) e = record {
-        asked = Ask (call.Change (change (attempts_in ls)));
+        requested = Ask (call.Change (change (attempts_in ls)));
         asks = asks_named ls e;
         follows = subst (λ (r : Refusal). Follows s (Ask (call.Change (change (attempts_in ls)))) (Replied (Refused r)) Nothing s) (sym is) (record { answer = inr (refl, inl refl); panel = all_stay s.panel });
         text = refused_bytes session_options registry x s.held refusal;
@@ -88,7 +88,7 @@ module _ (session_options : SessionOptions) (registry : RegistryModel) (x : List
       ap (λ ns. trace_text ns (trace_of (by_attempts candidates) n m)) named
       ∙ ap (λ bs. trace_text (names_in ls) (trace_of (by_attempts bs) n m)) is
       ∙ ap (λ k. trace_text (names_in ls) (trace_of (by_attempts (attempts_in ls)) k m)) same
-      ∙ sym (ap (λ o. mixed_trace o (limit_or session_options.limit x.limit) m) e)
+      ∙ sym (ap (λ o. rule_list_trace o (limit_or session_options.limit x.limit) m) e)
       ∙ sym (ap (λ b. list_command_trace b session_options registry x m) tells)
 
   -- the bytes below the reply: the lines of unproved patterns, and then the trace
@@ -104,12 +104,12 @@ module _ (session_options : SessionOptions) (registry : RegistryModel) (x : List
       ∙ sym (ap (λ b. told_if (is_accepted response) (unproved_of registry x.names m.tree ++ list_command_trace b session_options registry x m)) tells)
 
   -- ---- refusals because the context is full
-  pub list_command_unroomed : (full : Type 0) (s : State) (refusal : Refusal) → (refusal ≡ Full → ⊥) → ListCommandRoom full session_options registry x s (Replied (Refused refusal))
-  list_command_unroomed full s refusal other f is = other_room full s f refusal other
+  pub list_command_unroomed : (full : Type 0) (s : State) (refusal : Refusal) → (refusal ≡ Full → ⊥) → ListCommandHeadroom full session_options registry x s (Replied (Refused refusal))
+  list_command_unroomed full s refusal other f is = other_headroom full s f refusal other
 
-  pub list_command_room : (full : Type 0) (s : State) (response : Response) (ls : List Listed) (candidates : List RuleOrPatternModel) (n : ℕ) → all_listed registry x.names ≡ Some ls → candidates ≡ attempts_in ls → n ≡ limit_or session_options.limit x.limit
-      → IsContextFull full s (rewriting (by_attempts candidates) n) response → ListCommandRoom full session_options registry x s response
-  list_command_room full s response ls candidates n e is same so f there =
+  pub list_command_headroom : (full : Type 0) (s : State) (response : Response) (ls : List Listed) (candidates : List RuleOrPatternModel) (n : ℕ) → all_listed registry x.names ≡ Some ls → candidates ≡ attempts_in ls → n ≡ limit_or session_options.limit x.limit
+      → IsContextFull full s (rewriting (by_attempts candidates) n) response → ListCommandHeadroom full session_options registry x s response
+  list_command_headroom full s response ls candidates n e is same so f there =
       subst (λ (g : Transformation). IsContextFull full s g response) (alike (sym (ap (option_map (λ ls. change (attempts_in ls))) e) ∙ there))
       (subst (λ (k : ℕ). IsContextFull full s (rewriting (by_attempts (attempts_in ls)) k) response) same (subst (λ (bs : List RuleOrPatternModel). IsContextFull full s (rewriting (by_attempts bs) n) response) is so))
     where
@@ -124,35 +124,35 @@ module _ (session_options : SessionOptions) (registry : RegistryModel) (x : List
       go None e = absurd cc
       go (Some f) e = absurd cc
 
-  not_at : (s t : State) (asked : Asked) (refusal : Refusal) (offset : ℕ) → AppliesRule (list_command_change session_options registry x) asked → Follows s asked (TextRefusedAt refusal offset) Nothing t → ⊥
+  not_at : (s t : State) (requested : Requested) (refusal : Refusal) (offset : ℕ) → AppliesRule (list_command_change session_options registry x) requested → Follows s requested (TextRefusedAt refusal offset) Nothing t → ⊥
   not_at s t (Ask c) refusal offset asks follows = follows
   not_at s t (Misplaced why) refusal offset asks follows = absurd (let e : TextRefusedAt refusal offset ≡ Replied (Refused why) = follows.0 in cc)
   not_at s t (Unparsed why place) refusal offset asks follows = never_unparsed why place asks
 
   mixes_bounded : (bytes : ℕ) (s : State) (response : Response) (shown : List ℕ) (t : State) → Mixes session_options registry x s response shown t → IsBounded bytes response
   mixes_bounded bytes s response shown t h = λ refusal offset is.
-      absurd (not_at s t h.asked refusal offset h.asks (subst (λ (r : Response). Follows s h.asked r Nothing t) is h.follows))
+      absurd (not_at s t h.requested refusal offset h.asks (subst (λ (r : Response). Follows s h.requested r Nothing t) is h.follows))
 
-  some_mixed : (s : State) → (response : Response) × (bytes : List ℕ) × (t : State) × Mixes session_options registry x s response bytes t
-  some_mixed s = go (all_listed registry x.names) refl
+  some_rule_list : (s : State) → (response : Response) × (bytes : List ℕ) × (t : State) × Mixes session_options registry x s response bytes t
+  some_rule_list s = go (all_listed registry x.names) refl
     where
       go : (o : Option (List Listed)) → all_listed registry x.names ≡ o → (response : Response) × (bytes : List ℕ) × (t : State) × Mixes session_options registry x s response bytes t
       go None e = (Replied (Refused NoSuchKey), [], s, mixes_unnamed s e)
       go (Some ls) e = (Replied (Refused Memory), [], s, mixes_forgot s Memory refl (ap is_some e))
 
 module _ (setting : SessionSetting) (registry : RegistryModel) where
-  pub beside_bounded : (bytes : ℕ) (own : Option ListCommand) (s : State) (o : SessionCommand) (response : Response) (shown : List ℕ) (t : State) → RunsListCommand setting registry own s o response shown t → IsBounded bytes response
-  beside_bounded bytes None s o response shown t h = fulfils_bounded bytes setting s o response shown t h
-  beside_bounded bytes (Some x) s o response shown t h = mixes_bounded setting.session_options registry x bytes s response shown t h
+  pub next_to_bounded : (bytes : ℕ) (own : Option ListCommand) (s : State) (o : SessionCommand) (response : Response) (shown : List ℕ) (t : State) → RunsListCommand setting registry own s o response shown t → IsBounded bytes response
+  next_to_bounded bytes None s o response shown t h = fulfils_bounded bytes setting s o response shown t h
+  next_to_bounded bytes (Some x) s o response shown t h = mixes_bounded setting.session_options registry x bytes s response shown t h
 
   -- each session command has an answer
-  pub some_beside : (own : Option ListCommand) (s : State) (o : SessionCommand) → (response : Response) × (bytes : List ℕ) × (t : State) × RunsListCommand setting registry own s o response bytes t
-  some_beside None s o = some_fulfilled setting s o
-  some_beside (Some x) s o = some_mixed setting.session_options registry x s
+  pub some_next_to : (own : Option ListCommand) (s : State) (o : SessionCommand) → (response : Response) × (bytes : List ℕ) × (t : State) × RunsListCommand setting registry own s o response bytes t
+  some_next_to None s o = some_fulfilled setting s o
+  some_next_to (Some x) s o = some_rule_list setting.session_options registry x s
 
   -- a session command without a registered pattern is answered as one without a registry
   pub plainly : (own : Option ListCommand) (s t : State) (o : SessionCommand) (response : Response) (bytes : List ℕ) → own ≡ None → RunsSessionCommand setting s o response bytes t → RunsListCommand setting registry own s o response bytes t
   plainly own s t o response bytes e h = subst (λ (m : Option ListCommand). RunsListCommand setting registry m s o response bytes t) (sym e) h
 
-  pub mixed : (own : Option ListCommand) (s t : State) (o : SessionCommand) (x : ListCommand) (response : Response) (bytes : List ℕ) → own ≡ Some x → Mixes setting.session_options registry x s response bytes t → RunsListCommand setting registry own s o response bytes t
-  mixed own s t o x response bytes e h = subst (λ (m : Option ListCommand). RunsListCommand setting registry m s o response bytes t) (sym e) h
+  pub rule_list : (own : Option ListCommand) (s t : State) (o : SessionCommand) (x : ListCommand) (response : Response) (bytes : List ℕ) → own ≡ Some x → Mixes setting.session_options registry x s response bytes t → RunsListCommand setting registry own s o response bytes t
+  rule_list own s t o x response bytes e h = subst (λ (m : Option ListCommand). RunsListCommand setting registry m s o response bytes t) (sym e) h

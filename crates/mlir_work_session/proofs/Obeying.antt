@@ -10,11 +10,11 @@ use Rattle.ir_event.specs.Listener.{Listener}
 use Rattle.ir_event.specs.Panels.{is_kind as has_this_kind}
 use Rattle.ir_text.specs.Printing.{text_of}
 use Rattle.ir_text.specs.Public.{SpellsAttr}
-use Rattle.mlir_work_transforms.specs.rewriter.Texts.{SpellsBeside}
+use Rattle.mlir_work_transforms.specs.rewriter.Texts.{SpellsNextTo}
 use Rattle.mlir_work_transforms.specs.rewriter.Held.{module_held}
 use Rattle.mlir_work_transforms.specs.rewriter.RewriterCalls.{Benched, state_of}
 use Rattle.mlir_work_transforms.specs.rewriter.Commands as command
-use Rattle.mlir_work_transforms.specs.rewriter.Commands.{AppliesRule, RuleName, Command, Asked, Ask, Misplaced, Unparsed, Follows, IsAttrRefusal, IsOpRefusal, Response, Replied, TextRefusedAt, TextRefused}
+use Rattle.mlir_work_transforms.specs.rewriter.Commands.{AppliesRule, RuleName, Command, Requested, Ask, Misplaced, Unparsed, Follows, IsAttrRefusal, IsOpRefusal, Response, Replied, TextRefusedAt, TextRefused}
 use Rattle.mlir_work_transforms.specs.rewriter.Edits as edit
 use Rattle.mlir_work_transforms.specs.rewriter.Machine as call
 use Rattle.mlir_work_transforms.specs.rewriter.Machine.{State, OpenMark, Call, Do, Reply, Done, Refused, Shows, Nothing, Rows, Tree, Answer, Goes, due, due_rollback, grows_under, PanelGoes}
@@ -34,7 +34,7 @@ use Rattle.mlir_work_session.proofs.Panels.{all_stay, find_shown}
 module _ (session_options : SessionOptions) where
   -- a command that calls the machine
   pub obeys_call : (s t : State) (c : Command) (call : Call) (reply : Reply) (shows : Shows) → AsksIn session_options c s.held (Ask call) → Goes s call reply shows t → RunsCommand session_options s c (Replied reply) (shows_text shows) t
-  obeys_call s t c call reply shows asks goes = record { asked = Ask call; shows = shows; asks = asks; follows = goes; text = refl }
+  obeys_call s t c call reply shows asks goes = record { requested = Ask call; shows = shows; asks = asks; follows = goes; text = refl }
 
   -- a command that calls the machine and shows nothing
   pub obeys_plain : (s t : State) (c : Command) (call : Call) (reply : Reply) (response : Response) → response ≡ Replied reply → AsksIn session_options c s.held (Ask call) → Goes s call reply Nothing t → RunsCommand session_options s c response [] t
@@ -42,24 +42,24 @@ module _ (session_options : SessionOptions) where
 
   -- a command is refused if its insertion point is refused or its text can't be parsed
   pub obeys_misplaced : (x : ℕ) (point : Point) (s : State) (refusal : Refusal) → point_place (Some x) point s.held.tree ≡ Err refusal → RunsCommand session_options s (command.Move x point) (Replied (Refused refusal)) [] s
-  obeys_misplaced x point s refusal e = record { asked = Misplaced refusal; shows = Nothing; asks = e; follows = (refl, refl, refl); text = refl }
+  obeys_misplaced x point s refusal e = record { requested = Misplaced refusal; shows = Nothing; asks = e; follows = (refl, refl, refl); text = refl }
 
   pub obeys_unparsed : (x : ℕ) (key text : List ℕ) (s t : State) (response : Response) → t ≡ s → NotRead session_options.bytes IsAttrRefusal (SpellsAttr session_options.opaque text) response → RunsCommand session_options s (command.SetAttr x key text) response [] t
   obeys_unparsed x key text s t response same (refusal, offset, why, is) =
-      record { asked = Unparsed refusal offset; shows = Nothing; asks = why; follows = (is, refl, same); text = refl }
+      record { requested = Unparsed refusal offset; shows = Nothing; asks = why; follows = (is, refl, same); text = refl }
 
-  pub obeys_unparsed_op : (point : Point) (text : List ℕ) (s t : State) (response : Response) → t ≡ s → NotRead session_options.bytes IsOpRefusal (SpellsBeside session_options.opaque s.held text) response → RunsCommand session_options s (command.Insert point text) response [] t
+  pub obeys_unparsed_op : (point : Point) (text : List ℕ) (s t : State) (response : Response) → t ≡ s → NotRead session_options.bytes IsOpRefusal (SpellsNextTo session_options.opaque s.held text) response → RunsCommand session_options s (command.Insert point text) response [] t
   obeys_unparsed_op point text s t response same (refusal, offset, why, is) =
-      record { asked = Unparsed refusal offset; shows = Nothing; asks = why; follows = (is, refl, same); text = refl }
+      record { requested = Unparsed refusal offset; shows = Nothing; asks = why; follows = (is, refl, same); text = refl }
 
-  pub obeys_unplaced : (point : Point) (text : List ℕ) (s t : State) (o : Operation) (refusal : Refusal) → t ≡ s → SpellsBeside session_options.opaque s.held text o → point_place None point s.held.tree ≡ Err refusal → RunsCommand session_options s (command.Insert point text) (Replied (Refused refusal)) [] t
-  obeys_unplaced point text s t o refusal same spelled e =
-      record { asked = Misplaced refusal; shows = Nothing; asks = (o, spelled, e); follows = (refl, refl, same); text = refl }
+  pub obeys_unplaced : (point : Point) (text : List ℕ) (s t : State) (o : Operation) (refusal : Refusal) → t ≡ s → SpellsNextTo session_options.opaque s.held text o → point_place None point s.held.tree ≡ Err refusal → RunsCommand session_options s (command.Insert point text) (Replied (Refused refusal)) [] t
+  obeys_unplaced point text s t o refusal same rendered e =
+      record { requested = Misplaced refusal; shows = Nothing; asks = (o, rendered, e); follows = (refl, refl, same); text = refl }
 
   -- `apply` is refused if the name isn't a rule's, and calls the machine if it is
   pub obeys_unruled : (name : RuleName) (x : ℕ) (s : State) → rule_named name ≡ None → RunsCommand session_options s (command.Apply name x) (Replied (Refused NoSuchKey)) [] s
   obeys_unruled name x s e =
-      record { asked = Misplaced NoSuchKey; shows = Nothing; asks = subst (λ (o : Option Rule). AppliesRule (option_map (λ r. applying r x) o) (Misplaced NoSuchKey)) (sym e) refl; follows = (refl, refl, refl); text = refl }
+      record { requested = Misplaced NoSuchKey; shows = Nothing; asks = subst (λ (o : Option Rule). AppliesRule (option_map (λ r. applying r x) o) (Misplaced NoSuchKey)) (sym e) refl; follows = (refl, refl, refl); text = refl }
 
   pub asks_ruled : (name : RuleName) (x : ℕ) (r : Rule) → rule_named name ≡ Some r → AppliesRule (option_map (λ r. applying r x) (rule_named name)) (Ask (call.Change (applying r x)))
   asks_ruled name x r e = subst (λ (o : Option Rule). AppliesRule (option_map (λ r. applying r x) o) (Ask (call.Change (applying r x)))) (sym e) refl
@@ -137,20 +137,20 @@ module _ (session_options : SessionOptions) where
 
   by_place : (s : State) (x : ℕ) (point : Point) (r : Result Place Refusal) → point_place (Some x) point s.held.tree ≡ r → SomeAnswer s (command.Move x point)
   by_place s x point (Ok place) e = by_call s (command.Move x point) (Do (edit.Move x place)) (place, e, refl)
-  by_place s x point (Err refusal) e = (Replied (Refused refusal), [], s, record { asked = Misplaced refusal; shows = Nothing; asks = e; follows = (refl, refl, refl); text = refl }, λ why offset e. cc)
+  by_place s x point (Err refusal) e = (Replied (Refused refusal), [], s, record { requested = Misplaced refusal; shows = Nothing; asks = e; follows = (refl, refl, refl); text = refl }, λ why offset e. cc)
 
-  no_memory : {X : Type 0} (Spelled : X → Type 0) → TextRefused session_options.bytes IsAttrRefusal Spelled Memory None
-  no_memory Spelled = (refl, inr (inr refl))
+  no_memory : {X : Type 0} (Rendered : X → Type 0) → TextRefused session_options.bytes IsAttrRefusal Rendered Memory None
+  no_memory Rendered = (refl, inr (inr refl))
 
-  no_memory_op : {X : Type 0} (Spelled : X → Type 0) → TextRefused session_options.bytes IsOpRefusal Spelled Memory None
-  no_memory_op Spelled = (inr refl, inr (inr refl))
+  no_memory_op : {X : Type 0} (Rendered : X → Type 0) → TextRefused session_options.bytes IsOpRefusal Rendered Memory None
+  no_memory_op Rendered = (inr refl, inr (inr refl))
 
   -- a command whose text is refused at a byte may also be refused since memory ran out
-  memory_too : (s t : State) (c : Command) (asked : Asked) (shows : Shows) (why : Refusal) (offset : ℕ) → AsksIn session_options c s.held asked → Follows s asked (TextRefusedAt why offset) shows t
+  memory_too : (s t : State) (c : Command) (requested : Requested) (shows : Shows) (why : Refusal) (offset : ℕ) → AsksIn session_options c s.held requested → Follows s requested (TextRefusedAt why offset) shows t
       → AsksIn session_options c s.held (Unparsed Memory None) × (shows ≡ Nothing) × (t ≡ s)
   memory_too s t c (Ask does) shows why offset asks follows = absurd follows
   memory_too s t c (Misplaced refusal) shows why offset asks follows = absurd (let e : TextRefusedAt why offset ≡ Replied (Refused refusal) = follows.0 in cc)
-  memory_too s t (command.Insert point text) (Unparsed refusal at_byte) shows why offset asks follows = (no_memory_op (SpellsBeside session_options.opaque s.held text), follows.1, follows.2)
+  memory_too s t (command.Insert point text) (Unparsed refusal at_byte) shows why offset asks follows = (no_memory_op (SpellsNextTo session_options.opaque s.held text), follows.1, follows.2)
   memory_too s t (command.SetAttr x key text) (Unparsed refusal at_byte) shows why offset asks follows = (no_memory (SpellsAttr session_options.opaque text), follows.1, follows.2)
   memory_too s t (command.Move x point) (Unparsed refusal at_byte) shows why offset asks follows = absurd asks
   memory_too s t (command.Erase x) (Unparsed refusal at_byte) shows why offset asks follows = absurd (let e : Unparsed refusal at_byte ≡ Ask (Do (edit.Erase x)) = asks in cc)
@@ -176,8 +176,8 @@ module _ (session_options : SessionOptions) where
   pub obeys_within : (s t : State) (c : Command) (response within : Response) (bytes : List ℕ) → (within ≡ response) ⊎ ((refusal : Refusal) × (offset : ℕ) × (response ≡ TextRefusedAt refusal offset) × (within ≡ Replied (Refused Memory))) → RunsCommand session_options s c response bytes t → RunsCommand session_options s c within bytes t
   obeys_within s t c response within bytes (inl same) h = subst (λ (r : Response). RunsCommand session_options s c r bytes t) (sym same) h
   obeys_within s t c response within bytes (inr (why, offset, is, then)) h =
-      let m = memory_too s t c h.asked h.shows why offset h.asks (subst (λ (r : Response). Follows s h.asked r h.shows t) is h.follows) in
-      record { asked = Unparsed Memory None; shows = Nothing; asks = m.0; follows = (then, refl, m.2); text = h.text ∙ ap shows_text m.1 }
+      let m = memory_too s t c h.requested h.shows why offset h.asks (subst (λ (r : Response). Follows s h.requested r h.shows t) is h.follows) in
+      record { requested = Unparsed Memory None; shows = Nothing; asks = m.0; follows = (then, refl, m.2); text = h.text ∙ ap shows_text m.1 }
 
   by_name : (s : State) (name : RuleName) (x : ℕ) (o : Option Rule) → rule_named name ≡ o → SomeAnswer s (command.Apply name x)
   by_name s name x None e = (Replied (Refused NoSuchKey), [], s, obeys_unruled name x s e, λ why offset e. cc)
@@ -186,10 +186,10 @@ module _ (session_options : SessionOptions) where
   pub some_answer : (s : State) (c : Command) → SomeAnswer s c
   some_answer s (command.Erase x) = by_call s (command.Erase x) (Do (edit.Erase x)) refl
   some_answer s (command.Move x point) = by_place s x point (point_place (Some x) point s.held.tree) refl
-  some_answer s (command.Insert point text) = (Replied (Refused Memory), [], s, record { asked = Unparsed Memory None; shows = Nothing; asks = no_memory_op (SpellsBeside session_options.opaque s.held text); follows = (refl, refl, refl); text = refl }, λ why offset e. cc)
+  some_answer s (command.Insert point text) = (Replied (Refused Memory), [], s, record { requested = Unparsed Memory None; shows = Nothing; asks = no_memory_op (SpellsNextTo session_options.opaque s.held text); follows = (refl, refl, refl); text = refl }, λ why offset e. cc)
   some_answer s (command.SetOperand x k v) = by_call s (command.SetOperand x k v) (Do (edit.SetOperand x k v)) refl
   some_answer s (command.Replace old new) = by_call s (command.Replace old new) (Do (edit.Replace old new)) refl
-  some_answer s (command.SetAttr x key text) = (Replied (Refused Memory), [], s, record { asked = Unparsed Memory None; shows = Nothing; asks = no_memory (SpellsAttr session_options.opaque text); follows = (refl, refl, refl); text = refl }, λ why offset e. cc)
+  some_answer s (command.SetAttr x key text) = (Replied (Refused Memory), [], s, record { requested = Unparsed Memory None; shows = Nothing; asks = no_memory (SpellsAttr session_options.opaque text); follows = (refl, refl, refl); text = refl }, λ why offset e. cc)
   some_answer s (command.DropAttr x key) = by_call s (command.DropAttr x key) (Do (edit.DropAttr x key)) refl
   some_answer s (command.Canon limit) = by_call s (command.Canon limit) (call.Change (canonicalizing (limit_or session_options.limit limit))) refl
   some_answer s (command.Convert target) = by_call s (command.Convert target) (call.Change (conversion target)) refl

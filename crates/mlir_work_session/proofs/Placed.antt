@@ -20,7 +20,7 @@ use Rattle.ir_event.specs.store.Nodes.{Node, node_of, regions_arguments}
 use Rattle.ir_event.specs.store.Stored.{Stored, known}
 use Rattle.ir_event.proofs.Shown.{known_there}
 use Rattle.mlir_work_transforms.specs.rewriter.Held.{TransactionModel, module_held}
-use Rattle.mlir_work_transforms.specs.rewriter.Points.{Point, Before, After, Start, End, passing, coming, trailing, beside, in_block, point_place}
+use Rattle.mlir_work_transforms.specs.rewriter.Points.{Point, Before, After, Start, End, passing, coming, trailing, next_to, in_block, point_place}
 
 module _ {N T A M U B : Type 0} (f : N → M) (g : T → U) (h : A → B) where
   map_has_block : (p r : ℕ) (t : OpOf N T A) → is_some (ops_at p r (map_tree f g h t)) ≡ is_some (ops_at p r t)
@@ -50,10 +50,10 @@ module _ {N T A M U B : Type 0} (f : N → M) (g : T → U) (h : A → B) where
   map_after x t (Some p) = ap (λ b. Some (coming b p)) (map_passing x p.before t)
 
   pub map_point : (x : Option ℕ) (point : Point) (t : OpOf N T A) → point_place x point (map_tree f g h t) ≡ point_place x point t
-  map_point x (Before y) t = λ i. beside (map_has_id f g h y t i) (option_map (coming (Some y)) (map_place f g h y t i))
+  map_point x (Before y) t = λ i. next_to (map_has_id f g h y t i) (option_map (coming (Some y)) (map_place f g h y t i))
   map_point x (After y) t =
-      (λ i. beside (map_has_id f g h y t i) (option_map (trailing x (map_tree f g h t)) (map_place f g h y t i)))
-      ∙ ap (beside (has_id y t)) (map_after x t (place_of y t))
+      (λ i. next_to (map_has_id f g h y t i) (option_map (trailing x (map_tree f g h t)) (map_place f g h y t i)))
+      ∙ ap (next_to (has_id y t)) (map_after x t (place_of y t))
   map_point x (Start y r) t =
       (λ i. in_block (map_has_id f g h y t i) (map_has_block y r t i) (record { parent = y; region = r; before = passing x (map_first_at y r t i) (map_tree f g h t) }))
       ∙ ap (λ b. in_block (has_id y t) (is_some (ops_at y r t)) (record { parent = y; region = r; before = b })) (map_passing x (first_at y r t) t)
@@ -63,8 +63,8 @@ pub point_means : (c : ContextModel) (x : Option ℕ) (point : Point) (t : Op) �
 point_means c x point t = map_point (name_term c) (type_term c) (attr_term c) x point t
 
 -- an insertion point in the rewriter's module resolves as in the store of its IR state
-pub point_beside : (h : TransactionModel) (s : Stored) (x : Option ℕ) (point : Point) (r : Result Place Refusal) → s ≡ h.store → point_place x point s.module_of.tree ≡ r → point_place x point (module_held h).tree ≡ r
-point_beside h s x point r same e = point_means h.ctx x point h.store.module_of.tree ∙ (ap (λ (s : Stored). point_place x point s.module_of.tree) (sym same) ∙ e)
+pub point_next_to : (h : TransactionModel) (s : Stored) (x : Option ℕ) (point : Point) (r : Result Place Refusal) → s ≡ h.store → point_place x point s.module_of.tree ≡ r → point_place x point (module_held h).tree ≡ r
+point_next_to h s x point r same e = point_means h.ctx x point h.store.module_of.tree ∙ (ap (λ (s : Stored). point_place x point s.module_of.tree) (sym same) ∙ e)
 
 -- the node's arguments say whether a region has a block
 blocks_told : (r : ℕ) (rs : Regions) → is_some (option_and_then (λ a. a) (slice_get (regions_arguments rs) r)) ≡ is_some (option_and_then ops_in (region_at r rs))

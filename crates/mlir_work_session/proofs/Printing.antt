@@ -19,15 +19,15 @@ use Rattle.mlir_work_script_base.specs.Lines.{lines_of}
 use Rattle.mlir_work_script_base.specs.Writes.{Stream}
 use Rattle.mlir_work_script_base.specs.Limits.{most_script_bytes}
 use Rattle.mlir_work_session.specs.Machine.{RunsCommand, response_of}
-use Rattle.mlir_work_registry.specs.Notices.{IsWithin, Plain, is_right_under}
-use Rattle.mlir_work_registry.specs.Replies.{is_accepted}
-use Rattle.mlir_work_registry.specs.Registry.{RegistryModel}
-use Rattle.mlir_work_registry.specs.Told.{reply_line}
+use Rattle.mlir_work_transforms.specs.registry.Notices.{IsWithin, Plain, is_right_under}
+use Rattle.mlir_work_transforms.specs.registry.Replies.{is_accepted}
+use Rattle.mlir_work_transforms.specs.registry.Registry.{RegistryModel}
+use Rattle.mlir_work_transforms.specs.registry.Told.{reply_line}
 use Rattle.mlir_work_session.specs.Explained.{IsAbout}
 use Rattle.mlir_work_session.specs.Output.{Attaches, IsEnded, IsReplied, IsSession, SessionOptions, Replies, Runs, Sitting, SessionSetting, asks, end_of, opening, says_nothing, shows_alone, worse}
 use Rattle.mlir_work_session.specs.PrintsAlone.{IsPrinted, all_print, is_print, kinds_apart, line_prints, prints_alone}
 use Rattle.mlir_work_session.specs.Ran.{RanOut}
-use Rattle.mlir_work_registry.specs.declared.reply.Reply.{Reply}
+use Rattle.mlir_work_transforms.specs.registry.declared.reply.Reply.{Reply}
 use Rattle.mlir_work_session.proofs.Panels.{kind_shown}
 use Rattle.mlir_work_session.proofs.Runs.{run_step}
 use Rattle.mlir_work_session.proofs.Sessions.{ran_weaker}
@@ -148,10 +148,10 @@ the_print said.Print e = refl
 
 -- `print` shows the module, or is refused since memory ran out
 shown_text : (session_options : SessionOptions) (s : State) → RunsCommand session_options s said.Print (Replied Done) (text_of s.held.tree) s
-shown_text session_options s = record { asked = Ask call.Print; shows = Tree s.held.tree; asks = refl; follows = record { answer = inl refl; panel = refl }; text = refl }
+shown_text session_options s = record { requested = Ask call.Print; shows = Tree s.held.tree; asks = refl; follows = record { answer = inl refl; panel = refl }; text = refl }
 
 shown_none : (session_options : SessionOptions) (s : State) → RunsCommand session_options s said.Print (Replied (Refused Memory)) [] s
-shown_none session_options s = record { asked = Ask call.Print; shows = NoRows; asks = refl; follows = record { answer = inr (refl, refl); panel = refl }; text = refl }
+shown_none session_options s = record { requested = Ask call.Print; shows = NoRows; asks = refl; follows = record { answer = inr (refl, refl); panel = refl }; text = refl }
 
 answered : (session_options : SessionOptions) (s : State) (reply : Reply) (shows : List ℕ) → IsPrinted s.held.tree reply shows → RunsCommand session_options s said.Print (response_of reply) shows s
 answered session_options s reply shows (inl p) = subst (λ (r : Reply). RunsCommand session_options s said.Print (response_of r) shows s) (sym p.0) (subst (λ (o : List ℕ). RunsCommand session_options s said.Print (Replied Done) o s) (sym p.1) (shown_text session_options s))
@@ -228,7 +228,7 @@ print_ran setting start unend boxes m script a b r short apart ran =
       record {
         panel = map begun boxes;
         accepted = true;
-        front = [];
+        preceding = [];
         later = st;
         rest = o;
         attached = apart_attach boxes [] (all_new boxes) apart;

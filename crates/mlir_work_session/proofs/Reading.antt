@@ -11,7 +11,7 @@ use Rattle.ir_event.specs.types.Things.{ContextModel, IsExtendedBy, IsName, IsAt
 use Rattle.ir_event.specs.types.declared.refusal.Refusal.{Refusal}
 use Rattle.ir_event.specs.types.declared.refusal.Refusal.TheVariants.{Memory, TooMany, IdsExhausted}
 use Rattle.ir_event.proofs.of_types.CallNumbers.{new_name, name_stands}
-use Rattle.ir_event.proofs.of_types.Growth.{grows_refl, grows_trans, front_length}
+use Rattle.ir_event.proofs.of_types.Growth.{grows_refl, grows_trans, preceding_length}
 use Rattle.ir_event.proofs.of_types.Terms.{attr_stays}
 use Rattle.ir_event.specs.trees.Meaning.{Operation}
 use Rattle.ir_event.specs.trees.declared.place.Place.{Place}
@@ -33,7 +33,7 @@ use Rattle.mlir_work_session_base.specs.IdsText.{ids_text}
 use Rattle.mlir_work_session_base.specs.RowText.{rows_text}
 use Rattle.mlir_work_session.specs.Output.{IsModule, AreKinds, IsListing}
 use Rattle.ir_event.specs.Panels.{AllKept}
-use Rattle.mlir_work_session.proofs.Placed.{point_beside}
+use Rattle.mlir_work_session.proofs.Placed.{point_next_to}
 use Rattle.std.proofs.lemmas.Option.{slice_get_within}
 
 -- ---- the rewriter's module and its IR state
@@ -102,7 +102,7 @@ module _ {B : Type 0} (meaning : B → Listener) where
   grown_not a holds = record { grows = grows_refl a.transaction.ctx; before = holds; after = holds; same = refl; next = refl; kept = λ k. k }
 
   pub point_after : (a b : Benched B) (s : Stored) (x : Option ℕ) (point : Point) (r : Result Place Refusal) → Grown meaning a b → s ≡ b.transaction.store → point_place x point s.module_of.tree ≡ r → point_place x point (module_held a.transaction).tree ≡ r
-  point_after a b s x point r grown same e = ap (λ (t : State). point_place x point t.held.tree) (sym grown.same) ∙ point_beside b.transaction s x point r same e
+  point_after a b s x point r grown same e = ap (λ (t : State). point_place x point t.held.tree) (sym grown.same) ∙ point_next_to b.transaction s x point r same e
 
 -- ---- texts that can't be parsed
 
@@ -110,33 +110,33 @@ module _ {B : Type 0} (meaning : B → Listener) where
 pub fills : (bytes : ℕ) → IsTrue (nat_le 16777162 bytes) → CanFill bytes
 fills bytes h = let many = word_count in let least = leb-true 16777162 bytes h in omega (arith, least, many)
 
-pub unparsed_memory : {X : Type 0} (bytes : ℕ) (Spelled : X → Type 0) → NotRead bytes IsAttrRefusal Spelled (Replied (Refused Memory))
-unparsed_memory bytes Spelled = (Memory, None, (refl, inr (inr refl)), refl)
+pub unparsed_memory : {X : Type 0} (bytes : ℕ) (Rendered : X → Type 0) → NotRead bytes IsAttrRefusal Rendered (Replied (Refused Memory))
+unparsed_memory bytes Rendered = (Memory, None, (refl, inr (inr refl)), refl)
 
-pub unparsed_memory_op : {X : Type 0} (bytes : ℕ) (Spelled : X → Type 0) → NotRead bytes IsOpRefusal Spelled (Replied (Refused Memory))
-unparsed_memory_op bytes Spelled = (Memory, None, (inr refl, inr (inr refl)), refl)
+pub unparsed_memory_op : {X : Type 0} (bytes : ℕ) (Rendered : X → Type 0) → NotRead bytes IsOpRefusal Rendered (Replied (Refused Memory))
+unparsed_memory_op bytes Rendered = (Memory, None, (inr refl, inr (inr refl)), refl)
 
-pub unparsed_full : {X : Type 0} (bytes : ℕ) (Spelled : X → Type 0) (offset : ℕ) → CanFill bytes → NotRead bytes IsAttrRefusal Spelled (TextRefusedAt TooMany offset)
-unparsed_full bytes Spelled offset can = (TooMany, Some offset, (omega arith, inr (inl (refl, can))), refl)
+pub unparsed_full : {X : Type 0} (bytes : ℕ) (Rendered : X → Type 0) (offset : ℕ) → CanFill bytes → NotRead bytes IsAttrRefusal Rendered (TextRefusedAt TooMany offset)
+unparsed_full bytes Rendered offset can = (TooMany, Some offset, (omega arith, inr (inl (refl, can))), refl)
 
-pub unparsed_full_op : {X : Type 0} (bytes : ℕ) (Spelled : X → Type 0) (offset : ℕ) → CanFill bytes → NotRead bytes IsOpRefusal Spelled (TextRefusedAt TooMany offset)
-unparsed_full_op bytes Spelled offset can = (TooMany, Some offset, (omega arith, inr (inl (refl, can))), refl)
+pub unparsed_full_op : {X : Type 0} (bytes : ℕ) (Rendered : X → Type 0) (offset : ℕ) → CanFill bytes → NotRead bytes IsOpRefusal Rendered (TextRefusedAt TooMany offset)
+unparsed_full_op bytes Rendered offset can = (TooMany, Some offset, (omega arith, inr (inl (refl, can))), refl)
 
-unparsed_ids : {X : Type 0} (bytes : ℕ) (Spelled : X → Type 0) → ((x : X) → Spelled x → ⊥) → NotRead bytes IsOpRefusal Spelled (Replied (Refused IdsExhausted))
-unparsed_ids bytes Spelled none = (IdsExhausted, None, (inl refl, inl none), refl)
+unparsed_ids : {X : Type 0} (bytes : ℕ) (Rendered : X → Type 0) → ((x : X) → Rendered x → ⊥) → NotRead bytes IsOpRefusal Rendered (Replied (Refused IdsExhausted))
+unparsed_ids bytes Rendered none = (IdsExhausted, None, (inl refl, inl none), refl)
 
-pub ids_refused : {X : Type 0} (bytes : ℕ) (Spelled : X → Type 0) (refusal : Refusal) → refusal ≡ IdsExhausted → ((x : X) → Spelled x → ⊥) → NotRead bytes IsOpRefusal Spelled (Replied (Refused refusal))
-ids_refused bytes Spelled refusal is none = subst (λ r. NotRead bytes IsOpRefusal Spelled (Replied (Refused r))) (sym is) (unparsed_ids bytes Spelled none)
+pub ids_refused : {X : Type 0} (bytes : ℕ) (Rendered : X → Type 0) (refusal : Refusal) → refusal ≡ IdsExhausted → ((x : X) → Rendered x → ⊥) → NotRead bytes IsOpRefusal Rendered (Replied (Refused refusal))
+ids_refused bytes Rendered refusal is none = subst (λ r. NotRead bytes IsOpRefusal Rendered (Replied (Refused r))) (sym is) (unparsed_ids bytes Rendered none)
 
 -- an attribute isn't refused because ids ran out
 pub ids_are_late : (refusal : Refusal) → refusal ≡ IdsExhausted → number_of refusal ≤ 14 → ⊥
 ids_are_late refusal is small = (let late : number_of IdsExhausted ≤ 14 = subst (λ r. number_of r ≤ 14) is small in omega (arith, late))
 
-pub unparsed_at : {X : Type 0} (bytes : ℕ) (Spelled : X → Type 0) (refusal : Refusal) (offset : ℕ) → number_of refusal ≤ 14 → ((x : X) → Spelled x → ⊥) → NotRead bytes IsAttrRefusal Spelled (TextRefusedAt refusal offset)
-unparsed_at bytes Spelled refusal offset small none = (refusal, Some offset, (small, inl none), refl)
+pub unparsed_at : {X : Type 0} (bytes : ℕ) (Rendered : X → Type 0) (refusal : Refusal) (offset : ℕ) → number_of refusal ≤ 14 → ((x : X) → Rendered x → ⊥) → NotRead bytes IsAttrRefusal Rendered (TextRefusedAt refusal offset)
+unparsed_at bytes Rendered refusal offset small none = (refusal, Some offset, (small, inl none), refl)
 
-pub unparsed_at_op : {X : Type 0} (bytes : ℕ) (Spelled : X → Type 0) (refusal : Refusal) (offset : ℕ) → number_of refusal ≤ 14 → ((x : X) → Spelled x → ⊥) → NotRead bytes IsOpRefusal Spelled (TextRefusedAt refusal offset)
-unparsed_at_op bytes Spelled refusal offset small none = (refusal, Some offset, (small, inl none), refl)
+pub unparsed_at_op : {X : Type 0} (bytes : ℕ) (Rendered : X → Type 0) (refusal : Refusal) (offset : ℕ) → number_of refusal ≤ 14 → ((x : X) → Rendered x → ⊥) → NotRead bytes IsOpRefusal Rendered (TextRefusedAt refusal offset)
+unparsed_at_op bytes Rendered refusal offset small none = (refusal, Some offset, (small, inl none), refl)
 
 -- ---- names and attributes
 
@@ -147,7 +147,7 @@ named_so bytes c d n e =
 
 -- an attribute keeps its meaning when the context grows
 pub attr_kept : (opaque : Bool) (c d : ContextModel) (text : List ℕ) (a : ℕ) → Holds c → IsExtendedBy c d → IsAttr c a × SpellsAttr opaque text (attr_term c a) → IsAttr d a × SpellsAttr opaque text (attr_term d a)
-attr_kept opaque c d text a holds g (is, spelled) = (longer, subst (SpellsAttr opaque text) (sym (attr_stays c d a holds g is)) spelled)
+attr_kept opaque c d text a holds g (is, rendered) = (longer, subst (SpellsAttr opaque text) (sym (attr_stays c d a holds g is)) rendered)
   where
     longer : IsAttr d a
-    longer = let l = front_length c.attrs d.attrs g.attrs in omega arith
+    longer = let l = preceding_length c.attrs d.attrs g.attrs in omega arith

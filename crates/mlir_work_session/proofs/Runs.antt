@@ -9,7 +9,7 @@ use Rattle.mlir_work_script.specs.Commands.{Spoken, Nothing, Bad, Obey, Ordered,
 use Rattle.mlir_work_script.specs.Expecting.{line_expects}
 use Rattle.mlir_work_script_base.specs.Lines.{lines_of}
 use Rattle.mlir_work_script_base.specs.Writes.{Stream}
-use Rattle.mlir_work_registry.specs.Notices.{IsWithin, Notice, Plain, is_right_under}
+use Rattle.mlir_work_transforms.specs.registry.Notices.{IsWithin, Notice, Plain, is_right_under}
 use Rattle.ir_event.specs.Modules.{Module}
 use Rattle.mlir_work_session.specs.Explained.{IsAbout, about_notice}
 use Rattle.mlir_work_session.specs.Output.{IsAnswered, IsEnded, IsLineAnswered, Line, SessionSetting, Replied, Replies, IsReplied, Runs, accepted_after, end_of, number_after, worse, says_nothing, asks, told_text}
@@ -17,9 +17,9 @@ use Rattle.mlir_work_session.specs.Sittings.{Sitting, own_of}
 use Rattle.mlir_work_session.specs.Ran.{RanOut}
 use Rattle.mlir_work_session.proofs.Listings.{some_listing_if}
 use Rattle.mlir_work_session.specs.RuleLists.{list_command_of}
-use Rattle.mlir_work_session.proofs.Mixes.{beside_bounded, some_beside as some_ordered}
-use Rattle.mlir_work_registry.proofs.Bounds.{within_of}
-use Rattle.mlir_work_session.proofs.Owning.{some_beside}
+use Rattle.mlir_work_session.proofs.Mixes.{next_to_bounded, some_next_to as some_ordered}
+use Rattle.mlir_work_transforms.proofs.of_registry.Bounds.{within_of}
+use Rattle.mlir_work_session.proofs.Owning.{some_next_to}
 
 pub worse_both : (a b : Bool) (later : ℕ) → worse a (worse b later) ≡ worse (a && b) later
 worse_both true b later = refl
@@ -155,11 +155,11 @@ some_line : (Rest : ℕ → Sitting → ℕ → List ℕ → Type 0) (setting : 
 some_line Rest setting n s expected Nothing some = some n s
 some_line Rest setting n s expected Bad some = some_replied Rest setting n s expected Bad (Plain (Says (Refused BadCommand))) [] s (refl, refl, refl) (λ why offset e. absurd cc) some
 some_line Rest setting n s expected (Obey command) some =
-    let a = some_beside setting.session_options (own_of command s.registry) s.state command in
+    let a = some_next_to setting.session_options (own_of command s.registry) s.state command in
     some_replied Rest setting n s expected (Obey command) (Plain a.0) a.1 (record { state = a.2; registry = s.registry }) (a.0, refl, a.3, refl) (within_of setting.session_options.bytes a.0 (λ why offset e. absurd (a.4 why offset e))) some
 some_line Rest setting n s expected (Ordered session_command) some =
     let a = some_ordered setting s.registry (list_command_of session_command s.registry) s.state session_command in
-    some_replied Rest setting n s expected (Ordered session_command) (Plain a.0) a.1 (record { state = a.2; registry = s.registry }) (a.0, refl, a.3, refl) (within_of setting.session_options.bytes a.0 (beside_bounded setting s.registry setting.session_options.bytes (list_command_of session_command s.registry) s.state session_command a.0 a.1 a.2 a.3)) some
+    some_replied Rest setting n s expected (Ordered session_command) (Plain a.0) a.1 (record { state = a.2; registry = s.registry }) (a.0, refl, a.3, refl) (within_of setting.session_options.bytes a.0 (next_to_bounded setting s.registry setting.session_options.bytes (list_command_of session_command s.registry) s.state session_command a.0 a.1 a.2 a.3)) some
 some_line Rest setting n s expected (Registered session_command) some = some_replied Rest setting n s expected (Registered session_command) (Plain (Says (Refused Memory))) [] s (inl (refl, refl, refl), refl) (λ why offset e. absurd cc) some
 
 -- each script has an output from each state, since each command has an answer

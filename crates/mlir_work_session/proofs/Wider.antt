@@ -4,14 +4,14 @@ use Rattle.ir_event.specs.types.declared.refusal.Refusal.{Refusal}
 use Rattle.ir_event.specs.Modules.{Module}
 use Rattle.ir_text.specs.Public.{SpellsAttr}
 use Rattle.mlir_work_transforms.specs.rewriter.Commands as command
-use Rattle.mlir_work_transforms.specs.rewriter.Commands.{Asked, Ask, CanFill, Command, IsAttrRefusal, IsOpRefusal, Misplaced, Response, TextRefused, Unparsed}
+use Rattle.mlir_work_transforms.specs.rewriter.Commands.{Requested, Ask, CanFill, Command, IsAttrRefusal, IsOpRefusal, Misplaced, Response, TextRefused, Unparsed}
 use Rattle.mlir_work_transforms.specs.rewriter.Machine.{Shows, State}
-use Rattle.mlir_work_transforms.specs.rewriter.Texts.{SpellsBeside}
+use Rattle.mlir_work_transforms.specs.rewriter.Texts.{SpellsNextTo}
 use Rattle.mlir_work_script.specs.Commands.{Spoken, Nothing, Bad, Obey, Ordered, Registered}
 use Rattle.mlir_work_script.specs.SessionCommands.{Attach, CanonAt, SessionCommand, PrintIds, Rewrite, Trace, TraceConvert, Why, ReportOf}
-use Rattle.mlir_work_registry.specs.Notices.{Notice}
-use Rattle.mlir_work_registry.specs.Registry.{RegistryModel, Kept}
-use Rattle.mlir_work_registry.specs.Replies.{is_accepted}
+use Rattle.mlir_work_transforms.specs.registry.Notices.{Notice}
+use Rattle.mlir_work_transforms.specs.registry.Registry.{RegistryModel, Kept}
+use Rattle.mlir_work_transforms.specs.registry.Replies.{is_accepted}
 use Rattle.mlir_work_transforms.specs.Unproved.{unproved_of}
 use Rattle.mlir_work_session.specs.Machine.{AsksIn, RunsSessionCommand, OrdersIn, order_bytes, told_if}
 use Rattle.mlir_work_session.specs.RuleLists.{RunsListCommand, ListCommand, list_command_bytes, list_command_of, list_command_trace}
@@ -25,44 +25,44 @@ module _ (setting : SessionSetting) (bytes : ℕ) (longer : setting.session_opti
   fills : CanFill setting.session_options.bytes → CanFill bytes
   fills h = omega (arith, h, longer)
 
-  text_wider : {X : Type 0} (IsRefusal : Refusal → Option ℕ → Type 0) (Spelled : X → Type 0) (refusal : Refusal) (offset : Option ℕ) → TextRefused setting.session_options.bytes IsRefusal Spelled refusal offset → TextRefused bytes IsRefusal Spelled refusal offset
-  text_wider IsRefusal Spelled refusal offset (is, inl none) = (is, inl none)
-  text_wider IsRefusal Spelled refusal offset (is, inr (inl (many, h))) = (is, inr (inl (many, fills h)))
-  text_wider IsRefusal Spelled refusal offset (is, inr (inr memory)) = (is, inr (inr memory))
+  text_wider : {X : Type 0} (IsRefusal : Refusal → Option ℕ → Type 0) (Rendered : X → Type 0) (refusal : Refusal) (offset : Option ℕ) → TextRefused setting.session_options.bytes IsRefusal Rendered refusal offset → TextRefused bytes IsRefusal Rendered refusal offset
+  text_wider IsRefusal Rendered refusal offset (is, inl none) = (is, inl none)
+  text_wider IsRefusal Rendered refusal offset (is, inr (inl (many, h))) = (is, inr (inl (many, fills h)))
+  text_wider IsRefusal Rendered refusal offset (is, inr (inr memory)) = (is, inr (inr memory))
 
-  asks_wider : (c : Command) (m : Module) (asked : Asked) → AsksIn setting.session_options c m asked → AsksIn wider.session_options c m asked
-  asks_wider (command.Erase x) m asked h = h
-  asks_wider (command.Move x point) m asked h = h
+  asks_wider : (c : Command) (m : Module) (requested : Requested) → AsksIn setting.session_options c m requested → AsksIn wider.session_options c m requested
+  asks_wider (command.Erase x) m requested h = h
+  asks_wider (command.Move x point) m requested h = h
   asks_wider (command.Insert point text) m (Ask call) h = h
   asks_wider (command.Insert point text) m (Misplaced refusal) h = h
-  asks_wider (command.Insert point text) m (Unparsed refusal offset) h = text_wider IsOpRefusal (SpellsBeside setting.session_options.opaque m text) refusal offset h
-  asks_wider (command.SetOperand x k v) m asked h = h
-  asks_wider (command.Replace old new) m asked h = h
+  asks_wider (command.Insert point text) m (Unparsed refusal offset) h = text_wider IsOpRefusal (SpellsNextTo setting.session_options.opaque m text) refusal offset h
+  asks_wider (command.SetOperand x k v) m requested h = h
+  asks_wider (command.Replace old new) m requested h = h
   asks_wider (command.SetAttr x key text) m (Ask call) h = h
   asks_wider (command.SetAttr x key text) m (Misplaced refusal) h = h
   asks_wider (command.SetAttr x key text) m (Unparsed refusal offset) h = text_wider IsAttrRefusal (SpellsAttr setting.session_options.opaque text) refusal offset h
-  asks_wider (command.DropAttr x key) m asked h = h
-  asks_wider (command.Canon limit) m asked h = h
-  asks_wider (command.Convert target) m asked h = h
-  asks_wider (command.Apply name x) m asked h = h
-  asks_wider command.Sweep m asked h = h
-  asks_wider command.Begin m asked h = h
-  asks_wider command.Commit m asked h = h
-  asks_wider command.Rollback m asked h = h
-  asks_wider (command.Detach kind) m asked h = h
-  asks_wider (command.Resync kind) m asked h = h
-  asks_wider (command.Report kind) m asked h = h
-  asks_wider command.Print m asked h = h
+  asks_wider (command.DropAttr x key) m requested h = h
+  asks_wider (command.Canon limit) m requested h = h
+  asks_wider (command.Convert target) m requested h = h
+  asks_wider (command.Apply name x) m requested h = h
+  asks_wider command.Sweep m requested h = h
+  asks_wider command.Begin m requested h = h
+  asks_wider command.Commit m requested h = h
+  asks_wider command.Rollback m requested h = h
+  asks_wider (command.Detach kind) m requested h = h
+  asks_wider (command.Resync kind) m requested h = h
+  asks_wider (command.Report kind) m requested h = h
+  asks_wider command.Print m requested h = h
 
-  orders_wider : (session_command : SessionCommand) (m : Module) (asked : Asked) → OrdersIn setting session_command m asked → OrdersIn wider session_command m asked
-  orders_wider (Attach kind) m asked h = h
-  orders_wider PrintIds m asked h = h
-  orders_wider (Rewrite names limit) m asked h = h
-  orders_wider (Trace names limit) m asked h = h
-  orders_wider (TraceConvert target) m asked h = h
-  orders_wider (CanonAt x limit) m asked h = h
-  orders_wider (Why x name) m asked h = h
-  orders_wider (ReportOf kind subject) m asked h = h
+  orders_wider : (session_command : SessionCommand) (m : Module) (requested : Requested) → OrdersIn setting session_command m requested → OrdersIn wider session_command m requested
+  orders_wider (Attach kind) m requested h = h
+  orders_wider PrintIds m requested h = h
+  orders_wider (Rewrite names limit) m requested h = h
+  orders_wider (Trace names limit) m requested h = h
+  orders_wider (TraceConvert target) m requested h = h
+  orders_wider (CanonAt x limit) m requested h = h
+  orders_wider (Why x name) m requested h = h
+  orders_wider (ReportOf kind subject) m requested h = h
 
   bytes_wider : (session_command : SessionCommand) (m : Module) (response : Response) (shows : Shows) → order_bytes setting session_command m response shows ≡ order_bytes wider session_command m response shows
   bytes_wider (Attach kind) m response shows = refl
@@ -74,12 +74,12 @@ module _ (setting : SessionSetting) (bytes : ℕ) (longer : setting.session_opti
   bytes_wider (CanonAt x limit) m response shows = refl
   bytes_wider (Why x name) m response shows = refl
 
-  beside_wider : (own : Option (Kept × ℕ)) (s : State) (said : Command) (response : Response) (shows : List ℕ) (t : State) → RunsPatternCommand setting.session_options own s said response shows t → RunsPatternCommand wider.session_options own s said response shows t
-  beside_wider None s said response shows t h = record { asked = h.asked; shows = h.shows; asks = asks_wider said s.held h.asked h.asks; follows = h.follows; text = h.text }
-  beside_wider (Some p) s said response shows t h = h
+  next_to_wider : (own : Option (Kept × ℕ)) (s : State) (said : Command) (response : Response) (shows : List ℕ) (t : State) → RunsPatternCommand setting.session_options own s said response shows t → RunsPatternCommand wider.session_options own s said response shows t
+  next_to_wider None s said response shows t h = record { requested = h.requested; shows = h.shows; asks = asks_wider said s.held h.requested h.asks; follows = h.follows; text = h.text }
+  next_to_wider (Some p) s said response shows t h = h
 
   fulfils_wider : (s : State) (session_command : SessionCommand) (response : Response) (shows : List ℕ) (t : State) → RunsSessionCommand setting s session_command response shows t → RunsSessionCommand wider s session_command response shows t
-  fulfils_wider s session_command response shows t h = record { asked = h.asked; shows = h.shows; asks = orders_wider session_command s.held h.asked h.asks; follows = h.follows; text = h.text ∙ bytes_wider session_command s.held response h.shows }
+  fulfils_wider s session_command response shows t h = record { requested = h.requested; shows = h.shows; asks = orders_wider session_command s.held h.requested h.asks; follows = h.follows; text = h.text ∙ bytes_wider session_command s.held response h.shows }
 
   list_command_trace_wider : (tells : Bool) (registry : RegistryModel) (x : ListCommand) (m : Module) → list_command_trace tells setting.session_options registry x m ≡ list_command_trace tells wider.session_options registry x m
   list_command_trace_wider true registry x m = refl
@@ -88,15 +88,15 @@ module _ (setting : SessionSetting) (bytes : ℕ) (longer : setting.session_opti
   list_command_bytes_wider : (registry : RegistryModel) (x : ListCommand) (m : Module) (response : Response) → list_command_bytes setting.session_options registry x m response ≡ list_command_bytes wider.session_options registry x m response
   list_command_bytes_wider registry x m response = ap (λ (trace : List ℕ). told_if (is_accepted response) (unproved_of registry x.names m.tree ++ trace)) (list_command_trace_wider x.tells registry x m)
 
-  mixed_wider : (registry : RegistryModel) (own : Option ListCommand) (s : State) (session_command : SessionCommand) (response : Response) (shows : List ℕ) (t : State) → RunsListCommand setting registry own s session_command response shows t → RunsListCommand wider registry own s session_command response shows t
-  mixed_wider registry None s session_command response shows t h = fulfils_wider s session_command response shows t h
-  mixed_wider registry (Some x) s session_command response shows t h = record { asked = h.asked; asks = h.asks; follows = h.follows; text = h.text ∙ list_command_bytes_wider registry x s.held response }
+  rule_list_wider : (registry : RegistryModel) (own : Option ListCommand) (s : State) (session_command : SessionCommand) (response : Response) (shows : List ℕ) (t : State) → RunsListCommand setting registry own s session_command response shows t → RunsListCommand wider registry own s session_command response shows t
+  rule_list_wider registry None s session_command response shows t h = fulfils_wider s session_command response shows t h
+  rule_list_wider registry (Some x) s session_command response shows t h = record { requested = h.requested; asks = h.asks; follows = h.follows; text = h.text ∙ list_command_bytes_wider registry x s.held response }
 
   replies_wider : (s : Sitting) (spoken : Spoken) (notice : Notice) (shows : List ℕ) (t : Sitting) → Replies setting s spoken notice shows t → Replies wider s spoken notice shows t
   replies_wider s Nothing notice shows t h = absurd h
   replies_wider s Bad notice shows t h = h
-  replies_wider s (Ordered session_command) notice shows t (response, is, h, stays) = (response, is, mixed_wider s.registry (list_command_of session_command s.registry) s.state session_command response shows t.state h, stays)
-  replies_wider s (Obey said) notice shows t (response, is, h, stays) = (response, is, beside_wider (own_of said s.registry) s.state said response shows t.state h, stays)
+  replies_wider s (Ordered session_command) notice shows t (response, is, h, stays) = (response, is, rule_list_wider s.registry (list_command_of session_command s.registry) s.state session_command response shows t.state h, stays)
+  replies_wider s (Obey said) notice shows t (response, is, h, stays) = (response, is, next_to_wider (own_of said s.registry) s.state said response shows t.state h, stays)
   replies_wider s (Registered session_command) notice shows t h = h
 
   module _ (Rest More : ℕ → Sitting → ℕ → List ℕ → Type 0) (goes_on : (m : ℕ) (t : Sitting) (st : ℕ) (o : List ℕ) → Rest m t st o → More m t st o) where

@@ -6,9 +6,11 @@ use Rattle.ir_event.specs.Modules.{Module}
 use Rattle.mlir_work_transforms.specs.rewriter.Commands.{Command, Insert, SetAttr, Replied, TextRefusedAt}
 use Rattle.mlir_work_transforms.specs.rewriter.Machine.{Reply, Done, DoneAs, DoneWith, Refused, RefusedOn}
 use Rattle.mlir_work_script.specs.Commands.{Spoken, Nothing, Bad, Obey, Ordered, Registered}
+use Rattle.mlir_work_script.specs.RegistryCommands.{RegistryCommand, Define}
+use Rattle.mlir_work_notes.specs.PatternReasons.{pattern_note}
 use Rattle.mlir_work_notes.specs.Unsupported.{unsupported_at, cause_word}
 use Rattle.mlir_work_notes.specs.Notes.{about_text, notes_of, no_memory_text}
-use Rattle.mlir_work_registry.specs.Notices.{Notice, Plain, Checked}
+use Rattle.mlir_work_transforms.specs.registry.Notices.{Notice, Plain, Checked}
 use Rattle.mlir_work_session.specs.declared.notes.Note.{Note}
 use Rattle.mlir_work_session.specs.declared.notes.Note.TheVariants.{Text, NoMemory}
 
@@ -23,13 +25,18 @@ abbrev pub about_cause : Refusal → List ℕ → ℕ → List ℕ
 about_cause LeftOut text offset = codes " about " ++ cause_word (unsupported_at text offset)
 about_cause _ text offset = []
 
--- the same for a line; the text of a user pattern has no MLIR construct
+-- the note that says why the text of a pattern was refused at a byte
+abbrev pub about_pattern : Refusal → ℕ → RegistryCommand → List ℕ
+about_pattern refusal offset (Define text) = pattern_note refusal text offset
+about_pattern refusal offset _ = []
+
+-- the note on the byte at which the text of a line was refused
 abbrev pub about_read : Refusal → ℕ → Spoken → List ℕ
 about_read refusal offset Nothing = []
 about_read refusal offset Bad = []
 about_read refusal offset (Obey command) = about_cause refusal (text_of_command command) offset
 about_read refusal offset (Ordered session_command) = []
-about_read refusal offset (Registered session_command) = []
+about_read refusal offset (Registered registry_command) = about_pattern refusal offset registry_command
 
 -- the note that lists the operations and values that a command's refusal is about
 abbrev pub about_refused : Refusal → Spoken → Module → List ℕ

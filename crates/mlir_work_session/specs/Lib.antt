@@ -7,10 +7,10 @@ pub mod Explained
 pub mod Output
 pub mod Ran
 pub mod PrintsAlone
-pub use Rattle.mlir_work_registry.specs.PatternRegistry
-pub use Rattle.mlir_work_registry.specs.Notices
-pub use Rattle.mlir_work_registry.specs.CheckSummary
-pub use Rattle.mlir_work_registry.specs.Registry
+pub use Rattle.mlir_work_transforms.specs.registry.PatternRegistry
+pub use Rattle.mlir_work_transforms.specs.registry.Notices
+pub use Rattle.mlir_work_transforms.specs.registry.CheckSummary
+pub use Rattle.mlir_work_transforms.specs.registry.Registry
 pub use Rattle.mlir_work_script.specs.RegistryCommands
 pub use Rattle.mlir_work_script.specs.Commands
 pub use Rattle.mlir_work_script.specs.Expecting

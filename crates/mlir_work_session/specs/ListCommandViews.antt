@@ -1,5 +1,5 @@
 -- The model of a rule list that names a registered pattern, read from memory.
-use Rattle.mlir_work_registry.specs.RuleLists.{names_of}
+use Rattle.mlir_work_transforms.specs.registry.RuleLists.{names_of}
 use Rattle.mlir_work_session.specs.RuleLists.{ListCommand}
 use Rattle.mlir_work_session.specs.declared.rule_lists.ListRewrite.{ListRewrite as Coded}
 

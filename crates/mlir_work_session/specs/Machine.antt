@@ -4,16 +4,16 @@ use Rattle.ir_event.specs.types.declared.refusal.Refusal.TheVariants.{NoSuchKey,
 use Rattle.ir_event.specs.Modules.{Module}
 use Rattle.ir_text.specs.Printing.{text_of}
 use Rattle.ir_text.specs.Public.{SpellsAttr}
-use Rattle.mlir_work_transforms.specs.rewriter.Texts.{SpellsBeside}
-use Rattle.mlir_work_transforms.specs.rewriter.Commands.{AppliesRule, Apply, Canon, Command, Convert, Asked, Target}
+use Rattle.mlir_work_transforms.specs.rewriter.Texts.{SpellsNextTo}
+use Rattle.mlir_work_transforms.specs.rewriter.Commands.{AppliesRule, Apply, Canon, Command, Convert, Requested, Target}
 use Rattle.mlir_work_transforms.specs.rewriter.Commands.{Ask, Asks, Misplaced, Response, Replied, Follows}
 use Rattle.mlir_work_transforms.specs.rewriter.Machine.{IsFullSo}
 use Rattle.mlir_work_transforms.specs.rewriter.Machine.{Reply as Answered, Shows, Nothing, Rows, Transformation, Tree}
 use Rattle.mlir_work_transforms.specs.rewriter.Machine as call
 use Rattle.mlir_work_transforms.specs.rewriter.Panels.{Shown}
 pub use Rattle.mlir_work_transforms.specs.rewriter.Machine.{State}
-pub use Rattle.mlir_work_registry.specs.Replies.{response_of}
-use Rattle.mlir_work_registry.specs.Replies.{is_accepted}
+pub use Rattle.mlir_work_transforms.specs.registry.Replies.{response_of}
+use Rattle.mlir_work_transforms.specs.registry.Replies.{is_accepted}
 use Rattle.mlir_work_script.specs.SessionCommands.{Attach, CanonAt, SessionCommand, PrintIds, Rewrite, Trace, TraceConvert, Why, ReportOf}
 use Rattle.mlir_work_script_base.specs.declared.subject.Subject.{Subject}
 use Rattle.mlir_work_transforms.specs.greedy.Changes.{canonicalizing}
@@ -24,7 +24,7 @@ use Rattle.mlir_work_transforms.specs.Rewriting.{rewriting_named}
 use Rattle.mlir_work_transforms.specs.Sweep.{sweeping}
 use Rattle.mlir_work_transforms.specs.TraceText.{trace_by, traced_rules, tracing}
 use Rattle.mlir_work_transforms.specs.At.{canonicalizing_at}
-use Rattle.mlir_work_transforms.specs.WhyText.{asked_rules, why_text}
+use Rattle.mlir_work_transforms.specs.WhyText.{requested_rules, why_text}
 use Rattle.mlir_work_transforms.specs.Rule.{Rule}
 use Rattle.ir_event.specs.trees.Ids.{has_id}
 use Rattle.mlir_work_session_base.specs.IdsText.{ids_text}
@@ -44,17 +44,17 @@ limit_or default None = default
 limit_or default (Some limit) = limit
 
 -- the machine call that a command makes in a module under these options
-abbrev pub AsksIn : SessionOptions → Command → Module → Asked → Type 0
-AsksIn options = Asks options.bytes (SpellsBeside options.opaque) (SpellsAttr options.opaque)
+abbrev pub AsksIn : SessionOptions → Command → Module → Requested → Type 0
+AsksIn options = Asks options.bytes (SpellsNextTo options.opaque) (SpellsAttr options.opaque)
     (λ limit. canonicalizing (limit_or options.limit limit)) conversion sweeping
     application
 
 -- from state `s` a command may get this response, with these bytes below the reply, and lead to state `t`
 pub record RunsCommand (options : SessionOptions) (s : State) (command : Command) (response : Response) (bytes : List ℕ) (t : State) : Type 0 where
-  pub asked : Asked
+  pub requested : Requested
   pub shows : Shows
-  pub asks : AsksIn options command s.held asked
-  pub follows : Follows s asked response shows t
+  pub asks : AsksIn options command s.held requested
+  pub follows : Follows s requested response shows t
   pub text : bytes ≡ shows_text shows
 
 -- ---- session commands
@@ -68,33 +68,33 @@ abbrev pub session_setting : (Bool → ℕ → Option Shown) → SessionOptions 
 session_setting supply options = record { session_options = options; supply = supply options.opaque }
 
 -- `attach` attaches the analysis of the kind; a kind without an analysis is refused with `NoSuchKind`
-abbrev pub AttachesKind : Option Shown → Asked → Type 0
-AttachesKind None asked = asked ≡ Misplaced NoSuchKind
-AttachesKind (Some a) asked = asked ≡ Ask (call.Attach a)
+abbrev pub AttachesKind : Option Shown → Requested → Type 0
+AttachesKind None requested = requested ≡ Misplaced NoSuchKind
+AttachesKind (Some a) requested = requested ≡ Ask (call.Attach a)
 
 -- `why` asks why rules don't match at an operation; a name that isn't a rule's is refused with `NoSuchKey`, and a
 -- missing operation with `NoSuchOp`
-abbrev pub AsksWhy : Option (List Rule) → Bool → Asked → Type 0
-AsksWhy None there asked = asked ≡ Misplaced NoSuchKey
-AsksWhy (Some rules) false asked = asked ≡ Misplaced NoSuchOp
-AsksWhy (Some rules) true asked = asked ≡ Ask call.Print
+abbrev pub AsksWhy : Option (List Rule) → Bool → Requested → Type 0
+AsksWhy None there requested = requested ≡ Misplaced NoSuchKey
+AsksWhy (Some rules) false requested = requested ≡ Misplaced NoSuchOp
+AsksWhy (Some rules) true requested = requested ≡ Ask call.Print
 
 -- `report` of a kind about a subject; a missing subject is refused
-abbrev pub AsksAbout : Bool → ℕ → Subject → Asked → Type 0
-AsksAbout true kind subject asked = asked ≡ Ask (call.Report kind)
-AsksAbout false kind subject asked = asked ≡ Misplaced (absent subject)
+abbrev pub AsksAbout : Bool → ℕ → Subject → Requested → Type 0
+AsksAbout true kind subject requested = requested ≡ Ask (call.Report kind)
+AsksAbout false kind subject requested = requested ≡ Misplaced (absent subject)
 
 -- the machine call that a session command makes in a module
-abbrev pub OrdersIn : SessionSetting → SessionCommand → Module → Asked → Type 0
-OrdersIn setting (Attach kind) m asked = AttachesKind (setting.supply kind) asked
-OrdersIn setting PrintIds m asked = asked ≡ Ask call.Print
-OrdersIn setting (Rewrite names limit) m asked = AppliesRule (rewriting_named names (limit_or setting.session_options.limit limit)) asked
-OrdersIn setting (Trace names limit) m asked = AppliesRule (tracing names (limit_or setting.session_options.limit limit)) asked
-OrdersIn setting (TraceConvert target) m asked = asked ≡ Ask (call.Change (conversion target))
-OrdersIn setting (CanonAt x limit) m asked =
-    asked ≡ Ask (call.Change (canonicalizing_at (limit_or setting.session_options.limit limit) x))
-OrdersIn setting (Why x name) m asked = AsksWhy (asked_rules name x m) (has_id x m.tree) asked
-OrdersIn setting (ReportOf kind subject) m asked = AsksAbout (is_there subject m.tree) kind subject asked
+abbrev pub OrdersIn : SessionSetting → SessionCommand → Module → Requested → Type 0
+OrdersIn setting (Attach kind) m requested = AttachesKind (setting.supply kind) requested
+OrdersIn setting PrintIds m requested = requested ≡ Ask call.Print
+OrdersIn setting (Rewrite names limit) m requested = AppliesRule (rewriting_named names (limit_or setting.session_options.limit limit)) requested
+OrdersIn setting (Trace names limit) m requested = AppliesRule (tracing names (limit_or setting.session_options.limit limit)) requested
+OrdersIn setting (TraceConvert target) m requested = requested ≡ Ask (call.Change (conversion target))
+OrdersIn setting (CanonAt x limit) m requested =
+    requested ≡ Ask (call.Change (canonicalizing_at (limit_or setting.session_options.limit limit) x))
+OrdersIn setting (Why x name) m requested = AsksWhy (requested_rules name x m) (has_id x m.tree) requested
+OrdersIn setting (ReportOf kind subject) m requested = AsksAbout (is_there subject m.tree) kind subject requested
 
 -- the bytes of what the machine shows; a module is shown with the ids of its operations
 abbrev pub order_shows : Shows → List ℕ
@@ -129,14 +129,14 @@ order_bytes setting (Trace names limit) m response shows =
     told_if (is_accepted response) (trace_by (traced_rules names) (limit_or setting.session_options.limit limit) m)
 order_bytes setting (TraceConvert target) m response shows = converted_bytes target m response
 order_bytes setting (CanonAt x limit) m response shows = order_shows shows
-order_bytes setting (Why x name) m response shows = told_if (is_accepted response) (why_text (asked_rules name x m) x m)
+order_bytes setting (Why x name) m response shows = told_if (is_accepted response) (why_text (requested_rules name x m) x m)
 
 -- from state `s` a session command may get this response, with these bytes below the reply, and lead to state `t`
 pub record RunsSessionCommand (setting : SessionSetting) (s : State) (session_command : SessionCommand) (response : Response) (bytes : List ℕ) (t : State) : Type 0 where
-  pub asked : Asked
+  pub requested : Requested
   pub shows : Shows
-  pub asks : OrdersIn setting session_command s.held asked
-  pub follows : Follows s asked response shows t
+  pub asks : OrdersIn setting session_command s.held requested
+  pub follows : Follows s requested response shows t
   pub text : bytes ≡ order_bytes setting session_command s.held response shows
 
 -- ---- refusals because the context is full
@@ -146,20 +146,20 @@ pub record RunsSessionCommand (setting : SessionSetting) (s : State) (session_co
 abbrev pub IsContextFull : Type 0 → State → Transformation → Response → Type 0
 IsContextFull full s f response = (reply : Answered) → response ≡ Replied reply → IsFullSo full s f reply
 
-abbrev pub AsksRoom : Type 0 → SessionOptions → State → Command → Response → Type 0
-AsksRoom full options s (Canon limit) response = IsContextFull full s (canonicalizing (limit_or options.limit limit)) response
-AsksRoom full options s (Convert target) response = IsContextFull full s (conversion target) response
-AsksRoom full options s (Apply name x) response =
+abbrev pub AsksHeadroom : Type 0 → SessionOptions → State → Command → Response → Type 0
+AsksHeadroom full options s (Canon limit) response = IsContextFull full s (canonicalizing (limit_or options.limit limit)) response
+AsksHeadroom full options s (Convert target) response = IsContextFull full s (conversion target) response
+AsksHeadroom full options s (Apply name x) response =
     (f : Transformation) → application name x ≡ Some f → IsContextFull full s f response
-AsksRoom full options s _ response = ⊤
+AsksHeadroom full options s _ response = ⊤
 
 -- the same for session commands
-abbrev pub OrdersRoom : Type 0 → SessionSetting → State → SessionCommand → Response → Type 0
-OrdersRoom full setting s (Rewrite names limit) response =
+abbrev pub OrdersHeadroom : Type 0 → SessionSetting → State → SessionCommand → Response → Type 0
+OrdersHeadroom full setting s (Rewrite names limit) response =
     (f : Transformation) → rewriting_named names (limit_or setting.session_options.limit limit) ≡ Some f → IsContextFull full s f response
-OrdersRoom full setting s (Trace names limit) response =
+OrdersHeadroom full setting s (Trace names limit) response =
     (f : Transformation) → tracing names (limit_or setting.session_options.limit limit) ≡ Some f → IsContextFull full s f response
-OrdersRoom full setting s (TraceConvert target) response = IsContextFull full s (conversion target) response
-OrdersRoom full setting s (CanonAt x limit) response =
+OrdersHeadroom full setting s (TraceConvert target) response = IsContextFull full s (conversion target) response
+OrdersHeadroom full setting s (CanonAt x limit) response =
     IsContextFull full s (canonicalizing_at (limit_or setting.session_options.limit limit) x) response
-OrdersRoom full setting s _ response = ⊤
+OrdersHeadroom full setting s _ response = ⊤

@@ -17,16 +17,16 @@ use Rattle.mlir_work_script_base.specs.Limits.{most_script_bytes}
 use Rattle.mlir_work_script_base.specs.Lines.{lines_of}
 use Rattle.mlir_work_script.specs.SessionCommands.{SessionCommand, PrintIds, ReportOf, Why}
 use Rattle.mlir_work_script.specs.Replies.{refused_line, attach_refused_line, kind_line, stale_line, kind_memory_line, module_memory_line}
-use Rattle.mlir_work_registry.specs.Notices.{IsWithin, Notice, Plain, is_right_under}
-use Rattle.mlir_work_registry.specs.Registry.{RegistryModel}
-use Rattle.mlir_work_registry.specs.Registries.{Registries}
+use Rattle.mlir_work_transforms.specs.registry.Notices.{IsWithin, Notice, Plain, is_right_under}
+use Rattle.mlir_work_transforms.specs.registry.Registry.{RegistryModel}
+use Rattle.mlir_work_transforms.specs.registry.Registries.{Registries}
 use Rattle.mlir_work_session_base.specs.RowText.{rows_text}
 use Rattle.mlir_work_session.specs.Explained.{IsAbout}
 use Rattle.mlir_work_session.specs.RuleLists.{RunsListCommand, list_command_of}
 use Rattle.mlir_work_session.specs.Sittings.{ByBench, RunsPatternCommand, own_of}
-pub use Rattle.mlir_work_registry.specs.Notices.{is_right}
-pub use Rattle.mlir_work_registry.specs.Explained.{told_text}
-pub use Rattle.mlir_work_registry.specs.Told.{reply_text}
+pub use Rattle.mlir_work_transforms.specs.registry.Notices.{is_right}
+pub use Rattle.mlir_work_transforms.specs.registry.Explained.{told_text}
+pub use Rattle.mlir_work_transforms.specs.registry.Told.{reply_text}
 pub use Rattle.mlir_work_session.specs.Machine.{SessionSetting, session_setting}
 pub use Rattle.mlir_work_session.specs.Sittings.{Sitting, opening}
 pub use Rattle.mlir_work_session.specs.declared.options.SessionOptions.{SessionOptions}
@@ -199,22 +199,22 @@ Attaches (b ∷ bs) old new accepted out =
 -- whether all were accepted, and the bytes written
 pub record Begun (ends : Bool) (boxes : List Shown) (m : Module) (s : State) (accepted : Bool) (out : List ℕ) : Type 0 where
   pub panel : List Shown
-  pub front : List ℕ
-  pub attached : Attaches boxes [] panel accepted front
+  pub preceding : List ℕ
+  pub attached : Attaches boxes [] panel accepted preceding
   pub state_is : s ≡ record { held = m; marks = []; panel = panel }
-  pub out_is : out ≡ front ++ end_of ends
+  pub out_is : out ≡ preceding ++ end_of ends
 
 -- listeners are attached to an empty list, and then the lines of a script run with the user patterns of `start`
 pub record Session (setting : SessionSetting) (start : RegistryModel) (boxes : List Shown) (m : Module) (script : List ℕ) (status : ℕ) (out : List ℕ) : Type 0 where
   pub panel : List Shown
   pub accepted : Bool
-  pub front : List ℕ
+  pub preceding : List ℕ
   pub later : ℕ
   pub rest : List ℕ
-  pub attached : Attaches boxes [] panel accepted front
+  pub attached : Attaches boxes [] panel accepted preceding
   pub runs : Runs setting 1 (opening start (record { held = m; marks = []; panel = panel })) (lines_of script) later rest
   pub status_is : status ≡ worse accepted later
-  pub out_is : out ≡ (front ++ end_of setting.session_options.ends) ++ rest
+  pub out_is : out ≡ (preceding ++ end_of setting.session_options.ends) ++ rest
 
 -- a script over the size limit is answered like one bad command
 abbrev pub IsBadScript : ℕ → List ℕ → Type 0

@@ -9,8 +9,8 @@ use Rattle.ir_text.specs.Printing.{text_of}
 use Rattle.mlir_work_transforms.specs.rewriter.Commands.{Command, Print}
 use Rattle.mlir_work_script.specs.Commands.{Spoken, Nothing, Bad, Obey, Ordered, Registered, line_says}
 use Rattle.mlir_work_script.specs.Expecting.{line_expects}
-use Rattle.mlir_work_registry.specs.declared.reply.Reply.{Reply}
-use Rattle.mlir_work_registry.specs.declared.reply.Reply.TheVariants.{Done, Refused}
+use Rattle.mlir_work_transforms.specs.registry.declared.reply.Reply.{Reply}
+use Rattle.mlir_work_transforms.specs.registry.declared.reply.Reply.TheVariants.{Done, Refused}
 
 -- whether a command prints the module
 abbrev pub is_print : Command → Bool

@@ -2,12 +2,12 @@
 -- patterns. Any other session command runs as without a registry.
 use Rattle.std.specs.Prelude.{◌≡◌, ℕ, List, [], ◌++◌, Bool, true, false, Option, Some, None, if◌then◌else◌}
 use Rattle.ir_event.specs.Modules.{Module}
-use Rattle.mlir_work_transforms.specs.rewriter.Commands.{AppliesRule, Asked, Follows, Response, RuleName}
+use Rattle.mlir_work_transforms.specs.rewriter.Commands.{AppliesRule, Requested, Follows, Response, RuleName}
 use Rattle.mlir_work_transforms.specs.rewriter.Machine.{Nothing, State, Transformation}
 use Rattle.mlir_work_script.specs.SessionCommands.{SessionCommand, Rewrite, Trace}
-use Rattle.mlir_work_registry.specs.Replies.{is_accepted}
-use Rattle.mlir_work_registry.specs.Registry.{RegistryModel}
-use Rattle.mlir_work_transforms.specs.RuleLists.{all_listed, mixed_trace, mixing, names_own}
+use Rattle.mlir_work_transforms.specs.registry.Replies.{is_accepted}
+use Rattle.mlir_work_transforms.specs.registry.Registry.{RegistryModel}
+use Rattle.mlir_work_transforms.specs.RuleLists.{all_listed, rule_list_trace, mixing, names_own}
 use Rattle.mlir_work_transforms.specs.Unproved.{unproved_of}
 use Rattle.mlir_work_session.specs.declared.options.SessionOptions.{SessionOptions}
 use Rattle.mlir_work_session.specs.Machine.{IsContextFull, RunsSessionCommand, SessionSetting, limit_or, told_if}
@@ -36,7 +36,7 @@ list_command_change session_options registry x = mixing registry x.names (limit_
 -- the trace of the rewrites, if each is traced
 abbrev pub list_command_trace : Bool → SessionOptions → RegistryModel → ListCommand → Module → List ℕ
 list_command_trace false session_options registry x m = []
-list_command_trace true session_options registry x m = mixed_trace (all_listed registry x.names) (limit_or session_options.limit x.limit) m
+list_command_trace true session_options registry x m = rule_list_trace (all_listed registry x.names) (limit_or session_options.limit x.limit) m
 
 -- the bytes below an accepted reply: a line for each pattern of the list that no check proves for the module before
 -- the rewrite, and then the trace
@@ -46,9 +46,9 @@ list_command_bytes session_options registry x m response =
 
 -- from state `s` a rule list may get this response, with these bytes below the reply, and lead to state `t`
 pub record Mixes (session_options : SessionOptions) (registry : RegistryModel) (x : ListCommand) (s : State) (response : Response) (bytes : List ℕ) (t : State) : Type 0 where
-  pub asked : Asked
-  pub asks : AppliesRule (list_command_change session_options registry x) asked
-  pub follows : Follows s asked response Nothing t
+  pub requested : Requested
+  pub asks : AppliesRule (list_command_change session_options registry x) requested
+  pub follows : Follows s requested response Nothing t
   pub text : bytes ≡ list_command_bytes session_options registry x s.held response
 
 abbrev pub RunsListCommand : SessionSetting → RegistryModel → Option ListCommand → State → SessionCommand → Response → List ℕ → State → Type 0
@@ -56,6 +56,6 @@ RunsListCommand setting registry None s session_command response bytes t = RunsS
 RunsListCommand setting registry (Some x) s session_command response bytes t = Mixes setting.session_options registry x s response bytes t
 
 -- when a rule list may be refused with 31
-abbrev pub ListCommandRoom : Type 0 → SessionOptions → RegistryModel → ListCommand → State → Response → Type 0
-ListCommandRoom full session_options registry x s response =
+abbrev pub ListCommandHeadroom : Type 0 → SessionOptions → RegistryModel → ListCommand → State → Response → Type 0
+ListCommandHeadroom full session_options registry x s response =
     (f : Transformation) → list_command_change session_options registry x ≡ Some f → IsContextFull full s f response

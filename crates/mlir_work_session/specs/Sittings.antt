@@ -6,14 +6,14 @@ use Rattle.mlir_work_transforms.specs.rewriter.Commands.{Apply, Ask, Command, Fo
 use Rattle.mlir_work_transforms.specs.rewriter.Machine as call
 use Rattle.mlir_work_transforms.specs.rewriter.Machine.{Nothing, State}
 use Rattle.mlir_work_transforms.specs.Applying.{applying_own}
-use Rattle.mlir_work_registry.specs.Notices.{Notice, Plain}
-use Rattle.mlir_work_registry.specs.Replies.{is_accepted}
-use Rattle.mlir_work_registry.specs.Registry.{RegistryModel, Kept, registry_model}
-use Rattle.mlir_work_registry.specs.PatternRegistry.{PatternRegistry as RegistryCode}
+use Rattle.mlir_work_transforms.specs.registry.Notices.{Notice, Plain}
+use Rattle.mlir_work_transforms.specs.registry.Replies.{is_accepted}
+use Rattle.mlir_work_transforms.specs.registry.Registry.{RegistryModel, Kept, registry_model}
+use Rattle.mlir_work_transforms.specs.registry.PatternRegistry.{PatternRegistry as RegistryCode}
 use Rattle.mlir_work_transforms.specs.RuleLists.{pattern_named}
 use Rattle.mlir_work_transforms.specs.Unproved.{unproved_one}
 use Rattle.mlir_work_session.specs.declared.options.SessionOptions.{SessionOptions}
-use Rattle.mlir_work_session.specs.Machine.{AsksRoom, IsContextFull, RunsCommand, told_if}
+use Rattle.mlir_work_session.specs.Machine.{AsksHeadroom, IsContextFull, RunsCommand, told_if}
 
 pub record Sitting : Type 0 where
   pub state : State
@@ -45,9 +45,9 @@ RunsPatternCommand session_options None s command response bytes t = RunsCommand
 RunsPatternCommand session_options (Some p) s command response bytes t = AppliesUserPattern p.0 p.1 s response bytes t
 
 -- when the command may be refused with 31
-abbrev pub BesideRoom : Type 0 → SessionOptions → Option (Kept × ℕ) → State → Command → Response → Type 0
-BesideRoom full session_options None s command response = AsksRoom full session_options s command response
-BesideRoom full session_options (Some p) s command response = IsContextFull full s (applying_own p.0.shape p.1) response
+abbrev pub NextToHeadroom : Type 0 → SessionOptions → Option (Kept × ℕ) → State → Command → Response → Type 0
+NextToHeadroom full session_options None s command response = AsksHeadroom full session_options s command response
+NextToHeadroom full session_options (Some p) s command response = IsContextFull full s (applying_own p.0.shape p.1) response
 
 -- the rewriter runs the command, and the registry doesn't change
 abbrev pub ByBench : (Response → State → Type 0) → Sitting → Notice → Sitting → Type 0

@@ -18,4 +18,4 @@ pub record Grown {B : Type 0} (meaning : B → Listener) (old new : Benched B) :
 
 -- a text was refused with this response, in an input of so many bytes; the text should spell an element of `X`
 abbrev pub NotRead : {X : Type 0} → ℕ → (Refusal → Option ℕ → Type 0) → (X → Type 0) → Response → Type 0
-NotRead bytes IsRefusal Spelled response = (refusal : Refusal) × (offset : Option ℕ) × TextRefused bytes IsRefusal Spelled refusal offset × (response ≡ text_response refusal offset)
+NotRead bytes IsRefusal Rendered response = (refusal : Refusal) × (offset : Option ℕ) × TextRefused bytes IsRefusal Rendered refusal offset × (response ≡ text_response refusal offset)

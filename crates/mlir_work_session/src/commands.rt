@@ -3,7 +3,7 @@ ghost use Rattle.std.specs.Prelude.{◌≡◌};
 ghost use Rattle.mlir_work_script.specs.Commands.{said_of};
 ghost use Rattle.mlir_work_transforms.specs.rewriter.RewriterCalls.{AgreesOrStale, state_of};
 ghost use Rattle.ir_text.specs.Public.{IsFull};
-ghost use Rattle.mlir_work_session.specs.Machine.{AsksRoom, RunsCommand, response_of};
+ghost use Rattle.mlir_work_session.specs.Machine.{AsksHeadroom, RunsCommand, response_of};
 
 use crate::options::SessionOptions;
 use crate::shows::{ShownReply, reply_only, show_module, show_rows};
@@ -23,7 +23,7 @@ pub fn run_command<L: Analysis>(
     requires kept { AgreesOrStale L.meaning bench.old }
     requires mode { bench.old.transaction.ctx.opaque ≡ session_options.now.opaque }
     ensures obeys { RunsCommand session_options.now (state_of L.meaning bench.old) (said_of command.now) (response_of result.reply) result.shows.items (state_of L.meaning bench.new) }
-    ensures room { AsksRoom (IsFull bench.new.transaction.ctx) session_options.now (state_of L.meaning bench.old) (said_of command.now) (response_of result.reply) }
+    ensures headroom { AsksHeadroom (IsFull bench.new.transaction.ctx) session_options.now (state_of L.meaning bench.old) (said_of command.now) (response_of result.reply) }
     ensures kept { AgreesOrStale L.meaning bench.new }
     ensures mode { bench.new.transaction.ctx.opaque ≡ bench.old.transaction.ctx.opaque }
 {

@@ -29,7 +29,6 @@ mod transforming;
 mod why;
 
 pub use ir_text::reader;
-pub use mlir_work_registry::{registry, reply, response};
 pub use mlir_work_script::{
     command, expected_refusal, outcome, registry_command, replies, session_command,
 };
@@ -39,4 +38,5 @@ pub use mlir_work_script_base::{
 };
 pub use mlir_work_session_base::analysis_source;
 pub use mlir_work_transforms::greedy;
+pub use mlir_work_transforms::registry::{registry, reply, response};
 pub use mlir_work_transforms::rewriter::Bench;

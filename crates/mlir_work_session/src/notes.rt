@@ -2,17 +2,20 @@
 ghost use Rattle.std.specs.Prelude.{◌≡◌, IfOk};
 ghost use Rattle.ir_event.specs.Modules.{module_in};
 ghost use Rattle.mlir_work_script.specs.Commands.{said_of, spoken_of};
-ghost use Rattle.mlir_work_registry.specs.Notices.{notice_of};
-ghost use Rattle.mlir_work_session.specs.Explained.{IsAbout, about_bytes, about_cause, about_notice, about_read, about_refused};
+ghost use Rattle.mlir_work_script.specs.RegistryCommands.{registry_order_of};
+ghost use Rattle.mlir_work_transforms.specs.registry.Notices.{notice_of};
+ghost use Rattle.mlir_work_session.specs.Explained.{IsAbout, about_bytes, about_cause, about_notice, about_pattern, about_read, about_refused};
 ghost use Rattle.mlir_work_session.specs.Explained.{text_of_command};
 
 use crate::reply::Reply;
 use ir_event::types::refusal::Refusal;
 use ir_event::world::World;
 use mlir_work_notes::notes::notes_for;
+use mlir_work_notes::pattern_reasons::pattern_note;
 use mlir_work_notes::unsupported::unsupported_at;
-use mlir_work_registry::response::Response;
 use mlir_work_script::command::{Command, Line};
+use mlir_work_script::registry_command::RegistryCommand;
+use mlir_work_transforms::registry::response::Response;
 use std::alloc::{AllocError, Global};
 
 /// The note written after a refusal.
@@ -67,7 +70,24 @@ fn about_cause(
     }
 }
 
-/// Returns the note that names the unsupported MLIR construct at the byte at which the text of a line was refused.
+/// Returns the note that says why the text of a pattern was refused at a byte. It is empty for other commands on the
+/// pattern registry.
+fn about_pattern(
+    alloc: Global,
+    refusal: Refusal,
+    offset: usize,
+    command: &RegistryCommand<'_>,
+) -> Result<Vec<u8>, AllocError>
+    ensures { IfOk result (λ v. v.items ≡ about_pattern refusal offset (registry_order_of command.now)) }
+{
+    match command {
+        RegistryCommand::Define(text) => pattern_note(alloc, refusal, text, offset),
+        _ => Ok(Vec::new(alloc)),
+    }
+}
+
+/// Returns the note on the byte at which the text of a line was refused: the unsupported MLIR construct there, or for a
+/// pattern what was expected.
 fn about_read(
     alloc: Global,
     refusal: Refusal,
@@ -78,9 +98,8 @@ fn about_read(
 {
     match line {
         Line::Command(command) => about_cause(alloc, refusal, text_of_command(command), offset),
-        Line::Empty | Line::BadCommand | Line::Session(_) | Line::Registry(_) => Ok(Vec::new(
-            alloc,
-        )),
+        Line::Registry(command) => about_pattern(alloc, refusal, offset, command),
+        Line::Empty | Line::BadCommand | Line::Session(_) => Ok(Vec::new(alloc)),
     }
 }
 

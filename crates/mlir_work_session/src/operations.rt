@@ -6,7 +6,7 @@ ghost use Rattle.ir_event.specs.types.declared.refusal.Refusal.{Refusal as Reaso
 ghost use Rattle.ir_text.specs.Public.{IsOpRefusal as IsOpTold};
 ghost use Rattle.ir_text.specs.Public.{IsNone};
 ghost use Rattle.mlir_work_transforms.specs.rewriter.Held.{module_held};
-ghost use Rattle.mlir_work_transforms.specs.rewriter.Texts.{SpellsBeside};
+ghost use Rattle.mlir_work_transforms.specs.rewriter.Texts.{SpellsNextTo};
 ghost use Rattle.mlir_work_transforms.specs.rewriter.Commands.{IsOpRefusal};
 ghost use Rattle.mlir_work_session.specs.Texts.{Grown, NotRead};
 ghost use Rattle.mlir_work_session.specs.Machine.{response_of};
@@ -21,10 +21,10 @@ use mlir_work_transforms::rewriter::laws::led_benches_are_kept;
 
 /// Parses an operation text. The text may use the module's values.
 fn read<L: Analysis>(bench: &mut Bench<L>, text: &[u8]) -> Result<TreeOp, ReadError>
-    ensures read { IfOk result (λ t. SpellsBeside bench.old.transaction.ctx.opaque (module_held bench.old.transaction) text.now (meaning bench.new.transaction.ctx t)) }
+    ensures read { IfOk result (λ t. SpellsNextTo bench.old.transaction.ctx.opaque (module_held bench.old.transaction) text.now (meaning bench.new.transaction.ctx t)) }
     ensures sound { IfOk result (λ t. IsSoundIn bench.new.transaction.ctx t) }
     ensures numbered { IfOk result (λ t. IsNumberedFrom bench.new.transaction.store.module_of.next t) }
-    ensures refused { (r : Reason) (o : ℕ) → result ≡ Err (ReadError.Refused r o) → IsNone (SpellsBeside bench.old.transaction.ctx.opaque (module_held bench.old.transaction) text.now) }
+    ensures refused { (r : Reason) (o : ℕ) → result ≡ Err (ReadError.Refused r o) → IsNone (SpellsNextTo bench.old.transaction.ctx.opaque (module_held bench.old.transaction) text.now) }
     ensures told { IfErr result (λ e. IsOpTold text.now e) }
     ensures grown { Grown L.meaning bench.old bench.new }
 {
@@ -42,10 +42,10 @@ pub(crate) fn operation_of<L: Analysis>(
     bench: &mut Bench<L>,
     text: &[u8],
 ) -> Result<TreeOp, Reply>
-    ensures read { IfOk result (λ t. SpellsBeside bench.old.transaction.ctx.opaque (module_held bench.old.transaction) text.now (meaning bench.new.transaction.ctx t)) }
+    ensures read { IfOk result (λ t. SpellsNextTo bench.old.transaction.ctx.opaque (module_held bench.old.transaction) text.now (meaning bench.new.transaction.ctx t)) }
     ensures sound { IfOk result (λ t. IsSoundIn bench.new.transaction.ctx t) }
     ensures numbered { IfOk result (λ t. IsNumberedFrom bench.new.transaction.store.module_of.next t) }
-    ensures unparsed { IfErr result (λ reply. NotRead bytes IsOpRefusal (SpellsBeside bench.old.transaction.ctx.opaque (module_held bench.old.transaction) text.now) (response_of reply)) }
+    ensures unparsed { IfErr result (λ reply. NotRead bytes IsOpRefusal (SpellsNextTo bench.old.transaction.ctx.opaque (module_held bench.old.transaction) text.now) (response_of reply)) }
     ensures grown { Grown L.meaning bench.old bench.new }
 {
     match read(bench, text) {

@@ -10,11 +10,11 @@ ghost use Rattle.ir_text.specs.declared.error.ReadError.{ReadError as Unparsed};
 ghost use Rattle.ir_text.specs.Public.{IsNoAttr};
 ghost use Rattle.ir_text.specs.Public.{SpellsAttr};
 ghost use Rattle.ir_text.specs.Public.{IsNone};
-ghost use Rattle.mlir_work_transforms.specs.rewriter.Texts.{SpellsBeside};
+ghost use Rattle.mlir_work_transforms.specs.rewriter.Texts.{SpellsNextTo};
 ghost use Rattle.mlir_work_transforms.specs.rewriter.Commands.{CanFill, IsAttrRefusal};
 ghost use Rattle.mlir_work_transforms.specs.rewriter.Commands.{IsOpRefusal, Replied, TextRefusedAt};
 ghost use Rattle.mlir_work_transforms.specs.rewriter.Machine.{Refused};
-ghost use Rattle.mlir_work_registry.specs.Replies.{IsBounded};
+ghost use Rattle.mlir_work_transforms.specs.registry.Replies.{IsBounded};
 ghost use Rattle.mlir_work_session.specs.Texts.{NotRead};
 ghost use Rattle.mlir_work_session.specs.Machine.{response_of};
 
@@ -29,7 +29,7 @@ const WORDS: usize = 54;
 /// Returns the reply for a text that was refused at a byte. A refusal because ids ran out gives no byte.
 fn refused_at(refusal: Refusal, offset: usize) -> Reply
     ensures attr { (bytes : ℕ) (opaque : Bool) (text : List ℕ) → number_of refusal ≤ 14 → IsNoAttr (SpellsAttr opaque text) → NotRead bytes IsAttrRefusal (SpellsAttr opaque text) (response_of result) }
-    ensures op { (bytes : ℕ) (opaque : Bool) (m : Contents) (text : List ℕ) → (number_of refusal ≤ 14) ⊎ (refusal ≡ WantOfIds) → IsNone (SpellsBeside opaque m text) → NotRead bytes IsOpRefusal (SpellsBeside opaque m text) (response_of result) }
+    ensures op { (bytes : ℕ) (opaque : Bool) (m : Contents) (text : List ℕ) → (number_of refusal ≤ 14) ⊎ (refusal ≡ WantOfIds) → IsNone (SpellsNextTo opaque m text) → NotRead bytes IsOpRefusal (SpellsNextTo opaque m text) (response_of result) }
 {
     if refusal == Refusal::IdsExhausted {
         return Reply::Refused(refusal);
@@ -49,7 +49,7 @@ fn can_fill(bytes: usize) -> bool
 /// a context can't get here, so its reply says that memory ran out.
 fn full_at(bytes: usize, offset: usize) -> Reply
     ensures attr { (opaque : Bool) (text : List ℕ) → NotRead bytes IsAttrRefusal (SpellsAttr opaque text) (response_of result) }
-    ensures op { (opaque : Bool) (m : Contents) (text : List ℕ) → NotRead bytes IsOpRefusal (SpellsBeside opaque m text) (response_of result) }
+    ensures op { (opaque : Bool) (m : Contents) (text : List ℕ) → NotRead bytes IsOpRefusal (SpellsNextTo opaque m text) (response_of result) }
 {
     if can_fill(bytes) {
         Reply::RefusedAt(Refusal::TooMany, offset)
@@ -61,7 +61,7 @@ fn full_at(bytes: usize, offset: usize) -> Reply
 /// Returns the reply for a text that can't be parsed; `bytes` is the length of the whole input.
 pub(crate) fn reply_unparsed(bytes: usize, error: &ReadError) -> Reply
     ensures attr { (opaque : Bool) (text : List ℕ) → IsTextRefusal text error.now → ((r : Reason) (o : ℕ) → error.now ≡ Unparsed.Refused r o → IsNoAttr (SpellsAttr opaque text)) → NotRead bytes IsAttrRefusal (SpellsAttr opaque text) (response_of result) }
-    ensures op { (opaque : Bool) (m : Contents) (text : List ℕ) → IsOpTold text error.now → ((r : Reason) (o : ℕ) → error.now ≡ Unparsed.Refused r o → IsNone (SpellsBeside opaque m text)) → NotRead bytes IsOpRefusal (SpellsBeside opaque m text) (response_of result) }
+    ensures op { (opaque : Bool) (m : Contents) (text : List ℕ) → IsOpTold text error.now → ((r : Reason) (o : ℕ) → error.now ≡ Unparsed.Refused r o → IsNone (SpellsNextTo opaque m text)) → NotRead bytes IsOpRefusal (SpellsNextTo opaque m text) (response_of result) }
 {
     match *error {
         ReadError::Memory => Reply::Refused(Refusal::Memory),

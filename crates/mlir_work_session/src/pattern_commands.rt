@@ -6,11 +6,11 @@ ghost use Rattle.mlir_work_script.specs.Commands.{said_of};
 ghost use Rattle.mlir_work_transforms.specs.Applying.{applied_reply, applying_own};
 ghost use Rattle.mlir_work_transforms.specs.rewriter.RewriterCalls.{AgreesOrStale, state_of};
 ghost use Rattle.mlir_work_transforms.specs.rewriter.Commands.{Replied};
-ghost use Rattle.mlir_work_registry.specs.Notices.{IsWithin, notice_of};
-ghost use Rattle.mlir_work_registry.specs.Replies.{is_accepted};
-ghost use Rattle.mlir_work_registry.specs.Registry.{registry_model, kept_view};
+ghost use Rattle.mlir_work_transforms.specs.registry.Notices.{IsWithin, notice_of};
+ghost use Rattle.mlir_work_transforms.specs.registry.Replies.{is_accepted};
+ghost use Rattle.mlir_work_transforms.specs.registry.Registry.{registry_model, kept_view};
 ghost use Rattle.mlir_work_session.specs.Machine.{IsContextFull, response_of, told_if};
-ghost use Rattle.mlir_work_session.specs.Sittings.{AppliesUserPattern, BesideRoom, ByBench, RunsPatternCommand, own_of, sitting_of};
+ghost use Rattle.mlir_work_session.specs.Sittings.{AppliesUserPattern, NextToHeadroom, ByBench, RunsPatternCommand, own_of, sitting_of};
 
 use crate::commands::run_command;
 use crate::options::SessionOptions;
@@ -21,11 +21,11 @@ use crate::shows::{ShownReply, reply_only};
 use ir_event::analysis::Analysis;
 use ir_event::types::ids::OpId;
 use ir_event::types::refusal::Refusal;
-use mlir_work_registry::registry::{PatternRegistry, RegisteredPattern};
-use mlir_work_registry::response::{Response, ShownResponse};
 use mlir_work_script::command::Command;
 use mlir_work_transforms::apply_pattern;
 use mlir_work_transforms::named_patterns::find_pattern;
+use mlir_work_transforms::registry::registry::{PatternRegistry, RegisteredPattern};
+use mlir_work_transforms::registry::response::{Response, ShownResponse};
 use mlir_work_transforms::rewriter::Bench;
 use mlir_work_transforms::rewriter::laws::led_benches_are_kept;
 use mlir_work_transforms::unproved::unproved_one;
@@ -70,7 +70,7 @@ fn apply_own<L: Analysis>(
 ) -> ShownReply
     requires { AgreesOrStale L.meaning bench.old }
     ensures applies { AppliesUserPattern (kept_view found.entry.0.now) found.entry.1 (state_of L.meaning bench.old) (response_of result.reply) result.shows.items (state_of L.meaning bench.new) }
-    ensures room { IsContextFull (IsFull bench.new.transaction.ctx) (state_of L.meaning bench.old) (applying_own (kept_view found.entry.0.now).shape found.entry.1) (response_of result.reply) }
+    ensures headroom { IsContextFull (IsFull bench.new.transaction.ctx) (state_of L.meaning bench.old) (applying_own (kept_view found.entry.0.now).shape found.entry.1) (response_of result.reply) }
     ensures kept { AgreesOrStale L.meaning bench.new }
     ensures mode { bench.new.transaction.ctx.opaque ≡ bench.old.transaction.ctx.opaque }
 {
@@ -93,7 +93,7 @@ pub fn run_pattern_command<L: Analysis>(
     requires kept { AgreesOrStale L.meaning bench.old }
     requires mode { bench.old.transaction.ctx.opaque ≡ session_options.now.opaque }
     ensures obeys { RunsPatternCommand session_options.now (own_of (said_of command.now) (registry_model registry.now)) (state_of L.meaning bench.old) (said_of command.now) (response_of result.reply) result.shows.items (state_of L.meaning bench.new) }
-    ensures room { BesideRoom (IsFull bench.new.transaction.ctx) session_options.now (own_of (said_of command.now) (registry_model registry.now)) (state_of L.meaning bench.old) (said_of command.now) (response_of result.reply) }
+    ensures headroom { NextToHeadroom (IsFull bench.new.transaction.ctx) session_options.now (own_of (said_of command.now) (registry_model registry.now)) (state_of L.meaning bench.old) (said_of command.now) (response_of result.reply) }
     ensures kept { AgreesOrStale L.meaning bench.new }
     ensures mode { bench.new.transaction.ctx.opaque ≡ bench.old.transaction.ctx.opaque }
 {

@@ -3,7 +3,7 @@ ghost use Rattle.std.specs.Prelude.{◌≡◌, Some, Option, is_some, option_map
 ghost use Rattle.ir_event.specs.trees.Ids.{has_id};
 ghost use Rattle.ir_event.specs.trees.Places.{place_of};
 ghost use Rattle.ir_event.specs.tree_laws.Reads.{first_at, ops_at};
-ghost use Rattle.mlir_work_transforms.specs.rewriter.Points.{passing, coming, trailing, beside, in_block, point_place};
+ghost use Rattle.mlir_work_transforms.specs.rewriter.Points.{passing, coming, trailing, next_to, in_block, point_place};
 ghost use Rattle.mlir_work_script_base.specs.InsertionPoints.{insertion_point_of};
 
 use ir_event::store::store::Store;
@@ -33,7 +33,7 @@ fn passing(store: &Store, moved: Option<OpId>, next: Option<OpId>) -> Option<OpI
 
 /// Returns the place directly before an operation.
 fn before(store: &Store, op: OpId) -> Result<Place, Refusal>
-    ensures { result ≡ beside (has_id op store.now.module_of.tree) (option_map (coming (Some op)) (place_of op store.now.module_of.tree)) }
+    ensures { result ≡ next_to (has_id op store.now.module_of.tree) (option_map (coming (Some op)) (place_of op store.now.module_of.tree)) }
 {
     if !store.in_tree(op) {
         return Err(Refusal::NoSuchOp);
@@ -50,7 +50,7 @@ fn before(store: &Store, op: OpId) -> Result<Place, Refusal>
 
 /// Returns the place directly after an operation, skipping the operation that is being moved.
 fn after(store: &Store, moved: Option<OpId>, op: OpId) -> Result<Place, Refusal>
-    ensures { result ≡ beside (has_id op store.now.module_of.tree) (option_map (trailing moved store.now.module_of.tree) (place_of op store.now.module_of.tree)) }
+    ensures { result ≡ next_to (has_id op store.now.module_of.tree) (option_map (trailing moved store.now.module_of.tree) (place_of op store.now.module_of.tree)) }
 {
     if !store.in_tree(op) {
         return Err(Refusal::NoSuchOp);

@@ -9,8 +9,8 @@ ghost use Rattle.mlir_work_script_base.specs.Writes.{Writes};
 ghost use Rattle.mlir_work_script_base.specs.Limits.{most_script_bytes};
 ghost use Rattle.mlir_work_transforms.specs.rewriter.Panels.{Shown, all_shown};
 ghost use Rattle.mlir_work_session.specs.Machine.{response_of};
-ghost use Rattle.mlir_work_registry.specs.Registry.{RegistryModel};
-ghost use Rattle.mlir_work_registry.specs.Told.{reply_line};
+ghost use Rattle.mlir_work_transforms.specs.registry.Registry.{RegistryModel};
+ghost use Rattle.mlir_work_transforms.specs.registry.Told.{reply_line};
 ghost use Rattle.mlir_work_session.specs.Output.{IsSession, Runs, SessionSetting, opening};
 ghost use Rattle.mlir_work_session.specs.PrintsAlone.{IsPrinted, all_print, is_print, kinds_apart, prints_alone};
 ghost use Rattle.mlir_work_session.specs.Ran.{RanOut};
@@ -24,12 +24,12 @@ use ir_event::trees::tree::TreeOp;
 use ir_event::types::context::Context;
 use ir_event::types::refusal::Refusal;
 use ir_text::printer::print;
-use mlir_work_registry::write_replies::write_reply;
 use mlir_work_script::command::{Command, Line, read_line};
 use mlir_work_script::expected_refusal::expected_of;
 use mlir_work_script_base::lines::split_line;
 use mlir_work_script_base::sink::Sink;
 use mlir_work_script_base::writing::{WriteFault, write};
+use mlir_work_transforms::registry::write_replies::write_reply;
 use std::alloc::Global;
 
 /// Returns whether a command prints the module.

@@ -10,10 +10,10 @@ ghost use Rattle.mlir_work_transforms.specs.greedy.PatternSet.{AreAttempts, patt
 ghost use Rattle.mlir_work_transforms.specs.rewriter.RewriterCalls.{AgreesOrStale, state_of};
 ghost use Rattle.mlir_work_transforms.specs.rewriter.Commands.{Ask, Follows};
 ghost use Rattle.mlir_work_transforms.specs.rewriter.Machine.{Change, Nothing};
-ghost use Rattle.mlir_work_registry.specs.Replies.{is_accepted};
-ghost use Rattle.mlir_work_registry.specs.Registry.{registry_model};
+ghost use Rattle.mlir_work_transforms.specs.registry.Replies.{is_accepted};
+ghost use Rattle.mlir_work_transforms.specs.registry.Registry.{registry_model};
 ghost use Rattle.mlir_work_session.specs.Machine.{IsContextFull, response_of, told_if, session_setting};
-ghost use Rattle.mlir_work_session.specs.RuleLists.{RunsListCommand, ListCommandRoom, Mixes, list_command_of};
+ghost use Rattle.mlir_work_session.specs.RuleLists.{RunsListCommand, ListCommandHeadroom, Mixes, list_command_of};
 ghost use Rattle.mlir_work_session.specs.ListCommandViews.{list_command_view};
 
 use crate::options::SessionOptions;
@@ -24,12 +24,12 @@ use crate::tracing::trace_reply;
 use crate::transforming::limit_of;
 use ir_event::analysis::Analysis;
 use ir_event::types::refusal::Refusal;
-use mlir_work_registry::registry::PatternRegistry;
 use mlir_work_script::session_command::SessionCommand;
 use mlir_work_session_base::analysis_source::AnalysisSource;
 use mlir_work_transforms::greedy::bench::rewrite_with_patterns;
 use mlir_work_transforms::greedy::pattern_set::RuleOrPattern;
 use mlir_work_transforms::named_patterns::names_pattern;
+use mlir_work_transforms::registry::registry::PatternRegistry;
 use mlir_work_transforms::rewriter::Bench;
 use mlir_work_transforms::rewriter::laws::led_benches_are_kept;
 use mlir_work_transforms::rule_list::{RuleList, parse_rule_list};
@@ -88,7 +88,7 @@ fn rewrite_plainly<L: Analysis>(
     requires may { AreAttempts (patterns_of candidates.now) }
     ensures follows { Follows (state_of L.meaning bench.old) (Ask (Change (rewriting (by_attempts (patterns_of candidates.now)) limit))) (response_of result.reply) Nothing (state_of L.meaning bench.new) }
     ensures shows { result.shows.items ≡ told_if (is_accepted (response_of result.reply)) lines.text.items }
-    ensures room { IsContextFull (IsFull bench.new.transaction.ctx) (state_of L.meaning bench.old) (rewriting (by_attempts (patterns_of candidates.now)) limit) (response_of result.reply) }
+    ensures headroom { IsContextFull (IsFull bench.new.transaction.ctx) (state_of L.meaning bench.old) (rewriting (by_attempts (patterns_of candidates.now)) limit) (response_of result.reply) }
     ensures kept { AgreesOrStale L.meaning bench.new }
     ensures mode { bench.new.transaction.ctx.opaque ≡ bench.old.transaction.ctx.opaque }
 {
@@ -110,7 +110,7 @@ fn rewrite_telling<L: Analysis>(
     requires may { AreAttempts (patterns_of candidates.now) }
     ensures follows { Follows (state_of L.meaning bench.old) (Ask (Change (rewriting (by_attempts (patterns_of candidates.now)) limit))) (response_of result.reply) Nothing (state_of L.meaning bench.new) }
     ensures shows { result.shows.items ≡ told_if (is_accepted (response_of result.reply)) (lines.text.items ++ trace_text (map (λ n. n.items) lines.names.items) (trace_of (by_attempts (patterns_of candidates.now)) limit (state_of L.meaning bench.old).held)) }
-    ensures room { IsContextFull (IsFull bench.new.transaction.ctx) (state_of L.meaning bench.old) (rewriting (by_attempts (patterns_of candidates.now)) limit) (response_of result.reply) }
+    ensures headroom { IsContextFull (IsFull bench.new.transaction.ctx) (state_of L.meaning bench.old) (rewriting (by_attempts (patterns_of candidates.now)) limit) (response_of result.reply) }
     ensures kept { AgreesOrStale L.meaning bench.new }
     ensures mode { bench.new.transaction.ctx.opaque ≡ bench.old.transaction.ctx.opaque }
 {
@@ -131,7 +131,7 @@ fn rewrite_list_command<L: Analysis>(
 ) -> ShownReply
     requires { AgreesOrStale L.meaning bench.old }
     ensures mixes { Mixes session_options.now (registry_model registry.now) (list_command_view list_command.now) (state_of L.meaning bench.old) (response_of result.reply) result.shows.items (state_of L.meaning bench.new) }
-    ensures room { ListCommandRoom (IsFull bench.new.transaction.ctx) session_options.now (registry_model registry.now) (list_command_view list_command.now) (state_of L.meaning bench.old) (response_of result.reply) }
+    ensures headroom { ListCommandHeadroom (IsFull bench.new.transaction.ctx) session_options.now (registry_model registry.now) (list_command_view list_command.now) (state_of L.meaning bench.old) (response_of result.reply) }
     ensures kept { AgreesOrStale L.meaning bench.new }
     ensures mode { bench.new.transaction.ctx.opaque ≡ bench.old.transaction.ctx.opaque }
 {
@@ -140,7 +140,7 @@ fn rewrite_list_command<L: Analysis>(
         registry,
         list_command.rules,
     ) {
-        Ok(Some(mixed)) => mixed,
+        Ok(Some(rule_list)) => rule_list,
         Ok(None) => return reply_only(alloc, Reply::Refused(Refusal::NoSuchKey)),
         Err(refusal) => return reply_only(alloc, Reply::Refused(refusal)),
     };

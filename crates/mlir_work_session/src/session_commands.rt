@@ -5,7 +5,7 @@ ghost use Rattle.mlir_work_transforms.specs.rewriter.RewriterCalls.{AgreesOrStal
 ghost use Rattle.mlir_work_transforms.specs.rewriter.Commands.{Replied};
 ghost use Rattle.mlir_work_script.specs.SessionCommands.{Attach, PrintIds, order_of};
 ghost use Rattle.ir_text.specs.Public.{IsFull};
-ghost use Rattle.mlir_work_session.specs.Machine.{RunsSessionCommand, OrdersRoom, SessionSetting, response_of, session_setting};
+ghost use Rattle.mlir_work_session.specs.Machine.{RunsSessionCommand, OrdersHeadroom, SessionSetting, response_of, session_setting};
 ghost use Rattle.mlir_work_session_base.specs.IdsText.{ids_text};
 
 use crate::options::SessionOptions;
@@ -81,7 +81,7 @@ pub fn run_session_command<L: AnalysisSource>(
 ) -> ShownReply
     requires { AgreesOrStale L.meaning bench.old }
     ensures fulfils { RunsSessionCommand (session_setting L.supply session_options.now) (state_of L.meaning bench.old) (order_of session_command.now) (response_of result.reply) result.shows.items (state_of L.meaning bench.new) }
-    ensures room { OrdersRoom (IsFull bench.new.transaction.ctx) (session_setting L.supply session_options.now) (state_of L.meaning bench.old) (order_of session_command.now) (response_of result.reply) }
+    ensures headroom { OrdersHeadroom (IsFull bench.new.transaction.ctx) (session_setting L.supply session_options.now) (state_of L.meaning bench.old) (order_of session_command.now) (response_of result.reply) }
     ensures kept { AgreesOrStale L.meaning bench.new }
     ensures mode { bench.new.transaction.ctx.opaque ≡ bench.old.transaction.ctx.opaque }
 {

@@ -8,7 +8,7 @@ ghost use Rattle.mlir_work_transforms.specs.rewriter.RewriterCalls.{AgreesOrStal
 ghost use Rattle.mlir_work_session_base.specs.RowText.{rows_text};
 ghost use Rattle.mlir_work_session.specs.Machine.{RunsCommand, response_of};
 ghost use Rattle.mlir_work_session.specs.Output.{SessionOptions};
-ghost use Rattle.mlir_work_registry.specs.declared.reply.Reply.TheVariants.{Refused};
+ghost use Rattle.mlir_work_transforms.specs.registry.declared.reply.Reply.TheVariants.{Refused};
 
 use crate::reply::Reply;
 use ir_event::analysis::Analysis;

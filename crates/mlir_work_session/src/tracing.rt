@@ -2,10 +2,10 @@
 ghost use Rattle.std.specs.Prelude.{◌≡◌, ℕ, Bool, Option, None, Some, option_map};
 ghost use Rattle.std.specs.Option.{option_copied};
 ghost use Rattle.ir_text.specs.Public.{IsFull};
-ghost use Rattle.mlir_work_registry.specs.Replies.{is_accepted};
+ghost use Rattle.mlir_work_transforms.specs.registry.Replies.{is_accepted};
 ghost use Rattle.mlir_work_script_base.specs.Clauses.{clauses_of, target_of};
 ghost use Rattle.mlir_work_script.specs.SessionCommands.{Trace, TraceConvert};
-ghost use Rattle.mlir_work_registry.specs.RuleLists.{names_of};
+ghost use Rattle.mlir_work_transforms.specs.registry.RuleLists.{names_of};
 ghost use Rattle.mlir_work_transforms.specs.Converting.{conversion};
 ghost use Rattle.mlir_work_transforms.specs.TraceText.{tracing};
 ghost use Rattle.mlir_work_transforms.specs.greedy.Changes.{canonical_reply};
@@ -59,7 +59,7 @@ fn canon<L: Analysis>(
 ) -> ShownReply
     requires { AgreesOrStale L.meaning bench.old }
     ensures fulfils { (supply : Bool → ℕ → Option Shown) → RunsSessionCommand (session_setting supply session_options.now) (state_of L.meaning bench.old) (Trace None limit) (response_of result.reply) result.shows.items (state_of L.meaning bench.new) }
-    ensures room { (f : Transformation) → tracing None (limit_or session_options.now.limit limit) ≡ Some f → IsContextFull (IsFull bench.new.transaction.ctx) (state_of L.meaning bench.old) f (response_of result.reply) }
+    ensures headroom { (f : Transformation) → tracing None (limit_or session_options.now.limit limit) ≡ Some f → IsContextFull (IsFull bench.new.transaction.ctx) (state_of L.meaning bench.old) f (response_of result.reply) }
     ensures kept { AgreesOrStale L.meaning bench.new }
     ensures mode { bench.new.transaction.ctx.opaque ≡ bench.old.transaction.ctx.opaque }
 {
@@ -79,7 +79,7 @@ fn rewrite<L: Analysis>(
 ) -> ShownReply
     requires { AgreesOrStale L.meaning bench.old }
     ensures fulfils { (supply : Bool → ℕ → Option Shown) → RunsSessionCommand (session_setting supply session_options.now) (state_of L.meaning bench.old) (Trace (Some (names_of rules.now)) limit) (response_of result.reply) result.shows.items (state_of L.meaning bench.new) }
-    ensures room { (f : Transformation) → tracing (Some (names_of rules.now)) (limit_or session_options.now.limit limit) ≡ Some f → IsContextFull (IsFull bench.new.transaction.ctx) (state_of L.meaning bench.old) f (response_of result.reply) }
+    ensures headroom { (f : Transformation) → tracing (Some (names_of rules.now)) (limit_or session_options.now.limit limit) ≡ Some f → IsContextFull (IsFull bench.new.transaction.ctx) (state_of L.meaning bench.old) f (response_of result.reply) }
     ensures kept { AgreesOrStale L.meaning bench.new }
     ensures mode { bench.new.transaction.ctx.opaque ≡ bench.old.transaction.ctx.opaque }
 {
@@ -110,7 +110,7 @@ pub(crate) fn trace<L: Analysis>(
 ) -> ShownReply
     requires { AgreesOrStale L.meaning bench.old }
     ensures fulfils { (supply : Bool → ℕ → Option Shown) → RunsSessionCommand (session_setting supply session_options.now) (state_of L.meaning bench.old) (Trace (option_map names_of (option_copied rules.entry)) limit) (response_of result.reply) result.shows.items (state_of L.meaning bench.new) }
-    ensures room { (f : Transformation) → tracing (option_map names_of (option_copied rules.entry)) (limit_or session_options.now.limit limit) ≡ Some f → IsContextFull (IsFull bench.new.transaction.ctx) (state_of L.meaning bench.old) f (response_of result.reply) }
+    ensures headroom { (f : Transformation) → tracing (option_map names_of (option_copied rules.entry)) (limit_or session_options.now.limit limit) ≡ Some f → IsContextFull (IsFull bench.new.transaction.ctx) (state_of L.meaning bench.old) f (response_of result.reply) }
     ensures kept { AgreesOrStale L.meaning bench.new }
     ensures mode { bench.new.transaction.ctx.opaque ≡ bench.old.transaction.ctx.opaque }
 {
@@ -130,7 +130,7 @@ pub(crate) fn convert<L: Analysis>(
 ) -> ShownReply
     requires { AgreesOrStale L.meaning bench.old }
     ensures fulfils { (setting : SessionSetting) → RunsSessionCommand setting (state_of L.meaning bench.old) (TraceConvert (target_of full (clauses_of clauses.now))) (response_of result.reply) result.shows.items (state_of L.meaning bench.new) }
-    ensures room { IsContextFull (IsFull bench.new.transaction.ctx) (state_of L.meaning bench.old) (conversion (target_of full (clauses_of clauses.now))) (response_of result.reply) }
+    ensures headroom { IsContextFull (IsFull bench.new.transaction.ctx) (state_of L.meaning bench.old) (conversion (target_of full (clauses_of clauses.now))) (response_of result.reply) }
     ensures kept { AgreesOrStale L.meaning bench.new }
     ensures mode { bench.new.transaction.ctx.opaque ≡ bench.old.transaction.ctx.opaque }
 {

@@ -5,7 +5,7 @@ ghost use Rattle.mlir_work_transforms.specs.rewriter.Machine.{Transformation};
 ghost use Rattle.mlir_work_transforms.specs.rewriter.Panels.{Shown};
 ghost use Rattle.mlir_work_script.specs.SessionCommands.{Rewrite};
 ghost use Rattle.mlir_work_script_base.specs.RuleNames.{name_of};
-ghost use Rattle.mlir_work_registry.specs.RuleLists.{names_of};
+ghost use Rattle.mlir_work_transforms.specs.registry.RuleLists.{names_of};
 ghost use Rattle.mlir_work_transforms.specs.Applying.{application};
 ghost use Rattle.mlir_work_transforms.specs.rewriter.RewriterCalls.{AgreesOrStale, state_of};
 ghost use Rattle.mlir_work_script_base.specs.Clauses.{clauses_of, target_of};
@@ -50,7 +50,7 @@ pub(crate) fn canon<L: Analysis>(
 ) -> Reply
     requires { AgreesOrStale L.meaning bench.old }
     ensures obeys { RunsCommand session_options.now (state_of L.meaning bench.old) (Canon limit) (response_of result) [] (state_of L.meaning bench.new) }
-    ensures room { IsContextFull (IsFull bench.new.transaction.ctx) (state_of L.meaning bench.old) (canonicalizing (limit_or session_options.now.limit limit)) (response_of result) }
+    ensures headroom { IsContextFull (IsFull bench.new.transaction.ctx) (state_of L.meaning bench.old) (canonicalizing (limit_or session_options.now.limit limit)) (response_of result) }
     ensures kept { AgreesOrStale L.meaning bench.new }
     ensures mode { bench.new.transaction.ctx.opaque ≡ bench.old.transaction.ctx.opaque }
 {
@@ -78,7 +78,7 @@ pub(crate) fn convert<L: Analysis>(
 ) -> Reply
     requires { AgreesOrStale L.meaning bench.old }
     ensures obeys { (setting : Setting) → RunsCommand setting (state_of L.meaning bench.old) (Convert (target_of full (clauses_of clauses.now))) (response_of result) [] (state_of L.meaning bench.new) }
-    ensures room { IsContextFull (IsFull bench.new.transaction.ctx) (state_of L.meaning bench.old) (conversion (target_of full (clauses_of clauses.now))) (response_of result) }
+    ensures headroom { IsContextFull (IsFull bench.new.transaction.ctx) (state_of L.meaning bench.old) (conversion (target_of full (clauses_of clauses.now))) (response_of result) }
     ensures kept { AgreesOrStale L.meaning bench.new }
     ensures mode { bench.new.transaction.ctx.opaque ≡ bench.old.transaction.ctx.opaque }
 {
@@ -95,7 +95,7 @@ pub(crate) fn apply_named_rule<L: Analysis>(
 ) -> Reply
     requires { AgreesOrStale L.meaning bench.old }
     ensures obeys { (setting : Setting) → RunsCommand setting (state_of L.meaning bench.old) (Apply (name_of name.now) op) (response_of result) [] (state_of L.meaning bench.new) }
-    ensures room { (f : Transformation) → application (name_of name.now) op ≡ Some f → IsContextFull (IsFull bench.new.transaction.ctx) (state_of L.meaning bench.old) f (response_of result) }
+    ensures headroom { (f : Transformation) → application (name_of name.now) op ≡ Some f → IsContextFull (IsFull bench.new.transaction.ctx) (state_of L.meaning bench.old) f (response_of result) }
     ensures kept { AgreesOrStale L.meaning bench.new }
     ensures mode { bench.new.transaction.ctx.opaque ≡ bench.old.transaction.ctx.opaque }
 {
@@ -117,7 +117,7 @@ pub(crate) fn rewrite<L: Analysis>(
 ) -> Reply
     requires { AgreesOrStale L.meaning bench.old }
     ensures fulfils { (supply : Bool → ℕ → Option Shown) → RunsSessionCommand (session_setting supply session_options.now) (state_of L.meaning bench.old) (Rewrite (names_of rules.now) limit) (response_of result) [] (state_of L.meaning bench.new) }
-    ensures room { (f : Transformation) → rewriting_named (names_of rules.now) (limit_or session_options.now.limit limit) ≡ Some f → IsContextFull (IsFull bench.new.transaction.ctx) (state_of L.meaning bench.old) f (response_of result) }
+    ensures headroom { (f : Transformation) → rewriting_named (names_of rules.now) (limit_or session_options.now.limit limit) ≡ Some f → IsContextFull (IsFull bench.new.transaction.ctx) (state_of L.meaning bench.old) f (response_of result) }
     ensures kept { AgreesOrStale L.meaning bench.new }
     ensures mode { bench.new.transaction.ctx.opaque ≡ bench.old.transaction.ctx.opaque }
 {

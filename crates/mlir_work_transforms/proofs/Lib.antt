@@ -11,6 +11,7 @@ pub mod Chosen
 pub mod Made
 pub use Rattle.conversion.proofs.of_rewriter
 pub use Rattle.greedy.proofs.Changing
+pub use Rattle.mlir_work_registry.proofs as of_registry
 pub mod Joined
 pub mod Narrowed
 pub mod NamedPatterns

@@ -15,7 +15,7 @@ use Rattle.ir_event.specs.types.Things.{ContextModel, IsExtendedBy, IsName}
 use Rattle.ir_event.specs.types.declared.refusal.Refusal.{Refusal}
 use Rattle.ir_event.specs.types.declared.refusal.Refusal.TheVariants.{Full, Memory, TooMany}
 use Rattle.ir_event.proofs.of_types.CallNumbers.{new_name, name_stands}
-use Rattle.ir_event.proofs.of_types.Growth.{front_agree, front_length, grows_refl, grows_trans}
+use Rattle.ir_event.proofs.of_types.Growth.{preceding_agree, preceding_length, grows_refl, grows_trans}
 use Rattle.ir_event.specs.Listener.{Listener}
 use Rattle.ir_event.proofs.of_tree_laws.Listed.{both}
 use Rattle.conversion.proofs.of_rewriter.Noted.{recorded_more, recorded_none}
@@ -88,8 +88,8 @@ still_all P Q h (n ∷ ns) a = All-cons Q n ns (h n (All-head P n ns a)) (still_
 
 pub still_numbers : (c d : ContextModel) (ns : List ℕ) (names : List (List ℕ)) → IsExtendedBy c d → AreNumbers c ns names → AreNumbers d ns names
 still_numbers c d ns names grows h = record {
-  known = still_all (IsName c) (IsName d) (λ n k. let l = front_length c.names d.names grows.names in omega (arith, l, k)) ns h.known;
-  are = same_map (IsName c) (name_term d) (name_term c) (λ n k. front_agree [] c.names d.names grows.names n k) ns h.known ∙ h.are;
+  known = still_all (IsName c) (IsName d) (λ n k. let l = preceding_length c.names d.names grows.names in omega (arith, l, k)) ns h.known;
+  are = same_map (IsName c) (name_term d) (name_term c) (λ n k. preceding_agree [] c.names d.names grows.names n k) ns h.known ∙ h.are;
 }
 
 pub no_numbers : (c : ContextModel) → AreNumbers c [] []

@@ -22,7 +22,7 @@ use Rattle.conversion.specs.Targets.{Aim}
 use Rattle.conversion.specs.declared.fault.Fault.{Fault}
 use Rattle.conversion.specs.declared.match_failure.MatchFailure.{MatchFailure}
 use Rattle.conversion_base.specs.declared.applied_rule.AppliedRule.{AppliedRule}
-use Rattle.mlir_work_transforms.specs.ConvertText.{ToldFault, conversion_text, applied_as, stay_below, stay_line, stay_or, stood_text, told_below}
+use Rattle.mlir_work_transforms.specs.ConvertText.{ToldFault, conversion_text, applied_as, stay_below, stay_line, stay_or, located_text, told_below}
 use Rattle.mlir_work_transforms.specs.TraceText.{applied_line}
 use Rattle.mlir_work_transforms.proofs.Converted.{wants}
 use Rattle.ir_event.proofs.of_types.Truths.{rest_at}
@@ -33,7 +33,7 @@ use Rattle.ir_event.proofs.of_types.Truths.{rest_at}
 pub record Notified (o : Option Aim) (held : Module) (r : Result ℕ Fault) (begun text : List ℕ) (before failure : Option MatchFailure) : Type 0 where
   pub nothing : begun ≡ []
   pub unset : before ≡ None
-  pub told : OnOk r (text ≡ begun ++ stood_text (applied_rules (conversion_to o held)))
+  pub told : OnOk r (text ≡ begun ++ located_text (applied_rules (conversion_to o held)))
   pub stays : IfErr r (λ f. failure ≡ stay_or (reported_failure f.id (stay_to o held)) before)
 
 -- the lines that show the conversion
@@ -41,11 +41,11 @@ pub record Shown (r q : Result ℕ Fault) (text lines : List ℕ) (failure : Opt
   pub ok : OnOk r ((q ≡ r) × (lines ≡ text))
   pub fault : IfErr r (λ f. ToldFault f failure q lines)
 
-abbrev no_room : Fault
-no_room = record { refusal = Memory; id = None }
+abbrev no_headroom : Fault
+no_headroom = record { refusal = Memory; id = None }
 
 abbrev Same : Result ℕ Fault → Result ℕ Fault → Type 0
-Same r q = (q ≡ r) ⊎ ((f : Fault) × (r ≡ Err f) × (q ≡ Err no_room))
+Same r q = (q ≡ r) ⊎ ((f : Fault) × (r ≡ Err f) × (q ≡ Err no_headroom))
 
 same_or : (r q : Result ℕ Fault) (text lines : List ℕ) (failure : Option MatchFailure) → Shown r q text lines failure → Same r q
 same_or (Ok n) q text lines failure s = inl s.ok.0
@@ -74,7 +74,7 @@ module _ {B : Type 0} (meaning : B → Listener) (o : Option Aim) (a b : Benched
       go (inr (t, inl e)) = ap (λ (x : Answer). x.marks) e
       go (inr (t, inr (f, e))) = ap (λ (x : Answer). x.marks) e
 
-  unmade : (f : Fault) → r ≡ Err f → Converts (conversion_to o (module_held a.transaction)) r (seen a) (seen b) → Converts (conversion_to o (module_held a.transaction)) (Err no_room) (seen a) (seen b)
+  unmade : (f : Fault) → r ≡ Err f → Converts (conversion_to o (module_held a.transaction)) r (seen a) (seen b) → Converts (conversion_to o (module_held a.transaction)) (Err no_headroom) (seen a) (seen b)
   unmade f e c =
       let d : Converts (conversion_to o (module_held a.transaction)) (Err f) (seen a) (seen b) = subst (λ (x : Result ℕ Fault). Converts (conversion_to o (module_held a.transaction)) x (seen a) (seen b)) e c in
       (wants (conversion_to o (module_held a.transaction)) Memory (seen b) (inl refl), d.1)
@@ -111,7 +111,7 @@ below e ks (Some x) (Some s) h = ap (λ n. stay_line n s.1) (sym (h x s refl ref
 pub traced_lines : (o : Option Aim) (a b : State) (r q : Result ℕ Fault) (begun text lines : List ℕ) (before failure : Option MatchFailure) → Converts (conversion_to o a.held) r a b → Notified o a.held r begun text before failure → Shown r q text lines failure
     → lines ≡ conversion_text o a.held (conversion_reply q)
 traced_lines o a b (Ok n) q begun text lines before failure c h s =
-    s.ok.1 ∙ h.told ∙ ap (λ (t : List ℕ). t ++ stood_text (applied_rules (conversion_to o a.held))) h.nothing ∙ sym (ap (λ x. conversion_text o a.held (conversion_reply x)) s.ok.0)
+    s.ok.1 ∙ h.told ∙ ap (λ (t : List ℕ). t ++ located_text (applied_rules (conversion_to o a.held))) h.nothing ∙ sym (ap (λ x. conversion_text o a.held (conversion_reply x)) s.ok.0)
 traced_lines o a b (Err f) q begun text lines before failure c h s = go s.fault
   where
     go : ToldFault f failure q lines → lines ≡ conversion_text o a.held (conversion_reply q)
@@ -122,12 +122,12 @@ traced_lines o a b (Err f) q begun text lines before failure c h s = go s.fault
 
 -- ---- a line for each applied rule
 
-pub stood_more : (x d : AppliedRule) (xs : List AppliedRule) (out more all : List ℕ) → 1 ≤ length xs → x ≡ get_or xs 0 d → more ≡ out ++ applied_line [] (applied_as x) → out ++ stood_text xs ≡ all
-    → more ++ stood_text (take (length xs - 1) (drop 1 xs)) ≡ all
-stood_more x d xs out more all l z e h =
+pub located_more : (x d : AppliedRule) (xs : List AppliedRule) (out more all : List ℕ) → 1 ≤ length xs → x ≡ get_or xs 0 d → more ≡ out ++ applied_line [] (applied_as x) → out ++ located_text xs ≡ all
+    → more ++ located_text (take (length xs - 1) (drop 1 xs)) ≡ all
+located_more x d xs out more all l z e h =
     let rest = take (length xs - 1) (drop 1 xs) in
-    ap (λ t. t ++ stood_text rest) e ∙ append_assoc out (applied_line [] (applied_as x)) (stood_text rest) ∙ ap (λ ys. out ++ stood_text ys) (sym (rest_at xs x d l z)) ∙ h
+    ap (λ t. t ++ located_text rest) e ∙ append_assoc out (applied_line [] (applied_as x)) (located_text rest) ∙ ap (λ ys. out ++ located_text ys) (sym (rest_at xs x d l z)) ∙ h
 
-pub stood_done : (xs : List AppliedRule) (out all : List ℕ) → length xs < 1 → out ++ stood_text xs ≡ all → out ≡ all
-stood_done [] out all l h = sym (append-nil out) ∙ h
-stood_done (x ∷ xs) out all l h = absurd (omega (arith, l))
+pub located_done : (xs : List AppliedRule) (out all : List ℕ) → length xs < 1 → out ++ located_text xs ≡ all → out ≡ all
+located_done [] out all l h = sym (append-nil out) ∙ h
+located_done (x ∷ xs) out all l h = absurd (omega (arith, l))

@@ -21,8 +21,8 @@ abbrev pub applied_as : AppliedRule → AppliedRewrite
 applied_as k = record { by = by.Rule k.rule; op = k.op; from = k.from; until = k.until; stays = k.stays }
 
 -- a line for each applied rule
-abbrev pub stood_text : List AppliedRule → List ℕ
-stood_text ks = trace_text [] (map applied_as ks)
+abbrev pub located_text : List AppliedRule → List ℕ
+located_text ks = trace_text [] (map applied_as ks)
 
 -- why the rule that was tried last failed
 abbrev pub stay_text : MatchFailure → List ℕ
@@ -40,7 +40,7 @@ stay_lines (Some s) = stay_line s.0 s.1
 
 -- the lines below a reply
 abbrev pub told_below : Reply → List AppliedRule → Option (ℕ × MatchFailure) → List ℕ
-told_below (DoneWith o) ks s = stood_text ks
+told_below (DoneWith o) ks s = located_text ks
 told_below (RefusedOn e x) ks s = stay_lines s
 told_below _ ks s = []
 

@@ -14,6 +14,7 @@ pub use Rattle.conversion.specs.declared.fault.Fault
 pub use Rattle.conversion.specs.patterns.Rule
 pub use Rattle.conversion.specs.rewriter
 pub use Rattle.greedy.specs as greedy
+pub use Rattle.mlir_work_registry.specs as registry
 pub mod RuleLists
 pub mod Unproved
 pub mod Views

@@ -60,6 +60,6 @@ abbrev pub mixing : RegistryModel → List RuleName → ℕ → Option Transform
 mixing registry names limit = option_map (λ ls. rewriting (by_attempts (attempts_in ls)) limit) (all_listed registry names)
 
 -- the trace of a list
-abbrev pub mixed_trace : Option (List Listed) → ℕ → Module → List ℕ
-mixed_trace None limit m = []
-mixed_trace (Some ls) limit m = trace_text (names_in ls) (trace_of (by_attempts (attempts_in ls)) limit m)
+abbrev pub rule_list_trace : Option (List Listed) → ℕ → Module → List ℕ
+rule_list_trace None limit m = []
+rule_list_trace (Some ls) limit m = trace_text (names_in ls) (trace_of (by_attempts (attempts_in ls)) limit m)

@@ -20,9 +20,9 @@ pub record IsRuleListOf (m : RuleList) (ls : List Listed) : Type 0 where
   pub names : map (λ n. n.items) m.names.items ≡ names_in ls
 
 -- the model of a parsed list: it is absent if an item couldn't be resolved
-abbrev pub IsMixed : Option RuleList → Option (List Listed) → Type 0
-IsMixed None found = found ≡ None
-IsMixed (Some m) found = (ls : List Listed) × (found ≡ Some ls) × IsRuleListOf m ls × AreAttempts (attempts_in ls)
+abbrev pub IsRuleList : Option RuleList → Option (List Listed) → Type 0
+IsRuleList None found = found ≡ None
+IsRuleList (Some m) found = (ls : List Listed) × (found ≡ Some ls) × IsRuleListOf m ls × AreAttempts (attempts_in ls)
 
 abbrev pub noted_view : NotedCode → Noted
 noted_view n = record { name = n.name.now; is_typed = n.is_typed; said = n.said }

@@ -17,9 +17,9 @@ told_rules None x m = rules_for_op (find x m.tree)
 told_rules (Some r) x m = r ∷ []
 
 -- the rules of a command; none if the given name isn't a rule's
-abbrev pub asked_rules : Option RuleName → ℕ → Module → Option (List Rule)
-asked_rules None x m = Some (told_rules None x m)
-asked_rules (Some name) x m = option_map (λ r. told_rules (Some r) x m) (rule_named name)
+abbrev pub requested_rules : Option RuleName → ℕ → Module → Option (List Rule)
+requested_rules None x m = Some (told_rules None x m)
+requested_rules (Some name) x m = option_map (λ r. told_rules (Some r) x m) (rule_named name)
 
 -- the verdict on a rule
 abbrev pub verdict : Option Reason → List ℕ

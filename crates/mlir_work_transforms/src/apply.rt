@@ -37,7 +37,7 @@ pub fn apply_rule<L: Analysis>(
     op: OpId,
 ) -> Result<bool, Refusal>
     ensures does { Does L.meaning (Change (applying rule op)) (applied_reply result) bench.old bench.new }
-    ensures room { IsFullSo (IsFull bench.new.transaction.ctx) (state_of L.meaning bench.old) (applying rule op)
+    ensures headroom { IsFullSo (IsFull bench.new.transaction.ctx) (state_of L.meaning bench.old) (applying rule op)
         (applied_reply result) }
     ensures led { Led L.meaning bench.old bench.new }
     ensures grows { IsExtendedBy bench.old.transaction.ctx bench.new.transaction.ctx }

@@ -25,7 +25,7 @@ pub fn apply_pattern<L: Analysis>(
     op: OpId,
 ) -> Result<bool, Refusal>
     ensures does { Does L.meaning (Change (applying_own (pattern_model pattern.now) op)) (applied_reply result) bench.old bench.new }
-    ensures room { IsFullSo (IsFull bench.new.transaction.ctx) (state_of L.meaning bench.old) (applying_own (pattern_model pattern.now) op)
+    ensures headroom { IsFullSo (IsFull bench.new.transaction.ctx) (state_of L.meaning bench.old) (applying_own (pattern_model pattern.now) op)
         (applied_reply result) }
     ensures led { Led L.meaning bench.old bench.new }
     ensures grows { IsExtendedBy bench.old.transaction.ctx bench.new.transaction.ctx }

@@ -153,7 +153,7 @@ pub fn canonicalize_at<L: Analysis>(
     limit: u32,
 ) -> Result<Outcome, Refusal>
     ensures does { Does L.meaning (Change (canonicalizing_at limit op)) (canonical_reply result) bench.old bench.new }
-    ensures room { IsFullSo (IsFull bench.new.transaction.ctx) (state_of L.meaning bench.old) (canonicalizing_at limit op)
+    ensures headroom { IsFullSo (IsFull bench.new.transaction.ctx) (state_of L.meaning bench.old) (canonicalizing_at limit op)
         (canonical_reply result) }
     ensures led { Led L.meaning bench.old bench.new }
     ensures grows { IsExtendedBy bench.old.transaction.ctx bench.new.transaction.ctx }
@@ -161,6 +161,6 @@ pub fn canonicalize_at<L: Analysis>(
         (λ _. Recorded [] bench.old.transaction bench.new.transaction) }
 {
     led_benches_are_kept::<L>();
-    bench.is_formed();
+    bench.is_wellformed();
     run(alloc, bench, op, limit)
 }

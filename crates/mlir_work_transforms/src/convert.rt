@@ -59,7 +59,7 @@ fn convert_told<L: Analysis, T: Tracer>(
         (λ _. Recorded [] bench.old.transaction bench.new.transaction) }
 {
     led_benches_are_kept::<L>();
-    bench.is_formed();
+    bench.is_wellformed();
     let target = match target_of(alloc, bench, full, clauses) {
         Ok(target) => target,
         Err(refusal) => {

@@ -1,7 +1,7 @@
 //! The lines that trace a conversion.
 ghost use Rattle.std.specs.Prelude.{◌≡◌, ◌++◌, [], None, IfOk, OnOk};
 ghost use Rattle.conversion.specs.declared.match_failure.MatchFailure.TheVariants.{ConditionFails, MakesIllegal};
-ghost use Rattle.mlir_work_transforms.specs.ConvertText.{applied_as, stay_line, stay_text, stood_text};
+ghost use Rattle.mlir_work_transforms.specs.ConvertText.{applied_as, stay_line, stay_text, located_text};
 
 use crate::trace_lines::{write_applied_rewrite, write_op, write_rule};
 use conversion::applied_rule::AppliedRule;
@@ -36,7 +36,7 @@ fn applied_as(applied: &AppliedRule) -> AppliedRewrite
 
 /// Appends a line for each applied rule.
 fn write_applied_rules(text: &mut Vec<u8>, applied: &[AppliedRule]) -> Result<(), AllocError>
-    ensures { OnOk result (text.new.items ≡ text.old.items ++ stood_text applied.now) }
+    ensures { OnOk result (text.new.items ≡ text.old.items ++ located_text applied.now) }
 {
     let mut rest = applied;
     'applied: while let [one, tail @ ..] = rest {
@@ -102,9 +102,9 @@ impl ConvertLines {
 
 impl Tracer for ConvertLines {
     ghost use Rattle.std.specs.Prelude.{◌≡◌, ◌++◌};
-    ghost use Rattle.mlir_work_transforms.specs.ConvertText.{stay_or, stood_text};
+    ghost use Rattle.mlir_work_transforms.specs.ConvertText.{stay_or, located_text};
 
-    ghost told = { λ ks a b. b.text.items ≡ a.text.items ++ stood_text ks };
+    ghost told = { λ ks a b. b.text.items ≡ a.text.items ++ located_text ks };
 
     ghost stayed = { λ s a b. b.failure ≡ stay_or s a.failure };
 

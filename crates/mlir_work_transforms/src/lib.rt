@@ -31,3 +31,4 @@ pub mod why;
 
 pub use conversion::{fault, rewriter};
 pub use greedy;
+pub use mlir_work_registry as registry;

@@ -37,7 +37,7 @@ fn intern<L: Analysis>(bench: &mut Bench<L>, bytes: &[u8]) -> Result<NameId, Ref
     ensures interned { Interned L.meaning bench.old bench.new }
 {
     let named = bench.name(bytes);
-    bench.is_formed();
+    bench.is_wellformed();
     match named {
         Ok(name) => Ok(name),
         Err(refusal) => Err(wanting(refusal)),

@@ -4,7 +4,7 @@ ghost use Rattle.ir_event.specs.types.declared.refusal.Refusal.TheVariants.{Memo
 ghost use Rattle.mlir_work_registry.specs.RuleLists.{names_of as names_said};
 ghost use Rattle.mlir_work_registry.specs.Registry.{registry_model};
 ghost use Rattle.mlir_work_transforms.specs.RuleLists.{all_listed};
-ghost use Rattle.mlir_work_transforms.specs.Views.{IsMixed, IsRuleListOf, listed_views};
+ghost use Rattle.mlir_work_transforms.specs.Views.{IsRuleList, IsRuleListOf, listed_views};
 
 use crate::greedy::pattern_set::RuleOrPattern;
 use crate::rule_items::{RuleItem, names_of, parse_items, pattern_set};
@@ -20,7 +20,7 @@ pub struct RuleList<'a> {
 }
 
 /// Builds a rule list from resolved items.
-fn mixed_of<'a>(alloc: Global, listed: &[RuleItem<'a>]) -> Result<RuleList<'a>, AllocError>
+fn rule_list_of<'a>(alloc: Global, listed: &[RuleItem<'a>]) -> Result<RuleList<'a>, AllocError>
     ensures { IfOk result (λ m. IsRuleListOf m (listed_views listed.now)) }
 {
     let candidates = pattern_set(alloc, listed)?;
@@ -36,7 +36,7 @@ pub fn parse_rule_list<'a>(
     registry: &'a PatternRegistry,
     list: &[u8],
 ) -> Result<Option<RuleList<'a>>, Refusal>
-    ensures mixed { IfOk result (λ found. IsMixed found (all_listed (registry_model registry.now) (names_said list.now))) }
+    ensures rule_list { IfOk result (λ found. IsRuleList found (all_listed (registry_model registry.now) (names_said list.now))) }
     ensures want { IfErr result (λ refusal. (refusal ≡ NoMemory)
         × (is_some (all_listed (registry_model registry.now) (names_said list.now)) ≡ true)) }
 {
@@ -45,8 +45,8 @@ pub fn parse_rule_list<'a>(
         Ok(None) => return Ok(None),
         Err(refusal) => return Err(refusal),
     };
-    match mixed_of(alloc, &listed) {
-        Ok(mixed) => Ok(Some(mixed)),
+    match rule_list_of(alloc, &listed) {
+        Ok(rule_list) => Ok(Some(rule_list)),
         Err(_) => Err(Refusal::Memory),
     }
 }

@@ -24,7 +24,7 @@ fn erase_each<L: Analysis>(bench: &mut Bench<L>, ops: &mut Vec<OpId>) -> Result<
     ensures noted { OnErr result (Noted bench.old.transaction bench.new.transaction) }
 {
     led_benches_are_kept::<L>();
-    bench.is_formed();
+    bench.is_wellformed();
     'ops: while let Some(op) = ops.pop() {
         if let Err(refusal) = bench.erase(op) {
             return Err(refusal);
@@ -45,7 +45,7 @@ pub fn sweep<L: Analysis>(alloc: Global, bench: &mut Bench<L>) -> Result<usize, 
     ensures journal { JournalAfter L.meaning result bench.old bench.new }
 {
     led_benches_are_kept::<L>();
-    bench.is_formed();
+    bench.is_wellformed();
     let mut ops = match unreached(alloc, bench.world()) {
         Ok(ops) => ops,
         Err(refusal) => return Err(refusal),

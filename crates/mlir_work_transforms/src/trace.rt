@@ -39,7 +39,7 @@ pub fn canon_traced<L: Analysis>(
     ensures told { OnOk result (lines.new.text.items ≡ lines.old.text.items
         ++ trace_text (map (λ n. n.items) lines.old.names.items)
         (trace_of (by_rules greedy_rules) limit (module_held bench.old.transaction))) }
-    ensures room { IsFullSo (IsFull bench.new.transaction.ctx) (state_of L.meaning bench.old) (canonicalizing limit)
+    ensures headroom { IsFullSo (IsFull bench.new.transaction.ctx) (state_of L.meaning bench.old) (canonicalizing limit)
         (canonical_reply result) }
     ensures led { Led L.meaning bench.old bench.new }
     ensures grows { IsExtendedBy bench.old.transaction.ctx bench.new.transaction.ctx }
@@ -63,7 +63,7 @@ pub fn rewrite_traced<L: Analysis>(
     ensures told { OnOk result (lines.new.text.items ≡ lines.old.text.items
         ++ trace_text (map (λ n. n.items) lines.old.names.items)
         (trace_of (by_rules rules.now) limit (module_held bench.old.transaction))) }
-    ensures room { IsFullSo (IsFull bench.new.transaction.ctx) (state_of L.meaning bench.old) (rewriting (by_rules rules.now) limit)
+    ensures headroom { IsFullSo (IsFull bench.new.transaction.ctx) (state_of L.meaning bench.old) (rewriting (by_rules rules.now) limit)
         (canonical_reply result) }
     ensures led { Led L.meaning bench.old bench.new }
     ensures grows { IsExtendedBy bench.old.transaction.ctx bench.new.transaction.ctx }
@@ -88,7 +88,7 @@ pub fn trace_rewrite_with_patterns<L: Analysis>(
     ensures told { OnOk result (lines.new.text.items ≡ lines.old.text.items
         ++ trace_text (map (λ n. n.items) lines.old.names.items)
         (trace_of (by_attempts (patterns_of candidates.now)) limit (module_held bench.old.transaction))) }
-    ensures room { IsFullSo (IsFull bench.new.transaction.ctx) (state_of L.meaning bench.old)
+    ensures headroom { IsFullSo (IsFull bench.new.transaction.ctx) (state_of L.meaning bench.old)
         (rewriting (by_attempts (patterns_of candidates.now)) limit) (canonical_reply result) }
     ensures led { Led L.meaning bench.old bench.new }
     ensures grows { IsExtendedBy bench.old.transaction.ctx bench.new.transaction.ctx }

@@ -26,7 +26,7 @@ fn write_verdict(text: &mut Vec<u8>, failing: Option<Reason>) -> Result<(), Allo
 }
 
 /// Appends the beginning of a line: the operation and the rule.
-fn write_asked(text: &mut Vec<u8>, op: OpId, rule: Rule) -> Result<(), AllocError>
+fn write_requested(text: &mut Vec<u8>, op: OpId, rule: Rule) -> Result<(), AllocError>
     ensures { OnOk result (text.new.items ≡ text.old.items
         ++ (codes "why " ++ (op_text op ++ (codes " " ++ rule_text rule)))) }
 {
@@ -45,7 +45,7 @@ fn write_why(
 ) -> Result<(), AllocError>
     ensures { OnOk result (text.new.items ≡ text.old.items ++ why_line op rule failing) }
 {
-    write_asked(text, op, rule)?;
+    write_requested(text, op, rule)?;
     text.extend_from_slice(b" ")?;
     write_verdict(text, failing)?;
     text.extend_from_slice(b"\n")

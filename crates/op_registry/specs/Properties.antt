@@ -6,7 +6,7 @@ use Rattle.ir_types.specs.Terms.{TypeTerm, Integer, Function, AttrTerm, IntegerO
 use Rattle.ir_types.specs.Terms as term
 use Rattle.op_registry.specs.declared.property.PropertyKind.{PropertyKind}
 use Rattle.op_registry.specs.declared.property.PropertyKind.TheVariants as kind
-use Rattle.op_registry.specs.Registry.{beside}
+use Rattle.op_registry.specs.Registry.{next_to}
 
 -- each key with the kind of its attributes
 unfoldable pub kinds : List (List ℕ × PropertyKind)
@@ -27,7 +27,7 @@ kinds =
 
 -- the kind of a key; for a key of no row any attribute is allowed
 unfoldable pub kind_of : List ℕ → PropertyKind
-kind_of key = unwrap_or (beside key kinds) kind.Any
+kind_of key = unwrap_or (next_to key kinds) kind.Any
 
 -- the content of an attribute of one form: an integer's type and bits, a string, a type, a symbol's components, a dense
 -- array's type

@@ -14,13 +14,13 @@ use Rattle.op_registry.specs.declared.own.Own.TheVariants.{Unknown}
 use Rattle.op_registry.specs.Rows.{TypesRow, RegionRow, PropertyRow, Row, rows}
 
 -- the item with this name in a list of names and items
-abbrev pub beside : {A : Type 0} → List ℕ → List (List ℕ × A) → Option A
-beside op [] = None
-beside op (row ∷ more) = if bytes_eq op row.0 then Some row.1 else beside op more
+abbrev pub next_to : {A : Type 0} → List ℕ → List (List ℕ × A) → Option A
+next_to op [] = None
+next_to op (row ∷ more) = if bytes_eq op row.0 then Some row.1 else next_to op more
 
 -- the row of an operation, if it is registered
 unfoldable pub row_of : List ℕ → Option Row
-row_of op = beside op rows
+row_of op = next_to op rows
 
 -- the keys of its properties
 abbrev pub keys_of : Row → List (List ℕ)

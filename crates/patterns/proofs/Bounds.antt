@@ -30,7 +30,7 @@ module _ (w : World) (k n s : ℕ) (count : n ≡ op_count w.store.module_of.tre
         let above : nat_le (w.store.module_of.next + k) most_next ≡ false = lt-leb (w.store.module_of.next + k) most_next (omega (arith, l, total, wide, next)) in
         λ i. unless (sym few_ops i) Full (unless (sym above i) IdsExhausted None)
 
-    pub has_room : t ≤ most_next → None ≡ limit_reason k (module_in w)
-    has_room l =
+    pub has_headroom : t ≤ most_next → None ≡ limit_reason k (module_in w)
+    has_headroom l =
         let few : nat_le (w.store.module_of.next + k) most_next ≡ true = le-leb (w.store.module_of.next + k) most_next (omega (arith, l, total, wide, next)) in
         λ i. unless (sym few_ops i) Full (unless (sym few i) IdsExhausted None)

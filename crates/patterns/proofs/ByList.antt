@@ -48,7 +48,7 @@ module _ (only : OnlyListed) (m : Module) (x : ℕ) (o : Operation) (is : find x
   name = (head o).name
 
   unlisted : (r : Rule) → has_rule r name ≡ false → None ≡ edits_of r m x
-  unlisted r lacks = none_rule r m x (λ p f n front. sym (only r m.tree n front p (subst (λ (q : Operation). has_rule r (head q).name ≡ false) (same p f) lacks)))
+  unlisted r lacks = none_rule r m x (λ p f n insertion. sym (only r m.tree n insertion p (subst (λ (q : Operation). has_rule r (head q).name ≡ false) (same p f) lacks)))
     where
       same : (p : Operation) → find x m.tree ≡ Some p → o ≡ p
       same p f = (let both : Some o ≡ Some p = sym is ∙ f in cc)
@@ -78,12 +78,12 @@ module _ (only : OnlyListed) (m : Module) (x : ℕ) (h : Header) (shown : Some h
       ∙ ap (λ (xs : List Rule). firing xs m x) (sym row_is ∙ sym (all_kept row (subst AreCanonical (sym is) tried_there)))
 
 -- the first applicable rule of a sufficient list is the first of the whole list
-module _ (w : World) (x : ℕ) (front : Place) (rs rules : List Rule) (suffices : firing rs (module_in w) x ≡ firing (greedy rules) (module_in w) x) where
-  pub none_of_list : (f : Option (Rule × RulePlan)) → IsFirst rules w x front f → f ≡ None → IsFirstOf rs w x None
-  none_of_list f is e = suffices ∙ subst (IsFirst rules w x front) e is
+module _ (w : World) (x : ℕ) (insertion : Place) (rs rules : List Rule) (suffices : firing rs (module_in w) x ≡ firing (greedy rules) (module_in w) x) where
+  pub none_of_list : (f : Option (Rule × RulePlan)) → IsFirst rules w x insertion f → f ≡ None → IsFirstOf rs w x None
+  none_of_list f is e = suffices ∙ subst (IsFirst rules w x insertion) e is
 
-  pub some_of_list : (f : Option (Rule × RulePlan)) (r : Rule) (p : RulePlan) → IsFirst rules w x front f → f ≡ Some (r, p) → IsFirstOf rs w x (Some (record { rule = r; planned = record { point = front; made = p } }))
-  some_of_list f r p is e = (let first = subst (IsFirst rules w x front) e is in (first.0, suffices ∙ first.1))
+  pub some_of_list : (f : Option (Rule × RulePlan)) (r : Rule) (p : RulePlan) → IsFirst rules w x insertion f → f ≡ Some (r, p) → IsFirstOf rs w x (Some (record { rule = r; planned = record { point = insertion; made = p } }))
+  some_of_list f r p is e = (let first = subst (IsFirst rules w x insertion) e is in (first.0, suffices ∙ first.1))
 
 -- the world of a rewriter and its transaction
 module _ (w : World) (b : TransactionModel) (ctx : w.ctx ≡ b.ctx) (store : w.store ≡ b.store) (x : ℕ) (rs : List Rule) where
@@ -107,6 +107,6 @@ module _ (w : World) (b : TransactionModel) (ctx : w.ctx ≡ b.ctx) (store : w.s
     first_due = rule_held ∙ rewrite_due w b ctx store x (λ c n q. planned_edits c n x q) f.rule (Some f.planned) is.0.edits f.planned refl
 
     pub free_held : AreAccepted → IsSoundIn b.ctx b.store.module_of.tree → IsWellFormed (isolated_in b.ctx) b.store.module_of → IsFree (planned_edits b.ctx (module_held b).next x f.planned) (module_held b)
-    free_held accepted sound formed n e =
-        accepted_of accepted b sound formed f.rule x (planned_edits b.ctx (module_held b).next x f.planned) n
+    free_held accepted sound wellformed n e =
+        accepted_of accepted b sound wellformed f.rule x (planned_edits b.ctx (module_held b).next x f.planned) n
         (edits_due w b ctx store x (λ c n q. planned_edits c n x q) f.rule (Some f.planned) is.0.edits f.planned refl) e

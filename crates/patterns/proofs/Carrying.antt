@@ -134,6 +134,6 @@ module _ (w : World) (h : TransactionModel) (ctx : w.ctx ≡ h.ctx) (store : w.s
         free_why es (module_held h) e (free (all_edited es (module_held h)) (unlimited es (module_held h) k (makes ∙ sym count) no_reason))
         (subst (λ (z : List Edit × Module). IsWhy z.0 z.1 e) (λ i. ((due ∙ ap (λ j. planned_edits h.ctx j x p) (sym same_next)) i, same i)) why)
 
-pub no_room : (edits : List Edit) (m : Module) (c : ContextModel) (e : Refusal) → IsCapacityRefusal c e → ApplyFails edits m c e
-no_room edits m c e (inl h) = inl h
-no_room edits m c e (inr h) = inr (inr h)
+pub no_headroom : (edits : List Edit) (m : Module) (c : ContextModel) (e : Refusal) → IsCapacityRefusal c e → ApplyFails edits m c e
+no_headroom edits m c e (inl h) = inl h
+no_headroom edits m c e (inr h) = inr (inr h)

@@ -24,17 +24,17 @@ edits_made c (coded.Move x place ∷ es) = ap (λ n. 0 + n) (edits_made c es)
 edits_made c (coded.Erase x ∷ es) = ap (λ n. 0 + n) (edits_made c es)
 edits_made c (coded.SetAttr x k a ∷ es) = ap (λ n. 0 + n) (edits_made c es)
 
-pub plan_made : (c : ContextModel) (n x : ℕ) (front : Place) (p : RewritePlan) → made_by (plan_meaning c n x front p) ≡ plan_makes p
-plan_made c n x front (plan.Edits es) = edits_made c es.items
-plan_made c n x front (plan.Constant ty bits) = refl
-plan_made c n x front (plan.Cast name ty v) = refl
-plan_made c n x front (plan.CombinedConstant name ty v bits) = refl
-plan_made c n x front (plan.SwapComparison p a b) = refl
-plan_made c n x front (plan.CompareAndSelect p ty a b) = refl
-plan_made c n x front (plan.Difference ty a b ones) = refl
-plan_made c n x front (plan.Remainder division ty a b) = refl
+pub plan_made : (c : ContextModel) (n x : ℕ) (insertion : Place) (p : RewritePlan) → made_by (plan_meaning c n x insertion p) ≡ plan_makes p
+plan_made c n x insertion (plan.Edits es) = edits_made c es.items
+plan_made c n x insertion (plan.Constant ty bits) = refl
+plan_made c n x insertion (plan.Cast name ty v) = refl
+plan_made c n x insertion (plan.CombinedConstant name ty v bits) = refl
+plan_made c n x insertion (plan.SwapComparison p a b) = refl
+plan_made c n x insertion (plan.CompareAndSelect p ty a b) = refl
+plan_made c n x insertion (plan.Difference ty a b ones) = refl
+plan_made c n x insertion (plan.Remainder division ty a b) = refl
 
 -- and that the plan of a rule makes
-pub made_counted : (c : ContextModel) (n x : ℕ) (front : Place) (p : RulePlan) → MadeIsOf c p → made_by (made_edits c n x front p) ≡ made_makes p
-made_counted c n x front (made.Rewrite p) of = plan_made c n x front p
-made_counted c n x front (made.Lowering p) of = lowering_made c n front p.value of
+pub made_counted : (c : ContextModel) (n x : ℕ) (insertion : Place) (p : RulePlan) → MadeIsOf c p → made_by (made_edits c n x insertion p) ≡ made_makes p
+made_counted c n x insertion (made.Rewrite p) of = plan_made c n x insertion p
+made_counted c n x insertion (made.Lowering p) of = lowering_made c n insertion p.value of

@@ -30,23 +30,23 @@ use Rattle.patterns.proofs.ByList.{named_suffice}
 use Rattle.patterns.proofs.Firsts.{left_out, none_then, past, some_then, taken}
 use Rattle.patterns.proofs.Planned.{found, none_rule}
 
-module _ (w : World) (x : ℕ) (front : Place) (r : Rule) (pattern_set : is_canonical r ≡ true) where
-  tried : (p : Option RulePlan) → option_map (made_edits w.ctx (module_in w).next x front) p ≡ edits_of r (module_in w) x → IfSome p (MadeIsOf w.ctx) → FirstMatch r w x front p
+module _ (w : World) (x : ℕ) (insertion : Place) (r : Rule) (pattern_set : is_canonical r ≡ true) where
+  tried : (p : Option RulePlan) → option_map (made_edits w.ctx (module_in w).next x insertion) p ≡ edits_of r (module_in w) x → IfSome p (MadeIsOf w.ctx) → FirstMatch r w x insertion p
   tried None e of = left_out r (module_in w) x pattern_set e
-  tried (Some p) e of = (record { edits = e; of = of }, taken r (module_in w) x (made_edits w.ctx (module_in w).next x front p) pattern_set e)
+  tried (Some p) e of = (record { edits = e; of = of }, taken r (module_in w) x (made_edits w.ctx (module_in w).next x insertion p) pattern_set e)
 
-  pub tried_ok : {E : Type 0} (result : Result (Option RulePlan) E) → IfOk result (λ p. option_map (made_edits w.ctx (module_in w).next x front) p ≡ edits_of r (module_in w) x) → IfOk result (λ p. IfSome p (MadeIsOf w.ctx)) → IfOk result (FirstMatch r w x front)
+  pub tried_ok : {E : Type 0} (result : Result (Option RulePlan) E) → IfOk result (λ p. option_map (made_edits w.ctx (module_in w).next x insertion) p ≡ edits_of r (module_in w) x) → IfOk result (λ p. IfSome p (MadeIsOf w.ctx)) → IfOk result (FirstMatch r w x insertion)
   tried_ok (Ok p) e of = tried p e of
   tried_ok (Err f) e of = tt
 
 -- the first of some rules may be left out, so the first of the others that applies is the first of all
-pub first_others : (w : World) (x : ℕ) (front : Place) (r : Rule) (rs : List Rule) (f : Option (Rule × RulePlan)) → IsLeftOut r w x → IsFirst rs w x front f → IsFirst (r ∷ rs) w x front f
-first_others w x front r rs None out first = out rs ∙ first
-first_others w x front r rs (Some f) out first = (first.0, out rs ∙ first.1)
+pub first_others : (w : World) (x : ℕ) (insertion : Place) (r : Rule) (rs : List Rule) (f : Option (Rule × RulePlan)) → IsLeftOut r w x → IsFirst rs w x insertion f → IsFirst (r ∷ rs) w x insertion f
+first_others w x insertion r rs None out first = out rs ∙ first
+first_others w x insertion r rs (Some f) out first = (first.0, out rs ∙ first.1)
 
-pub first_others_ok : {E : Type 0} (w : World) (x : ℕ) (front : Place) (r : Rule) (rs : List Rule) (result : Result (Option (Rule × RulePlan)) E) → IsLeftOut r w x → IfOk result (IsFirst rs w x front) → IfOk result (IsFirst (r ∷ rs) w x front)
-first_others_ok w x front r rs (Ok f) out first = first_others w x front r rs f out first
-first_others_ok w x front r rs (Err e) out first = tt
+pub first_others_ok : {E : Type 0} (w : World) (x : ℕ) (insertion : Place) (r : Rule) (rs : List Rule) (result : Result (Option (Rule × RulePlan)) E) → IsLeftOut r w x → IfOk result (IsFirst rs w x insertion) → IfOk result (IsFirst (r ∷ rs) w x insertion)
+first_others_ok w x insertion r rs (Ok f) out first = first_others w x insertion r rs f out first
+first_others_ok w x insertion r rs (Err e) out first = tt
 
 -- the table entry of the operation's name
 module _ (only : OnlyListed) (m : Module) (x : ℕ) (h : Header) (shown : Some h ≡ head_at x m.tree) (rules : List Rule) (row : rules ≡ rules_for h.name) where
@@ -60,12 +60,12 @@ module _ (only : OnlyListed) (m : Module) (x : ℕ) (h : Header) (shown : Some h
       ∙ ap (λ rs. firing (greedy rs) m x) (sym name_is)
 
 -- the first applicable rule of a sufficient list is the highest-priority rule
-module _ (w : World) (x : ℕ) (front : Place) (rules : List Rule) (suffices : firing greedy_rules (module_in w) x ≡ firing (greedy rules) (module_in w) x) where
-  pub none_first_lowest : (f : Option (Rule × RulePlan)) → IsFirst rules w x front f → f ≡ None → IsHighestPriority w x None
-  none_first_lowest f is e = suffices ∙ subst (IsFirst rules w x front) e is
+module _ (w : World) (x : ℕ) (insertion : Place) (rules : List Rule) (suffices : firing greedy_rules (module_in w) x ≡ firing (greedy rules) (module_in w) x) where
+  pub none_first_lowest : (f : Option (Rule × RulePlan)) → IsFirst rules w x insertion f → f ≡ None → IsHighestPriority w x None
+  none_first_lowest f is e = suffices ∙ subst (IsFirst rules w x insertion) e is
 
-  pub first_lowest : (f : Option (Rule × RulePlan)) (r : Rule) (p : RulePlan) → IsFirst rules w x front f → f ≡ Some (r, p) → IsHighestPriority w x (Some (record { rule = r; planned = record { point = front; made = p } }))
-  first_lowest f r p is e = (let first = subst (IsFirst rules w x front) e is in (first.0, suffices ∙ first.1))
+  pub first_lowest : (f : Option (Rule × RulePlan)) (r : Rule) (p : RulePlan) → IsFirst rules w x insertion f → f ≡ Some (r, p) → IsHighestPriority w x (Some (record { rule = r; planned = record { point = insertion; made = p } }))
+  first_lowest f r p is e = (let first = subst (IsFirst rules w x insertion) e is in (first.0, suffices ∙ first.1))
 
 -- the world of a rewriter and its transaction
 module _ (w : World) (b : TransactionModel) (ctx : w.ctx ≡ b.ctx) (store : w.store ≡ b.store) (x : ℕ) where
@@ -89,8 +89,8 @@ module _ (w : World) (b : TransactionModel) (ctx : w.ctx ≡ b.ctx) (store : w.s
     lowest_due = rule_held ∙ rewrite_due w b ctx store x (λ c n q. planned_edits c n x q) f.rule (Some f.planned) is.0.edits f.planned refl
 
     pub free_held : AreAccepted → IsSoundIn b.ctx b.store.module_of.tree → IsWellFormed (isolated_in b.ctx) b.store.module_of → IsFree (planned_edits b.ctx (module_held b).next x f.planned) (module_held b)
-    free_held accepted sound formed n e =
-        accepted_of accepted b sound formed f.rule x (planned_edits b.ctx (module_held b).next x f.planned) n
+    free_held accepted sound wellformed n e =
+        accepted_of accepted b sound wellformed f.rule x (planned_edits b.ctx (module_held b).next x f.planned) n
         (edits_due w b ctx store x (λ c n q. planned_edits c n x q) f.rule (Some f.planned) is.0.edits f.planned refl) e
 
 -- rules that may be left out

@@ -22,7 +22,7 @@ use Rattle.ir_event.specs.types.Reasons.{IsRefusedFor, first_reason, full_reason
 use Rattle.ir_event.specs.types.Sound.{Holds, IsSound}
 use Rattle.ir_event.specs.types.WordNames.{word_bytes, word_number}
 use Rattle.ir_event.proofs.of_types.CallNumbers.{new_type, new_attr, type_stands, attr_stands}
-use Rattle.ir_event.proofs.of_types.Growth.{front_length}
+use Rattle.ir_event.proofs.of_types.Growth.{preceding_length}
 use Rattle.ir_event.proofs.of_types.Terms.{name_stays, type_stays, attr_stays}
 use Rattle.ir_event.proofs.of_types.WordNumbers.{word_count}
 use Rattle.ir_event.proofs.of_types.WordPlaces.{word_is}
@@ -32,13 +32,13 @@ use Rattle.patterns.specs.Interned.{IsNameOf, IsTypeOf, IsAttrOf, IsPlain, Flags
 -- ---- numbers
 
 pub name_keeps : (c d : ContextModel) (n : ℕ) (bytes : List ℕ) → IsExtendedBy c d → IsNameOf c n bytes → IsNameOf d n bytes
-name_keeps c d n bytes g h = (omega (arith, h.0, front_length c.names d.names g.names), name_stays c d n g h.0 ∙ h.1)
+name_keeps c d n bytes g h = (omega (arith, h.0, preceding_length c.names d.names g.names), name_stays c d n g h.0 ∙ h.1)
 
 pub type_keeps : (c d : ContextModel) (n : ℕ) (ty : TypeTerm) → IsExtendedBy c d → IsTypeOf c n ty → IsTypeOf d n ty
-type_keeps c d n ty g h = (omega (arith, h.0, front_length c.types d.types g.types), type_stays c d n g h.0 ∙ h.1)
+type_keeps c d n ty g h = (omega (arith, h.0, preceding_length c.types d.types g.types), type_stays c d n g h.0 ∙ h.1)
 
 pub attr_keeps : (c d : ContextModel) (n : ℕ) (a : AttrTerm) → Holds c → IsExtendedBy c d → IsAttrOf c n a → IsAttrOf d n a
-attr_keeps c d n a holds g h = (omega (arith, h.0, front_length c.attrs d.attrs g.attrs), attr_stays c d n holds g h.0 ∙ h.1)
+attr_keeps c d n a holds g h = (omega (arith, h.0, preceding_length c.attrs d.attrs g.attrs), attr_stays c d n holds g h.0 ∙ h.1)
 
 pub flags_keep : (c d : ContextModel) (name : List ℕ) (flags : Option ℕ) → Holds c → IsExtendedBy c d → FlagsOf c name flags → FlagsOf d name flags
 flags_keep c d name None holds g h = h
@@ -161,8 +161,8 @@ refused_for None (Ok a) h e = absurd cc
 refused_for None (Err r) h e = (let n : r ≡ TooMany = cc in let m : Memory ≡ TooMany = sym h ∙ n in absurd cc)
 refused_for (Some r) result h e = (let n : Err r ≡ Err TooMany = sym h ∙ e in cc)
 
-pub no_room_attr : (node : AttrNode) (c d : ContextModel) (result : Result ℕ Refusal) → IsPlain node → IsRefusedFor (attr_reason node c) result → result ≡ Err TooMany → d ≡ c → IsCapacityRefusal d Full
-no_room_attr node c d result plain h e same = inr (refl, inr (subst (λ (z : ContextModel). most_things ≤ length z.attrs) (sym same) (full_attr node c plain (refused_for (attr_reason node c) result h e))))
+pub no_headroom_attr : (node : AttrNode) (c d : ContextModel) (result : Result ℕ Refusal) → IsPlain node → IsRefusedFor (attr_reason node c) result → result ≡ Err TooMany → d ≡ c → IsCapacityRefusal d Full
+no_headroom_attr node c d result plain h e same = inr (refl, inr (subst (λ (z : ContextModel). most_things ≤ length z.attrs) (sym same) (full_attr node c plain (refused_for (attr_reason node c) result h e))))
 
-pub no_room_type : (node : TypeNode) (c d : ContextModel) (result : Result ℕ Refusal) → IsRefusedFor (type_reason node c) result → result ≡ Err TooMany → d ≡ c → IsCapacityRefusal d Full
-no_room_type node c d result h e same = inr (refl, inl (subst (λ (z : ContextModel). most_things ≤ length z.types) (sym same) (full_type node c (refused_for (type_reason node c) result h e))))
+pub no_headroom_type : (node : TypeNode) (c d : ContextModel) (result : Result ℕ Refusal) → IsRefusedFor (type_reason node c) result → result ≡ Err TooMany → d ≡ c → IsCapacityRefusal d Full
+no_headroom_type node c d result h e same = inr (refl, inl (subst (λ (z : ContextModel). most_things ≤ length z.types) (sym same) (full_type node c (refused_for (type_reason node c) result h e))))

@@ -14,28 +14,28 @@ use Rattle.patterns_soundness.specs.base.declared.rule.Rule.{Rule}
 use Rattle.patterns_soundness.specs.base.declared.rule.Rule.TheVariants.{OpenBranch, OpenLoop, StopLoop}
 use Rattle.patterns_lowering.specs.region_rules.RegionRules.{open_branch_at, open_loop_at, stop_loop_at}
 
-module _ (t : Operation) (n : ℕ) (front : Place) (x : ℕ) (o : Operation) (is : find x t ≡ Some o) (p : Option (List Edit)) (r : Rule) where
-  pub when_open_branch : r ≡ OpenBranch → p ≡ open_branch_at x t front → p ≡ rule r t n front o
+module _ (t : Operation) (n : ℕ) (insertion : Place) (x : ℕ) (o : Operation) (is : find x t ≡ Some o) (p : Option (List Edit)) (r : Rule) where
+  pub when_open_branch : r ≡ OpenBranch → p ≡ open_branch_at x t insertion → p ≡ rule r t n insertion o
   unfolding rule
-  when_open_branch k e = e ∙ ap (λ z. given z (λ o. open_branch t front o)) is ∙ ap (λ r. rule r t n front o) (sym k)
+  when_open_branch k e = e ∙ ap (λ z. given z (λ o. open_branch t insertion o)) is ∙ ap (λ r. rule r t n insertion o) (sym k)
 
-  pub when_open_loop : r ≡ OpenLoop → p ≡ open_loop_at x t front → p ≡ rule r t n front o
+  pub when_open_loop : r ≡ OpenLoop → p ≡ open_loop_at x t insertion → p ≡ rule r t n insertion o
   unfolding rule
-  when_open_loop k e = e ∙ ap (λ z. given z (λ o. open_loop t front o)) is ∙ ap (λ r. rule r t n front o) (sym k)
+  when_open_loop k e = e ∙ ap (λ z. given z (λ o. open_loop t insertion o)) is ∙ ap (λ r. rule r t n insertion o) (sym k)
 
-  pub when_stop_loop : r ≡ StopLoop → p ≡ stop_loop_at x t front → p ≡ rule r t n front o
+  pub when_stop_loop : r ≡ StopLoop → p ≡ stop_loop_at x t insertion → p ≡ rule r t n insertion o
   unfolding rule
-  when_stop_loop k e = e ∙ ap (λ z. given z (λ o. stop_loop t front o)) is ∙ ap (λ r. rule r t n front o) (sym k)
+  when_stop_loop k e = e ∙ ap (λ z. given z (λ o. stop_loop t insertion o)) is ∙ ap (λ r. rule r t n insertion o) (sym k)
 
 -- what the store shows of an operation is its head
 pub head_is : (x : ℕ) (t : Operation) (h : Header) (o : Operation) → Some h ≡ head_at x t → find x t ≡ Some o → head o ≡ h
 head_is x t h o e f = (let shown : Some h ≡ Some (head o) = e ∙ ap (option_map (λ o. head o)) f in cc)
 
-module _ (t : Operation) (n : ℕ) (front : Place) (o : Operation) (r : Rule) where
-  pub never_open_branch : r ≡ OpenBranch → open_branch t front o ≡ None → None ≡ rule r t n front o
+module _ (t : Operation) (n : ℕ) (insertion : Place) (o : Operation) (r : Rule) where
+  pub never_open_branch : r ≡ OpenBranch → open_branch t insertion o ≡ None → None ≡ rule r t n insertion o
   unfolding rule
-  never_open_branch k e = sym e ∙ ap (λ r. rule r t n front o) (sym k)
+  never_open_branch k e = sym e ∙ ap (λ r. rule r t n insertion o) (sym k)
 
-  pub never_open_loop : r ≡ OpenLoop → open_loop t front o ≡ None → None ≡ rule r t n front o
+  pub never_open_loop : r ≡ OpenLoop → open_loop t insertion o ≡ None → None ≡ rule r t n insertion o
   unfolding rule
-  never_open_loop k e = sym e ∙ ap (λ r. rule r t n front o) (sym k)
+  never_open_loop k e = sym e ∙ ap (λ r. rule r t n insertion o) (sym k)

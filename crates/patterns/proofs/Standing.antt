@@ -23,8 +23,8 @@ use Rattle.patterns.proofs.Numbers.{word_is_name}
 use Rattle.patterns.proofs.Leaves.{Stands, addi_flagged, subi_flagged, muli_flagged, xori_unflagged, binary_stands, cast_stands, choice_stands, comparison_stands, constant_stands}
 
 -- edits one after another
-first_stands : (c : ContextModel) (front : Place) (o : Op) (q : Operation) (es : List Coded) (edits : List Edit) → Stands c o q → StandsFor c es edits → StandsFor c (coded.Make front o ∷ es) (edit.Make front q ∷ edits)
-first_stands c front o q es edits s rest = record { meaning = λ i. edit.Make front (s.means i) ∷ rest.meaning i; fit = ((s.sound, s.bare), rest.fit) }
+first_stands : (c : ContextModel) (insertion : Place) (o : Op) (q : Operation) (es : List Coded) (edits : List Edit) → Stands c o q → StandsFor c es edits → StandsFor c (coded.Make insertion o ∷ es) (edit.Make insertion q ∷ edits)
+first_stands c insertion o q es edits s rest = record { meaning = λ i. edit.Make insertion (s.means i) ∷ rest.meaning i; fit = ((s.sound, s.bare), rest.fit) }
 
 module _ (c : ContextModel) (sound : IsSound c) (s : InsertionPoint) where
   given_stands : (v : Value) → StandsFor c (giving s v) (give s.op v)

@@ -39,7 +39,7 @@ pub fn apply<L: Analysis>(
     ensures journal { JournalAfter L.meaning result bench.old bench.new }
 {
     no_edit_is_refused();
-    bench.is_formed();
+    bench.is_wellformed();
     let world = bench.world();
     if !world.store.in_tree(op) {
         return Err(Refusal::NoSuchOp);

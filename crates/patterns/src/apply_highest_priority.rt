@@ -4,7 +4,7 @@ ghost use Rattle.ir_event.specs.types.declared.refusal.Refusal.TheVariants.{NoSu
 ghost use Rattle.ir_event.specs.trees.Ids.{has_id};
 ghost use Rattle.ir_event.specs.Modules.{NodeIsOf, module_in};
 ghost use Rattle.patterns_soundness.specs.base.Canonicalization.{greedy_rules, highest_priority as lowest_of};
-ghost use Rattle.patterns_soundness.specs.base.Looks.{front_of};
+ghost use Rattle.patterns_soundness.specs.base.Looks.{insertion_of};
 ghost use Rattle.patterns_soundness.specs.base.Rewrites.{rewrite_of};
 ghost use Rattle.patterns_plans.specs.reads.Reads.{head_at, header_of_node};
 ghost use Rattle.patterns_plans.specs.reads.Suited.{IsEligibilityOf};
@@ -54,7 +54,7 @@ fn try_likely(
     requires likely { IsLikely rule world.now op }
     requires shown { Some (header_of_node world.now.ctx node.now) ≡ head_at op (module_in world.now).tree }
     requires of { NodeIsOf world.now.ctx node.now }
-    requires point { Some point.now ≡ front_of op (module_in world.now).tree }
+    requires point { Some point.now ≡ insertion_of op (module_in world.now).tree }
     requires eligibility { IsEligibilityOf (module_in world.now).tree (record (header_of_node world.now.ctx node.now) { id = op })
         eligibility }
     ensures { IfOk result (FirstMatch rule world.now op point.now) }
@@ -81,7 +81,7 @@ fn try_rule(
 ) -> Result<Option<RulePlan>, AllocError>
     requires shown { Some (header_of_node world.now.ctx node.now) ≡ head_at op (module_in world.now).tree }
     requires of { NodeIsOf world.now.ctx node.now }
-    requires point { Some point.now ≡ front_of op (module_in world.now).tree }
+    requires point { Some point.now ≡ insertion_of op (module_in world.now).tree }
     requires eligibility { IsEligibilityOf (module_in world.now).tree (record (header_of_node world.now.ctx node.now) { id = op })
         eligibility }
     ensures { IfOk result (FirstMatch rule world.now op point.now) }
@@ -106,7 +106,7 @@ fn first_applying(
 ) -> Result<Option<(Rule, RulePlan)>, AllocError>
     requires shown { Some (header_of_node world.now.ctx node.now) ≡ head_at op (module_in world.now).tree }
     requires of { NodeIsOf world.now.ctx node.now }
-    requires point { Some point.now ≡ front_of op (module_in world.now).tree }
+    requires point { Some point.now ≡ insertion_of op (module_in world.now).tree }
     requires eligibility { IsEligibilityOf (module_in world.now).tree (record (header_of_node world.now.ctx node.now) { id = op })
         eligibility }
     ensures { IfOk result (IsFirst rules.now world.now op point.now) }
@@ -135,7 +135,7 @@ pub(crate) fn first_made(
     requires begins { BeginsLikely rules.now world.now op }
     requires shown { Some (header_of_node world.now.ctx node.now) ≡ head_at op (module_in world.now).tree }
     requires of { NodeIsOf world.now.ctx node.now }
-    requires point { Some point.now ≡ front_of op (module_in world.now).tree }
+    requires point { Some point.now ≡ insertion_of op (module_in world.now).tree }
     requires eligibility { IsEligibilityOf (module_in world.now).tree (record (header_of_node world.now.ctx node.now) { id = op })
         eligibility }
     ensures { IfOk result (IsFirst rules.now world.now op point.now) }
@@ -203,7 +203,7 @@ pub fn apply_highest_priority<L: Analysis>(
     ensures journal { JournalAfter L.meaning result bench.old bench.new }
 {
     no_edit_is_refused();
-    bench.is_formed();
+    bench.is_wellformed();
     let world = bench.world();
     if !world.store.in_tree(op) {
         return Err(Refusal::NoSuchOp);

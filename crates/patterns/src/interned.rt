@@ -23,9 +23,9 @@ fn attr<L: Analysis>(bench: &mut Bench<L>, node: AttrNode) -> Result<AttrId, Ref
     ensures refused { IfErr result (λ e. IsCapacityRefusal bench.new.transaction.ctx e) }
     ensures added { Added L.meaning bench.old bench.new }
 {
-    bench.is_formed();
+    bench.is_wellformed();
     let made = bench.attr(node);
-    bench.is_formed();
+    bench.is_wellformed();
     match made {
         Ok(attr) => Ok(attr),
         Err(Refusal::TooMany) => Err(Refusal::Full),
@@ -39,12 +39,12 @@ pub(crate) fn integer_type<L: Analysis>(bench: &mut Bench<L>, width: u32) -> Res
     ensures refused { IfErr result (λ e. IsCapacityRefusal bench.new.transaction.ctx e) }
     ensures added { Added L.meaning bench.old bench.new }
 {
-    bench.is_formed();
+    bench.is_wellformed();
     let made = bench.ty(TypeNode::Int {
         sign: Sign::Signless,
         width,
     });
-    bench.is_formed();
+    bench.is_wellformed();
     match made {
         Ok(ty) => Ok(ty),
         Err(Refusal::TooMany) => Err(Refusal::Full),
@@ -79,7 +79,7 @@ pub(crate) fn predicate_attr<L: Analysis>(
         Ok(ty) => ty,
         Err(refusal) => return Err(refusal),
     };
-    bench.is_formed();
+    bench.is_wellformed();
     value_attr(bench, ty, predicate)
 }
 

@@ -28,7 +28,7 @@ fn plan_edits<L: Analysis>(
     plan: RewritePlan,
 ) -> Result<Vec<Edit>, Refusal>
     requires of { PlanIsOf bench.old.transaction.ctx plan }
-    requires room { site.now.next + plan_makes plan ≤ most_next }
+    requires headroom { site.now.next + plan_makes plan ≤ most_next }
     ensures stands { IfOk result (λ es. StandsFor bench.new.transaction.ctx es.items
         (plan_meaning bench.old.transaction.ctx site.now.next site.now.op site.now.point plan)) }
     ensures refused { IfErr result (λ e. IsCapacityRefusal bench.new.transaction.ctx e) }
@@ -82,7 +82,7 @@ pub(crate) fn edits_for<L: Analysis>(
 ) -> Result<Vec<Edit>, Refusal>
     requires of { MadeIsOf bench.old.transaction.ctx made }
     requires next { site.now.next ≡ bench.old.transaction.store.module_of.next }
-    requires room { site.now.next + made_makes made ≤ most_next }
+    requires headroom { site.now.next + made_makes made ≤ most_next }
     ensures stands { IfOk result (λ es. StandsFor bench.new.transaction.ctx es.items
         (made_edits bench.old.transaction.ctx site.now.next site.now.op site.now.point made)) }
     ensures refused { IfErr result (λ e. IsCapacityRefusal bench.new.transaction.ctx e) }

@@ -2,7 +2,7 @@
 ghost use Rattle.std.specs.Prelude.{◌≡◌, false, true, IfOk, IfSome, Some, option_map};
 ghost use Rattle.ir_event.specs.Modules.{NodeIsOf, module_in};
 ghost use Rattle.ir_event.specs.trees.declared.place.Place.{Place as At};
-ghost use Rattle.patterns_soundness.specs.base.Looks.{front_of};
+ghost use Rattle.patterns_soundness.specs.base.Looks.{insertion_of};
 ghost use Rattle.patterns_soundness.specs.base.Rewrites.{edits_of, eligible};
 ghost use Rattle.patterns_soundness.specs.base.RuleNames.{is_lowering};
 ghost use Rattle.patterns_soundness.specs.base.declared.rule.Rule.TheVariants.{EraseDead};
@@ -128,7 +128,7 @@ pub(crate) fn made_at(
 ) -> Result<Option<RulePlan>, AllocError>
     requires shown { Some (header_of_node world.now.ctx node.now) ≡ head_at op (module_in world.now).tree }
     requires of { NodeIsOf world.now.ctx node.now }
-    requires point { Some point.now ≡ front_of op (module_in world.now).tree }
+    requires point { Some point.now ≡ insertion_of op (module_in world.now).tree }
     requires eligible { eligible rule (module_in world.now).tree (record (header_of_node world.now.ctx node.now) { id = op })
         ≡ true }
     ensures edits { IfOk result (λ p. option_map (made_edits world.now.ctx (module_in world.now).next op point.now) p
@@ -148,7 +148,7 @@ pub(crate) fn made_dead(
 ) -> Result<Option<RulePlan>, AllocError>
     requires dead { IsDead world.now op }
     requires shown { Some (header_of_node world.now.ctx node.now) ≡ head_at op (module_in world.now).tree }
-    requires point { Some point.now ≡ front_of op (module_in world.now).tree }
+    requires point { Some point.now ≡ insertion_of op (module_in world.now).tree }
     requires eligible { eligible EraseDead (module_in world.now).tree (record (header_of_node world.now.ctx node.now) { id = op })
         ≡ true }
     ensures edits { IfOk result (λ p. option_map (made_edits world.now.ctx (module_in world.now).next op point.now) p

@@ -33,7 +33,7 @@ pub(crate) fn constant<L: Analysis>(
     bits: u128,
 ) -> Result<Vec<Edit>, Refusal>
     requires of { IsType bench.old.transaction.ctx ty }
-    requires room { site.now.next + 1 ≤ most_next }
+    requires headroom { site.now.next + 1 ≤ most_next }
     ensures stands { IfOk result (λ es. StandsFor bench.new.transaction.ctx es.items
         (give_constant site.now.point site.now.next site.now.op (type_term bench.old.transaction.ctx ty) bits)) }
     ensures refused { IfErr result (λ e. IsCapacityRefusal bench.new.transaction.ctx e) }
@@ -43,7 +43,7 @@ pub(crate) fn constant<L: Analysis>(
         Ok(value) => value,
         Err(refusal) => return Err(refusal),
     };
-    bench.is_formed();
+    bench.is_wellformed();
     match constant_edits(alloc, site, ty, value) {
         Ok(edits) => Ok(edits),
         Err(_) => Err(Refusal::Memory),
@@ -61,14 +61,14 @@ pub(crate) fn recast<L: Analysis>(
 ) -> Result<Vec<Edit>, Refusal>
     requires name { IsName bench.old.transaction.ctx name }
     requires ty { IsType bench.old.transaction.ctx ty }
-    requires room { site.now.next + 1 ≤ most_next }
+    requires headroom { site.now.next + 1 ≤ most_next }
     ensures stands { IfOk result (λ es. StandsFor bench.new.transaction.ctx es.items
         (give_new site.now.point site.now.next site.now.op
         (cast (name_term bench.old.transaction.ctx name) (type_term bench.old.transaction.ctx ty) value.now))) }
     ensures refused { IfErr result (λ e. IsCapacityRefusal bench.new.transaction.ctx e) }
     ensures added { Added L.meaning bench.old bench.new }
 {
-    bench.is_formed();
+    bench.is_wellformed();
     match cast_edits(alloc, site, name, ty, value) {
         Ok(edits) => Ok(edits),
         Err(_) => Err(Refusal::Memory),
@@ -87,7 +87,7 @@ pub(crate) fn combination<L: Analysis>(
 ) -> Result<Vec<Edit>, Refusal>
     requires name { IsName bench.old.transaction.ctx name }
     requires ty { IsType bench.old.transaction.ctx ty }
-    requires room { site.now.next + 2 ≤ most_next }
+    requires headroom { site.now.next + 2 ≤ most_next }
     ensures stands { IfOk result (λ es. StandsFor bench.new.transaction.ctx es.items
         (combined site.now.next site.now.op site.now.point (name_term bench.old.transaction.ctx name)
         (type_term bench.old.transaction.ctx ty) operand.now bits)) }
@@ -98,12 +98,12 @@ pub(crate) fn combination<L: Analysis>(
         Ok(value) => value,
         Err(refusal) => return Err(refusal),
     };
-    bench.is_formed();
+    bench.is_wellformed();
     let flags = match flags_for(bench, name) {
         Ok(flags) => flags,
         Err(refusal) => return Err(refusal),
     };
-    bench.is_formed();
+    bench.is_wellformed();
     match combined_edits(alloc, site, name, ty, operand, value, flags) {
         Ok(edits) => Ok(edits),
         Err(_) => Err(Refusal::Memory),
@@ -128,7 +128,7 @@ pub(crate) fn mirrored<L: Analysis>(
         Ok(predicate) => predicate,
         Err(refusal) => return Err(refusal),
     };
-    bench.is_formed();
+    bench.is_wellformed();
     match mirrored_edits(alloc, site, predicate, first, second) {
         Ok(edits) => Ok(edits),
         Err(_) => Err(Refusal::Memory),
@@ -146,7 +146,7 @@ pub(crate) fn choice<L: Analysis>(
     second: &Value,
 ) -> Result<Vec<Edit>, Refusal>
     requires ty { IsType bench.old.transaction.ctx ty }
-    requires room { site.now.next + 2 ≤ most_next }
+    requires headroom { site.now.next + 2 ≤ most_next }
     ensures stands { IfOk result (λ es. StandsFor bench.new.transaction.ctx es.items
         (choosing site.now.next site.now.op site.now.point predicate
         (type_term bench.old.transaction.ctx ty) first.now second.now)) }
@@ -157,12 +157,12 @@ pub(crate) fn choice<L: Analysis>(
         Ok(predicate) => predicate,
         Err(refusal) => return Err(refusal),
     };
-    bench.is_formed();
+    bench.is_wellformed();
     let truth = match integer_type(bench, 1) {
         Ok(truth) => truth,
         Err(refusal) => return Err(refusal),
     };
-    bench.is_formed();
+    bench.is_wellformed();
     match chosen_edits(alloc, site, truth, predicate, ty, first, second) {
         Ok(edits) => Ok(edits),
         Err(_) => Err(Refusal::Memory),
@@ -184,12 +184,12 @@ fn difference_attrs<L: Analysis>(
         Ok(value) => value,
         Err(refusal) => return Err(refusal),
     };
-    bench.is_formed();
+    bench.is_wellformed();
     let one = match value_attr(bench, ty, 1) {
         Ok(value) => value,
         Err(refusal) => return Err(refusal),
     };
-    bench.is_formed();
+    bench.is_wellformed();
     let flags = match flags_attr(bench) {
         Ok(flags) => flags,
         Err(refusal) => return Err(refusal),
@@ -208,7 +208,7 @@ pub(crate) fn difference<L: Analysis>(
     ones: u128,
 ) -> Result<Vec<Edit>, Refusal>
     requires ty { IsType bench.old.transaction.ctx ty }
-    requires room { site.now.next + 5 ≤ most_next }
+    requires headroom { site.now.next + 5 ≤ most_next }
     ensures stands { IfOk result (λ es. StandsFor bench.new.transaction.ctx es.items
         (subtracting site.now.next site.now.op site.now.point
         (type_term bench.old.transaction.ctx ty) first.now second.now ones)) }
@@ -219,7 +219,7 @@ pub(crate) fn difference<L: Analysis>(
         Ok(attrs) => attrs,
         Err(refusal) => return Err(refusal),
     };
-    bench.is_formed();
+    bench.is_wellformed();
     match difference_edits(alloc, site, ty, first, second, ones, one, flags) {
         Ok(edits) => Ok(edits),
         Err(_) => Err(Refusal::Memory),
@@ -238,7 +238,7 @@ pub(crate) fn remainder<L: Analysis>(
 ) -> Result<Vec<Edit>, Refusal>
     requires name { IsName bench.old.transaction.ctx division }
     requires ty { IsType bench.old.transaction.ctx ty }
-    requires room { site.now.next + 3 ≤ most_next }
+    requires headroom { site.now.next + 3 ≤ most_next }
     ensures stands { IfOk result (λ es. StandsFor bench.new.transaction.ctx es.items
         (dividing_by site.now.next site.now.op site.now.point (name_term bench.old.transaction.ctx division)
         (type_term bench.old.transaction.ctx ty) first.now second.now)) }
@@ -249,12 +249,12 @@ pub(crate) fn remainder<L: Analysis>(
         Ok(flags) => flags,
         Err(refusal) => return Err(refusal),
     };
-    bench.is_formed();
+    bench.is_wellformed();
     let set = match flags_attr(bench) {
         Ok(flags) => flags,
         Err(refusal) => return Err(refusal),
     };
-    bench.is_formed();
+    bench.is_wellformed();
     match remainder_edits(alloc, site, division, ty, first, second, flags, set) {
         Ok(edits) => Ok(edits),
         Err(_) => Err(Refusal::Memory),

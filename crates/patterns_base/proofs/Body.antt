@@ -20,7 +20,7 @@ use Rattle.ir_tree_laws.proofs.Without.{same_head}
 use Rattle.ir_tree_laws.proofs.Put.{child, put_find, region_each}
 use Rattle.ir_tree_laws.proofs.Edited.{put_uses, taken_uses}
 use Rattle.patterns_base.proofs.Placed.{Following}
-use Rattle.patterns_base.proofs.Made.{Stood}
+use Rattle.patterns_base.proofs.Made.{Located}
 use Rattle.patterns_base.proofs.Headed.{found_there}
 use Rattle.patterns_base.proofs.Moved as moved
 use Rattle.ir_tree_laws.proofs.Values.{joined_more}
@@ -51,23 +51,23 @@ module _ {N T A : Type 0} where
 module _ {N T A : Type 0} (isolated is_table : N → Bool) where
   -- operation x isn't isolated and isn't a symbol table, and has a block with these operations, whose arguments aren't
   -- used
-  pub record Holding (x r : ℕ) (front : Place) (held : List ℕ) (m : ModuleOf N T A) : Type 0 where
-    pub stood : Stood isolated x front m
+  pub record Holding (x r : ℕ) (insertion : Place) (held : List ℕ) (m : ModuleOf N T A) : Type 0 where
+    pub located : Located isolated x insertion m
     pub args : List T
     pub list : OpsOf N T A
-    pub is : region_at r (regions stood.at.here) ≡ Some (block args list)
+    pub is : region_at r (regions located.at.here) ≡ Some (block args list)
     pub ids : list_ids list ≡ held
-    pub opened : isolated (head stood.at.here).name ≡ false
-    pub plain : is_table (head stood.at.here).name ≡ false
+    pub opened : isolated (head located.at.here).name ≡ false
+    pub plain : is_table (head located.at.here).name ≡ false
     pub spared : (k : ℕ) → uses_of (Arg x r k) m.tree ≡ []
 
-  module _ (x r : ℕ) (front : Place) (m : ModuleOf N T A) (s : Stood isolated x front m) (args : List T) (y : OpOf N T A) (rest : OpsOf N T A) (is : region_at r (regions s.at.here) ≡ Some (block args (next y rest)))
+  module _ (x r : ℕ) (insertion : Place) (m : ModuleOf N T A) (s : Located isolated x insertion m) (args : List T) (y : OpOf N T A) (rest : OpsOf N T A) (is : region_at r (regions s.at.here) ≡ Some (block args (next y rest)))
       (opened : isolated (head s.at.here).name ≡ false) (plain : is_table (head s.at.here).name ≡ false) (spared : (k : ℕ) → uses_of (Arg x r k) m.tree ≡ []) where
     abbrev t : OpOf N T A
     t = m.tree
 
     abbrev d : HasDistinctIds m.tree
-    d = s.formed.distinct
+    d = s.wellformed.distinct
 
     abbrev b : StepOf N T A
     b = step s.at.here r args [] rest
@@ -96,78 +96,78 @@ module _ {N T A : Type 0} (isolated is_table : N → Bool) where
           | inl k ↦ (let same = same_stand t d (stand o (step s.at.here r args (y ∷ fs) os ∷ up)) (stand y (b ∷ up)) h there (eqb-true (head o).id yi k) in
               let paths : step s.at.here r args (y ∷ fs) os ∷ up ≡ b ∷ up = ap (λ (z : StandOf N T A). z.path) same in
               let steps : step s.at.here r args (y ∷ fs) os ≡ b = cc in
-              let l = ap (λ (z : StepOf N T A). length z.front) steps in
+              let l = ap (λ (z : StepOf N T A). length z.preceding) steps in
               absurd (omega (arith, l)))
         ]
 
-    abbrev go_free : shift_reason isolated is_table (head y).id front m.tree ≡ None
-    go_free = moved.move_free isolated is_table x front m s y b there refl refl opened spared plain
+    abbrev go_free : shift_reason isolated is_table (head y).id insertion m.tree ≡ None
+    go_free = moved.move_free isolated is_table x insertion m s y b there refl refl opened spared plain
 
     abbrev after : ModuleOf N T A
-    after = record m { tree = shifted (head y).id front m.tree }
+    after = record m { tree = shifted (head y).id insertion m.tree }
 
-    abbrev stood_after : Stood isolated x front (record m { tree = shifted (head y).id front m.tree })
-    stood_after = moved.move_stood isolated is_table x front m s y b there refl refl opened spared plain
+    abbrev located_after : Located isolated x insertion (record m { tree = shifted (head y).id insertion m.tree })
+    located_after = moved.move_located isolated is_table x insertion m s y b there refl refl opened spared plain
 
-    abbrev x_left : Following x front (without (head y).id m.tree)
-    x_left = moved.x_left isolated is_table x front m s y b there refl refl
+    abbrev x_left : Following x insertion (without (head y).id m.tree)
+    x_left = moved.x_left isolated is_table x insertion m s y b there refl refl
 
     -- x after the move
-    x_after : find x (put front y (without (head y).id m.tree)) ≡ Some (put front y (each_list (dropping (head y).id) s.at.here))
+    x_after : find x (put insertion y (without (head y).id m.tree)) ≡ Some (put insertion y (each_list (dropping (head y).id) s.at.here))
     x_after =
-        put_find front y x (absent_find x y x_out) (without yi t)
-        ∙ ap (option_map (put front y)) (ap (λ z. find z (without yi t)) (sym x_left.id) ∙ stand_found (without yi t) (moved.u_distinct isolated is_table x front m s y b there refl refl) (stand x_left.here (x_left.step_in ∷ x_left.path)) x_left.there)
+        put_find insertion y x (absent_find x y x_out) (without yi t)
+        ∙ ap (option_map (put insertion y)) (ap (λ z. find z (without yi t)) (sym x_left.id) ∙ stand_found (without yi t) (moved.u_distinct isolated is_table x insertion m s y b there refl refl) (stand x_left.here (x_left.step_in ∷ x_left.path)) x_left.there)
       where
         x_out : has_id x y ≡ false
-        x_out = ap (λ z. has_id z y) (sym s.at.id) ∙ moved.not_in isolated is_table x front m s y b there refl refl s.at.here up s.at.there (omega arith)
+        x_out = ap (λ z. has_id z y) (sym s.at.id) ∙ moved.not_in isolated is_table x insertion m s y b there refl refl s.at.here up s.at.there (omega arith)
 
-    here_after : stood_after.at.here ≡ put front y (each_list (dropping (head y).id) s.at.here)
-    here_after = (let two : Some stood_after.at.here ≡ Some (put front y (each_list (dropping yi) s.at.here)) = sym (found_there isolated x front after stood_after) ∙ ap (find x) (moved.after_is isolated is_table x front m s y b there refl refl) ∙ x_after in cc)
+    here_after : located_after.at.here ≡ put insertion y (each_list (dropping (head y).id) s.at.here)
+    here_after = (let two : Some located_after.at.here ≡ Some (put insertion y (each_list (dropping yi) s.at.here)) = sym (found_there isolated x insertion after located_after) ∙ ap (find x) (moved.after_is isolated is_table x insertion m s y b there refl refl) ∙ x_after in cc)
 
-    head_after : head stood_after.at.here ≡ head s.at.here
-    head_after = ap (λ o. head o) here_after ∙ same_head yi (put_here front y) (each_list (dropping yi) s.at.here) ∙ same_head yi (dropping yi) s.at.here
+    head_after : head located_after.at.here ≡ head s.at.here
+    head_after = ap (λ o. head o) here_after ∙ same_head yi (put_here insertion y) (each_list (dropping yi) s.at.here) ∙ same_head yi (dropping yi) s.at.here
 
     -- the place isn't in the block
-    elsewhere : is_in_block front x r ≡ false
-    elsewhere = elim (bool_cases (eqb x front.parent)) [
-      | inr k ↦ ap (λ c. c && eqb r front.region) k
-      | inl k ↦ (let same = same_stand t d (stand s.at.here up) (stand s.at.step_in.parent s.at.path) s.at.there (around_there t s.at.here s.at.step_in s.at.path s.at.there).1 (s.at.id ∙ eqb-true x front.parent k ∙ ap (λ (p : Place). p.parent) s.at.place) in
+    elsewhere : is_in_block insertion x r ≡ false
+    elsewhere = elim (bool_cases (eqb x insertion.parent)) [
+      | inr k ↦ ap (λ c. c && eqb r insertion.region) k
+      | inl k ↦ (let same = same_stand t d (stand s.at.here up) (stand s.at.step_in.parent s.at.path) s.at.there (around_there t s.at.here s.at.step_in s.at.path s.at.there).1 (s.at.id ∙ eqb-true x insertion.parent k ∙ ap (λ (p : Place). p.parent) s.at.place) in
           let l = ap (λ (z : StandOf N T A). length z.path) same in
           absurd (omega (arith, l)))
     ]
 
     abbrev list_after : OpsOf N T A
-    list_after = put_here front y x r (ops_each_list (put_here front y) (drop_op (head y).id (ops_each_list (dropping (head y).id) (next y rest))))
+    list_after = put_here insertion y x r (ops_each_list (put_here insertion y) (drop_op (head y).id (ops_each_list (dropping (head y).id) (next y rest))))
 
-    is_after : region_at r (regions stood_after.at.here) ≡ Some (block args (put_here front y x r (ops_each_list (put_here front y) (drop_op (head y).id (ops_each_list (dropping (head y).id) (next y rest))))))
+    is_after : region_at r (regions located_after.at.here) ≡ Some (block args (put_here insertion y x r (ops_each_list (put_here insertion y) (drop_op (head y).id (ops_each_list (dropping (head y).id) (next y rest))))))
     is_after =
         ap (λ o. region_at r (regions o)) here_after
-        ∙ each_region (put_here front y) r (each_list (dropping yi) s.at.here) args (drop_op yi (ops_each_list (dropping yi) (next y rest))) (each_region (dropping yi) r s.at.here args (next y rest) is)
-        ∙ ap (λ z. Some (block args (put_here front y z r (ops_each_list (put_here front y) (drop_op yi (ops_each_list (dropping yi) (next y rest))))))) (ap (λ h. h.id) (same_head yi (dropping yi) s.at.here) ∙ s.at.id)
+        ∙ each_region (put_here insertion y) r (each_list (dropping yi) s.at.here) args (drop_op yi (ops_each_list (dropping yi) (next y rest))) (each_region (dropping yi) r s.at.here args (next y rest) is)
+        ∙ ap (λ z. Some (block args (put_here insertion y z r (ops_each_list (put_here insertion y) (drop_op yi (ops_each_list (dropping yi) (next y rest))))))) (ap (λ h. h.id) (same_head yi (dropping yi) s.at.here) ∙ s.at.id)
 
-    ids_after : list_ids (put_here front y x r (ops_each_list (put_here front y) (drop_op (head y).id (ops_each_list (dropping (head y).id) (next y rest))))) ≡ list_ids rest
+    ids_after : list_ids (put_here insertion y x r (ops_each_list (put_here insertion y) (drop_op (head y).id (ops_each_list (dropping (head y).id) (next y rest))))) ≡ list_ids rest
     ids_after =
-        ap (λ c. list_ids (cond c (put_in front.before y (ops_each_list (put_here front y) (drop_op yi (ops_each_list (dropping yi) (next y rest))))) (ops_each_list (put_here front y) (drop_op yi (ops_each_list (dropping yi) (next y rest)))))) elsewhere
-        ∙ each_ids (put_here front y) (drop_op yi (ops_each_list (dropping yi) (next y rest)))
+        ap (λ c. list_ids (cond c (put_in insertion.before y (ops_each_list (put_here insertion y) (drop_op yi (ops_each_list (dropping yi) (next y rest))))) (ops_each_list (put_here insertion y) (drop_op yi (ops_each_list (dropping yi) (next y rest)))))) elsewhere
+        ∙ each_ids (put_here insertion y) (drop_op yi (ops_each_list (dropping yi) (next y rest)))
         ∙ ap (λ c. list_ids (cond c (drop_op yi (ops_each_list (dropping yi) rest)) (next (each_list (dropping yi) y) (drop_op yi (ops_each_list (dropping yi) rest))))) (eq-eqb (head (each_list (dropping yi) y)).id yi (list_id (dropping yi) y))
         ∙ dropped_ids yi (ops_each_list (dropping yi) rest) (subst (Lacks yi) (sym (each_ids (dropping yi) rest)) (others [] rest is))
         ∙ each_ids (dropping yi) rest
 
     -- its arguments aren't used
-    spared_after : (k : ℕ) → uses_of (Arg x r k) (shifted (head y).id front m.tree) ≡ []
+    spared_after : (k : ℕ) → uses_of (Arg x r k) (shifted (head y).id insertion m.tree) ≡ []
     spared_after k =
         let v = Arg x r k in
-        let a = taken_uses yi t y d (moved.y_found isolated is_table x front m s y b there refl refl) (moved.y_root isolated is_table x front m s y b there refl refl) v in
-        let p = put_uses front y (without yi t) (moved.may isolated is_table x front m s y b there refl refl) v in
+        let a = taken_uses yi t y d (moved.y_found isolated is_table x insertion m s y b there refl refl) (moved.y_root isolated is_table x insertion m s y b there refl refl) v in
+        let p = put_uses insertion y (without yi t) (moved.may isolated is_table x insertion m s y b there refl refl) v in
         let n = nil_parts a.0 (uses_of v y ++ a.1) (sym a.2 ∙ spared k) in
         let n2 = nil_parts (uses_of v y) a.1 n.1 in
         let left : uses_of v (without yi t) ≡ [] = a.3 ∙ (λ i. n.0 i ++ n2.1 i) in
         let q = nil_parts p.0 p.1 (sym p.2 ∙ left) in
-        ap (uses_of v) (moved.after_is isolated is_table x front m s y b there refl refl) ∙ p.3 ∙ λ i. q.0 i ++ (n2.0 i ++ q.1 i)
+        ap (uses_of v) (moved.after_is isolated is_table x insertion m s y b there refl refl) ∙ p.3 ∙ λ i. q.0 i ++ (n2.0 i ++ q.1 i)
 
-    held_after : Holding x r front (list_ids rest) (record m { tree = shifted (head y).id front m.tree })
+    held_after : Holding x r insertion (list_ids rest) (record m { tree = shifted (head y).id insertion m.tree })
     held_after = record {
-      stood = stood_after;
+      located = located_after;
       args = args;
       list = list_after;
       is = is_after;
@@ -178,13 +178,13 @@ module _ {N T A : Type 0} (isolated is_table : N → Bool) where
     }
 
   -- the first operation is moved
-  pub hold_step : (x r : ℕ) (front : Place) (y : ℕ) (ys : List ℕ) (m : ModuleOf N T A) → Holding x r front (y ∷ ys) m → (shift_reason isolated is_table y front m.tree ≡ None) × Holding x r front ys (record m { tree = shifted y front m.tree })
-  hold_step x r front y ys m h = go h.list h.is h.ids
+  pub hold_step : (x r : ℕ) (insertion : Place) (y : ℕ) (ys : List ℕ) (m : ModuleOf N T A) → Holding x r insertion (y ∷ ys) m → (shift_reason isolated is_table y insertion m.tree ≡ None) × Holding x r insertion ys (record m { tree = shifted y insertion m.tree })
+  hold_step x r insertion y ys m h = go h.list h.is h.ids
     where
-      go : (os : OpsOf N T A) → region_at r (regions h.stood.at.here) ≡ Some (block h.args os) → list_ids os ≡ y ∷ ys → (shift_reason isolated is_table y front m.tree ≡ None) × Holding x r front ys (record m { tree = shifted y front m.tree })
+      go : (os : OpsOf N T A) → region_at r (regions h.located.at.here) ≡ Some (block h.args os) → list_ids os ≡ y ∷ ys → (shift_reason isolated is_table y insertion m.tree ≡ None) × Holding x r insertion ys (record m { tree = shifted y insertion m.tree })
       go no_ops is ids = absurd cc
       go (next o os) is ids =
           let first : (head o).id ≡ y = cc in
           let later : list_ids os ≡ ys = cc in
-          subst (λ (p : ℕ × List ℕ). (shift_reason isolated is_table p.0 front m.tree ≡ None) × Holding x r front p.1 (record m { tree = shifted p.0 front m.tree })) (λ i. (first i, later i))
-          (go_free x r front m h.stood h.args o os is h.opened h.plain h.spared, held_after x r front m h.stood h.args o os is h.opened h.plain h.spared)
+          subst (λ (p : ℕ × List ℕ). (shift_reason isolated is_table p.0 insertion m.tree ≡ None) × Holding x r insertion p.1 (record m { tree = shifted p.0 insertion m.tree })) (λ i. (first i, later i))
+          (go_free x r insertion m h.located h.args o os is h.opened h.plain h.spared, held_after x r insertion m h.located h.args o os is h.opened h.plain h.spared)

@@ -9,7 +9,7 @@ use Rattle.ir_tree.specs.declared.value.Value.{Value}
 use Rattle.ir_tree.specs.declared.place.Place.{Place}
 use Rattle.ir_tree.specs.Tree.{op, head}
 use Rattle.ir_tree.specs.Meaning.{Operation}
-use Rattle.op_registry.specs.Registry.{beside, row_of, own_of}
+use Rattle.op_registry.specs.Registry.{next_to, row_of, own_of}
 use Rattle.op_registry.specs.Rows.{Row, rows}
 use Rattle.patterns_laws.specs.integers.Folds.{Known, rule_of, rules, fold_of, is_property}
 use Rattle.patterns_laws.specs.integers.declared.operations.Rule as integers
@@ -68,11 +68,11 @@ another r w name has lacks = by (bytes_eq name w) refl
     by false e = refl
 
 -- the table has no entry for the name
-nothing_beside : {A : Type 0} (r : Rule) (rows : List (List ℕ × A)) (name : List ℕ) → Each (λ (row : List ℕ × A). has_rule r row.0 ≡ true) rows → has_rule r name ≡ false → beside name rows ≡ None
-nothing_beside r [] name each lacks = refl
-nothing_beside r (row ∷ more) name each lacks = by (bytes_eq name row.0) refl (nothing_beside r more name each.1 lacks)
+nothing_next_to : {A : Type 0} (r : Rule) (rows : List (List ℕ × A)) (name : List ℕ) → Each (λ (row : List ℕ × A). has_rule r row.0 ≡ true) rows → has_rule r name ≡ false → next_to name rows ≡ None
+nothing_next_to r [] name each lacks = refl
+nothing_next_to r (row ∷ more) name each lacks = by (bytes_eq name row.0) refl (nothing_next_to r more name each.1 lacks)
   where
-    by : (t : Bool) → bytes_eq name row.0 ≡ t → beside name more ≡ None → (if t then Some row.1 else beside name more) ≡ None
+    by : (t : Bool) → bytes_eq name row.0 ≡ t → next_to name more ≡ None → (if t then Some row.1 else next_to name more) ≡ None
     by true e rest = never (sym each.0 ∙ ap (has_rule r) (sym (name_is name row.0 e)) ∙ lacks)
     by false e rest = rest
 
@@ -129,8 +129,8 @@ one_named w h f e = one_none h.name h.operands h.results (λ p. when (named w p.
 one_among : {X : Type 0} (ws : List (List ℕ)) (h : Header) (f : One → Option X) → among ws h.name ≡ false → given (one h) (λ p. when (among ws p.name) (f p)) ≡ None
 one_among ws h f e = one_none h.name h.operands h.results (λ p. when (among ws p.name) (f p)) (λ p s. stopped (among ws p.name) (f p) (ap (among ws) s ∙ e))
 
-two_beside : {A X : Type 0} (rows : List (List ℕ × A)) (h : Header) (f : Two → A → Option X) → beside h.name rows ≡ None → given (two h) (λ p. given (beside p.name rows) (f p)) ≡ None
-two_beside rows h f e = two_none h.name h.operands h.results (λ p. given (beside p.name rows) (f p)) (λ p s. ap (λ z. given z (f p)) (ap (λ name. beside name rows) s ∙ e))
+two_next_to : {A X : Type 0} (rows : List (List ℕ × A)) (h : Header) (f : Two → A → Option X) → next_to h.name rows ≡ None → given (two h) (λ p. given (next_to p.name rows) (f p)) ≡ None
+two_next_to rows h f e = two_none h.name h.operands h.results (λ p. given (next_to p.name rows) (f p)) (λ p s. ap (λ z. given z (f p)) (ap (λ name. next_to name rows) s ∙ e))
 
 at_swap_constant : Each (λ w. has_rule SwapConstant w ≡ true) commutative
 unfolding rules_for table commutative
@@ -261,7 +261,7 @@ at_fold_to_constant : Each (λ (row : List ℕ × integers.Rule). has_rule FoldT
 unfolding rules_for table rules tail_of
 at_fold_to_constant = (refl, (refl, (refl, (refl, (refl, (refl, (refl, (refl, (refl, (refl, (refl, (refl, (refl, (refl, (refl, (refl, (refl, (refl, (refl, (refl, (refl, (refl, (refl, (refl, tt))))))))))))))))))))))))
 
-first_is : (name : List ℕ) → bytes_eq name (codes "arith.constant") ≡ false → beside name (tail_of rules) ≡ None → rule_of name ≡ None
+first_is : (name : List ℕ) → bytes_eq name (codes "arith.constant") ≡ false → next_to name (tail_of rules) ≡ None → rule_of name ≡ None
 unfolding rules rule_of tail_of
 first_is name e rest = rw (e) rest
 
@@ -275,11 +275,11 @@ unfolded name p xs (ty ∷ u ∷ us) e = refl
 abbrev Goes : List ℕ → Type 0
 Goes name = has_rule EraseDead name ≡ false → (k : EffectKinds) → (not (is_kept name) && dead.may_go (effects_by (own_of name) k)) ≡ false
 
-pub beside_or : {A : Type 0} (P : List ℕ → Type 0) (rows : List (List ℕ × A)) (name : List ℕ) → Each (λ (row : List ℕ × A). P row.0) rows → (beside name rows ≡ None → P name) → P name
-beside_or P [] name each none = none refl
-beside_or P (row ∷ more) name each none = by (bytes_eq name row.0) refl (λ rest. beside_or P more name each.1 rest) none
+pub next_to_or : {A : Type 0} (P : List ℕ → Type 0) (rows : List (List ℕ × A)) (name : List ℕ) → Each (λ (row : List ℕ × A). P row.0) rows → (next_to name rows ≡ None → P name) → P name
+next_to_or P [] name each none = none refl
+next_to_or P (row ∷ more) name each none = by (bytes_eq name row.0) refl (λ rest. next_to_or P more name each.1 rest) none
   where
-    by : (t : Bool) → bytes_eq name row.0 ≡ t → ((beside name more ≡ None → P name) → P name) → ((if t then Some row.1 else beside name more) ≡ None → P name) → P name
+    by : (t : Bool) → bytes_eq name row.0 ≡ t → ((next_to name more ≡ None → P name) → P name) → ((if t then Some row.1 else next_to name more) ≡ None → P name) → P name
     by true e rest none = subst P (sym (name_is name row.0 e)) each.0
     by false e rest none = rest none
 
@@ -287,12 +287,12 @@ at_erase_dead : Each (λ (row : List ℕ × Row). Goes row.0) rows
 unfolding rules_for table rows row_of
 at_erase_dead = (λ e k. refl, (λ e k. never e, (λ e k. refl, (λ e k. refl, (λ e k. refl, (λ e k. never e, (λ e k. never e, (λ e k. never e, (λ e k. never e, (λ e k. never e, (λ e k. never e, (λ e k. never e, (λ e k. never e, (λ e k. never e, (λ e k. never e, (λ e k. never e, (λ e k. never e, (λ e k. never e, (λ e k. never e, (λ e k. never e, (λ e k. never e, (λ e k. never e, (λ e k. never e, (λ e k. never e, (λ e k. never e, (λ e k. never e, (λ e k. never e, (λ e k. never e, (λ e k. never e, (λ e k. never e, (λ e k. never e, (λ e k. never e, (λ e k. never e, (λ e k. refl, (λ e k. refl, (λ e k. never e, (λ e k. refl, (λ e k. never e, (λ e k. refl, tt)))))))))))))))))))))))))))))))))))))))
 
-unlisted : (name : List ℕ) → beside name rows ≡ None → Goes name
+unlisted : (name : List ℕ) → next_to name rows ≡ None → Goes name
 unfolding row_of
 unlisted name e lacks k = rw (e) (and_right _ false refl)
 
 goes_of : (name : List ℕ) → Goes name
-goes_of name = beside_or Goes rows name at_erase_dead (unlisted name)
+goes_of name = next_to_or Goes rows name at_erase_dead (unlisted name)
 
 goes_not : (t o : Operation) → has_rule EraseDead (head o).name ≡ false → is_erasable t o ≡ false
 unfolding is_erasable
@@ -304,111 +304,111 @@ stopped_or false true r h = h refl
 stopped_or false false r h = refl
 
 -- ---- each rule
-module _ (t : Operation) (n : ℕ) (front : Place) (o : Operation) where
+module _ (t : Operation) (n : ℕ) (insertion : Place) (o : Operation) where
   abbrev h : Header
   h = head o
 
   abbrev Without : Rule → Type 0
   Without r = has_rule r h.name ≡ false
 
-  none_swap_constant : Without SwapConstant → swap_constant t n front o ≡ None
+  none_swap_constant : Without SwapConstant → swap_constant t n insertion o ≡ None
   none_swap_constant lacks = two_among commutative h _ _ (elsewhere SwapConstant commutative h.name at_swap_constant lacks)
 
-  none_drop_zero : Without DropZero → drop_zero t n front o ≡ None
+  none_drop_zero : Without DropZero → drop_zero t n insertion o ≡ None
   none_drop_zero lacks = two_among with_zero_as_right_identity h _ _ (elsewhere DropZero with_zero_as_right_identity h.name at_drop_zero lacks)
 
-  none_drop_one : Without DropOne → drop_one t n front o ≡ None
+  none_drop_one : Without DropOne → drop_one t n insertion o ≡ None
   none_drop_one lacks = two_among with_one_as_right_identity h _ _ (elsewhere DropOne with_one_as_right_identity h.name at_drop_one lacks)
 
-  none_cancel_itself : Without CancelItself → cancel_itself t n front o ≡ None
+  none_cancel_itself : Without CancelItself → cancel_itself t n insertion o ≡ None
   none_cancel_itself lacks = two_among self_inverse h _ _ (elsewhere CancelItself self_inverse h.name at_cancel_itself lacks)
 
-  none_keep_itself : Without KeepItself → keep_itself t n front o ≡ None
+  none_keep_itself : Without KeepItself → keep_itself t n insertion o ≡ None
   none_keep_itself lacks = two_among idempotent h _ _ (elsewhere KeepItself idempotent h.name at_keep_itself lacks)
 
-  none_zero_remainder : Without ZeroRemainder → zero_remainder t n front o ≡ None
+  none_zero_remainder : Without ZeroRemainder → zero_remainder t n insertion o ≡ None
   none_zero_remainder lacks = two_among remainders h _ _ (elsewhere ZeroRemainder remainders h.name at_zero_remainder lacks)
 
-  none_regroup_constants : Without RegroupConstants → regroup_constants t n front o ≡ None
+  none_regroup_constants : Without RegroupConstants → regroup_constants t n insertion o ≡ None
   none_regroup_constants lacks = two_none h.name h.operands h.results _ (λ p s. stopped (among associative p.name) _ (ap (among associative) s ∙ elsewhere RegroupConstants associative h.name at_regroup_constants lacks))
 
-  none_drop_all_ones : Without DropAllOnes → drop_all_ones t n front o ≡ None
+  none_drop_all_ones : Without DropAllOnes → drop_all_ones t n insertion o ≡ None
   none_drop_all_ones lacks = two_none h.name h.operands h.results _ (λ p s. stopped_first (named (codes "arith.andi") p.name) _ _ (ap (named (codes "arith.andi")) s ∙ another DropAllOnes (codes "arith.andi") h.name at_drop_all_ones lacks))
 
-  none_add_negative : Without AddNegative → add_negative t n front o ≡ None
+  none_add_negative : Without AddNegative → add_negative t n insertion o ≡ None
   none_add_negative lacks = two_named (codes "arith.subi") h _ (another AddNegative (codes "arith.subi") h.name at_add_negative lacks)
 
-  none_compare_itself : Without CompareItself → compare_itself t n front o ≡ None
+  none_compare_itself : Without CompareItself → compare_itself t n insertion o ≡ None
   none_compare_itself lacks = two_named (codes "arith.cmpi") h _ (another CompareItself (codes "arith.cmpi") h.name at_compare_itself lacks)
 
-  none_mirror_comparison : Without MirrorComparison → mirror_comparison t n front o ≡ None
+  none_mirror_comparison : Without MirrorComparison → mirror_comparison t n insertion o ≡ None
   none_mirror_comparison lacks = two_named (codes "arith.cmpi") h _ (another MirrorComparison (codes "arith.cmpi") h.name at_mirror_comparison lacks)
 
-  none_compare_zero : Without CompareZero → compare_zero t n front o ≡ None
+  none_compare_zero : Without CompareZero → compare_zero t n insertion o ≡ None
   none_compare_zero lacks = two_named (codes "arith.cmpi") h _ (another CompareZero (codes "arith.cmpi") h.name at_compare_zero lacks)
 
-  none_expand_difference : Without ExpandDifference → expand_difference t n front o ≡ None
+  none_expand_difference : Without ExpandDifference → expand_difference t n insertion o ≡ None
   none_expand_difference lacks = two_named (codes "arith.subi") h _ (another ExpandDifference (codes "arith.subi") h.name at_expand_difference lacks)
 
-  none_choose_same : Without ChooseSame → choose_same t n front o ≡ None
+  none_choose_same : Without ChooseSame → choose_same t n insertion o ≡ None
   none_choose_same lacks = three_named (codes "arith.select") h _ (another ChooseSame (codes "arith.select") h.name at_choose_same lacks)
 
-  none_choose_known : Without ChooseKnown → choose_known t n front o ≡ None
+  none_choose_known : Without ChooseKnown → choose_known t n insertion o ≡ None
   none_choose_known lacks = three_named (codes "arith.select") h _ (another ChooseKnown (codes "arith.select") h.name at_choose_known lacks)
 
-  none_choose_truth : Without ChooseTruth → choose_truth t n front o ≡ None
+  none_choose_truth : Without ChooseTruth → choose_truth t n insertion o ≡ None
   none_choose_truth lacks = three_named (codes "arith.select") h _ (another ChooseTruth (codes "arith.select") h.name at_choose_truth lacks)
 
-  none_choose_opposite : Without ChooseOpposite → choose_opposite t n front o ≡ None
+  none_choose_opposite : Without ChooseOpposite → choose_opposite t n insertion o ≡ None
   none_choose_opposite lacks = three_named (codes "arith.select") h _ (another ChooseOpposite (codes "arith.select") h.name at_choose_opposite lacks)
 
-  none_extend_extension : Without ExtendExtension → extend_extension t n front o ≡ None
+  none_extend_extension : Without ExtendExtension → extend_extension t n insertion o ≡ None
   none_extend_extension lacks = one_among extensions h _ (elsewhere ExtendExtension extensions h.name at_extend_extension lacks)
 
-  none_cut_cast : Without CutCast → cut_cast t n front o ≡ None
+  none_cut_cast : Without CutCast → cut_cast t n insertion o ≡ None
   none_cut_cast lacks = one_named (codes "arith.trunci") h _ (another CutCast (codes "arith.trunci") h.name at_cut_cast lacks)
 
-  none_cast_back : Without CastBack → cast_back t n front o ≡ None
+  none_cast_back : Without CastBack → cast_back t n insertion o ≡ None
   none_cast_back lacks = one_none h.name h.operands h.results _ (λ p s. two_ways (named (codes "builtin.unrealized_conversion_cast") p.name) (among index_casts p.name) _ _
       (ap (named (codes "builtin.unrealized_conversion_cast")) s ∙ another CastBack (codes "builtin.unrealized_conversion_cast") h.name at_cast_back_unrealized lacks)
       (ap (among index_casts) s ∙ elsewhere CastBack index_casts h.name at_cast_back lacks))
 
-  none_open_branch : Without OpenBranch → open_branch t front o ≡ None
+  none_open_branch : Without OpenBranch → open_branch t insertion o ≡ None
   none_open_branch lacks = stopped (named (codes "scf.if") h.name) _ (another OpenBranch (codes "scf.if") h.name at_open_branch lacks)
 
-  none_open_loop : Without OpenLoop → open_loop t front o ≡ None
+  none_open_loop : Without OpenLoop → open_loop t insertion o ≡ None
   none_open_loop lacks = stopped (named (codes "scf.for") h.name) _ (another OpenLoop (codes "scf.for") h.name at_open_loop lacks)
 
-  none_stop_loop : Without StopLoop → stop_loop t front o ≡ None
+  none_stop_loop : Without StopLoop → stop_loop t insertion o ≡ None
   none_stop_loop lacks = stopped (named (codes "scf.while") h.name) _ (another StopLoop (codes "scf.while") h.name at_stop_loop lacks)
 
-  none_expand_min_max : Without ExpandMinMax → expand_min_max t n front o ≡ None
-  none_expand_min_max lacks = two_beside predicate_of_min_max h _ (nothing_beside ExpandMinMax predicate_of_min_max h.name at_expand_min_max lacks)
+  none_expand_min_max : Without ExpandMinMax → expand_min_max t n insertion o ≡ None
+  none_expand_min_max lacks = two_next_to predicate_of_min_max h _ (nothing_next_to ExpandMinMax predicate_of_min_max h.name at_expand_min_max lacks)
 
-  none_expand_remainder : Without ExpandRemainder → expand_remainder t n front o ≡ None
-  none_expand_remainder lacks = two_beside division_of_remainder h _ (nothing_beside ExpandRemainder division_of_remainder h.name at_expand_remainder lacks)
+  none_expand_remainder : Without ExpandRemainder → expand_remainder t n insertion o ≡ None
+  none_expand_remainder lacks = two_next_to division_of_remainder h _ (nothing_next_to ExpandRemainder division_of_remainder h.name at_expand_remainder lacks)
 
-  none_lower_index : Without LowerIndex → lower_index t n front o ≡ None
+  none_lower_index : Without LowerIndex → lower_index t n insertion o ≡ None
   none_lower_index lacks = stopped_first (among index_users h.name) _ _ (elsewhere LowerIndex index_users h.name at_lower_index lacks)
 
-  none_lower_loop : Without LowerLoop → lower_loop t n front o ≡ None
+  none_lower_loop : Without LowerLoop → lower_loop t n insertion o ≡ None
   none_lower_loop lacks = stopped_first (named (codes "scf.for") h.name) _ _ (another LowerLoop (codes "scf.for") h.name at_lower_loop lacks)
 
-  none_lower_choice : Without LowerChoice → lower_choice t n front o ≡ None
+  none_lower_choice : Without LowerChoice → lower_choice t n insertion o ≡ None
   none_lower_choice lacks = stopped_first (named (codes "scf.if") h.name) _ _ (another LowerChoice (codes "scf.if") h.name at_lower_choice lacks)
 
-  none_erase_dead : Without EraseDead → erase_dead t n front o ≡ None
+  none_erase_dead : Without EraseDead → erase_dead t n insertion o ≡ None
   none_erase_dead lacks = stopped (is_erasable t o) _ (goes_not t o lacks)
 
-  nothing_to : (ts : List TypeTerm) (x : Option Known) → x ≡ None → folded_to t n front o ts x ≡ None
+  nothing_to : (ts : List TypeTerm) (x : Option Known) → x ≡ None → folded_to t n insertion o ts x ≡ None
   nothing_to [] x e = refl
   nothing_to (ty ∷ []) None e = refl
   nothing_to (ty ∷ []) (Some k) e = absurd (grind arith)
   nothing_to (ty ∷ u ∷ us) x e = refl
 
-  none_fold_to_constant : Without FoldToConstant → fold_to_constant t n front o ≡ None
+  none_fold_to_constant : Without FoldToConstant → fold_to_constant t n insertion o ≡ None
   none_fold_to_constant lacks = stopped_or (named (codes "arith.constant") h.name) _ _
-      (λ e. nothing_to h.results _ (unfolded h.name h.properties _ h.results (first_is h.name e (nothing_beside FoldToConstant (tail_of rules) h.name at_fold_to_constant lacks))))
+      (λ e. nothing_to h.results _ (unfolded h.name h.properties _ h.results (first_is h.name e (nothing_next_to FoldToConstant (tail_of rules) h.name at_fold_to_constant lacks))))
 
 -- a rule that isn't listed doesn't apply
 pub only_listed : OnlyListed

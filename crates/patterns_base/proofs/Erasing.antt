@@ -28,7 +28,7 @@ use Rattle.ir_tree_laws.proofs.Shift.{inner_of}
 use Rattle.patterns_base.proofs.Inner.{seen_outside}
 use Rattle.std.proofs.lemmas.Option.{slice_get_within}
 
-module _ {N T A : Type 0} (isolated : N → Bool) (x : ℕ) (t o : OpOf N T A) (d : HasDistinctIds t) (root : eqb (head t).id x ≡ false) (found : find x t ≡ Some o) (formed : operands_visible isolated t ≡ true) where
+module _ {N T A : Type 0} (isolated : N → Bool) (x : ℕ) (t o : OpOf N T A) (d : HasDistinctIds t) (root : eqb (head t).id x ≡ false) (found : find x t ≡ Some o) (wellformed : operands_visible isolated t ≡ true) where
   -- none of its results is used
   module _ (unused : (k : ℕ) → k < length (head o).results → uses_of (Result x k) t ≡ []) where
     outside : (s : StandOf N T A) → In s (stands [] t) → is_gone x s ≡ false → (v : Value) → In v (head s.here).operands → is_within (owner_of v).0 (Some o) ≡ false
@@ -39,7 +39,7 @@ module _ {N T A : Type 0} (isolated : N → Bool) (x : ℕ) (t o : OpOf N T A) (
           let u = present_stand (i.step_in ∷ i.path) o (owner_of v).0 k in
           let there = within o (i.step_in ∷ i.path) u.0 u.1 [] t i.there in
           let gone = within_gone x o (i.step_in ∷ i.path) (or_left (eqb (head o).id x) (gone_in x i.step_in.parent i.path) (eq-eqb (head o).id x i.id)) u.0 u.1 in
-          let e = all_each (dominated_by isolated s.path) (head s.here).operands (all_each (λ (z : StandOf N T A). list_all (dominated_by isolated z.path) (head z.here).operands) (stands [] t) (sym (stands_operands isolated t) ∙ formed) s h) v m in
+          let e = all_each (dominated_by isolated s.path) (head s.here).operands (all_each (λ (z : StandOf N T A). list_all (dominated_by isolated z.path) (head z.here).operands) (stands [] t) (sym (stands_operands isolated t) ∙ wellformed) s h) v m in
           let r = seen_outside isolated x t d root s.here s.path h g v e u.0 there (sym u.2) gone in
           let w = seen_by isolated t d s h v e in
           used r.0 (few r.0 (ap (λ z. has_value z t) (sym r.1) ∙ w.is)) (subst (λ z. In z (head s.here).operands) r.1 m))

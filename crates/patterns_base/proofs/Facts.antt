@@ -7,7 +7,7 @@ use Rattle.ir_tree.specs.declared.value.Value.{Value}
 use Rattle.ir_types.proofs.SameTerms.{type_refl}
 use Rattle.ir_types.specs.SameTypes.{same_type}
 use Rattle.ir_types.specs.Terms.{Function, Index, Integer, Memref, OpaqueType, TypeTerm}
-use Rattle.patterns_base.specs.Looks.{Header, breaks_none, front_of, has_own_properties, is_verified, is_in_order, is_index, when}
+use Rattle.patterns_base.specs.Looks.{Header, breaks_none, insertion_of, has_own_properties, is_verified, is_in_order, is_index, when}
 use Rattle.patterns_base.specs.Lowering.{bridges, crossed, marked}
 use Rattle.patterns_base.specs.Makes.{made_by}
 use Rattle.patterns_base.specs.Rewrites.{edits_of, rewrite_by, rewrite_of, eligible}
@@ -28,7 +28,7 @@ pub rewrite_is : (r : Rule) (m : Module) (x : ℕ) → rewrite_of r m x ≡ rewr
 unfolding rewrite_of
 rewrite_is r m x = refl
 
-pub edits_are : (r : Rule) (m : Module) (x : ℕ) → edits_of r m x ≡ given (find x m.tree) (λ o. given (front_of x m.tree) (λ front. when (eligible r m.tree (head o)) (rule r m.tree m.next front o)))
+pub edits_are : (r : Rule) (m : Module) (x : ℕ) → edits_of r m x ≡ given (find x m.tree) (λ o. given (insertion_of x m.tree) (λ insertion. when (eligible r m.tree (head o)) (rule r m.tree m.next insertion o)))
 unfolding edits_of
 edits_are r m x = refl
 

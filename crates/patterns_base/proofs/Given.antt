@@ -16,7 +16,7 @@ use Rattle.ir_tree_laws.proofs.Listed.{in_parts, one_any, all_each, each_all, bo
 use Rattle.ir_tree_laws.proofs.Readings.{stands_uses}
 use Rattle.ir_tree_laws.proofs.DominatedBy.{stands_visible, stands_operands, visible_there}
 use Rattle.ir_tree_laws.proofs.Values.{seen_by}
-use Rattle.patterns_base.proofs.Front.{after_dominated_by}
+use Rattle.patterns_base.proofs.Preceding.{after_dominated_by}
 use Rattle.ir_tree_laws.proofs.ShiftDominance.{of_uses}
 
 pub of_gather : {X Y : Type 0} (f : X → List Y) (y : Y) (xs : List X) → In y (gather f xs) → (x : X) × In x xs × In y (f x)
@@ -48,10 +48,10 @@ module _ {N T A : Type 0} where
 
     -- the values that dominate x dominate each user of a result of x
     pub users_see_it : operands_visible isolated t ≡ true → (x k : ℕ) (v : Value) → visible isolated t x v ≡ true → users_see isolated (Result x k) v t ≡ true
-    users_see_it formed x k v e = each_all (λ u. visible isolated t u.0 v) (uses_of (Result x k) t) (λ u h.
+    users_see_it wellformed x k v e = each_all (λ u. visible isolated t u.0 v) (uses_of (Result x k) t) (λ u h.
         let s = user (Result x k) t u h in
         let w = seer x v e in
-        let own = all_each (dominated_by isolated s.0.path) (head s.0.here).operands (all_each (λ (z : StandOf N T A). list_all (dominated_by isolated z.path) (head z.here).operands) (stands [] t) (sym (stands_operands isolated t) ∙ formed) s.0 s.1) (Result x k) s.3 in
+        let own = all_each (dominated_by isolated s.0.path) (head s.0.here).operands (all_each (λ (z : StandOf N T A). list_all (dominated_by isolated z.path) (head z.here).operands) (stands [] t) (sym (stands_operands isolated t) ∙ wellformed) s.0 s.1) (Result x k) s.3 in
         ap (λ z. visible isolated t z v) s.2
         ∙ visible_there isolated t d s.0 s.1 v
         ∙ after_dominated_by isolated t d w.0.here w.0.path w.1 s.0.here s.0.path s.1 k (ap (λ z. dominated_by isolated s.0.path (Result z k)) w.2 ∙ own) v w.3)

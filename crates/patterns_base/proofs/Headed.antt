@@ -24,7 +24,7 @@ use Rattle.ir_tree_laws.proofs.HeadForm.{alike_at, operand_keeps, replaced_keeps
 use Rattle.ir_tree_laws.proofs.DominatedBy.{stands_visible}
 use Rattle.ir_tree_laws.proofs.Values.{not_own}
 use Rattle.patterns_base.proofs.Given.{seer, seen_is, users_see_it}
-use Rattle.patterns_base.proofs.Made.{Stood}
+use Rattle.patterns_base.proofs.Made.{Located}
 use Rattle.patterns_base.proofs.Placed.{before_it}
 use Rattle.ir_tree.proofs.Facts.{head_each}
 
@@ -37,9 +37,9 @@ module _ {N T A : Type 0} (isolated : N → Bool) where
         go [] = refl
         go (s ∷ ss) = λ i. (eqb (each_id f alike s.here i) x && each_dominated_by f alike isolated s.path v i) || go ss i
 
-    abbrev pub stood_headed : (x : ℕ) (front : Place) (m : ModuleOf N T A) → Stood isolated x front m → IsWellFormed isolated (record m { tree = each_head f m.tree }) → Stood isolated x front (record m { tree = each_head f m.tree })
-    stood_headed x front m s w = record {
-      formed = w;
+    abbrev pub located_headed : (x : ℕ) (insertion : Place) (m : ModuleOf N T A) → Located isolated x insertion m → IsWellFormed isolated (record m { tree = each_head f m.tree }) → Located isolated x insertion (record m { tree = each_head f m.tree })
+    located_headed x insertion m s w = record {
+      wellformed = w;
       at = record {
         here = each_head f s.at.here;
         step_in = edit_step f s.at.step_in;
@@ -51,30 +51,30 @@ module _ {N T A : Type 0} (isolated : N → Bool) where
     }
 
   -- the position of the operation
-  pub found_there : (x : ℕ) (front : Place) (m : ModuleOf N T A) (s : Stood isolated x front m) → find x m.tree ≡ Some s.at.here
-  found_there x front m s = ap (λ z. find z m.tree) (sym s.at.id) ∙ stand_found m.tree s.formed.distinct (stand s.at.here (s.at.step_in ∷ s.at.path)) s.at.there
+  pub found_there : (x : ℕ) (insertion : Place) (m : ModuleOf N T A) (s : Located isolated x insertion m) → find x m.tree ≡ Some s.at.here
+  found_there x insertion m s = ap (λ z. find z m.tree) (sym s.at.id) ∙ stand_found m.tree s.wellformed.distinct (stand s.at.here (s.at.step_in ∷ s.at.path)) s.at.there
 
-  pub not_root : (x : ℕ) (front : Place) (m : ModuleOf N T A) (s : Stood isolated x front m) → eqb (head m.tree).id x ≡ false
-  not_root x front m s = elim (bool_cases (eqb (head m.tree).id x)) [
+  pub not_root : (x : ℕ) (insertion : Place) (m : ModuleOf N T A) (s : Located isolated x insertion m) → eqb (head m.tree).id x ≡ false
+  not_root x insertion m s = elim (bool_cases (eqb (head m.tree).id x)) [
     | inr k ↦ k
-    | inl k ↦ (let same = same_stand m.tree s.formed.distinct (stand m.tree []) (stand s.at.here (s.at.step_in ∷ s.at.path)) (itself [] m.tree) s.at.there (eqb-true (head m.tree).id x k ∙ sym s.at.id) in
+    | inl k ↦ (let same = same_stand m.tree s.wellformed.distinct (stand m.tree []) (stand s.at.here (s.at.step_in ∷ s.at.path)) (itself [] m.tree) s.at.there (eqb-true (head m.tree).id x k ∙ sym s.at.id) in
         let bad : [] ≡ s.at.step_in ∷ s.at.path = ap (λ (z : StandOf N T A). z.path) same in
         absurd cc)
   ]
 
-  module _ (x : ℕ) (front : Place) (m : ModuleOf N T A) (s : Stood isolated x front m) (v : Value) (seen : visible isolated m.tree x v ≡ true) where
+  module _ (x : ℕ) (insertion : Place) (m : ModuleOf N T A) (s : Located isolated x insertion m) (v : Value) (seen : visible isolated m.tree x v ≡ true) where
     -- the value is set as an operand
     module _ (k : ℕ) (has : nat_lt k (length (head s.at.here).operands) ≡ true) where
       pub set_free : set_operand_reason isolated x k v m.tree ≡ None
       set_free =
-          ap (operand_reason k (value_reason isolated x v m.tree)) (found_there x front m s)
-          ∙ (λ i. cond (has i) (cond (seen_is isolated m.tree s.formed.distinct x v seen i) (cond (seen i) None (Some Refusal.NotVisible)) (Some Refusal.NoSuchValue)) (Some Refusal.NoSuchIndex))
+          ap (operand_reason k (value_reason isolated x v m.tree)) (found_there x insertion m s)
+          ∙ (λ i. cond (has i) (cond (seen_is isolated m.tree s.wellformed.distinct x v seen i) (cond (seen i) None (Some Refusal.NotVisible)) (Some Refusal.NoSuchValue)) (Some Refusal.NoSuchIndex))
 
       abbrev set_alike : (h : HeadOf N T A) → Alike (at x (put_operand k v) h) h
       set_alike = alike_at x (put_operand k v) (λ h. record { id = refl; name = refl; results = refl })
 
-      abbrev pub set_stood : Stood isolated x front (record m { tree = with_operand x k v m.tree })
-      set_stood = stood_headed (at x (put_operand k v)) set_alike x front m s (operand_keeps isolated x k v m s.formed seen)
+      abbrev pub set_located : Located isolated x insertion (record m { tree = with_operand x k v m.tree })
+      set_located = located_headed (at x (put_operand k v)) set_alike x insertion m s (operand_keeps isolated x k v m s.wellformed seen)
 
       pub set_dominated_by : (w : Value) → visible isolated (with_operand x k v m.tree) x w ≡ visible isolated m.tree x w
       set_dominated_by w = dominated_by_headed (at x (put_operand k v)) set_alike m.tree x w
@@ -83,15 +83,15 @@ module _ {N T A : Type 0} (isolated : N → Bool) where
     pub differs : (k : ℕ) → same_value (Result x k) v ≡ false
     differs k = elim (bool_cases (same_value (Result x k) v)) [
       | inr e ↦ e
-      | inl e ↦ (let w = seer isolated m.tree s.formed.distinct x v seen in
-          absurd (not_own isolated m.tree s.formed.distinct w.0 w.1 v w.3 (ap (λ z. (owner_of z).0) (sym (same_value_true (Result x k) v e)) ∙ sym w.2)))
+      | inl e ↦ (let w = seer isolated m.tree s.wellformed.distinct x v seen in
+          absurd (not_own isolated m.tree s.wellformed.distinct w.0 w.1 v w.3 (ap (λ z. (owner_of z).0) (sym (same_value_true (Result x k) v e)) ∙ sym w.2)))
     ]
 
     -- the value replaces one of the results of x
     module _ (k : ℕ) where
-      abbrev pub replaced_stood : Stood isolated x front (record m { tree = with_value_replaced (Result x k) v m.tree })
-      replaced_stood = stood_headed (put_values (Result x k) v) (λ h. record { id = refl; name = refl; results = refl }) x front m s
-          (replaced_keeps isolated (Result x k) v m s.formed (users_see_it isolated m.tree s.formed.distinct s.formed.formed.visible x k v seen))
+      abbrev pub replaced_located : Located isolated x insertion (record m { tree = with_value_replaced (Result x k) v m.tree })
+      replaced_located = located_headed (put_values (Result x k) v) (λ h. record { id = refl; name = refl; results = refl }) x insertion m s
+          (replaced_keeps isolated (Result x k) v m s.wellformed (users_see_it isolated m.tree s.wellformed.distinct s.wellformed.wellformed.visible x k v seen))
 
       pub replaced_dominated_by : (w : Value) → visible isolated (with_value_replaced (Result x k) v m.tree) x w ≡ visible isolated m.tree x w
       replaced_dominated_by w = dominated_by_headed (put_values (Result x k) v) (λ h. record { id = refl; name = refl; results = refl }) m.tree x w

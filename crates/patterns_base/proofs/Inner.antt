@@ -12,7 +12,7 @@ use Rattle.ir_tree_laws.specs.Members.{In}
 use Rattle.ir_tree_laws.proofs.Listed.{bool_cases, one_any, both, either, or_left, or_right}
 use Rattle.ir_tree_laws.proofs.Members.{stand, has_around, same_stand}
 use Rattle.ir_tree_laws.proofs.Around.{around_there}
-use Rattle.patterns_base.proofs.Front.{stands_before}
+use Rattle.patterns_base.proofs.Preceding.{stands_before}
 
 module _ {N T A : Type 0} (isolated : N → Bool) (x : ℕ) (t : OpOf N T A) (d : HasDistinctIds t) (root : eqb (head t).id x ≡ false) where
   -- the value is a result of x
@@ -36,8 +36,8 @@ module _ {N T A : Type 0} (isolated : N → Bool) (x : ℕ) (t : OpOf N T A) (d 
       → (u : StandOf N T A) → In u (stands [] t) → (owner_of v).0 ≡ stand_id u → is_gone x u ≡ true → IsResult v
   seen_outside o [] h g v e u m id gone = absurd (true≢false (sym e))
   seen_outside o (a ∷ q) h g v e u m id gone =
-      elim (either (list_any (λ f. shows v (results_of f)) a.front) _ e) [
-        | inl k ↦ (let w = one_any (λ f. shows v (results_of f)) a.front k in front w.0 w.1 v w.2 id)
+      elim (either (list_any (λ f. shows v (results_of f)) a.preceding) _ e) [
+        | inl k ↦ (let w = one_any (λ f. shows v (results_of f)) a.preceding k in insertion w.0 w.1 v w.2 id)
         | inr k ↦ elim (either (shows v (arguments (head a.parent).id a.region (length a.args))) _ k) [
           | inl l ↦ absurd (true≢false (sym (or_right (eqb (head o).id x) (gone_in x a.parent q) (args v l id)) ∙ g))
           | inr l ↦ (let b = both (not (isolated (head a.parent).name)) (dominated_by isolated q v) l in
@@ -48,9 +48,9 @@ module _ {N T A : Type 0} (isolated : N → Bool) (x : ℕ) (t : OpOf N T A) (d 
         ]
       ]
     where
-      front : (f : OpOf N T A) → In f a.front → (v : Value) → shows v (results_of f) ≡ true → (owner_of v).0 ≡ stand_id u → IsResult v
-      front f i (Arg y r k) e id = absurd (true≢false (sym e))
-      front f i (Result y k) e id =
+      insertion : (f : OpOf N T A) → In f a.preceding → (v : Value) → shows v (results_of f) ≡ true → (owner_of v).0 ≡ stand_id u → IsResult v
+      insertion f i (Arg y r k) e id = absurd (true≢false (sym e))
+      insertion f i (Result y k) e id =
           let b = stands_before t o f a q h i in
           let own = eqb-true y (head f).id (both (eqb y (head f).id) _ e).0 in
           let same = same_stand t d u (stand f (b.step_in ∷ q)) m b.there (sym id ∙ own) in

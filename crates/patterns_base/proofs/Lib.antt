@@ -10,7 +10,7 @@ pub mod RegionsCases
 pub mod LoweringCases
 pub mod CanonicalCases
 pub mod EditFacts
-pub mod Front
+pub mod Preceding
 pub mod Given
 pub mod Inner
 pub mod Placed

@@ -6,7 +6,7 @@ use Rattle.ir_tree.specs.declared.place.Place.{Place}
 use Rattle.ir_tree.specs.Tree.{head}
 use Rattle.ir_tree.specs.Meaning.{Operation}
 use Rattle.ir_tree_laws.specs.Values.{arguments_at}
-use Rattle.op_registry.specs.Registry.{beside}
+use Rattle.op_registry.specs.Registry.{next_to}
 use Rattle.patterns_laws.specs.integers.Folds.{Known}
 use Rattle.rewriter_machine.specs.Contents.{Edit}
 use Rattle.rewriter_machine.specs.Edits.{Make}
@@ -45,8 +45,8 @@ joined (e ∷ es) fs = omega (arith, joined es fs)
 trailing : (es fs : List Edit) → Making fs → Making (es ++ fs)
 trailing es fs h = record { some = omega (arith, joined es fs, h.some) }
 
-in_front : (es fs : List Edit) → Making es → Making (es ++ fs)
-in_front es fs h = record { some = omega (arith, joined es fs, h.some) }
+in_insertion : (es fs : List Edit) → Making es → Making (es ++ fs)
+in_insertion es fs h = record { some = omega (arith, joined es fs, h.some) }
 
 tested : (b : Bool) (r : Option (List Edit)) → MakesSome r → MakesSome (when b r)
 tested true r h = h
@@ -56,50 +56,50 @@ of_some : {X : Type 0} (x : Option X) (f : X → Option (List Edit)) → ((y : X
 of_some None f h = none_there
 of_some (Some y) f h = h y
 
-folding_makes : (t : Operation) (n : ℕ) (front : Place) (o : Operation) (tys : List TypeTerm) (k : Option Known) → MakesSome (folded_to t n front o tys k)
-folding_makes t n front o [] k = none_there
-folding_makes t n front o (ty ∷ []) None = none_there
-folding_makes t n front o (ty ∷ []) (Some k) = there _ (first _ _ _)
-folding_makes t n front o (ty ∷ u ∷ us) k = none_there
+folding_makes : (t : Operation) (n : ℕ) (insertion : Place) (o : Operation) (tys : List TypeTerm) (k : Option Known) → MakesSome (folded_to t n insertion o tys k)
+folding_makes t n insertion o [] k = none_there
+folding_makes t n insertion o (ty ∷ []) None = none_there
+folding_makes t n insertion o (ty ∷ []) (Some k) = there _ (first _ _ _)
+folding_makes t n insertion o (ty ∷ u ∷ us) k = none_there
 
-module _ (t : Operation) (n : ℕ) (front : Place) (o : Operation) where
-  makes_fold_to_constant : MakesSome (fold_to_constant t n front o)
-  makes_fold_to_constant = tested _ _ (folding_makes t n front o _ _)
+module _ (t : Operation) (n : ℕ) (insertion : Place) (o : Operation) where
+  makes_fold_to_constant : MakesSome (fold_to_constant t n insertion o)
+  makes_fold_to_constant = tested _ _ (folding_makes t n insertion o _ _)
 
-  makes_expand_min_max : MakesSome (expand_min_max t n front o)
-  makes_expand_min_max = of_some (two (head o)) _ (λ p. of_some (beside p.name predicate_of_min_max) _ (λ asks. there _ (first _ _ _)))
+  makes_expand_min_max : MakesSome (expand_min_max t n insertion o)
+  makes_expand_min_max = of_some (two (head o)) _ (λ p. of_some (next_to p.name predicate_of_min_max) _ (λ asks. there _ (first _ _ _)))
 
-  makes_expand_difference : MakesSome (expand_difference t n front o)
+  makes_expand_difference : MakesSome (expand_difference t n insertion o)
   makes_expand_difference = of_some (two (head o)) _ (λ p. tested _ _ (there _ (first _ _ _)))
 
-  makes_expand_remainder : MakesSome (expand_remainder t n front o)
-  makes_expand_remainder = of_some (two (head o)) _ (λ p. of_some (beside p.name division_of_remainder) _ (λ division. there _ (first _ _ _)))
+  makes_expand_remainder : MakesSome (expand_remainder t n insertion o)
+  makes_expand_remainder = of_some (two (head o)) _ (λ p. of_some (next_to p.name division_of_remainder) _ (λ division. there _ (first _ _ _)))
 
-  lowered : Making (make_lowered t n front o)
+  lowered : Making (make_lowered t n insertion o)
   lowered = first _ _ _
 
-  makes_lower_index : MakesSome (lower_index t n front o)
-  makes_lower_index = tested _ _ (there _ (in_front _ _ (trailing _ (make_lowered t n front o) lowered)))
+  makes_lower_index : MakesSome (lower_index t n insertion o)
+  makes_lower_index = tested _ _ (there _ (in_insertion _ _ (trailing _ (make_lowered t n insertion o) lowered)))
 
-  loop_makes : (args : List TypeTerm) (e : Ended) → Making (lowered_loop t n front o args e)
-  loop_makes args e = in_front _ _ (in_front _ _ (in_front _ _ (in_front _ _ (in_front _ _ (in_front _ _ (trailing _ (make_lowered t n front o) lowered))))))
+  loop_makes : (args : List TypeTerm) (e : Ended) → Making (lowered_loop t n insertion o args e)
+  loop_makes args e = in_insertion _ _ (in_insertion _ _ (in_insertion _ _ (in_insertion _ _ (in_insertion _ _ (in_insertion _ _ (trailing _ (make_lowered t n insertion o) lowered))))))
 
-  makes_lower_loop : MakesSome (lower_loop t n front o)
+  makes_lower_loop : MakesSome (lower_loop t n insertion o)
   makes_lower_loop = tested _ _ (of_some (arguments_at 0 o) _ (λ args. of_some (body t o 0) _ (λ e. there _ (loop_makes args e))))
 
-  if_makes : (e f : Ended) → Making (lowered_if t n front o e f)
+  if_makes : (e f : Ended) → Making (lowered_if t n insertion o e f)
   if_makes e f = first _ _ _
 
-  makes_lower_choice : MakesSome (lower_choice t n front o)
+  makes_lower_choice : MakesSome (lower_choice t n insertion o)
   makes_lower_choice = tested _ _ (of_some (body t o 0) _ (λ e. of_some (body t o 1) _ (λ f. there _ (if_makes e f))))
 
 pub converting_rules_make : ConvertingRulesMake
 unfolding rule
-converting_rules_make FoldToConstant t n front o es listed = (makes_fold_to_constant t n front o).each es
-converting_rules_make ExpandMinMax t n front o es listed = (makes_expand_min_max t n front o).each es
-converting_rules_make ExpandDifference t n front o es listed = (makes_expand_difference t n front o).each es
-converting_rules_make ExpandRemainder t n front o es listed = (makes_expand_remainder t n front o).each es
-converting_rules_make LowerIndex t n front o es listed = (makes_lower_index t n front o).each es
-converting_rules_make LowerLoop t n front o es listed = (makes_lower_loop t n front o).each es
-converting_rules_make LowerChoice t n front o es listed = (makes_lower_choice t n front o).each es
-converting_rules_make _ t n front o es listed = absurd (grind arith)
+converting_rules_make FoldToConstant t n insertion o es listed = (makes_fold_to_constant t n insertion o).each es
+converting_rules_make ExpandMinMax t n insertion o es listed = (makes_expand_min_max t n insertion o).each es
+converting_rules_make ExpandDifference t n insertion o es listed = (makes_expand_difference t n insertion o).each es
+converting_rules_make ExpandRemainder t n insertion o es listed = (makes_expand_remainder t n insertion o).each es
+converting_rules_make LowerIndex t n insertion o es listed = (makes_lower_index t n insertion o).each es
+converting_rules_make LowerLoop t n insertion o es listed = (makes_lower_loop t n insertion o).each es
+converting_rules_make LowerChoice t n insertion o es listed = (makes_lower_choice t n insertion o).each es
+converting_rules_make _ t n insertion o es listed = absurd (grind arith)

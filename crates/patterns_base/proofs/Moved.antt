@@ -26,7 +26,7 @@ use Rattle.ir_tree_laws.proofs.Readings.{step, stands_every, stands_uses, stands
 use Rattle.ir_tree_laws.proofs.Members.{stand, itself, within, same_stand, stand_found, stand_of_member}
 use Rattle.ir_tree_laws.proofs.Around.{around_there, present_stand, stand_present, gone_within}
 use Rattle.ir_tree_laws.proofs.Without.{left_member, member_left, same_head}
-use Rattle.ir_tree_laws.proofs.Formed.{from_formed, greatest_within}
+use Rattle.ir_tree_laws.proofs.Wellformed.{from_wellformed, greatest_within}
 use Rattle.ir_tree_laws.proofs.HeadForm.{used_here, in_gather}
 use Rattle.ir_tree_laws.proofs.DominatedBy.{visible_there, visible_by_cases, stands_operands}
 use Rattle.ir_tree_laws.proofs.Values.{seen_by, not_own}
@@ -36,11 +36,11 @@ use Rattle.ir_tree_laws.proofs.PutForm as put_form
 use Rattle.ir_tree_laws.proofs.Shift as shift
 use Rattle.ir_tree_laws.proofs.ShiftDominance.{shift_dominated_by}
 use Rattle.ir_tree_laws.proofs.WellKept.{shift_keeps}
-use Rattle.patterns_base.proofs.Front.{stands_before}
+use Rattle.patterns_base.proofs.Preceding.{stands_before}
 use Rattle.patterns_base.proofs.Given.{user}
 use Rattle.patterns_base.proofs.Placed as placed
 use Rattle.patterns_base.proofs.Placed.{Following, before_it}
-use Rattle.patterns_base.proofs.Made.{Stood}
+use Rattle.patterns_base.proofs.Made.{Located}
 use Rattle.ir_tree_laws.proofs.Reverted.{passed, same_tables}
 
 pub same_option : (a : Option ℕ) → option_eq eqb a a ≡ true
@@ -62,11 +62,11 @@ module _ {N T A : Type 0} where
     region_deeper o p r empty s k = absurd k
     region_deeper o p r (block args os) s k = ops_deeper o p r args [] os s k
 
-    ops_deeper : (o : OpOf N T A) (p : List (StepOf N T A)) (r : ℕ) (args : List T) (front : List (OpOf N T A)) (os : OpsOf N T A) (s : StandOf N T A) → In s (ops_stands o p r args front os) → length p ≤ length s.path
-    ops_deeper o p r args front no_ops s k = absurd k
-    ops_deeper o p r args front (next q os) s k = elim (in_parts s (stands (step o r args front os ∷ p) q) (ops_stands o p r args (front ++ q ∷ []) os) k) [
-      | inl l ↦ (let n = deeper (step o r args front os ∷ p) q s l in omega (arith, n))
-      | inr l ↦ ops_deeper o p r args (front ++ q ∷ []) os s l
+    ops_deeper : (o : OpOf N T A) (p : List (StepOf N T A)) (r : ℕ) (args : List T) (preceding : List (OpOf N T A)) (os : OpsOf N T A) (s : StandOf N T A) → In s (ops_stands o p r args preceding os) → length p ≤ length s.path
+    ops_deeper o p r args preceding no_ops s k = absurd k
+    ops_deeper o p r args preceding (next q os) s k = elim (in_parts s (stands (step o r args preceding os ∷ p) q) (ops_stands o p r args (preceding ++ q ∷ []) os) k) [
+      | inl l ↦ (let n = deeper (step o r args preceding os ∷ p) q s l in omega (arith, n))
+      | inr l ↦ ops_deeper o p r args (preceding ++ q ∷ []) os s l
     ]
 
   -- an operation at another position: if the same values dominate it, they dominate the operations inside it
@@ -75,9 +75,9 @@ module _ {N T A : Type 0} where
     DominatedByMore p q = (v : Value) → P v → dominated_by isolated p v ≡ true → dominated_by isolated q v ≡ true
 
     under : (a : StepOf N T A) (p q : List (StepOf N T A)) → DominatedByMore p q → DominatedByMore (a ∷ p) (a ∷ q)
-    under a p q f v h e = elim (either (list_any (λ o. shows v (results_of o)) a.front) _ e) [
+    under a p q f v h e = elim (either (list_any (λ o. shows v (results_of o)) a.preceding) _ e) [
       | inl k ↦ or_left _ _ k
-      | inr k ↦ or_right (list_any (λ o. shows v (results_of o)) a.front) _ (elim (either (shows v (arguments (head a.parent).id a.region (length a.args))) _ k) [
+      | inr k ↦ or_right (list_any (λ o. shows v (results_of o)) a.preceding) _ (elim (either (shows v (arguments (head a.parent).id a.region (length a.args))) _ k) [
         | inl l ↦ or_left _ _ l
         | inr l ↦ (let b = both (not (isolated (head a.parent).name)) (dominated_by isolated p v) l in or_right (shows v (arguments (head a.parent).id a.region (length a.args))) _ (both_hold _ _ b.0 (f v h b.1)))
       ])
@@ -105,22 +105,22 @@ module _ {N T A : Type 0} where
       region_restand o p q f r empty s k = absurd k
       region_restand o p q f r (block args os) s k = ops_restand o p q f r args [] os s k
 
-      ops_restand : (o : OpOf N T A) (p q : List (StepOf N T A)) → DominatedByMore p q → (r : ℕ) (args : List T) (front : List (OpOf N T A)) (os : OpsOf N T A) (s : StandOf N T A) → In s (ops_stands o q r args front os) → Was s (ops_stands o p r args front os)
-      ops_restand o p q f r args front no_ops s k = absurd k
-      ops_restand o p q f r args front (next u os) s k = elim (in_parts s (stands (step o r args front os ∷ q) u) (ops_stands o q r args (front ++ u ∷ []) os) k) [
-        | inl l ↦ wider s (stands (step o r args front os ∷ p) u) (stands (step o r args front os ∷ p) u ++ ops_stands o p r args (front ++ u ∷ []) os) (λ z m. in_left z (stands (step o r args front os ∷ p) u) (ops_stands o p r args (front ++ u ∷ []) os) m)
-            (restands (step o r args front os ∷ p) (step o r args front os ∷ q) (under (step o r args front os) p q f) u s l)
-        | inr l ↦ wider s (ops_stands o p r args (front ++ u ∷ []) os) (stands (step o r args front os ∷ p) u ++ ops_stands o p r args (front ++ u ∷ []) os) (λ z m. in_right z (stands (step o r args front os ∷ p) u) (ops_stands o p r args (front ++ u ∷ []) os) m)
-            (ops_restand o p q f r args (front ++ u ∷ []) os s l)
+      ops_restand : (o : OpOf N T A) (p q : List (StepOf N T A)) → DominatedByMore p q → (r : ℕ) (args : List T) (preceding : List (OpOf N T A)) (os : OpsOf N T A) (s : StandOf N T A) → In s (ops_stands o q r args preceding os) → Was s (ops_stands o p r args preceding os)
+      ops_restand o p q f r args preceding no_ops s k = absurd k
+      ops_restand o p q f r args preceding (next u os) s k = elim (in_parts s (stands (step o r args preceding os ∷ q) u) (ops_stands o q r args (preceding ++ u ∷ []) os) k) [
+        | inl l ↦ wider s (stands (step o r args preceding os ∷ p) u) (stands (step o r args preceding os ∷ p) u ++ ops_stands o p r args (preceding ++ u ∷ []) os) (λ z m. in_left z (stands (step o r args preceding os ∷ p) u) (ops_stands o p r args (preceding ++ u ∷ []) os) m)
+            (restands (step o r args preceding os ∷ p) (step o r args preceding os ∷ q) (under (step o r args preceding os) p q f) u s l)
+        | inr l ↦ wider s (ops_stands o p r args (preceding ++ u ∷ []) os) (stands (step o r args preceding os ∷ p) u ++ ops_stands o p r args (preceding ++ u ∷ []) os) (λ z m. in_right z (stands (step o r args preceding os ∷ p) u) (ops_stands o p r args (preceding ++ u ∷ []) os) m)
+            (ops_restand o p q f r args (preceding ++ u ∷ []) os s l)
       ]
 
 -- operation y is the first in a block of operation x
-module _ {N T A : Type 0} (isolated is_table : N → Bool) (x : ℕ) (front : Place) (m : ModuleOf N T A) (s : Stood isolated x front m) (y : OpOf N T A) (b : StepOf N T A) (there : In (stand y (b ∷ s.at.step_in ∷ s.at.path)) (stands [] m.tree)) (first : b.front ≡ []) (around_it : b.parent ≡ s.at.here) where
+module _ {N T A : Type 0} (isolated is_table : N → Bool) (x : ℕ) (insertion : Place) (m : ModuleOf N T A) (s : Located isolated x insertion m) (y : OpOf N T A) (b : StepOf N T A) (there : In (stand y (b ∷ s.at.step_in ∷ s.at.path)) (stands [] m.tree)) (first : b.preceding ≡ []) (around_it : b.parent ≡ s.at.here) where
   abbrev t : OpOf N T A
   t = m.tree
 
   abbrev d : HasDistinctIds m.tree
-  d = s.formed.distinct
+  d = s.wellformed.distinct
 
   abbrev yp : List (StepOf N T A)
   yp = b ∷ s.at.step_in ∷ s.at.path
@@ -163,14 +163,14 @@ module _ {N T A : Type 0} (isolated is_table : N → Bool) (x : ℕ) (front : Pl
         absurd (omega (arith, l, n, e)))
   ]
 
-  outside : leads_inside front (Some y) ≡ false
+  outside : leads_inside insertion (Some y) ≡ false
   outside = ap (λ (p : Place). leads_inside p (Some y)) s.at.place ∙ λ i. not_in s.at.step_in.parent s.at.path (around_there t s.at.here s.at.step_in s.at.path s.at.there).1 (omega arith) i || x_out i
     where
       x_out : is_within x (Some y) ≡ false
       x_out = ap (λ z. is_within z (Some y)) (sym s.at.id) ∙ not_in s.at.here (s.at.step_in ∷ s.at.path) s.at.there (omega arith)
 
-  point : has_place front m.tree ≡ true
-  point = placed.point x front t d s.at
+  point : has_place insertion m.tree ≡ true
+  point = placed.point x insertion t d s.at
 
   -- x in the tree without y
   abbrev u : OpOf N T A
@@ -179,7 +179,7 @@ module _ {N T A : Type 0} (isolated is_table : N → Bool) (x : ℕ) (front : Pl
   pub u_distinct : HasDistinctIds (without (head y).id m.tree)
   u_distinct = left_distinct yi t d
 
-  abbrev pub x_left : Following x front (without (head y).id m.tree)
+  abbrev pub x_left : Following x insertion (without (head y).id m.tree)
   x_left = record {
     here = (left_stand (head y).id (stand s.at.here (s.at.step_in ∷ s.at.path))).here;
     step_in = left_step (head y).id s.at.step_in;
@@ -189,20 +189,20 @@ module _ {N T A : Type 0} (isolated is_table : N → Bool) (x : ℕ) (front : Pl
     place = s.at.place ∙ λ i. before_it (sym (same_head (head y).id (dropping (head y).id) s.at.step_in.parent) i).id s.at.step_in.region x;
   }
 
-  pub may : MayPut front y (without (head y).id m.tree)
-  may = shift.may_shift yi front t y d y_found y_root point outside
+  pub may : MayPut insertion y (without (head y).id m.tree)
+  may = shift.may_shift yi insertion t y d y_found y_root point outside
 
   abbrev after : OpOf N T A
-  after = put front y (without (head y).id m.tree)
+  after = put insertion y (without (head y).id m.tree)
 
-  pub after_is : shifted (head y).id front m.tree ≡ put front y (without (head y).id m.tree)
-  after_is = shift.is_put yi front t y d y_found y_root point outside
+  pub after_is : shifted (head y).id insertion m.tree ≡ put insertion y (without (head y).id m.tree)
+  after_is = shift.is_put yi insertion t y d y_found y_root point outside
 
-  after_distinct : HasDistinctIds (put front y (without (head y).id m.tree))
-  after_distinct = shift.shift_distinct yi front t y d y_found y_root point outside
+  after_distinct : HasDistinctIds (put insertion y (without (head y).id m.tree))
+  after_distinct = shift.shift_distinct yi insertion t y d y_found y_root point outside
 
-  after_rest : without (head y).id (put front y (without (head y).id m.tree)) ≡ without (head y).id m.tree
-  after_rest = shift.shift_rest yi front t y d y_found y_root point outside
+  after_rest : without (head y).id (put insertion y (without (head y).id m.tree)) ≡ without (head y).id m.tree
+  after_rest = shift.shift_rest yi insertion t y d y_found y_root point outside
 
   -- the values that dominated x dominate it without y
   x_dominated_by : (v : Value) → dominated_by isolated (s.at.step_in ∷ s.at.path) v ≡ true → visible isolated (without (head y).id m.tree) x v ≡ true
@@ -223,17 +223,17 @@ module _ {N T A : Type 0} (isolated is_table : N → Bool) (x : ℕ) (front : Pl
       ]
 
   -- and they dominate y, which was moved before x
-  y_dominated_by : (v : Value) → dominated_by isolated (s.at.step_in ∷ s.at.path) v ≡ true → visible isolated (put front y (without (head y).id m.tree)) (head y).id v ≡ true
-  y_dominated_by v e = placed.new_dominated_by x front u u_distinct x_left y may isolated v (x_dominated_by v e)
+  y_dominated_by : (v : Value) → dominated_by isolated (s.at.step_in ∷ s.at.path) v ≡ true → visible isolated (put insertion y (without (head y).id m.tree)) (head y).id v ≡ true
+  y_dominated_by v e = placed.new_dominated_by x insertion u u_distinct x_left y may isolated v (x_dominated_by v e)
 
-  x_dominated_by_y : (k : ℕ) → k < length (head y).results → visible isolated (put front y (without (head y).id m.tree)) x (Result (head y).id k) ≡ true
-  x_dominated_by_y k l = placed.dominated_by_new x front u u_distinct x_left y may isolated k (lt-ltb k (length (head y).results) l)
+  x_dominated_by_y : (k : ℕ) → k < length (head y).results → visible isolated (put insertion y (without (head y).id m.tree)) x (Result (head y).id k) ≡ true
+  x_dominated_by_y k l = placed.dominated_by_new x insertion u u_distinct x_left y may isolated k (lt-ltb k (length (head y).results) l)
 
   -- an operation that a result of y dominates isn't inside y
   above : (k : ℕ) (o : OpOf N T A) (c : StepOf N T A) (q : List (StepOf N T A)) → In (stand o (c ∷ q)) (stands [] m.tree) → dominated_by isolated (c ∷ q) (Result (head y).id k) ≡ true
       → (dominated_by isolated q (Result (head y).id k) ≡ true → gone_in (head y).id c.parent q ≡ false) → gone_in (head y).id c.parent q ≡ false
-  above k o c q h e later = elim (either (list_any (λ f. shows (Result yi k) (results_of f)) c.front) _ e) [
-    | inl l ↦ (let w = one_any (λ f. shows (Result yi k) (results_of f)) c.front l in
+  above k o c q h e later = elim (either (list_any (λ f. shows (Result yi k) (results_of f)) c.preceding) _ e) [
+    | inl l ↦ (let w = one_any (λ f. shows (Result yi k) (results_of f)) c.preceding l in
         let g = stands_before t o w.0 c q h w.1 in
         let id = eqb-true yi (head w.0).id (both (eqb yi (head w.0).id) _ w.2).0 in
         let same = same_stand t d (stand w.0 (g.step_in ∷ q)) (stand y yp) g.there there (sym id) in
@@ -253,7 +253,7 @@ module _ {N T A : Type 0} (isolated is_table : N → Bool) (x : ℕ) (front : Pl
 
   -- an operation that isn't inside y keeps its parent after the move
   around_after : (o : OpOf N T A) (c : StepOf N T A) (q : List (StepOf N T A)) → In (stand o (c ∷ q)) (stands [] m.tree) → gone_in (head y).id o (c ∷ q) ≡ false → isolated (head c.parent).name ≡ false
-      → (v : Value) → visible isolated (put front y (without (head y).id m.tree)) (head c.parent).id v ≡ true → visible isolated (put front y (without (head y).id m.tree)) (head o).id v ≡ true
+      → (v : Value) → visible isolated (put insertion y (without (head y).id m.tree)) (head c.parent).id v ≡ true → visible isolated (put insertion y (without (head y).id m.tree)) (head o).id v ≡ true
   around_after o c q h g i v e =
       let l : In (left_stand yi (stand o (c ∷ q))) (stands [] (without yi after)) = subst (λ z. In (left_stand yi (stand o (c ∷ q))) (stands [] z)) (sym after_rest) (left_member yi t (stand o (c ∷ q)) h g) in
       let w = member_left yi after (left_stand yi (stand o (c ∷ q))) l in
@@ -268,15 +268,15 @@ module _ {N T A : Type 0} (isolated is_table : N → Bool) (x : ℕ) (front : Pl
           let same : head c.parent ≡ head a.parent = sym (same_head yi (dropping yi) c.parent) ∙ ap (λ (g : StepOf N T A). head g.parent) one ∙ same_head yi (dropping yi) a.parent in
           ap (λ j. visible isolated after j v) id
           ∙ visible_by_cases isolated after after_distinct z k a p r v
-          ∙ or_right (list_any (λ o. shows v (results_of o)) a.front) _ (or_right (shows v (arguments (head a.parent).id a.region (length a.args))) _
+          ∙ or_right (list_any (λ o. shows v (results_of o)) a.preceding) _ (or_right (shows v (arguments (head a.parent).id a.region (length a.args))) _
           (both_hold _ _ (ap (λ h. not (isolated h.name)) (sym same) ∙ ap not i) (ap (λ h. visible isolated after h.id v) (sym same) ∙ e)))
 
   module _ (opened : isolated (head s.at.here).name ≡ false) where
     -- the results of y still dominate the same operations
-    still_seen : (k : ℕ) → k < length (head y).results → (o : OpOf N T A) (p : List (StepOf N T A)) → In (stand o p) (stands [] m.tree) → dominated_by isolated p (Result (head y).id k) ≡ true → visible isolated (put front y (without (head y).id m.tree)) (head o).id (Result (head y).id k) ≡ true
+    still_seen : (k : ℕ) → k < length (head y).results → (o : OpOf N T A) (p : List (StepOf N T A)) → In (stand o p) (stands [] m.tree) → dominated_by isolated p (Result (head y).id k) ≡ true → visible isolated (put insertion y (without (head y).id m.tree)) (head o).id (Result (head y).id k) ≡ true
     still_seen k n o [] h e = absurd (true≢false (sym e))
-    still_seen k n o (c ∷ q) h e = elim (either (list_any (λ f. shows (Result yi k) (results_of f)) c.front) _ e) [
-      | inl l ↦ (let w = one_any (λ f. shows (Result yi k) (results_of f)) c.front l in
+    still_seen k n o (c ∷ q) h e = elim (either (list_any (λ f. shows (Result yi k) (results_of f)) c.preceding) _ e) [
+      | inl l ↦ (let w = one_any (λ f. shows (Result yi k) (results_of f)) c.preceding l in
           let g = stands_before t o w.0 c q h w.1 in
           let id = eqb-true yi (head w.0).id (both (eqb yi (head w.0).id) _ w.2).0 in
           let same = same_stand t d (stand w.0 (g.step_in ∷ q)) (stand y yp) g.there there (sym id) in
@@ -293,10 +293,10 @@ module _ {N T A : Type 0} (isolated is_table : N → Bool) (x : ℕ) (front : Pl
         unnot false h = refl
         unnot true h = absurd (true≢false (sym h))
 
-    users_see : (k : ℕ) → k < length (head y).results → list_all (λ u. visible isolated (put front y (without (head y).id m.tree)) u.0 (Result (head y).id k)) (uses_of (Result (head y).id k) m.tree) ≡ true
+    users_see : (k : ℕ) → k < length (head y).results → list_all (λ u. visible isolated (put insertion y (without (head y).id m.tree)) u.0 (Result (head y).id k)) (uses_of (Result (head y).id k) m.tree) ≡ true
     users_see k n = each_all (λ u. visible isolated after u.0 (Result yi k)) (uses_of (Result yi k) t) (λ u h.
         let z = user (Result yi k) t u h in
-        let own = all_each (dominated_by isolated z.0.path) (head z.0.here).operands (all_each (λ (z : StandOf N T A). list_all (dominated_by isolated z.path) (head z.here).operands) (stands [] t) (sym (stands_operands isolated t) ∙ s.formed.formed.visible) z.0 z.1) (Result yi k) z.3 in
+        let own = all_each (dominated_by isolated z.0.path) (head z.0.here).operands (all_each (λ (z : StandOf N T A). list_all (dominated_by isolated z.path) (head z.here).operands) (stands [] t) (sym (stands_operands isolated t) ∙ s.wellformed.wellformed.visible) z.0 z.1) (Result yi k) z.3 in
         ap (λ j. visible isolated after j (Result yi k)) z.2 ∙ still_seen k n z.0.here z.0.path z.1 own)
 
     -- no argument of the block is used
@@ -309,9 +309,9 @@ module _ {N T A : Type 0} (isolated is_table : N → Bool) (x : ℕ) (front : Pl
       none_before (f ∷ fs) e v = absurd cc
 
       -- the values that dominated y, except the block's arguments, dominate it at the new place
-      dominated_by_there : (v : Value) → shows v (arguments (head b.parent).id b.region (length b.args)) ≡ false → dominated_by isolated (b ∷ s.at.step_in ∷ s.at.path) v ≡ true → visible isolated (put front y (without (head y).id m.tree)) (head y).id v ≡ true
-      dominated_by_there v n e = elim (either (list_any (λ f. shows v (results_of f)) b.front) _ e) [
-        | inl k ↦ absurd (true≢false (sym k ∙ none_before b.front first v))
+      dominated_by_there : (v : Value) → shows v (arguments (head b.parent).id b.region (length b.args)) ≡ false → dominated_by isolated (b ∷ s.at.step_in ∷ s.at.path) v ≡ true → visible isolated (put insertion y (without (head y).id m.tree)) (head y).id v ≡ true
+      dominated_by_there v n e = elim (either (list_any (λ f. shows v (results_of f)) b.preceding) _ e) [
+        | inl k ↦ absurd (true≢false (sym k ∙ none_before b.preceding first v))
         | inr k ↦ elim (either (shows v (arguments (head b.parent).id b.region (length b.args))) _ k) [
           | inl l ↦ absurd (true≢false (sym l ∙ n))
           | inr l ↦ y_dominated_by v (both (not (isolated (head b.parent).name)) (dominated_by isolated (s.at.step_in ∷ s.at.path) v) l).1
@@ -332,12 +332,12 @@ module _ {N T A : Type 0} (isolated is_table : N → Bool) (x : ℕ) (front : Pl
       ]
 
       abbrev yl : List (StepOf N T A)
-      yl = (put_form.landed front y (without (head y).id m.tree) may).step_in ∷ (put_form.landed front y (without (head y).id m.tree) may).path
+      yl = (put_form.landed insertion y (without (head y).id m.tree) may).step_in ∷ (put_form.landed insertion y (without (head y).id m.tree) may).path
 
-      abbrev y_there : In (stand y yl) (stands [] (put front y (without (head y).id m.tree)))
-      y_there = (put_form.landed front y (without (head y).id m.tree) may).there
+      abbrev y_there : In (stand y yl) (stands [] (put insertion y (without (head y).id m.tree)))
+      y_there = (put_form.landed insertion y (without (head y).id m.tree) may).there
 
-      inside_dominated_by : every (λ q. list_all (visible isolated (put front y (without (head y).id m.tree)) (head q).id) (head q).operands) y ≡ true
+      inside_dominated_by : every (λ q. list_all (visible isolated (put insertion y (without (head y).id m.tree)) (head q).id) (head q).operands) y ≡ true
       inside_dominated_by =
           sym (stands_every (λ q. list_all (visible isolated after (head q).id) (head q).operands) yl y)
           ∙ each_all (λ (z : StandOf N T A). list_all (visible isolated after (head z.here).id) (head z.here).operands) (stands yl y) (λ z h.
@@ -346,19 +346,19 @@ module _ {N T A : Type 0} (isolated is_table : N → Bool) (x : ℕ) (front : Pl
           each_all (visible isolated after (head z.here).id) (head z.here).operands (λ v i.
           let j : In v (head w.0.here).operands = subst (λ (q : OpOf N T A). In v (head q).operands) (sym w.2) i in
           visible_there isolated after after_distinct z (within y yl z h [] after y_there) v
-          ∙ w.3 v (not_argument w.0 was v j) (all_each (dominated_by isolated w.0.path) (head w.0.here).operands (all_each (λ (z : StandOf N T A). list_all (dominated_by isolated z.path) (head z.here).operands) (stands [] t) (sym (stands_operands isolated t) ∙ s.formed.formed.visible) w.0 was) v j)))
+          ∙ w.3 v (not_argument w.0 was v j) (all_each (dominated_by isolated w.0.path) (head w.0.here).operands (all_each (λ (z : StandOf N T A). list_all (dominated_by isolated z.path) (head z.here).operands) (stands [] t) (sym (stands_operands isolated t) ∙ s.wellformed.wellformed.visible) w.0 was) v j)))
 
-      all_see : operands_visible isolated (shifted (head y).id front m.tree) ≡ true
-      all_see = shift_dominated_by isolated yi front t y d y_found y_root point outside s.formed.formed.visible
+      all_see : operands_visible isolated (shifted (head y).id insertion m.tree) ≡ true
+      all_see = shift_dominated_by isolated yi insertion t y d y_found y_root point outside s.wellformed.wellformed.visible
           (subst (λ z. every (λ q. list_all (visible isolated z (head q).id) (head q).operands) y ≡ true) (sym after_is) inside_dominated_by)
           (λ k n. subst (λ z. list_all (λ u. visible isolated z u.0 (Result yi k)) (uses_of (Result yi k) t) ≡ true) (sym after_is) (users_see k n))
 
       -- its depth
-      levels : fits_around (depth y) (around front.parent m.tree) ≡ true
+      levels : fits_around (depth y) (around insertion.parent m.tree) ≡ true
       levels =
-          ap (fits_around (depth y)) (placed.around_is x front t d s.at)
+          ap (fits_around (depth y)) (placed.around_is x insertion t d s.at)
           ∙ le-leb (length s.at.path + 1 + depth y) most_around (
-          let g = greatest_within (λ (z : StandOf N T A). length z.path) most_around (stands yp y) (λ z h. (from_formed isolated t s.formed.formed).shallow z (within y yp z h [] t there)) in
+          let g = greatest_within (λ (z : StandOf N T A). length z.path) most_around (stands yp y) (λ z h. (from_wellformed isolated t s.wellformed.wellformed).shallow z (within y yp z h [] t there)) in
           let e = stands_depth yp y in
           omega (arith, g, e))
 
@@ -368,7 +368,7 @@ module _ {N T A : Type 0} (isolated is_table : N → Bool) (x : ℕ) (front : Pl
             sym (stands_table is_table yi [] t) ∙ ap (option_map (λ (z : StandOf N T A). table_in is_table z.path)) (stand_of_member t d (stand y yp) there)
             ∙ ap (λ c. Some (cond c (Some (head b.parent).id) (table_in is_table (s.at.step_in ∷ s.at.path)))) (ap (λ (z : OpOf N T A). is_table (head z).name) around_it ∙ plain)
 
-        table_of_x : Some (table_in is_table (s.at.step_in ∷ s.at.path)) ≡ table_of is_table x (put front y (without (head y).id m.tree))
+        table_of_x : Some (table_in is_table (s.at.step_in ∷ s.at.path)) ≡ table_of is_table x (put insertion y (without (head y).id m.tree))
         table_of_x =
             sym (ap (λ z. table_of is_table z t) (sym s.at.id) ∙ sym (stands_table is_table (head s.at.here).id [] t) ∙ ap (option_map (λ (z : StandOf N T A). table_in is_table z.path)) (stand_of_member t d (stand s.at.here (s.at.step_in ∷ s.at.path)) s.at.there))
             ∙ sym (table_stays yi t d x x_in is_table)
@@ -378,32 +378,32 @@ module _ {N T A : Type 0} (isolated is_table : N → Bool) (x : ℕ) (front : Pl
             x_in : has_id x (without (head y).id m.tree) ≡ true
             x_in = ap (λ z. has_id z u) (sym x_left.id) ∙ stand_present [] u (stand x_left.here (x_left.step_in ∷ x_left.path)) x_left.there
 
-        table_is : table_of is_table x (put front y (without (head y).id m.tree)) ≡ table_of is_table (head y).id (put front y (without (head y).id m.tree))
-        table_is = placed.table_beside x front (without (head y).id m.tree) u_distinct x_left y may is_table
+        table_is : table_of is_table x (put insertion y (without (head y).id m.tree)) ≡ table_of is_table (head y).id (put insertion y (without (head y).id m.tree))
+        table_is = placed.table_next_to x insertion (without (head y).id m.tree) u_distinct x_left y may is_table
 
         -- the move isn't refused
-        pub move_free : shift_reason isolated is_table (head y).id front m.tree ≡ None
+        pub move_free : shift_reason isolated is_table (head y).id insertion m.tree ≡ None
         move_free =
-            passed _ _ _ (both_hold _ _ (stand_present [] t (stand y yp) there) (placed.parent_is x front t d s.at))
+            passed _ _ _ (both_hold _ _ (stand_present [] t (stand y yp) there) (placed.parent_is x insertion t d s.at))
             (passed _ _ _ (ap not y_root)
             (passed _ _ _ point
-            (passed _ _ _ (ap not (ap (leads_inside front) y_found ∙ outside))
+            (passed _ _ _ (ap not (ap (leads_inside insertion) y_found ∙ outside))
             (passed _ _ _ (same_tables _ _ (table_was ∙ table_of_x ∙ table_is ∙ ap (table_of is_table yi) (sym after_is)))
-            (passed _ _ _ (ap (λ o. fits_around (levels_in o) (around front.parent t)) y_found ∙ levels)
+            (passed _ _ _ (ap (λ o. fits_around (levels_in o) (around insertion.parent t)) y_found ∙ levels)
             (passed _ _ _ all_see refl))))))
 
         -- x still comes after the place
-        abbrev pub move_stood : Stood isolated x front (record m { tree = shifted (head y).id front m.tree })
-        move_stood = record {
-          formed = shift_keeps isolated is_table (head y).id front m s.formed move_free;
-          at = subst (Following x front) (sym after_is) (placed.after_still x front (without (head y).id m.tree) u_distinct x_left y may);
+        abbrev pub move_located : Located isolated x insertion (record m { tree = shifted (head y).id insertion m.tree })
+        move_located = record {
+          wellformed = shift_keeps isolated is_table (head y).id insertion m s.wellformed move_free;
+          at = subst (Following x insertion) (sym after_is) (placed.after_still x insertion (without (head y).id m.tree) u_distinct x_left y may);
         }
 
         -- the values that dominated x, and the results of the moved operation, dominate x
-        pub move_dominated_by : (v : Value) → visible isolated m.tree x v ≡ true → visible isolated (shifted (head y).id front m.tree) x v ≡ true
+        pub move_dominated_by : (v : Value) → visible isolated m.tree x v ≡ true → visible isolated (shifted (head y).id insertion m.tree) x v ≡ true
         move_dominated_by v e =
             ap (λ z. visible isolated z x v) after_is
-            ∙ placed.dominated_by_still x front u u_distinct x_left y may isolated v (x_dominated_by v (sym (ap (λ z. visible isolated t z v) (sym s.at.id) ∙ visible_there isolated t d (stand s.at.here (s.at.step_in ∷ s.at.path)) s.at.there v) ∙ e))
+            ∙ placed.dominated_by_still x insertion u u_distinct x_left y may isolated v (x_dominated_by v (sym (ap (λ z. visible isolated t z v) (sym s.at.id) ∙ visible_there isolated t d (stand s.at.here (s.at.step_in ∷ s.at.path)) s.at.there v) ∙ e))
 
-        pub move_dominated_by_new : (k : ℕ) → k < length (head y).results → visible isolated (shifted (head y).id front m.tree) x (Result (head y).id k) ≡ true
+        pub move_dominated_by_new : (k : ℕ) → k < length (head y).results → visible isolated (shifted (head y).id insertion m.tree) x (Result (head y).id k) ≡ true
         move_dominated_by_new k n = ap (λ z. visible isolated z x (Result (head y).id k)) after_is ∙ x_dominated_by_y k n

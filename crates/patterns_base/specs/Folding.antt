@@ -11,7 +11,7 @@ use Rattle.ir_tree.specs.declared.place.Place.{Place}
 use Rattle.ir_tree.specs.Tree.{head}
 use Rattle.ir_tree.specs.Uses.{same_value}
 use Rattle.ir_tree.specs.Meaning.{Operation}
-use Rattle.op_registry.specs.Registry.{beside}
+use Rattle.op_registry.specs.Registry.{next_to}
 use Rattle.patterns_laws.specs.integers.Arithmetic.{all_ones, difference_of, choice_of}
 use Rattle.patterns_laws.specs.integers.Folds.{Known, fold_of}
 use Rattle.ir_types.specs.SameTypes.{same_type}
@@ -169,7 +169,7 @@ module _ (t : Operation) (n : ℕ) (point : Place) (o : Operation) where
 
   -- `expand-min-max`: a minimum or maximum becomes a comparison and a select (`MaxMinIOpConverter` of `arith-expand`)
   abbrev pub expand_min_max : Option (List Edit)
-  expand_min_max = on_two (λ p. given (beside p.name predicate_of_min_max) (λ asks.
+  expand_min_max = on_two (λ p. given (next_to p.name predicate_of_min_max) (λ asks.
       Some (Make point (comparison asks p.first p.second)
       ∷ give_new point (n + 1) x (choice p.ty (Result n 0) p.first p.second))))
 
@@ -184,7 +184,7 @@ module _ (t : Operation) (n : ℕ) (point : Place) (o : Operation) where
 
   -- `expand-remainder`: a remainder becomes a - (a / b) * b
   abbrev pub expand_remainder : Option (List Edit)
-  expand_remainder = on_two (λ p. given (beside p.name division_of_remainder) (λ division. Some (
+  expand_remainder = on_two (λ p. given (next_to p.name division_of_remainder) (λ division. Some (
       Make point (binary division p.ty p.first p.second)
       ∷ Make point (binary (codes "arith.muli") p.ty (Result n 0) p.second)
       ∷ give_new point (n + 2) x (binary (codes "arith.subi") p.ty p.first (Result (n + 1) 0)))))

@@ -60,8 +60,8 @@ abbrev pub insertion_point : ℕ → Place → Place
 insertion_point x p = record { parent = p.parent; region = p.region; before = Some x }
 
 -- the place before an operation; the root has none
-abbrev pub front_of : ℕ → Operation → Option Place
-front_of x t = option_map (insertion_point x) (place_of x t)
+abbrev pub insertion_of : ℕ → Operation → Option Place
+insertion_of x t = option_map (insertion_point x) (place_of x t)
 
 -- the defining operation of a value (`Value::getDefiningOp`)
 abbrev pub defining_op : Operation → Value → Option Header

@@ -89,8 +89,8 @@ abbrev pub before_in : ℕ → ℕ → ℕ → Place
 before_in x r y = record { parent = x; region = r; before = Some y }
 
 -- the place before operation y, which has this place
-abbrev pub beside : Place → ℕ → Place
-beside point y = record { parent = point.parent; region = point.region; before = Some y }
+abbrev pub next_to : Place → ℕ → Place
+next_to point y = record { parent = point.parent; region = point.region; before = Some y }
 
 -- operations move into block r of operation y, each before the one moved last, the first of them before z
 abbrev pub gathering : ℕ → ℕ → ℕ → List ℕ → List Edit
@@ -101,8 +101,8 @@ gathering y r z (x ∷ xs) = Move x (before_in y r z) ∷ gathering y r x xs
 -- Then they move into the block, the last one first. At each step the operands of every operation dominate it, which a
 -- direct move from block to block wouldn't ensure
 abbrev pub brought : Place → ℕ → ℕ → List ℕ → ℕ → List Edit
-brought point y r ops last = moving (beside point y) ops
-    ++ Move last (beside point y) ∷ Move last (end_of y r) ∷ gathering y r last (reverse ops)
+brought point y r ops last = moving (next_to point y) ops
+    ++ Move last (next_to point y) ∷ Move last (end_of y r) ∷ gathering y r last (reverse ops)
 
 module _ (t : Operation) (n : ℕ) (point : Place) (o : Operation) where
   abbrev h : Header

@@ -10,7 +10,7 @@ use Rattle.ir_tree.specs.Meaning.{Operation}
 use Rattle.rewriter_machine.specs.events.Modules.{Module}
 use Rattle.rewriter_machine.specs.Contents.{Edit, all_edited}
 use Rattle.patterns_laws.specs.Keeps.{given}
-use Rattle.patterns_base.specs.Looks.{Header, when, is_verified, is_in_order, front_of}
+use Rattle.patterns_base.specs.Looks.{Header, when, is_verified, is_in_order, insertion_of}
 use Rattle.patterns_base.specs.Makes.{made_by}
 use Rattle.patterns_base.specs.declared.rule.Rule.{Rule}
 use Rattle.patterns_base.specs.RuleNames.{is_converting, is_erasing}
@@ -30,7 +30,7 @@ eligible r t h = if is_erasing r then is_in_order t h else is_verified t h
 -- the edits of rule r at operation x, which is eligible and isn't the root
 unfoldable pub edits_of : Rule → Module → ℕ → Option (List Edit)
 edits_of r m x = given (find x m.tree)
-    (λ o. given (front_of x m.tree) (λ point. when (eligible r m.tree (head o)) (rule r m.tree m.next point o)))
+    (λ o. given (insertion_of x m.tree) (λ point. when (eligible r m.tree (head o)) (rule r m.tree m.next point o)))
 
 -- the module after edits, if the number of operations and the ids stay within their limits
 abbrev pub carried_out : List Edit → Module → Rewrite

@@ -4,7 +4,7 @@ use Rattle.std.specs.List.{list_any}
 use Rattle.ir_tree.specs.declared.place.Place.{Place}
 use Rattle.ir_tree.specs.Tree.{head}
 use Rattle.ir_tree.specs.Meaning.{Operation}
-use Rattle.op_registry.specs.Registry.{beside}
+use Rattle.op_registry.specs.Registry.{next_to}
 use Rattle.rewriter_machine.specs.Contents.{Edit}
 use Rattle.patterns_base.specs.declared.rule.Rule.{Rule}
 use Rattle.patterns_base.specs.declared.rule.Rule.TheVariants.{EraseDead, FoldToConstant, SwapConstant, DropZero}
@@ -89,7 +89,7 @@ table =
 
 -- the rules for a name; none for a name that isn't listed
 unfoldable pub rules_for : List ℕ → List Rule
-rules_for name = unwrap_or (beside name table) []
+rules_for name = unwrap_or (next_to name table) []
 
 -- whether rule r is among the rules for a name
 abbrev pub has_rule : Rule → List ℕ → Bool

@@ -14,7 +14,7 @@ use Rattle.dialects_int.specs.declared.operations.Predicate.TheVariants as asks
 use Rattle.dialects_int.specs.declared.operations.Rule.TheVariants as rule
 use Rattle.dialects_int.specs.Arithmetic.{comparison_of, truth, choice_of}
 use Rattle.dialects_int.specs.Laws as law
-use Rattle.dialects_int.specs.Folds.{Known, rule_of, rules, is_property, predicates, property_of, asked}
+use Rattle.dialects_int.specs.Folds.{Known, rule_of, rules, is_property, predicates, property_of, requested}
 use Rattle.dialects_int.proofs.KnownOperands.{compare_folds, select_folds}
 use Rattle.dialects_int.proofs.CastLaws.{mirror, with_itself, below_zero, not_below_zero, same_choice, own_choice, other_choice}
 use Rattle.patterns_laws.specs.Made.{Entries, i1, predicate_entry, given_by}
@@ -31,14 +31,14 @@ unfolding rule_of rules
 by_select = refl
 
 -- the predicate with a number, if there is one
-asked_at : (n : ℕ) → asked (property_of (codes "predicate") (predicate_entry n)) ≡ slice_get predicates n
-asked_at n = refl
+requested_at : (n : ℕ) → requested (property_of (codes "predicate") (predicate_entry n)) ≡ slice_get predicates n
+requested_at n = refl
 
 -- the result of a comparison: none, if no predicate has its number
 pub compare_gives : (n : ℕ) (p : Predicate) (k : BitsKind) (a b : ℕ) → list_all (is_property (codes "arith.cmpi")) (predicate_entry n) ≡ true → slice_get predicates n ≡ Some p
     → given_by (codes "arith.cmpi") (predicate_entry n) i1 ((k, a) ∷ (k, b) ∷ []) ≡ Some (truth_kind, truth (comparison_of (width_of k) p a b))
 compare_gives n p k a b fine e =
-    compare_folds (codes "arith.cmpi") p (predicate_entry n) i1 (record { by = by_compare; fine = fine; kind = refl }) k a b (asked_at n ∙ e)
+    compare_folds (codes "arith.cmpi") p (predicate_entry n) i1 (record { by = by_compare; fine = fine; kind = refl }) k a b (requested_at n ∙ e)
 
 -- the predicate of a number, and that of its mirrored predicate
 pub record Asks (n : ℕ) : Type 0 where
@@ -70,22 +70,22 @@ asks_of (suc (suc (suc (suc (suc (suc (suc (suc (suc zero))))))))) h = record { 
 asks_of (suc (suc (suc (suc (suc (suc (suc (suc (suc (suc n)))))))))) h = absurd (past n (sym (number_fine _) ∙ h))
 
 -- ---- comparisons
-asked_of : (k : BitsKind) (n a b : ℕ) (v : Known) → given_by (codes "arith.cmpi") (predicate_entry n) i1 ((k, a) ∷ (k, b) ∷ []) ≡ Some v → Asks n
-asked_of k n a b v h = asks_of n (fine_of (codes "arith.cmpi") (predicate_entry n) (Some (k, a) ∷ Some (k, b) ∷ []) i1 v h)
+requested_of : (k : BitsKind) (n a b : ℕ) (v : Known) → given_by (codes "arith.cmpi") (predicate_entry n) i1 ((k, a) ∷ (k, b) ∷ []) ≡ Some v → Asks n
+requested_of k n a b v h = asks_of n (fine_of (codes "arith.cmpi") (predicate_entry n) (Some (k, a) ∷ Some (k, b) ∷ []) i1 v h)
 
 fine_at : (k : BitsKind) (n a b : ℕ) (v : Known) → given_by (codes "arith.cmpi") (predicate_entry n) i1 ((k, a) ∷ (k, b) ∷ []) ≡ Some v → list_all (is_property (codes "arith.cmpi")) (predicate_entry n) ≡ true
 fine_at k n a b v h = fine_of (codes "arith.cmpi") (predicate_entry n) (Some (k, a) ∷ Some (k, b) ∷ []) i1 v h
 
 pub itself_compared : ComparingItself
 itself_compared k n a v h =
-    let g = asked_of k n a a v h in
+    let g = requested_of k n a a v h in
     constant_gives truth_kind (is_true_when_equal n)
     ∙ ap (λ m. Some (truth_kind, m)) (g.itself ∙ ap truth (sym (with_itself g.what (width_of k) a)))
     ∙ sym (compare_gives n g.what k a a (fine_at k n a a v h) g.there) ∙ h
 
 pub comparison_mirrored : Mirroring
 comparison_mirrored k n a b v h =
-    let g = asked_of k n a b v h in
+    let g = requested_of k n a b v h in
     compare_gives (swapped_predicate n) (law.mirrored g.what) k b a g.fine g.turned
     ∙ ap (λ t. Some (truth_kind, truth t)) (sym (mirror g.what (width_of k) a b))
     ∙ sym (compare_gives n g.what k a b (fine_at k n a b v h) g.there) ∙ h

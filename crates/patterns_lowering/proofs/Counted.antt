@@ -13,7 +13,7 @@ use Rattle.patterns_base.specs.Contents.{Edit}
 use Rattle.patterns_base.specs.Edits.{Make, Erase, Move}
 use Rattle.patterns_soundness.specs.base.Made.{i64, placeholder}
 use Rattle.patterns_soundness.specs.base.Makes.{results_from, arguments_from, replacing, replaced, moving, erasing, made_by}
-use Rattle.patterns_soundness.specs.base.Lowering.{before_in, beside, bridges, brought, crossed, crossing, end_of, gathering, marked}
+use Rattle.patterns_soundness.specs.base.Lowering.{before_in, next_to, bridges, brought, crossed, crossing, end_of, gathering, marked}
 use Rattle.patterns_lowering.specs.declared.plan.MovedOps.{MovedOps}
 use Rattle.patterns_lowering.specs.declared.plan.Indexed.{Indexed}
 use Rattle.patterns_lowering.specs.declared.plan.Lowering.{Lowering}
@@ -61,45 +61,45 @@ pub arguments_length : {X : Type 0} (x k : ℕ) (is : List X) → length (argume
 arguments_length x k [] = refl
 arguments_length x k (i ∷ is) = omega (arith, arguments_length x (k + 1) is)
 
-module _ (n : ℕ) (front : Place) (operands results : List Bool) (o : Operation) (given : length results ≡ length (head o).results) where
-  given_makes : (y c : ℕ) → made_by (results_given n front operands results o y c) ≡ marked results
+module _ (n : ℕ) (insertion : Place) (operands results : List Bool) (o : Operation) (given : length results ≡ length (head o).results) where
+  given_makes : (y c : ℕ) → made_by (results_given n insertion operands results o y c) ≡ marked results
   given_makes y c =
       let vs = results_from y 0 (head o).results in
-      let a = bridges_make Index front results vs (given ∙ sym (results_length y 0 (head o).results)) in
+      let a = bridges_make Index insertion results vs (given ∙ sym (results_length y 0 (head o).results)) in
       let b = replacing_makes (results_from (head o).id 0 (head o).results) (crossed c results vs) in
-      let e = both_make (bridges Index front results vs) (replacing (results_from (head o).id 0 (head o).results) (crossed c results vs)) _ _ a b in
-      let f = both_make (bridges Index front results vs ++ replacing (results_from (head o).id 0 (head o).results) (crossed c results vs)) (Erase (head o).id ∷ []) _ 0 e refl in
+      let e = both_make (bridges Index insertion results vs) (replacing (results_from (head o).id 0 (head o).results) (crossed c results vs)) _ _ a b in
+      let f = both_make (bridges Index insertion results vs ++ replacing (results_from (head o).id 0 (head o).results) (crossed c results vs)) (Erase (head o).id ∷ []) _ 0 e refl in
       f ∙ omega arith
 
-  handed_makes : (y r c last : ℕ) (vs : List Value) → length results ≡ length vs → made_by (handed_on n front operands results o y r c last vs) ≡ marked results
+  handed_makes : (y r c last : ℕ) (vs : List Value) → length results ≡ length vs → made_by (handed_on n insertion operands results o y r c last vs) ≡ marked results
   handed_makes y r c last vs h =
       both_make (bridges i64 (before_in y r last) results vs) (crossing last 0 c results) _ _ (bridges_make i64 (before_in y r last) results vs h) (crossing_makes last 0 c results) ∙ omega arith
 
-  moved_makes : (y r : ℕ) (b : MovedOps) → made_by (moved_over n front operands results o y r b) ≡ 0
+  moved_makes : (y r : ℕ) (b : MovedOps) → made_by (moved_over n insertion operands results o y r b) ≡ 0
   moved_makes y r b =
       let e = gathering_makes y r b.last (reverse b.before.items) in
-      both_make (moving (beside front y) b.before.items) (Move b.last (beside front y) ∷ Move b.last (end_of y r) ∷ gathering y r b.last (reverse b.before.items)) 0 0 (moving_makes (beside front y) b.before.items) (omega (arith, e))
+      both_make (moving (next_to insertion y) b.before.items) (Move b.last (next_to insertion y) ∷ Move b.last (end_of y r) ∷ gathering y r b.last (reverse b.before.items)) 0 0 (moving_makes (next_to insertion y) b.before.items) (omega (arith, e))
 
-  operation_makes : length operands ≡ length (head o).operands → made_by (operation_lowered n front operands results o) ≡ marked operands + 1 + marked results
+  operation_makes : length operands ≡ length (head o).operands → made_by (operation_lowered n insertion operands results o) ≡ marked operands + 1 + marked results
   operation_makes h =
-      let b = bridges i64 front operands (head o).operands in
-      let m = operation_made n front operands results o in
-      let y = operation_id n front operands results o in
-      both_make (b ++ m) (results_given n front operands results o y (y + 1)) _ _
-      (both_make b m _ 1 (bridges_make i64 front operands (head o).operands h) refl) (given_makes y (y + 1))
+      let b = bridges i64 insertion operands (head o).operands in
+      let m = operation_made n insertion operands results o in
+      let y = operation_id n insertion operands results o in
+      both_make (b ++ m) (results_given n insertion operands results o y (y + 1)) _ _
+      (both_make b m _ 1 (bridges_make i64 insertion operands (head o).operands h) refl) (given_makes y (y + 1))
 
-  choice_makes : (b d : MovedOps) → length results ≡ length b.handed.items → length results ≡ length d.handed.items → made_by (choice_lowered n front operands results o b d) ≡ 1 + 3 * marked results
+  choice_makes : (b d : MovedOps) → length results ≡ length b.handed.items → length results ≡ length d.handed.items → made_by (choice_lowered n insertion operands results o b d) ≡ 1 + 3 * marked results
   choice_makes b d h k =
-      let y = operation_id n front operands results o in
+      let y = operation_id n insertion operands results o in
       let first = y + 1 in
       let second = first + marked results in
       let last = second + marked results in
-      let m = operation_made n front operands results o in
-      let p = moved_over n front operands results o y 0 b in
-      let q = handed_on n front operands results o y 0 first b.last b.handed.items in
-      let r = moved_over n front operands results o y 1 d in
-      let s = handed_on n front operands results o y 1 second d.last d.handed.items in
-      let g = results_given n front operands results o y last in
+      let m = operation_made n insertion operands results o in
+      let p = moved_over n insertion operands results o y 0 b in
+      let q = handed_on n insertion operands results o y 0 first b.last b.handed.items in
+      let r = moved_over n insertion operands results o y 1 d in
+      let s = handed_on n insertion operands results o y 1 second d.last d.handed.items in
+      let g = results_given n insertion operands results o y last in
       both_make (m ++ p ++ q ++ r ++ s) g _ _
       (both_make (m ++ p ++ q ++ r) s _ _
       (both_make (m ++ p ++ q) r _ _
@@ -110,9 +110,9 @@ module _ (n : ℕ) (front : Place) (operands results : List Bool) (o : Operation
       ∙ omega arith
 
   loop_makes : (args : List TypeTerm) (marks : List Bool) (b : MovedOps) → length operands ≡ length (head o).operands → length marks ≡ length args → length results ≡ length b.handed.items
-      → made_by (loop_lowered n front operands results o args marks b) ≡ marked operands + 1 + marked results + length args + marked marks + marked results
+      → made_by (loop_lowered n insertion operands results o args marks b) ≡ marked operands + 1 + marked results + length args + marked marks + marked results
   loop_makes args marks b h k l =
-      let id = operation_id n front operands results o in
+      let id = operation_id n insertion operands results o in
       let y = id + length args in
       let arguments_id = y + 1 in
       let yields_id = arguments_id + marked marks in
@@ -123,16 +123,16 @@ module _ (n : ℕ) (front : Place) (operands results : List Bool) (o : Operation
       let arguments = arguments_from y 0 args in
       let news = crossed arguments_id marks arguments in
       let handed = map (replaced olds news) b.handed.items in
-      let p = bridges i64 front operands (head o).operands in
-      let q = map (λ (ty : TypeTerm). Make front (placeholder ty)) args in
+      let p = bridges i64 insertion operands (head o).operands in
+      let q = map (λ (ty : TypeTerm). Make insertion (placeholder ty)) args in
       let r = replacing olds holders in
-      let m = operation_made n front operands results o in
+      let m = operation_made n insertion operands results o in
       let s = bridges Index (end_of y 0) marks arguments in
-      let t = moved_over n front operands results o y 0 b in
+      let t = moved_over n insertion operands results o y 0 b in
       let u = replacing holders news in
       let v = erasing ids in
-      let w = handed_on n front operands results o y 0 yields_id b.last handed in
-      let g = results_given n front operands results o y results_id in
+      let w = handed_on n insertion operands results o y 0 yields_id b.last handed in
+      let g = results_given n insertion operands results o y results_id in
       both_make (p ++ q ++ r ++ m ++ s ++ t ++ u ++ v ++ w) g _ _
       (both_make (p ++ q ++ r ++ m ++ s ++ t ++ u ++ v) w _ _
       (both_make (p ++ q ++ r ++ m ++ s ++ t ++ u) v _ _
@@ -140,7 +140,7 @@ module _ (n : ℕ) (front : Place) (operands results : List Bool) (o : Operation
       (both_make (p ++ q ++ r ++ m ++ s) t _ _
       (both_make (p ++ q ++ r ++ m) s _ _
       (both_make (p ++ q ++ r) m _ 1
-      (both_make (p ++ q) r _ _ (both_make p q _ _ (bridges_make i64 front operands (head o).operands h) (holders_make front args)) (replacing_makes olds holders)) refl)
+      (both_make (p ++ q) r _ _ (both_make p q _ _ (bridges_make i64 insertion operands (head o).operands h) (holders_make insertion args)) (replacing_makes olds holders)) refl)
       (bridges_make Index (end_of y 0) marks arguments (k ∙ sym (arguments_length y 0 args))))
       (moved_makes y 0 b))
       (replacing_makes holders news))
@@ -160,15 +160,15 @@ marks_many : (c : ContextModel) (i : Indexed) → IsIndexed c i → length i.ind
 marks_many c i p = ap length p.results ∙ length-map (map (type_term c) (head i.op).results) _ ∙ length-map (head i.op).results (type_term c)
 
 -- the number of operations that a plan makes, by its edits
-pub lowering_made : (c : ContextModel) (n : ℕ) (front : Place) (p : Lowering) → LoweringIsOf c p → made_by (lowering_meaning c n front p) ≡ lowering_makes p
-lowering_made c n front (plan.Operation i) h =
-    operation_makes n front i.index_operands.items i.index_results.items (meaning c i.op) (marks_many c i h ∙ sym (results_many c i.op)) (h.operands ∙ sym (operands_many c i.op))
-lowering_made c n front (plan.Loop l) h =
-    loop_makes n front l.of.index_operands.items l.of.index_results.items (meaning c l.of.op) (marks_many c l.of h.of ∙ sym (results_many c l.of.op)) (map (type_term c) l.arguments.items) l.index_arguments.items l.body
+pub lowering_made : (c : ContextModel) (n : ℕ) (insertion : Place) (p : Lowering) → LoweringIsOf c p → made_by (lowering_meaning c n insertion p) ≡ lowering_makes p
+lowering_made c n insertion (plan.Operation i) h =
+    operation_makes n insertion i.index_operands.items i.index_results.items (meaning c i.op) (marks_many c i h ∙ sym (results_many c i.op)) (h.operands ∙ sym (operands_many c i.op))
+lowering_made c n insertion (plan.Loop l) h =
+    loop_makes n insertion l.of.index_operands.items l.of.index_results.items (meaning c l.of.op) (marks_many c l.of h.of ∙ sym (results_many c l.of.op)) (map (type_term c) l.arguments.items) l.index_arguments.items l.body
     (h.of.operands ∙ sym (operands_many c l.of.op))
     (ap length h.arguments ∙ length-map (map (type_term c) l.arguments.items) _)
     (marks_many c l.of h.of ∙ sym h.handed)
     ∙ (let e = length-map l.arguments.items (type_term c) in omega (arith, e))
-lowering_made c n front (plan.Choice d) h =
-    choice_makes n front d.of.index_operands.items d.of.index_results.items (meaning c d.of.op) (marks_many c d.of h.of ∙ sym (results_many c d.of.op)) d.first d.second
+lowering_made c n insertion (plan.Choice d) h =
+    choice_makes n insertion d.of.index_operands.items d.of.index_results.items (meaning c d.of.op) (marks_many c d.of h.of ∙ sym (results_many c d.of.op)) d.first d.second
     (marks_many c d.of h.of ∙ sym h.first) (marks_many c d.of h.of ∙ sym h.second)

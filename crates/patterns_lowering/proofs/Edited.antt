@@ -29,21 +29,21 @@ indexed_stays c d i k g p = record {
   results = p.results ∙ sym (ap indices (results_stay c d i.op k g p.sound));
 }
 
-module _ (c d : ContextModel) (i : Indexed) (holds : Holds c) (sound : IsSound d) (g : IsExtendedBy c d) (p : IsIndexed c i) (wide index : ℕ) (fs : List (ℕ × ℕ)) (types : AreTypes d wide index) (are : AreLowered d (head i.op).properties fs) (n : ℕ) (front : Place) (es : List Edit) where
+module _ (c d : ContextModel) (i : Indexed) (holds : Holds c) (sound : IsSound d) (g : IsExtendedBy c d) (p : IsIndexed c i) (wide index : ℕ) (fs : List (ℕ × ℕ)) (types : AreTypes d wide index) (are : AreLowered d (head i.op).properties fs) (n : ℕ) (insertion : Place) (es : List Edit) where
   -- the edits were built in a context e, with ids from m on
   abbrev pub Built : ContextModel → ℕ → Type 0
-  Built e m = es ≡ operation_edits e wide index fs m front i.index_operands.items i.index_results.items i.op
+  Built e m = es ≡ operation_edits e wide index fs m insertion i.index_operands.items i.index_results.items i.op
 
   built : (e : ContextModel) (m : ℕ) → e ≡ d → m ≡ n → Built e m → Built d n
   built e m same next is = subst (Built d) next (subst (λ (f : ContextModel). Built f m) same is)
 
-  pub operation_stands : (e : ContextModel) (m : ℕ) → e ≡ d → m ≡ n → Built e m → edits_meaning d es ≡ operation_lowered n front i.index_operands.items i.index_results.items (meaning c i.op)
+  pub operation_stands : (e : ContextModel) (m : ℕ) → e ≡ d → m ≡ n → Built e m → edits_meaning d es ≡ operation_lowered n insertion i.index_operands.items i.index_results.items (meaning c i.op)
   operation_stands e m same next is =
       ap (edits_meaning d) (built e m same next is)
-      ∙ operation_meant d wide index fs n front i.index_operands.items i.index_results.items i.op sound types are
-      ∙ ap (operation_lowered n front i.index_operands.items i.index_results.items) (stable c d i.op holds g p.sound)
+      ∙ operation_meant d wide index fs n insertion i.index_operands.items i.index_results.items i.op sound types are
+      ∙ ap (operation_lowered n insertion i.index_operands.items i.index_results.items) (stable c d i.op holds g p.sound)
 
   pub operation_fitting : (e : ContextModel) (m : ℕ) → e ≡ d → m ≡ n → Built e m → AllFit d es
   operation_fitting e m same next is =
       subst (AllFit d) (sym (built e m same next is))
-      (operation_fits d wide index fs n front i.index_operands.items i.index_results.items i.op sound.holds types are (stays_sound c d i.op g p.sound))
+      (operation_fits d wide index fs n insertion i.index_operands.items i.index_results.items i.op sound.holds types are (stays_sound c d i.op g p.sound))

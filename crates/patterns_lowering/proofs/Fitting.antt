@@ -130,18 +130,18 @@ entries_sound c (op h rs) s =
     let results = and_parts (list_all (is_type c) h.results) _ name.1 in
     (and_parts (list_all (entry_passes (is_name c) (is_attr c)) h.properties) _ results.1).0
 
-pub give_fits : (c : ContextModel) (index : ℕ) (front : Place) (results : List Bool) (o : Op) (y k : ℕ) → Holds c → IsType c index → AllFit c (give_edits index front results o y k)
-give_fits c index front results o y k h t =
+pub give_fits : (c : ContextModel) (index : ℕ) (insertion : Place) (results : List Bool) (o : Op) (y k : ℕ) → Holds c → IsType c index → AllFit c (give_edits index insertion results o y k)
+give_fits c index insertion results o y k h t =
     let vs = results_from y 0 (head o).results in
-    let b = bridge_edits index front results vs in
+    let b = bridge_edits index insertion results vs in
     let r = replace_edits (results_from (head o).id 0 (head o).results) (crossed k results vs) in
-    fit_more c (b ++ r) (Erase (head o).id ∷ []) (fit_more c b r (bridges_fit c index front results vs h t) (replaces_fit c (results_from (head o).id 0 (head o).results) (crossed k results vs))) (tt, tt)
+    fit_more c (b ++ r) (Erase (head o).id ∷ []) (fit_more c b r (bridges_fit c index insertion results vs h t) (replaces_fit c (results_from (head o).id 0 (head o).results) (crossed k results vs))) (tt, tt)
 
-pub operation_fits : (c : ContextModel) (wide index : ℕ) (fs : List (ℕ × ℕ)) (n : ℕ) (front : Place) (operands results : List Bool) (o : Op)
-    → Holds c → AreTypes c wide index → AreLowered c (head o).properties fs → IsSoundIn c o → AllFit c (operation_edits c wide index fs n front operands results o)
-operation_fits c wide index fs n front operands results o h types ps s =
-    let b = bridge_edits wide front operands (head o).operands in
-    let m = Make front (op_lowered c wide fs (crossed n operands (head o).operands) o) ∷ [] in
-    fit_more c (b ++ m) (give_edits index front results o (n + marked operands) (n + marked operands + 1))
-    (fit_more c b m (bridges_fit c wide front operands (head o).operands h types.wide_known) ((op_sound c wide fs (crossed n operands (head o).operands) o types.wide_known ps s, regions_held c wide types.wide_known (regions o)), tt))
-    (give_fits c index front results o (n + marked operands) (n + marked operands + 1) h types.index_known)
+pub operation_fits : (c : ContextModel) (wide index : ℕ) (fs : List (ℕ × ℕ)) (n : ℕ) (insertion : Place) (operands results : List Bool) (o : Op)
+    → Holds c → AreTypes c wide index → AreLowered c (head o).properties fs → IsSoundIn c o → AllFit c (operation_edits c wide index fs n insertion operands results o)
+operation_fits c wide index fs n insertion operands results o h types ps s =
+    let b = bridge_edits wide insertion operands (head o).operands in
+    let m = Make insertion (op_lowered c wide fs (crossed n operands (head o).operands) o) ∷ [] in
+    fit_more c (b ++ m) (give_edits index insertion results o (n + marked operands) (n + marked operands + 1))
+    (fit_more c b m (bridges_fit c wide insertion operands (head o).operands h types.wide_known) ((op_sound c wide fs (crossed n operands (head o).operands) o types.wide_known ps s, regions_held c wide types.wide_known (regions o)), tt))
+    (give_fits c index insertion results o (n + marked operands) (n + marked operands + 1) h types.index_known)

@@ -8,7 +8,7 @@ use Rattle.ir_event.specs.types.declared.node.TypeNode.{TypeNode}
 use Rattle.ir_event.specs.types.declared.node.AttrNode.TheVariants.{Int}
 use Rattle.ir_event.specs.types.declared.refusal.Refusal.{Refusal}
 use Rattle.ir_event.specs.types.declared.refusal.Refusal.TheVariants.{Memory, TooMany}
-use Rattle.ir_event.specs.types.Things.{ContextModel, IsType, IsAttr, IsFront, IsExtendedBy}
+use Rattle.ir_event.specs.types.Things.{ContextModel, IsType, IsAttr, IsPreceding, IsExtendedBy}
 use Rattle.ir_event.specs.types.Sound.{Holds}
 use Rattle.ir_event.specs.types.Terms.{TypeTerm, Integer, Index, Function, Memref, OpaqueType, AttrTerm, IntegerOf, String, TypeOf, Flag, Array, Dictionary, Symbol, DenseArray, Overflow, OpaqueOf, type_term, type_node_term, attr_term, attr_node_term}
 use Rattle.ir_event.specs.types.Dictionaries.{kept}

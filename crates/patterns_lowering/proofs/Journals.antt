@@ -11,7 +11,7 @@ use Rattle.rewriter.specs.declared.mark.JournalMark.{JournalMark}
 use Rattle.rewriter.specs.Held.{TransactionModel, module_at, open_mark, open_marks}
 use Rattle.rewriter.specs.Moves.{Recorded, all_noted}
 use Rattle.rewriter.specs.Rolling.{Dropped}
-use Rattle.rewriter.proofs.OpenMarks.{front_same}
+use Rattle.rewriter.proofs.OpenMarks.{preceding_same}
 use Rattle.rewriter.proofs.Noted.{longer_noted, more_noted, none_noted, some_noted}
 
 -- ---- the number of marks stays
@@ -85,7 +85,7 @@ module _ (a b c d : TransactionModel) (begun : b ≡ marked_more a) (es : List E
   marks_are =
       let own : JournalMark = record { length = length a.journal; counted = false } in
       let last : JournalMark = record { length = x.newest; counted = x.mark.counted } in
-      x.marks ∙ front_same x.mark.rest a.marks last own (sym x.mark.marks ∙ h.marks ∙ ap (λ (k : TransactionModel). k.marks) begun)
+      x.marks ∙ preceding_same x.mark.rest a.marks last own (sym x.mark.marks ∙ h.marks ∙ ap (λ (k : TransactionModel). k.marks) begun)
 
   pub recorded_whole : Recorded es a d
   recorded_whole =

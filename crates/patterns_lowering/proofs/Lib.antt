@@ -15,7 +15,7 @@ pub mod LoopEdited
 pub mod Shown
 pub mod Ruled
 pub mod Named
-pub mod Asked
+pub mod Requested
 pub mod Journals
 pub mod Carrying
 pub mod Free

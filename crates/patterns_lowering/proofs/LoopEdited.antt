@@ -56,32 +56,32 @@ module _ (d : ContextModel) (n : ℕ) (es : List Edit) (build : ContextModel →
   pub rebuilt : (e : ContextModel) (m : ℕ) → e ≡ d → m ≡ n → es ≡ build e m → es ≡ build d n
   rebuilt e m same next is = subst (λ (k : ℕ). es ≡ build d k) next (subst (λ (f : ContextModel). es ≡ build f m) same is)
 
-module _ (c d : ContextModel) (holds : Holds c) (sound : IsSound d) (g : IsExtendedBy c d) (wide index : ℕ) (fs : List (ℕ × ℕ)) (types : AreTypes d wide index) (n : ℕ) (front : Place) (es : List Edit) where
+module _ (c d : ContextModel) (holds : Holds c) (sound : IsSound d) (g : IsExtendedBy c d) (wide index : ℕ) (fs : List (ℕ × ℕ)) (types : AreTypes d wide index) (n : ℕ) (insertion : Place) (es : List Edit) where
   module _ (l : IndexedLoop) (p : IsIndexedLoop c l) (are : AreLowered d (head l.of.op).properties fs) where
     abbrev build_loop : ContextModel → ℕ → List Edit
-    build_loop f m = loop_edits f wide index fs m front l
+    build_loop f m = loop_edits f wide index fs m insertion l
 
     marks_as_many : length l.index_arguments.items ≡ length l.arguments.items
     marks_as_many = ap length p.arguments ∙ length-map (map (type_term c) l.arguments.items) _ ∙ length-map l.arguments.items (type_term c)
 
-    pub loop_stands : (e : ContextModel) (m : ℕ) → e ≡ d → m ≡ n → es ≡ build_loop e m → edits_meaning d es ≡ lowering_meaning c n front (plan.Loop l)
+    pub loop_stands : (e : ContextModel) (m : ℕ) → e ≡ d → m ≡ n → es ≡ build_loop e m → edits_meaning d es ≡ lowering_meaning c n insertion (plan.Loop l)
     loop_stands e m same next is =
         ap (edits_meaning d) (rebuilt d n es build_loop e m same next is)
-        ∙ loop_meant d wide index fs n front sound types l are marks_as_many
-        ∙ (λ i. loop_lowered n front l.of.index_operands.items l.of.index_results.items (stable c d l.of.op holds g p.of.sound i) (types_still c d holds g l.arguments.items p.known i) l.index_arguments.items l.body)
+        ∙ loop_meant d wide index fs n insertion sound types l are marks_as_many
+        ∙ (λ i. loop_lowered n insertion l.of.index_operands.items l.of.index_results.items (stable c d l.of.op holds g p.of.sound i) (types_still c d holds g l.arguments.items p.known i) l.index_arguments.items l.body)
 
     pub loop_fitting : (e : ContextModel) (m : ℕ) → e ≡ d → m ≡ n → es ≡ build_loop e m → AllFit d es
-    loop_fitting e m same next is = subst (AllFit d) (sym (rebuilt d n es build_loop e m same next is)) (loop_fits d wide index fs n front l sound.holds types are (loop_stays c d holds g l p))
+    loop_fitting e m same next is = subst (AllFit d) (sym (rebuilt d n es build_loop e m same next is)) (loop_fits d wide index fs n insertion l sound.holds types are (loop_stays c d holds g l p))
 
   module _ (i : IndexedChoice) (p : IsIndexedChoice c i) (are : AreLowered d (head i.of.op).properties fs) where
     abbrev build_choice : ContextModel → ℕ → List Edit
-    build_choice f m = choice_edits f wide index fs m front i
+    build_choice f m = choice_edits f wide index fs m insertion i
 
-    pub choice_stands : (e : ContextModel) (m : ℕ) → e ≡ d → m ≡ n → es ≡ build_choice e m → edits_meaning d es ≡ lowering_meaning c n front (plan.Choice i)
+    pub choice_stands : (e : ContextModel) (m : ℕ) → e ≡ d → m ≡ n → es ≡ build_choice e m → edits_meaning d es ≡ lowering_meaning c n insertion (plan.Choice i)
     choice_stands e m same next is =
         ap (edits_meaning d) (rebuilt d n es build_choice e m same next is)
-        ∙ choice_meant d wide index fs n front sound types i are
-        ∙ ap (λ o. choice_lowered n front i.of.index_operands.items i.of.index_results.items o i.first i.second) (stable c d i.of.op holds g p.of.sound)
+        ∙ choice_meant d wide index fs n insertion sound types i are
+        ∙ ap (λ o. choice_lowered n insertion i.of.index_operands.items i.of.index_results.items o i.first i.second) (stable c d i.of.op holds g p.of.sound)
 
     pub choice_fitting : (e : ContextModel) (m : ℕ) → e ≡ d → m ≡ n → es ≡ build_choice e m → AllFit d es
-    choice_fitting e m same next is = subst (AllFit d) (sym (rebuilt d n es build_choice e m same next is)) (choice_fits d wide index fs n front i sound.holds types are (choice_stays c d holds g i p))
+    choice_fitting e m same next is = subst (AllFit d) (sym (rebuilt d n es build_choice e m same next is)) (choice_fits d wide index fs n insertion i sound.holds types are (choice_stays c d holds g i p))

@@ -18,14 +18,14 @@ use Rattle.patterns_base.specs.declared.edit.Edit.TheVariants as coded
 use Rattle.patterns_base.specs.Lists.{edits_meaning}
 use Rattle.patterns_soundness.specs.base.Made.{i64, placeholder}
 use Rattle.patterns_soundness.specs.base.Makes.{arguments_from, replacing, replaced, moving, erasing}
-use Rattle.patterns_soundness.specs.base.Lowering.{before_in, beside, bridges, brought, crossed, crossing, end_of, gathering, lowered_op, marked}
+use Rattle.patterns_soundness.specs.base.Lowering.{before_in, next_to, bridges, brought, crossed, crossing, end_of, gathering, lowered_op, marked}
 use Rattle.patterns_plans.specs.Opened.{put_for}
 use Rattle.patterns_lowering.specs.declared.plan.MovedOps.{MovedOps}
 use Rattle.patterns_lowering.specs.declared.plan.IndexedLoop.{IndexedLoop}
 use Rattle.patterns_lowering.specs.declared.plan.IndexedChoice.{IndexedChoice}
 use Rattle.patterns_lowering.specs.declared.plan.Lowering.TheVariants as plan
 use Rattle.patterns_lowering.specs.Lowered.{AreLowered, AreTypes}
-use Rattle.patterns_lowering.specs.Numbers.{bridge_edits, replace_edits, op_lowered, give_edits, numbers_from, first_results, holder_edits, move_edits, erase_edits, gather_edits, over_edits, crossing_edits, handed_edits, loop_ids, front_edits, inside_edits, after_edits, loop_edits, side_edits, choice_edits}
+use Rattle.patterns_lowering.specs.Numbers.{bridge_edits, replace_edits, op_lowered, give_edits, numbers_from, first_results, holder_edits, move_edits, erase_edits, gather_edits, over_edits, crossing_edits, handed_edits, loop_ids, insertion_edits, inside_edits, after_edits, loop_edits, side_edits, choice_edits}
 use Rattle.patterns_lowering.specs.Meanings.{results_given, loop_lowered, choice_lowered, lowering_meaning}
 use Rattle.patterns_lowering.proofs.Meant.{bridges_meant, replaces_meant, op_meant, give_meant}
 use Rattle.patterns_lowering.proofs.Counted.{arguments_length}
@@ -44,10 +44,10 @@ module _ (c : ContextModel) where
   gathers_meant y r z [] = refl
   gathers_meant y r z (x ∷ xs) = ap (λ l. edit.Move x (before_in y r z) ∷ l) (gathers_meant y r x xs)
 
-  over_meant : (front : Place) (y r : ℕ) (b : MovedOps) → edits_meaning c (over_edits front y r b) ≡ brought front y r b.before.items b.last
-  over_meant front y r b =
-      edits_more c (move_edits (beside front y) b.before.items) (coded.Move b.last (beside front y) ∷ coded.Move b.last (end_of y r) ∷ gather_edits y r b.last (reverse b.before.items))
-      ∙ (λ i. (moves_meant c) (beside front y) b.before.items i ++ edit.Move b.last (beside front y) ∷ edit.Move b.last (end_of y r) ∷ gathers_meant y r b.last (reverse b.before.items) i)
+  over_meant : (insertion : Place) (y r : ℕ) (b : MovedOps) → edits_meaning c (over_edits insertion y r b) ≡ brought insertion y r b.before.items b.last
+  over_meant insertion y r b =
+      edits_more c (move_edits (next_to insertion y) b.before.items) (coded.Move b.last (next_to insertion y) ∷ coded.Move b.last (end_of y r) ∷ gather_edits y r b.last (reverse b.before.items))
+      ∙ (λ i. (moves_meant c) (next_to insertion y) b.before.items i ++ edit.Move b.last (next_to insertion y) ∷ edit.Move b.last (end_of y r) ∷ gathers_meant y r b.last (reverse b.before.items) i)
 
   erases_meant : (xs : List ℕ) → edits_meaning c (erase_edits xs) ≡ erasing xs
   erases_meant [] = refl
@@ -80,7 +80,7 @@ arguments_alike x k (i ∷ is) [] h = absurd (omega (arith, h))
 arguments_alike x k (i ∷ is) (j ∷ js) h = ap (λ l. Arg x 0 k ∷ l) (arguments_alike x (k + 1) is js (omega (arith, h)))
 
 -- the edits of a loop, by the number of arguments
-module _ (n : ℕ) (front : Place) (operands results : List Bool) (o : Op) (c : ContextModel) (marks : List Bool) (b : MovedOps) where
+module _ (n : ℕ) (insertion : Place) (operands results : List Bool) (o : Op) (c : ContextModel) (marks : List Bool) (b : MovedOps) where
   abbrev pub by_count : ℕ → (ℕ → ℕ → List Value) → List Edit → List Value → List Edit
   by_count count from holders_made handed_values =
       let id = n + marked operands in
@@ -93,21 +93,21 @@ module _ (n : ℕ) (front : Place) (operands results : List Bool) (o : Op) (c : 
       let olds = from (head o).id 0 in
       let arguments = from y 0 in
       let news = crossed arguments_id marks arguments in
-      bridges i64 front operands (head o).operands
+      bridges i64 insertion operands (head o).operands
       ++ holders_made
       ++ replacing olds holders
-      ++ edit.Make front (lowered_op (meaning c o) (crossed n operands (head o).operands)) ∷ []
+      ++ edit.Make insertion (lowered_op (meaning c o) (crossed n operands (head o).operands)) ∷ []
       ++ bridges Index (end_of y 0) marks arguments
-      ++ brought front y 0 b.before.items b.last
+      ++ brought insertion y 0 b.before.items b.last
       ++ replacing holders news
       ++ erasing holder_ids
       ++ (bridges i64 (before_in y 0 b.last) results (map (replaced olds news) handed_values) ++ crossing b.last 0 yields_id results)
-      ++ results_given n front operands results (meaning c o) y results_id
+      ++ results_given n insertion operands results (meaning c o) y results_id
 
-count_stands : (n : ℕ) (front : Place) (operands results : List Bool) (o : Op) (c : ContextModel) (marks : List Bool) (b : MovedOps) (args : List TypeTerm)
-    → by_count n front operands results o c marks b (length args) (λ x k. arguments_from x k args) (map (λ ty. edit.Make front (placeholder ty)) args) b.handed.items
-    ≡ loop_lowered n front operands results (meaning c o) args marks b
-count_stands n front operands results (op h rs) c marks b args = refl
+count_stands : (n : ℕ) (insertion : Place) (operands results : List Bool) (o : Op) (c : ContextModel) (marks : List Bool) (b : MovedOps) (args : List TypeTerm)
+    → by_count n insertion operands results o c marks b (length args) (λ x k. arguments_from x k args) (map (λ ty. edit.Make insertion (placeholder ty)) args) b.handed.items
+    ≡ loop_lowered n insertion operands results (meaning c o) args marks b
+count_stands n insertion operands results (op h rs) c marks b args = refl
 
 -- the three parts of a loop's edits
 regrouped : {X : Type 0} (p q r m s t u v w g : List X) → (p ++ q ++ r ++ m) ++ (s ++ t ++ u ++ v) ++ (w ++ g) ≡ p ++ q ++ r ++ m ++ s ++ t ++ u ++ v ++ w ++ g
@@ -120,7 +120,7 @@ four_meant c p q r s =
 put_is : (x : ℕ) (args : List ℕ) (news : List Value) → length news ≡ length args → (vs : List Value) → map (put_for x news) vs ≡ map (replaced (arguments_from x 0 args) news) vs
 put_is x args news h vs = ap (λ olds. map (replaced olds news) vs) (arguments_alike x 0 news args h)
 
-module _ (c : ContextModel) (wide index : ℕ) (fs : List (ℕ × ℕ)) (n : ℕ) (front : Place) (sound : IsSound c) (types : AreTypes c wide index) where
+module _ (c : ContextModel) (wide index : ℕ) (fs : List (ℕ × ℕ)) (n : ℕ) (insertion : Place) (sound : IsSound c) (types : AreTypes c wide index) where
   module _ (l : IndexedLoop) (ps : AreLowered c (head l.of.op).properties fs) (many : length l.index_arguments.items ≡ length l.arguments.items) where
     abbrev operands : List Bool
     operands = l.of.index_operands.items
@@ -128,38 +128,38 @@ module _ (c : ContextModel) (wide index : ℕ) (fs : List (ℕ × ℕ)) (n : ℕ
     abbrev results : List Bool
     results = l.of.index_results.items
 
-    front_meant : (holders : List Value) → edits_meaning c (front_edits c wide fs n front holders l)
-        ≡ bridges i64 front operands (head l.of.op).operands
-        ++ map (λ ty. edit.Make front (placeholder ty)) (map (type_term c) l.arguments.items)
+    insertion_meant : (holders : List Value) → edits_meaning c (insertion_edits c wide fs n insertion holders l)
+        ≡ bridges i64 insertion operands (head l.of.op).operands
+        ++ map (λ ty. edit.Make insertion (placeholder ty)) (map (type_term c) l.arguments.items)
         ++ replacing (arguments_from (head l.of.op).id 0 l.arguments.items) holders
-        ++ edit.Make front (lowered_op (meaning c l.of.op) (crossed n operands (head l.of.op).operands)) ∷ []
-    front_meant holders =
-        four_meant c (bridge_edits wide front operands (head l.of.op).operands) (holder_edits front l.arguments.items) (replace_edits (arguments_from (head l.of.op).id 0 l.arguments.items) holders)
-        (coded.Make front (op_lowered c wide fs (crossed n operands (head l.of.op).operands) l.of.op) ∷ [])
-        ∙ (λ i. bridges_meant c sound wide i64 front operands (head l.of.op).operands types.wide_is i
-        ++ holders_meant c sound front l.arguments.items i
+        ++ edit.Make insertion (lowered_op (meaning c l.of.op) (crossed n operands (head l.of.op).operands)) ∷ []
+    insertion_meant holders =
+        four_meant c (bridge_edits wide insertion operands (head l.of.op).operands) (holder_edits insertion l.arguments.items) (replace_edits (arguments_from (head l.of.op).id 0 l.arguments.items) holders)
+        (coded.Make insertion (op_lowered c wide fs (crossed n operands (head l.of.op).operands) l.of.op) ∷ [])
+        ∙ (λ i. bridges_meant c sound wide i64 insertion operands (head l.of.op).operands types.wide_is i
+        ++ holders_meant c sound insertion l.arguments.items i
         ++ replaces_meant c (arguments_from (head l.of.op).id 0 l.arguments.items) holders i
-        ++ edit.Make front (op_meant c wide fs (crossed n operands (head l.of.op).operands) l.of.op types.wide_is ps i) ∷ [])
+        ++ edit.Make insertion (op_meant c wide fs (crossed n operands (head l.of.op).operands) l.of.op types.wide_is ps i) ∷ [])
 
-    inside_meant : (y : ℕ) (ids : List ℕ) (holders arguments news : List Value) → edits_meaning c (inside_edits index front y ids holders arguments news l)
-        ≡ bridges Index (end_of y 0) l.index_arguments.items arguments ++ brought front y 0 l.body.before.items l.body.last ++ replacing holders news ++ erasing ids
+    inside_meant : (y : ℕ) (ids : List ℕ) (holders arguments news : List Value) → edits_meaning c (inside_edits index insertion y ids holders arguments news l)
+        ≡ bridges Index (end_of y 0) l.index_arguments.items arguments ++ brought insertion y 0 l.body.before.items l.body.last ++ replacing holders news ++ erasing ids
     inside_meant y ids holders arguments news =
-        four_meant c (bridge_edits index (end_of y 0) l.index_arguments.items arguments) (over_edits front y 0 l.body) (replace_edits holders news) (erase_edits ids)
+        four_meant c (bridge_edits index (end_of y 0) l.index_arguments.items arguments) (over_edits insertion y 0 l.body) (replace_edits holders news) (erase_edits ids)
         ∙ (λ i. bridges_meant c sound index Index (end_of y 0) l.index_arguments.items arguments types.index_is i
-        ++ over_meant c front y 0 l.body i
+        ++ over_meant c insertion y 0 l.body i
         ++ replaces_meant c holders news i
         ++ erases_meant c ids i)
 
     after_meant : (y k r : ℕ) (vs : List Value)
-        → edits_meaning c (handed_edits wide (before_in y 0 l.body.last) k l.body.last results vs ++ give_edits index front results l.of.op y r)
-        ≡ (bridges i64 (before_in y 0 l.body.last) results vs ++ crossing l.body.last 0 k results) ++ results_given n front operands results (meaning c l.of.op) y r
+        → edits_meaning c (handed_edits wide (before_in y 0 l.body.last) k l.body.last results vs ++ give_edits index insertion results l.of.op y r)
+        ≡ (bridges i64 (before_in y 0 l.body.last) results vs ++ crossing l.body.last 0 k results) ++ results_given n insertion operands results (meaning c l.of.op) y r
     after_meant y k r vs =
-        edits_more c (handed_edits wide (before_in y 0 l.body.last) k l.body.last results vs) (give_edits index front results l.of.op y r)
+        edits_more c (handed_edits wide (before_in y 0 l.body.last) k l.body.last results vs) (give_edits index insertion results l.of.op y r)
         ∙ (λ i. handed_meant c sound wide (before_in y 0 l.body.last) k l.body.last results vs types.wide_is i
-        ++ give_meant c index front n operands results l.of.op y r sound types.index_is i)
+        ++ give_meant c index insertion n operands results l.of.op y r sound types.index_is i)
 
     abbrev counted : ℕ → (ℕ → ℕ → List Value) → List Edit → List Value → List Edit
-    counted = by_count n front operands results l.of.op c l.index_arguments.items l.body
+    counted = by_count n insertion operands results l.of.op c l.index_arguments.items l.body
 
     -- all its edits, by the ids of the placeholders
     abbrev ranged : List ℕ → List Edit
@@ -170,13 +170,13 @@ module _ (c : ContextModel) (wide index : ℕ) (fs : List (ℕ × ℕ)) (n : ℕ
         let arguments = arguments_from ids.op 0 args in
         let news = crossed ids.arguments l.index_arguments.items arguments in
         let x = (head l.of.op).id in
-        bridges i64 front operands (head l.of.op).operands ++ map (λ (ty : TypeTerm). edit.Make front (placeholder ty)) (map (type_term c) args) ++ replacing (arguments_from x 0 args) holders
-        ++ edit.Make front (lowered_op (meaning c l.of.op) (crossed n operands (head l.of.op).operands)) ∷ []
-        ++ bridges Index (end_of ids.op 0) l.index_arguments.items arguments ++ brought front ids.op 0 l.body.before.items l.body.last ++ replacing holders news ++ erasing holder_ids
+        bridges i64 insertion operands (head l.of.op).operands ++ map (λ (ty : TypeTerm). edit.Make insertion (placeholder ty)) (map (type_term c) args) ++ replacing (arguments_from x 0 args) holders
+        ++ edit.Make insertion (lowered_op (meaning c l.of.op) (crossed n operands (head l.of.op).operands)) ∷ []
+        ++ bridges Index (end_of ids.op 0) l.index_arguments.items arguments ++ brought insertion ids.op 0 l.body.before.items l.body.last ++ replacing holders news ++ erasing holder_ids
         ++ (bridges i64 (before_in ids.op 0 l.body.last) results (map (replaced (arguments_from x 0 args) news) l.body.handed.items) ++ crossing l.body.last 0 ids.handed results)
-        ++ results_given n front operands results (meaning c l.of.op) ids.op ids.results
+        ++ results_given n insertion operands results (meaning c l.of.op) ids.op ids.results
 
-    pub loop_meant : edits_meaning c (loop_edits c wide index fs n front l) ≡ lowering_meaning c n front (plan.Loop l)
+    pub loop_meant : edits_meaning c (loop_edits c wide index fs n insertion l) ≡ lowering_meaning c n insertion (plan.Loop l)
     loop_meant =
         let args = l.arguments.items in
         let ids = loop_ids n l in
@@ -186,24 +186,24 @@ module _ (c : ContextModel) (wide index : ℕ) (fs : List (ℕ × ℕ)) (n : ℕ
         let news = crossed ids.arguments l.index_arguments.items arguments in
         let x = (head l.of.op).id in
         let many_news = crossed_length ids.arguments l.index_arguments.items arguments (many ∙ sym (arguments_length ids.op 0 args)) ∙ arguments_length ids.op 0 args in
-        let a = front_edits c wide fs n front holders l in
-        let b = inside_edits index front ids.op holder_ids holders arguments news l in
-        let d = after_edits wide index front ids news l in
+        let a = insertion_edits c wide fs n insertion holders l in
+        let b = inside_edits index insertion ids.op holder_ids holders arguments news l in
+        let d = after_edits wide index insertion ids news l in
         edits_more c (a ++ b) d
         ∙ (λ i. edits_more c a b i ++ edits_meaning c d)
-        ∙ (λ i. front_meant holders i ++ inside_meant ids.op holder_ids holders arguments news i ++ after_meant ids.op ids.handed ids.results (put_is x args news many_news l.body.handed.items i) i)
-        ∙ regrouped (bridges i64 front operands (head l.of.op).operands) (map (λ (ty : TypeTerm). edit.Make front (placeholder ty)) (map (type_term c) args)) (replacing (arguments_from x 0 args) holders)
-        (edit.Make front (lowered_op (meaning c l.of.op) (crossed n operands (head l.of.op).operands)) ∷ [])
-        (bridges Index (end_of ids.op 0) l.index_arguments.items arguments) (brought front ids.op 0 l.body.before.items l.body.last) (replacing holders news) (erasing holder_ids)
+        ∙ (λ i. insertion_meant holders i ++ inside_meant ids.op holder_ids holders arguments news i ++ after_meant ids.op ids.handed ids.results (put_is x args news many_news l.body.handed.items i) i)
+        ∙ regrouped (bridges i64 insertion operands (head l.of.op).operands) (map (λ (ty : TypeTerm). edit.Make insertion (placeholder ty)) (map (type_term c) args)) (replacing (arguments_from x 0 args) holders)
+        (edit.Make insertion (lowered_op (meaning c l.of.op) (crossed n operands (head l.of.op).operands)) ∷ [])
+        (bridges Index (end_of ids.op 0) l.index_arguments.items arguments) (brought insertion ids.op 0 l.body.before.items l.body.last) (replacing holders news) (erasing holder_ids)
         (bridges i64 (before_in ids.op 0 l.body.last) results (map (replaced (arguments_from x 0 args) news) l.body.handed.items) ++ crossing l.body.last 0 ids.handed results)
-        (results_given n front operands results (meaning c l.of.op) ids.op ids.results)
+        (results_given n insertion operands results (meaning c l.of.op) ids.op ids.results)
         ∙ again
       where
-        again : ranged (numbers_from (loop_ids n l).holders l.arguments.items) ≡ lowering_meaning c n front (plan.Loop l)
+        again : ranged (numbers_from (loop_ids n l).holders l.arguments.items) ≡ lowering_meaning c n insertion (plan.Loop l)
         again =
             ap ranged (numbers_are (loop_ids n l).holders l.arguments.items)
-            ∙ (λ i. counted (sym (length-map l.arguments.items (type_term c)) i) (λ x k. sym (arguments_mapped (type_term c) x k l.arguments.items) i) (map (λ (ty : TypeTerm). edit.Make front (placeholder ty)) (map (type_term c) l.arguments.items)) l.body.handed.items)
-            ∙ count_stands n front operands results l.of.op c l.index_arguments.items l.body (map (type_term c) l.arguments.items)
+            ∙ (λ i. counted (sym (length-map l.arguments.items (type_term c)) i) (λ x k. sym (arguments_mapped (type_term c) x k l.arguments.items) i) (map (λ (ty : TypeTerm). edit.Make insertion (placeholder ty)) (map (type_term c) l.arguments.items)) l.body.handed.items)
+            ∙ count_stands n insertion operands results l.of.op c l.index_arguments.items l.body (map (type_term c) l.arguments.items)
 
   module _ (d : IndexedChoice) (ps : AreLowered c (head d.of.op).properties fs) where
     abbrev operands_of : List Bool
@@ -212,41 +212,41 @@ module _ (c : ContextModel) (wide index : ℕ) (fs : List (ℕ × ℕ)) (n : ℕ
     abbrev results_of : List Bool
     results_of = d.of.index_results.items
 
-    side_meant : (y r k : ℕ) (b : MovedOps) → edits_meaning c (side_edits wide front y r k results_of b)
-        ≡ brought front y r b.before.items b.last ++ (bridges i64 (before_in y r b.last) results_of b.handed.items ++ crossing b.last 0 k results_of)
+    side_meant : (y r k : ℕ) (b : MovedOps) → edits_meaning c (side_edits wide insertion y r k results_of b)
+        ≡ brought insertion y r b.before.items b.last ++ (bridges i64 (before_in y r b.last) results_of b.handed.items ++ crossing b.last 0 k results_of)
     side_meant y r k b =
-        edits_more c (over_edits front y r b) (handed_edits wide (before_in y r b.last) k b.last results_of b.handed.items)
-        ∙ (λ i. over_meant c front y r b i ++ handed_meant c sound wide (before_in y r b.last) k b.last results_of b.handed.items types.wide_is i)
+        edits_more c (over_edits insertion y r b) (handed_edits wide (before_in y r b.last) k b.last results_of b.handed.items)
+        ∙ (λ i. over_meant c insertion y r b i ++ handed_meant c sound wide (before_in y r b.last) k b.last results_of b.handed.items types.wide_is i)
 
     sides_apart : (m p q r s g : List Edit) → m ++ (p ++ q) ++ (r ++ s) ++ g ≡ m ++ p ++ q ++ r ++ s ++ g
     sides_apart m p q r s g = simp append_assoc
 
-    pub choice_meant : edits_meaning c (choice_edits c wide index fs n front d) ≡ lowering_meaning c n front (plan.Choice d)
+    pub choice_meant : edits_meaning c (choice_edits c wide index fs n insertion d) ≡ lowering_meaning c n insertion (plan.Choice d)
     choice_meant =
         let o = d.of.op in
         let y = n + marked operands_of in
-        let m = coded.Make front (op_lowered c wide fs (crossed n operands_of (head o).operands) o) ∷ [] in
-        let p = side_edits wide front y 0 (y + 1) results_of d.first in
-        let q = side_edits wide front y 1 (y + 1 + marked results_of) results_of d.second in
+        let m = coded.Make insertion (op_lowered c wide fs (crossed n operands_of (head o).operands) o) ∷ [] in
+        let p = side_edits wide insertion y 0 (y + 1) results_of d.first in
+        let q = side_edits wide insertion y 1 (y + 1 + marked results_of) results_of d.second in
         let last = y + 1 + marked results_of + marked results_of in
-        let g = give_edits index front results_of o y last in
+        let g = give_edits index insertion results_of o y last in
         four_meant c m p q g
-        ∙ (λ i. edit.Make front (op_meant c wide fs (crossed n operands_of (head o).operands) o types.wide_is ps i) ∷ []
+        ∙ (λ i. edit.Make insertion (op_meant c wide fs (crossed n operands_of (head o).operands) o types.wide_is ps i) ∷ []
         ++ side_meant y 0 (y + 1) d.first i
         ++ side_meant y 1 (y + 1 + marked results_of) d.second i
-        ++ give_meant c index front n operands_of results_of o y last sound types.index_is i)
-        ∙ sides_apart (edit.Make front (lowered_op (meaning c o) (crossed n operands_of (head o).operands)) ∷ [])
-        (brought front y 0 d.first.before.items d.first.last) (bridges i64 (before_in y 0 d.first.last) results_of d.first.handed.items ++ crossing d.first.last 0 (y + 1) results_of)
-        (brought front y 1 d.second.before.items d.second.last) (bridges i64 (before_in y 1 d.second.last) results_of d.second.handed.items ++ crossing d.second.last 0 (y + 1 + marked results_of) results_of)
-        (results_given n front operands_of results_of (meaning c o) y last)
+        ++ give_meant c index insertion n operands_of results_of o y last sound types.index_is i)
+        ∙ sides_apart (edit.Make insertion (lowered_op (meaning c o) (crossed n operands_of (head o).operands)) ∷ [])
+        (brought insertion y 0 d.first.before.items d.first.last) (bridges i64 (before_in y 0 d.first.last) results_of d.first.handed.items ++ crossing d.first.last 0 (y + 1) results_of)
+        (brought insertion y 1 d.second.before.items d.second.last) (bridges i64 (before_in y 1 d.second.last) results_of d.second.handed.items ++ crossing d.second.last 0 (y + 1 + marked results_of) results_of)
+        (results_given n insertion operands_of results_of (meaning c o) y last)
         ∙ again o
       where
         again : (o : Op)
-            → edit.Make front (lowered_op (meaning c o) (crossed n operands_of (head o).operands)) ∷ []
-            ++ brought front (n + marked operands_of) 0 d.first.before.items d.first.last
+            → edit.Make insertion (lowered_op (meaning c o) (crossed n operands_of (head o).operands)) ∷ []
+            ++ brought insertion (n + marked operands_of) 0 d.first.before.items d.first.last
             ++ (bridges i64 (before_in (n + marked operands_of) 0 d.first.last) results_of d.first.handed.items ++ crossing d.first.last 0 (n + marked operands_of + 1) results_of)
-            ++ brought front (n + marked operands_of) 1 d.second.before.items d.second.last
+            ++ brought insertion (n + marked operands_of) 1 d.second.before.items d.second.last
             ++ (bridges i64 (before_in (n + marked operands_of) 1 d.second.last) results_of d.second.handed.items ++ crossing d.second.last 0 (n + marked operands_of + 1 + marked results_of) results_of)
-            ++ results_given n front operands_of results_of (meaning c o) (n + marked operands_of) (n + marked operands_of + 1 + marked results_of + marked results_of)
-            ≡ choice_lowered n front operands_of results_of (meaning c o) d.first d.second
+            ++ results_given n insertion operands_of results_of (meaning c o) (n + marked operands_of) (n + marked operands_of + 1 + marked results_of + marked results_of)
+            ≡ choice_lowered n insertion operands_of results_of (meaning c o) d.first d.second
         again (op h rs) = refl

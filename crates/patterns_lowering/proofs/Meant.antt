@@ -66,29 +66,29 @@ results_mapped : {X Y : Type 0} (f : X → Y) (x k : ℕ) (is : List X) → resu
 results_mapped f x k [] = refl
 results_mapped f x k (i ∷ is) = ap (λ l. Result x k ∷ l) (results_mapped f x (k + 1) is)
 
-pub give_meant : (c : ContextModel) (index : ℕ) (front : Place) (n : ℕ) (operands results : List Bool) (o : Op) (y k : ℕ) → IsSound c → type_term c index ≡ Index
-    → edits_meaning c (give_edits index front results o y k) ≡ results_given n front operands results (meaning c o) y k
-give_meant c index front n operands results (op h rs) y k sound is =
+pub give_meant : (c : ContextModel) (index : ℕ) (insertion : Place) (n : ℕ) (operands results : List Bool) (o : Op) (y k : ℕ) → IsSound c → type_term c index ≡ Index
+    → edits_meaning c (give_edits index insertion results o y k) ≡ results_given n insertion operands results (meaning c o) y k
+give_meant c index insertion n operands results (op h rs) y k sound is =
     let vs = results_from y 0 h.results in
     let ws = results_from h.id 0 h.results in
-    edits_more c (bridge_edits index front results vs ++ replace_edits ws (crossed k results vs)) (coded.Erase h.id ∷ [])
-    ∙ ap (λ l. l ++ edit.Erase h.id ∷ []) (edits_more c (bridge_edits index front results vs) (replace_edits ws (crossed k results vs)))
-    ∙ (λ i. bridges_meant c sound index Index front results vs is i ++ replaces_meant c ws (crossed k results vs) i ++ edit.Erase h.id ∷ [])
-    ∙ (λ i. let us = sym (results_mapped (type_term c) y 0 h.results) i in bridges Index front results us ++ replacing (sym (results_mapped (type_term c) h.id 0 h.results) i) (crossed k results us) ++ edit.Erase h.id ∷ [])
+    edits_more c (bridge_edits index insertion results vs ++ replace_edits ws (crossed k results vs)) (coded.Erase h.id ∷ [])
+    ∙ ap (λ l. l ++ edit.Erase h.id ∷ []) (edits_more c (bridge_edits index insertion results vs) (replace_edits ws (crossed k results vs)))
+    ∙ (λ i. bridges_meant c sound index Index insertion results vs is i ++ replaces_meant c ws (crossed k results vs) i ++ edit.Erase h.id ∷ [])
+    ∙ (λ i. let us = sym (results_mapped (type_term c) y 0 h.results) i in bridges Index insertion results us ++ replacing (sym (results_mapped (type_term c) h.id 0 h.results) i) (crossed k results us) ++ edit.Erase h.id ∷ [])
 
-pub operation_meant : (c : ContextModel) (wide index : ℕ) (fs : List (ℕ × ℕ)) (n : ℕ) (front : Place) (operands results : List Bool) (o : Op)
+pub operation_meant : (c : ContextModel) (wide index : ℕ) (fs : List (ℕ × ℕ)) (n : ℕ) (insertion : Place) (operands results : List Bool) (o : Op)
     → IsSound c → AreTypes c wide index → AreLowered c (head o).properties fs
-    → edits_meaning c (operation_edits c wide index fs n front operands results o) ≡ operation_lowered n front operands results (meaning c o)
-operation_meant c wide index fs n front operands results o sound types ps =
-    let b = bridge_edits wide front operands (head o).operands in
-    let m = coded.Make front (op_lowered c wide fs (crossed n operands (head o).operands) o) ∷ [] in
-    let g = give_edits index front results o (n + marked operands) (n + marked operands + 1) in
+    → edits_meaning c (operation_edits c wide index fs n insertion operands results o) ≡ operation_lowered n insertion operands results (meaning c o)
+operation_meant c wide index fs n insertion operands results o sound types ps =
+    let b = bridge_edits wide insertion operands (head o).operands in
+    let m = coded.Make insertion (op_lowered c wide fs (crossed n operands (head o).operands) o) ∷ [] in
+    let g = give_edits index insertion results o (n + marked operands) (n + marked operands + 1) in
     edits_more c (b ++ m) g
-    ∙ (λ i. edits_more c b m i ++ give_meant c index front n operands results o (n + marked operands) (n + marked operands + 1) sound types.index_is i)
-    ∙ (λ i. bridges_meant c sound wide i64 front operands (head o).operands types.wide_is i ++ edit.Make front (op_meant c wide fs (crossed n operands (head o).operands) o types.wide_is ps i) ∷ []
-    ++ results_given n front operands results (meaning c o) (n + marked operands) (n + marked operands + 1))
+    ∙ (λ i. edits_more c b m i ++ give_meant c index insertion n operands results o (n + marked operands) (n + marked operands + 1) sound types.index_is i)
+    ∙ (λ i. bridges_meant c sound wide i64 insertion operands (head o).operands types.wide_is i ++ edit.Make insertion (op_meant c wide fs (crossed n operands (head o).operands) o types.wide_is ps i) ∷ []
+    ++ results_given n insertion operands results (meaning c o) (n + marked operands) (n + marked operands + 1))
     ∙ again o
   where
-    again : (o : Op) → bridges i64 front operands (head o).operands ++ edit.Make front (lowered_op (meaning c o) (crossed n operands (head o).operands)) ∷ [] ++ results_given n front operands results (meaning c o) (n + marked operands) (n + marked operands + 1)
-        ≡ operation_lowered n front operands results (meaning c o)
+    again : (o : Op) → bridges i64 insertion operands (head o).operands ++ edit.Make insertion (lowered_op (meaning c o) (crossed n operands (head o).operands)) ∷ [] ++ results_given n insertion operands results (meaning c o) (n + marked operands) (n + marked operands + 1)
+        ≡ operation_lowered n insertion operands results (meaning c o)
     again (op h rs) = refl

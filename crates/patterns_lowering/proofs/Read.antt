@@ -29,16 +29,16 @@ abbrev pub applies_lower_index : Operation → Operation → Bool
 applies_lower_index t o = among index_users (head o).name && (any (map (is_index_value t) (head o).operands) || any (indices (head o).results))
 
 -- its edits, from what is read
-pub lower_index_read : (t : Operation) (n : ℕ) (front : Place) (o : Operation)
-    → lower_index t n front o ≡ when (applies_lower_index t o) (Some (operation_lowered n front (map (is_index_value t) (head o).operands) (indices (head o).results) (bare o)))
-lower_index_read t n front (op h rs) =
+pub lower_index_read : (t : Operation) (n : ℕ) (insertion : Place) (o : Operation)
+    → lower_index t n insertion o ≡ when (applies_lower_index t o) (Some (operation_lowered n insertion (map (is_index_value t) (head o).operands) (indices (head o).results) (bare o)))
+lower_index_read t n insertion (op h rs) =
     ap
     (λ (m : Operation).
     when (applies_lower_index t (op h rs))
     (Some
-    (bridges i64 front (map (is_index_value t) h.operands) h.operands
-    ++ Make front m ∷ []
-    ++ results_given n front (map (is_index_value t) h.operands) (indices h.results) (op h rs) (n + marked (map (is_index_value t) h.operands)) (n + marked (map (is_index_value t) h.operands) + 1))))
+    (bridges i64 insertion (map (is_index_value t) h.operands) h.operands
+    ++ Make insertion m ∷ []
+    ++ results_given n insertion (map (is_index_value t) h.operands) (indices h.results) (op h rs) (n + marked (map (is_index_value t) h.operands)) (n + marked (map (is_index_value t) h.operands) + 1))))
     (sym (op_bare (op h rs) (crossed n (map (is_index_value t) h.operands) h.operands)))
 
 -- the meaning of an operation without the operations inside its blocks

@@ -57,7 +57,7 @@ when_both a b r e f = sym (λ i. when (e i && f i) r)
 
 -- ---- the rules, from what is read
 
-module _ (t : Operation) (n : ℕ) (front : Place) where
+module _ (t : Operation) (n : ℕ) (insertion : Place) where
   -- the edits of a loop, from what is read of its block, and the new operation
   abbrev loop_by : Operation → List TypeTerm → List ℕ → ℕ → List Value → Operation → List Edit
   loop_by o args before last handed made =
@@ -73,19 +73,19 @@ module _ (t : Operation) (n : ℕ) (front : Place) where
       let olds = arguments_from (head o).id 0 args in
       let arguments = arguments_from y 0 args in
       let news = crossed arguments_id (indices args) arguments in
-      bridges i64 front operands (head o).operands
-      ++ map (λ (ty : TypeTerm). Make front (placeholder ty)) args
+      bridges i64 insertion operands (head o).operands
+      ++ map (λ (ty : TypeTerm). Make insertion (placeholder ty)) args
       ++ replacing olds holders
-      ++ Make front made ∷ []
+      ++ Make insertion made ∷ []
       ++ bridges Index (end_of y 0) (indices args) arguments
-      ++ brought front y 0 before last
+      ++ brought insertion y 0 before last
       ++ replacing holders news
       ++ erasing holder_ids
       ++ (bridges i64 (before_in y 0 last) results (map (replaced olds news) handed) ++ crossing last 0 yields_id results)
-      ++ results_given n front operands results o y results_id
+      ++ results_given n insertion operands results o y results_id
 
   loop_is : (o : Operation) (args : List TypeTerm) (e : Ended) (b : MovedOps) → IsTaken e b
-      → loop_lowered n front (map (is_index_value t) (head o).operands) (indices (head o).results) (bare o) args (indices args) b ≡ lowered_loop t n front o args e
+      → loop_lowered n insertion (map (is_index_value t) (head o).operands) (indices (head o).results) (bare o) args (indices args) b ≡ lowered_loop t n insertion o args e
   loop_is (op h rs) args e b k =
       λ i. loop_by (op h rs) args (k.before i) (k.last i) (k.handed i) (op_bare (op h rs) (crossed n (map (is_index_value t) h.operands) h.operands) i)
 
@@ -97,19 +97,19 @@ module _ (t : Operation) (n : ℕ) (front : Place) where
       let first_id = y + 1 in
       let second_id = first_id + marked results in
       let results_id = second_id + marked results in
-      Make front made ∷ []
-      ++ brought front y 0 before last
+      Make insertion made ∷ []
+      ++ brought insertion y 0 before last
       ++ (bridges i64 (before_in y 0 last) results handed ++ crossing last 0 first_id results)
-      ++ brought front y 1 others end
+      ++ brought insertion y 1 others end
       ++ (bridges i64 (before_in y 1 end) results given ++ crossing end 0 second_id results)
-      ++ results_given n front operands results o y results_id
+      ++ results_given n insertion operands results o y results_id
 
   unreplaced : (vs : List Value) → vs ≡ map (replaced [] []) vs
   unreplaced [] = refl
   unreplaced (v ∷ vs) = ap (λ l. v ∷ l) (unreplaced vs)
 
   choice_is : (o : Operation) (e f : Ended) (b d : MovedOps) → IsTaken e b → IsTaken f d
-      → choice_lowered n front (map (is_index_value t) (head o).operands) (indices (head o).results) (bare o) b d ≡ lowered_if t n front o e f
+      → choice_lowered n insertion (map (is_index_value t) (head o).operands) (indices (head o).results) (bare o) b d ≡ lowered_if t n insertion o e f
   choice_is (op h rs) e f b d k l =
       λ i. choice_by (op h rs) (k.before i) (k.last i) ((k.handed ∙ unreplaced e.last.operands) i) (l.before i) (l.last i) ((l.handed ∙ unreplaced f.last.operands) i)
       (op_bare (op h rs) (crossed n (map (is_index_value t) h.operands) h.operands) i)
@@ -151,21 +151,21 @@ module _ (w : World) (x : ℕ) (n : Node) (shown : Some n ≡ option_map node_of
   m = meaning w.ctx s.here
 
   -- a property of the operation that is in the module
-  at : (makes : Making) (p : Option Lowering) → ((k : ℕ) (front : Place) → option_map (lowering_meaning w.ctx k front) p ≡ makes t k front m) → IsLoweredBy makes w x p
-  at makes p h o f k front = h k front ∙ ap (makes t k front) (sym (meant_there w x s.here o s.found f))
+  at : (makes : Making) (p : Option Lowering) → ((k : ℕ) (insertion : Place) → option_map (lowering_meaning w.ctx k insertion) p ≡ makes t k insertion m) → IsLoweredBy makes w x p
+  at makes p h o f k insertion = h k insertion ∙ ap (makes t k insertion) (sym (meant_there w x s.here o s.found f))
 
   named_as : (head m).name ≡ name_term w.ctx n.head.name
   named_as = meant_name w.ctx s.here ∙ ap (λ (z : Node). name_term w.ctx z.head.name) (sym s.node)
 
   -- a name that the rule doesn't apply to
   pub not_lower_index : (b : Bool) → b ≡ among index_users (name_term w.ctx n.head.name) → b ≡ false → IsLoweredBy lower_index w x None
-  not_lower_index b e f = at lower_index None (λ k front. when_first _ _ _ (ap (among index_users) named_as ∙ sym e ∙ f))
+  not_lower_index b e f = at lower_index None (λ k insertion. when_first _ _ _ (ap (among index_users) named_as ∙ sym e ∙ f))
 
   pub not_lower_loop : (b : Bool) → b ≡ named (codes "scf.for") (name_term w.ctx n.head.name) → b ≡ false → IsLoweredBy lower_loop w x None
-  not_lower_loop b e f = at lower_loop None (λ k front. when_first _ _ _ (ap (named (codes "scf.for")) named_as ∙ sym e ∙ f))
+  not_lower_loop b e f = at lower_loop None (λ k insertion. when_first _ _ _ (ap (named (codes "scf.for")) named_as ∙ sym e ∙ f))
 
   pub not_lower_choice : (b : Bool) → b ≡ named (codes "scf.if") (name_term w.ctx n.head.name) → b ≡ false → IsLoweredBy lower_choice w x None
-  not_lower_choice b e f = at lower_choice None (λ k front. when_first _ _ _ (ap (named (codes "scf.if")) named_as ∙ sym e ∙ f))
+  not_lower_choice b e f = at lower_choice None (λ k insertion. when_first _ _ _ (ap (named (codes "scf.if")) named_as ∙ sym e ∙ f))
 
   module _ (i : Indexed) (was : IsReadOf w x i) where
     abbrev r : IsReadIn w s.here i
@@ -182,21 +182,21 @@ module _ (w : World) (x : ℕ) (n : Node) (shown : Some n ≡ option_map node_of
 
     -- no operand or result has type index
     pub unmarked_lower_index : (b : Bool) → b ≡ any i.index_operands.items || any i.index_results.items → b ≡ false → IsLoweredBy lower_index w x None
-    unmarked_lower_index b e f = at lower_index None (λ k front. when_second _ _ _ ((λ z. any (sym operands_are z) || any (sym results_are z)) ∙ sym e ∙ f))
+    unmarked_lower_index b e f = at lower_index None (λ k insertion. when_second _ _ _ ((λ z. any (sym operands_are z) || any (sym results_are z)) ∙ sym e ∙ f))
 
     pub unmarked_lower_loop : (b : Bool) → b ≡ any i.index_operands.items → b ≡ false → IsLoweredBy lower_loop w x None
-    unmarked_lower_loop b e f = at lower_loop None (λ k front. when_second _ _ _ (ap any (sym operands_are) ∙ sym e ∙ f))
+    unmarked_lower_loop b e f = at lower_loop None (λ k insertion. when_second _ _ _ (ap any (sym operands_are) ∙ sym e ∙ f))
 
     pub unmarked_lower_choice : (b : Bool) → b ≡ any i.index_results.items → b ≡ false → IsLoweredBy lower_choice w x None
-    unmarked_lower_choice b e f = at lower_choice None (λ k front. when_second _ _ _ (ap any (sym results_are) ∙ sym e ∙ f))
+    unmarked_lower_choice b e f = at lower_choice None (λ k insertion. when_second _ _ _ (ap any (sym results_are) ∙ sym e ∙ f))
 
     -- an `arith` operation
     pub is_lower_index : (b d : Bool) → b ≡ among index_users (name_term w.ctx n.head.name) → b ≡ true → d ≡ any i.index_operands.items || any i.index_results.items → d ≡ true → IsLoweredBy lower_index w x (Some (plan.Operation i))
     is_lower_index b d e f g h =
         at lower_index (Some (plan.Operation i))
-        (λ k front. (λ z. Some (operation_lowered k front (operands_are z) (results_are z) (op_is z)))
+        (λ k insertion. (λ z. Some (operation_lowered k insertion (operands_are z) (results_are z) (op_is z)))
         ∙ when_both _ _ _ (ap (among index_users) named_as ∙ sym e ∙ f) ((λ z. any (sym operands_are z) || any (sym results_are z)) ∙ sym g ∙ h)
-        ∙ sym (lower_index_read t k front m))
+        ∙ sym (lower_index_read t k insertion m))
 
     -- ---- a loop
     shows : Shows w.ctx n m
@@ -208,14 +208,14 @@ module _ (w : World) (x : ℕ) (n : Node) (shown : Some n ≡ option_map node_of
     pub no_block_lower_loop : None ≡ option_and_then (λ a. a) (slice_get n.arguments 0) → IsLoweredBy lower_loop w x None
     no_block_lower_loop e =
         at lower_loop None
-        (λ k front. when_none _ _ (ap (λ a. given a (λ args. given (body t m 0) (λ e. Some (lowered_loop t k front m args e)))) (ap (option_map (map (type_term w.ctx))) e ∙ block_types w.ctx n m 0 shows)))
+        (λ k insertion. when_none _ _ (ap (λ a. given a (λ args. given (body t m 0) (λ e. Some (lowered_loop t k insertion m args e)))) (ap (option_map (map (type_term w.ctx))) e ∙ block_types w.ctx n m 0 shows)))
 
-    no_body : (k : ℕ) (front : Place) (a : Option (List TypeTerm)) → None ≡ body t m 0 → None ≡ given a (λ args. given (body t m 0) (λ e. Some (lowered_loop t k front m args e)))
-    no_body k front None e = refl
-    no_body k front (Some args) e = ap (λ b. given b (λ e. Some (lowered_loop t k front m args e))) e
+    no_body : (k : ℕ) (insertion : Place) (a : Option (List TypeTerm)) → None ≡ body t m 0 → None ≡ given a (λ args. given (body t m 0) (λ e. Some (lowered_loop t k insertion m args e)))
+    no_body k insertion None e = refl
+    no_body k insertion (Some args) e = ap (λ b. given b (λ e. Some (lowered_loop t k insertion m args e))) e
 
     pub no_body_lower_loop : AreTaken (body_at x 0 t) None → IsLoweredBy lower_loop w x None
-    no_body_lower_loop e = at lower_loop None (λ k front. when_none _ _ (no_body k front (arguments_at 0 m) (none_of (body_at x 0 t) e ∙ body_here 0)))
+    no_body_lower_loop e = at lower_loop None (λ k insertion. when_none _ _ (no_body k insertion (arguments_at 0 m) (none_of (body_at x 0 t) e ∙ body_here 0)))
 
     op_results : length (head i.op).results ≡ length (head m).results
     op_results =
@@ -244,10 +244,10 @@ module _ (w : World) (x : ℕ) (n : Node) (shown : Some n ≡ option_map node_of
     pub is_lower_loop : (d : Bool) → d ≡ any l.of.index_operands.items → d ≡ true → IsLoweredBy lower_loop w x (Some (plan.Loop l))
     is_lower_loop d g h =
         at lower_loop (Some (plan.Loop l))
-        (λ k front. (λ z. Some (loop_lowered k front (operands_are l.of was z) (results_are l.of was z) (op_is l.of was z) (map (type_term w.ctx) (arguments z)) (marks z) l.body))
-        ∙ ap Some (loop_is t k front m (map (type_term w.ctx) types) last.ended l.body last.taken)
-        ∙ ap (λ q. given q (λ e. Some (lowered_loop t k front m (map (type_term w.ctx) types) e))) (sym last.is)
-        ∙ ap (λ a. given a (λ args. given (body t m 0) (λ e. Some (lowered_loop t k front m args e)))) args_are
+        (λ k insertion. (λ z. Some (loop_lowered k insertion (operands_are l.of was z) (results_are l.of was z) (op_is l.of was z) (map (type_term w.ctx) (arguments z)) (marks z) l.body))
+        ∙ ap Some (loop_is t k insertion m (map (type_term w.ctx) types) last.ended l.body last.taken)
+        ∙ ap (λ q. given q (λ e. Some (lowered_loop t k insertion m (map (type_term w.ctx) types) e))) (sym last.is)
+        ∙ ap (λ a. given a (λ args. given (body t m 0) (λ e. Some (lowered_loop t k insertion m args e)))) args_are
         ∙ when_both _ _ _ (ap (named (codes "scf.for")) named_as ∙ sym e ∙ f) (ap any (sym (operands_are l.of was)) ∙ sym g ∙ h))
 
     pub indexed_lower_loop : IsVerifiedAt w x → IsIndexedLoop w.ctx l
@@ -260,19 +260,19 @@ module _ (w : World) (x : ℕ) (n : Node) (shown : Some n ≡ option_map node_of
     }
 
   -- ---- a choice
-  no_first : (k : ℕ) (front : Place) → None ≡ body t m 0 → None ≡ given (body t m 0) (λ e. given (body t m 1) (λ f. Some (lowered_if t k front m e f)))
-  no_first k front e = ap (λ b. given b (λ e. given (body t m 1) (λ f. Some (lowered_if t k front m e f)))) e
+  no_first : (k : ℕ) (insertion : Place) → None ≡ body t m 0 → None ≡ given (body t m 0) (λ e. given (body t m 1) (λ f. Some (lowered_if t k insertion m e f)))
+  no_first k insertion e = ap (λ b. given b (λ e. given (body t m 1) (λ f. Some (lowered_if t k insertion m e f)))) e
 
-  no_second : (k : ℕ) (front : Place) (o : Option Ended) → None ≡ body t m 1 → None ≡ given o (λ e. given (body t m 1) (λ f. Some (lowered_if t k front m e f)))
-  no_second k front None e = refl
-  no_second k front (Some q) e = ap (λ b. given b (λ f. Some (lowered_if t k front m q f))) e
+  no_second : (k : ℕ) (insertion : Place) (o : Option Ended) → None ≡ body t m 1 → None ≡ given o (λ e. given (body t m 1) (λ f. Some (lowered_if t k insertion m e f)))
+  no_second k insertion None e = refl
+  no_second k insertion (Some q) e = ap (λ b. given b (λ f. Some (lowered_if t k insertion m q f))) e
 
   module _ (i : Indexed) (was : IsReadOf w x i) where
     pub no_first_lower_choice : AreTaken (body_at x 0 t) None → IsLoweredBy lower_choice w x None
-    no_first_lower_choice e = at lower_choice None (λ k front. when_none _ _ (no_first k front (none_of (body_at x 0 t) e ∙ body_here i was 0)))
+    no_first_lower_choice e = at lower_choice None (λ k insertion. when_none _ _ (no_first k insertion (none_of (body_at x 0 t) e ∙ body_here i was 0)))
 
     pub no_second_lower_choice : AreTaken (body_at x 1 t) None → IsLoweredBy lower_choice w x None
-    no_second_lower_choice e = at lower_choice None (λ k front. when_none _ _ (no_second k front (body t m 0) (none_of (body_at x 1 t) e ∙ body_here i was 1)))
+    no_second_lower_choice e = at lower_choice None (λ k insertion. when_none _ _ (no_second k insertion (body t m 0) (none_of (body_at x 1 t) e ∙ body_here i was 1)))
 
   module _ (l : IndexedChoice) (was : IsReadOf w x l.of) (b : Bool) (e : b ≡ named (codes "scf.if") (name_term w.ctx n.head.name)) (f : b ≡ true)
       (first : AreTaken (body_at x 0 t) (Some l.first)) (second : AreTaken (body_at x 1 t) (Some l.second)) where
@@ -285,10 +285,10 @@ module _ (w : World) (x : ℕ) (n : Node) (shown : Some n ≡ option_map node_of
     pub is_lower_choice : (d : Bool) → d ≡ any l.of.index_results.items → d ≡ true → IsLoweredBy lower_choice w x (Some (plan.Choice l))
     is_lower_choice d g h =
         at lower_choice (Some (plan.Choice l))
-        (λ k front. (λ z. Some (choice_lowered k front (operands_are l.of was z) (results_are l.of was z) (op_is l.of was z) l.first l.second))
-        ∙ ap Some (choice_is t k front m one.ended two.ended l.first l.second one.taken two.taken)
-        ∙ ap (λ q. given q (λ f. Some (lowered_if t k front m one.ended f))) (sym two.is)
-        ∙ ap (λ q. given q (λ e. given (body t m 1) (λ f. Some (lowered_if t k front m e f)))) (sym one.is)
+        (λ k insertion. (λ z. Some (choice_lowered k insertion (operands_are l.of was z) (results_are l.of was z) (op_is l.of was z) l.first l.second))
+        ∙ ap Some (choice_is t k insertion m one.ended two.ended l.first l.second one.taken two.taken)
+        ∙ ap (λ q. given q (λ f. Some (lowered_if t k insertion m one.ended f))) (sym two.is)
+        ∙ ap (λ q. given q (λ e. given (body t m 1) (λ f. Some (lowered_if t k insertion m e f)))) (sym one.is)
         ∙ when_both _ _ _ (ap (named (codes "scf.if")) named_as ∙ sym e ∙ f) (ap any (sym (results_are l.of was)) ∙ sym g ∙ h))
 
     pub indexed_lower_choice : IsVerifiedAt w x → IsIndexedChoice w.ctx l

@@ -18,7 +18,7 @@ use Rattle.ir_event.specs.store.Nodes.{Node, node_of, regions_arguments}
 use Rattle.ir_event.specs.declared.world.World.{World}
 use Rattle.ir_event.specs.Modules.{module_in}
 use Rattle.ir_event.proofs.Sounds.{every_found, found_sound}
-use Rattle.ir_event.proofs.Steps.{formed_meaning}
+use Rattle.ir_event.proofs.Steps.{wellformed_meaning}
 use Rattle.patterns_soundness.specs.base.Looks.{is_index_value}
 use Rattle.patterns_soundness.specs.base.Lowering.{indices}
 use Rattle.patterns_lowering.specs.declared.plan.Indexed.{Indexed}
@@ -57,7 +57,7 @@ pub there_meant : (w : World) (x : ℕ) (r : Op) → find x w.store.module_of.tr
 there_meant w x r e = map_find (name_term w.ctx) (type_term w.ctx) (attr_term w.ctx) x w.store.module_of.tree ∙ ap (option_map (meaning w.ctx)) e
 
 pub distinct_in : (w : World) → HasDistinctIds (module_in w).tree
-distinct_in w = (formed_meaning w.ctx w.store.module_of w.formed).distinct
+distinct_in w = (wellformed_meaning w.ctx w.store.module_of w.wellformed).distinct
 
 -- an operation of the module has interned numbers and is within its limits
 pub sound_at : (w : World) (x : ℕ) (o : Op) → find x w.store.module_of.tree ≡ Some o → IsSoundIn w.ctx o
@@ -69,7 +69,7 @@ own_fits (op h rs) e = (and_parts (op_fits (op h rs)) (regions_every op_fits rs)
 pub fits_at : (w : World) (x : ℕ) (o : Op) → find x w.store.module_of.tree ≡ Some o → op_fits o ≡ true
 fits_at w x o e =
     let t = w.store.module_of.tree in
-    own_fits o (every_found op_fits x t o (and_parts (nat_le (op_count t) most_ops) (every op_fits t) w.formed.formed.counts).1 e)
+    own_fits o (every_found op_fits x t o (and_parts (nat_le (op_count t) most_ops) (every op_fits t) w.wellformed.wellformed.counts).1 e)
 
 -- the types of its results and of its block arguments
 pub results_known : (c : ContextModel) (o : Op) → IsSoundIn c o → list_all (is_type c) (head o).results ≡ true

@@ -12,7 +12,7 @@ use Rattle.patterns_base.specs.declared.edit.Edit.{Edit}
 use Rattle.patterns_base.specs.declared.edit.Edit.TheVariants.{Make, SetOperand, Replace, Move, Erase}
 use Rattle.patterns_soundness.specs.base.Looks.{is_index}
 use Rattle.patterns_soundness.specs.base.Makes.{arguments_from, results_from}
-use Rattle.patterns_soundness.specs.base.Lowering.{before_in, beside, crossed, end_of, marked}
+use Rattle.patterns_soundness.specs.base.Lowering.{before_in, next_to, crossed, end_of, marked}
 use Rattle.patterns_plans.specs.Opened.{put_for}
 use Rattle.patterns_lowering.specs.declared.plan.MovedOps.{MovedOps}
 use Rattle.patterns_lowering.specs.declared.plan.IndexedLoop.{IndexedLoop}
@@ -112,7 +112,7 @@ gather_edits y r z (x ∷ xs) = Move x (before_in y r z) ∷ gather_edits y r x 
 -- the operations of a block move before operation y, and from there into its block r
 abbrev pub over_edits : Place → ℕ → ℕ → MovedOps → List Edit
 over_edits point y r b =
-    move_edits (beside point y) b.before.items ++ Move b.last (beside point y) ∷ Move b.last (end_of y r)
+    move_edits (next_to point y) b.before.items ++ Move b.last (next_to point y) ∷ Move b.last (end_of y r)
     ∷ gather_edits y r b.last (reverse b.before.items)
 
 -- the operands of x from number k on: each marked one is set to its cast, whose ids begin with n
@@ -145,8 +145,8 @@ held_edits wide point holders l =
     ++ replace_edits (arguments_from (head l.of.op).id 0 l.arguments.items) holders
 
 -- with the new loop
-abbrev pub front_edits : ContextModel → ℕ → List (ℕ × ℕ) → ℕ → Place → List Value → IndexedLoop → List Edit
-front_edits c wide properties n point holders l =
+abbrev pub insertion_edits : ContextModel → ℕ → List (ℕ × ℕ) → ℕ → Place → List Value → IndexedLoop → List Edit
+insertion_edits c wide properties n point holders l =
     held_edits wide point holders l
     ++ Make point (op_lowered c wide properties (crossed n l.of.index_operands.items (head l.of.op).operands) l.of.op)
     ∷ []
@@ -175,7 +175,7 @@ loop_edits c wide index properties n point l =
     let holders = first_results holder_ids in
     let arguments = arguments_from ids.op 0 l.arguments.items in
     let news = crossed ids.arguments l.index_arguments.items arguments in
-    front_edits c wide properties n point holders l
+    insertion_edits c wide properties n point holders l
     ++ inside_edits index point ids.op holder_ids holders arguments news l
     ++ after_edits wide index point ids news l
 

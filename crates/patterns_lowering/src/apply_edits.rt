@@ -25,7 +25,7 @@ fn carry<L: Analysis>(bench: &mut Bench<L>, edits: &[Edit]) -> Result<(), Refusa
     ensures noted { OnErr result (Noted bench.old.transaction bench.new.transaction) }
 {
     led_benches_are_kept::<L>();
-    bench.is_formed();
+    bench.is_wellformed();
     let mut rest = edits;
     'edits: while let [edit, tail @ ..] = rest {
         if let Err(refusal) = carry_one(bench, edit) {
@@ -50,7 +50,7 @@ pub fn apply_edits<L: Analysis>(bench: &mut Bench<L>, edits: &[Edit]) -> Result<
     ensures journal { JournalAfter L.meaning result bench.old bench.new }
 {
     led_benches_are_kept::<L>();
-    bench.is_formed();
+    bench.is_wellformed();
     if let Err(refusal) = bench.step() {
         return Err(refusal);
     }

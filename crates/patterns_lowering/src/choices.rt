@@ -43,7 +43,7 @@ fn push_side(
     block: &MovedOps,
 ) -> Result<(), AllocError>
     requires few { length marks.now ≤ 256 }
-    requires room { side.now.first + marked marks.now ≤ most_next }
+    requires headroom { side.now.first + marked marks.now ≤ most_next }
     ensures { OnOk result (edits.new.items ≡ edits.old.items
         ++ side_edits side.now.wide point.now side.now.op side.now.region side.now.first marks.now block.now) }
 {
@@ -63,7 +63,7 @@ pub(crate) fn choice_edits(
     of: &IndexedChoice,
 ) -> Result<Vec<Edit>, AllocError>
     requires of { IsIndexedChoice ctx.now of.now }
-    requires room { next + lowering_makes (Choice of.now) ≤ most_next }
+    requires headroom { next + lowering_makes (Choice of.now) ≤ most_next }
     ensures { IfOk result (λ es. es.items
         ≡ choice_edits ctx.now numbers.wide numbers.index numbers.properties.items next point.now of.now) }
 {

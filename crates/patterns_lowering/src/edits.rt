@@ -30,7 +30,7 @@ fn operation<L: Analysis>(
     of: &Indexed,
 ) -> Result<Vec<Edit>, Refusal>
     requires of { IsIndexed bench.old.transaction.ctx of.now }
-    requires room { bench.old.transaction.store.module_of.next
+    requires headroom { bench.old.transaction.store.module_of.next
         + (marked of.now.index_operands.items + 1 + marked of.now.index_results.items) ≤ most_next }
     ensures edits { IfOk result (λ es. edits_meaning bench.new.transaction.ctx es.items
         ≡ operation_lowered bench.old.transaction.store.module_of.next point.now of.now.index_operands.items
@@ -39,13 +39,13 @@ fn operation<L: Analysis>(
     ensures refused { IfErr result (λ e. IsCapacityRefusal bench.new.transaction.ctx e) }
     ensures interned { Added L.meaning bench.old bench.new }
 {
-    bench.is_formed();
+    bench.is_wellformed();
     let next = bench.world().store.next_id();
     let numbers = match interned(alloc, bench, &of.op) {
         Ok(numbers) => numbers,
         Err(refusal) => return Err(refusal),
     };
-    bench.is_formed();
+    bench.is_wellformed();
     match operation_edits(alloc, &bench.world().ctx, numbers, next, point, of) {
         Ok(edits) => Ok(edits),
         Err(_) => Err(Refusal::Memory),
@@ -60,20 +60,20 @@ fn over_loop<L: Analysis>(
     of: &IndexedLoop,
 ) -> Result<Vec<Edit>, Refusal>
     requires of { IsIndexedLoop bench.old.transaction.ctx of.now }
-    requires room { bench.old.transaction.store.module_of.next + lowering_makes (Loop of.now) ≤ most_next }
+    requires headroom { bench.old.transaction.store.module_of.next + lowering_makes (Loop of.now) ≤ most_next }
     ensures edits { IfOk result (λ es. edits_meaning bench.new.transaction.ctx es.items
         ≡ lowering_meaning bench.old.transaction.ctx bench.old.transaction.store.module_of.next point.now (Loop of.now)) }
     ensures fit { IfOk result (λ es. AllFit bench.new.transaction.ctx es.items) }
     ensures refused { IfErr result (λ e. IsCapacityRefusal bench.new.transaction.ctx e) }
     ensures interned { Added L.meaning bench.old bench.new }
 {
-    bench.is_formed();
+    bench.is_wellformed();
     let next = bench.world().store.next_id();
     let numbers = match interned(alloc, bench, &of.of.op) {
         Ok(numbers) => numbers,
         Err(refusal) => return Err(refusal),
     };
-    bench.is_formed();
+    bench.is_wellformed();
     match loop_edits(alloc, &bench.world().ctx, numbers, next, point, of) {
         Ok(edits) => Ok(edits),
         Err(_) => Err(Refusal::Memory),
@@ -88,20 +88,20 @@ fn over_choice<L: Analysis>(
     of: &IndexedChoice,
 ) -> Result<Vec<Edit>, Refusal>
     requires of { IsIndexedChoice bench.old.transaction.ctx of.now }
-    requires room { bench.old.transaction.store.module_of.next + lowering_makes (Choice of.now) ≤ most_next }
+    requires headroom { bench.old.transaction.store.module_of.next + lowering_makes (Choice of.now) ≤ most_next }
     ensures edits { IfOk result (λ es. edits_meaning bench.new.transaction.ctx es.items
         ≡ lowering_meaning bench.old.transaction.ctx bench.old.transaction.store.module_of.next point.now (Choice of.now)) }
     ensures fit { IfOk result (λ es. AllFit bench.new.transaction.ctx es.items) }
     ensures refused { IfErr result (λ e. IsCapacityRefusal bench.new.transaction.ctx e) }
     ensures interned { Added L.meaning bench.old bench.new }
 {
-    bench.is_formed();
+    bench.is_wellformed();
     let next = bench.world().store.next_id();
     let numbers = match interned(alloc, bench, &of.of.op) {
         Ok(numbers) => numbers,
         Err(refusal) => return Err(refusal),
     };
-    bench.is_formed();
+    bench.is_wellformed();
     match choice_edits(alloc, &bench.world().ctx, numbers, next, point, of) {
         Ok(edits) => Ok(edits),
         Err(_) => Err(Refusal::Memory),
@@ -119,7 +119,7 @@ pub fn lowering_edits<L: Analysis>(
     plan: &Lowering,
 ) -> Result<Vec<Edit>, Refusal>
     requires of { LoweringIsOf bench.old.transaction.ctx plan.now }
-    requires room { bench.old.transaction.store.module_of.next + lowering_makes plan.now ≤ most_next }
+    requires headroom { bench.old.transaction.store.module_of.next + lowering_makes plan.now ≤ most_next }
     ensures edits { IfOk result (λ es. edits_meaning bench.new.transaction.ctx es.items
         ≡ lowering_meaning bench.old.transaction.ctx bench.old.transaction.store.module_of.next point.now plan.now) }
     ensures fit { IfOk result (λ es. AllFit bench.new.transaction.ctx es.items) }

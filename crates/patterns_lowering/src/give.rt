@@ -23,7 +23,7 @@ pub(crate) fn push_given(
     defining: OpId,
 ) -> Result<(), AllocError>
     requires few { length (head op.now).results ≤ 256 }
-    requires room { casts.now.first + marked marks.now ≤ most_next }
+    requires headroom { casts.now.first + marked marks.now ≤ most_next }
     ensures { OnOk result (edits.new.items ≡ edits.old.items
         ++ give_edits casts.now.ty casts.now.place marks.now op.now defining casts.now.first) }
 {

@@ -43,9 +43,9 @@ fn interned_type<L: Analysis>(bench: &mut Bench<L>, node: TypeNode) -> Result<Ty
     ensures refused { IfErr result (λ e. IsCapacityRefusal bench.new.transaction.ctx e) }
     ensures interned { Added L.meaning bench.old bench.new }
 {
-    bench.is_formed();
+    bench.is_wellformed();
     let made = bench.ty(node);
-    bench.is_formed();
+    bench.is_wellformed();
     match made {
         Ok(id) => Ok(id),
         Err(refusal) => Err(as_full(refusal)),
@@ -84,12 +84,12 @@ fn lowered_attr<L: Analysis>(
     ensures interned { Added L.meaning bench.old bench.new }
 {
     led_benches_are_kept::<L>();
-    bench.is_formed();
+    bench.is_wellformed();
     let Some(value) = index_bits(&bench.world().ctx, attr) else {
         return Ok(attr);
     };
     let made = bench.attr(AttrNode::Int { ty: wide, value });
-    bench.is_formed();
+    bench.is_wellformed();
     match made {
         Ok(id) => Ok(id),
         Err(refusal) => Err(as_full(refusal)),
@@ -124,7 +124,7 @@ fn lowered_entry<L: Analysis>(
     ensures refused { IfErr result (λ e. IsCapacityRefusal bench.new.transaction.ctx e) }
     ensures interned { Added L.meaning bench.old bench.new }
 {
-    bench.is_formed();
+    bench.is_wellformed();
     let (key, attr) = entry;
     let attr = match lowered_attr(bench, wide, attr) {
         Ok(attr) => attr,
@@ -151,15 +151,15 @@ fn lowered_entries<L: Analysis>(
     ensures interned { Added L.meaning bench.old bench.new }
 {
     led_benches_are_kept::<L>();
-    bench.is_formed();
+    bench.is_wellformed();
     let mut lowered = Vec::new(alloc);
     let mut rest = entries;
     'entries: while let [entry, tail @ ..] = rest {
         if let Err(refusal) = lowered_entry(bench, &mut lowered, wide, *entry) {
-            bench.is_formed();
+            bench.is_wellformed();
             return Err(refusal);
         }
-        bench.is_formed();
+        bench.is_wellformed();
         rest = tail;
     }
     Ok(lowered)
@@ -180,14 +180,14 @@ fn interned_types<L: Analysis>(bench: &mut Bench<L>) -> Result<(TypeId, TypeId),
         Ok(wide) => wide,
         Err(refusal) => return Err(refusal),
     };
-    bench.is_formed();
+    bench.is_wellformed();
     match interned_type(bench, TypeNode::Index) {
         Ok(index) => {
-            bench.is_formed();
+            bench.is_wellformed();
             Ok((wide, index))
         }
         Err(refusal) => {
-            bench.is_formed();
+            bench.is_wellformed();
             Err(refusal)
         }
     }
@@ -208,15 +208,15 @@ pub(crate) fn interned<L: Analysis>(
     ensures interned { Added L.meaning bench.old bench.new }
 {
     led_benches_are_kept::<L>();
-    bench.is_formed();
+    bench.is_wellformed();
     let (wide, index) = match interned_types(bench) {
         Ok(types) => types,
         Err(refusal) => return Err(refusal),
     };
-    bench.is_formed();
+    bench.is_wellformed();
     match lowered_entries(alloc, bench, wide, &op.props) {
         Ok(properties) => {
-            bench.is_formed();
+            bench.is_wellformed();
             Ok(Numbers {
                 wide,
                 index,
@@ -224,7 +224,7 @@ pub(crate) fn interned<L: Analysis>(
             })
         }
         Err(refusal) => {
-            bench.is_formed();
+            bench.is_wellformed();
             Err(refusal)
         }
     }

@@ -42,7 +42,7 @@ pub(crate) struct LoopIds {
 /// Returns the ids of the operations that replace a loop, from the id `next` on.
 fn loop_ids(ctx: &Context, next: u32, of: &IndexedLoop) -> LoopIds
     requires of { IsIndexedLoop ctx.now of.now }
-    requires room { next + lowering_makes (Loop of.now) ≤ most_next }
+    requires headroom { next + lowering_makes (Loop of.now) ≤ most_next }
     ensures { result ≡ loop_ids next of.now }
 {
     let holders = next + marked(&of.of.index_operands);
@@ -167,7 +167,7 @@ pub(crate) fn loop_edits(
     of: &IndexedLoop,
 ) -> Result<Vec<Edit>, AllocError>
     requires of { IsIndexedLoop ctx.now of.now }
-    requires room { next + lowering_makes (Loop of.now) ≤ most_next }
+    requires headroom { next + lowering_makes (Loop of.now) ≤ most_next }
     ensures { IfOk result (λ es. es.items
         ≡ loop_edits ctx.now numbers.wide numbers.index numbers.properties.items next point.now of.now) }
 {

@@ -29,7 +29,7 @@ pub(crate) fn push_made(
     of: &Indexed,
 ) -> Result<(), AllocError>
     requires of { IsIndexed ctx.now of.now }
-    requires room { casts.now.first + marked of.now.index_operands.items ≤ most_next }
+    requires headroom { casts.now.first + marked of.now.index_operands.items ≤ most_next }
     ensures { OnOk result (edits.new.items ≡ edits.old.items
         ++ Make casts.now.place (op_lowered ctx.now casts.now.ty properties.items
         (crossed casts.now.first of.now.index_operands.items (head of.now.op).operands) of.now.op) ∷ []) }
@@ -55,7 +55,7 @@ pub(crate) fn operation_edits(
     of: &Indexed,
 ) -> Result<Vec<Edit>, AllocError>
     requires of { IsIndexed ctx.now of.now }
-    requires room { next + marked of.now.index_operands.items + 1 + marked of.now.index_results.items ≤ most_next }
+    requires headroom { next + marked of.now.index_operands.items + 1 + marked of.now.index_results.items ≤ most_next }
     ensures { IfOk result (λ es. es.items
         ≡ operation_edits ctx.now numbers.wide numbers.index numbers.properties.items next point.now
         of.now.index_operands.items of.now.index_results.items of.now.op) }

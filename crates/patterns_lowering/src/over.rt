@@ -78,17 +78,17 @@ pub(crate) fn push_over(
 ) -> Result<(), AllocError>
     ensures { OnOk result (edits.new.items ≡ edits.old.items ++ over_edits point.now op region block.now) }
 {
-    let beside = Place {
+    let next_to = Place {
         parent: point.parent,
         region: point.region,
         before: Some(op),
     };
-    push_moved(edits, &beside, &block.before)?;
+    push_moved(edits, &next_to, &block.before)?;
     push_edit(
         edits,
         Edit::Move {
             op: block.last,
-            place: beside,
+            place: next_to,
         },
     )?;
     push_edit(
@@ -141,7 +141,7 @@ fn push_crossing(
     marks: &[bool],
 ) -> Result<(), AllocError>
     requires few { length marks.now ≤ 256 }
-    requires room { first + marked marks.now ≤ most_next }
+    requires headroom { first + marked marks.now ≤ most_next }
     ensures { OnOk result (edits.new.items ≡ edits.old.items ++ crossing_edits op 0 first marks.now) }
 {
     let mut next = first;
@@ -165,7 +165,7 @@ pub(crate) fn push_handed(
     handed: &[Value],
 ) -> Result<(), AllocError>
     requires few { length marks.now ≤ 256 }
-    requires room { casts.now.first + marked marks.now ≤ most_next }
+    requires headroom { casts.now.first + marked marks.now ≤ most_next }
     ensures { OnOk result (edits.new.items ≡ edits.old.items
         ++ handed_edits casts.now.ty casts.now.place casts.now.first last marks.now handed.now) }
 {

@@ -11,7 +11,7 @@ use Rattle.ir_event.specs.trees.Maps.{map_head}
 use Rattle.ir_event.specs.trees.Meaning.{meaning}
 use Rattle.ir_event.proofs.of_trees.Mapped.{map_find, map_place}
 use Rattle.ir_event.specs.store.Nodes.{Node, node_of}
-use Rattle.patterns_base.specs.Looks.{front_of, insertion_point}
+use Rattle.patterns_base.specs.Looks.{insertion_of, insertion_point}
 use Rattle.patterns_matchers.specs.Reads.{head_at, header_of_node}
 
 pub head_meaning : (c : ContextModel) (x : ℕ) (t : Op) → head_at x (meaning c t) ≡ option_map (map_head (name_term c) (type_term c) (attr_term c)) (option_map (λ o. head o) (find x t))
@@ -32,5 +32,5 @@ shown_meant c x t r is = ap (option_map (header_of_node c)) is ∙ go (find x t)
     go None = refl
     go (Some o) = ap Some (node_head o)
 
-pub front_is : (c : ContextModel) (x : ℕ) (t : Op) (r : Option Place) → r ≡ place_of x t → option_map (insertion_point x) r ≡ front_of x (meaning c t)
-front_is c x t r e = ap (option_map (insertion_point x)) (e ∙ sym (map_place (name_term c) (type_term c) (attr_term c) x t))
+pub insertion_is : (c : ContextModel) (x : ℕ) (t : Op) (r : Option Place) → r ≡ place_of x t → option_map (insertion_point x) r ≡ insertion_of x (meaning c t)
+insertion_is c x t r e = ap (option_map (insertion_point x)) (e ∙ sym (map_place (name_term c) (type_term c) (attr_term c) x t))

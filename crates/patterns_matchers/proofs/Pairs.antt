@@ -40,8 +40,8 @@ abbrev silent : Surroundings → Bool
 silent s = list_all not (broken_rules_in (row_of s.node.head.name) s)
 
 -- the verifier's requirements on the type
-abbrev asked : Bool → Bool → Bool
-asked n s = not (not n || not (s && (s && true))) && (not (not (s && true)) && true)
+abbrev requested : Bool → Bool → Bool
+requested n s = not (not n || not (s && (s && true))) && (not (not (s && true)) && true)
 
 abbrev Fine : List ℕ → Type 0
 Fine name =
@@ -49,13 +49,13 @@ Fine name =
     → broken (pair_at name x a b ty flags attributes lasts outer) ≡ []
 
 fine : (name : List ℕ)
-    → ((x : ℕ) (a b : Value) (ty : TypeTerm) (attributes : List (List ℕ × AttrTerm)) (lasts : List (Option (List ℕ))) (outer : Option Outer) → silent (pair_at name x a b ty [] attributes lasts outer) ≡ asked (is_number ty) (same_type ty ty))
+    → ((x : ℕ) (a b : Value) (ty : TypeTerm) (attributes : List (List ℕ × AttrTerm)) (lasts : List (Option (List ℕ))) (outer : Option Outer) → silent (pair_at name x a b ty [] attributes lasts outer) ≡ requested (is_number ty) (same_type ty ty))
     → ((x : ℕ) (a b : Value) (ty : TypeTerm) (nsw nuw : Bool) (attributes : List (List ℕ × AttrTerm)) (lasts : List (Option (List ℕ))) (outer : Option Outer)
-    → silent (pair_at name x a b ty ((codes "overflowFlags", Overflow nsw nuw) ∷ []) attributes lasts outer) ≡ asked (is_number ty) (same_type ty ty))
+    → silent (pair_at name x a b ty ((codes "overflowFlags", Overflow nsw nuw) ∷ []) attributes lasts outer) ≡ requested (is_number ty) (same_type ty ty))
     → Fine name
-fine name f g x a b ty flags attributes lasts outer fl num = none_told 1 (broken_rules_in (row_of name) (pair_at name x a b ty flags attributes lasts outer)) (quiet ∙ λ i. asked (num i) (type_refl ty i))
+fine name f g x a b ty flags attributes lasts outer fl num = none_told 1 (broken_rules_in (row_of name) (pair_at name x a b ty flags attributes lasts outer)) (quiet ∙ λ i. requested (num i) (type_refl ty i))
   where
-    quiet : silent (pair_at name x a b ty flags attributes lasts outer) ≡ asked (is_number ty) (same_type ty ty)
+    quiet : silent (pair_at name x a b ty flags attributes lasts outer) ≡ requested (is_number ty) (same_type ty ty)
     quiet = elim fl [
       | inl e ↦ ap (λ es. silent (pair_at name x a b ty es attributes lasts outer)) e ∙ f x a b ty attributes lasts outer
       | inr e ↦ ap (λ es. silent (pair_at name x a b ty es attributes lasts outer)) e.2 ∙ g x a b ty e.0 e.1 attributes lasts outer

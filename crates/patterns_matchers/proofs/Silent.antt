@@ -36,17 +36,17 @@ abbrev constant_at : ℕ → TypeTerm → ℕ → List (List ℕ × AttrTerm) �
 constant_at x ty bits attributes lasts outer = record { node = trivial_constant x ty bits attributes; lasts = lasts; types = []; outer = outer }
 
 -- the verifier's requirements on its type
-abbrev asked : Bool → Bool → Bool
-asked n s = not (not (n && true)) && (not (not s) && true)
+abbrev requested : Bool → Bool → Bool
+requested n s = not (not (n && true)) && (not (not s) && true)
 
 quiet : (x : ℕ) (ty : TypeTerm) (bits : ℕ) (attributes : List (List ℕ × AttrTerm)) (lasts : List (Option (List ℕ))) (outer : Option Outer)
-    → list_all not (broken_rules_in (row_of (codes "arith.constant")) (constant_at x ty bits attributes lasts outer)) ≡ asked (is_number ty) (same_type ty ty)
+    → list_all not (broken_rules_in (row_of (codes "arith.constant")) (constant_at x ty bits attributes lasts outer)) ≡ requested (is_number ty) (same_type ty ty)
 unfolding row_of rows kinds kind_of is_of_kind is_allowed
 quiet x ty bits attributes lasts outer = refl
 
 plain_unbroken : (x : ℕ) (ty : TypeTerm) (bits : ℕ) (attributes : List (List ℕ × AttrTerm)) (lasts : List (Option (List ℕ))) (outer : Option Outer) → is_number ty ≡ true → broken (constant_at x ty bits attributes lasts outer) ≡ []
 plain_unbroken x ty bits attributes lasts outer num =
-    none_told 1 (broken_rules_in (row_of (codes "arith.constant")) (constant_at x ty bits attributes lasts outer)) (quiet x ty bits attributes lasts outer ∙ λ i. asked (num i) (type_refl ty i))
+    none_told 1 (broken_rules_in (row_of (codes "arith.constant")) (constant_at x ty bits attributes lasts outer)) (quiet x ty bits attributes lasts outer ∙ λ i. requested (num i) (type_refl ty i))
 
 abbrev Stand : Type 0
 Stand = StandOf (List ℕ) TypeTerm AttrTerm
@@ -65,9 +65,9 @@ wherever c x t n shown types of none = found (find x t) refl shown
         let operands : map (λ v. type_of_value v (meaning c t)) (head z.here).operands ≡ types = ap (λ (q : Operation). map (λ v. type_of_value v (meaning c t)) (head q).operands) i ∙ ap (map (λ v. type_of_value v (meaning c t))) (bare_operands c o ∙ ap (λ (q : NumberNode). (node_in c q).head.operands) (sym e)) ∙ of in
         (λ k. broken (record { node = node k; lasts = last_names (regions z.here); types = operands k; outer = outer_of z.path })) ∙ none (last_names (regions z.here)) (outer_of z.path)
 
-    stood : (o : Op) → n ≡ node_of o → (z : Option Stand) → stand_of x (meaning c t) ≡ z → option_map (λ (s : Stand). s.here) z ≡ Some (meaning c o) → breaks_none (broken_at x (meaning c t)) ≡ true
-    stood o e None f g = absurd cc
-    stood o e (Some z) f g =
+    located : (o : Op) → n ≡ node_of o → (z : Option Stand) → stand_of x (meaning c t) ≡ z → option_map (λ (s : Stand). s.here) z ≡ Some (meaning c o) → breaks_none (broken_at x (meaning c t)) ≡ true
+    located o e None f g = absurd cc
+    located o e (Some z) f g =
         let here : z.here ≡ meaning c o = cc in
         ap (λ (s : Option Stand). breaks_none (option_map broken (option_map (surround (meaning c t)) s))) f ∙ ap (λ l. breaks_none (Some l)) (at o e z here)
 
@@ -75,7 +75,7 @@ wherever c x t n shown types of none = found (find x t) refl shown
     found None e g = absurd cc
     found (Some o) e g =
         let same : n ≡ node_of o = cc in
-        stood o same (stand_of x (meaning c t)) refl (stands_find x [] (meaning c t) ∙ map_find (name_term c) (type_term c) (attr_term c) x t ∙ ap (option_map (meaning c)) e)
+        located o same (stand_of x (meaning c t)) refl (stands_find x [] (meaning c t) ∙ map_find (name_term c) (type_term c) (attr_term c) x t ∙ ap (option_map (meaning c)) e)
 
 pub plain_is_unbroken : (c : ContextModel) (x : ℕ) (t : Op) (n : NumberNode) → Some n ≡ option_map node_of (find x t) → IsTriviallyVerified (node_in c n) → breaks_none (broken_at x (meaning c t)) ≡ true
 plain_is_unbroken c x t n shown p =

@@ -3,7 +3,7 @@ ghost use Rattle.std.specs.Prelude.{◌≡◌, IfSome, option_map};
 ghost use Rattle.ir_event.specs.trees.Ids.{find};
 ghost use Rattle.ir_event.specs.store.Nodes.{node_of};
 ghost use Rattle.patterns_base.specs.events.Modules.{NodeIsOf, module_in};
-ghost use Rattle.patterns_base.specs.Looks.{front_of, defining_op, is_constant};
+ghost use Rattle.patterns_base.specs.Looks.{insertion_of, defining_op, is_constant};
 ghost use Rattle.patterns_matchers.specs.Reads.{head_at, header_of_node};
 
 use ir_event::store::node::Node;
@@ -24,7 +24,7 @@ pub fn op_node(world: &World, op: OpId) -> Option<Node<'_>>
 
 /// Returns the place before `op`, or `None` for the root.
 pub fn insertion_point_before(world: &World, op: OpId) -> Option<Place>
-    ensures { result ≡ front_of op (module_in world.now).tree }
+    ensures { result ≡ insertion_of op (module_in world.now).tree }
 {
     let Some(place) = world.store.place(op) else {
         return None;

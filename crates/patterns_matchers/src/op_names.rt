@@ -4,7 +4,7 @@ ghost use Rattle.std.specs.Str.{bytes_eq};
 ghost use Rattle.ir_event.specs.types.Things.{IsName};
 ghost use Rattle.ir_event.specs.types.Terms.{name_term};
 ghost use Rattle.ir_event.specs.types.WordNames.{word_bytes};
-ghost use Rattle.op_registry.specs.Registry.{beside};
+ghost use Rattle.op_registry.specs.Registry.{next_to};
 ghost use Rattle.patterns_laws.specs.Words.{among, predicate_of_min_max, self_inverse, division_of_remainder, extensions, with_zero_as_right_identity};
 ghost use Rattle.patterns_laws.specs.Words.{with_one_as_right_identity, index_casts, idempotent, associative, remainders, commutative};
 ghost use Rattle.patterns_base.specs.Casting.{resizing};
@@ -140,7 +140,7 @@ pub fn is_integer_cast(ctx: &Context, name: NameId) -> bool
 /// Returns the predicate that compares the operands of a minimum or maximum, or `None` for another operation.
 #[tactic(auto, unfolding(patterns_laws::specs::Words::predicate_of_min_max))]
 pub fn predicate_of_min_max(ctx: &Context, name: NameId) -> Option<u128>
-    ensures { result ≡ beside (name_term ctx.now name) predicate_of_min_max }
+    ensures { result ≡ next_to (name_term ctx.now name) predicate_of_min_max }
 {
     if ctx.is_word(name, Word::ArithMaxsi) {
         return Some(4);
@@ -160,7 +160,7 @@ pub fn predicate_of_min_max(ctx: &Context, name: NameId) -> Option<u128>
 /// Returns the division of a remainder, or `None` for another operation.
 #[tactic(auto, unfolding(patterns_laws::specs::Words::division_of_remainder))]
 pub fn division_of_remainder(ctx: &Context, name: NameId) -> Option<NameId>
-    ensures name { option_map (name_term ctx.now) result ≡ beside (name_term ctx.now name) division_of_remainder }
+    ensures name { option_map (name_term ctx.now) result ≡ next_to (name_term ctx.now name) division_of_remainder }
     ensures of { IfSome result (IsName ctx.now) }
 {
     if ctx.is_word(name, Word::ArithRemsi) {

@@ -29,7 +29,7 @@ module _ {N T A : Type 0} where
   last_is o no_ops = refl
   last_is o (next p os) = ap (λ l. first_of l (Some (head o).id)) (last_is p os)
 
-  last_split : (o : OpOf N T A) (os : OpsOf N T A) → (front : List (OpOf N T A)) × (next o os ≡ joined_ops front (next (last_op o os) no_ops))
+  last_split : (o : OpOf N T A) (os : OpsOf N T A) → (preceding : List (OpOf N T A)) × (next o os ≡ joined_ops preceding (next (last_op o os) no_ops))
   last_split o no_ops = ([], refl)
   last_split o (next p os) = let s = last_split p os in (o ∷ s.0, ap (next o) s.1)
 

@@ -35,115 +35,115 @@ same_head x t h o e f =
 
 -- a rule makes these edits, and reads only the head of an operation
 abbrev LooksAtHead : Making → Rule → Type 0
-LooksAtHead makes r = (t : Operation) (n : ℕ) (front : Place) (h : Header) (o : Operation) → h ≡ head o → makes t n front (op h no_regions) ≡ rule r t n front o
+LooksAtHead makes r = (t : Operation) (n : ℕ) (insertion : Place) (h : Header) (o : Operation) → h ≡ head o → makes t n insertion (op h no_regions) ≡ rule r t n insertion o
 
 -- a plan for the head is a plan for the operation
 pub planned_at : (makes : Making) (s : Rule) → LooksAtHead makes s → (r : Rule) → r ≡ s → (w : World) (x : ℕ) (node : Node) (p : Option RewritePlan)
     → Some (header_of_node w.ctx node) ≡ head_at x (module_in w).tree → IsPlanned makes w x node p → IsPlanAt r w x p
-planned_at makes s looks r is w x node p e planned o f n front =
-    planned n front
-    ∙ looks (module_in w).tree n front (record (header_of_node w.ctx node) { id = x }) o (same_head x (module_in w).tree (header_of_node w.ctx node) o e f)
-    ∙ ap (λ r. rule r (module_in w).tree n front o) (sym is)
+planned_at makes s looks r is w x node p e planned o f n insertion =
+    planned n insertion
+    ∙ looks (module_in w).tree n insertion (record (header_of_node w.ctx node) { id = x }) o (same_head x (module_in w).tree (header_of_node w.ctx node) o e f)
+    ∙ ap (λ r. rule r (module_in w).tree n insertion o) (sym is)
 
 pub at_fold_to_constant : LooksAtHead fold_to_constant FoldToConstant
 unfolding rule
-at_fold_to_constant t n front h o e = ap (λ z. fold_to_constant t n front (op z no_regions)) e
+at_fold_to_constant t n insertion h o e = ap (λ z. fold_to_constant t n insertion (op z no_regions)) e
 
 pub at_swap_constant : LooksAtHead swap_constant SwapConstant
 unfolding rule
-at_swap_constant t n front h o e = ap (λ z. swap_constant t n front (op z no_regions)) e
+at_swap_constant t n insertion h o e = ap (λ z. swap_constant t n insertion (op z no_regions)) e
 
 pub at_drop_zero : LooksAtHead drop_zero DropZero
 unfolding rule
-at_drop_zero t n front h o e = ap (λ z. drop_zero t n front (op z no_regions)) e
+at_drop_zero t n insertion h o e = ap (λ z. drop_zero t n insertion (op z no_regions)) e
 
 pub at_drop_one : LooksAtHead drop_one DropOne
 unfolding rule
-at_drop_one t n front h o e = ap (λ z. drop_one t n front (op z no_regions)) e
+at_drop_one t n insertion h o e = ap (λ z. drop_one t n insertion (op z no_regions)) e
 
 pub at_drop_all_ones : LooksAtHead drop_all_ones DropAllOnes
 unfolding rule
-at_drop_all_ones t n front h o e = ap (λ z. drop_all_ones t n front (op z no_regions)) e
+at_drop_all_ones t n insertion h o e = ap (λ z. drop_all_ones t n insertion (op z no_regions)) e
 
 pub at_cancel_itself : LooksAtHead cancel_itself CancelItself
 unfolding rule
-at_cancel_itself t n front h o e = ap (λ z. cancel_itself t n front (op z no_regions)) e
+at_cancel_itself t n insertion h o e = ap (λ z. cancel_itself t n insertion (op z no_regions)) e
 
 pub at_keep_itself : LooksAtHead keep_itself KeepItself
 unfolding rule
-at_keep_itself t n front h o e = ap (λ z. keep_itself t n front (op z no_regions)) e
+at_keep_itself t n insertion h o e = ap (λ z. keep_itself t n insertion (op z no_regions)) e
 
 pub at_zero_remainder : LooksAtHead zero_remainder ZeroRemainder
 unfolding rule
-at_zero_remainder t n front h o e = ap (λ z. zero_remainder t n front (op z no_regions)) e
+at_zero_remainder t n insertion h o e = ap (λ z. zero_remainder t n insertion (op z no_regions)) e
 
 pub at_regroup_constants : LooksAtHead regroup_constants RegroupConstants
 unfolding rule
-at_regroup_constants t n front h o e = ap (λ z. regroup_constants t n front (op z no_regions)) e
+at_regroup_constants t n insertion h o e = ap (λ z. regroup_constants t n insertion (op z no_regions)) e
 
 pub at_add_negative : LooksAtHead add_negative AddNegative
 unfolding rule
-at_add_negative t n front h o e = ap (λ z. add_negative t n front (op z no_regions)) e
+at_add_negative t n insertion h o e = ap (λ z. add_negative t n insertion (op z no_regions)) e
 
 pub at_compare_itself : LooksAtHead compare_itself CompareItself
 unfolding rule
-at_compare_itself t n front h o e = ap (λ z. compare_itself t n front (op z no_regions)) e
+at_compare_itself t n insertion h o e = ap (λ z. compare_itself t n insertion (op z no_regions)) e
 
 pub at_mirror_comparison : LooksAtHead mirror_comparison MirrorComparison
 unfolding rule
-at_mirror_comparison t n front h o e = ap (λ z. mirror_comparison t n front (op z no_regions)) e
+at_mirror_comparison t n insertion h o e = ap (λ z. mirror_comparison t n insertion (op z no_regions)) e
 
 pub at_compare_zero : LooksAtHead compare_zero CompareZero
 unfolding rule
-at_compare_zero t n front h o e = ap (λ z. compare_zero t n front (op z no_regions)) e
+at_compare_zero t n insertion h o e = ap (λ z. compare_zero t n insertion (op z no_regions)) e
 
 pub at_choose_same : LooksAtHead choose_same ChooseSame
 unfolding rule
-at_choose_same t n front h o e = ap (λ z. choose_same t n front (op z no_regions)) e
+at_choose_same t n insertion h o e = ap (λ z. choose_same t n insertion (op z no_regions)) e
 
 pub at_choose_known : LooksAtHead choose_known ChooseKnown
 unfolding rule
-at_choose_known t n front h o e = ap (λ z. choose_known t n front (op z no_regions)) e
+at_choose_known t n insertion h o e = ap (λ z. choose_known t n insertion (op z no_regions)) e
 
 pub at_choose_truth : LooksAtHead choose_truth ChooseTruth
 unfolding rule
-at_choose_truth t n front h o e = ap (λ z. choose_truth t n front (op z no_regions)) e
+at_choose_truth t n insertion h o e = ap (λ z. choose_truth t n insertion (op z no_regions)) e
 
 pub at_choose_opposite : LooksAtHead choose_opposite ChooseOpposite
 unfolding rule
-at_choose_opposite t n front h o e = ap (λ z. choose_opposite t n front (op z no_regions)) e
+at_choose_opposite t n insertion h o e = ap (λ z. choose_opposite t n insertion (op z no_regions)) e
 
 pub at_extend_extension : LooksAtHead extend_extension ExtendExtension
 unfolding rule
-at_extend_extension t n front h o e = ap (λ z. extend_extension t n front (op z no_regions)) e
+at_extend_extension t n insertion h o e = ap (λ z. extend_extension t n insertion (op z no_regions)) e
 
 pub at_cut_cast : LooksAtHead cut_cast CutCast
 unfolding rule
-at_cut_cast t n front h o e = ap (λ z. cut_cast t n front (op z no_regions)) e
+at_cut_cast t n insertion h o e = ap (λ z. cut_cast t n insertion (op z no_regions)) e
 
 pub at_cast_back : LooksAtHead cast_back CastBack
 unfolding rule
-at_cast_back t n front h o e = ap (λ z. cast_back t n front (op z no_regions)) e
+at_cast_back t n insertion h o e = ap (λ z. cast_back t n insertion (op z no_regions)) e
 
 pub at_expand_min_max : LooksAtHead expand_min_max ExpandMinMax
 unfolding rule
-at_expand_min_max t n front h o e = ap (λ z. expand_min_max t n front (op z no_regions)) e
+at_expand_min_max t n insertion h o e = ap (λ z. expand_min_max t n insertion (op z no_regions)) e
 
 pub at_expand_difference : LooksAtHead expand_difference ExpandDifference
 unfolding rule
-at_expand_difference t n front h o e = ap (λ z. expand_difference t n front (op z no_regions)) e
+at_expand_difference t n insertion h o e = ap (λ z. expand_difference t n insertion (op z no_regions)) e
 
 pub at_expand_remainder : LooksAtHead expand_remainder ExpandRemainder
 unfolding rule
-at_expand_remainder t n front h o e = ap (λ z. expand_remainder t n front (op z no_regions)) e
+at_expand_remainder t n insertion h o e = ap (λ z. expand_remainder t n insertion (op z no_regions)) e
 
 dead_is : (x : ℕ) (t o : Operation) (b : Bool) → b ≡ dead_at x t → find x t ≡ Some o → b ≡ is_dead t o
 dead_is x t o b e f = e ∙ ap (dead_in t) f
 
-pub none_dead : (x : ℕ) (t o : Operation) (b : Bool) → b ≡ dead_at x t → b ≡ false → find x t ≡ Some o → (n : ℕ) (front : Place) → None ≡ rule EraseDead t n front o
+pub none_dead : (x : ℕ) (t o : Operation) (b : Bool) → b ≡ dead_at x t → b ≡ false → find x t ≡ Some o → (n : ℕ) (insertion : Place) → None ≡ rule EraseDead t n insertion o
 unfolding rule is_erasable
-none_dead x t o b e k f n front = sym (ap (λ c. when c (Some (Erase (head o).id ∷ []))) (sym (dead_is x t o b e f) ∙ k))
+none_dead x t o b e k f n insertion = sym (ap (λ c. when c (Some (Erase (head o).id ∷ []))) (sym (dead_is x t o b e f) ∙ k))
 
-pub one_dead : (x : ℕ) (t o : Operation) (b : Bool) → b ≡ dead_at x t → b ≡ true → find x t ≡ Some o → (n : ℕ) (front : Place) → Some (Erase x ∷ []) ≡ rule EraseDead t n front o
+pub one_dead : (x : ℕ) (t o : Operation) (b : Bool) → b ≡ dead_at x t → b ≡ true → find x t ≡ Some o → (n : ℕ) (insertion : Place) → Some (Erase x ∷ []) ≡ rule EraseDead t n insertion o
 unfolding rule is_erasable
-one_dead x t o b e k f n front = sym (ap (λ c. when c (Some (Erase (head o).id ∷ []))) (sym (dead_is x t o b e f) ∙ k) ∙ ap (λ y. Some (Erase y ∷ [])) (found_id x t o f))
+one_dead x t o b e k f n insertion = sym (ap (λ c. when c (Some (Erase (head o).id ∷ []))) (sym (dead_is x t o b e f) ∙ k) ∙ ap (λ y. Some (Erase y ∷ [])) (found_id x t o f))

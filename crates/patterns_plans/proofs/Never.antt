@@ -94,50 +94,50 @@ duplicates_chosen a r None e = refl
 duplicates_chosen a r (Some p) e = nothing (a p) ∙ ap (λ b. when (a p) (when b (r p))) (sym e)
 
 -- each rule
-module _ (t : Operation) (n : ℕ) (front : Place) (o : Operation) where
-  pub never_drop_zero : second_is_constant t (head o) ≡ false → None ≡ drop_zero t n front o
+module _ (t : Operation) (n : ℕ) (insertion : Place) (o : Operation) where
+  pub never_drop_zero : second_is_constant t (head o) ≡ false → None ≡ drop_zero t n insertion o
   never_drop_zero e = second_passes t _ _ _ (two (head o)) (of_operands (λ a b. is_constant t b) (head o) e)
 
-  pub never_drop_one : second_is_constant t (head o) ≡ false → None ≡ drop_one t n front o
+  pub never_drop_one : second_is_constant t (head o) ≡ false → None ≡ drop_one t n insertion o
   never_drop_one e = second_passes t _ _ _ (two (head o)) (of_operands (λ a b. is_constant t b) (head o) e)
 
-  pub never_drop_all_ones : second_is_constant t (head o) ≡ false → None ≡ drop_all_ones t n front o
+  pub never_drop_all_ones : second_is_constant t (head o) ≡ false → None ≡ drop_all_ones t n insertion o
   never_drop_all_ones e = second_passes t _ _ _ (two (head o)) (of_operands (λ a b. is_constant t b) (head o) e)
 
-  pub never_zero_remainder : second_is_constant t (head o) ≡ false → None ≡ zero_remainder t n front o
+  pub never_zero_remainder : second_is_constant t (head o) ≡ false → None ≡ zero_remainder t n insertion o
   never_zero_remainder e = second_passes t _ _ _ (two (head o)) (of_operands (λ a b. is_constant t b) (head o) e)
 
-  pub never_regroup_constants : second_is_constant t (head o) ≡ false → None ≡ regroup_constants t n front o
+  pub never_regroup_constants : second_is_constant t (head o) ≡ false → None ≡ regroup_constants t n insertion o
   never_regroup_constants e = second_given t _ _ (two (head o)) (of_operands (λ a b. is_constant t b) (head o) e)
 
-  pub never_add_negative : second_is_constant t (head o) ≡ false → None ≡ add_negative t n front o
+  pub never_add_negative : second_is_constant t (head o) ≡ false → None ≡ add_negative t n insertion o
   never_add_negative e = second_given t _ _ (two (head o)) (of_operands (λ a b. is_constant t b) (head o) e)
 
-  pub never_compare_zero : second_is_constant t (head o) ≡ false → None ≡ compare_zero t n front o
+  pub never_compare_zero : second_is_constant t (head o) ≡ false → None ≡ compare_zero t n insertion o
   never_compare_zero e = second_compared t _ (predicate (head o)) _ _ _ (two (head o)) (of_operands (λ a b. is_constant t b) (head o) e)
 
-  pub never_swap_constant : first_is_constant t (head o) ≡ false → None ≡ swap_constant t n front o
+  pub never_swap_constant : first_is_constant t (head o) ≡ false → None ≡ swap_constant t n insertion o
   never_swap_constant e = first_swapped t _ _ _ (two (head o)) (of_operands (λ a b. is_constant t a) (head o) e)
 
-  pub never_mirror_comparison : first_is_constant t (head o) ≡ false → None ≡ mirror_comparison t n front o
+  pub never_mirror_comparison : first_is_constant t (head o) ≡ false → None ≡ mirror_comparison t n insertion o
   never_mirror_comparison e = first_compared t _ (predicate (head o)) _ _ (two (head o)) (of_operands (λ a b. is_constant t a) (head o) e)
 
-  pub never_choose_known : chooses_by_constant t (head o) ≡ false → None ≡ choose_known t n front o
+  pub never_choose_known : chooses_by_constant t (head o) ≡ false → None ≡ choose_known t n insertion o
   never_choose_known e = first_chosen t _ _ (three (head o)) e
 
-  pub never_choose_truth : chooses_constant t (head o) ≡ false → None ≡ choose_truth t n front o
+  pub never_choose_truth : chooses_constant t (head o) ≡ false → None ≡ choose_truth t n insertion o
   never_choose_truth e = second_chosen t _ _ _ _ _ (three (head o)) e
 
-  pub never_cancel_itself : has_duplicates (head o) ≡ false → None ≡ cancel_itself t n front o
+  pub never_cancel_itself : has_duplicates (head o) ≡ false → None ≡ cancel_itself t n insertion o
   never_cancel_itself e = duplicates_pass _ _ (two (head o)) (of_operands same_value (head o) e)
 
-  pub never_keep_itself : has_duplicates (head o) ≡ false → None ≡ keep_itself t n front o
+  pub never_keep_itself : has_duplicates (head o) ≡ false → None ≡ keep_itself t n insertion o
   never_keep_itself e = duplicates_pass _ _ (two (head o)) (of_operands same_value (head o) e)
 
-  pub never_compare_itself : has_duplicates (head o) ≡ false → None ≡ compare_itself t n front o
+  pub never_compare_itself : has_duplicates (head o) ≡ false → None ≡ compare_itself t n insertion o
   never_compare_itself e = duplicates_compared _ (predicate (head o)) _ (two (head o)) (of_operands same_value (head o) e)
 
-  pub never_choose_same : chooses_duplicates (head o) ≡ false → None ≡ choose_same t n front o
+  pub never_choose_same : chooses_duplicates (head o) ≡ false → None ≡ choose_same t n insertion o
   never_choose_same e = duplicates_chosen _ _ (three (head o)) e
 
 -- by the defining operation of an operand
@@ -163,12 +163,12 @@ choice_by : (t : Operation) (name : List ℕ) (a : Three → Bool) (f : Three �
 choice_by t name a f None e = refl
 choice_by t name a f (Some p) e = nothing (a p) ∙ ap (λ s. when (a p) (given s (f p))) (never_named t name p.first e)
 
-module _ (t : Operation) (n : ℕ) (front : Place) (o : Operation) where
-  pub never_choose_opposite : chooses_by_opposite t (head o) ≡ false → None ≡ choose_opposite t n front o
+module _ (t : Operation) (n : ℕ) (insertion : Place) (o : Operation) where
+  pub never_choose_opposite : chooses_by_opposite t (head o) ≡ false → None ≡ choose_opposite t n insertion o
   never_choose_opposite e = choice_by t (codes "arith.xori") _ _ (three (head o)) e
 
-  pub never_extend_extension : extends_extension t (head o) ≡ false → None ≡ extend_extension t n front o
+  pub never_extend_extension : extends_extension t (head o) ≡ false → None ≡ extend_extension t n insertion o
   never_extend_extension e = cast_of t extensions _ _ (one (head o)) e
 
-  pub never_cut_cast : cuts_cast t (head o) ≡ false → None ≡ cut_cast t n front o
+  pub never_cut_cast : cuts_cast t (head o) ≡ false → None ≡ cut_cast t n insertion o
   never_cut_cast e = cast_of t resizing _ _ (one (head o)) e

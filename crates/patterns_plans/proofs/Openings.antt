@@ -29,21 +29,21 @@ module _ (c : ContextModel) where
   results_meant x values k (v ∷ vs) = ap (λ l. Replace (Result x k) (put_for x values v) ∷ l) (results_meant x values (k + 1) vs)
 
   abbrev all : ℕ → Place → List ℕ → List Value → List Value → List Coded
-  all x front ops values handed = ((argument_edits x 0 values ++ move_edits front ops) ++ result_edits x values 0 handed) ++ coded.Erase x ∷ []
+  all x insertion ops values handed = ((argument_edits x 0 values ++ move_edits insertion ops) ++ result_edits x values 0 handed) ++ coded.Erase x ∷ []
 
-  pub opening_meant : (x : ℕ) (front : Place) (ops : List ℕ) (values handed : List Value)
-      → edits_meaning c (((argument_edits x 0 values ++ move_edits front ops) ++ result_edits x values 0 handed) ++ coded.Erase x ∷ []) ≡ opening x front ops values handed
-  opening_meant x front ops values handed =
+  pub opening_meant : (x : ℕ) (insertion : Place) (ops : List ℕ) (values handed : List Value)
+      → edits_meaning c (((argument_edits x 0 values ++ move_edits insertion ops) ++ result_edits x values 0 handed) ++ coded.Erase x ∷ []) ≡ opening x insertion ops values handed
+  opening_meant x insertion ops values handed =
       let es = argument_edits x 0 values in
-      let fs = move_edits front ops in
+      let fs = move_edits insertion ops in
       let gs = result_edits x values 0 handed in
       let ws = map (put_for x values) handed in
       let a = replacing (arguments_from x 0 values) values in
-      let m = moving front ops in
+      let m = moving insertion ops in
       let r = replacing (results_from x 0 ws) ws in
       let e : List Edit = Erase x ∷ [] in
       (edits_more c) ((es ++ fs) ++ gs) (coded.Erase x ∷ [])
-      ∙ ap (λ l. l ++ e) ((edits_more c) (es ++ fs) gs ∙ (λ i. ((edits_more c) es fs ∙ λ j. arguments_meant x 0 values j ++ moves_meant front ops j) i ++ results_meant x values 0 handed i))
+      ∙ ap (λ l. l ++ e) ((edits_more c) (es ++ fs) gs ∙ (λ i. ((edits_more c) es fs ∙ λ j. arguments_meant x 0 values j ++ moves_meant insertion ops j) i ++ results_meant x values 0 handed i))
       ∙ ap (λ l. l ++ e) (append_assoc a m r)
       ∙ append_assoc a (m ++ r) e
 
@@ -63,21 +63,21 @@ module _ (c : ContextModel) where
   results_fit x values k [] = tt
   results_fit x values k (v ∷ vs) = (tt, results_fit x values (k + 1) vs)
 
-  pub opening_fits : (x : ℕ) (front : Place) (ops : List ℕ) (values handed : List Value) → AllFit c (((argument_edits x 0 values ++ move_edits front ops) ++ result_edits x values 0 handed) ++ coded.Erase x ∷ [])
-  opening_fits x front ops values handed =
-      all_fit ((argument_edits x 0 values ++ move_edits front ops) ++ result_edits x values 0 handed) (coded.Erase x ∷ [])
-      (all_fit (argument_edits x 0 values ++ move_edits front ops) (result_edits x values 0 handed) (all_fit (argument_edits x 0 values) (move_edits front ops) (arguments_fit x 0 values) (moves_fit front ops)) (results_fit x values 0 handed)) (tt, tt)
+  pub opening_fits : (x : ℕ) (insertion : Place) (ops : List ℕ) (values handed : List Value) → AllFit c (((argument_edits x 0 values ++ move_edits insertion ops) ++ result_edits x values 0 handed) ++ coded.Erase x ∷ [])
+  opening_fits x insertion ops values handed =
+      all_fit ((argument_edits x 0 values ++ move_edits insertion ops) ++ result_edits x values 0 handed) (coded.Erase x ∷ [])
+      (all_fit (argument_edits x 0 values ++ move_edits insertion ops) (result_edits x values 0 handed) (all_fit (argument_edits x 0 values) (move_edits insertion ops) (arguments_fit x 0 values) (moves_fit insertion ops)) (results_fit x values 0 handed)) (tt, tt)
 
   -- all edits one after another
-  pub built : (x : ℕ) (front : Place) (ops : List ℕ) (values handed : List Value) (es e0 e1 e2 e3 : List Coded) → e0 ≡ [] → e1 ≡ e0 ++ argument_edits x 0 values → e2 ≡ e1 ++ move_edits front ops
-      → e3 ≡ e2 ++ result_edits x values 0 handed → es ≡ e3 ++ coded.Erase x ∷ [] → es ≡ ((argument_edits x 0 values ++ move_edits front ops) ++ result_edits x values 0 handed) ++ coded.Erase x ∷ []
-  built x front ops values handed es e0 e1 e2 e3 a b d e f =
-      f ∙ ap (λ l. l ++ coded.Erase x ∷ []) (e ∙ ap (λ l. l ++ result_edits x values 0 handed) (d ∙ ap (λ l. l ++ move_edits front ops) (b ∙ ap (λ l. l ++ argument_edits x 0 values) a)))
+  pub built : (x : ℕ) (insertion : Place) (ops : List ℕ) (values handed : List Value) (es e0 e1 e2 e3 : List Coded) → e0 ≡ [] → e1 ≡ e0 ++ argument_edits x 0 values → e2 ≡ e1 ++ move_edits insertion ops
+      → e3 ≡ e2 ++ result_edits x values 0 handed → es ≡ e3 ++ coded.Erase x ∷ [] → es ≡ ((argument_edits x 0 values ++ move_edits insertion ops) ++ result_edits x values 0 handed) ++ coded.Erase x ∷ []
+  built x insertion ops values handed es e0 e1 e2 e3 a b d e f =
+      f ∙ ap (λ l. l ++ coded.Erase x ∷ []) (e ∙ ap (λ l. l ++ result_edits x values 0 handed) (d ∙ ap (λ l. l ++ move_edits insertion ops) (b ∙ ap (λ l. l ++ argument_edits x 0 values) a)))
 
 -- without values and operations, only results are replaced
 same_values : (x : ℕ) (vs : List Value) → map (put_for x []) vs ≡ vs
 same_values x [] = refl
 same_values x (v ∷ vs) = ap (λ l. v ∷ l) (same_values x vs)
 
-pub opening_none : (x : ℕ) (front : Place) (vs : List Value) → opening x front [] [] vs ≡ replacing (results_from x 0 vs) vs ++ Erase x ∷ []
-opening_none x front vs = ap (λ l. replacing (results_from x 0 l) l ++ Erase x ∷ []) (same_values x vs)
+pub opening_none : (x : ℕ) (insertion : Place) (vs : List Value) → opening x insertion [] [] vs ≡ replacing (results_from x 0 vs) vs ++ Erase x ∷ []
+opening_none x insertion vs = ap (λ l. replacing (results_from x 0 l) l ++ Erase x ∷ []) (same_values x vs)

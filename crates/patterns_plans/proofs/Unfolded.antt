@@ -15,14 +15,14 @@ use Rattle.ir_event.specs.trees.declared.value.Value.{Value}
 use Rattle.ir_event.specs.trees.Tree.{head}
 use Rattle.ir_event.specs.trees.Meaning.{Operation}
 use Rattle.ir_event.specs.types.Bits.{width_of}
-use Rattle.op_registry.specs.Registry.{beside}
+use Rattle.op_registry.specs.Registry.{next_to}
 use Rattle.dialects_int.specs.Arithmetic.{absorbs}
 use Rattle.dialects_int.specs.declared.operations.Arithmetic.{Arithmetic}
 use Rattle.dialects_int.specs.declared.operations.Arithmetic.TheVariants as op
 use Rattle.dialects_int.specs.declared.operations.Predicate.{Predicate}
 use Rattle.dialects_int.specs.declared.operations.Rule.{Rule}
 use Rattle.dialects_int.specs.declared.operations.Rule.TheVariants.{Constant, Binary, Compare, Select, IntegerCast, IndexCast}
-use Rattle.dialects_int.specs.Folds.{Known, alone, asked, bits_at, both, compared, fold_by, fold_of, is_property, kind_of, or_else, pair_fold, pair_value, property_of, rule_of, rules, same_kind, with}
+use Rattle.dialects_int.specs.Folds.{Known, alone, requested, bits_at, both, compared, fold_by, fold_of, is_property, kind_of, or_else, pair_fold, pair_value, property_of, rule_of, rules, same_kind, with}
 use Rattle.patterns_matchers.proofs.Cleaned.{known_not}
 use Rattle.patterns_matchers.specs.Folding.{folded_to, may_read, fold_to_constant}
 use Rattle.patterns_matchers.specs.Looks.{is_constant, known, when}
@@ -34,12 +34,12 @@ other : Rule → Bool
 other Constant = false
 other _ = true
 
-all_beside : (name : List ℕ) (rows : List (List ℕ × Rule)) → list_all (λ (row : List ℕ × Rule). other row.1) rows ≡ true → (r : Rule) → beside name rows ≡ Some r → other r ≡ true
-all_beside name [] a r e = absurd cc
-all_beside name (row ∷ rows) a r e = go (bytes_eq name row.0) (other row.1) refl a e (all_beside name rows)
+all_next_to : (name : List ℕ) (rows : List (List ℕ × Rule)) → list_all (λ (row : List ℕ × Rule). other row.1) rows ≡ true → (r : Rule) → next_to name rows ≡ Some r → other r ≡ true
+all_next_to name [] a r e = absurd cc
+all_next_to name (row ∷ rows) a r e = go (bytes_eq name row.0) (other row.1) refl a e (all_next_to name rows)
   where
-    go : (b c : Bool) → other row.1 ≡ c → (c && list_all (λ (row : List ℕ × Rule). other row.1) rows) ≡ true → (if b then Some row.1 else beside name rows) ≡ Some r
-        → (list_all (λ (row : List ℕ × Rule). other row.1) rows ≡ true → (r : Rule) → beside name rows ≡ Some r → other r ≡ true) → other r ≡ true
+    go : (b c : Bool) → other row.1 ≡ c → (c && list_all (λ (row : List ℕ × Rule). other row.1) rows) ≡ true → (if b then Some row.1 else next_to name rows) ≡ Some r
+        → (list_all (λ (row : List ℕ × Rule). other row.1) rows ≡ true → (r : Rule) → next_to name rows ≡ Some r → other r ≡ true) → other r ≡ true
     go b false i k f later = absurd cc
     go true true i k f later = let one : row.1 ≡ r = cc in ap other (sym one) ∙ i
     go false true i k f later = later k r f
@@ -49,8 +49,8 @@ trailing : List (List ℕ × Rule) → List (List ℕ × Rule)
 trailing [] = []
 trailing (row ∷ rows) = rows
 
-begins : (name : List ℕ) (rows : List (List ℕ × Rule)) (word : List ℕ) (c r : Rule) (more : List (List ℕ × Rule)) → rows ≡ (word, c) ∷ more → bytes_eq name word ≡ false → beside name rows ≡ Some r → beside name more ≡ Some r
-begins name rows word c r more e f h = sym (ap (beside name) e ∙ ap (λ b. if b then Some c else beside name more) f) ∙ h
+begins : (name : List ℕ) (rows : List (List ℕ × Rule)) (word : List ℕ) (c r : Rule) (more : List (List ℕ × Rule)) → rows ≡ (word, c) ∷ more → bytes_eq name word ≡ false → next_to name rows ≡ Some r → next_to name more ≡ Some r
+begins name rows word c r more e f h = sym (ap (next_to name) e ∙ ap (λ b. if b then Some c else next_to name more) f) ∙ h
 
 rest_is : rules ≡ (codes "arith.constant", Constant) ∷ trailing rules
 unfolding rules trailing
@@ -62,7 +62,7 @@ rest_other = refl
 
 others : (name : List ℕ) (r : Rule) → named (codes "arith.constant") name ≡ false → rule_of name ≡ Some r → other r ≡ true
 unfolding rule_of
-others name r e f = all_beside name (trailing rules) rest_other r (begins name rules (codes "arith.constant") Constant r (trailing rules) rest_is e f)
+others name r e f = all_next_to name (trailing rules) rest_other r (begins name rules (codes "arith.constant") Constant r (trailing rules) rest_is e f)
 
 -- no operand is known
 abbrev nones : List Value → List (Option Known)
@@ -82,7 +82,7 @@ none_folded (Binary o) props k (a ∷ b ∷ []) e = refl
 none_folded (Binary o) props k (a ∷ b ∷ c ∷ vs) e = refl
 none_folded Compare props k [] e = refl
 none_folded Compare props k (a ∷ []) e = refl
-none_folded Compare props k (a ∷ b ∷ []) e = no_comparison (asked (property_of (codes "predicate") props)) (same_kind k (kind.Int 1))
+none_folded Compare props k (a ∷ b ∷ []) e = no_comparison (requested (property_of (codes "predicate") props)) (same_kind k (kind.Int 1))
 none_folded Compare props k (a ∷ b ∷ c ∷ vs) e = refl
 none_folded Select props k [] e = refl
 none_folded Select props k (a ∷ []) e = refl
@@ -123,23 +123,23 @@ none_known t (v ∷ vs) e = go (is_constant t v) refl e (none_known t vs)
 abbrev Unfolded : Operation → List (Option Known) → Type 0
 Unfolded o ks = named (codes "arith.constant") (head o).name ≡ false → fold_of (head o).name (head o).properties ks (head o).results ≡ None
 
-never_over : (t : Operation) (n : ℕ) (front : Place) (o : Operation) → Unfolded o (map (known t) (head o).operands) → None ≡ fold_to_constant t n front o
-never_over t n front o e = go (named (codes "arith.constant") (head o).name) refl
+never_over : (t : Operation) (n : ℕ) (insertion : Place) (o : Operation) → Unfolded o (map (known t) (head o).operands) → None ≡ fold_to_constant t n insertion o
+never_over t n insertion o e = go (named (codes "arith.constant") (head o).name) refl
   where
-    never : (tys : List TypeTerm) (a : Bool) → None ≡ when a (folded_to t n front o tys None)
+    never : (tys : List TypeTerm) (a : Bool) → None ≡ when a (folded_to t n insertion o tys None)
     never [] true = refl
     never (ty ∷ []) true = refl
     never (ty ∷ u ∷ tys) true = refl
     never tys false = refl
 
-    go : (b : Bool) → named (codes "arith.constant") (head o).name ≡ b → None ≡ when (not b && list_all (may_read t n front o) (head o).operands) (folded_to t n front o (head o).results (fold_of (head o).name (head o).properties (map (known t) (head o).operands) (head o).results))
+    go : (b : Bool) → named (codes "arith.constant") (head o).name ≡ b → None ≡ when (not b && list_all (may_read t n insertion o) (head o).operands) (folded_to t n insertion o (head o).results (fold_of (head o).name (head o).properties (map (known t) (head o).operands) (head o).results))
     go true i = refl
     go false i =
-        never (head o).results (list_all (may_read t n front o) (head o).operands)
-        ∙ ap (λ k. when (list_all (may_read t n front o) (head o).operands) (folded_to t n front o (head o).results k)) (sym (e i))
+        never (head o).results (list_all (may_read t n insertion o) (head o).operands)
+        ∙ ap (λ k. when (list_all (may_read t n insertion o) (head o).operands) (folded_to t n insertion o (head o).results k)) (sym (e i))
 
-never_unparsed : (t : Operation) (n : ℕ) (front : Place) (o : Operation) → reads_constant t (head o) ≡ false → None ≡ fold_to_constant t n front o
-never_unparsed t n front o e = never_over t n front o (λ i.
+never_unparsed : (t : Operation) (n : ℕ) (insertion : Place) (o : Operation) → reads_constant t (head o) ≡ false → None ≡ fold_to_constant t n insertion o
+never_unparsed t n insertion o e = never_over t n insertion o (λ i.
     ap (λ ks. fold_of (head o).name (head o).properties ks (head o).results) (none_known t (head o).operands e)
     ∙ no_fold (head o).name (head o).properties (head o).operands (head o).results i)
 
@@ -209,7 +209,7 @@ partly_folded Constant props k (x ∷ ks) e f = refl
 partly_folded (Binary o) props k ks e f = no_pair o (not-true (lone o) e) k ks f
 partly_folded Compare props k [] e f = refl
 partly_folded Compare props k (x ∷ []) e f = refl
-partly_folded Compare props k (x ∷ y ∷ []) e f = not_both (asked (property_of (codes "predicate") props)) (same_kind k (kind.Int 1)) x y f
+partly_folded Compare props k (x ∷ y ∷ []) e f = not_both (requested (property_of (codes "predicate") props)) (same_kind k (kind.Int 1)) x y f
 partly_folded Compare props k (x ∷ y ∷ z ∷ ks) e f = refl
 partly_folded Select props k ks e f = absurd cc
 partly_folded (IntegerCast c) props k [] e f = refl
@@ -238,19 +238,19 @@ one_firm name row r i j e f = left (whole r) (among partial name) (ap (λ n. who
     left false true e f = absurd cc
     left false false e f = absurd cc
 
-beside_firm : (name : List ℕ) (rows : List (List ℕ × Rule)) → list_all firm rows ≡ true → among partial name ≡ false → (r : Rule) → beside name rows ≡ Some r → whole r ≡ true
-beside_firm name [] a few r e = absurd cc
-beside_firm name (row ∷ rows) a few r e = go (bytes_eq name row.0) refl (firm row) refl a e (beside_firm name rows)
+next_to_firm : (name : List ℕ) (rows : List (List ℕ × Rule)) → list_all firm rows ≡ true → among partial name ≡ false → (r : Rule) → next_to name rows ≡ Some r → whole r ≡ true
+next_to_firm name [] a few r e = absurd cc
+next_to_firm name (row ∷ rows) a few r e = go (bytes_eq name row.0) refl (firm row) refl a e (next_to_firm name rows)
   where
-    go : (b : Bool) → bytes_eq name row.0 ≡ b → (c : Bool) → firm row ≡ c → (c && list_all firm rows) ≡ true → (if b then Some row.1 else beside name rows) ≡ Some r
-        → (list_all firm rows ≡ true → among partial name ≡ false → (r : Rule) → beside name rows ≡ Some r → whole r ≡ true) → whole r ≡ true
+    go : (b : Bool) → bytes_eq name row.0 ≡ b → (c : Bool) → firm row ≡ c → (c && list_all firm rows) ≡ true → (if b then Some row.1 else next_to name rows) ≡ Some r
+        → (list_all firm rows ≡ true → among partial name ≡ false → (r : Rule) → next_to name rows ≡ Some r → whole r ≡ true) → whole r ≡ true
     go b i false j k f later = absurd cc
     go true i true j k f later = let one : row.1 ≡ r = cc in one_firm name row r ((bytes_eq-Decides name row.0).0 i) one j few
     go false i true j k f later = later k few r f
 
 rule_whole : (name : List ℕ) (r : Rule) → among partial name ≡ false → rule_of name ≡ Some r → whole r ≡ true
 unfolding rule_of
-rule_whole name r few e = beside_firm name rules all_firm few r e
+rule_whole name r few e = next_to_firm name rules all_firm few r e
 
 no_partial : (name : List ℕ) (props : List (List ℕ × AttrTerm)) (ks : List (Option Known)) (tys : List TypeTerm) → among partial name ≡ false → list_all is_some ks ≡ false → fold_of name props ks tys ≡ None
 unfolding fold_of
@@ -276,13 +276,13 @@ one_unknown t (v ∷ vs) e = go (is_constant t v) refl e (one_unknown t vs)
     go true i f later = ends (is_some (known t v)) (list_all is_some (map (known t) vs)) (later f)
     go false i f later = ap (λ k. is_some k && list_all is_some (map (known t) vs)) (sym (known_not t v false (sym i) refl))
 
-never_partly : (t : Operation) (n : ℕ) (front : Place) (o : Operation) → among partial (head o).name ≡ false → reads_constants t (head o) ≡ false → None ≡ fold_to_constant t n front o
-never_partly t n front o few e = never_over t n front o (λ i.
+never_partly : (t : Operation) (n : ℕ) (insertion : Place) (o : Operation) → among partial (head o).name ≡ false → reads_constants t (head o) ≡ false → None ≡ fold_to_constant t n insertion o
+never_partly t n insertion o few e = never_over t n insertion o (λ i.
     no_partial (head o).name (head o).properties (map (known t) (head o).operands) (head o).results few (one_unknown t (head o).operands e))
 
-pub never_fold_to_constant : (t : Operation) (n : ℕ) (front : Place) (o : Operation) → may_fold t (head o) ≡ false → None ≡ fold_to_constant t n front o
-never_fold_to_constant t n front o e = go (among partial (head o).name) refl e
+pub never_fold_to_constant : (t : Operation) (n : ℕ) (insertion : Place) (o : Operation) → may_fold t (head o) ≡ false → None ≡ fold_to_constant t n insertion o
+never_fold_to_constant t n insertion o e = go (among partial (head o).name) refl e
   where
-    go : (b : Bool) → among partial (head o).name ≡ b → (if b then reads_constant t (head o) else reads_constants t (head o)) ≡ false → None ≡ fold_to_constant t n front o
-    go true i f = never_unparsed t n front o f
-    go false i f = never_partly t n front o i f
+    go : (b : Bool) → among partial (head o).name ≡ b → (if b then reads_constant t (head o) else reads_constants t (head o)) ≡ false → None ≡ fold_to_constant t n insertion o
+    go true i f = never_unparsed t n insertion o f
+    go false i f = never_partly t n insertion o i f

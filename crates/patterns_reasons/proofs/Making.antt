@@ -29,18 +29,18 @@ pub planned_some : {X Y : Type 0} (f : X → Y) (p : Option X) (b : Bool) (q : O
 planned_some f p b q e h = e ∙ mapped_some f p ∙ ap is_some h
 
 -- the rules on branches and loops, by their names
-module _ (t : Operation) (n : ℕ) (front : Place) (x : ℕ) (r : Rule) (b : Bool) (o : Operation) (is : find x t ≡ Some o) where
-  pub branch_made : r ≡ OpenBranch → b ≡ is_some (open_branch_at x t front) → b ≡ is_some (rule r t n front o)
+module _ (t : Operation) (n : ℕ) (insertion : Place) (x : ℕ) (r : Rule) (b : Bool) (o : Operation) (is : find x t ≡ Some o) where
+  pub branch_made : r ≡ OpenBranch → b ≡ is_some (open_branch_at x t insertion) → b ≡ is_some (rule r t n insertion o)
   unfolding rule
-  branch_made k e = e ∙ ap (λ z. is_some (given z (λ o. open_branch t front o))) is ∙ ap (λ r. is_some (rule r t n front o)) (sym k)
+  branch_made k e = e ∙ ap (λ z. is_some (given z (λ o. open_branch t insertion o))) is ∙ ap (λ r. is_some (rule r t n insertion o)) (sym k)
 
-  pub loop_made : r ≡ OpenLoop → b ≡ is_some (open_loop_at x t front) → b ≡ is_some (rule r t n front o)
+  pub loop_made : r ≡ OpenLoop → b ≡ is_some (open_loop_at x t insertion) → b ≡ is_some (rule r t n insertion o)
   unfolding rule
-  loop_made k e = e ∙ ap (λ z. is_some (given z (λ o. open_loop t front o))) is ∙ ap (λ r. is_some (rule r t n front o)) (sym k)
+  loop_made k e = e ∙ ap (λ z. is_some (given z (λ o. open_loop t insertion o))) is ∙ ap (λ r. is_some (rule r t n insertion o)) (sym k)
 
-  pub stop_made : r ≡ StopLoop → b ≡ is_some (stop_loop_at x t front) → b ≡ is_some (rule r t n front o)
+  pub stop_made : r ≡ StopLoop → b ≡ is_some (stop_loop_at x t insertion) → b ≡ is_some (rule r t n insertion o)
   unfolding rule
-  stop_made k e = e ∙ ap (λ z. is_some (given z (λ o. stop_loop t front o))) is ∙ ap (λ r. is_some (rule r t n front o)) (sym k)
+  stop_made k e = e ∙ ap (λ z. is_some (given z (λ o. stop_loop t insertion o))) is ∙ ap (λ r. is_some (rule r t n insertion o)) (sym k)
 
 -- ---- the operation that the store shows
 pub shown_of : (x : ℕ) (t : Operation) (h : Header) → Some h ≡ head_at x t → (o : Operation) × (find x t ≡ Some o) × (head o ≡ h) × (h.id ≡ x)

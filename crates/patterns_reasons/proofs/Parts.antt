@@ -84,38 +84,38 @@ module _ {Y : Type 0} where
   -- ---- comparisons, with a predicate
 
   module _ {N : Type 0} where
-    same_asked : (a s : Bool) (q : Option N) (e : N → Y) → (a && is_some q) && (s && true) ≡ is_some (when a (given q (λ n. when s (Some (e n)))))
-    same_asked true s None e = refl
-    same_asked true s (Some n) e = some_when s (e n)
-    same_asked false s q e = refl
+    same_requested : (a s : Bool) (q : Option N) (e : N → Y) → (a && is_some q) && (s && true) ≡ is_some (when a (given q (λ n. when s (Some (e n)))))
+    same_requested true s None e = refl
+    same_requested true s (Some n) e = some_when s (e n)
+    same_requested false s q e = refl
 
-    mirror_asked : (a s c : Bool) (q : Option N) (e : N → Y) → (a && is_some q) && (s && (c && true)) ≡ is_some (when a (given q (λ n. when (s && c) (Some (e n)))))
-    mirror_asked true s c None e = refl
-    mirror_asked true s c (Some n) e = in_turn s c (e n)
-    mirror_asked false s c q e = refl
+    mirror_requested : (a s c : Bool) (q : Option N) (e : N → Y) → (a && is_some q) && (s && (c && true)) ≡ is_some (when a (given q (λ n. when (s && c) (Some (e n)))))
+    mirror_requested true s c None e = refl
+    mirror_requested true s c (Some n) e = in_turn s c (e n)
+    mirror_requested false s c q e = refl
 
-    zero_asked : (a : Bool) (k : Option Known) (f : Known → Bool) (g : N → Bool) (q : Option N) (e : N → Y)
+    zero_requested : (a : Bool) (k : Option Known) (f : Known → Bool) (g : N → Bool) (q : Option N) (e : N → Y)
         → (a && is_some q) && (is_some k && (passes f k && (has g q && true))) ≡ is_some (when a (given q (λ n. when (passes f k && g n) (Some (e n)))))
-    zero_asked true k f g None e = refl
-    zero_asked true k f g (Some n) e = truth_known (g n) k f (e n)
-    zero_asked false k f g q e = refl
+    zero_requested true k f g None e = refl
+    zero_requested true k f g (Some n) e = truth_known (g n) k f (e n)
+    zero_requested false k f g q e = refl
 
     module _ {X : Type 0} where
       pub compared : (a s : X → Bool) (o : Option X) (q : Option N) (e : X → N → Y)
           → (has a o && is_some q) && (has s o && true) ≡ is_some (given o (λ p. when (a p) (given q (λ n. when (s p) (Some (e p n))))))
       compared a s None q e = refl
-      compared a s (Some p) q e = same_asked (a p) (s p) q (e p)
+      compared a s (Some p) q e = same_requested (a p) (s p) q (e p)
 
       pub mirrored : (a s c : X → Bool) (o : Option X) (q : Option N) (e : X → N → Y)
           → (has a o && is_some q) && (has s o && (has c o && true)) ≡ is_some (given o (λ p. when (a p) (given q (λ n. when (s p && c p) (Some (e p n))))))
       mirrored a s c None q e = refl
-      mirrored a s c (Some p) q e = mirror_asked (a p) (s p) (c p) q (e p)
+      mirrored a s c (Some p) q e = mirror_requested (a p) (s p) (c p) q (e p)
 
       pub with_zero : (a : X → Bool) (k : X → Option Known) (f : Known → Bool) (g : N → Bool) (o : Option X) (q : Option N) (e : X → N → Y)
           → (has a o && is_some q) && (has (λ p. is_some (k p)) o && (has (λ p. passes f (k p)) o && (has g q && true)))
           ≡ is_some (given o (λ p. when (a p) (given q (λ n. when (passes f (k p) && g n) (Some (e p n))))))
       with_zero a k f g None q e = refl
-      with_zero a k f g (Some p) q e = zero_asked (a p) (k p) f g q (e p)
+      with_zero a k f g (Some p) q e = zero_requested (a p) (k p) f g q (e p)
 
   -- ---- defining operations of operands
 

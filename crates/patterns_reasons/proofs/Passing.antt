@@ -9,7 +9,7 @@ use Rattle.ir_event.specs.trees.Meaning.{Operation}
 use Rattle.ir_event.specs.trees.Tree.{head}
 use Rattle.patterns_base.specs.Keeps.{given}
 use Rattle.patterns_base.specs.Looks.{is_erasable, known, is_known, when, one, two, three, predicate, source, source_among, is_index, is_index_value, is_constant, body, Two, One}
-use Rattle.op_registry.specs.Registry.{beside}
+use Rattle.op_registry.specs.Registry.{next_to}
 use Rattle.patterns_base.specs.Casting.{resizing, unrealized, through_index}
 use Rattle.patterns_base.specs.Words.{among, commutative, predicate_of_min_max, division_of_remainder, extensions, index_casts, named}
 use Rattle.patterns_base.specs.Lowering.{any}
@@ -27,10 +27,10 @@ any_mapped : {X : Type 0} (f : X → Bool) (xs : List X) → any (map f xs) ≡ 
 any_mapped f [] = refl
 any_mapped f (x ∷ xs) = ap (λ b. f x || b) (any_mapped f xs)
 
-module _ (t : Operation) (n : ℕ) (front : Place) (o : Operation) where
+module _ (t : Operation) (n : ℕ) (insertion : Place) (o : Operation) where
   -- all conditions of rule r hold exactly if the rule makes edits
   abbrev pub Passes : Rule → Type 0
-  Passes r = all_hold (tests r t o (is_some (rule r t n front o))) ≡ is_some (rule r t n front o)
+  Passes r = all_hold (tests r t o (is_some (rule r t n insertion o))) ≡ is_some (rule r t n insertion o)
 
   erase_dead : Passes rules.EraseDead
   unfolding rule is_erasable
@@ -110,7 +110,7 @@ module _ (t : Operation) (n : ℕ) (front : Place) (o : Operation) where
 
   expand_min_max : Passes rules.ExpandMinMax
   unfolding rule
-  expand_min_max = parts.of_one _ _ (two (head o)) (λ p. parts.something (beside p.name predicate_of_min_max) _)
+  expand_min_max = parts.of_one _ _ (two (head o)) (λ p. parts.something (next_to p.name predicate_of_min_max) _)
 
   expand_difference : Passes rules.ExpandDifference
   unfolding rule
@@ -118,7 +118,7 @@ module _ (t : Operation) (n : ℕ) (front : Place) (o : Operation) where
 
   expand_remainder : Passes rules.ExpandRemainder
   unfolding rule
-  expand_remainder = parts.of_one _ _ (two (head o)) (λ p. parts.something (beside p.name division_of_remainder) _)
+  expand_remainder = parts.of_one _ _ (two (head o)) (λ p. parts.something (next_to p.name division_of_remainder) _)
 
   lower_index : Passes rules.LowerIndex
   unfolding rule
@@ -139,11 +139,11 @@ module _ (t : Operation) (n : ℕ) (front : Place) (o : Operation) where
   cast_back = casts (one (head o))
     where
       inside : (b : Bool) (p : One) → all_hold (if b then unrealized_tests t p else (asks WrongOperation (among index_casts p.name) ∷ index_tests t p))
-          ≡ is_some (if b then unrealized t n front o p else when (among index_casts p.name) (through_index t n front o p))
+          ≡ is_some (if b then unrealized t n insertion o p else when (among index_casts p.name) (through_index t n insertion o p))
       inside true p = parts.unrealized one _ _ _ _ (source t p.name p.first)
       inside false p = parts.through one _ _ _ _ (source t p.name p.first)
 
-      casts : (p : Option One) → all_hold (cast_tests t p) ≡ is_some (given p (λ p. if named (codes "builtin.unrealized_conversion_cast") p.name then unrealized t n front o p else when (among index_casts p.name) (through_index t n front o p)))
+      casts : (p : Option One) → all_hold (cast_tests t p) ≡ is_some (given p (λ p. if named (codes "builtin.unrealized_conversion_cast") p.name then unrealized t n insertion o p else when (among index_casts p.name) (through_index t n insertion o p)))
       casts None = refl
       casts (Some p) = inside (named (codes "builtin.unrealized_conversion_cast") p.name) p
 
@@ -151,12 +151,12 @@ module _ (t : Operation) (n : ℕ) (front : Place) (o : Operation) where
   unfolding rule
   open_branch = of_if (named (codes "scf.if") (head o).name) (head o).operands
     where
-      of_one : (vs : List Value) → is_single vs && (has (is_known t) (first_of vs) && (is_some (by_condition t front o vs) && true)) ≡ is_some (by_condition t front o vs)
+      of_one : (vs : List Value) → is_single vs && (has (is_known t) (first_of vs) && (is_some (by_condition t insertion o vs) && true)) ≡ is_some (by_condition t insertion o vs)
       of_one [] = refl
       of_one (c ∷ []) = parts.known_last (known t c) _
       of_one (c ∷ d ∷ vs) = refl
 
-      of_if : (b : Bool) (vs : List Value) → (b && is_single vs) && (has (is_known t) (first_of vs) && (is_some (when b (by_condition t front o vs)) && true)) ≡ is_some (when b (by_condition t front o vs))
+      of_if : (b : Bool) (vs : List Value) → (b && is_single vs) && (has (is_known t) (first_of vs) && (is_some (when b (by_condition t insertion o vs)) && true)) ≡ is_some (when b (by_condition t insertion o vs))
       of_if true vs = of_one vs
       of_if false vs = refl
 
@@ -164,11 +164,11 @@ module _ (t : Operation) (n : ℕ) (front : Place) (o : Operation) where
   unfolding rule
   open_loop = of_for (named (codes "scf.for") (head o).name) (loop_from (head o).operands)
     where
-      of_loop : (l : Option Loop) → is_some l && (has (are_bounds_known t) l && ((has (is_never t) l || is_some (body t o 0)) && (is_some (given l (by_bounds t front o)) && true))) ≡ is_some (given l (by_bounds t front o))
+      of_loop : (l : Option Loop) → is_some l && (has (are_bounds_known t) l && ((has (is_never t) l || is_some (body t o 0)) && (is_some (given l (by_bounds t insertion o)) && true))) ≡ is_some (given l (by_bounds t insertion o))
       of_loop None = refl
       of_loop (Some l) = parts.by_bounds _ _ _ _ (known t l.lower) (known t l.upper) (known t l.step) (body t o 0)
 
-      of_for : (b : Bool) (l : Option Loop) → (b && is_some l) && (has (are_bounds_known t) l && ((has (is_never t) l || is_some (body t o 0)) && (is_some (when b (given l (by_bounds t front o))) && true))) ≡ is_some (when b (given l (by_bounds t front o)))
+      of_for : (b : Bool) (l : Option Loop) → (b && is_some l) && (has (are_bounds_known t) l && ((has (is_never t) l || is_some (body t o 0)) && (is_some (when b (given l (by_bounds t insertion o))) && true))) ≡ is_some (when b (given l (by_bounds t insertion o)))
       of_for true l = of_loop l
       of_for false l = refl
 

@@ -7,7 +7,7 @@ use Rattle.ir_event.specs.trees.Ids.{find}
 use Rattle.ir_event.specs.trees.Meaning.{Operation}
 use Rattle.ir_event.specs.Modules.{Module}
 use Rattle.patterns_base.specs.Keeps.{given}
-use Rattle.patterns_base.specs.Looks.{Header, front_of, when}
+use Rattle.patterns_base.specs.Looks.{Header, insertion_of, when}
 use Rattle.patterns_base.specs.Rewrites.{edits_of, eligible}
 use Rattle.patterns_base.specs.Rules.{has_rule, rule}
 use Rattle.patterns_base.specs.declared.rule.Rule.{Rule}
@@ -60,20 +60,20 @@ module _ (r : Rule) (m : Module) (x : ℕ) (h : Header) (e : Some h ≡ head_at 
   with_id : record h { id = x } ≡ head o
   with_id = (λ i. record h { id = sym at.3 i }) ∙ sym same
 
-  pub at_root : None ≡ front_of x m.tree → Some IsRoot ≡ reason_of r m x
+  pub at_root : None ≡ insertion_of x m.tree → Some IsRoot ≡ reason_of r m x
   at_root f =
       sym (reason_there r m x o is ∙ ap (λ (p : Option Place). unless_holds (is_some p) IsRoot (unless_holds (eligible r m.tree (head o)) NotVerified
       (unless_holds (has_rule r (head o).name) WrongOperation (first_failed_condition (tests r m.tree o (applies r m x)))))) (sym f))
 
-  module _ (front : Place) (f : Some front ≡ front_of x m.tree) where
-    after_front : reason_of r m x ≡ unless_holds (eligible r m.tree (head o)) NotVerified (unless_holds (has_rule r (head o).name) WrongOperation (first_failed_condition (tests r m.tree o (applies r m x))))
-    after_front =
+  module _ (insertion : Place) (f : Some insertion ≡ insertion_of x m.tree) where
+    after_insertion : reason_of r m x ≡ unless_holds (eligible r m.tree (head o)) NotVerified (unless_holds (has_rule r (head o).name) WrongOperation (first_failed_condition (tests r m.tree o (applies r m x))))
+    after_insertion =
         reason_there r m x o is ∙ ap (λ (p : Option Place). unless_holds (is_some p) IsRoot (unless_holds (eligible r m.tree (head o)) NotVerified
         (unless_holds (has_rule r (head o).name) WrongOperation (first_failed_condition (tests r m.tree o (applies r m x)))))) (sym f)
 
     pub unfit : (b : Bool) → b ≡ eligible r m.tree (record h { id = x }) → b ≡ false → Some NotVerified ≡ reason_of r m x
     unfit b s n =
-        sym (after_front ∙ ap (λ c. unless_holds c NotVerified (unless_holds (has_rule r (head o).name) WrongOperation (first_failed_condition (tests r m.tree o (applies r m x)))))
+        sym (after_insertion ∙ ap (λ c. unless_holds c NotVerified (unless_holds (has_rule r (head o).name) WrongOperation (first_failed_condition (tests r m.tree o (applies r m x)))))
         (ap (eligible r m.tree) (sym with_id) ∙ sym s ∙ n))
 
     module _ (b : Bool) (s : b ≡ eligible r m.tree (record h { id = x })) (fit : b ≡ true) where
@@ -81,22 +81,22 @@ module _ (r : Rule) (m : Module) (x : ℕ) (h : Header) (e : Some h ≡ head_at 
       eligible_it = ap (eligible r m.tree) (sym with_id) ∙ sym s ∙ fit
 
       after_fit : reason_of r m x ≡ unless_holds (has_rule r (head o).name) WrongOperation (first_failed_condition (tests r m.tree o (applies r m x)))
-      after_fit = after_front ∙ ap (λ c. unless_holds c NotVerified (unless_holds (has_rule r (head o).name) WrongOperation (first_failed_condition (tests r m.tree o (applies r m x))))) eligible_it
+      after_fit = after_insertion ∙ ap (λ c. unless_holds c NotVerified (unless_holds (has_rule r (head o).name) WrongOperation (first_failed_condition (tests r m.tree o (applies r m x))))) eligible_it
 
       pub other : (d : Bool) → d ≡ has_rule r h.name → d ≡ false → Some WrongOperation ≡ reason_of r m x
       other d l n =
           sym (after_fit ∙ ap (λ c. unless_holds c WrongOperation (first_failed_condition (tests r m.tree o (applies r m x)))) (ap (λ (j : Header). has_rule r j.name) same ∙ sym l ∙ n))
 
-      made : (a : Bool) → Makes r m x front a → a ≡ applies r m x
+      made : (a : Bool) → Makes r m x insertion a → a ≡ applies r m x
       unfolding edits_of
       made a k =
           k o is
-          ∙ sym (ap (λ c. is_some (when c (rule r m.tree m.next front o))) eligible_it)
-          ∙ ap (λ (p : Option Place). is_some (given p (λ front. when (eligible r m.tree (head o)) (rule r m.tree m.next front o)))) f
-          ∙ sym (ap (λ (q : Option Operation). is_some (given q (λ o. given (front_of x m.tree) (λ front. when (eligible r m.tree (head o)) (rule r m.tree m.next front o))))) is)
+          ∙ sym (ap (λ c. is_some (when c (rule r m.tree m.next insertion o))) eligible_it)
+          ∙ ap (λ (p : Option Place). is_some (given p (λ insertion. when (eligible r m.tree (head o)) (rule r m.tree m.next insertion o)))) f
+          ∙ sym (ap (λ (q : Option Operation). is_some (given q (λ o. given (insertion_of x m.tree) (λ insertion. when (eligible r m.tree (head o)) (rule r m.tree m.next insertion o))))) is)
 
-      pub asked : (d : Bool) (a : Bool) (k : Option Reason) → d ≡ has_rule r h.name → d ≡ true → Makes r m x front a
+      pub requested : (d : Bool) (a : Bool) (k : Option Reason) → d ≡ has_rule r h.name → d ≡ true → Makes r m x insertion a
           → ((o : Operation) → find x m.tree ≡ Some o → k ≡ first_failed_condition (tests r m.tree o a)) → k ≡ reason_of r m x
-      asked d a k l listed makes t =
+      requested d a k l listed makes t =
           t o is ∙ ap (λ a. first_failed_condition (tests r m.tree o a)) (made a makes)
           ∙ sym (after_fit ∙ ap (λ c. unless_holds c WrongOperation (first_failed_condition (tests r m.tree o (applies r m x)))) (ap (λ (j : Header). has_rule r j.name) same ∙ sym l ∙ listed))

@@ -9,7 +9,7 @@ use Rattle.ir_event.specs.trees.Tree.{head}
 use Rattle.ir_event.specs.tree_laws.Members.{In}
 use Rattle.ir_event.specs.Modules.{Module}
 use Rattle.patterns_base.specs.Keeps.{given}
-use Rattle.patterns_base.specs.Looks.{front_of, when}
+use Rattle.patterns_base.specs.Looks.{insertion_of, when}
 use Rattle.patterns_matchers.specs.Contents.{Edit}
 use Rattle.patterns_base.specs.Rewrites.{edits_of, eligible}
 use Rattle.patterns_base.specs.Rules.{has_rule, rule}
@@ -55,16 +55,16 @@ unfolding reason_of edits_of
 told_where_rules_apply r m x o e = at_find (find x m.tree) e
   where
     edits : Option Operation → Option (List Edit)
-    edits q = given q (λ o. given (front_of x m.tree) (λ front. when (eligible r m.tree (head o)) (rule r m.tree m.next front o)))
+    edits q = given q (λ o. given (insertion_of x m.tree) (λ insertion. when (eligible r m.tree (head o)) (rule r m.tree m.next insertion o)))
 
-    asked : Bool → Operation → List Test
-    asked b o = asks IsRoot (is_some (front_of x m.tree)) ∷ asks NotVerified (eligible r m.tree (head o)) ∷ asks WrongOperation (has_rule r (head o).name) ∷ tests r m.tree o b
+    requested : Bool → Operation → List Test
+    requested b o = asks IsRoot (is_some (insertion_of x m.tree)) ∷ asks NotVerified (eligible r m.tree (head o)) ∷ asks WrongOperation (has_rule r (head o).name) ∷ tests r m.tree o b
 
-    at_find : (q : Option Operation) → q ≡ Some o → is_none (given q (λ o. first_failed_condition (asked (is_some (edits q)) o))) ≡ is_some (edits q)
+    at_find : (q : Option Operation) → q ≡ Some o → is_none (given q (λ o. first_failed_condition (requested (is_some (edits q)) o))) ≡ is_some (edits q)
     at_find q is =
-        rw is (none_fails (asked (is_some (edits (Some o))) o)
-        ∙ split (front_of x m.tree) (eligible r m.tree (head o)) (has_rule r (head o).name) (λ front. rule r m.tree m.next front o) (λ b. all_hold (tests r m.tree o b))
-        (λ front. passes m.tree m.next front o r) (λ none front. only_listed r m.tree m.next front o none))
+        rw is (none_fails (requested (is_some (edits (Some o))) o)
+        ∙ split (insertion_of x m.tree) (eligible r m.tree (head o)) (has_rule r (head o).name) (λ insertion. rule r m.tree m.next insertion o) (λ b. all_hold (tests r m.tree o b))
+        (λ insertion. passes m.tree m.next insertion o r) (λ none insertion. only_listed r m.tree m.next insertion o none))
 
 pub told_conditions_fail : ReportedReasonsHold
 unfolding reason_of

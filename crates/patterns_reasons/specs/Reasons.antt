@@ -7,7 +7,7 @@ use Rattle.ir_event.specs.trees.Tree.{head}
 use Rattle.ir_event.specs.tree_laws.Members.{In}
 use Rattle.ir_event.specs.Modules.{Module}
 use Rattle.patterns_base.specs.Keeps.{given}
-use Rattle.patterns_base.specs.Looks.{front_of}
+use Rattle.patterns_base.specs.Looks.{insertion_of}
 use Rattle.patterns_base.specs.Rewrites.{edits_of, eligible}
 use Rattle.patterns_base.specs.Rules.{has_rule, rule, rules_for}
 use Rattle.patterns_base.specs.declared.rule.Rule.{Rule}
@@ -32,7 +32,7 @@ applies r m x = is_some (edits_of r m x)
 -- the conditions of rule r at operation x of a module, in order
 abbrev pub conditions : Rule → Module → ℕ → Operation → List Test
 conditions r m x o =
-    asks IsRoot (is_some (front_of x m.tree))
+    asks IsRoot (is_some (insertion_of x m.tree))
     ∷ asks NotVerified (eligible r m.tree (head o))
     ∷ asks WrongOperation (has_rule r (head o).name)
     ∷ tests r m.tree o (applies r m x)

@@ -9,7 +9,7 @@ use Rattle.ir_event.specs.trees.declared.value.Value.{Value}
 use Rattle.ir_event.specs.trees.Meaning.{Operation}
 use Rattle.ir_event.specs.trees.Tree.{head}
 use Rattle.ir_event.specs.trees.Uses.{same_value}
-use Rattle.op_registry.specs.Registry.{beside}
+use Rattle.op_registry.specs.Registry.{next_to}
 use Rattle.effects.specs.Dead.{is_unused}
 use Rattle.patterns_base.specs.Made.{i1}
 use Rattle.patterns_base.specs.Words.{named, among, commutative, with_zero_as_right_identity, with_one_as_right_identity, self_inverse, idempotent, remainders}
@@ -253,13 +253,13 @@ module _ (t : Operation) (h : Header) where
       ∷ []
 
   abbrev pub expand_min_max : List Test
-  expand_min_max = asks WrongOperation (two_has (λ p. is_some (beside p.name predicate_of_min_max))) ∷ []
+  expand_min_max = asks WrongOperation (two_has (λ p. is_some (next_to p.name predicate_of_min_max))) ∷ []
 
   abbrev pub expand_difference : List Test
   expand_difference = asks WrongOperation (two_has (λ p. named (codes "arith.subi") p.name)) ∷ []
 
   abbrev pub expand_remainder : List Test
-  expand_remainder = asks WrongOperation (two_has (λ p. is_some (beside p.name division_of_remainder))) ∷ []
+  expand_remainder = asks WrongOperation (two_has (λ p. is_some (next_to p.name division_of_remainder))) ∷ []
 
   abbrev pub lower_index : Bool → List Test
   lower_index applies = asks NoIndex applies ∷ []

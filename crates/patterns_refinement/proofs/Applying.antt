@@ -12,7 +12,7 @@ use Rattle.ir_event.specs.Modules.{Module}
 use Rattle.ir_types.specs.declared.refusal.Refusal.TheVariants.{Full, IdsExhausted}
 use Rattle.rewriter_machine.specs.Contents.{Edit, all_edited}
 use Rattle.rewriter_machine.specs.Edits.{Make}
-use Rattle.patterns_base.specs.Looks.{front_of, is_verified}
+use Rattle.patterns_base.specs.Looks.{insertion_of, is_verified}
 use Rattle.patterns_base.specs.Looks as looks
 use Rattle.patterns_base.specs.Makes.{give, made_by}
 use Rattle.patterns_base.proofs.Facts.{when_some}
@@ -56,31 +56,31 @@ module _ (m n : Module) where
           refused_becomes e = cc
 
 -- ---- the tree after edits
-pub all_edited_made : (front : Place) (os : List Operation) (x : ℕ) (v : Value) (m : Module) → (all_edited (map (λ o. Make front o) os ++ give x v) m).tree ≡ rewritten front m.next os x v m.tree
-all_edited_made front [] x v m = refl
-all_edited_made front (o ∷ os) x v m = all_edited_made front os x v (record { tree = with_made front m.next (o ∷ []) m.tree; next = m.next + 1 })
+pub all_edited_made : (insertion : Place) (os : List Operation) (x : ℕ) (v : Value) (m : Module) → (all_edited (map (λ o. Make insertion o) os ++ give x v) m).tree ≡ rewritten insertion m.next os x v m.tree
+all_edited_made insertion [] x v m = refl
+all_edited_made insertion (o ∷ os) x v m = all_edited_made insertion os x v (record { tree = with_made insertion m.next (o ∷ []) m.tree; next = m.next + 1 })
 
 module _ (p : PatternModel) (m n : Module) (x : ℕ) where
   pub record Applies : Type 0 where
-    pub front : Place
+    pub insertion : Place
     pub made : List Operation
     pub value : Value
     pub plan : planned m.tree (is_verified m.tree) m.next p x ≡ Some (made, value)
-    pub edits : own_edits p m x ≡ Some (map (λ o. Make front o) made ++ give x value)
-    pub becomes_it : carried_out (map (λ o. Make front o) made ++ give x value) m ≡ becomes n
-    pub module_is : all_edited (map (λ o. Make front o) made ++ give x value) m ≡ n
-    pub is : n.tree ≡ rewritten front m.next made x value m.tree
+    pub edits : own_edits p m x ≡ Some (map (λ o. Make insertion o) made ++ give x value)
+    pub becomes_it : carried_out (map (λ o. Make insertion o) made ++ give x value) m ≡ becomes n
+    pub module_is : all_edited (map (λ o. Make insertion o) made ++ give x value) m ≡ n
+    pub is : n.tree ≡ rewritten insertion m.next made x value m.tree
 
-  planned_edits : (front : Place) (q : Option Plan) (es : List Edit) → edits_for front x q ≡ Some es → (plan : Plan) × (q ≡ Some plan) × (map (λ o. Make front o) plan.0 ++ give x plan.1 ≡ es)
-  planned_edits front None es e = absurd (none-some es e)
-  planned_edits front (Some plan) es e = (plan, refl, same_Some _ _ e)
+  planned_edits : (insertion : Place) (q : Option Plan) (es : List Edit) → edits_for insertion x q ≡ Some es → (plan : Plan) × (q ≡ Some plan) × (map (λ o. Make insertion o) plan.0 ++ give x plan.1 ≡ es)
+  planned_edits insertion None es e = absurd (none-some es e)
+  planned_edits insertion (Some plan) es e = (plan, refl, same_Some _ _ e)
 
   edits_parts : (es : List Edit) → own_edits p m x ≡ Some es
-      → (front : Place) × (plan : Plan) × (planned m.tree (is_verified m.tree) m.next p x ≡ Some plan) × (map (λ o. Make front o) plan.0 ++ give x plan.1 ≡ es)
+      → (insertion : Place) × (plan : Plan) × (planned m.tree (is_verified m.tree) m.next p x ≡ Some plan) × (map (λ o. Make insertion o) plan.0 ++ give x plan.1 ≡ es)
   unfolding own_edits
   edits_parts es e =
-      let g = given_some (find x m.tree) (λ o. given (front_of x m.tree) (λ front. looks.when (is_one (head o).results) (edits_for front x (plan_of m.tree (is_verified m.tree) m.next p x)))) es e in
-      let h = given_some (front_of x m.tree) (λ front. looks.when (is_one (head g.0).results) (edits_for front x (plan_of m.tree (is_verified m.tree) m.next p x))) es g.2 in
+      let g = given_some (find x m.tree) (λ o. given (insertion_of x m.tree) (λ insertion. looks.when (is_one (head o).results) (edits_for insertion x (plan_of m.tree (is_verified m.tree) m.next p x)))) es e in
+      let h = given_some (insertion_of x m.tree) (λ insertion. looks.when (is_one (head g.0).results) (edits_for insertion x (plan_of m.tree (is_verified m.tree) m.next p x))) es g.2 in
       let w = when_some (is_one (head g.0).results) (edits_for h.0 x (plan_of m.tree (is_verified m.tree) m.next p x)) es h.2 in
       let q = planned_edits h.0 (plan_of m.tree (is_verified m.tree) m.next p x) es w.1 in
       let s = when_is (can_build p) (planned m.tree (is_verified m.tree) m.next p x) q.0 q.1 in
@@ -92,7 +92,7 @@ module _ (p : PatternModel) (m n : Module) (x : ℕ) where
       let r = some_edits m n (own_edits p m x) e in
       let q = edits_parts r.0 r.1 in
       record {
-        front = q.0;
+        insertion = q.0;
         made = q.1.0;
         value = q.1.1;
         plan = q.2;

@@ -40,45 +40,45 @@ bits_are k n e = ap (λ b. if b then Some (k, n) else None) e
 
 module _ (t : Operation) (verified : Header → Bool) (a : Assignment) (b : Standing Value) (ts : Standing TypeTerm) where
   -- ---- the variables' values, from a place on
-  pub record Begins (k : ℕ) (tys : List ℕ) (front : List Outcome) : Type 0 where
+  pub record Begins (k : ℕ) (tys : List ℕ) (preceding : List Outcome) : Type 0 where
     pub values : List ℕ
     pub below : AreBelow (map (λ k. 2 ^ width_of k) (map (kind_at (map kind_standing ts)) tys)) values
     pub env : List Outcome
-    pub are : bound (map (kind_at (map kind_standing ts)) tys) values front ≡ Some env
+    pub are : bound (map (kind_at (map kind_standing ts)) tys) values preceding ≡ Some env
     pub long : length env ≡ k + length tys
-    pub stays : (j : ℕ) (o : Outcome) → slice_get front j ≡ Some o → slice_get env j ≡ Some o
+    pub stays : (j : ℕ) (o : Outcome) → slice_get preceding j ≡ Some o → slice_get env j ≡ Some o
     pub shows : (j : ℕ) (v : Value) → k ≤ j → j < k + length tys → Stands j v b → slice_get env j ≡ Some (a v)
 
-  pub begins : TypesFound a t → (k : ℕ) (tys : List ℕ) (front : List Outcome) → length front ≡ k → AllTyped t verified k tys b ts
-      → ((i : ℕ) (v : Value) → i < k + length tys → standing i b ≡ Some v → is_some (a v) ≡ true) → Begins k tys front
-  begins of k [] front l r known = record {
+  pub begins : TypesFound a t → (k : ℕ) (tys : List ℕ) (preceding : List Outcome) → length preceding ≡ k → AllTyped t verified k tys b ts
+      → ((i : ℕ) (v : Value) → i < k + length tys → standing i b ≡ Some v → is_some (a v) ≡ true) → Begins k tys preceding
+  begins of k [] preceding l r known = record {
     values = [];
     below = tt;
-    env = front;
+    env = preceding;
     are = refl;
     long = omega (arith, l);
     stays = λ j o h. h;
     shows = λ j v low high h. absurd (omega (arith, low, high));
   }
-  begins of k (ty ∷ tys) front l r known =
+  begins of k (ty ∷ tys) preceding l r known =
       let q = r.0 in
       let x = some_there (a q.value) (known k q.value (omega arith) (stands_standing k q.value b q.stands)) in
       let typed : IsOfType q.term (Some x.0) = subst (λ o. IsOfType q.term o) x.1 (of q.value q.term q.of_value) in
       let at : kind_at (map kind_standing ts) ty ≡ x.0.0 = kind_is ts ty q.term x.0.0 q.type_stands typed.0 in
       let bits : bits_of (kind_at (map kind_standing ts) ty) x.0.1 ≡ Some x.0 = ap (λ k. bits_of k x.0.1) at ∙ bits_are x.0.0 x.0.1 typed.1 in
-      let ih = begins of (k + 1) tys (front ++ (Some x.0 ∷ [])) (length_push front (Some x.0) ∙ ap (λ n. n + 1) l) r.1 (λ i v m s. known i v (omega (arith, m)) s) in
+      let ih = begins of (k + 1) tys (preceding ++ (Some x.0 ∷ [])) (length_push preceding (Some x.0) ∙ ap (λ n. n + 1) l) r.1 (λ i v m s. known i v (omega (arith, m)) s) in
       record {
         values = x.0.1 ∷ ih.values;
         below = (subst (λ k. x.0.1 < 2 ^ width_of k) (sym at) (bits_below x.0.0 x.0.1 typed.1), ih.below);
         env = ih.env;
         are =
-            given_at (bits_of (kind_at (map kind_standing ts) ty) x.0.1) x.0 (λ y. bound (map (kind_at (map kind_standing ts)) tys) ih.values (front ++ (Some y ∷ []))) (Some ih.env) bits ih.are;
+            given_at (bits_of (kind_at (map kind_standing ts) ty) x.0.1) x.0 (λ y. bound (map (kind_at (map kind_standing ts)) tys) ih.values (preceding ++ (Some y ∷ []))) (Some ih.env) bits ih.are;
         long = omega (arith, ih.long);
-        stays = λ j o h. ih.stays j o (push_other front (Some x.0) j o h);
+        stays = λ j o h. ih.stays j o (push_other preceding (Some x.0) j o h);
         shows = λ j v low high s. elim (cases_eq j k) [
           | inl e ↦
               let same : v ≡ q.value = one_stands k v q.value b (subst (λ i. Stands i v b) e s) q.stands in
-              ap (slice_get ih.env) (e ∙ sym l) ∙ ih.stays (length front) (Some x.0) (push_last front (Some x.0)) ∙ ap (λ o. Some o) (sym (ap a same ∙ x.1))
+              ap (slice_get ih.env) (e ∙ sym l) ∙ ih.stays (length preceding) (Some x.0) (push_last preceding (Some x.0)) ∙ ap (λ o. Some o) (sym (ap a same ∙ x.1))
           | inr n ↦ ih.shows j v (omega (arith, low, n)) (omega (arith, high)) s
         ];
       }

@@ -18,7 +18,7 @@ use Rattle.dialects_int.proofs.KnownOperands.{same_itself}
 use Rattle.user_patterns_check.specs.Families.{AreWidths}
 use Rattle.user_patterns_check.proofs.Keeping.{same_kinds}
 use Rattle.user_patterns_data.specs.declared.pattern.TypeConstraint.{TypeConstraint}
-use Rattle.user_patterns_data.specs.declared.pattern.TypeConstraint.TheVariants as asked
+use Rattle.user_patterns_data.specs.declared.pattern.TypeConstraint.TheVariants as requested
 use Rattle.user_patterns_data.specs.declared.pattern.Expression.{Expression}
 use Rattle.user_patterns_data.specs.declared.pattern.Expression.TheVariants as form
 use Rattle.user_patterns_data.specs.declared.pattern.ExtraConstant.{ExtraConstant}
@@ -29,13 +29,13 @@ use Rattle.user_patterns_data.specs.declared.pattern.ConstantExpression.{Constan
 use Rattle.user_patterns_data.specs.declared.pattern.ConstantExpression.TheVariants as number
 use Rattle.user_patterns_data.specs.declared.pattern.NewValue.{NewValue}
 use Rattle.user_patterns_data.specs.declared.pattern.NewValue.TheVariants as new
-use Rattle.user_patterns_data.specs.Fitting.{fits, extra_fits, is_asked, is_integer, kind_at, kinds_with, number_fits}
+use Rattle.user_patterns_data.specs.Fitting.{fits, extra_fits, is_requested, is_integer, kind_at, kinds_with, number_fits}
 use Rattle.user_patterns_data.specs.Shapes.{PatternModel}
 use Rattle.user_patterns_build.specs.CanBuild.{new_type}
 use Rattle.user_patterns_build.specs.Unified.{is_same}
-use Rattle.patterns_refinement.specs.Applied.{extra_kind, kinds_after, kinds_matched, number_kind, piece_kind}
+use Rattle.patterns_refinement.specs.Applied.{extra_kind, kinds_after, kinds_matched, number_kind, pattern_op_kind}
 use Rattle.patterns_refinement.specs.Better.{narrows}
-use Rattle.patterns_refinement.specs.ByForm.{KindedByForm, asks_narrower, casts, form_taken, extra_sort, is_less, is_wide, is_written_less, new_taken, news_taken, number_sort, piece_sort, sort_at, sorts_after, sorts_matched, is_kinded_by_form}
+use Rattle.patterns_refinement.specs.ByForm.{KindedByForm, asks_narrower, casts, form_taken, extra_sort, is_less, is_wide, is_written_less, new_taken, news_taken, number_sort, pattern_op_sort, sort_at, sorts_after, sorts_matched, is_kinded_by_form}
 use Rattle.patterns_refinement.specs.Passing.{form_takes, is_kinded_at, new_takes, news_take}
 
 -- the kind of a type, given the kinds of type variables
@@ -88,10 +88,10 @@ module _ (at : ℕ → BitsKind) where
       let first = map (sort_at p.value_types) p.values in
       let second = sorts_after (extra_sort p.value_types) p.extra first in
       let third = sorts_after (number_sort p.value_types) p.given second in
-      ap (λ es. kinds_after (piece_kind ks) p.old (kinds_after (number_kind ks) p.given (kinds_after (extra_kind ks) p.extra es))) (values_map p.value_types p.values)
-      ∙ ap (λ es. kinds_after (piece_kind ks) p.old (kinds_after (number_kind ks) p.given es)) (after_map (extra_kind ks) (extra_sort p.value_types) (extra_map p.value_types) p.extra first)
-      ∙ ap (kinds_after (piece_kind ks) p.old) (after_map (number_kind ks) (number_sort p.value_types) (number_map p.value_types) p.given second)
-      ∙ after_map (piece_kind ks) (piece_sort p.value_types) (λ es o. at_widths p.value_types o.ty) p.old third
+      ap (λ es. kinds_after (pattern_op_kind ks) p.old (kinds_after (number_kind ks) p.given (kinds_after (extra_kind ks) p.extra es))) (values_map p.value_types p.values)
+      ∙ ap (λ es. kinds_after (pattern_op_kind ks) p.old (kinds_after (number_kind ks) p.given es)) (after_map (extra_kind ks) (extra_sort p.value_types) (extra_map p.value_types) p.extra first)
+      ∙ ap (kinds_after (pattern_op_kind ks) p.old) (after_map (number_kind ks) (number_sort p.value_types) (number_map p.value_types) p.given second)
+      ∙ after_map (pattern_op_kind ks) (pattern_op_sort p.value_types) (λ es o. at_widths p.value_types o.ty) p.old third
 
 -- ---- widths in range
 width_within : (n most : ℕ) (ws : List ℕ) (v : ℕ) → AreWidths n most ws → v < n → (1 ≤ get_or ws v 0) × (get_or ws v 0 ≤ most)
@@ -118,15 +118,15 @@ module _ (p : PatternModel) (at : ℕ → BitsKind) (wide_at : (v : ℕ) → v <
   wide (sort.Variable v) e = wide_at v (ltb-true v p.types e)
 
   -- a narrower constraint holds of the widths
-  asked_less : (a b : PatternType) (xs : List TypeConstraint) → list_all (is_asked (map (kind_by at) p.value_types)) xs ≡ true → list_any (asks_narrower p a b) xs ≡ true → nat_lt (width_of (kind_by at a)) (width_of (kind_by at b)) ≡ true
-  asked_less a b [] h e = absurd (true≢false (sym e))
-  asked_less a b (x ∷ xs) h e =
-      let q = and_parts (is_asked (map (kind_by at) p.value_types) x) (list_all (is_asked (map (kind_by at) p.value_types)) xs) h in
-      elim (or_cases (asks_narrower p a b x) (list_any (asks_narrower p a b) xs) e) [ inl i ↦ one x q.0 i | inr i ↦ asked_less a b xs q.1 i ]
+  requested_less : (a b : PatternType) (xs : List TypeConstraint) → list_all (is_requested (map (kind_by at) p.value_types)) xs ≡ true → list_any (asks_narrower p a b) xs ≡ true → nat_lt (width_of (kind_by at a)) (width_of (kind_by at b)) ≡ true
+  requested_less a b [] h e = absurd (true≢false (sym e))
+  requested_less a b (x ∷ xs) h e =
+      let q = and_parts (is_requested (map (kind_by at) p.value_types) x) (list_all (is_requested (map (kind_by at) p.value_types)) xs) h in
+      elim (or_cases (asks_narrower p a b x) (list_any (asks_narrower p a b) xs) e) [ inl i ↦ one x q.0 i | inr i ↦ requested_less a b xs q.1 i ]
     where
-      one : (x : TypeConstraint) → is_asked (map (kind_by at) p.value_types) x ≡ true → asks_narrower p a b x ≡ true → nat_lt (width_of (kind_by at a)) (width_of (kind_by at b)) ≡ true
-      one (asked.Integer t) h e = absurd (true≢false (sym e))
-      one (asked.Narrower s t) h e =
+      one : (x : TypeConstraint) → is_requested (map (kind_by at) p.value_types) x ≡ true → asks_narrower p a b x ≡ true → nat_lt (width_of (kind_by at a)) (width_of (kind_by at b)) ≡ true
+      one (requested.Integer t) h e = absurd (true≢false (sym e))
+      one (requested.Narrower s t) h e =
           let r = and_parts (is_integer (kind_at (map (kind_by at) p.value_types) s)) _ h in
           let n = and_parts (is_integer (kind_at (map (kind_by at) p.value_types) t)) (nat_lt (width_of (kind_at (map (kind_by at) p.value_types) s)) (width_of (kind_at (map (kind_by at) p.value_types) t))) r.1 in
           let i = and_parts (is_same (sort_at p.value_types s) a) (is_same (sort_at p.value_types t) b) e in
@@ -136,8 +136,8 @@ module _ (p : PatternModel) (at : ℕ → BitsKind) (wide_at : (v : ℕ) → v <
 
   less : (a b : PatternType) → is_less p a b ≡ true → nat_lt (width_of (kind_by at a)) (width_of (kind_by at b)) ≡ true
   less a b e =
-      let all = (and_parts (list_all (is_asked (map (kind_by at) p.value_types)) p.type_constraints) (list_all (extra_fits (map (kind_by at) p.value_types)) p.extra && list_all (number_fits (map (kind_by at) p.value_types)) p.given) fit).0 in
-      elim (or_cases (is_written_less p a b) (list_any (asks_narrower p a b) p.type_constraints) e) [ inl i ↦ written a b i | inr i ↦ asked_less a b p.type_constraints all i ]
+      let all = (and_parts (list_all (is_requested (map (kind_by at) p.value_types)) p.type_constraints) (list_all (extra_fits (map (kind_by at) p.value_types)) p.extra && list_all (number_fits (map (kind_by at) p.value_types)) p.given) fit).0 in
+      elim (or_cases (is_written_less p a b) (list_any (asks_narrower p a b) p.type_constraints) e) [ inl i ↦ written a b i | inr i ↦ requested_less a b p.type_constraints all i ]
     where
       written : (a b : PatternType) → is_written_less p a b ≡ true → nat_lt (width_of (kind_by at a)) (width_of (kind_by at b)) ≡ true
       written (sort.Concrete j) (sort.Concrete k) e = e

@@ -78,23 +78,23 @@ one_known (s ∷ rs) k r (inl i) = subst IsKnown (sym i) k.0
 one_known (s ∷ rs) k r (inr i) = one_known rs k.1 r i
 
 fine_cast_back : IsFine CastBack
-fine_cast_back t n front o = record { plain = λ es e. let g = cast_back_gives t n front o es e in subst (AllPlain (head o)) g.1 (tt, (tt, tt)) }
+fine_cast_back t n insertion o = record { plain = λ es e. let g = cast_back_gives t n insertion o es e in subst (AllPlain (head o)) g.1 (tt, (tt, tt)) }
 
 -- ---- invariants of rewrites
 -- ---- runs of them
 module _ (accepted : AreAccepted) (only : OnlyListed) where
-  abbrev IsStep : Module → Module → ℕ → Type 0
+  abbrev pub IsStep : Module → Module → ℕ → Type 0
   IsStep m p x = IsPlain p × KeptAt m p x
 
   -- a rule that creates only operations with plain names keeps the module plain
-  plain_after : (m p : Module) (x : ℕ) (r : Rule) → IsFine r → IsReady m → IsPlain m → rewrite_of r m x ≡ becomes p → IsPlain p
+  pub plain_after : (m p : Module) (x : ℕ) (r : Rule) → IsFine r → IsReady m → IsPlain m → rewrite_of r m x ≡ becomes p → IsPlain p
   plain_after m p x r fine ready plain e =
-      let q = ruled accepted r m p x ready.formed ready.sorted e in
-      subst IsPlain q.module_is (all_plain (head q.here) q.edits m ((fine m.tree m.next q.front q.here).plain q.edits q.made) plain)
+      let q = ruled accepted r m p x ready.wellformed ready.sorted e in
+      subst IsPlain q.module_is (all_plain (head q.here) q.edits m ((fine m.tree m.next q.insertion q.here).plain q.edits q.made) plain)
 
   back_step : (m p : Module) (x : ℕ) → IsReady m → IsPlain m → rewrite_of CastBack m x ≡ becomes p → IsStep m p x
   back_step m p x ready plain e =
-      let q = ruled accepted CastBack m p x ready.formed ready.sorted e in
+      let q = ruled accepted CastBack m p x ready.wellformed ready.sorted e in
       let name = (each_found (λ h. is_plain h.name ≡ true) x m.tree plain q.here q.found).0 in (
         plain_after m p x CastBack fine_cast_back ready plain e,
         (cast_back_ready accepted m p x ready e, (λ a done c. casts_back accepted m p x q.here a done ready c q.found (no_unrealized (head q.here).name name) e)),
@@ -103,11 +103,11 @@ module _ (accepted : AreAccepted) (only : OnlyListed) where
   -- the other rules don't apply in a plain module
   never : (m p : Module) (x : ℕ) (r : Rule) → IsReady m → IsPlain m → ((name : List ℕ) → is_plain name ≡ true → has_rule r name ≡ false) → rewrite_of r m x ≡ becomes p → ⊥
   never m p x r ready plain lacks e =
-      let q = ruled accepted r m p x ready.formed ready.sorted e in
+      let q = ruled accepted r m p x ready.wellformed ready.sorted e in
       let name = (each_found (λ h. is_plain h.name ≡ true) x m.tree plain q.here q.found).0 in
-      none-some q.edits (sym (only r m.tree m.next q.front q.here (lacks (head q.here).name name)) ∙ q.made)
+      none-some q.edits (sym (only r m.tree m.next q.insertion q.here (lacks (head q.here).name name)) ∙ q.made)
 
-  one_step : (m p : Module) (x : ℕ) (r : Rule) → In r greedy_rules → IsReady m → IsPlain m → rewrite_of r m x ≡ becomes p → IsStep m p x
+  pub one_step : (m p : Module) (x : ℕ) (r : Rule) → In r greedy_rules → IsReady m → IsPlain m → rewrite_of r m x ≡ becomes p → IsStep m p x
   one_step m p x r i ready plain e = go (one_known greedy_rules all_known r i)
     where
       go : IsKnown r → IsStep m p x
@@ -124,7 +124,7 @@ module _ (accepted : AreAccepted) (only : OnlyListed) where
       (r.1.0, r.0, r.1.1, r.1.2)
 
   -- a step keeps the kinds of a module's values within a set that has `i1`
-  kinds_step : (good : BitsKind → Bool) → good (kind.Int 1) ≡ true → (m p : Module) (x : ℕ) (r : Rule) → In r greedy_rules → IsReady m → IsPlain m → HaveKinds good m → rewrite_of r m x ≡ becomes p → HaveKinds good p
+  pub kinds_step : (good : BitsKind → Bool) → good (kind.Int 1) ≡ true → (m p : Module) (x : ℕ) (r : Rule) → In r greedy_rules → IsReady m → IsPlain m → HaveKinds good m → rewrite_of r m x ≡ becomes p → HaveKinds good p
   kinds_step good l m p x r i ready plain kinds e = go (one_known greedy_rules all_known r i)
     where
       go : IsKnown r → HaveKinds good p

@@ -46,7 +46,7 @@ use Rattle.patterns_refinement.specs.IndexCasts.{CastsBack}
 use Rattle.patterns_refinement.proofs.Casts.{extends, of_type, twice_refined}
 use Rattle.patterns_refinement.proofs.Dropping.{old_improves, value_kind, widths}
 use Rattle.patterns_refinement.proofs.Forms.{named_is}
-use Rattle.patterns_refinement.proofs.Formed.{operands_stand}
+use Rattle.patterns_refinement.proofs.Wellformed.{operands_stand}
 use Rattle.patterns_refinement.proofs.Monotone.{same_refined}
 use Rattle.patterns_refinement.proofs.Verified.{asks_kind}
 use Rattle.patterns_refinement.proofs.Ruled.{Ruled, Site, gives_refined, known_kinds, of_rule, root_has, rule_kinds, ruled, site_of, value_bits}
@@ -55,24 +55,24 @@ use Rattle.patterns_refinement.proofs.StaysReady.{GivesOld, old_ready}
 use Rattle.patterns_refinement.proofs.Trees.{each_found}
 
 -- ---- an existing value replaces the result
-back_given : (t : Operation) (n : ℕ) (front : Place) (o : Operation) (p q : One) (es : List Edit) → when (is_of_type t p.ty q.first) (Some (give (head o).id q.first)) ≡ Some es → (v : Value) × (give (head o).id v ≡ es)
-back_given t n front o p q es e = let w = when_some (is_of_type t p.ty q.first) (Some (give (head o).id q.first)) es e in (q.first, same_Some _ _ w.1)
+back_given : (t : Operation) (n : ℕ) (insertion : Place) (o : Operation) (p q : One) (es : List Edit) → when (is_of_type t p.ty q.first) (Some (give (head o).id q.first)) ≡ Some es → (v : Value) × (give (head o).id v ≡ es)
+back_given t n insertion o p q es e = let w = when_some (is_of_type t p.ty q.first) (Some (give (head o).id q.first)) es e in (q.first, same_Some _ _ w.1)
 
-through_given : (t : Operation) (n : ℕ) (front : Place) (o : Operation) (p : One) (es : List Edit) → through_index t n front o p ≡ Some es → (v : Value) × (give (head o).id v ≡ es)
-through_given t n front o p es e =
+through_given : (t : Operation) (n : ℕ) (insertion : Place) (o : Operation) (p : One) (es : List Edit) → through_index t n insertion o p ≡ Some es → (v : Value) × (give (head o).id v ≡ es)
+through_given t n insertion o p es e =
     let s = given_some (source t p.name p.first) (λ y. given (one y) (λ q. when (nat_le (type_width p.ty) (type_width q.ty)) (when (is_of_type t p.ty q.first) (Some (give (head o).id q.first))))) es e in
     let i = given_some (one s.0) (λ q. when (nat_le (type_width p.ty) (type_width q.ty)) (when (is_of_type t p.ty q.first) (Some (give (head o).id q.first)))) es s.2 in
     let w = when_some (nat_le (type_width p.ty) (type_width i.0.ty)) (when (is_of_type t p.ty i.0.first) (Some (give (head o).id i.0.first))) es i.2 in
-    back_given t n front o p i.0 es w.1
+    back_given t n insertion o p i.0 es w.1
 
-unrealized_given : (t : Operation) (n : ℕ) (front : Place) (o : Operation) (p : One) (es : List Edit) → unrealized t n front o p ≡ Some es → (v : Value) × (give (head o).id v ≡ es)
-unrealized_given t n front o p es e = go (is_of_type t p.ty p.first) e
+unrealized_given : (t : Operation) (n : ℕ) (insertion : Place) (o : Operation) (p : One) (es : List Edit) → unrealized t n insertion o p ≡ Some es → (v : Value) × (give (head o).id v ≡ es)
+unrealized_given t n insertion o p es e = go (is_of_type t p.ty p.first) e
   where
     back : given (source t p.name p.first) (λ y. given (one y) (λ q. when (is_of_type t p.ty q.first) (Some (give (head o).id q.first)))) ≡ Some es → (v : Value) × (give (head o).id v ≡ es)
     back e =
         let s = given_some (source t p.name p.first) (λ y. given (one y) (λ q. when (is_of_type t p.ty q.first) (Some (give (head o).id q.first)))) es e in
         let i = given_some (one s.0) (λ q. when (is_of_type t p.ty q.first) (Some (give (head o).id q.first))) es s.2 in
-        back_given t n front o p i.0 es i.2
+        back_given t n insertion o p i.0 es i.2
 
     go : (b : Bool) → (if b then Some (give (head o).id p.first) else given (source t p.name p.first) (λ y. given (one y) (λ q. when (is_of_type t p.ty q.first) (Some (give (head o).id q.first))))) ≡ Some es → (v : Value) × (give (head o).id v ≡ es)
     go true e = (p.first, same_Some _ _ e)
@@ -80,14 +80,14 @@ unrealized_given t n front o p es e = go (is_of_type t p.ty p.first) e
 
 pub cast_back_gives : GivesOld CastBack
 unfolding rule
-cast_back_gives t n front o es e =
-    let w = one_is (head o) (λ p. if named (codes "builtin.unrealized_conversion_cast") p.name then unrealized t n front o p else when (among index_casts p.name) (through_index t n front o p)) es e in
+cast_back_gives t n insertion o es e =
+    let w = one_is (head o) (λ p. if named (codes "builtin.unrealized_conversion_cast") p.name then unrealized t n insertion o p else when (among index_casts p.name) (through_index t n insertion o p)) es e in
     let p : One = record { name = (head o).name; first = w.first; ty = w.ty } in
     go p (named (codes "builtin.unrealized_conversion_cast") (head o).name) w.makes
   where
-    go : (p : One) (b : Bool) → (if b then unrealized t n front o p else when (among index_casts p.name) (through_index t n front o p)) ≡ Some es → (v : Value) × (give (head o).id v ≡ es)
-    go p true e = unrealized_given t n front o p es e
-    go p false e = through_given t n front o p es (when_some (among index_casts p.name) (through_index t n front o p) es e).1
+    go : (p : One) (b : Bool) → (if b then unrealized t n insertion o p else when (among index_casts p.name) (through_index t n insertion o p)) ≡ Some es → (v : Value) × (give (head o).id v ≡ es)
+    go p true e = unrealized_given t n insertion o p es e
+    go p false e = through_given t n insertion o p es (when_some (among index_casts p.name) (through_index t n insertion o p) es e).1
 
 -- ---- index casts
 abbrev IsIndexCast : List ℕ → Type 0
@@ -144,11 +144,11 @@ module _ (accepted : AreAccepted) where
   back_here m n x q real =
       let h = head q.here in
       let id = h.id in
-      let w = one_is h (λ p. if named (codes "builtin.unrealized_conversion_cast") p.name then unrealized m.tree m.next q.front q.here p else when (among index_casts p.name) (through_index m.tree m.next q.front q.here p)) q.edits q.made in
+      let w = one_is h (λ p. if named (codes "builtin.unrealized_conversion_cast") p.name then unrealized m.tree m.next q.insertion q.here p else when (among index_casts p.name) (through_index m.tree m.next q.insertion q.here p)) q.edits q.made in
       let p : One = record { name = h.name; first = w.first; ty = w.ty } in
-      let made : when (among index_casts h.name) (through_index m.tree m.next q.front q.here p) ≡ Some q.edits =
-      sym (ap (λ b. if b then unrealized m.tree m.next q.front q.here p else when (among index_casts h.name) (through_index m.tree m.next q.front q.here p)) real) ∙ w.makes in
-      let g = when_some (among index_casts h.name) (through_index m.tree m.next q.front q.here p) q.edits made in
+      let made : when (among index_casts h.name) (through_index m.tree m.next q.insertion q.here p) ≡ Some q.edits =
+      sym (ap (λ b. if b then unrealized m.tree m.next q.insertion q.here p else when (among index_casts h.name) (through_index m.tree m.next q.insertion q.here p)) real) ∙ w.makes in
+      let g = when_some (among index_casts h.name) (through_index m.tree m.next q.insertion q.here p) q.edits made in
       let s = given_some (source m.tree h.name w.first) (λ y. given (one y) (λ i. when (nat_le (type_width w.ty) (type_width i.ty)) (when (is_of_type m.tree w.ty i.first) (Some (give id i.first))))) q.edits g.1 in
       let i = one_is s.0 (λ i. when (nat_le (type_width w.ty) (type_width i.ty)) (when (is_of_type m.tree w.ty i.first) (Some (give id i.first)))) q.edits s.2 in
       let l = when_some (nat_le (type_width w.ty) (type_width i.ty)) (when (is_of_type m.tree w.ty i.first) (Some (give id i.first))) q.edits i.makes in
@@ -189,8 +189,8 @@ module _ (accepted : AreAccepted) where
 
   back_kinds : (m n : Module) (x : ℕ) (q : Ruled CastBack m n x) (w : Back m n x q) → IsReady m → BackKinds m n x q w
   back_kinds m n x q w ready =
-      let k = rule_kinds m.tree (head q.here) (each_found (λ h. is_kinded m.tree h ≡ true) x m.tree ready.kinded q.here q.found).0 (root_has q ready.formed ready.kinded refl) (how.IndexCast w.outer.0) w.outer.1 in
-      let stand = operands_stand is_isolated m.tree ready.formed.distinct ready.formed.formed.visible in
+      let k = rule_kinds m.tree (head q.here) (each_found (λ h. is_kinded m.tree h ≡ true) x m.tree ready.kinded q.here q.found).0 (root_has q ready.wellformed ready.kinded refl) (how.IndexCast w.outer.0) w.outer.1 in
+      let stand = operands_stand is_isolated m.tree ready.wellformed.distinct ready.wellformed.wellformed.visible in
       let there = (each_found (λ h. list_all (λ v. has_value v m.tree) h.operands ≡ true) x m.tree stand q.here q.found).0 in
       let middle : has_value w.middle m.tree ≡ true = (and_parts (has_value w.middle m.tree) true (subst (λ vs. list_all (λ v. has_value v m.tree) vs ≡ true) w.operands there)).0 in
       let s = sole_of m (λ h. named (head q.here).name h.name && is_verified m.tree h) w.middle w.inner w.gives middle w.inner_ty w.inner_results in
@@ -223,15 +223,15 @@ module _ (accepted : AreAccepted) where
 
   pub casts_back : CastsBack
   casts_back m n x o a done ready computing found real e =
-      let q = ruled accepted CastBack m n x ready.formed ready.sorted e in
+      let q = ruled accepted CastBack m n x ready.wellformed ready.sorted e in
       let same : o ≡ q.here = same_Some _ _ (sym found ∙ q.found) in
       let w = back_here m n x q (sym (ap (λ (o : Operation). named (codes "builtin.unrealized_conversion_cast") (head o).name) same) ∙ real) in
       let k = back_kinds m n x q w ready in
-      let s = site_of m a done x q.here ready.formed ready.kinded computing q.found (root_has q ready.formed ready.kinded refl) in
-      let i = site_of m a done k.sole.id k.sole.here ready.formed ready.kinded computing k.sole.found (λ i. ap is_some k.between_is) in
+      let s = site_of m a done x q.here ready.wellformed ready.kinded computing q.found (root_has q ready.wellformed ready.kinded refl) in
+      let i = site_of m a done k.sole.id k.sole.here ready.wellformed ready.kinded computing k.sole.found (λ i. ap is_some k.between_is) in
       let middle : done x ≡ true → is_there done w.middle ≡ true = (λ d. operand_there m a done x q.here s (is_there done) w.middle w.operands (s.fed d)) in
       let inner : done x ≡ true → done k.sole.id ≡ true = (λ d. ap (is_there done) (sym k.sole.value) ∙ middle d) in
-      old_improves CastBack m n x a done ready.formed (cast_back_ready m n x ready e).kinded computing q (ap asks_kind w.outer.1) w.first s (record {
+      old_improves CastBack m n x a done ready.wellformed (cast_back_ready m n x ready e).kinded computing q (ap asks_kind w.outer.1) w.first s (record {
         edits = w.edits;
         value = k.value;
         better = λ d.

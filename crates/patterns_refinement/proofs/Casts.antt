@@ -49,7 +49,7 @@ use Rattle.patterns_refinement.specs.Keeping.{Computing, Improves, IsReady, Keep
 use Rattle.patterns_refinement.proofs.Verified.{HasKind}
 use Rattle.patterns_refinement.proofs.Dropping.{old_improves, value_kind}
 use Rattle.patterns_refinement.proofs.Firsts.{poison_refined}
-use Rattle.patterns_refinement.proofs.Formed.{is_below, operands_stand}
+use Rattle.patterns_refinement.proofs.Wellformed.{is_below, operands_stand}
 use Rattle.patterns_refinement.proofs.Forms.{makes_is, named_is}
 use Rattle.patterns_refinement.proofs.Giving.{after_new}
 use Rattle.patterns_refinement.proofs.Makings.{GivesNew, GivesOne, GivesOutcomes, MadeOne, all_agree, all_at, new_improves, new_ready, still_there, with_all}
@@ -161,9 +161,9 @@ module _ (m : Module) (test : Header → Bool) (v : Value) (h : Header) (s : Sol
         subst (λ j. is_width (width_of j) ≡ true) same k.width,
       )
 
-  module _ (a : Assignment) (done : ℕ → Bool) (formed : IsWellFormed is_isolated m) (kinded : AreKinded m.tree) (computing : Computing a done m.tree) (has : HasKind (head s.here)) (there : is_there done v ≡ true) where
+  module _ (a : Assignment) (done : ℕ → Bool) (wellformed : IsWellFormed is_isolated m) (kinded : AreKinded m.tree) (computing : Computing a done m.tree) (has : HasKind (head s.here)) (there : is_there done v ≡ true) where
     own_site : Site m a done s.id s.here
-    own_site = site_of m a done s.id s.here formed kinded computing s.found has
+    own_site = site_of m a done s.id s.here wellformed kinded computing s.found has
 
     done_there : done s.id ≡ true
     done_there = ap (is_there done) (sym s.value) ∙ there
@@ -230,16 +230,16 @@ module _ (accepted : AreAccepted) where
     pub inner_operands : inner.operands ≡ first ∷ []
     pub inner_results : inner.results ≡ inner_ty ∷ []
     pub gives : given (defining_op m.tree middle) (λ h. when (among resizing h.name && is_verified m.tree h) (Some h)) ≡ Some inner
-    pub makes : (if named (codes "arith.trunci") inner.name then Some (give_new q.front m.next (head q.here).id (cast inner.name ty first)) else when (is_of_type m.tree ty first) (Some (give (head q.here).id first))) ≡ Some q.edits
+    pub makes : (if named (codes "arith.trunci") inner.name then Some (give_new q.insertion m.next (head q.here).id (cast inner.name ty first)) else when (is_of_type m.tree ty first) (Some (give (head q.here).id first))) ≡ Some q.edits
 
   cut_here : (m n : Module) (x : ℕ) (q : Ruled CutCast m n x) → Cut m n x q
   unfolding rule
   cut_here m n x q =
       let h = head q.here in
-      let w = one_is h (λ p. when (named (codes "arith.trunci") p.name) (given (source_among m.tree resizing p.first) (λ y. given (one y) (λ i. if named (codes "arith.trunci") i.name then Some (give_new q.front m.next h.id (cast i.name p.ty i.first)) else when (is_of_type m.tree p.ty i.first) (Some (give h.id i.first)))))) q.edits q.made in
-      let g = when_some (named (codes "arith.trunci") h.name) (given (source_among m.tree resizing w.first) (λ y. given (one y) (λ i. if named (codes "arith.trunci") i.name then Some (give_new q.front m.next h.id (cast i.name w.ty i.first)) else when (is_of_type m.tree w.ty i.first) (Some (give h.id i.first))))) q.edits w.makes in
-      let s = given_some (source_among m.tree resizing w.first) (λ y. given (one y) (λ i. if named (codes "arith.trunci") i.name then Some (give_new q.front m.next h.id (cast i.name w.ty i.first)) else when (is_of_type m.tree w.ty i.first) (Some (give h.id i.first)))) q.edits g.1 in
-      let i = one_is s.0 (λ i. if named (codes "arith.trunci") i.name then Some (give_new q.front m.next h.id (cast i.name w.ty i.first)) else when (is_of_type m.tree w.ty i.first) (Some (give h.id i.first))) q.edits s.2 in
+      let w = one_is h (λ p. when (named (codes "arith.trunci") p.name) (given (source_among m.tree resizing p.first) (λ y. given (one y) (λ i. if named (codes "arith.trunci") i.name then Some (give_new q.insertion m.next h.id (cast i.name p.ty i.first)) else when (is_of_type m.tree p.ty i.first) (Some (give h.id i.first)))))) q.edits q.made in
+      let g = when_some (named (codes "arith.trunci") h.name) (given (source_among m.tree resizing w.first) (λ y. given (one y) (λ i. if named (codes "arith.trunci") i.name then Some (give_new q.insertion m.next h.id (cast i.name w.ty i.first)) else when (is_of_type m.tree w.ty i.first) (Some (give h.id i.first))))) q.edits w.makes in
+      let s = given_some (source_among m.tree resizing w.first) (λ y. given (one y) (λ i. if named (codes "arith.trunci") i.name then Some (give_new q.insertion m.next h.id (cast i.name w.ty i.first)) else when (is_of_type m.tree w.ty i.first) (Some (give h.id i.first)))) q.edits g.1 in
+      let i = one_is s.0 (λ i. if named (codes "arith.trunci") i.name then Some (give_new q.insertion m.next h.id (cast i.name w.ty i.first)) else when (is_of_type m.tree w.ty i.first) (Some (give h.id i.first))) q.edits s.2 in
       record {
         middle = w.first;
         ty = w.ty;
@@ -269,9 +269,9 @@ module _ (accepted : AreAccepted) where
 
   cut_kinds : (m n : Module) (x : ℕ) (q : Ruled CutCast m n x) (w : Cut m n x q) → IsReady m → CutKinds m n x q w
   cut_kinds m n x q w ready =
-      let k = rule_kinds m.tree (head q.here) (each_found (λ h. is_kinded m.tree h ≡ true) x m.tree ready.kinded q.here q.found).0 (root_has q ready.formed ready.kinded refl) (how.IntegerCast cuts.Truncate) w.name in
+      let k = rule_kinds m.tree (head q.here) (each_found (λ h. is_kinded m.tree h ≡ true) x m.tree ready.kinded q.here q.found).0 (root_has q ready.wellformed ready.kinded refl) (how.IntegerCast cuts.Truncate) w.name in
       let cut = cut_parts (kind_in m.tree w.middle) k.kind (subst (λ vs. takes (how.IntegerCast cuts.Truncate) (head q.here) k.kind (map (kind_in m.tree) vs) ≡ true) w.operands k.operands) in
-      let stand = operands_stand is_isolated m.tree ready.formed.distinct ready.formed.formed.visible in
+      let stand = operands_stand is_isolated m.tree ready.wellformed.distinct ready.wellformed.wellformed.visible in
       let there = (each_found (λ h. list_all (λ v. has_value v m.tree) h.operands ≡ true) x m.tree stand q.here q.found).0 in
       let middle : has_value w.middle m.tree ≡ true = (and_parts (has_value w.middle m.tree) true (subst (λ vs. list_all (λ v. has_value v m.tree) vs ≡ true) w.operands there)).0 in
       let s = sole_of m (λ h. among resizing h.name && is_verified m.tree h) w.middle w.inner w.gives middle w.inner_ty w.inner_results in
@@ -300,7 +300,7 @@ module _ (accepted : AreAccepted) where
     first_kind = cut_parts (kind_in m.tree w.first) k.between (source_narrows m (λ h. among resizing h.name && is_verified m.tree h) w.middle w.inner k.sole w.first w.inner_operands cuts.Truncate inner_cuts ready.kinded k.between k.between_is).0
 
     first_below : owner w.first < m.next
-    first_below = value_below m.next m.tree (is_below m.next m.tree ready.formed.below) w.first k.value
+    first_below = value_below m.next m.tree (is_below m.next m.tree ready.wellformed.below) w.first k.value
 
     cuts_to : narrows cuts.Truncate (kind_in m.tree w.first) k.kind ≡ true
     cuts_to = ap (λ j. narrows cuts.Truncate j k.kind) first_kind.1 ∙ lt-ltb (width_of k.kind) (width_of first_kind.0) (omega (arith, k.less, first_kind.2))
@@ -311,8 +311,8 @@ module _ (accepted : AreAccepted) where
       value_types = k.kind ∷ [];
       value = Result m.next 0;
       edits =
-          sym (same_Some _ _ (sym (ap (λ b. if b then Some (give_new q.front m.next (head q.here).id (cast w.inner.name w.ty w.first)) else when (is_of_type m.tree w.ty w.first) (Some (give (head q.here).id w.first))) e) ∙ w.makes))
-          ∙ ap (λ y. give_new q.front m.next y (cast w.inner.name w.ty w.first)) q.id;
+          sym (same_Some _ _ (sym (ap (λ b. if b then Some (give_new q.insertion m.next (head q.here).id (cast w.inner.name w.ty w.first)) else when (is_of_type m.tree w.ty w.first) (Some (give (head q.here).id w.first))) e) ∙ w.makes))
+          ∙ ap (λ y. give_new q.insertion m.next y (cast w.inner.name w.ty w.first)) q.id;
       are = (
         cast_made (with_all (kind_in m.tree) m.next None (Some k.kind ∷ [])) w.inner.name w.ty w.first k.kind cuts.Truncate inner_cuts k.of k.width
             (ap (λ j. narrows cuts.Truncate j k.kind) (all_agree (kind_in m.tree) m.next None (Some k.kind ∷ []) w.first first_below) ∙ cuts_to),
@@ -325,7 +325,7 @@ module _ (accepted : AreAccepted) where
       out = cast_outcome cuts.Truncate k.kind (a w.first)
 
       site : Site m a done x q.here
-      site = site_of m a done x q.here ready.formed ready.kinded computing q.found (root_has q ready.formed ready.kinded refl)
+      site = site_of m a done x q.here ready.wellformed ready.kinded computing q.found (root_has q ready.wellformed ready.kinded refl)
 
       middle_there : done x ≡ true → is_there done w.middle ≡ true
       middle_there d = operand_there m a done x q.here site (is_there done) w.middle w.operands (site.fed d)
@@ -344,7 +344,7 @@ module _ (accepted : AreAccepted) where
         outcomes = cast_outcome cuts.Truncate k.kind (a w.first) ∷ [];
         give = (
           cast_gives a done m.next x (cast_outcome cuts.Truncate k.kind (a w.first) ∷ []) w.inner.name w.ty w.first k.kind cuts.Truncate inner_cuts k.of first_below
-              (λ d. source_there m (λ h. among resizing h.name && is_verified m.tree h) w.middle w.inner k.sole w.first w.inner_operands cuts.Truncate inner_cuts a done ready.formed ready.kinded computing (λ i. ap is_some (sym k.sole.kind ∙ k.between_is)) (middle_there d)) total,
+              (λ d. source_there m (λ h. among resizing h.name && is_verified m.tree h) w.middle w.inner k.sole w.first w.inner_operands cuts.Truncate inner_cuts a done ready.wellformed ready.kinded computing (λ i. ap is_some (sym k.sole.kind ∙ k.between_is)) (middle_there d)) total,
           tt,
         );
         better = λ d.
@@ -352,7 +352,7 @@ module _ (accepted : AreAccepted) where
             (cast_result m a done x q.here site cuts.Truncate w.middle k.kind out w.name k.is w.operands d
             (λ z i.
             twice_refined cuts.Truncate cuts.Truncate k.between k.kind (a w.first) (a w.middle) z out i
-            (source_makes m (λ h. among resizing h.name && is_verified m.tree h) w.middle w.inner k.sole w.first w.inner_operands cuts.Truncate inner_cuts a done ready.formed ready.kinded computing (λ i. ap is_some (sym k.sole.kind ∙ k.between_is)) (middle_there d) k.between k.between_is)
+            (source_makes m (λ h. among resizing h.name && is_verified m.tree h) w.middle w.inner k.sole w.first w.inner_operands cuts.Truncate inner_cuts a done ready.wellformed ready.kinded computing (λ i. ap is_some (sym k.sole.kind ∙ k.between_is)) (middle_there d) k.between k.between_is)
             (λ y b j is c f. cast_refined cuts.Truncate k.kind (a w.first) y j is (sym (truncated_twice (width_of y.0) (width_of k.between) (width_of k.kind) y.1 b k.less c) ∙ f))));
         there = λ d. after_new m.next x done m.next (omega arith) ∙ d;
       }
@@ -362,7 +362,7 @@ module _ (accepted : AreAccepted) where
     back : (is_of_type m.tree w.ty w.first ≡ true) × (give (head q.here).id w.first ≡ q.edits)
     back =
         let g = when_some (is_of_type m.tree w.ty w.first) (Some (give (head q.here).id w.first)) q.edits
-        (sym (ap (λ b. if b then Some (give_new q.front m.next (head q.here).id (cast w.inner.name w.ty w.first)) else when (is_of_type m.tree w.ty w.first) (Some (give (head q.here).id w.first))) e) ∙ w.makes) in
+        (sym (ap (λ b. if b then Some (give_new q.insertion m.next (head q.here).id (cast w.inner.name w.ty w.first)) else when (is_of_type m.tree w.ty w.first) (Some (give (head q.here).id w.first))) e) ∙ w.makes) in
         (g.0, same_Some _ _ g.1)
 
     inner_extends : (c : Cast) × (rule_of w.inner.name ≡ Some (how.IntegerCast c)) × (extends c ≡ true)
@@ -373,16 +373,16 @@ module _ (accepted : AreAccepted) where
 
     back_improves : (a : Assignment) (done : ℕ → Bool) → AreKinded n.tree → Computing a done m.tree → Improves a done m (done_after m.next x done) n.tree
     back_improves a done after computing =
-        let s = site_of m a done x q.here ready.formed ready.kinded computing q.found (root_has q ready.formed ready.kinded refl) in
+        let s = site_of m a done x q.here ready.wellformed ready.kinded computing q.found (root_has q ready.wellformed ready.kinded refl) in
         let middle : done x ≡ true → is_there done w.middle ≡ true = (λ d. operand_there m a done x q.here s (is_there done) w.middle w.operands (s.fed d)) in
-        old_improves CutCast m n x a done ready.formed after computing q (q.numeric refl) w.first s (record {
+        old_improves CutCast m n x a done ready.wellformed after computing q (q.numeric refl) w.first s (record {
           edits = back.1;
           value = k.value;
           better = λ d.
               cast_result m a done x q.here s cuts.Truncate w.middle k.kind (a w.first) w.name k.is w.operands d
               (λ z i.
               twice_refined inner_extends.0 cuts.Truncate k.between k.kind (a w.first) (a w.middle) z (a w.first) i
-              (source_makes m (λ h. among resizing h.name && is_verified m.tree h) w.middle w.inner k.sole w.first w.inner_operands inner_extends.0 inner_extends.1 a done ready.formed ready.kinded computing (λ i. ap is_some (sym k.sole.kind ∙ k.between_is)) (middle d) k.between k.between_is)
+              (source_makes m (λ h. among resizing h.name && is_verified m.tree h) w.middle w.inner k.sole w.first w.inner_operands inner_extends.0 inner_extends.1 a done ready.wellformed ready.kinded computing (λ i. ap is_some (sym k.sole.kind ∙ k.between_is)) (middle d) k.between k.between_is)
               (λ y b j is c f.
               let value_types = value_kind m a done x q.here s w.first k.kind y back_kind is in
               let back_to = sym value_types in
@@ -391,12 +391,12 @@ module _ (accepted : AreAccepted) where
               cut_back_to inner_extends.0 (width_of k.kind) (width_of k.between) y.1 b j inner_extends.2 (subst (λ k. 1 ≤ width_of k) value_types (some_bits y.0 y.1 fits)) k.less (subst (λ k. y.1 < 2 ^ width_of k) value_types (below y.0 y.1 fits))
               (subst (λ u. cast_of inner_extends.0 (width_of u) (width_of k.between) y.1 ≡ Some b) value_types c) f in
               same_refined (Some (k.kind, j)) (a w.first) ((λ i. Some (back_to i, number i)) ∙ sym is)));
-          there = λ d. source_there m (λ h. among resizing h.name && is_verified m.tree h) w.middle w.inner k.sole w.first w.inner_operands inner_extends.0 inner_extends.1 a done ready.formed ready.kinded computing (λ i. ap is_some (sym k.sole.kind ∙ k.between_is)) (middle d);
+          there = λ d. source_there m (λ h. among resizing h.name && is_verified m.tree h) w.middle w.inner k.sole w.first w.inner_operands inner_extends.0 inner_extends.1 a done ready.wellformed ready.kinded computing (λ i. ap is_some (sym k.sole.kind ∙ k.between_is)) (middle d);
         })
 
   pub cut_cast_ready : KeepsReady CutCast
   cut_cast_ready m n x ready e =
-      let q = ruled accepted CutCast m n x ready.formed ready.sorted e in
+      let q = ruled accepted CutCast m n x ready.wellformed ready.sorted e in
       let w = cut_here m n x q in
       let k = cut_kinds m n x q w ready in
       elim (bool_cases (named (codes "arith.trunci") w.inner.name)) [
@@ -406,7 +406,7 @@ module _ (accepted : AreAccepted) where
 
   pub cut_cast_computing : KeepsComputing CutCast
   cut_cast_computing m n x a done ready computing e =
-      let q = ruled accepted CutCast m n x ready.formed ready.sorted e in
+      let q = ruled accepted CutCast m n x ready.wellformed ready.sorted e in
       let w = cut_here m n x q in
       let k = cut_kinds m n x q w ready in
       let after = (cut_cast_ready m n x ready e).kinded in

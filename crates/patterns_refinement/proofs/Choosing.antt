@@ -40,11 +40,11 @@ use Rattle.patterns_refinement.specs.Meaning.{Assignment, of_two, result_kind, b
 use Rattle.patterns_refinement.specs.Better.{is_kind, is_kinded, is_poison_by_ones, is_signed_quotient, kind_in, takes, takes_its}
 use Rattle.patterns_refinement.specs.Keeping.{Computing, IsReady, KeepsComputing, KeepsReady, is_there}
 use Rattle.patterns_refinement.proofs.Dropping.{choice_refined, kind_by, known_is, known_test, of_three_is, of_two_is}
-use Rattle.patterns_refinement.proofs.EditsForm.{all_formed}
+use Rattle.patterns_refinement.proofs.EditsForm.{all_wellformed}
 use Rattle.patterns_refinement.proofs.Expanding.{by_exclusive_or}
 use Rattle.patterns_refinement.proofs.Extremes.{select_is, select_out}
 use Rattle.patterns_refinement.proofs.Firsts.{by_select}
-use Rattle.patterns_refinement.proofs.Formed.{operands_stand}
+use Rattle.patterns_refinement.proofs.Wellformed.{operands_stand}
 use Rattle.patterns_refinement.proofs.Forms.{makes_is, named_is}
 use Rattle.patterns_refinement.proofs.Monotone.{same_refined}
 use Rattle.patterns_refinement.proofs.Pairs.{Paired, paired}
@@ -123,7 +123,7 @@ module _ (accepted : AreAccepted) where
           properties = (head q.here).properties;
           becomes = ap (λ vs. put_operand 2 w.second (put_operand 1 w.third (put_operand 0 w.condition (record (head q.here) { operands = vs })))) w.operands;
           tree = ap (λ (m : Module). m.tree) after;
-          formed = subst (IsWellFormed is_isolated) after (all_formed es m (tt, (tt, (tt, tt))) ready.formed (subst (λ es. Free es m) w.edits q.free));
+          wellformed = subst (IsWellFormed is_isolated) after (all_wellformed es m (tt, (tt, (tt, tt))) ready.wellformed (subst (λ es. Free es m) w.edits q.free));
         }
 
     record OppositeKinds : Type 0 where
@@ -143,10 +143,10 @@ module _ (accepted : AreAccepted) where
 
     opposite_kinds : OppositeKinds
     opposite_kinds =
-        let k = rule_kinds m.tree (head q.here) (each_found (λ h. is_kinded m.tree h ≡ true) x m.tree ready.kinded q.here q.found).0 (root_has q ready.formed ready.kinded refl) how.Select w.name in
+        let k = rule_kinds m.tree (head q.here) (each_found (λ h. is_kinded m.tree h ≡ true) x m.tree ready.kinded q.here q.found).0 (root_has q ready.wellformed ready.kinded refl) how.Select w.name in
         let all = and_parts (is_kind (kind.Int 1) (kind_in m.tree w.first)) (is_kind k.kind (kind_in m.tree w.second) && is_kind k.kind (kind_in m.tree w.third)) (subst (λ vs. takes how.Select (head q.here) k.kind (map (kind_in m.tree) vs) ≡ true) w.operands k.operands) in
         let both = and_parts (is_kind k.kind (kind_in m.tree w.second)) (is_kind k.kind (kind_in m.tree w.third)) all.1 in
-        let stand = operands_stand is_isolated m.tree ready.formed.distinct ready.formed.formed.visible in
+        let stand = operands_stand is_isolated m.tree ready.wellformed.distinct ready.wellformed.wellformed.visible in
         let values = subst (λ vs. list_all (λ v. has_value v m.tree) vs ≡ true) w.operands (each_found (λ h. list_all (λ v. has_value v m.tree) h.operands ≡ true) x m.tree stand q.here q.found).0 in
         let f = and_parts (has_value w.first m.tree) (has_value w.second m.tree && (has_value w.third m.tree && true)) values in
         let g = and_parts (has_value w.second m.tree) (has_value w.third m.tree && true) f.1 in
@@ -187,10 +187,10 @@ module _ (accepted : AreAccepted) where
 
       module _ (a : Assignment) (done : ℕ → Bool) (computing : Computing a done m.tree) where
         site : Site m a done x q.here
-        site = site_of m a done x q.here ready.formed ready.kinded computing q.found (root_has q ready.formed ready.kinded refl)
+        site = site_of m a done x q.here ready.wellformed ready.kinded computing q.found (root_has q ready.wellformed ready.kinded refl)
 
         own : Site m a done k.sole.id k.sole.here
-        own = site_of m a done k.sole.id k.sole.here ready.formed ready.kinded computing k.sole.found (λ i. ap is_some k.sole_kind)
+        own = site_of m a done k.sole.id k.sole.here ready.wellformed ready.kinded computing k.sole.found (λ i. ap is_some k.sole_kind)
 
         abbrev out : Outcome
         out = select_out (a w.condition) (a w.third) (a w.second)
@@ -213,7 +213,7 @@ module _ (accepted : AreAccepted) where
           opposite_known : (c : Known) → a w.first ≡ Some c → Paired op.ExclusiveOr (a w.condition) (a w.truth) (a w.first) → refines (choice_of c.1 (a w.second) (a w.third)) out ≡ true
           opposite_known c e p =
               let inside = of_two_is m a done k.sole.id k.sole.here own w.condition w.truth k.own_operands in
-              let one_is : w.one ≡ p.second = known_is m a done ready.formed ready.kinded computing w.truth w.one p.second inside.second (inside.second_there inner_done) w.one_is p.second_is in
+              let one_is : w.one ≡ p.second = known_is m a done ready.wellformed ready.kinded computing w.truth w.one p.second inside.second (inside.second_there inner_done) w.one_is p.second_is in
               let kind_is : p.first.0 ≡ kind.Int 1 = kind_by m a done x q.here site w.condition (kind.Int 1) p.first k.condition_is p.first_is in
               let fits : p.first.1 < 2 ^ 1 = subst (λ k. p.first.1 < 2 ^ width_of k) kind_is (below p.first.0 p.first.1 (value_bits m a done x q.here site w.condition k.condition p.first p.first_is)) in
               let number : bit_xor p.first.1 1 ≡ p.number = same_Some _ _ (ap (λ n. Some (bit_xor p.first.1 n)) (sym (ap (λ (y : Known). y.1) (sym one_is) ∙ eqb-true w.one.1 1 w.is_one)) ∙ p.value) in
@@ -263,12 +263,12 @@ module _ (accepted : AreAccepted) where
   pub choose_opposite_ready : KeepsReady ChooseOpposite
   unfolding opposite_turns
   choose_opposite_ready m n x ready e =
-      let q = ruled accepted ChooseOpposite m n x ready.formed ready.sorted e in
+      let q = ruled accepted ChooseOpposite m n x ready.wellformed ready.sorted e in
       let w = opposite_here m n x q in
       turned_ready m n x q.here (opposite_turns m n x q w ready) ready (each_found Rises x m.tree (each_rises m.tree ready.sorted) q.here q.found).0 (opposite_takes m n x q w ready (opposite_kinds m n x q w ready))
 
   pub choose_opposite_computing : KeepsComputing ChooseOpposite
   choose_opposite_computing m n x a done ready computing e =
-      let q = ruled accepted ChooseOpposite m n x ready.formed ready.sorted e in
+      let q = ruled accepted ChooseOpposite m n x ready.wellformed ready.sorted e in
       let w = opposite_here m n x q in
       turned_improves m n x q.here (opposite_turns m n x q w ready) ready a done computing (opposite_well m n x q w ready (opposite_kinds m n x q w ready) a done computing) (choose_opposite_ready m n x ready e).kinded

@@ -55,7 +55,7 @@ condition_chosen c p q k l f g = go (c.1 == 0) refl
 
 choose_truth_gives : GivesOld ChooseTruth
 unfolding rule
-choose_truth_gives t n front o es e =
+choose_truth_gives t n insertion o es e =
     let w = three_is (head o) (λ p. when (named (codes "arith.select") p.name) (when (same_type p.ty i1 && (is_number t 1 p.second && is_number t 0 p.third)) (Some (give (head o).id p.first)))) es e in
     let g = when_some (named (codes "arith.select") (head o).name) (when (same_type w.ty i1 && (is_number t 1 w.second && is_number t 0 w.third)) (Some (give (head o).id w.first))) es w.makes in
     let h = when_some (same_type w.ty i1 && (is_number t 1 w.second && is_number t 0 w.third)) (Some (give (head o).id w.first)) es g.1 in
@@ -64,8 +64,8 @@ choose_truth_gives t n front o es e =
 module _ (accepted : AreAccepted) where
   choose_truth_keeps : Keeps ChooseTruth
   unfolding rule
-  choose_truth_keeps m n x a done formed sorted kinded after computing e =
-      let q = ruled accepted ChooseTruth m n x formed sorted e in
+  choose_truth_keeps m n x a done wellformed sorted kinded after computing e =
+      let q = ruled accepted ChooseTruth m n x wellformed sorted e in
       let w = three_is (head q.here) (λ p. when (named (codes "arith.select") p.name) (when (same_type p.ty i1 && (is_number m.tree 1 p.second && is_number m.tree 0 p.third)) (Some (give (head q.here).id p.first)))) q.edits q.made in
       let g = when_some (named (codes "arith.select") (head q.here).name) (when (same_type w.ty i1 && (is_number m.tree 1 w.second && is_number m.tree 0 w.third)) (Some (give (head q.here).id w.first))) q.edits w.makes in
       let h = when_some (same_type w.ty i1 && (is_number m.tree 1 w.second && is_number m.tree 0 w.third)) (Some (give (head q.here).id w.first)) q.edits g.1 in
@@ -74,13 +74,13 @@ module _ (accepted : AreAccepted) where
       let one = known_test (λ k. eqb k.1 1) (known m.tree w.second) numbers.0 in
       let zero = known_test (λ k. eqb k.1 0) (known m.tree w.third) numbers.1 in
       let name = ap rule_of (named_is (codes "arith.select") (head q.here).name g.0) ∙ by_select in
-      let s = site_of m a done x q.here formed kinded computing q.found (root_has q formed kinded refl) in
+      let s = site_of m a done x q.here wellformed kinded computing q.found (root_has q wellformed kinded refl) in
       let three = of_three_is m a done x q.here s w.first w.second w.third w.operands in
       let of = of_rule m a done x q.here s how.Select name in
       let truths : of.kind ≡ kind.Int 1 = same_Some _ _ (sym of.is ∙ ap (λ tys. given (slice_get tys 0) kind_of) w.results ∙ ap kind_of (type_is w.ty i1 tests.0)) in
       let all = and_parts (is_kind (kind.Int 1) (kind_in m.tree w.first)) (is_kind of.kind (kind_in m.tree w.second) && is_kind of.kind (kind_in m.tree w.third)) (subst (λ vs. takes how.Select (head q.here) of.kind (map (kind_in m.tree) vs) ≡ true) w.operands of.operands) in
       let both = and_parts (is_kind of.kind (kind_in m.tree w.second)) (is_kind of.kind (kind_in m.tree w.third)) all.1 in
-      old_improves ChooseTruth m n x a done formed after computing q (q.numeric refl) w.first s (record {
+      old_improves ChooseTruth m n x a done wellformed after computing q (q.numeric refl) w.first s (record {
         edits = same_Some _ _ h.1;
         value = three.first;
         better = λ d.
@@ -89,8 +89,8 @@ module _ (accepted : AreAccepted) where
             let k = same_kinds c.0 (kind.Int 1) i in
             subst (λ o. refines (choice_of c.1 (a w.second) (a w.third)) o ≡ true) (sym e)
             (condition_chosen c (a w.second) (a w.third) k (subst (λ k. c.1 < 2 ^ width_of k) k (below c.0 c.1 (value_bits m a done x q.here s w.first three.first c e)))
-            (λ y j. (kind_by m a done x q.here s w.second of.kind y both.0 j ∙ truths, ap (λ (w : Known). w.1) (sym (known_is m a done formed kinded computing w.second one.0 y three.second (three.second_there d) one.1 j)) ∙ eqb-true one.0.1 1 one.2))
-            (λ y j. (kind_by m a done x q.here s w.third of.kind y both.1 j ∙ truths, ap (λ (w : Known). w.1) (sym (known_is m a done formed kinded computing w.third zero.0 y three.third (three.third_there d) zero.1 j)) ∙ eqb-true zero.0.1 0 zero.2))));
+            (λ y j. (kind_by m a done x q.here s w.second of.kind y both.0 j ∙ truths, ap (λ (w : Known). w.1) (sym (known_is m a done wellformed kinded computing w.second one.0 y three.second (three.second_there d) one.1 j)) ∙ eqb-true one.0.1 1 one.2))
+            (λ y j. (kind_by m a done x q.here s w.third of.kind y both.1 j ∙ truths, ap (λ (w : Known). w.1) (sym (known_is m a done wellformed kinded computing w.third zero.0 y three.third (three.third_there d) zero.1 j)) ∙ eqb-true zero.0.1 0 zero.2))));
         there = three.first_there;
       })
 

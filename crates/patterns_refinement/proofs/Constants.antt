@@ -56,7 +56,7 @@ pub record GivesNumber (r : Rule) (m n : Module) (x : ℕ) (q : Ruled r m n x) :
   pub of : kind_of ty ≡ Some kind
   pub fits : is_bits kind bits ≡ true
   pub width : is_width (width_of kind) ≡ true
-  pub edits : give_constant q.front m.next (head q.here).id ty bits ≡ q.edits
+  pub edits : give_constant q.insertion m.next (head q.here).id ty bits ≡ q.edits
 
 pub constant_folds : (ty : TypeTerm) (k : BitsKind) (n : ℕ) → kind_of ty ≡ Some k → fold_of (head (constant ty n)).name (head (constant ty n)).properties [] (head (constant ty n)).results ≡ Some (k, n)
 constant_folds ty k n e = subst (λ ty. fold_of (head (constant ty n)).name (head (constant ty n)).properties [] (head (constant ty n)).results ≡ Some (k, n)) (sym (type_is_of ty k e)) (constant_gives k n)
@@ -65,8 +65,8 @@ module _ (r : Rule) (m n : Module) (x : ℕ) (q : Ruled r m n x) (g : GivesNumbe
   abbrev made : List Operation
   made = constant g.ty g.bits ∷ []
 
-  these : q.edits ≡ map (λ o. Make q.front o) (constant g.ty g.bits ∷ []) ++ give x (Result m.next 0)
-  these = sym g.edits ∙ ap (λ y. give_constant q.front m.next y g.ty g.bits) q.id
+  these : q.edits ≡ map (λ o. Make q.insertion o) (constant g.ty g.bits ∷ []) ++ give x (Result m.next 0)
+  these = sym g.edits ∙ ap (λ y. give_constant q.insertion m.next y g.ty g.bits) q.id
 
   value_types : Value → Option BitsKind
   value_types = with_new (kind_in m.tree) m.next (Some g.kind)
@@ -91,7 +91,7 @@ module _ (r : Rule) (m n : Module) (x : ℕ) (q : Ruled r m n x) (g : GivesNumbe
 
   pub number_ready : IsReady m → IsReady n
   number_ready ready =
-      stays_ready m n x q.front (constant g.ty g.bits ∷ []) (Result m.next 0) ready (subst (λ es. Free es m) these q.free) (subst (λ es. all_edited es m ≡ n) these q.module_is)
+      stays_ready m n x q.insertion (constant g.ty g.bits ∷ []) (Result m.next 0) ready (subst (λ es. Free es m) these q.free) (subst (λ es. all_edited es m ≡ n) these q.module_is)
       (with_new (kind_in m.tree) m.next (Some g.kind)) (λ w l. new_agrees (kind_in m.tree) m.next (Some g.kind) w l) (refl, tt) news (refl, tt)
 
   module _ (a : Assignment) (done : ℕ → Bool) (better : done x ≡ true → refines (a (Result x 0)) (Some (g.kind, g.bits)) ≡ true) where
@@ -129,5 +129,5 @@ module _ (r : Rule) (m n : Module) (x : ℕ) (q : Ruled r m n x) (g : GivesNumbe
 
     pub number_improves : IsReady m → is_numeric r ≡ true → AreKinded n.tree → Computing a done m.tree → Improves a done m (done_after m.next x done) n.tree
     number_improves ready numeric kinded computing =
-        given_improves m n x a done q.front (constant g.ty g.bits ∷ []) (Result m.next 0) ready.formed q.within (computed_root r m n x q (root_has q ready.formed ready.kinded (numeric_stays r numeric)) (q.numeric numeric)) computing kinded making
+        given_improves m n x a done q.insertion (constant g.ty g.bits ∷ []) (Result m.next 0) ready.wellformed q.within (computed_root r m n x q (root_has q ready.wellformed ready.kinded (numeric_stays r numeric)) (q.numeric numeric)) computing kinded making
         (subst (λ es. Free es m) these q.free) (subst (λ es. all_edited es m ≡ n) these q.module_is)

@@ -60,7 +60,7 @@ use Rattle.patterns_refinement.proofs.Sources.{kind_test}
 use Rattle.patterns_refinement.proofs.Trees.{value_below}
 
 -- ---- an existing value replaces the result
-module _ (r : Rule) (m n : Module) (x : ℕ) (a : Assignment) (done : ℕ → Bool) (formed : IsWellFormed is_isolated m) (kinded : AreKinded n.tree) (computing : Computing a done m.tree) (q : Ruled r m n x) where
+module _ (r : Rule) (m n : Module) (x : ℕ) (a : Assignment) (done : ℕ → Bool) (wellformed : IsWellFormed is_isolated m) (kinded : AreKinded n.tree) (computing : Computing a done m.tree) (q : Ruled r m n x) where
   -- the conditions under which v may replace the result
   pub record MayGive (v : Value) : Type 0 where
     pub edits : give (head q.here).id v ≡ q.edits
@@ -71,7 +71,7 @@ module _ (r : Rule) (m n : Module) (x : ℕ) (a : Assignment) (done : ℕ → Bo
   pub old_improves : asks_kind (rule_of (head q.here).name) ≡ true → (v : Value) → Site m a done x q.here → MayGive v → Improves a done m (done_after m.next x done) n.tree
   old_improves named v s g =
       let these : q.edits ≡ give x v = sym g.edits ∙ ap (λ y. give y v) q.id in
-      given_improves m n x a done q.front [] v formed q.within (ap is_arithmetic_there q.found ∙ named_arithmetic (head q.here) s.has named) computing kinded (old_given a m.next x done v (value_below m.next m.tree s.below v g.value) g.better g.there)
+      given_improves m n x a done q.insertion [] v wellformed q.within (ap is_arithmetic_there q.found ∙ named_arithmetic (head q.here) s.has named) computing kinded (old_given a m.next x done v (value_below m.next m.tree s.below v g.value) g.better g.there)
       (subst (λ es. Free es m) these q.free) (subst (λ es. all_edited es m ≡ n) these q.module_is)
 
 -- ---- binary operations
@@ -168,7 +168,7 @@ chosen_better c p q y e f = go (c == 0)
 
 -- ---- constants
 pub known_is : (m : Module) (a : Assignment) (done : ℕ → Bool) → IsWellFormed is_isolated m → AreKinded m.tree → Computing a done m.tree → (v : Value) (k y : Known) → has_value v m.tree ≡ true → is_there done v ≡ true → known m.tree v ≡ Some k → a v ≡ Some y → k ≡ y
-known_is m a done formed kinded computing v k y h there e i = same_Some _ _ (value_refined y (Some k) (subst (λ o. refines o (Some k) ≡ true) i (known_there m a done formed computing kinded v k h there e)))
+known_is m a done wellformed kinded computing v k y h there e i = same_Some _ _ (value_refined y (Some k) (subst (λ o. refines o (Some k) ≡ true) i (known_there m a done wellformed computing kinded v k h there e)))
 
 pub known_test : (test : Known → Bool) (o : Option Known) → passes test o ≡ true → (k : Known) × (o ≡ Some k) × (test k ≡ true)
 known_test test None e = absurd (true≢false (sym e))
@@ -184,18 +184,18 @@ module _ (accepted : AreAccepted) where
   -- the second operand is a number
   number_second : (f : Arithmetic → Bool) (b : ℕ) → ((o : Arithmetic) → f o ≡ true → Firsts o (λ k. b)) → (r : Rule) (m n : Module) (x : ℕ) (a : Assignment) (done : ℕ → Bool) → IsWellFormed is_isolated m → AreKinded m.tree → AreKinded n.tree → Computing a done m.tree
       → is_erasing r ≡ false → (q : Ruled r m n x) (u v : Value) → IsPair f (head q.here).name → (head q.here).operands ≡ u ∷ v ∷ [] → is_number m.tree b v ≡ true → give (head q.here).id u ≡ q.edits → Improves a done m (done_after m.next x done) n.tree
-  number_second f b firsts r m n x a done formed kinded after computing stays q u v p ops number edits =
-      let s = site_of m a done x q.here formed kinded computing q.found (root_has q formed kinded stays) in
+  number_second f b firsts r m n x a done wellformed kinded after computing stays q u v p ops number edits =
+      let s = site_of m a done x q.here wellformed kinded computing q.found (root_has q wellformed kinded stays) in
       let two = of_two_is m a done x q.here s u v ops in
       let k = known_test (λ k. eqb k.1 b) (known m.tree v) number in
-      old_improves r m n x a done formed after computing q (ap asks_kind p.1) u s (record {
+      old_improves r m n x a done wellformed after computing q (ap asks_kind p.1) u s (record {
         edits = edits;
         value = two.first;
         better = λ d.
             pair_refined m a done x q.here s p.0 u v (a u) p.1 ops d
             (λ z i. first_kept p.0 (λ k. b) p.3 (firsts p.0 p.2) (a u) (a v) z (value_bits m a done x q.here s u two.first)
             (λ y e.
-            let same : k.0 ≡ y = known_is m a done formed kinded computing v k.0 y two.second (two.second_there d) k.1 e in
+            let same : k.0 ≡ y = known_is m a done wellformed kinded computing v k.0 y two.second (two.second_there d) k.1 e in
             ap (λ (y : Known). y.1) (sym same) ∙ eqb-true k.0.1 b k.2)
             i);
         there = two.first_there;
@@ -203,34 +203,34 @@ module _ (accepted : AreAccepted) where
 
   pub drop_zero_keeps : Keeps DropZero
   unfolding rule
-  drop_zero_keeps m n x a done formed sorted kinded after computing e =
-      let q = ruled accepted DropZero m n x formed sorted e in
+  drop_zero_keeps m n x a done wellformed sorted kinded after computing e =
+      let q = ruled accepted DropZero m n x wellformed sorted e in
       let w = two_is (head q.here) (λ p. when (among with_zero_as_right_identity p.name && is_number m.tree 0 p.second) (Some (give (head q.here).id p.first))) q.edits q.made in
       let g = when_some (among with_zero_as_right_identity (head q.here).name && is_number m.tree 0 w.second) (Some (give (head q.here).id w.first)) q.edits w.makes in
       let h = and_parts (among with_zero_as_right_identity (head q.here).name) (is_number m.tree 0 w.second) g.0 in
-      number_second ignores_zero 0 zero_first DropZero m n x a done formed kinded after computing refl q w.first w.second (of_among (IsPair ignores_zero) with_zero_as_right_identity (head q.here).name zero_pairs h.0) w.operands h.1 (same_Some _ _ g.1)
+      number_second ignores_zero 0 zero_first DropZero m n x a done wellformed kinded after computing refl q w.first w.second (of_among (IsPair ignores_zero) with_zero_as_right_identity (head q.here).name zero_pairs h.0) w.operands h.1 (same_Some _ _ g.1)
 
   pub drop_one_keeps : Keeps DropOne
   unfolding rule
-  drop_one_keeps m n x a done formed sorted kinded after computing e =
-      let q = ruled accepted DropOne m n x formed sorted e in
+  drop_one_keeps m n x a done wellformed sorted kinded after computing e =
+      let q = ruled accepted DropOne m n x wellformed sorted e in
       let w = two_is (head q.here) (λ p. when (among with_one_as_right_identity p.name && is_number m.tree 1 p.second) (Some (give (head q.here).id p.first))) q.edits q.made in
       let g = when_some (among with_one_as_right_identity (head q.here).name && is_number m.tree 1 w.second) (Some (give (head q.here).id w.first)) q.edits w.makes in
       let h = and_parts (among with_one_as_right_identity (head q.here).name) (is_number m.tree 1 w.second) g.0 in
-      number_second ignores_one 1 one_first DropOne m n x a done formed kinded after computing refl q w.first w.second (of_among (IsPair ignores_one) with_one_as_right_identity (head q.here).name one_pairs h.0) w.operands h.1 (same_Some _ _ g.1)
+      number_second ignores_one 1 one_first DropOne m n x a done wellformed kinded after computing refl q w.first w.second (of_among (IsPair ignores_one) with_one_as_right_identity (head q.here).name one_pairs h.0) w.operands h.1 (same_Some _ _ g.1)
 
   pub keep_itself_keeps : Keeps KeepItself
   unfolding rule
-  keep_itself_keeps m n x a done formed sorted kinded after computing e =
-      let q = ruled accepted KeepItself m n x formed sorted e in
+  keep_itself_keeps m n x a done wellformed sorted kinded after computing e =
+      let q = ruled accepted KeepItself m n x wellformed sorted e in
       let w = two_is (head q.here) (λ p. when (among idempotent p.name && same_value p.first p.second) (Some (give (head q.here).id p.first))) q.edits q.made in
       let g = when_some (among idempotent (head q.here).name && same_value w.first w.second) (Some (give (head q.here).id w.first)) q.edits w.makes in
       let h = and_parts (among idempotent (head q.here).name) (same_value w.first w.second) g.0 in
       let p = of_among (IsPair keeps_itself) idempotent (head q.here).name keeping_pairs h.0 in
       let same = same_value_true w.first w.second h.1 in
-      let s = site_of m a done x q.here formed kinded computing q.found (root_has q formed kinded refl) in
+      let s = site_of m a done x q.here wellformed kinded computing q.found (root_has q wellformed kinded refl) in
       let two = of_two_is m a done x q.here s w.first w.second w.operands in
-      old_improves KeepItself m n x a done formed after computing q (q.numeric refl) w.first s (record {
+      old_improves KeepItself m n x a done wellformed after computing q (q.numeric refl) w.first s (record {
         edits = same_Some _ _ g.1;
         value = two.first;
         better = λ d.
@@ -241,26 +241,26 @@ module _ (accepted : AreAccepted) where
 
   pub drop_all_ones_keeps : Keeps DropAllOnes
   unfolding rule
-  drop_all_ones_keeps m n x a done formed sorted kinded after computing e =
-      let q = ruled accepted DropAllOnes m n x formed sorted e in
+  drop_all_ones_keeps m n x a done wellformed sorted kinded after computing e =
+      let q = ruled accepted DropAllOnes m n x wellformed sorted e in
       let w = two_is (head q.here) (λ p. when (named (codes "arith.andi") p.name && passes (is_all_ones p.ty) (known m.tree p.second)) (Some (give (head q.here).id p.first))) q.edits q.made in
       let g = when_some (named (codes "arith.andi") (head q.here).name && passes (is_all_ones w.ty) (known m.tree w.second)) (Some (give (head q.here).id w.first)) q.edits w.makes in
       let h = and_parts (named (codes "arith.andi") (head q.here).name) (passes (is_all_ones w.ty) (known m.tree w.second)) g.0 in
       let k = known_test (is_all_ones w.ty) (known m.tree w.second) h.1 in
       let name = ap rule_of (named_is (codes "arith.andi") (head q.here).name h.0) ∙ by_and in
-      let s = site_of m a done x q.here formed kinded computing q.found (root_has q formed kinded refl) in
+      let s = site_of m a done x q.here wellformed kinded computing q.found (root_has q wellformed kinded refl) in
       let two = of_two_is m a done x q.here s w.first w.second w.operands in
       let of = of_rule m a done x q.here s (how.Binary op.And) name in
       let value_types = and_parts (is_kind of.kind (kind_in m.tree w.first)) (is_kind of.kind (kind_in m.tree w.second)) (subst (λ vs. takes (how.Binary op.And) (head q.here) of.kind (map (kind_in m.tree) vs) ≡ true) w.operands of.operands) in
       let width : type_width w.ty ≡ width_of of.kind = widths w.ty of.kind (sym (ap (λ tys. given (slice_get tys 0) kind_of) w.results) ∙ of.is) in
-      old_improves DropAllOnes m n x a done formed after computing q (q.numeric refl) w.first s (record {
+      old_improves DropAllOnes m n x a done wellformed after computing q (q.numeric refl) w.first s (record {
         edits = same_Some _ _ g.1;
         value = two.first;
         better = λ d.
             pair_refined m a done x q.here s op.And w.first w.second (a w.first) name w.operands d
             (λ z i. first_kept op.And (λ k. all_ones (width_of k)) refl ones_first (a w.first) (a w.second) z (value_bits m a done x q.here s w.first two.first)
             (λ y e.
-            let same = known_is m a done formed kinded computing w.second k.0 y two.second (two.second_there d) k.1 e in
+            let same = known_is m a done wellformed kinded computing w.second k.0 y two.second (two.second_there d) k.1 e in
             ap (λ (y : Known). y.1) (sym same) ∙ eqb-true k.0.1 (all_ones (type_width w.ty)) k.2
             ∙ ap all_ones (width ∙ ap width_of (sym (kind_by m a done x q.here s w.second of.kind y value_types.1 e))))
             i);
@@ -269,15 +269,15 @@ module _ (accepted : AreAccepted) where
 
   pub choose_same_keeps : Keeps ChooseSame
   unfolding rule
-  choose_same_keeps m n x a done formed sorted kinded after computing e =
-      let q = ruled accepted ChooseSame m n x formed sorted e in
+  choose_same_keeps m n x a done wellformed sorted kinded after computing e =
+      let q = ruled accepted ChooseSame m n x wellformed sorted e in
       let w = three_is (head q.here) (λ p. when (named (codes "arith.select") p.name) (when (same_value p.second p.third) (Some (give (head q.here).id p.second)))) q.edits q.made in
       let g = when_some (named (codes "arith.select") (head q.here).name) (when (same_value w.second w.third) (Some (give (head q.here).id w.second))) q.edits w.makes in
       let h = when_some (same_value w.second w.third) (Some (give (head q.here).id w.second)) q.edits g.1 in
       let name = ap rule_of (named_is (codes "arith.select") (head q.here).name g.0) ∙ by_select in
-      let s = site_of m a done x q.here formed kinded computing q.found (root_has q formed kinded refl) in
+      let s = site_of m a done x q.here wellformed kinded computing q.found (root_has q wellformed kinded refl) in
       let three = of_three_is m a done x q.here s w.first w.second w.third w.operands in
-      old_improves ChooseSame m n x a done formed after computing q (q.numeric refl) w.second s (record {
+      old_improves ChooseSame m n x a done wellformed after computing q (q.numeric refl) w.second s (record {
         edits = same_Some _ _ h.1;
         value = three.second;
         better = λ d.
@@ -288,21 +288,21 @@ module _ (accepted : AreAccepted) where
 
   pub choose_known_keeps : Keeps ChooseKnown
   unfolding rule
-  choose_known_keeps m n x a done formed sorted kinded after computing e =
-      let q = ruled accepted ChooseKnown m n x formed sorted e in
+  choose_known_keeps m n x a done wellformed sorted kinded after computing e =
+      let q = ruled accepted ChooseKnown m n x wellformed sorted e in
       let w = three_is (head q.here) (λ p. when (named (codes "arith.select") p.name) (given (known m.tree p.first) (λ c. Some (give (head q.here).id (choice_of c.1 p.second p.third))))) q.edits q.made in
       let g = when_some (named (codes "arith.select") (head q.here).name) (given (known m.tree w.first) (λ c. Some (give (head q.here).id (choice_of c.1 w.second w.third)))) q.edits w.makes in
       let k = given_some (known m.tree w.first) (λ c. Some (give (head q.here).id (choice_of c.1 w.second w.third))) q.edits g.1 in
       let name = ap rule_of (named_is (codes "arith.select") (head q.here).name g.0) ∙ by_select in
-      let s = site_of m a done x q.here formed kinded computing q.found (root_has q formed kinded refl) in
+      let s = site_of m a done x q.here wellformed kinded computing q.found (root_has q wellformed kinded refl) in
       let three = of_three_is m a done x q.here s w.first w.second w.third w.operands in
-      old_improves ChooseKnown m n x a done formed after computing q (q.numeric refl) (choice_of k.0.1 w.second w.third) s (record {
+      old_improves ChooseKnown m n x a done wellformed after computing q (q.numeric refl) (choice_of k.0.1 w.second w.third) s (record {
         edits = same_Some _ _ k.2;
         value = one_of (λ v. has_value v m.tree ≡ true) k.0.1 w.second w.third three.second three.third;
         better = λ d.
             choice_refined m a done x q.here s w.first w.second w.third (a (choice_of k.0.1 w.second w.third)) name w.operands d
             (λ c e i.
-            let same = known_is m a done formed kinded computing w.first k.0 c three.first (three.first_there d) k.1 e in
+            let same = known_is m a done wellformed kinded computing w.first k.0 c three.first (three.first_there d) k.1 e in
             subst (λ (c : Known). refines (choice_of c.1 (a w.second) (a w.third)) (a (choice_of k.0.1 w.second w.third)) ≡ true) same (chosen_is a k.0.1 w.second w.third));
         there = λ d. one_of (λ v. is_there done v ≡ true) k.0.1 w.second w.third (three.second_there d) (three.third_there d);
       })

@@ -20,7 +20,7 @@ use Rattle.ir_event.specs.Modules.{Module}
 use Rattle.rewriter_machine.specs.Contents.{Edit, all_edited, edit_reason, edited, tests}
 use Rattle.rewriter_machine.specs.Edits.{Erase, Insert, Make, Move, Replace, SetAttr, SetOperand, DropAttr}
 use Rattle.rewriter_machine.specs.Erasing.{erase_order}
-use Rattle.rewriter_machine.proofs.Erased.{erased_formed, erased_whole}
+use Rattle.rewriter_machine.proofs.Erased.{erased_wellformed, erased_whole}
 use Rattle.patterns_base.specs.Lists.{Free}
 use Rattle.patterns_refinement.proofs.Rewritten.{AllBare}
 
@@ -50,23 +50,23 @@ pub replaced_parts : (old new : Value) (m : Module) → edit_reason (Replace old
 replaced_parts old new m r =
     four_hold (has_value old m.tree) (has_value new m.tree) (option_eq same_type (type_of_value old m.tree) (type_of_value new m.tree)) (users_see is_isolated old new m.tree) NoSuchValue NoSuchValue TypeDiffers NotVisible r
 
-one_formed : (e : Edit) (m : Module) → IsPlain e → IsWellFormed is_isolated m → edit_reason e m ≡ None → IsWellFormed is_isolated (edited e m)
-one_formed (Make place o) m p w r = put_keeps is_isolated place o m w (ap hold_none p) r
-one_formed (Erase x) m p w r =
+one_wellformed : (e : Edit) (m : Module) → IsPlain e → IsWellFormed is_isolated m → edit_reason e m ≡ None → IsWellFormed is_isolated (edited e m)
+one_wellformed (Make place o) m p w r = put_keeps is_isolated place o m w (ap hold_none p) r
+one_wellformed (Erase x) m p w r =
     subst (λ (t : Operation). IsWellFormed is_isolated (record m { tree = t })) (erased_whole tests x m w r)
-    (erased_formed tests x m w r (erase_order x m.tree) [] (append-nil (erase_order x m.tree)))
-one_formed (SetOperand x k v) m p w r = set_operand_keeps is_isolated x k v m w r
-one_formed (Replace old new) m p w r = replaced_keeps is_isolated old new m w (replaced_parts old new m r).3
-one_formed (Insert place o) m p w r = absurd p
-one_formed (Move x place) m p w r = absurd p
-one_formed (SetAttr x k a) m p w r = absurd p
-one_formed (DropAttr x k) m p w r = absurd p
+    (erased_wellformed tests x m w r (erase_order x m.tree) [] (append-nil (erase_order x m.tree)))
+one_wellformed (SetOperand x k v) m p w r = set_operand_keeps is_isolated x k v m w r
+one_wellformed (Replace old new) m p w r = replaced_keeps is_isolated old new m w (replaced_parts old new m r).3
+one_wellformed (Insert place o) m p w r = absurd p
+one_wellformed (Move x place) m p w r = absurd p
+one_wellformed (SetAttr x k a) m p w r = absurd p
+one_wellformed (DropAttr x k) m p w r = absurd p
 
-pub all_formed : (es : List Edit) (m : Module) → ArePlain es → IsWellFormed is_isolated m → Free es m → IsWellFormed is_isolated (all_edited es m)
-all_formed [] m p w f = w
-all_formed (e ∷ es) m p w f = all_formed es (edited e m) p.1 (one_formed e m p.0 w f.0) f.1
+pub all_wellformed : (es : List Edit) (m : Module) → ArePlain es → IsWellFormed is_isolated m → Free es m → IsWellFormed is_isolated (all_edited es m)
+all_wellformed [] m p w f = w
+all_wellformed (e ∷ es) m p w f = all_wellformed es (edited e m) p.1 (one_wellformed e m p.0 w f.0) f.1
 
 -- new operations without regions, and then other edits
-pub made_plain : (front : Place) (os : List Operation) (es : List Edit) → AllBare os → ArePlain es → ArePlain (map (λ o. Make front o) os ++ es)
-made_plain front [] es b p = p
-made_plain front (o ∷ os) es b p = (b.0, made_plain front os es b.1 p)
+pub made_plain : (insertion : Place) (os : List Operation) (es : List Edit) → AllBare os → ArePlain es → ArePlain (map (λ o. Make insertion o) os ++ es)
+made_plain insertion [] es b p = p
+made_plain insertion (o ∷ os) es b p = (b.0, made_plain insertion os es b.1 p)

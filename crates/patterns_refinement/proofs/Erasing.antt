@@ -30,8 +30,8 @@ use Rattle.patterns_refinement.specs.Better.{AreKinded, IsSure, is_kinded, kind_
 use Rattle.patterns_refinement.specs.Observing.{Shows, Stays, is_unmissed}
 use Rattle.patterns_refinement.specs.Keeping.{Computing, Improves, IsFed, IsReady, KeepsComputing, KeepsReady, done_after, is_there}
 use Rattle.patterns_refinement.proofs.Edited.{blocks_without, each_both, each_without}
-use Rattle.patterns_refinement.proofs.EditsForm.{all_formed}
-use Rattle.patterns_refinement.proofs.Formed.{is_below, operands_stand}
+use Rattle.patterns_refinement.proofs.EditsForm.{all_wellformed}
+use Rattle.patterns_refinement.proofs.Wellformed.{is_below, operands_stand}
 use Rattle.patterns_refinement.proofs.Frees.{Was, free_still, was_old}
 use Rattle.patterns_refinement.proofs.Giving.{after_old}
 use Rattle.patterns_refinement.proofs.Makings.{still_there}
@@ -105,7 +105,7 @@ module _ (accepted : AreAccepted) where
   erased : (m n : Module) (x : ℕ) → IsReady m → rewrite_of EraseDead m x ≡ becomes n → Erased m n x
   unfolding rule is_erasable
   erased m n x ready e =
-      let q = ruled accepted EraseDead m n x ready.formed ready.sorted e in
+      let q = ruled accepted EraseDead m n x ready.wellformed ready.sorted e in
       let w = when_some (is_erasable m.tree q.here) (Some (Erase (head q.here).id ∷ [])) q.edits q.made in
       let these : q.edits ≡ Erase x ∷ [] = sym (same_Some _ _ w.1) ∙ ap (λ y. Erase y ∷ []) q.id in
       record {
@@ -120,26 +120,26 @@ module _ (accepted : AreAccepted) where
     tree_is : n.tree ≡ without x m.tree
     tree_is = ap (λ (m : Module). m.tree) (sym q.module_is)
 
-    formed_after : IsWellFormed is_isolated n
-    formed_after = subst (IsWellFormed is_isolated) q.module_is (all_formed (Erase x ∷ []) m (tt, tt) ready.formed q.free)
+    wellformed_after : IsWellFormed is_isolated n
+    wellformed_after = subst (IsWellFormed is_isolated) q.module_is (all_wellformed (Erase x ∷ []) m (tt, tt) ready.wellformed q.free)
 
     erase_ready : IsReady n
     erase_ready = record {
-      formed = formed_after;
-      sorted = all_rise n.tree formed_after.distinct (subst (λ t. Each Rises t) (sym tree_is) (each_without Rises x m.tree (each_rises m.tree ready.sorted)));
+      wellformed = wellformed_after;
+      sorted = all_rise n.tree wellformed_after.distinct (subst (λ t. Each Rises t) (sym tree_is) (each_without Rises x m.tree (each_rises m.tree ready.sorted)));
       kinded =
           subst AreKinded (sym tree_is)
-          (less_kinded x m.tree (kinds_are m.tree ready.formed.distinct) ready.kinded
-          (subst OperandsStand tree_is (operands_stand is_isolated n.tree formed_after.distinct formed_after.formed.visible)));
+          (less_kinded x m.tree (kinds_are m.tree ready.wellformed.distinct) ready.kinded
+          (subst OperandsStand tree_is (operands_stand is_isolated n.tree wellformed_after.distinct wellformed_after.wellformed.visible)));
     }
 
     erase_improves : (a : Assignment) (done : ℕ → Bool) → Computing a done m.tree → Improves a done m (done_after m.next x done) n.tree
     erase_improves a done c =
-        let below = is_below m.next m.tree ready.formed.below in
-        let operands = operands_stand is_isolated m.tree ready.formed.distinct ready.formed.formed.visible in
+        let below = is_below m.next m.tree ready.wellformed.below in
+        let operands = operands_stand is_isolated m.tree ready.wellformed.distinct ready.wellformed.wellformed.visible in
         let later = done_after m.next x done in
         let were =
-        each_without (Was m.next done later m.tree) x m.tree (was_old m.next done later m.tree ready.formed.distinct (was m.next x done m.tree below operands)) in
+        each_without (Was m.next done later m.tree) x m.tree (was_old m.next done later m.tree ready.wellformed.distinct (was m.next x done m.tree below operands)) in
         record {
           now = a;
           better = λ v l. itself (a v);
@@ -150,10 +150,10 @@ module _ (accepted : AreAccepted) where
               subst (Shows a a m later) (sym tree_is)
               (record {
                 root = λ e. subst (Stays m.tree a a later (head m.tree)) (sym (head_without m.tree)) (stays_so m.tree a a later (λ v. itself (a v)) (head m.tree));
-                follows = erased_follows m.tree a a later x q.here ready.formed.distinct q.found q.unmissed (λ v. itself (a v));
+                follows = erased_follows m.tree a a later x q.here ready.wellformed.distinct q.found q.unmissed (λ v. itself (a v));
                 plain =
                     free_still m.next (λ y. true) (λ y. true) m.tree (without x m.tree)
-                    (each_without (Was m.next (λ y. true) (λ y. true) m.tree) x m.tree (was_old m.next (λ y. true) (λ y. true) m.tree ready.formed.distinct (λ y l i. refl)));
+                    (each_without (Was m.next (λ y. true) (λ y. true) m.tree) x m.tree (was_old m.next (λ y. true) (λ y. true) m.tree ready.wellformed.distinct (λ y l i. refl)));
               });
         }
       where

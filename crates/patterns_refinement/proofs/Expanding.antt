@@ -43,7 +43,7 @@ use Rattle.patterns_refinement.specs.Better.{is_kind, is_kinded, kind_in, takes}
 use Rattle.patterns_refinement.specs.Keeping.{IsReady, KeepsComputing, KeepsReady, done_after}
 use Rattle.patterns_refinement.proofs.Dropping.{kind_by, of_two_is, pair_refined, widths}
 use Rattle.patterns_refinement.proofs.Firsts.{poison_refined}
-use Rattle.patterns_refinement.proofs.Formed.{is_below, operands_stand}
+use Rattle.patterns_refinement.proofs.Wellformed.{is_below, operands_stand}
 use Rattle.patterns_refinement.proofs.Forms.{named_is}
 use Rattle.patterns_refinement.proofs.Giving.{after_new}
 use Rattle.patterns_refinement.proofs.Joining.{by_add, by_subtract}
@@ -82,13 +82,13 @@ pub record OnTwo (r : Rule) (m n : Module) (x : ℕ) (q : Ruled r m n x) (u v : 
 
 pub on_two_values : (r : Rule) (m n : Module) (x : ℕ) (q : Ruled r m n x) (o : Arithmetic) (u v : Value) (ty : TypeTerm) → is_erasing r ≡ false → IsReady m → rule_of (head q.here).name ≡ Some (how.Binary o) → (head q.here).operands ≡ u ∷ v ∷ [] → (head q.here).results ≡ ty ∷ [] → OnTwo r m n x q u v ty
 on_two_values r m n x q o u v ty stays ready name ops results =
-    let k = rule_kinds m.tree (head q.here) (each_found (λ h. is_kinded m.tree h ≡ true) x m.tree ready.kinded q.here q.found).0 (root_has q ready.formed ready.kinded stays) (how.Binary o) name in
+    let k = rule_kinds m.tree (head q.here) (each_found (λ h. is_kinded m.tree h ≡ true) x m.tree ready.kinded q.here q.found).0 (root_has q ready.wellformed ready.kinded stays) (how.Binary o) name in
     let both = and_parts (is_kind k.kind (kind_in m.tree u)) (is_kind k.kind (kind_in m.tree v)) (subst (λ vs. takes (how.Binary o) (head q.here) k.kind (map (kind_in m.tree) vs) ≡ true) ops k.operands) in
-    let stand = operands_stand is_isolated m.tree ready.formed.distinct ready.formed.formed.visible in
+    let stand = operands_stand is_isolated m.tree ready.wellformed.distinct ready.wellformed.wellformed.visible in
     let values = subst (λ vs. list_all (λ v. has_value v m.tree) vs ≡ true) ops (each_found (λ h. list_all (λ v. has_value v m.tree) h.operands ≡ true) x m.tree stand q.here q.found).0 in
     let s = and_parts (has_value u m.tree) (has_value v m.tree && true) values in
     let second = (and_parts (has_value v m.tree) true s.1).0 in
-    let below = is_below m.next m.tree ready.formed.below in
+    let below = is_below m.next m.tree ready.wellformed.below in
     record {
       kind = k.kind;
       of = sym (ap (λ tys. given (slice_get tys 0) kind_of) results) ∙ k.is;
@@ -129,15 +129,15 @@ module _ (accepted : AreAccepted) where
     pub operands : (head q.here).operands ≡ first ∷ second ∷ []
     pub results : (head q.here).results ≡ ty ∷ []
     pub name : rule_of (head q.here).name ≡ Some (how.Binary op.Subtract)
-    pub edits : Make q.front (constant ty (all_ones (type_width ty))) ∷ Make q.front (binary (codes "arith.xori") ty second (Result m.next 0)) ∷ Make q.front (constant ty 1) ∷ Make q.front (binary (codes "arith.addi") ty (Result (m.next + 1) 0) (Result (m.next + 2) 0))
-        ∷ give_new q.front (m.next + 4) (head q.here).id (binary (codes "arith.addi") ty first (Result (m.next + 3) 0)) ≡ q.edits
+    pub edits : Make q.insertion (constant ty (all_ones (type_width ty))) ∷ Make q.insertion (binary (codes "arith.xori") ty second (Result m.next 0)) ∷ Make q.insertion (constant ty 1) ∷ Make q.insertion (binary (codes "arith.addi") ty (Result (m.next + 1) 0) (Result (m.next + 2) 0))
+        ∷ give_new q.insertion (m.next + 4) (head q.here).id (binary (codes "arith.addi") ty first (Result (m.next + 3) 0)) ≡ q.edits
 
   differs_here : (m n : Module) (x : ℕ) (q : Ruled ExpandDifference m n x) → Differs m n x q
   unfolding rule
   differs_here m n x q =
       let h = head q.here in
-      let w = two_is h (λ p. when (named (codes "arith.subi") p.name) (Some (Make q.front (constant p.ty (all_ones (type_width p.ty))) ∷ Make q.front (binary (codes "arith.xori") p.ty p.second (Result m.next 0)) ∷ Make q.front (constant p.ty 1) ∷ Make q.front (binary (codes "arith.addi") p.ty (Result (m.next + 1) 0) (Result (m.next + 2) 0)) ∷ give_new q.front (m.next + 4) h.id (binary (codes "arith.addi") p.ty p.first (Result (m.next + 3) 0))))) q.edits q.made in
-      let g = when_some (named (codes "arith.subi") h.name) (Some (Make q.front (constant w.ty (all_ones (type_width w.ty))) ∷ Make q.front (binary (codes "arith.xori") w.ty w.second (Result m.next 0)) ∷ Make q.front (constant w.ty 1) ∷ Make q.front (binary (codes "arith.addi") w.ty (Result (m.next + 1) 0) (Result (m.next + 2) 0)) ∷ give_new q.front (m.next + 4) h.id (binary (codes "arith.addi") w.ty w.first (Result (m.next + 3) 0)))) q.edits w.makes in
+      let w = two_is h (λ p. when (named (codes "arith.subi") p.name) (Some (Make q.insertion (constant p.ty (all_ones (type_width p.ty))) ∷ Make q.insertion (binary (codes "arith.xori") p.ty p.second (Result m.next 0)) ∷ Make q.insertion (constant p.ty 1) ∷ Make q.insertion (binary (codes "arith.addi") p.ty (Result (m.next + 1) 0) (Result (m.next + 2) 0)) ∷ give_new q.insertion (m.next + 4) h.id (binary (codes "arith.addi") p.ty p.first (Result (m.next + 3) 0))))) q.edits q.made in
+      let g = when_some (named (codes "arith.subi") h.name) (Some (Make q.insertion (constant w.ty (all_ones (type_width w.ty))) ∷ Make q.insertion (binary (codes "arith.xori") w.ty w.second (Result m.next 0)) ∷ Make q.insertion (constant w.ty 1) ∷ Make q.insertion (binary (codes "arith.addi") w.ty (Result (m.next + 1) 0) (Result (m.next + 2) 0)) ∷ give_new q.insertion (m.next + 4) h.id (binary (codes "arith.addi") w.ty w.first (Result (m.next + 3) 0)))) q.edits w.makes in
       record {
         first = w.first;
         second = w.second;
@@ -177,8 +177,8 @@ module _ (accepted : AreAccepted) where
           value = Result (m.next + 4) 0;
           edits =
               sym w.edits
-              ∙ ap (λ y. Make q.front (constant w.ty ones) ∷ Make q.front (binary (codes "arith.xori") w.ty w.second (Result m.next 0)) ∷ Make q.front (constant w.ty 1) ∷ Make q.front (binary (codes "arith.addi") w.ty (Result (m.next + 1) 0) (Result (m.next + 2) 0))
-              ∷ give_new q.front (m.next + 4) y (binary (codes "arith.addi") w.ty w.first (Result (m.next + 3) 0))) q.id;
+              ∙ ap (λ y. Make q.insertion (constant w.ty ones) ∷ Make q.insertion (binary (codes "arith.xori") w.ty w.second (Result m.next 0)) ∷ Make q.insertion (constant w.ty 1) ∷ Make q.insertion (binary (codes "arith.addi") w.ty (Result (m.next + 1) 0) (Result (m.next + 2) 0))
+              ∷ give_new q.insertion (m.next + 4) y (binary (codes "arith.addi") w.ty w.first (Result (m.next + 3) 0))) q.id;
           are = (
             constant_made f w.ty ones k.kind k.of ones_bits,
             (
@@ -292,15 +292,15 @@ module _ (accepted : AreAccepted) where
 
   pub expand_difference_ready : KeepsReady ExpandDifference
   expand_difference_ready m n x ready e =
-      let q = ruled accepted ExpandDifference m n x ready.formed ready.sorted e in
+      let q = ruled accepted ExpandDifference m n x ready.wellformed ready.sorted e in
       let w = differs_here m n x q in
       let k = on_two_values ExpandDifference m n x q op.Subtract w.first w.second w.ty refl ready w.name w.operands w.results in
       new_ready ExpandDifference m n x q (difference_new m n x q w k) ready
 
   pub expand_difference_computing : KeepsComputing ExpandDifference
   expand_difference_computing m n x a done ready computing e =
-      let q = ruled accepted ExpandDifference m n x ready.formed ready.sorted e in
+      let q = ruled accepted ExpandDifference m n x ready.wellformed ready.sorted e in
       let w = differs_here m n x q in
       let k = on_two_values ExpandDifference m n x q op.Subtract w.first w.second w.ty refl ready w.name w.operands w.results in
-      let s = site_of m a done x q.here ready.formed ready.kinded computing q.found (root_has q ready.formed ready.kinded refl) in
+      let s = site_of m a done x q.here ready.wellformed ready.kinded computing q.found (root_has q ready.wellformed ready.kinded refl) in
       new_improves ExpandDifference m n x q (difference_new m n x q w k) a done (difference_outcomes m n x q w k a done s) ready refl (expand_difference_ready m n x ready e).kinded computing

@@ -43,7 +43,7 @@ use Rattle.patterns_refinement.specs.Keeping.{Computing, IsReady, KeepsComputing
 use Rattle.patterns_refinement.proofs.Casts.{cast_gives, cast_is, cast_made, cast_outcome, cast_refined, cast_result, extends, source_makes, source_there, twice_refined}
 use Rattle.patterns_refinement.proofs.Dropping.{value_kind}
 use Rattle.patterns_refinement.proofs.Extensions.{Extends, verified_extends}
-use Rattle.patterns_refinement.proofs.Formed.{is_below, operands_stand}
+use Rattle.patterns_refinement.proofs.Wellformed.{is_below, operands_stand}
 use Rattle.patterns_refinement.proofs.Forms.{named_is}
 use Rattle.patterns_refinement.proofs.Giving.{after_new}
 use Rattle.patterns_refinement.proofs.Makings.{GivesNew, GivesOutcomes, all_agree, all_at, new_improves, new_ready, with_all}
@@ -123,17 +123,17 @@ module _ (accepted : AreAccepted) where
     pub inner_results : inner.results ≡ inner_ty ∷ []
     pub gives : given (defining_op m.tree middle) (λ h. when (among extensions h.name && is_verified m.tree h) (Some h)) ≡ Some inner
     pub alike : (named (head q.here).name inner.name || named (codes "arith.extsi") (head q.here).name) ≡ true
-    pub edits : give_new q.front m.next (head q.here).id (cast inner.name ty first) ≡ q.edits
+    pub edits : give_new q.insertion m.next (head q.here).id (cast inner.name ty first) ≡ q.edits
 
   twice_here : (m n : Module) (x : ℕ) (q : Ruled ExtendExtension m n x) → Twice m n x q
   unfolding rule
   twice_here m n x q =
       let h = head q.here in
-      let w = one_is h (λ p. when (among extensions p.name) (given (source_among m.tree extensions p.first) (λ y. given (one y) (λ i. when (named p.name i.name || named (codes "arith.extsi") p.name) (Some (give_new q.front m.next h.id (cast i.name p.ty i.first))))))) q.edits q.made in
-      let g = when_some (among extensions h.name) (given (source_among m.tree extensions w.first) (λ y. given (one y) (λ i. when (named h.name i.name || named (codes "arith.extsi") h.name) (Some (give_new q.front m.next h.id (cast i.name w.ty i.first)))))) q.edits w.makes in
-      let s = given_some (source_among m.tree extensions w.first) (λ y. given (one y) (λ i. when (named h.name i.name || named (codes "arith.extsi") h.name) (Some (give_new q.front m.next h.id (cast i.name w.ty i.first))))) q.edits g.1 in
-      let i = one_is s.0 (λ i. when (named h.name i.name || named (codes "arith.extsi") h.name) (Some (give_new q.front m.next h.id (cast i.name w.ty i.first)))) q.edits s.2 in
-      let e = when_some (named h.name s.0.name || named (codes "arith.extsi") h.name) (Some (give_new q.front m.next h.id (cast s.0.name w.ty i.first))) q.edits i.makes in
+      let w = one_is h (λ p. when (among extensions p.name) (given (source_among m.tree extensions p.first) (λ y. given (one y) (λ i. when (named p.name i.name || named (codes "arith.extsi") p.name) (Some (give_new q.insertion m.next h.id (cast i.name p.ty i.first))))))) q.edits q.made in
+      let g = when_some (among extensions h.name) (given (source_among m.tree extensions w.first) (λ y. given (one y) (λ i. when (named h.name i.name || named (codes "arith.extsi") h.name) (Some (give_new q.insertion m.next h.id (cast i.name w.ty i.first)))))) q.edits w.makes in
+      let s = given_some (source_among m.tree extensions w.first) (λ y. given (one y) (λ i. when (named h.name i.name || named (codes "arith.extsi") h.name) (Some (give_new q.insertion m.next h.id (cast i.name w.ty i.first))))) q.edits g.1 in
+      let i = one_is s.0 (λ i. when (named h.name i.name || named (codes "arith.extsi") h.name) (Some (give_new q.insertion m.next h.id (cast i.name w.ty i.first)))) q.edits s.2 in
+      let e = when_some (named h.name s.0.name || named (codes "arith.extsi") h.name) (Some (give_new q.insertion m.next h.id (cast s.0.name w.ty i.first))) q.edits i.makes in
       record {
         middle = w.first;
         ty = w.ty;
@@ -165,8 +165,8 @@ module _ (accepted : AreAccepted) where
 
   twice_kinds : (m n : Module) (x : ℕ) (q : Ruled ExtendExtension m n x) (w : Twice m n x q) → IsReady m → TwiceKinds m n x q w
   twice_kinds m n x q w ready =
-      let k = rule_kinds m.tree (head q.here) (each_found (λ h. is_kinded m.tree h ≡ true) x m.tree ready.kinded q.here q.found).0 (root_has q ready.formed ready.kinded refl) (how.IntegerCast w.outer.0) w.outer.1 in
-      let stand = operands_stand is_isolated m.tree ready.formed.distinct ready.formed.formed.visible in
+      let k = rule_kinds m.tree (head q.here) (each_found (λ h. is_kinded m.tree h ≡ true) x m.tree ready.kinded q.here q.found).0 (root_has q ready.wellformed ready.kinded refl) (how.IntegerCast w.outer.0) w.outer.1 in
+      let stand = operands_stand is_isolated m.tree ready.wellformed.distinct ready.wellformed.wellformed.visible in
       let there = (each_found (λ h. list_all (λ v. has_value v m.tree) h.operands ≡ true) x m.tree stand q.here q.found).0 in
       let middle : has_value w.middle m.tree ≡ true = (and_parts (has_value w.middle m.tree) true (subst (λ vs. list_all (λ v. has_value v m.tree) vs ≡ true) w.operands there)).0 in
       let s = sole_of m (λ h. among extensions h.name && is_verified m.tree h) w.middle w.inner w.gives middle w.inner_ty w.inner_results in
@@ -176,7 +176,7 @@ module _ (accepted : AreAccepted) where
       let operands = ap (λ (h : Header). h.operands) s.heads ∙ w.inner_operands in
       let results = ap (λ (h : Header). h.results) s.heads ∙ w.inner_results in
       let extension =
-      verified_extends m.tree s.here w.first w.inner_ty ready.formed.distinct (ap (λ y. find y m.tree) inside.1 ∙ s.found) (ap (is_verified m.tree) s.heads ∙ passed.1) operands results
+      verified_extends m.tree s.here w.first w.inner_ty ready.wellformed.distinct (ap (λ y. find y m.tree) inside.1 ∙ s.found) (ap (is_verified m.tree) s.heads ∙ passed.1) operands results
       (ap (λ (h : Header). among extensions h.name) s.heads ∙ passed.0) in
       record {
         sole = s;
@@ -203,7 +203,7 @@ module _ (accepted : AreAccepted) where
     test h = among extensions h.name && is_verified m.tree h
 
     first_below : owner w.first < m.next
-    first_below = value_below m.next m.tree (is_below m.next m.tree ready.formed.below) w.first k.value
+    first_below = value_below m.next m.tree (is_below m.next m.tree ready.wellformed.below) w.first k.value
 
     takes_first : narrows k.inside.0 (kind_in m.tree w.first) k.kind ≡ true
     takes_first = ap (λ j. narrows k.inside.0 j k.kind) k.extension.operand ∙ extends_any k.inside.0 (bits.Int k.extension.from) k.kind k.inside.2
@@ -213,7 +213,7 @@ module _ (accepted : AreAccepted) where
       made = cast w.inner.name w.ty w.first ∷ [];
       value_types = k.kind ∷ [];
       value = Result m.next 0;
-      edits = sym w.edits ∙ ap (λ y. give_new q.front m.next y (cast w.inner.name w.ty w.first)) q.id;
+      edits = sym w.edits ∙ ap (λ y. give_new q.insertion m.next y (cast w.inner.name w.ty w.first)) q.id;
       are = (
         cast_made (with_all (kind_in m.tree) m.next None (Some k.kind ∷ [])) w.inner.name w.ty w.first k.kind k.inside.0 k.inside.1 k.of k.width
             (ap (λ j. narrows k.inside.0 j k.kind) (all_agree (kind_in m.tree) m.next None (Some k.kind ∷ []) w.first first_below) ∙ takes_first),
@@ -226,7 +226,7 @@ module _ (accepted : AreAccepted) where
       out = cast_outcome k.inside.0 k.kind (a w.first)
 
       site : Site m a done x q.here
-      site = site_of m a done x q.here ready.formed ready.kinded computing q.found (root_has q ready.formed ready.kinded refl)
+      site = site_of m a done x q.here ready.wellformed ready.kinded computing q.found (root_has q ready.wellformed ready.kinded refl)
 
       middle_there : done x ≡ true → is_there done w.middle ≡ true
       middle_there d = operand_there m a done x q.here site (is_there done) w.middle w.operands (site.fed d)
@@ -247,7 +247,7 @@ module _ (accepted : AreAccepted) where
         outcomes = cast_outcome k.inside.0 k.kind (a w.first) ∷ [];
         give = (
           cast_gives a done m.next x (cast_outcome k.inside.0 k.kind (a w.first) ∷ []) w.inner.name w.ty w.first k.kind k.inside.0 k.inside.1 k.of first_below
-              (λ d. source_there m (λ h. among extensions h.name && is_verified m.tree h) w.middle w.inner k.sole w.first w.inner_operands k.inside.0 k.inside.1 a done ready.formed ready.kinded computing (λ i. ap is_some (sym k.sole.kind ∙ k.between)) (middle_there d)) total,
+              (λ d. source_there m (λ h. among extensions h.name && is_verified m.tree h) w.middle w.inner k.sole w.first w.inner_operands k.inside.0 k.inside.1 a done ready.wellformed ready.kinded computing (λ i. ap is_some (sym k.sole.kind ∙ k.between)) (middle_there d)) total,
           tt,
         );
         better = λ d.
@@ -255,20 +255,20 @@ module _ (accepted : AreAccepted) where
             (cast_result m a done x q.here site w.outer.0 w.middle k.kind out w.outer.1 k.is w.operands d
             (λ z i.
             twice_refined k.inside.0 w.outer.0 (bits.Int k.extension.to) k.kind (a w.first) (a w.middle) z out i
-            (source_makes m (λ h. among extensions h.name && is_verified m.tree h) w.middle w.inner k.sole w.first w.inner_operands k.inside.0 k.inside.1 a done ready.formed ready.kinded computing (λ i. ap is_some (sym k.sole.kind ∙ k.between)) (middle_there d) (bits.Int k.extension.to) k.between)
+            (source_makes m (λ h. among extensions h.name && is_verified m.tree h) w.middle w.inner k.sole w.first w.inner_operands k.inside.0 k.inside.1 a done ready.wellformed ready.kinded computing (λ i. ap is_some (sym k.sole.kind ∙ k.between)) (middle_there d) (bits.Int k.extension.to) k.between)
             (λ y b j is c f. cast_refined k.inside.0 k.kind (a w.first) y j is (both_cast y b j is c f))));
         there = λ d. after_new m.next x done m.next (omega arith) ∙ d;
       }
 
   pub extend_extension_ready : KeepsReady ExtendExtension
   extend_extension_ready m n x ready e =
-      let q = ruled accepted ExtendExtension m n x ready.formed ready.sorted e in
+      let q = ruled accepted ExtendExtension m n x ready.wellformed ready.sorted e in
       let w = twice_here m n x q in
       new_ready ExtendExtension m n x q (extension_new m n x q w ready (twice_kinds m n x q w ready)) ready
 
   pub extend_extension_computing : KeepsComputing ExtendExtension
   extend_extension_computing m n x a done ready computing e =
-      let q = ruled accepted ExtendExtension m n x ready.formed ready.sorted e in
+      let q = ruled accepted ExtendExtension m n x ready.wellformed ready.sorted e in
       let w = twice_here m n x q in
       let k = twice_kinds m n x q w ready in
       new_improves ExtendExtension m n x q (extension_new m n x q w ready k) a done (extension_outcomes m n x q w ready k a done computing) ready refl (extend_extension_ready m n x ready e).kinded computing

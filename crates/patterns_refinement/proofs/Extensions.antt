@@ -122,7 +122,7 @@ module _ (t o : Operation) (u : Value) (ty : TypeTerm) (d : HasDistinctIds t) (f
   verified_extends e =
       let n = of_among IsExtension extensions (head o).name extensions_are e in
       let p = typed t o one_integer one_integer d found verified n.types in
-      let i = there_is (type_of_value u t) (and_parts (is_there is_integer (type_of_value u t)) _ (sym (ap (λ vs. types_fit p.known one_integer (map (λ v. type_of_value v t) vs)) operands) ∙ p.asked)).0 in
+      let i = there_is (type_of_value u t) (and_parts (is_there is_integer (type_of_value u t)) _ (sym (ap (λ vs. types_fit p.known one_integer (map (λ v. type_of_value v t) vs)) operands) ∙ p.requested)).0 in
       let j = integer_is ty (and_parts (is_there is_integer (Some ty)) _ (sym (ap (λ tys. types_fit p.known one_integer (there tys)) results) ∙ p.given)).0 in
       let row = row_at (head o).name (pair one_integer one_integer) n.types in
       let test : nat_le j.0 i.0 ≡ false = sym (λ k. isnt_greater (i.1 k ∷ []) (j.1 k ∷ [])) ∙ at_stand n.is_no_cut n.extends row.0 row.1 in

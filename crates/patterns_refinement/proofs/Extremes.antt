@@ -15,7 +15,7 @@ use Rattle.ir_tree.specs.declared.value.Value.{Value}
 use Rattle.ir_tree.specs.declared.value.Value.TheVariants.{Result}
 use Rattle.ir_tree.specs.Tree.{head}
 use Rattle.ir_event.specs.Modules.{Module}
-use Rattle.op_registry.specs.Registry.{beside}
+use Rattle.op_registry.specs.Registry.{next_to}
 use Rattle.dialects_int.specs.declared.operations.Arithmetic.{Arithmetic}
 use Rattle.dialects_int.specs.declared.operations.Arithmetic.TheVariants as op
 use Rattle.dialects_int.specs.declared.operations.Predicate.{Predicate}
@@ -79,11 +79,11 @@ asking_rows = (
   ),
 )
 
-row_there : (rows : List (List ℕ × ℕ)) (name : List ℕ) (n : ℕ) → EachOf (λ (row : List ℕ × ℕ). IsAsking row.0 row.1) rows → beside name rows ≡ Some n → IsAsking name n
+row_there : (rows : List (List ℕ × ℕ)) (name : List ℕ) (n : ℕ) → EachOf (λ (row : List ℕ × ℕ). IsAsking row.0 row.1) rows → next_to name rows ≡ Some n → IsAsking name n
 row_there [] name n each e = absurd (none-some n e)
 row_there (row ∷ rows) name n each e = go (bytes_eq name row.0) refl e (row_there rows name n each.1)
   where
-    go : (b : Bool) → bytes_eq name row.0 ≡ b → (if b then Some row.1 else beside name rows) ≡ Some n → (beside name rows ≡ Some n → IsAsking name n) → IsAsking name n
+    go : (b : Bool) → bytes_eq name row.0 ≡ b → (if b then Some row.1 else next_to name rows) ≡ Some n → (next_to name rows ≡ Some n → IsAsking name n) → IsAsking name n
     go true i e more =
         let number : row.1 ≡ n = same_Some _ _ e in
         subst (λ n. IsAsking name n) number (subst (λ name. IsAsking name row.1) (sym ((bytes_eq-Decides name row.0).0 i)) each.0)
@@ -137,14 +137,14 @@ module _ (accepted : AreAccepted) where
     pub results : (head q.here).results ≡ ty ∷ []
     pub number : ℕ
     pub asks_for : IsAsking (head q.here).name number
-    pub edits : Make q.front (comparison number first second) ∷ give_new q.front (m.next + 1) (head q.here).id (choice ty (Result m.next 0) first second) ≡ q.edits
+    pub edits : Make q.insertion (comparison number first second) ∷ give_new q.insertion (m.next + 1) (head q.here).id (choice ty (Result m.next 0) first second) ≡ q.edits
 
   extreme_here : (m n : Module) (x : ℕ) (q : Ruled ExpandMinMax m n x) → Extreme m n x q
   unfolding rule
   extreme_here m n x q =
       let h = head q.here in
-      let w = two_is h (λ p. given (beside p.name predicate_of_min_max) (λ i. Some (Make q.front (comparison i p.first p.second) ∷ give_new q.front (m.next + 1) h.id (choice p.ty (Result m.next 0) p.first p.second)))) q.edits q.made in
-      let g = given_some (beside h.name predicate_of_min_max) (λ i. Some (Make q.front (comparison i w.first w.second) ∷ give_new q.front (m.next + 1) h.id (choice w.ty (Result m.next 0) w.first w.second))) q.edits w.makes in
+      let w = two_is h (λ p. given (next_to p.name predicate_of_min_max) (λ i. Some (Make q.insertion (comparison i p.first p.second) ∷ give_new q.insertion (m.next + 1) h.id (choice p.ty (Result m.next 0) p.first p.second)))) q.edits q.made in
+      let g = given_some (next_to h.name predicate_of_min_max) (λ i. Some (Make q.insertion (comparison i w.first w.second) ∷ give_new q.insertion (m.next + 1) h.id (choice w.ty (Result m.next 0) w.first w.second))) q.edits w.makes in
       record { first = w.first; second = w.second; ty = w.ty; operands = w.operands; results = w.results; number = g.0; asks_for = row_there predicate_of_min_max h.name g.0 asking_rows g.1; edits = same_Some _ _ g.2 }
 
   module _ (m n : Module) (x : ℕ) (q : Ruled ExpandMinMax m n x) (w : Extreme m n x q) (k : OnTwo ExpandMinMax m n x q w.first w.second w.ty) where
@@ -161,7 +161,7 @@ module _ (accepted : AreAccepted) where
           made = comparison w.number w.first w.second ∷ choice w.ty (Result m.next 0) w.first w.second ∷ [];
           value_types = kind.Int 1 ∷ k.kind ∷ [];
           value = Result (m.next + 1) 0;
-          edits = sym w.edits ∙ ap (λ y. Make q.front (comparison w.number w.first w.second) ∷ give_new q.front (m.next + 1) y (choice w.ty (Result m.next 0) w.first w.second)) q.id;
+          edits = sym w.edits ∙ ap (λ y. Make q.insertion (comparison w.number w.first w.second) ∷ give_new q.insertion (m.next + 1) y (choice w.ty (Result m.next 0) w.first w.second)) q.id;
           are = (
             record {
               ty = i1;
@@ -280,15 +280,15 @@ module _ (accepted : AreAccepted) where
 
   pub expand_min_max_ready : KeepsReady ExpandMinMax
   expand_min_max_ready m n x ready e =
-      let q = ruled accepted ExpandMinMax m n x ready.formed ready.sorted e in
+      let q = ruled accepted ExpandMinMax m n x ready.wellformed ready.sorted e in
       let w = extreme_here m n x q in
       let k = on_two_values ExpandMinMax m n x q w.asks_for.operation w.first w.second w.ty refl ready w.asks_for.by w.operands w.results in
       new_ready ExpandMinMax m n x q (extreme_new m n x q w k) ready
 
   pub expand_min_max_computing : KeepsComputing ExpandMinMax
   expand_min_max_computing m n x a done ready computing e =
-      let q = ruled accepted ExpandMinMax m n x ready.formed ready.sorted e in
+      let q = ruled accepted ExpandMinMax m n x ready.wellformed ready.sorted e in
       let w = extreme_here m n x q in
       let k = on_two_values ExpandMinMax m n x q w.asks_for.operation w.first w.second w.ty refl ready w.asks_for.by w.operands w.results in
-      let s = site_of m a done x q.here ready.formed ready.kinded computing q.found (root_has q ready.formed ready.kinded refl) in
+      let s = site_of m a done x q.here ready.wellformed ready.kinded computing q.found (root_has q ready.wellformed ready.kinded refl) in
       new_improves ExpandMinMax m n x q (extreme_new m n x q w k) a done (extreme_outcomes m n x q w k a done s) ready refl (expand_min_max_ready m n x ready e).kinded computing

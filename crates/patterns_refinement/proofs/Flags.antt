@@ -7,7 +7,7 @@ use Rattle.ir_types.specs.Bits.{width_of}
 use Rattle.ir_types.specs.Terms.{AttrTerm, Overflow}
 use Rattle.ir_tree.specs.Tree.{head}
 use Rattle.ir_tree.specs.Meaning.{Operation}
-use Rattle.op_registry.specs.Registry.{beside}
+use Rattle.op_registry.specs.Registry.{next_to}
 use Rattle.dialects_int.specs.declared.operations.Arithmetic.{Arithmetic}
 use Rattle.dialects_int.specs.declared.operations.Cast.TheVariants as cuts
 use Rattle.dialects_int.specs.declared.operations.Rule.{Rule as How}
@@ -34,8 +34,8 @@ none_in (Some o) e = refl
 
 none_set : (h : Header) → has_flags h ≡ false → flags_of h ≡ record { nsw = false; nuw = false; exact = false }
 none_set h e =
-    let p = neither (not (are_none (beside (codes "overflowFlags") h.properties))) (is_exact (beside (codes "isExact") h.properties)) e in
-    let q = none_in (beside (codes "overflowFlags") h.properties) p.0 in
+    let p = neither (not (are_none (next_to (codes "overflowFlags") h.properties))) (is_exact (next_to (codes "isExact") h.properties)) e in
+    let q = none_in (next_to (codes "overflowFlags") h.properties) p.0 in
     λ i. record { nsw = (q i).0; nuw = (q i).1; exact = p.1 i }
 
 none_broken_pair : (o : Arithmetic) (w : ℕ) (xs : List Outcome) → breaks_pair no_flags o w xs ≡ false

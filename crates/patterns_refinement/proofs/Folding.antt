@@ -32,7 +32,7 @@ use Rattle.patterns_refinement.specs.Better.{AreKinded, is_kinded, kind_in, take
 use Rattle.patterns_refinement.specs.Keeping.{Computing, IsReady, KeepsComputing, KeepsReady, is_there}
 use Rattle.patterns_refinement.proofs.Constants.{GivesNumber, number_improves, number_ready}
 use Rattle.patterns_refinement.proofs.FoldsKept.{AllHaveBits, AllSay, Folded, fold_fits, fold_kept, folded}
-use Rattle.patterns_refinement.proofs.Formed.{operands_stand}
+use Rattle.patterns_refinement.proofs.Wellformed.{operands_stand}
 use Rattle.patterns_refinement.proofs.Lifted.{operands_are}
 use Rattle.patterns_refinement.proofs.Pairs.{known_kind}
 use Rattle.patterns_refinement.proofs.Ruled.{OfRule, Ruled, Site, gives_refined, known_there, known_kinds, ruled, site_of, value_bits, root_has}
@@ -51,7 +51,7 @@ module _ (m : Module) (a : Assignment) (done : ℕ → Bool) (ready : IsReady m)
   known_say (v ∷ vs) e f =
       let h = and_parts (has_value v m.tree) (list_all (λ v. has_value v m.tree) vs) e in
       let g = and_parts (is_there done v) (list_all (is_there done) vs) f in
-      ((λ x i. known_there m a done ready.formed computing ready.kinded v x h.0 g.0 i), known_say vs h.1 g.1)
+      ((λ x i. known_there m a done ready.wellformed computing ready.kinded v x h.0 g.0 i), known_say vs h.1 g.1)
 
 -- ---- the operations that the rule matched
 record Folds (m n : Module) (x : ℕ) (q : Ruled FoldToConstant m n x) : Type 0 where
@@ -59,22 +59,22 @@ record Folds (m n : Module) (x : ℕ) (q : Ruled FoldToConstant m n x) : Type 0 
   pub ty : TypeTerm
   pub results : (head q.here).results ≡ ty ∷ []
   pub fold : fold_of (head q.here).name (head q.here).properties (map (known m.tree) (head q.here).operands) (head q.here).results ≡ Some value
-  pub edits : give_constant q.front m.next (head q.here).id ty value.1 ≡ q.edits
+  pub edits : give_constant q.insertion m.next (head q.here).id ty value.1 ≡ q.edits
 
-record ToConstant (t : Operation) (n : ℕ) (front : Place) (o : Operation) (tys : List TypeTerm) (k : Option Known) (es : List Edit) : Type 0 where
+record ToConstant (t : Operation) (n : ℕ) (insertion : Place) (o : Operation) (tys : List TypeTerm) (k : Option Known) (es : List Edit) : Type 0 where
   pub value : Known
   pub ty : TypeTerm
   pub results : tys ≡ ty ∷ []
   pub is : k ≡ Some value
-  pub edits : give_constant front n (head o).id ty value.1 ≡ es
+  pub edits : give_constant insertion n (head o).id ty value.1 ≡ es
 
-to_constant : (t : Operation) (n : ℕ) (front : Place) (o : Operation) (tys : List TypeTerm) (k : Option Known) (es : List Edit) → folded_to t n front o tys k ≡ Some es → ToConstant t n front o tys k es
-to_constant t n front o [] None es e = absurd (none-some es e)
-to_constant t n front o [] (Some k) es e = absurd (none-some es e)
-to_constant t n front o (ty ∷ uy ∷ tys) None es e = absurd (none-some es e)
-to_constant t n front o (ty ∷ uy ∷ tys) (Some k) es e = absurd (none-some es e)
-to_constant t n front o (ty ∷ []) None es e = absurd (none-some es e)
-to_constant t n front o (ty ∷ []) (Some k) es e = record { value = k; ty = ty; results = refl; is = refl; edits = same_Some _ _ e }
+to_constant : (t : Operation) (n : ℕ) (insertion : Place) (o : Operation) (tys : List TypeTerm) (k : Option Known) (es : List Edit) → folded_to t n insertion o tys k ≡ Some es → ToConstant t n insertion o tys k es
+to_constant t n insertion o [] None es e = absurd (none-some es e)
+to_constant t n insertion o [] (Some k) es e = absurd (none-some es e)
+to_constant t n insertion o (ty ∷ uy ∷ tys) None es e = absurd (none-some es e)
+to_constant t n insertion o (ty ∷ uy ∷ tys) (Some k) es e = absurd (none-some es e)
+to_constant t n insertion o (ty ∷ []) None es e = absurd (none-some es e)
+to_constant t n insertion o (ty ∷ []) (Some k) es e = record { value = k; ty = ty; results = refl; is = refl; edits = same_Some _ _ e }
 
 folds_here : (m n : Module) (x : ℕ) (q : Ruled FoldToConstant m n x) → Folds m n x q
 unfolding rule
@@ -82,8 +82,8 @@ folds_here m n x q =
     let h = head q.here in
     let fold = fold_of h.name h.properties (map (known m.tree) h.operands) h.results in
     let g =
-    when_some (not (named (codes "arith.constant") h.name) && list_all (may_read m.tree m.next q.front q.here) h.operands) (folded_to m.tree m.next q.front q.here h.results fold) q.edits q.made in
-    let c = to_constant m.tree m.next q.front q.here h.results fold q.edits g.1 in
+    when_some (not (named (codes "arith.constant") h.name) && list_all (may_read m.tree m.next q.insertion q.here) h.operands) (folded_to m.tree m.next q.insertion q.here h.results fold) q.edits q.made in
+    let c = to_constant m.tree m.next q.insertion q.here h.results fold q.edits g.1 in
     record { value = c.value; ty = c.ty; results = c.results; fold = c.is; edits = c.edits }
 
 -- the fold, and the kinds of the operands
@@ -114,7 +114,7 @@ module _ (accepted : AreAccepted) where
   folds_number m n x q w k ready =
       let h = head q.here in
       let ys = map (known m.tree) h.operands in
-      let stand = (each_found (λ h. list_all (λ v. has_value v m.tree) h.operands ≡ true) x m.tree (operands_stand is_isolated m.tree ready.formed.distinct ready.formed.formed.visible) q.here q.found).0 in
+      let stand = (each_found (λ h. list_all (λ v. has_value v m.tree) h.operands ≡ true) x m.tree (operands_stand is_isolated m.tree ready.wellformed.distinct ready.wellformed.wellformed.visible) q.here q.found).0 in
       let width = subst (λ k. is_width (width_of k) ≡ true) k.same k.value_types.width in
       record {
         ty = w.ty;
@@ -130,14 +130,14 @@ module _ (accepted : AreAccepted) where
 
   pub fold_to_constant_ready : KeepsReady FoldToConstant
   fold_to_constant_ready m n x ready e =
-      let q = ruled accepted FoldToConstant m n x ready.formed ready.sorted e in
+      let q = ruled accepted FoldToConstant m n x ready.wellformed ready.sorted e in
       let w = folds_here m n x q in
       number_ready FoldToConstant m n x q (folds_number m n x q w (fold_kinds m n x q w ready) ready) ready
 
   -- the fold refines the outcome
   module _ (m n : Module) (x : ℕ) (q : Ruled FoldToConstant m n x) (w : Folds m n x q) (k : FoldKinds m n x q w) (ready : IsReady m) (a : Assignment) (done : ℕ → Bool) (computing : Computing a done m.tree) where
     site : Site m a done x q.here
-    site = site_of m a done x q.here ready.formed ready.kinded computing q.found (root_has q ready.formed ready.kinded refl)
+    site = site_of m a done x q.here ready.wellformed ready.kinded computing q.found (root_has q ready.wellformed ready.kinded refl)
 
     operand_bits : (vs : List Value) → list_all (λ v. has_value v m.tree) vs ≡ true → AllHaveBits (map a vs)
     operand_bits [] e = tt
@@ -148,7 +148,7 @@ module _ (accepted : AreAccepted) where
     fold_better : done x ≡ true → refines (a (Result x 0)) (Some w.value) ≡ true
     fold_better d =
         let h = head q.here in
-        let s = site_of m a done x q.here ready.formed ready.kinded computing q.found (root_has q ready.formed ready.kinded refl) in
+        let s = site_of m a done x q.here ready.wellformed ready.kinded computing q.found (root_has q ready.wellformed ready.kinded refl) in
         gives_refined m a done x q.here s k.folds.how (Some w.value) k.folds.by k.value_types d
         (λ z i.
         fold_kept h w.ty w.value.0 w.value.1 k.of w.results k.folds.how (map (kind_in m.tree) h.operands) (map (known m.tree) h.operands) (map a h.operands) z k.folds.by
@@ -158,7 +158,7 @@ module _ (accepted : AreAccepted) where
   pub fold_to_constant_computing : KeepsComputing FoldToConstant
   unfolding folds_number
   fold_to_constant_computing m n x a done ready computing e =
-      let q = ruled accepted FoldToConstant m n x ready.formed ready.sorted e in
+      let q = ruled accepted FoldToConstant m n x ready.wellformed ready.sorted e in
       let w = folds_here m n x q in
       let k = fold_kinds m n x q w ready in
       number_improves FoldToConstant m n x q (folds_number m n x q w k ready) a done (fold_better m n x q w k ready a done computing) ready refl (fold_to_constant_ready m n x ready e).kinded computing

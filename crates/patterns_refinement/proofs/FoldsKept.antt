@@ -17,7 +17,7 @@ use Rattle.dialects_int.specs.declared.operations.Predicate.{Predicate}
 use Rattle.dialects_int.specs.declared.operations.Rule.{Rule}
 use Rattle.dialects_int.specs.declared.operations.Rule.TheVariants as rule
 use Rattle.dialects_int.specs.Arithmetic.{absorbs, cast_of, choice_of, comparison_of, truth, value_of}
-use Rattle.dialects_int.specs.Folds.{IsWithin, Known, alone, asked, bits_at, both, compare_fold, compared, fold_by, fold_of, is_property, kind_of, or_else, pair_fold, property_of, resized, rule_of, same_kind, select_fold, together, with}
+use Rattle.dialects_int.specs.Folds.{IsWithin, Known, alone, requested, bits_at, both, compare_fold, compared, fold_by, fold_of, is_property, kind_of, or_else, pair_fold, property_of, resized, rule_of, same_kind, select_fold, together, with}
 use Rattle.dialects_int.proofs.KnowingMore.{knowing_more}
 use Rattle.dialects_int.proofs.KnownOperands.{pair_folds}
 use Rattle.user_patterns_check.specs.Checks.{refines}
@@ -129,7 +129,7 @@ module _ (h : Header) (ty : TypeTerm) (k : BitsKind) (n : ℕ) where
       same_refined z (Some (k, n)) (sym (same_Some _ _ (sym (both_known o by of a b (kp a refl) (kq b refl) (hp a refl) (hq b refl) more) ∙ m)))
 
   -- a comparison
-  compare_kept : (q : Predicate) (y w : Option Known) (u v z : Outcome) → rule_of h.name ≡ Some rule.Compare → asked (property_of (codes "predicate") h.properties) ≡ Some q → Says y u → Says w v
+  compare_kept : (q : Predicate) (y w : Option Known) (u v z : Outcome) → rule_of h.name ≡ Some rule.Compare → requested (property_of (codes "predicate") h.properties) ≡ Some q → Says y u → Says w v
       → FoldsTo (y ∷ w ∷ []) → compare_outcome q u v ≡ Some z → Refined z
   compare_kept q y w None v z by p s t e m = poison z (sym (same_Some _ _ m))
   compare_kept q y w (Some a) None z by p s t e m = poison z (sym (same_Some _ _ m))
@@ -214,7 +214,7 @@ module _ (h : Header) (ty : TypeTerm) (k : BitsKind) (n : ℕ) (of : kind_of ty 
   by_compare js (y ∷ w ∷ []) (p ∷ []) z by t ka ha s e f m = absurd s.1
   by_compare js (y ∷ w ∷ []) (p ∷ q ∷ r ∷ xs) z by t ka ha s e f m = absurd s.1.1
   by_compare js (y ∷ w ∷ []) (p ∷ q ∷ []) z by t ka ha s e f m =
-      let a = given_some (asked (property_of (codes "predicate") h.properties)) (λ a. of_two (compare_outcome a) (p ∷ q ∷ [])) z m in
+      let a = given_some (requested (property_of (codes "predicate") h.properties)) (λ a. of_two (compare_outcome a) (p ∷ q ∷ [])) z m in
       compare_kept h ty k n a.0 y w p q z by a.1 s.0 s.1.0 e a.2
 
   by_select : Result rule.Select
@@ -332,7 +332,7 @@ module _ (h : Header) (ty : TypeTerm) (k : BitsKind) (n : ℕ) (results : h.resu
   fold_fits (rule.Binary o) js (y ∷ v ∷ u ∷ ys) t w g e f = absurd (none-some n f)
   fold_fits rule.Compare js [] t w g e f = absurd (none-some n f)
   fold_fits rule.Compare js (y ∷ []) t w g e f = absurd (none-some n f)
-  fold_fits rule.Compare js (y ∷ v ∷ []) t w g e f = compare_fits (asked (property_of (codes "predicate") h.properties)) k y v n f
+  fold_fits rule.Compare js (y ∷ v ∷ []) t w g e f = compare_fits (requested (property_of (codes "predicate") h.properties)) k y v n f
   fold_fits rule.Compare js (y ∷ v ∷ u ∷ ys) t w g e f = absurd (none-some n f)
   fold_fits rule.Select js [] t w g e f = absurd (none-some n f)
   fold_fits rule.Select js (c ∷ []) t w g e f = absurd (none-some n f)

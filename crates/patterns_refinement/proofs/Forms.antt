@@ -20,7 +20,7 @@ use Rattle.dialects_int.specs.declared.operations.Predicate.{Predicate}
 use Rattle.dialects_int.specs.declared.operations.Predicate.TheVariants as asks
 use Rattle.dialects_int.specs.declared.operations.Rule.{Rule}
 use Rattle.dialects_int.specs.declared.operations.Rule.TheVariants as rule
-use Rattle.dialects_int.specs.Folds.{Known, asked, fold_by, fold_of, is_property, kind_of, predicates, property_of, rule_of, rules, with}
+use Rattle.dialects_int.specs.Folds.{Known, requested, fold_by, fold_of, is_property, kind_of, predicates, property_of, rule_of, rules, with}
 use Rattle.patterns_laws.specs.Words.{named}
 use Rattle.patterns_laws.proofs.KnownFolds.{given_some, given_at}
 use Rattle.user_patterns_check.specs.Outcomes.{Outcome, compare_outcome, given, pair_outcome, resize_outcome, select_outcome, step_of}
@@ -92,7 +92,7 @@ named_is word name e = (bytes_eq-Decides name word).0 e
 
 -- an operation has the predicate of a form
 abbrev pub Asks : Expression → List (List ℕ × AttrTerm) → Type 0
-Asks (form.Compare p i j) props = asked (property_of (codes "predicate") props) ≡ Some p
+Asks (form.Compare p i j) props = requested (property_of (codes "predicate") props) ≡ Some p
 Asks _ props = Unit {0}
 
 predicate_there : (p : Predicate) → slice_get predicates (predicate_number p) ≡ Some p
@@ -108,17 +108,17 @@ predicate_there asks.UnsignedLessOrEqual = refl
 predicate_there asks.UnsignedGreater = refl
 predicate_there asks.UnsignedGreaterOrEqual = refl
 
-pub asked_at : (p : Predicate) (i : TypeTerm × ℕ) → i.1 ≡ predicate_number p → asked (Some i) ≡ Some p
-asked_at p i e = ap (λ n. slice_get predicates n) e ∙ predicate_there p
+pub requested_at : (p : Predicate) (i : TypeTerm × ℕ) → i.1 ≡ predicate_number p → requested (Some i) ≡ Some p
+requested_at p i e = ap (λ n. slice_get predicates n) e ∙ predicate_there p
 
 module _ (t : Operation) (verified : Header → Bool) where
-  predicate_asked : (p : Predicate) (o : Option (TypeTerm × ℕ)) → predicate_is t verified (Some (predicate_number p)) o ≡ true → asked o ≡ Some p
-  predicate_asked p None e = absurd (true≢false (sym e))
-  predicate_asked p (Some i) e = asked_at p i (eqb-true i.1 (predicate_number p) e)
+  predicate_requested : (p : Predicate) (o : Option (TypeTerm × ℕ)) → predicate_is t verified (Some (predicate_number p)) o ≡ true → requested o ≡ Some p
+  predicate_requested p None e = absurd (true≢false (sym e))
+  predicate_requested p (Some i) e = requested_at p i (eqb-true i.1 (predicate_number p) e)
 
   pub form_asks : (f : Expression) (props : List (List ℕ × AttrTerm)) → predicate_is t verified (predicate_of f) (property_of (codes "predicate") props) ≡ true → Asks f props
   form_asks (form.Binary o i j) props e = tt
-  form_asks (form.Compare p i j) props e = predicate_asked p (property_of (codes "predicate") props) e
+  form_asks (form.Compare p i j) props e = predicate_requested p (property_of (codes "predicate") props) e
   form_asks (form.Select c i j) props e = tt
   form_asks (form.IntegerCast c i) props e = tt
   form_asks (form.IndexCast c i) props e = tt
@@ -133,7 +133,7 @@ module _ (a : Assignment) (env : List Outcome) (h : Header) (k : BitsKind) (vs :
   by_step : (f : Expression) → Asks f h.properties → AllShow a env (operands_of f) vs → makes_by (rule_for f) h k (map a vs) ≡ step_of (form_step k f) env
   by_step (form.Binary o i j) q s = two_shown a env (pair_outcome o) i j vs s
   by_step (form.Compare p i j) q s =
-      given_at (asked (property_of (codes "predicate") h.properties)) p (λ p. of_two (compare_outcome p) (map a vs)) (of_two (compare_outcome p) (map a vs)) q refl
+      given_at (requested (property_of (codes "predicate") h.properties)) p (λ p. of_two (compare_outcome p) (map a vs)) (of_two (compare_outcome p) (map a vs)) q refl
       ∙ two_shown a env (compare_outcome p) i j vs s
   by_step (form.Select c i j) q s = three_shown a env select_outcome c i j vs s
   by_step (form.IntegerCast c i) q s = one_shown a env (resize_outcome c k) i vs s

@@ -31,8 +31,8 @@ use Rattle.patterns_refinement.proofs.Frees.{Was, free_still, was_new, was_old}
 use Rattle.patterns_refinement.specs.Keeping.{Computing, Improves, IsFed, done_after, is_there}
 use Rattle.patterns_refinement.proofs.Applying.{all_edited_made}
 use Rattle.patterns_refinement.proofs.Edited.{each_both}
-use Rattle.patterns_refinement.proofs.EditsForm.{all_formed, made_plain}
-use Rattle.patterns_refinement.proofs.Formed.{is_below, operands_stand}
+use Rattle.patterns_refinement.proofs.EditsForm.{all_wellformed, made_plain}
+use Rattle.patterns_refinement.proofs.Wellformed.{is_below, operands_stand}
 use Rattle.patterns_refinement.proofs.Lifted.{IsBetterWith, IsReady, all_put_better, lifted, old_ready}
 use Rattle.patterns_refinement.proofs.Monotone.{itself}
 use Rattle.patterns_refinement.proofs.Rewritten.{AllBare, AllPut, all_put, given_each, operands_same}
@@ -100,11 +100,11 @@ module _ (a : Assignment) (n x : ℕ) (done : ℕ → Bool) (made : List Operati
 
   old_fed : Each (IsFed later) t
   old_fed =
-      each_both (IsFed done) Stood (IsFed later) (λ h p q i. still_there h.operands q.1 (p (was h.id q.0 i))) t computing.fed
-      (each_both (λ h. h.id < n) (λ h. list_all (λ v. has_value v t) h.operands ≡ true) Stood (λ h p q. (p, q)) t below operands)
+      each_both (IsFed done) Located (IsFed later) (λ h p q i. still_there h.operands q.1 (p (was h.id q.0 i))) t computing.fed
+      (each_both (λ h. h.id < n) (λ h. list_all (λ v. has_value v t) h.operands ≡ true) Located (λ h p q. (p, q)) t below operands)
     where
-      Stood : Header → Type 0
-      Stood h = (h.id < n) × (list_all (λ v. has_value v t) h.operands ≡ true)
+      Located : Header → Type 0
+      Located h = (h.id < n) × (list_all (λ v. has_value v t) h.operands ≡ true)
 
   put_there : (ws : List Value) → list_all (is_there (done_after n x done)) ws ≡ true → list_all (is_there (done_after n x done)) (map (put_value (Result x 0) v) ws) ≡ true
   put_there [] e = refl
@@ -116,15 +116,15 @@ module _ (a : Assignment) (n x : ℕ) (done : ℕ → Bool) (made : List Operati
       go true i s = k.there (was x within (ap (is_there later) (same_value_true (Result x 0) w i) ∙ s))
       go false i s = s
 
-  all_were : (front : Place) → HasDistinctIds t → Each (Was n done later t) (rewritten front n made x v t)
-  all_were front d =
-      given_each a c n x v done (Was n done (done_after n x done) t) (λ h p. p) (with_made front n made t)
-      (all_put (Was n done (done_after n x done) t) front n made t (was_new n done (done_after n x done) t n made (omega arith)) k.bare (was_old n done (done_after n x done) t d was))
+  all_were : (insertion : Place) → HasDistinctIds t → Each (Was n done later t) (rewritten insertion n made x v t)
+  all_were insertion d =
+      given_each a c n x v done (Was n done (done_after n x done) t) (λ h p. p) (with_made insertion n made t)
+      (all_put (Was n done (done_after n x done) t) insertion n made t (was_new n done (done_after n x done) t n made (omega arith)) k.bare (was_old n done (done_after n x done) t d was))
 
-  all_plain : (front : Place) → HasDistinctIds t → Each (Was n (λ y. true) (λ y. true) t) (rewritten front n made x v t)
-  all_plain front d =
-      given_each a c n x v done (Was n (λ y. true) (λ y. true) t) (λ h p. p) (with_made front n made t)
-      (all_put (Was n (λ y. true) (λ y. true) t) front n made t (was_new n (λ y. true) (λ y. true) t n made (omega arith)) k.bare (was_old n (λ y. true) (λ y. true) t d (λ y l i. refl)))
+  all_plain : (insertion : Place) → HasDistinctIds t → Each (Was n (λ y. true) (λ y. true) t) (rewritten insertion n made x v t)
+  all_plain insertion d =
+      given_each a c n x v done (Was n (λ y. true) (λ y. true) t) (λ h p. p) (with_made insertion n made t)
+      (all_put (Was n (λ y. true) (λ y. true) t) insertion n made t (was_new n (λ y. true) (λ y. true) t n made (omega arith)) k.bare (was_old n (λ y. true) (λ y. true) t d (λ y l i. refl)))
 
   old_stays : (now : Assignment) → ((w : Value) → refines (c w) (now w) ≡ true) → is_computed t (Result x 0) ≡ true → Each (λ h. Stays t a now (done_after n x done) h (put_values (Result x 0) v h)) t
   old_stays now better e =
@@ -138,26 +138,26 @@ module _ (a : Assignment) (n x : ℕ) (done : ℕ → Bool) (made : List Operati
             (all_better c now better (map (put_value (Result x 0) v) h.operands));
       }) t old_better operands
 
-  all_fed : (front : Place) → Each (IsFed later) (rewritten front n made x v t)
-  all_fed front =
-      given_each a c n x v done (IsFed (done_after n x done)) (λ h p i. put_there h.operands (p i)) (with_made front n made t) (all_put (IsFed (done_after n x done)) front n made t k.fed k.bare old_fed)
+  all_fed : (insertion : Place) → Each (IsFed later) (rewritten insertion n made x v t)
+  all_fed insertion =
+      given_each a c n x v done (IsFed (done_after n x done)) (λ h p i. put_there h.operands (p i)) (with_made insertion n made t) (all_put (IsFed (done_after n x done)) insertion n made t k.fed k.bare old_fed)
 
-pub given_improves : (m n : Module) (x : ℕ) (a : Assignment) (done : ℕ → Bool) (front : Place) (made : List Operation) (v : Value) → IsWellFormed is_isolated m → x < m.next → is_computed m.tree (Result x 0) ≡ true → Computing a done m.tree → AreKinded n.tree
-    → Making a m.next x done made v → Free (map (λ o. Make front o) made ++ give x v) m → all_edited (map (λ o. Make front o) made ++ give x v) m ≡ n → Improves a done m (done_after m.next x done) n.tree
-given_improves m n x a done front made v formed within root computing kinded k free e =
+pub given_improves : (m n : Module) (x : ℕ) (a : Assignment) (done : ℕ → Bool) (insertion : Place) (made : List Operation) (v : Value) → IsWellFormed is_isolated m → x < m.next → is_computed m.tree (Result x 0) ≡ true → Computing a done m.tree → AreKinded n.tree
+    → Making a m.next x done made v → Free (map (λ o. Make insertion o) made ++ give x v) m → all_edited (map (λ o. Make insertion o) made ++ give x v) m ≡ n → Improves a done m (done_after m.next x done) n.tree
+given_improves m n x a done insertion made v wellformed within root computing kinded k free e =
     let c = k.outcomes in
     let later = done_after m.next x done in
-    let is : n.tree ≡ rewritten front m.next made x v m.tree = ap (λ (m : Module). m.tree) (sym e) ∙ all_edited_made front made x v m in
-    let below = is_below m.next m.tree formed.below in
-    let operands = operands_stand is_isolated m.tree formed.distinct formed.formed.visible in
-    let after_formed = subst (IsWellFormed is_isolated) e (all_formed _ m (made_plain front made _ k.bare (tt, (tt, tt))) formed free) in
+    let is : n.tree ≡ rewritten insertion m.next made x v m.tree = ap (λ (m : Module). m.tree) (sym e) ∙ all_edited_made insertion made x v m in
+    let below = is_below m.next m.tree wellformed.below in
+    let operands = operands_stand is_isolated m.tree wellformed.distinct wellformed.wellformed.visible in
+    let after_wellformed = subst (IsWellFormed is_isolated) e (all_wellformed _ m (made_plain insertion made _ k.bare (tt, (tt, tt))) wellformed free) in
     let s =
-    lifted a c m.next x v done later k.agrees m.tree below operands front made k.bare (subst (λ t. HasDistinctIds t) is after_formed.distinct) (subst AreKinded is kinded) computing.typed k.typed
+    lifted a c m.next x v done later k.agrees m.tree below operands insertion made k.bare (subst (λ t. HasDistinctIds t) is after_wellformed.distinct) (subst AreKinded is kinded) computing.typed k.typed
     (old_ready a c m.next x v done later k.agrees m.tree below operands (was a m.next x done made v k m.tree below operands within computing) computing.fits computing.sure)
     k.ready
     (old_better a m.next x done made v k m.tree below operands within computing) (new_better a m.next x done made v k m.tree below operands within computing m.next made (omega arith)) in
-    let free : (w : Value) → owner w < m.next → gives done m.tree w ≡ false → gives later (rewritten front m.next made x v m.tree) w ≡ false =
-    free_still m.next done later m.tree (rewritten front m.next made x v m.tree) (all_were a m.next x done made v k m.tree below operands within computing front formed.distinct) in
+    let free : (w : Value) → owner w < m.next → gives done m.tree w ≡ false → gives later (rewritten insertion m.next made x v m.tree) w ≡ false =
+    free_still m.next done later m.tree (rewritten insertion m.next made x v m.tree) (all_were a m.next x done made v k m.tree below operands within computing insertion wellformed.distinct) in
     record {
       now = s.now;
       better = λ w l. subst (λ o. refines o (s.now w) ≡ true) (k.agrees w l) (s.better w);
@@ -167,16 +167,16 @@ given_improves m n x a done front made v formed within root computing kinded k f
         fits = subst (λ t. FitsAll s.now later t) (sym is) s.fits;
         typed = subst (λ t. AreOfTypes s.now t) (sym is) s.typed;
         sure = subst (λ t. AllSure s.now later t) (sym is) s.sure;
-        fed = subst (λ t. Each (IsFed later) t) (sym is) (all_fed a m.next x done made v k m.tree below operands within computing front);
+        fed = subst (λ t. Each (IsFed later) t) (sym is) (all_fed a m.next x done made v k m.tree below operands within computing insertion);
       };
       shows =
-          let numbers = number_at x m.tree formed.distinct root in
+          let numbers = number_at x m.tree wellformed.distinct root in
           let old = old_stays a m.next x done made v k m.tree below operands within computing s.now s.better root in
           subst (Shows a s.now m later) (sym is)
           (record {
-            root = λ i. subst (Stays m.tree a s.now later (head m.tree)) (sym (rewritten_head x v m.tree numbers front m.next made)) (at_root (λ h. Stays m.tree a s.now later h (put_values (Result x 0) v h)) m.tree old);
-            follows = rewritten_follows x v m.tree numbers a s.now later front m.next made k.numbers old;
-            plain = free_still m.next (λ y. true) (λ y. true) m.tree (rewritten front m.next made x v m.tree) (all_plain a m.next x done made v k m.tree below operands within computing front formed.distinct);
+            root = λ i. subst (Stays m.tree a s.now later (head m.tree)) (sym (rewritten_head x v m.tree numbers insertion m.next made)) (at_root (λ h. Stays m.tree a s.now later h (put_values (Result x 0) v h)) m.tree old);
+            follows = rewritten_follows x v m.tree numbers a s.now later insertion m.next made k.numbers old;
+            plain = free_still m.next (λ y. true) (λ y. true) m.tree (rewritten insertion m.next made x v m.tree) (all_plain a m.next x done made v k m.tree below operands within computing insertion wellformed.distinct);
           });
     }
 

@@ -21,11 +21,11 @@ use Rattle.user_patterns_check.specs.Checks as checks
 use Rattle.user_patterns_check.specs.Outcomes.{Outcome, given, run}
 use Rattle.patterns_laws.proofs.KnownFolds.{given_at, given_some}
 use Rattle.user_patterns_data.specs.declared.pattern.PatternOp.{PatternOp}
-use Rattle.user_patterns_data.specs.Fitting.{content_with, fits, extra_step, kind_at, number_step, piece_step}
+use Rattle.user_patterns_data.specs.Fitting.{content_with, fits, extra_step, kind_at, number_step, pattern_op_step}
 use Rattle.user_patterns_data.specs.Matching.{Header, Standing, bound, nothing, ops_match, placed, standing, types_at, written}
 use Rattle.user_patterns_data.specs.Planning.{Plan, all_made, constants_known, extra_known, extra_place, kind_standing, new_place, old_place, outcomes, places, planned, planned_by, planned_from, typed}
 use Rattle.user_patterns_data.specs.Shapes.{PatternModel}
-use Rattle.user_patterns_data.specs.WellFormed.{asked_stands, front_stands, extra_stands, is_new, is_type, is_variable, is_well_formed, kind_stands, new_begins, new_ends, news_stand, numbers_stand, old_begins, olds_stand, sides_stand}
+use Rattle.user_patterns_data.specs.WellFormed.{requested_stands, preceding_stands, extra_stands, is_new, is_type, is_variable, is_well_formed, kind_stands, new_begins, new_ends, news_stand, numbers_stand, old_begins, olds_stand, sides_stand}
 use Rattle.user_patterns_build.specs.CanBuild.{can_build, is_named, result_type, same_number, spares}
 use Rattle.ir_tree.proofs.Replaced.{same_value_true}
 use Rattle.user_patterns_check.proofs.Following.{run_after}
@@ -143,7 +143,7 @@ module _ (t : Operation) (verified : Header → Bool) (n : ℕ) (p : PatternMode
 
 -- ---- from a well-formed pattern that can be built
 module _ (p : PatternModel) where
-  pub record IsFormed : Type 0 where
+  pub record IsWellformed : Type 0 where
     pub constants : list_all (is_variable p) p.constants ≡ true
     pub extra : list_all (extra_stands p) p.extra ≡ true
     pub numbers : numbers_stand p (old_begins p) p.given ≡ true
@@ -152,14 +152,14 @@ module _ (p : PatternModel) where
     pub news : news_stand p (new_ends p) p.new ≡ true
     pub result : is_new p (new_ends p) p.result ≡ true
 
-  pub formed_parts : is_well_formed p ≡ true → IsFormed
-  formed_parts e =
-      let a = and_parts (front_stands p) (sides_stand p) e in
+  pub wellformed_parts : is_well_formed p ≡ true → IsWellformed
+  wellformed_parts e =
+      let a = and_parts (preceding_stands p) (sides_stand p) e in
       let b = and_parts (list_all (kind_stands p) p.value_types) _ a.0 in
       let c = and_parts (list_all (is_type p) p.values) _ b.1 in
       let d = and_parts (list_all (is_variable p) p.constants) _ c.1 in
       let f = and_parts (list_all (extra_stands p) p.extra) _ d.1 in
-      let g = and_parts (list_all (asked_stands p) p.type_constraints) _ f.1 in
+      let g = and_parts (list_all (requested_stands p) p.type_constraints) _ f.1 in
       let h = and_parts (eqb (p.root + 1) (new_begins p)) _ a.1 in
       let i = and_parts (olds_stand p (new_begins p) p.old) _ h.1 in
       let j = and_parts (news_stand p (new_ends p) p.new) _ i.1 in
@@ -212,7 +212,7 @@ has_type t verified k (ty ∷ tys) b ts h j v low high s = elim (cases_eq j k) [
   | inr m ↦ has_type t verified (k + 1) tys b ts h.1 j v (omega (arith, low, m)) (omega (arith, high)) s
 ]
 
-module _ (t : Operation) (verified : Header → Bool) (n : ℕ) (p : PatternModel) (x : ℕ) (a : Assignment) (done : ℕ → Bool) (f : IsFormed p) (m : IsMade p) (named : all_named p ≡ true) (below : IsBelow n t) (found_fits : FoundFit a done t) (of : TypesFound a t)
+module _ (t : Operation) (verified : Header → Bool) (n : ℕ) (p : PatternModel) (x : ℕ) (a : Assignment) (done : ℕ → Bool) (f : IsWellformed p) (m : IsMade p) (named : all_named p ≡ true) (below : IsBelow n t) (found_fits : FoundFit a done t) (of : TypesFound a t)
     (kept : IsFound t verified n p x a done) (types : is_typed (map kind_standing kept.types) p ≡ true) (always : AlwaysKeeps (content_with (map kind_standing kept.types) p))
     (os : List Operation) (v : Value) (q : IsPlanned t verified n p kept.here kept.types os v) where
   abbrev b : Standing Value
@@ -276,8 +276,8 @@ module _ (t : Operation) (verified : Header → Bool) (n : ℕ) (p : PatternMode
   olds : OldsRun t verified a b ts p all_fit kept.of_kinds of (old_place p) p.old numbers.env
   olds = olds_run t verified a b ts p all_fit kept.of_kinds of (new_begins p) (old_place p) p.old numbers.env numbers.long (omega arith) (omega arith) f.olds named found.pattern_ops typed_as.pattern_ops numbers_show
 
-  olds_grow : Grows (map (piece_step ks) p.old) numbers.env olds.new
-  olds_grow = run_grows (map (piece_step ks) p.old) numbers.env olds.new olds.ran
+  olds_grow : Grows (map (pattern_op_step ks) p.old) numbers.env olds.new
+  olds_grow = run_grows (map (pattern_op_step ks) p.old) numbers.env olds.new olds.ran
 
   olds_ran : old_steps steps start.values [] ≡ Some olds.new
   olds_ran =
@@ -352,12 +352,12 @@ module _ (t : Operation) (verified : Header → Bool) (n : ℕ) (p : PatternMode
   matched_kinds = olds.of_kinds (kinds_given ks p) numbered
 
   matched_bits : AllOfBits olds.new
-  matched_bits = run_bits (map (piece_step ks) p.old) numbers.env olds.new (run_bits steps.given start.env numbers.env started_bits numbers.ran) olds.ran
+  matched_bits = run_bits (map (pattern_op_step ks) p.old) numbers.env olds.new (run_bits steps.given start.env numbers.env started_bits numbers.ran) olds.ran
 
   news : FitsEach c n os × ShowsNew ts kept.of_kinds p q.env c (new_place p + length p.new) whole q.last × TypedEach c n os
   news =
       news_run ts kept.of_kinds p q.env c (new_ends p) (new_place p) n p.new (kinds_matched ks p) olds.new whole b q.last os shown_new.2 q.made
-      (omega (arith, olds_grow.longer, numbers.long, length-map p.old (piece_step ks))) (omega arith) (omega arith) f.news m.named
+      (omega (arith, olds_grow.longer, numbers.long, length-map p.old (pattern_op_step ks))) (omega arith) (omega arith) f.news m.named
       matched_kinds matched_bits types (extended_later a n (new_place p) whole) olds_show has_numbers
 
   result_there : slice_get whole p.result ≡ Some (c v)
@@ -376,7 +376,7 @@ module _ (t : Operation) (verified : Header → Bool) (n : ℕ) (p : PatternMode
 
 pub plans_go : PlansGo
 plans_go t verified n p x a done proper computes found constants always made v plan =
-    goes t verified n p x a done (formed_parts p proper.formed) (made_parts p proper.buildable) proper.named computes.below (found_fit a done t computes.fits) (types_found a t computes.typed) found constants always made v
+    goes t verified n p x a done (wellformed_parts p proper.wellformed) (made_parts p proper.buildable) proper.named computes.below (found_fit a done t computes.fits) (types_found a t computes.typed) found constants always made v
     (planned_there t verified n p x found.here found.types made v found.is_matched found.are_types plan)
 
 pub checked_plans_go : CheckedPlansGo
@@ -387,7 +387,7 @@ checked_plans_go t verified n p x a done proper computes found constants most ve
 pub root_below : (t : Operation) (verified : Header → Bool) (n : ℕ) (p : PatternModel) (x : ℕ) (a : Assignment) (done : ℕ → Bool) → IsProper p → IsBelow n t → IsFound t verified n p x a done → x < n
 root_below t verified n p x a done proper below found =
     let m = made_parts p proper.buildable in
-    let f = formed_parts p proper.formed in
+    let f = wellformed_parts p proper.wellformed in
     let matched = matched_parts t verified n p x found.here found.is_matched in
     let typed = typed_parts t verified n p found.here found.types found.are_types in
     value_below n t below (Result x 0)

@@ -46,8 +46,8 @@ use Rattle.patterns_refinement.specs.Better.{AllBetter, AllSure, AreKinded, is_p
 use Rattle.patterns_refinement.specs.Applying.{RewritesCompute}
 use Rattle.patterns_refinement.specs.Improving.{RewritesComputeBetter, is_quotient, makes_no_quotient}
 use Rattle.patterns_refinement.proofs.Applying.{applies}
-use Rattle.patterns_refinement.proofs.EditsForm.{all_formed, made_plain}
-use Rattle.patterns_refinement.proofs.Formed.{each_stands, is_below, operands_stand}
+use Rattle.patterns_refinement.proofs.EditsForm.{all_wellformed, made_plain}
+use Rattle.patterns_refinement.proofs.Wellformed.{each_stands, is_below, operands_stand}
 use Rattle.patterns_refinement.proofs.Forms.{by_constant, form_rule, rule_for}
 use Rattle.patterns_refinement.proofs.Going.{plans_go, planned_there, root_below}
 use Rattle.patterns_refinement.proofs.Lifted.{IsBetterWith, IsReady, lifted, new_uses_better, old_ready, uses_better}
@@ -115,15 +115,15 @@ new_ready c later m (o ∷ os) s q u = (
 
 -- ---- observable operations
 -- if the new value refines the result, the tree shows what the module showed
-module _ (m : Module) (x : ℕ) (a : Assignment) (done later : ℕ → Bool) (formed : IsWellFormed is_isolated m) (c : Assignment) (agrees : Agree m.next a c) (front : Place) (made : List Operation) (v : Value) (bare : AllBare made)
+module _ (m : Module) (x : ℕ) (a : Assignment) (done later : ℕ → Bool) (wellformed : IsWellFormed is_isolated m) (c : Assignment) (agrees : Agree m.next a c) (insertion : Place) (made : List Operation) (v : Value) (bare : AllBare made)
     (root : is_computed m.tree (Result x 0) ≡ true) (numbers : AllPut (λ h. is_arithmetic h ≡ true) m.next made) (better : refines (c (Result x 0)) (c v) ≡ true) (now : Assignment) (grows : (w : Value) → refines (c w) (now w) ≡ true) where
   abbrev f : Header → Header
   f = put_values (Result x 0) v
 
   each_kept : Each (λ h. Stays m.tree a now later h (put_values (Result x 0) v h)) m.tree
   each_kept =
-      let below = is_below m.next m.tree formed.below in
-      let operands = operands_stand is_isolated m.tree formed.distinct formed.formed.visible in
+      let below = is_below m.next m.tree wellformed.below in
+      let operands = operands_stand is_isolated m.tree wellformed.distinct wellformed.wellformed.visible in
       each_both (IsBetterWith c later (map (put_value (Result x 0) v))) (λ h. list_all (λ v. has_value v m.tree) h.operands ≡ true) (λ h. Stays m.tree a now later h (put_values (Result x 0) v h))
       (λ h p s. record {
         same = refl;
@@ -134,54 +134,54 @@ module _ (m : Module) (x : ℕ) (a : Assignment) (done later : ℕ → Bool) (fo
             (all_better c now grows (map (put_value (Result x 0) v) h.operands));
       }) m.tree (uses_better c later x v better m.tree (each_stands (λ h. Unit {0}) [] m.tree (λ s i. tt))) operands
 
-  all_plain : Each (Was m.next (λ y. true) (λ y. true) m.tree) (rewritten front m.next made x v m.tree)
+  all_plain : Each (Was m.next (λ y. true) (λ y. true) m.tree) (rewritten insertion m.next made x v m.tree)
   all_plain =
-      given_each a c m.next x v done (Was m.next (λ y. true) (λ y. true) m.tree) (λ h p. p) (with_made front m.next made m.tree)
-      (all_put (Was m.next (λ y. true) (λ y. true) m.tree) front m.next made m.tree (was_new m.next (λ y. true) (λ y. true) m.tree m.next made (omega arith)) bare (was_old m.next (λ y. true) (λ y. true) m.tree formed.distinct (λ y l i. refl)))
+      given_each a c m.next x v done (Was m.next (λ y. true) (λ y. true) m.tree) (λ h p. p) (with_made insertion m.next made m.tree)
+      (all_put (Was m.next (λ y. true) (λ y. true) m.tree) insertion m.next made m.tree (was_new m.next (λ y. true) (λ y. true) m.tree m.next made (omega arith)) bare (was_old m.next (λ y. true) (λ y. true) m.tree wellformed.distinct (λ y l i. refl)))
 
-  pub made_shows : Shows a now m later (rewritten front m.next made x v m.tree)
+  pub made_shows : Shows a now m later (rewritten insertion m.next made x v m.tree)
   made_shows =
-      let counted = number_at x m.tree formed.distinct root in
+      let counted = number_at x m.tree wellformed.distinct root in
       record {
-        root = λ i. subst (Stays m.tree a now later (head m.tree)) (sym (rewritten_head x v m.tree counted front m.next made)) (at_root (λ h. Stays m.tree a now later h (put_values (Result x 0) v h)) m.tree each_kept);
-        follows = rewritten_follows x v m.tree counted a now later front m.next made numbers each_kept;
-        plain = free_still m.next (λ y. true) (λ y. true) m.tree (rewritten front m.next made x v m.tree) all_plain;
+        root = λ i. subst (Stays m.tree a now later (head m.tree)) (sym (rewritten_head x v m.tree counted insertion m.next made)) (at_root (λ h. Stays m.tree a now later h (put_values (Result x 0) v h)) m.tree each_kept);
+        follows = rewritten_follows x v m.tree counted a now later insertion m.next made numbers each_kept;
+        plain = free_still m.next (λ y. true) (λ y. true) m.tree (rewritten insertion m.next made x v m.tree) all_plain;
       }
 
 -- ---- the laws
 pub rewrites_compute_better : OwnAreAccepted → RewritesComputeBetter
-rewrites_compute_better accepted p m n x a done formed proper free fits of sure found keeps kinded e =
+rewrites_compute_better accepted p m n x a done wellformed proper free fits of sure found keeps kinded e =
     let r = applies p m n x e in
-    let below = is_below m.next m.tree formed.below in
+    let below = is_below m.next m.tree wellformed.below in
     let goes = plans_go m.tree (is_verified m.tree) m.next p x a done proper (record { below = below; fits = fits; typed = of }) found keeps.0 keeps.1 r.made r.value r.plan in
     let c = goes.after in
     let q = planned_there m.tree (is_verified m.tree) m.next p x found.here found.types r.made r.value found.is_matched found.are_types r.plan in
     let bare = all_bare found.types q.env m.next _ p.new found.here q.last r.made q.made in
     let named = and_parts (list_all is_named p.new) _ proper.buildable in
     let none = no_quotients found.types q.env m.next _ p.new found.here q.last r.made named.0 free q.made in
-    let after_formed = subst (IsWellFormed is_isolated) r.module_is (all_formed _ m (made_plain r.front r.made _ bare (tt, (tt, tt))) formed (accepted p m x formed _ n r.edits r.becomes_it)) in
+    let after_wellformed = subst (IsWellFormed is_isolated) r.module_is (all_wellformed _ m (made_plain r.insertion r.made _ bare (tt, (tt, tt))) wellformed (accepted p m x wellformed _ n r.edits r.becomes_it)) in
     let better = subst (λ o. refines o (c r.value) ≡ true) (sym (goes.agrees (Result x 0) (root_below m.tree (is_verified m.tree) m.next p x a done proper below found))) goes.refined in
-    let operands = operands_stand is_isolated m.tree formed.distinct formed.formed.visible in
+    let operands = operands_stand is_isolated m.tree wellformed.distinct wellformed.wellformed.visible in
     let root = root_computed m.tree (is_verified m.tree) m.next p x a done proper found in
     let all : Each (λ h. Unit {0}) m.tree = each_stands (λ h. Unit {0}) [] m.tree (λ s i. tt) in
     let s =
-    lifted a c m.next x r.value done (or_new m.next done) goes.agrees m.tree below operands r.front r.made bare (subst (λ t. HasDistinctIds t) r.is after_formed.distinct) (subst AreKinded r.is kinded)
+    lifted a c m.next x r.value done (or_new m.next done) goes.agrees m.tree below operands r.insertion r.made bare (subst (λ t. HasDistinctIds t) r.is after_wellformed.distinct) (subst AreKinded r.is kinded)
     of goes.typed (old_ready a c m.next x r.value done (or_new m.next done) goes.agrees m.tree below operands was fits sure)
     (new_ready c (or_new m.next done) m.next r.made goes.fits none (all_unflagged found.types q.env m.next _ p.new found.here q.last r.made q.made))
     (uses_better c (or_new m.next done) x r.value better m.tree all) (new_uses_better c (or_new m.next done) x r.value better m.next r.made) in
     let later = or_new m.next done in
-    let were : Each (Was m.next done (or_new m.next done) m.tree) (rewritten r.front m.next r.made x r.value m.tree) =
-    given_each a c m.next x r.value done (Was m.next done later m.tree) (λ h p. p) (with_made r.front m.next r.made m.tree)
-    (all_put (Was m.next done later m.tree) r.front m.next r.made m.tree (was_new m.next done later m.tree m.next r.made (omega arith)) bare (was_old m.next done later m.tree formed.distinct was)) in
+    let were : Each (Was m.next done (or_new m.next done) m.tree) (rewritten r.insertion m.next r.made x r.value m.tree) =
+    given_each a c m.next x r.value done (Was m.next done later m.tree) (λ h p. p) (with_made r.insertion m.next r.made m.tree)
+    (all_put (Was m.next done later m.tree) r.insertion m.next r.made m.tree (was_new m.next done later m.tree m.next r.made (omega arith)) bare (was_old m.next done later m.tree wellformed.distinct was)) in
     record {
       now = s.now;
       better = λ v l. subst (λ o. refines o (s.now v) ≡ true) (goes.agrees v l) (s.better v);
-      stays = λ v l e. s.stays v (free_still m.next done later m.tree (rewritten r.front m.next r.made x r.value m.tree) were v l e) ∙ goes.agrees v l;
+      stays = λ v l e. s.stays v (free_still m.next done later m.tree (rewritten r.insertion m.next r.made x r.value m.tree) were v l e) ∙ goes.agrees v l;
       fits = subst (λ t. FitsAll s.now (or_new m.next done) t) (sym r.is) s.fits;
       typed = subst (λ t. AreOfTypes s.now t) (sym r.is) s.typed;
       sure = subst (λ t. AllSure s.now (or_new m.next done) t) (sym r.is) s.sure;
       shows = subst (Shows a s.now m later) (sym r.is)
-          (made_shows m x a done later formed c goes.agrees r.front r.made r.value bare root (all_arithmetic c m.next r.made goes.fits) better s.now s.better);
+          (made_shows m x a done later wellformed c goes.agrees r.insertion r.made r.value bare root (all_arithmetic c m.next r.made goes.fits) better s.now s.better);
     }
   where
     above : (k y : ℕ) → y < k → nat_le k y ≡ true → ⊥
@@ -192,12 +192,12 @@ rewrites_compute_better accepted p m n x a done formed proper free fits of sure 
 
 -- the root's outcome is known
 pub rewrites_compute : RewritesCompute
-rewrites_compute p m n x a done k formed proper fits of found keeps root e =
+rewrites_compute p m n x a done k wellformed proper fits of found keeps root e =
     let q = applies p m n x e in
-    let below = is_below m.next m.tree formed.below in
+    let below = is_below m.next m.tree wellformed.below in
     let computes : Computes a done m.next m.tree = record { below = below; fits = fits; typed = of } in
-    let operands = operands_stand is_isolated m.tree formed.distinct formed.formed.visible in
-    let r = rewritten_computes m.tree (is_verified m.tree) m.next p x a done q.front k proper computes operands found keeps.0 keeps.1 root q.made q.value q.plan in
+    let operands = operands_stand is_isolated m.tree wellformed.distinct wellformed.wellformed.visible in
+    let r = rewritten_computes m.tree (is_verified m.tree) m.next p x a done q.insertion k proper computes operands found keeps.0 keeps.1 root q.made q.value q.plan in
     let goes = plans_go m.tree (is_verified m.tree) m.next p x a done proper computes found keeps.0 keeps.1 q.made q.value q.plan in
     let there = planned_there m.tree (is_verified m.tree) m.next p x found.here found.types q.made q.value found.is_matched found.are_types q.plan in
     let bare = all_bare found.types there.env m.next _ p.new found.here there.last q.made there.made in
@@ -208,6 +208,6 @@ rewrites_compute p m n x a done k formed proper fits of found keeps root e =
       subst (λ t. FitsAll r.now (or_new m.next done) t) (sym q.is) r.computes.fits,
       subst (λ t. AreOfTypes r.now t) (sym q.is) r.computes.typed,
       subst (Shows a r.now m (or_new m.next done)) (sym q.is)
-          (made_shows m x a done (or_new m.next done) formed r.now r.agrees q.front q.made q.value bare
+          (made_shows m x a done (or_new m.next done) wellformed r.now r.agrees q.insertion q.made q.value bare
           (root_computed m.tree (is_verified m.tree) m.next p x a done proper found) (all_arithmetic goes.after m.next q.made goes.fits) better r.now (λ w. itself (r.now w))),
     )

@@ -35,7 +35,7 @@ use Rattle.patterns_refinement.specs.Better.{kind_in, takes, takes_its}
 use Rattle.patterns_refinement.specs.Improving.{is_without_quotients}
 use Rattle.patterns_refinement.specs.Keeping.{IsReady, done_after}
 use Rattle.patterns_refinement.specs.Runs.{KeptAreKept, kept_rules}
-use Rattle.patterns_refinement.specs.MixedRuns.{KeptThrough}
+use Rattle.patterns_refinement.specs.RuleListRuns.{KeptThrough}
 use Rattle.patterns_refinement.specs.Passing.{FoundAt, KeptAt, is_kinded_at}
 use Rattle.patterns_refinement.specs.Strict.{HoldingKeep}
 use Rattle.patterns_refinement.specs.UsedTypes.{uses_only}
@@ -45,7 +45,7 @@ use Rattle.patterns_refinement.proofs.Canonical.{canonicalization_kinds}
 use Rattle.patterns_refinement.proofs.Giving.{after_old}
 use Rattle.patterns_refinement.proofs.Makings.{AllMade, MadeOne, with_all}
 use Rattle.patterns_refinement.proofs.MatchedKinds.{keeps_for, kinded_there}
-use Rattle.patterns_refinement.proofs.MixedRunning.{led}
+use Rattle.patterns_refinement.proofs.RuleListRunning.{led}
 use Rattle.patterns_refinement.proofs.NarrowRules.{rules_keep_kinds}
 use Rattle.patterns_refinement.proofs.OutcomesKept.{outcomes_keep_there}
 use Rattle.patterns_refinement.proofs.PassingKept.{Site, its_made, one_way, passing_kinds, site_of}
@@ -101,14 +101,14 @@ module _ (accepted : OwnAreAccepted) (p : PatternModel) (proper : IsProper p) (m
           go false e = some_wide (map (λ w. kind_at (map kind_standing its_site.here.types) (new_type w)) p.new) wide (y - m.next) k e
 
 -- ---- patterns that hold for all outcomes
-record SoundForm (p : PatternModel) : Type 0 where
+pub record SoundForm (p : PatternModel) : Type 0 where
   pub named : all_named p ≡ true
   pub quotients : is_without_quotients p ≡ true
   pub widths : list_all has_width p.value_types ≡ true
   pub uses : uses_only (is_had p) p ≡ true
   pub kinded : is_kinded_by_form (numbered p) ≡ true
 
-sound_parts : (p : PatternModel) → is_sound_form p ≡ true → SoundForm p
+pub sound_parts : (p : PatternModel) → is_sound_form p ≡ true → SoundForm p
 sound_parts p e =
     let a = and_parts (all_named p) _ e in
     let b = and_parts (is_without_quotients p) _ a.1 in
@@ -119,7 +119,7 @@ sound_parts p e =
 pub outcomes_keep : OwnAreAccepted → OutcomesKeep
 outcomes_keep accepted p m n x h ready range e =
     let f = sound_parts p h.form in
-    let proper : IsProper p = record { formed = h.formed; buildable = h.buildable; named = f.named } in
+    let proper : IsProper p = record { wellformed = h.wellformed; buildable = h.buildable; named = f.named } in
     let s = site_of accepted p proper m n x ready e in
     let r = s.applied in
     let kinded = kinded_there p m x proper ready range r.made r.value r.plan s.here f.widths f.uses f.kinded in
@@ -133,7 +133,7 @@ outcomes_keep accepted p m n x h ready range e =
 -- ---- patterns that hold by the form of both sides
 pub patterns_stay_in_range : OwnAreAccepted → PolynomialsKeep → HoldsAtAllWidths → PatternsStayInRange
 patterns_stay_in_range accepted polynomials holds p m n x h ready range e =
-    let u = holding_uniform polynomials holds p h.everywhere h.proper h.most h.some h.holds in
+    let u = holding_uniform polynomials holds p h.for_all_widths h.proper h.most h.some h.holds in
     own_range accepted p h.proper m n x ready range e (uniform_at accepted p u h.proper m n x ready e (here_at accepted p h.proper m n x ready range e)).0
 
 pub rules_stay_in_range : AreAccepted → RulesStayInRange
@@ -141,7 +141,7 @@ rules_stay_in_range accepted r i m n x ready range e = rules_keep_kinds accepted
 
 -- ---- rules and patterns, and runs of them
 module _ (rules : AreAccepted) (accepted : OwnAreAccepted) (kept : KeptAreKept) (holding : HoldingKeep) (polynomials : PolynomialsKeep) (holds : HoldsAtAllWidths) where
-  applied_keeps : (t : RuleOrPatternModel) → IsProved t → (m n : Module) (x : ℕ) → IsInRange m → IsReady m → applied t m x ≡ becomes n → IsInRange n × KeptAt m n x
+  pub applied_keeps : (t : RuleOrPatternModel) → IsProved t → (m n : Module) (x : ℕ) → IsInRange m → IsReady m → applied t m x ≡ becomes n → IsInRange n × KeptAt m n x
   applied_keeps (OfRule r) i m n x range ready e =
       let k = kept (r ∷ []) only r (inl refl) in
       (rules_stay_in_range rules r i m n x ready range e, (k.0 m n x ready e, (λ a done c. k.1 m n x a done ready c e)))
@@ -150,7 +150,7 @@ module _ (rules : AreAccepted) (accepted : OwnAreAccepted) (kept : KeptAreKept) 
       only o (inl e) = subst (λ o. In o kept_rules) (sym e) i
       only o (inr n) = absurd n
   applied_keeps (OfOwn p) (inl h) m n x range ready e =
-      let k = holding p h.everywhere h.proper h.most h.some h.holds in
+      let k = holding p h.for_all_widths h.proper h.most h.some h.holds in
       (patterns_stay_in_range accepted polynomials holds p m n x h ready range e, (k.0 m n x ready e, (λ a done c. k.1 m n x a done ready c e)))
   applied_keeps (OfOwn p) (inr h) m n x range ready e = outcomes_keep accepted p m n x h ready range e
 

@@ -48,7 +48,7 @@ use Rattle.patterns_refinement.specs.Better.{is_kind, is_kinded, is_signed_quoti
 use Rattle.patterns_refinement.specs.Keeping.{Computing, IsReady, KeepsComputing, KeepsReady, done_after, is_there}
 use Rattle.patterns_refinement.proofs.Dropping.{known_is, kind_by, of_two_is, pair_refined, widths}
 use Rattle.patterns_refinement.proofs.Firsts.{poison_refined}
-use Rattle.patterns_refinement.proofs.Formed.{is_below, operands_stand}
+use Rattle.patterns_refinement.proofs.Wellformed.{is_below, operands_stand}
 use Rattle.patterns_refinement.proofs.Forms.{named_is}
 use Rattle.patterns_refinement.proofs.Giving.{after_new}
 use Rattle.patterns_refinement.proofs.Makings.{GivesNew, GivesOutcomes, all_agree, all_at, new_improves, new_ready, still_there, with_all}
@@ -81,9 +81,9 @@ pub record OnConstant (r : Rule) (m n : Module) (x : ℕ) (q : Ruled r m n x) (o
 
 pub on_constant : (r : Rule) (m n : Module) (x : ℕ) (q : Ruled r m n x) (o : Arithmetic) (u v : Value) (ty : TypeTerm) (c : Known) → is_erasing r ≡ false → IsReady m → rule_of (head q.here).name ≡ Some (how.Binary o) → (head q.here).operands ≡ u ∷ v ∷ [] → (head q.here).results ≡ ty ∷ [] → known m.tree v ≡ Some c → OnConstant r m n x q o u v ty c
 on_constant r m n x q o u v ty c stays ready name ops results there =
-    let k = rule_kinds m.tree (head q.here) (each_found (λ h. is_kinded m.tree h ≡ true) x m.tree ready.kinded q.here q.found).0 (root_has q ready.formed ready.kinded stays) (how.Binary o) name in
+    let k = rule_kinds m.tree (head q.here) (each_found (λ h. is_kinded m.tree h ≡ true) x m.tree ready.kinded q.here q.found).0 (root_has q ready.wellformed ready.kinded stays) (how.Binary o) name in
     let both = and_parts (is_kind k.kind (kind_in m.tree u)) (is_kind k.kind (kind_in m.tree v)) (subst (λ vs. takes (how.Binary o) (head q.here) k.kind (map (kind_in m.tree) vs) ≡ true) ops k.operands) in
-    let stand = operands_stand is_isolated m.tree ready.formed.distinct ready.formed.formed.visible in
+    let stand = operands_stand is_isolated m.tree ready.wellformed.distinct ready.wellformed.wellformed.visible in
     let values = subst (λ vs. list_all (λ v. has_value v m.tree) vs ≡ true) ops (each_found (λ h. list_all (λ v. has_value v m.tree) h.operands ≡ true) x m.tree stand q.here q.found).0 in
     let s = and_parts (has_value u m.tree) (has_value v m.tree && true) values in
     let second = (and_parts (has_value v m.tree) true s.1).0 in
@@ -94,7 +94,7 @@ on_constant r m n x q o u v ty c stays ready name ops results there =
       of = sym (ap (λ tys. given (slice_get tys 0) kind_of) results) ∙ k.is;
       width = k.width;
       first = s.0;
-      first_below = value_below m.next m.tree (is_below m.next m.tree ready.formed.below) u s.0;
+      first_below = value_below m.next m.tree (is_below m.next m.tree ready.wellformed.below) u s.0;
       second = second;
       first_is = both.0;
       constant_kind = same;
@@ -104,7 +104,7 @@ on_constant r m n x q o u v ty c stays ready name ops results there =
 -- ---- a new constant, and a new operation on it
 module _ (r : Rule) (m n : Module) (x : ℕ) (q : Ruled r m n x) (name : List ℕ) (o : Arithmetic) (u : Value) (ty : TypeTerm) (k : BitsKind) (bits : ℕ) where
   pub record WithConstant : Type 0 where
-    pub edits : Make q.front (constant ty bits) ∷ give_new q.front (m.next + 1) (head q.here).id (binary name ty u (Result m.next 0)) ≡ q.edits
+    pub edits : Make q.insertion (constant ty bits) ∷ give_new q.insertion (m.next + 1) (head q.here).id (binary name ty u (Result m.next 0)) ≡ q.edits
     pub by : rule_of name ≡ Some (how.Binary o)
     pub of : kind_of ty ≡ Some k
     pub width : is_width (width_of k) ≡ true
@@ -121,7 +121,7 @@ module _ (r : Rule) (m n : Module) (x : ℕ) (q : Ruled r m n x) (name : List �
     made = constant ty bits ∷ binary name ty u (Result m.next 0) ∷ [];
     value_types = k ∷ k ∷ [];
     value = Result (m.next + 1) 0;
-    edits = sym g.edits ∙ ap (λ y. Make q.front (constant ty bits) ∷ give_new q.front (m.next + 1) y (binary name ty u (Result m.next 0))) q.id;
+    edits = sym g.edits ∙ ap (λ y. Make q.insertion (constant ty bits) ∷ give_new q.insertion (m.next + 1) y (binary name ty u (Result m.next 0))) q.id;
     are = (
       constant_made value_types ty bits k g.of g.fits,
       (
@@ -194,15 +194,15 @@ module _ (accepted : AreAccepted) where
     pub name : rule_of (head q.here).name ≡ Some (how.Binary op.Subtract)
     pub number : Known
     pub number_is : known m.tree second ≡ Some number
-    pub edits : Make q.front (constant ty (difference_of (type_width ty) 0 number.1)) ∷ give_new q.front (m.next + 1) (head q.here).id (binary (codes "arith.addi") ty first (Result m.next 0)) ≡ q.edits
+    pub edits : Make q.insertion (constant ty (difference_of (type_width ty) 0 number.1)) ∷ give_new q.insertion (m.next + 1) (head q.here).id (binary (codes "arith.addi") ty first (Result m.next 0)) ≡ q.edits
 
   less_here : (m n : Module) (x : ℕ) (q : Ruled AddNegative m n x) → Less m n x q
   unfolding rule
   less_here m n x q =
       let h = head q.here in
-      let w = two_is h (λ p. when (named (codes "arith.subi") p.name) (given (known m.tree p.second) (λ c. Some (Make q.front (constant p.ty (difference_of (type_width p.ty) 0 c.1)) ∷ give_new q.front (m.next + 1) h.id (binary (codes "arith.addi") p.ty p.first (Result m.next 0)))))) q.edits q.made in
-      let g = when_some (named (codes "arith.subi") h.name) (given (known m.tree w.second) (λ c. Some (Make q.front (constant w.ty (difference_of (type_width w.ty) 0 c.1)) ∷ give_new q.front (m.next + 1) h.id (binary (codes "arith.addi") w.ty w.first (Result m.next 0))))) q.edits w.makes in
-      let k = given_some (known m.tree w.second) (λ c. Some (Make q.front (constant w.ty (difference_of (type_width w.ty) 0 c.1)) ∷ give_new q.front (m.next + 1) h.id (binary (codes "arith.addi") w.ty w.first (Result m.next 0)))) q.edits g.1 in
+      let w = two_is h (λ p. when (named (codes "arith.subi") p.name) (given (known m.tree p.second) (λ c. Some (Make q.insertion (constant p.ty (difference_of (type_width p.ty) 0 c.1)) ∷ give_new q.insertion (m.next + 1) h.id (binary (codes "arith.addi") p.ty p.first (Result m.next 0)))))) q.edits q.made in
+      let g = when_some (named (codes "arith.subi") h.name) (given (known m.tree w.second) (λ c. Some (Make q.insertion (constant w.ty (difference_of (type_width w.ty) 0 c.1)) ∷ give_new q.insertion (m.next + 1) h.id (binary (codes "arith.addi") w.ty w.first (Result m.next 0))))) q.edits w.makes in
+      let k = given_some (known m.tree w.second) (λ c. Some (Make q.insertion (constant w.ty (difference_of (type_width w.ty) 0 c.1)) ∷ give_new q.insertion (m.next + 1) h.id (binary (codes "arith.addi") w.ty w.first (Result m.next 0)))) q.edits g.1 in
       record {
         first = w.first;
         second = w.second;
@@ -239,14 +239,14 @@ module _ (accepted : AreAccepted) where
 
     negative_better : (a : Assignment) (done : ℕ → Bool) (computing : Computing a done m.tree) → done x ≡ true → refines (a (Result x 0)) (pair_out op.Add (a w.first) (Some (k.kind, negative))) ≡ true
     negative_better a done computing d =
-        let s = site_of m a done x q.here ready.formed ready.kinded computing q.found (root_has q ready.formed ready.kinded refl) in
+        let s = site_of m a done x q.here ready.wellformed ready.kinded computing q.found (root_has q ready.wellformed ready.kinded refl) in
         let two = of_two_is m a done x q.here s w.first w.second w.operands in
         pair_refined m a done x q.here s op.Subtract w.first w.second (pair_out op.Add (a w.first) (Some (k.kind, negative))) w.name w.operands d
         (λ z i. elim (paired op.Subtract (a w.first) (a w.second) z (refl, (λ w a b. (difference_of w a b, refl))) i) [
           | inl none ↦ poison_refined z (pair_out op.Add (a w.first) (Some (k.kind, negative))) none
           | inr p ↦
               let kind_is : p.first.0 ≡ k.kind = kind_by m a done x q.here s w.first k.kind p.first k.first_is p.first_is in
-              let constant_is : w.number ≡ p.second = known_is m a done ready.formed ready.kinded computing w.second w.number p.second two.second (two.second_there d) w.number_is p.second_is in
+              let constant_is : w.number ≡ p.second = known_is m a done ready.wellformed ready.kinded computing w.second w.number p.second two.second (two.second_there d) w.number_is p.second_is in
               let value : p.number ≡ sum_of (width_of k.kind) p.first.1 negative =
               same_Some _ _ (sym p.value ∙ (λ i. Some (difference_of (width_of (kind_is i)) p.first.1 p.second.1)))
               ∙ ap (λ (c : Known). difference_of (width_of k.kind) p.first.1 c.1) (sym constant_is)
@@ -258,18 +258,18 @@ module _ (accepted : AreAccepted) where
 
   pub add_negative_ready : KeepsReady AddNegative
   add_negative_ready m n x ready e =
-      let q = ruled accepted AddNegative m n x ready.formed ready.sorted e in
+      let q = ruled accepted AddNegative m n x ready.wellformed ready.sorted e in
       let w = less_here m n x q in
       let k = on_constant AddNegative m n x q op.Subtract w.first w.second w.ty w.number refl ready w.name w.operands w.results w.number_is in
       new_ready AddNegative m n x q (with_constant AddNegative m n x q (codes "arith.addi") op.Add w.first w.ty k.kind (difference_of (type_width w.ty) 0 w.number.1) (negative_new m n x q w ready k)) ready
 
   pub add_negative_computing : KeepsComputing AddNegative
   add_negative_computing m n x a done ready computing e =
-      let q = ruled accepted AddNegative m n x ready.formed ready.sorted e in
+      let q = ruled accepted AddNegative m n x ready.wellformed ready.sorted e in
       let w = less_here m n x q in
       let k = on_constant AddNegative m n x q op.Subtract w.first w.second w.ty w.number refl ready w.name w.operands w.results w.number_is in
       let g = negative_new m n x q w ready k in
-      let s = site_of m a done x q.here ready.formed ready.kinded computing q.found (root_has q ready.formed ready.kinded refl) in
+      let s = site_of m a done x q.here ready.wellformed ready.kinded computing q.found (root_has q ready.wellformed ready.kinded refl) in
       let two = of_two_is m a done x q.here s w.first w.second w.operands in
       new_improves AddNegative m n x q (with_constant AddNegative m n x q (codes "arith.addi") op.Add w.first w.ty k.kind (difference_of (type_width w.ty) 0 w.number.1) g) a done
       (constant_outcomes AddNegative m n x q (codes "arith.addi") op.Add w.first w.ty k.kind (difference_of (type_width w.ty) 0 w.number.1) g a done s (refl, (λ w a b. (sum_of w a b, refl))) refl two.first_there (negative_better m n x q w ready k a done computing))
@@ -296,23 +296,23 @@ module _ (accepted : AreAccepted) where
     pub middle_is : known m.tree inner_second ≡ Some middle
     pub both : Known
     pub both_is : fold_of (head q.here).name [] (Some middle ∷ Some last ∷ []) (ty ∷ []) ≡ Some both
-    pub edits : Make q.front (constant ty both.1) ∷ give_new q.front (m.next + 1) (head q.here).id (binary (head q.here).name ty inner_first (Result m.next 0)) ≡ q.edits
+    pub edits : Make q.insertion (constant ty both.1) ∷ give_new q.insertion (m.next + 1) (head q.here).id (binary (head q.here).name ty inner_first (Result m.next 0)) ≡ q.edits
 
   joined_edits : (m n : Module) (x : ℕ) (q : Ruled RegroupConstants m n x) → TypeTerm → Value → Known → Known → Option (List Edit)
   joined_edits m n x q ty u c d =
-      given (fold_of (head q.here).name [] (Some c ∷ Some d ∷ []) (ty ∷ [])) (λ k. Some (Make q.front (constant ty k.1) ∷ give_new q.front (m.next + 1) (head q.here).id (binary (head q.here).name ty u (Result m.next 0))))
+      given (fold_of (head q.here).name [] (Some c ∷ Some d ∷ []) (ty ∷ [])) (λ k. Some (Make q.insertion (constant ty k.1) ∷ give_new q.insertion (m.next + 1) (head q.here).id (binary (head q.here).name ty u (Result m.next 0))))
 
   joins_here : (m n : Module) (x : ℕ) (q : Ruled RegroupConstants m n x) → Joins m n x q
   unfolding rule joined_edits
   joins_here m n x q =
       let h = head q.here in
-      let w = two_is h (λ p. when (among associative p.name) (given (known m.tree p.second) (λ d. given (source m.tree p.name p.first) (λ y. given (two y) (λ i. given (known m.tree i.second) (λ c. regrouped m.tree m.next q.front q.here p i.first c d)))))) q.edits q.made in
+      let w = two_is h (λ p. when (among associative p.name) (given (known m.tree p.second) (λ d. given (source m.tree p.name p.first) (λ y. given (two y) (λ i. given (known m.tree i.second) (λ c. regrouped m.tree m.next q.insertion q.here p i.first c d)))))) q.edits q.made in
       let g = when_some (among associative h.name) (given (known m.tree w.second) (λ d. given (source m.tree h.name w.first) (λ y. given (two y) (λ i. given (known m.tree i.second) (λ c. joined_edits m n x q w.ty i.first c d))))) q.edits w.makes in
       let d = given_some (known m.tree w.second) (λ d. given (source m.tree h.name w.first) (λ y. given (two y) (λ i. given (known m.tree i.second) (λ c. joined_edits m n x q w.ty i.first c d)))) q.edits g.1 in
       let s = given_some (source m.tree h.name w.first) (λ y. given (two y) (λ i. given (known m.tree i.second) (λ c. joined_edits m n x q w.ty i.first c d.0))) q.edits d.2 in
       let i = two_is s.0 (λ i. given (known m.tree i.second) (λ c. joined_edits m n x q w.ty i.first c d.0)) q.edits s.2 in
       let c = given_some (known m.tree i.second) (λ c. joined_edits m n x q w.ty i.first c d.0) q.edits i.makes in
-      let k = given_some (fold_of h.name [] (Some c.0 ∷ Some d.0 ∷ []) (w.ty ∷ [])) (λ k. Some (Make q.front (constant w.ty k.1) ∷ give_new q.front (m.next + 1) h.id (binary h.name w.ty i.first (Result m.next 0)))) q.edits c.2 in
+      let k = given_some (fold_of h.name [] (Some c.0 ∷ Some d.0 ∷ []) (w.ty ∷ [])) (λ k. Some (Make q.insertion (constant w.ty k.1) ∷ give_new q.insertion (m.next + 1) h.id (binary h.name w.ty i.first (Result m.next 0)))) q.edits c.2 in
       record {
         first = w.first;
         second = w.second;
@@ -360,7 +360,7 @@ module _ (accepted : AreAccepted) where
         let r = known_kinds m.tree (head sole.here) (each_found (λ h. is_kinded m.tree h ≡ true) sole.id m.tree ready.kinded sole.here sole.found).0 (how.Binary w.pair.operation) own_name k.kind (sym sole.kind ∙ kind_test k.kind (kind_in m.tree w.first) k.first_is) in
         let same : r.kind ≡ k.kind = same_Some _ _ (sym r.is ∙ sym sole.kind ∙ kind_test k.kind (kind_in m.tree w.first) k.first_is) in
         let value_types = and_parts (is_kind r.kind (kind_in m.tree w.inner_first)) (is_kind r.kind (kind_in m.tree w.inner_second)) (subst (λ vs. takes (how.Binary w.pair.operation) (head sole.here) r.kind (map (kind_in m.tree) vs) ≡ true) own_operands r.operands) in
-        let stand = operands_stand is_isolated m.tree ready.formed.distinct ready.formed.formed.visible in
+        let stand = operands_stand is_isolated m.tree ready.wellformed.distinct ready.wellformed.wellformed.visible in
         let values = subst (λ vs. list_all (λ v. has_value v m.tree) vs ≡ true) own_operands (each_found (λ h. list_all (λ v. has_value v m.tree) h.operands ≡ true) sole.id m.tree stand sole.here sole.found).0 in
         let s = and_parts (has_value w.inner_first m.tree) (has_value w.inner_second m.tree && true) values in
         let second = (and_parts (has_value w.inner_second m.tree) true s.1).0 in
@@ -394,7 +394,7 @@ module _ (accepted : AreAccepted) where
         of = k.of;
         width = k.width;
         fits = value_fits w.pair.operation k.kind w.middle.1 w.last.1 w.both.1 i.bits k.bits both_value;
-        below = value_below m.next m.tree (is_below m.next m.tree ready.formed.below) w.inner_first i.first;
+        below = value_below m.next m.tree (is_below m.next m.tree ready.wellformed.below) w.inner_first i.first;
         value = i.first;
         is = i.first_is;
       }
@@ -404,10 +404,10 @@ module _ (accepted : AreAccepted) where
         out = pair_out w.pair.operation (a w.inner_first) (Some (k.kind, w.both.1))
 
         site : Site m a done x q.here
-        site = site_of m a done x q.here ready.formed ready.kinded computing q.found (root_has q ready.formed ready.kinded refl)
+        site = site_of m a done x q.here ready.wellformed ready.kinded computing q.found (root_has q ready.wellformed ready.kinded refl)
 
         own : Site m a done sole.id sole.here
-        own = site_of m a done sole.id sole.here ready.formed ready.kinded computing sole.found (λ i. ap is_some (sym sole.kind ∙ kind_test k.kind (kind_in m.tree w.first) k.first_is))
+        own = site_of m a done sole.id sole.here ready.wellformed ready.kinded computing sole.found (λ i. ap is_some (sym sole.kind ∙ kind_test k.kind (kind_in m.tree w.first) k.first_is))
 
         inner_done : done sole.id ≡ true
         inner_done = ap (is_there done) (sym sole.value) ∙ (of_two_is m a done x q.here site w.first w.second w.operands).first_there d
@@ -429,8 +429,8 @@ module _ (accepted : AreAccepted) where
             let inside = of_two_is m a done sole.id sole.here own w.inner_first w.inner_second i.own_operands in
             let kind_is : g.first.0 ≡ k.kind = kind_by m a done x q.here site w.inner_first k.kind g.first i.first_is g.first_is in
             let kind_back = sym kind_is in
-            let last_is : w.last ≡ p.second = known_is m a done ready.formed ready.kinded computing w.second w.last p.second two.second (two.second_there d) w.last_is p.second_is in
-            let middle_is : w.middle ≡ g.second = known_is m a done ready.formed ready.kinded computing w.inner_second w.middle g.second inside.second (inside.second_there inner_done) w.middle_is g.second_is in
+            let last_is : w.last ≡ p.second = known_is m a done ready.wellformed ready.kinded computing w.second w.last p.second two.second (two.second_there d) w.last_is p.second_is in
+            let middle_is : w.middle ≡ g.second = known_is m a done ready.wellformed ready.kinded computing w.inner_second w.middle g.second inside.second (inside.second_there inner_done) w.middle_is g.second_is in
             let first_is : (g.first.0, g.number) ≡ p.first = same_Some _ _ (sym g.gives ∙ p.first_is) in
             let inner_value : value_of w.pair.operation (width_of k.kind) g.first.1 w.middle.1 ≡ Some g.number = (λ j. value_of w.pair.operation (width_of (kind_back j)) g.first.1 (middle_is j).1) ∙ g.value in
             let outer_kind : p.first.0 ≡ k.kind = ap (λ (y : Known). y.0) (sym first_is) ∙ kind_is in
@@ -458,7 +458,7 @@ module _ (accepted : AreAccepted) where
 
   pub regroup_constants_ready : KeepsReady RegroupConstants
   regroup_constants_ready m n x ready e =
-      let q = ruled accepted RegroupConstants m n x ready.formed ready.sorted e in
+      let q = ruled accepted RegroupConstants m n x ready.wellformed ready.sorted e in
       let w = joins_here m n x q in
       let k = on_constant RegroupConstants m n x q w.pair.operation w.first w.second w.ty w.last refl ready w.pair.by w.operands w.results w.last_is in
       let i = inner_kinds m n x q w ready k in
@@ -466,12 +466,12 @@ module _ (accepted : AreAccepted) where
 
   pub regroup_constants_computing : KeepsComputing RegroupConstants
   regroup_constants_computing m n x a done ready computing e =
-      let q = ruled accepted RegroupConstants m n x ready.formed ready.sorted e in
+      let q = ruled accepted RegroupConstants m n x ready.wellformed ready.sorted e in
       let w = joins_here m n x q in
       let k = on_constant RegroupConstants m n x q w.pair.operation w.first w.second w.ty w.last refl ready w.pair.by w.operands w.results w.last_is in
       let i = inner_kinds m n x q w ready k in
       let g = joined_new m n x q w ready k i in
-      let s = site_of m a done x q.here ready.formed ready.kinded computing q.found (root_has q ready.formed ready.kinded refl) in
+      let s = site_of m a done x q.here ready.wellformed ready.kinded computing q.found (root_has q ready.wellformed ready.kinded refl) in
       new_improves RegroupConstants m n x q (with_constant RegroupConstants m n x q (head q.here).name w.pair.operation w.inner_first w.ty k.kind w.both.1 g) a done
       (constant_outcomes RegroupConstants m n x q (head q.here).name w.pair.operation w.inner_first w.ty k.kind w.both.1 g a done s w.pair.total w.pair.sure (inner_there m n x q w ready k i a done computing) (joined_better m n x q w ready k i a done computing))
       ready refl (regroup_constants_ready m n x ready e).kinded computing

@@ -11,7 +11,7 @@ pub mod Olds
 pub mod News
 pub mod Going
 pub mod Edited
-pub mod Formed
+pub mod Wellformed
 pub mod Rewritten
 pub mod Applying
 pub mod Monotone
@@ -76,7 +76,7 @@ pub mod OutcomesKept
 pub mod MatchedTypes
 pub mod StrictKinded
 pub mod StrictLaws
-pub mod MixedRunning
+pub mod RuleListRunning
 pub mod ByForm
 pub mod NarrowTypes
 pub mod MatchedKinds
@@ -87,6 +87,9 @@ pub mod StrictSampled
 pub mod PassingSampled
 pub mod UnitedSampled
 pub mod OutcomesSampled
+pub mod TrueNotes
+pub mod PlainLists
+pub mod AnswersKept
 pub mod Told
 pub mod RefiningSampled
 pub mod RunsRefined

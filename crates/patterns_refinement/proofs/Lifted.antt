@@ -102,8 +102,8 @@ module _ (a c : Assignment) (n x : ℕ) (v : Value) (done later : ℕ → Bool) 
   abbrev Both : Header → Type 0
   Both h = FitsDone a done h × IsSure a done h
 
-  abbrev Stood : Header → Type 0
-  Stood h = (h.id < n) × (list_all (λ v. has_value v t) h.operands ≡ true)
+  abbrev Located : Header → Type 0
+  Located h = (h.id < n) × (list_all (λ v. has_value v t) h.operands ≡ true)
 
   -- the operation still fits, and has refined operands
   abbrev ReadyFor : Header → Type 0
@@ -112,11 +112,11 @@ module _ (a c : Assignment) (n x : ℕ) (v : Value) (done later : ℕ → Bool) 
   -- an old operation that fits still does
   pub old_ready : ((y : ℕ) → y < n → later y ≡ true → done y ≡ true) → FitsAll a done t → AllSure a done t → Each (IsReady c later) t
   old_ready was fits sure =
-      each_both Both Stood (IsReady c later) one t
+      each_both Both Located (IsReady c later) one t
       (each_both (FitsDone a done) (IsSure a done) Both (λ h p q. (p, q)) t fits sure)
-      (each_both (λ h. h.id < n) (λ h. list_all (λ v. has_value v t) h.operands ≡ true) Stood (λ h p q. (p, q)) t below operands)
+      (each_both (λ h. h.id < n) (λ h. list_all (λ v. has_value v t) h.operands ≡ true) Located (λ h p q. (p, q)) t below operands)
     where
-      one : (h : Header) → Both h → Stood h → IsReady c later h
+      one : (h : Header) → Both h → Located h → IsReady c later h
       one h p q i j =
           let is = was h.id q.0 i in
           let same = operands_same a c n x v done agree t below h.operands q.1 in
@@ -128,9 +128,9 @@ module _ (a c : Assignment) (n x : ℕ) (v : Value) (done later : ℕ → Bool) 
             ap (may_overflow h) same ∙ p.1 is j,
           )
 
-  module _ (front : Place) (made : List Operation) (bare : AllBare made) (distinct : HasDistinctIds (rewritten front n made x v t)) (kinded : AreKinded (rewritten front n made x v t)) where
+  module _ (insertion : Place) (made : List Operation) (bare : AllBare made) (distinct : HasDistinctIds (rewritten insertion n made x v t)) (kinded : AreKinded (rewritten insertion n made x v t)) where
     abbrev after : Operation
-    after = rewritten front n made x v t
+    after = rewritten insertion n made x v t
 
     -- the earlier form of an operation
     record Came (h : Header) : Type 0 where
@@ -141,7 +141,7 @@ module _ (a c : Assignment) (n x : ℕ) (v : Value) (done later : ℕ → Bool) 
 
     pub lifted : AreOfTypes a t → TypedEach c n made → Each (IsReady c later) t → AllPut (IsReady c later) n made
         → Each (IsBetterWith c later (map (put_value (Result x 0) v))) t → AllPut (IsBetterWith c later (map (put_value (Result x 0) v))) n made
-        → Settled c later (rewritten front n made x v t)
+        → Settled c later (rewritten insertion n made x v t)
     lifted typed new ready new_ready better new_better =
         settles c later after distinct kinded types
         (each_both Came (λ h. is_kinded after h ≡ true) (IsSure c later) sure after came kinded)
@@ -151,20 +151,20 @@ module _ (a c : Assignment) (n x : ℕ) (v : Value) (done later : ℕ → Bool) 
         both_put m [] p q = tt
         both_put m (o ∷ os) p q = ((p.0, q.0), both_put (m + 1) os p.1 q.1)
 
-        came : Each Came (rewritten front n made x v t)
+        came : Each Came (rewritten insertion n made x v t)
         came =
-            each_without Came x (with_value_replaced (Result x 0) v (with_made front n made t))
-            (each_changed ReadyFor Came (put_values (Result x 0) v) (λ h p. record { here = h; is = refl; ready = p.0; better = p.1 }) (with_made front n made t)
-            (all_put ReadyFor front n made t (both_put n made new_ready new_better) bare (each_both (IsReady c later) (IsBetterWith c later (map (put_value (Result x 0) v))) ReadyFor (λ h p q. (p, q)) t ready better)))
+            each_without Came x (with_value_replaced (Result x 0) v (with_made insertion n made t))
+            (each_changed ReadyFor Came (put_values (Result x 0) v) (λ h p. record { here = h; is = refl; ready = p.0; better = p.1 }) (with_made insertion n made t)
+            (all_put ReadyFor insertion n made t (both_put n made new_ready new_better) bare (each_both (IsReady c later) (IsBetterWith c later (map (put_value (Result x 0) v))) ReadyFor (λ h p q. (p, q)) t ready better)))
 
-        types : AreOfTypes c (rewritten front n made x v t)
+        types : AreOfTypes c (rewritten insertion n made x v t)
         types =
             let old = old_typed a c n x v done agree t below typed in (
-              given_each a c n x v done (ResultsOfTypes c) (λ h p. p) (with_made front n made t) (all_put (ResultsOfTypes c) front n made t (new_typed c n made new) bare old.0),
-              given_blocks a c n x v done (ArgumentsOfTypes c) (with_made front n made t) (all_blocks (ArgumentsOfTypes c) front n made t bare old.1),
+              given_each a c n x v done (ResultsOfTypes c) (λ h p. p) (with_made insertion n made t) (all_put (ResultsOfTypes c) insertion n made t (new_typed c n made new) bare old.0),
+              given_blocks a c n x v done (ArgumentsOfTypes c) (with_made insertion n made t) (all_blocks (ArgumentsOfTypes c) insertion n made t bare old.1),
             )
 
-        found : TypesFound c (rewritten front n made x v t)
+        found : TypesFound c (rewritten insertion n made x v t)
         found = types_found c after types
 
         gives : (h : Header) → Came h → is_kinded after h ≡ true → GivesLess c later h

@@ -12,7 +12,7 @@ use Rattle.dialects_int.specs.declared.operations.Cast.{Cast}
 use Rattle.dialects_int.specs.declared.operations.Predicate.{Predicate}
 use Rattle.dialects_int.specs.declared.operations.Rule.{Rule}
 use Rattle.dialects_int.specs.declared.operations.Rule.TheVariants as rule
-use Rattle.dialects_int.specs.Folds.{Known, asked, fold_of, property_of, rule_of, same_kind}
+use Rattle.dialects_int.specs.Folds.{Known, requested, fold_of, property_of, rule_of, same_kind}
 use Rattle.user_patterns_check.specs.Outcomes.{Outcome, compare_outcome, given, resize_outcome}
 use Rattle.user_patterns_check.proofs.Keeping.{same_kinds}
 use Rattle.patterns_laws.proofs.KnownFolds.{given_some}
@@ -76,7 +76,7 @@ module _ (h : Header) (k : BitsKind) where
   by_compare (i ∷ []) ys x t of b m = absurd (true≢false (sym t))
   by_compare (i ∷ j ∷ l ∷ js) ys x t of b m = absurd (true≢false (sym t))
   by_compare (i ∷ j ∷ []) ys x t of b m =
-      let a = given_some (asked (property_of (codes "predicate") h.properties)) (λ p. of_two (compare_outcome p) ys) x m in
+      let a = given_some (requested (property_of (codes "predicate") h.properties)) (λ p. of_two (compare_outcome p) ys) x m in
       go a.0 ys a.2
     where
       go : (p : Predicate) (ys : List Outcome) → of_two (compare_outcome p) ys ≡ Some x → IsMadeOf k x

@@ -180,7 +180,7 @@ pub record GivesNew (r : Rule) (m n : Module) (x : ℕ) (q : Ruled r m n x) : Ty
   pub made : List Operation
   pub value_types : List BitsKind
   pub value : Value
-  pub edits : q.edits ≡ map (λ o. Make q.front o) made ++ give x value
+  pub edits : q.edits ≡ map (λ o. Make q.insertion o) made ++ give x value
   pub are : AllMade (with_all (kind_in m.tree) m.next None (map (λ k. Some k) value_types)) made value_types
 
 -- the outcomes of the new operations
@@ -199,7 +199,7 @@ module _ (r : Rule) (m n : Module) (x : ℕ) (q : Ruled r m n x) (g : GivesNew r
 
   pub new_ready : IsReady m → IsReady n
   new_ready ready =
-      stays_ready m n x q.front g.made g.value ready (subst (λ es. Free es m) g.edits q.free) (subst (λ es. all_edited es m ≡ n) g.edits q.module_is)
+      stays_ready m n x q.insertion g.made g.value ready (subst (λ es. Free es m) g.edits q.free) (subst (λ es. all_edited es m ≡ n) g.edits q.module_is)
       value_types (λ w l. all_agree (kind_in m.tree) m.next None (map (λ k. Some k) g.value_types) w l) (all_bare value_types g.made g.value_types g.are)
       (record { results = all_results value_types m.next g.made g.value_types g.are at; take = all_take value_types m.next g.made g.value_types g.are }) (all_risen value_types m.next g.made g.value_types g.are)
 
@@ -225,5 +225,5 @@ module _ (r : Rule) (m n : Module) (x : ℕ) (q : Ruled r m n x) (g : GivesNew r
 
     pub new_improves : IsReady m → is_numeric r ≡ true → AreKinded n.tree → Computing a done m.tree → Improves a done m (done_after m.next x done) n.tree
     new_improves ready numeric kinded computing =
-        given_improves m n x a done q.front g.made g.value ready.formed q.within (computed_root r m n x q (root_has q ready.formed ready.kinded (numeric_stays r numeric)) (q.numeric numeric)) computing kinded making
+        given_improves m n x a done q.insertion g.made g.value ready.wellformed q.within (computed_root r m n x q (root_has q ready.wellformed ready.kinded (numeric_stays r numeric)) (q.numeric numeric)) computing kinded making
         (subst (λ es. Free es m) g.edits q.free) (subst (λ es. all_edited es m ≡ n) g.edits q.module_is)

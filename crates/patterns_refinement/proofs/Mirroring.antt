@@ -23,13 +23,13 @@ use Rattle.ir_tree_laws.specs.Values.{has_value}
 use Rattle.ir_tree_laws.proofs.HeadForm.{entry_keeps}
 use Rattle.ir_tree_laws.proofs.Keys.{keys_ordered}
 use Rattle.ir_event.specs.Modules.{Module}
-use Rattle.op_registry.specs.Registry.{beside}
+use Rattle.op_registry.specs.Registry.{next_to}
 use Rattle.dialects_int.specs.declared.operations.Predicate.{Predicate}
 use Rattle.dialects_int.specs.declared.operations.Predicate.TheVariants as asks
 use Rattle.dialects_int.specs.declared.operations.Rule.TheVariants as how
 use Rattle.dialects_int.specs.Arithmetic.{comparison_of, truth}
 use Rattle.dialects_int.specs.Laws as law
-use Rattle.dialects_int.specs.Folds.{Known, asked, predicates, property_of, rule_of, same_kind}
+use Rattle.dialects_int.specs.Folds.{Known, requested, predicates, property_of, rule_of, same_kind}
 use Rattle.dialects_int.proofs.CastLaws.{mirror}
 use Rattle.dialects_int.proofs.KnownOperands.{same_itself}
 use Rattle.rewriter_machine.specs.Contents.{all_edited, edited, tests}
@@ -52,16 +52,16 @@ use Rattle.patterns_refinement.specs.Meaning.{Assignment, makes, of_two, result_
 use Rattle.patterns_refinement.specs.Better.{GivesNoLess, compares, is_kind, is_kinded, is_poison_by_ones, is_signed_quotient, kind_in, takes, takes_its}
 use Rattle.patterns_refinement.specs.Keeping.{Computing, IsReady, KeepsComputing, KeepsReady, is_there}
 use Rattle.patterns_refinement.proofs.Dropping.{kind_by, of_two_is}
-use Rattle.patterns_refinement.proofs.EditsForm.{all_formed}
+use Rattle.patterns_refinement.proofs.EditsForm.{all_wellformed}
 use Rattle.patterns_refinement.proofs.Extremes.{compare_is, compare_out}
-use Rattle.patterns_refinement.proofs.Formed.{operands_stand}
+use Rattle.patterns_refinement.proofs.Wellformed.{operands_stand}
 use Rattle.patterns_refinement.proofs.Forms.{makes_is, named_is}
 use Rattle.patterns_refinement.proofs.Monotone.{same_refined}
 use Rattle.patterns_refinement.proofs.Readied.{Rises, Takes, each_rises}
 use Rattle.patterns_refinement.proofs.Ruled.{Ruled, Site, gives_refined, of_rule, rule_kinds, ruled, site_of, root_has}
 use Rattle.patterns_refinement.proofs.Sources.{kind_test}
 use Rattle.patterns_refinement.proofs.Trees.{each_found, found_fit}
-use Rattle.patterns_refinement.proofs.TruthRules.{asked_number, by_compare}
+use Rattle.patterns_refinement.proofs.TruthRules.{requested_number, by_compare}
 use Rattle.patterns_refinement.proofs.Turning.{Turns, TurnsWell, turned_improves, turned_ready}
 
 -- ---- predicates by their numbers
@@ -121,17 +121,17 @@ put_rises k b (e ∷ es) r = go (key_before k e.0) refl (key_before e.0 k) refl
     go false i true h = put_after e.0 k b es h r
     go false i false h = subst (λ z. rises_after key_before z es ≡ true) (sym (keys_ordered.exact k e.0 i h)) r
 
-put_there : (b : AttrTerm) (es : Entries) → beside (codes "predicate") (put_entry key_before (codes "predicate") b es) ≡ Some b
+put_there : (b : AttrTerm) (es : Entries) → next_to (codes "predicate") (put_entry key_before (codes "predicate") b es) ≡ Some b
 put_there b [] = refl
 put_there b (e ∷ es) = go (key_before (codes "predicate") e.0) (key_before e.0 (codes "predicate")) refl (put_there b es)
   where
-    other : key_before e.0 (codes "predicate") ≡ true → (c : Bool) → bytes_eq (codes "predicate") e.0 ≡ c → beside (codes "predicate") (put_entry key_before (codes "predicate") b es) ≡ Some b
-        → (if c then Some e.1 else beside (codes "predicate") (put_entry key_before (codes "predicate") b es)) ≡ Some b
+    other : key_before e.0 (codes "predicate") ≡ true → (c : Bool) → bytes_eq (codes "predicate") e.0 ≡ c → next_to (codes "predicate") (put_entry key_before (codes "predicate") b es) ≡ Some b
+        → (if c then Some e.1 else next_to (codes "predicate") (put_entry key_before (codes "predicate") b es)) ≡ Some b
     other h false i more = more
     other h true i more = absurd (true≢false (sym h ∙ ap (λ z. key_before z (codes "predicate")) (sym ((bytes_eq-Decides (codes "predicate") e.0).0 i)) ∙ keys_ordered.irr (codes "predicate")))
 
-    go : (c d : Bool) → key_before e.0 (codes "predicate") ≡ d → beside (codes "predicate") (put_entry key_before (codes "predicate") b es) ≡ Some b
-        → beside (codes "predicate") (if c then (codes "predicate", b) ∷ e ∷ es else (if d then e ∷ put_entry key_before (codes "predicate") b es else (codes "predicate", b) ∷ es)) ≡ Some b
+    go : (c d : Bool) → key_before e.0 (codes "predicate") ≡ d → next_to (codes "predicate") (put_entry key_before (codes "predicate") b es) ≡ Some b
+        → next_to (codes "predicate") (if c then (codes "predicate", b) ∷ e ∷ es else (if d then e ∷ put_entry key_before (codes "predicate") b es else (codes "predicate", b) ∷ es)) ≡ Some b
     go true d h more = refl
     go false true h more = other h (bytes_eq (codes "predicate") e.0) refl more
     go false false h more = refl
@@ -151,7 +151,7 @@ module _ (accepted : AreAccepted) where
     pub name_is : (head q.here).name ≡ codes "arith.cmpi"
     pub name : rule_of (head q.here).name ≡ Some how.Compare
     pub number : ℕ
-    pub asked_for : predicate (head q.here) ≡ Some number
+    pub requested_for : predicate (head q.here) ≡ Some number
     pub edits : q.edits ≡ SetAttr x (codes "predicate") (IntegerOf i64 (swapped_predicate number)) ∷ SetOperand x 0 second ∷ SetOperand x 1 first ∷ []
 
   mirrors_here : (m n : Module) (x : ℕ) (q : Ruled MirrorComparison m n x) → Mirrors m n x q
@@ -170,7 +170,7 @@ module _ (accepted : AreAccepted) where
         name_is = named_so;
         name = ap rule_of named_so ∙ by_compare;
         number = k.0;
-        asked_for = k.1;
+        requested_for = k.1;
         edits = sym (same_Some _ _ l.1) ∙ ap (λ y. SetAttr y (codes "predicate") (IntegerOf i64 (swapped_predicate k.0)) ∷ SetOperand y 0 w.second ∷ SetOperand y 1 w.first ∷ []) q.id;
       }
 
@@ -194,7 +194,7 @@ module _ (accepted : AreAccepted) where
         let es = SetAttr x (codes "predicate") attr ∷ SetOperand x 0 w.second ∷ SetOperand x 1 w.first ∷ [] in
         let after : all_edited es m ≡ n = subst (λ es. all_edited es m ≡ n) w.edits q.module_is in
         let free = subst (λ es. Free es m) w.edits q.free in
-        let kept = entry_keeps is_isolated key_before keys_ordered.trans x (part_for tests x (codes "predicate") m.tree) (codes "predicate") (Some attr) m ready.formed ready.sorted free.0 in
+        let kept = entry_keeps is_isolated key_before keys_ordered.trans x (part_for tests x (codes "predicate") m.tree) (codes "predicate") (Some attr) m ready.wellformed ready.sorted free.0 in
         let f : Header → Header = change_part Props (change_entry key_before (codes "predicate") (Some attr)) in
         record {
           found = q.found;
@@ -214,7 +214,7 @@ module _ (accepted : AreAccepted) where
           tree =
               ap (λ part. with_operand x 1 w.first (with_operand x 0 w.second (with_entry key_before x part (codes "predicate") (Some attr) m.tree))) (sym part_is)
               ∙ ap (λ (m : Module). m.tree) after;
-          formed = subst (IsWellFormed is_isolated) after (all_formed (SetOperand x 0 w.second ∷ SetOperand x 1 w.first ∷ []) (edited (SetAttr x (codes "predicate") attr) m) (tt, (tt, tt)) kept free.1);
+          wellformed = subst (IsWellFormed is_isolated) after (all_wellformed (SetOperand x 0 w.second ∷ SetOperand x 1 w.first ∷ []) (edited (SetAttr x (codes "predicate") attr) m) (tt, (tt, tt)) kept free.1);
         }
 
     record MirrorKinds : Type 0 where
@@ -234,9 +234,9 @@ module _ (accepted : AreAccepted) where
 
     mirror_kinds : MirrorKinds
     mirror_kinds =
-        let k = rule_kinds m.tree (head q.here) (each_found (λ h. is_kinded m.tree h ≡ true) x m.tree ready.kinded q.here q.found).0 (root_has q ready.formed ready.kinded refl) how.Compare w.name in
+        let k = rule_kinds m.tree (head q.here) (each_found (λ h. is_kinded m.tree h ≡ true) x m.tree ready.kinded q.here q.found).0 (root_has q ready.wellformed ready.kinded refl) how.Compare w.name in
         let p = compares_parts k.kind (kind_in m.tree w.first) (kind_in m.tree w.second) (subst (λ vs. takes how.Compare (head q.here) k.kind (map (kind_in m.tree) vs) ≡ true) w.operands k.operands) in
-        let stand = operands_stand is_isolated m.tree ready.formed.distinct ready.formed.formed.visible in
+        let stand = operands_stand is_isolated m.tree ready.wellformed.distinct ready.wellformed.wellformed.visible in
         let values = subst (λ vs. list_all (λ v. has_value v m.tree) vs ≡ true) w.operands (each_found (λ h. list_all (λ v. has_value v m.tree) h.operands ≡ true) x m.tree stand q.here q.found).0 in
         let f = and_parts (has_value w.first m.tree) (has_value w.second m.tree && true) values in
         record { own_kind = k.kind; is = k.is; width = k.width; between = p.0; first_is = p.1; second_is = p.2; truths = p.3; first = f.0; second = (and_parts (has_value w.second m.tree) true f.1).0 }
@@ -257,7 +257,7 @@ module _ (accepted : AreAccepted) where
 
       module _ (a : Assignment) (done : ℕ → Bool) (computing : Computing a done m.tree) where
         site : Site m a done x q.here
-        site = site_of m a done x q.here ready.formed ready.kinded computing q.found (root_has q ready.formed ready.kinded refl)
+        site = site_of m a done x q.here ready.wellformed ready.kinded computing q.found (root_has q ready.wellformed ready.kinded refl)
 
         first_of : (y : Known) → a w.first ≡ Some y → y.0 ≡ k.between
         first_of y e = kind_by m a done x q.here site w.first k.between y (ap (is_kind k.between) k.first_is ∙ same_itself k.between) e
@@ -267,7 +267,7 @@ module _ (accepted : AreAccepted) where
 
         -- the comparison's predicate, if it is executed
         asks_one : done x ≡ true → (p : Predicate) × (slice_get predicates w.number ≡ Some p)
-        asks_one d = from_made (asked (property_of (codes "predicate") (head q.here).properties)) refl (found_makes d)
+        asks_one d = from_made (requested (property_of (codes "predicate") (head q.here).properties)) refl (found_makes d)
           where
             found_makes : done x ≡ true → is_some (makes (head q.here) (map a (head q.here).operands)) ≡ true
             found_makes d = elim (found_fit a done m.tree computing.fits x q.here q.found d (of_rule m a done x q.here site how.Compare w.name).arithmetic) [
@@ -275,17 +275,17 @@ module _ (accepted : AreAccepted) where
               | inr b ↦ b.1
             ]
 
-            from_made : (o : Option Predicate) → asked (property_of (codes "predicate") (head q.here).properties) ≡ o → is_some (makes (head q.here) (map a (head q.here).operands)) ≡ true → (p : Predicate) × (slice_get predicates w.number ≡ Some p)
+            from_made : (o : Option Predicate) → requested (property_of (codes "predicate") (head q.here).properties) ≡ o → is_some (makes (head q.here) (map a (head q.here).operands)) ≡ true → (p : Predicate) × (slice_get predicates w.number ≡ Some p)
             from_made None i e =
                 absurd (true≢false (sym e
                 ∙ ap is_some (makes_is (head q.here) (map a (head q.here).operands) how.Compare k.own_kind w.name k.is ∙ ap (λ o. given o (λ p. of_two (compare_outcome p) (map a (head q.here).operands))) i)))
-            from_made (Some p) i e = (p, asked_number (property_of (codes "predicate") (head q.here).properties) w.number p w.asked_for i)
+            from_made (Some p) i e = (p, requested_number (property_of (codes "predicate") (head q.here).properties) w.number p w.requested_for i)
 
         mirror_gives : done x ≡ true → GivesNoLess (record (head q.here) { operands = w.second ∷ w.first ∷ []; properties = put_entry key_before (codes "predicate") (IntegerOf i64 (swapped_predicate w.number)) (head q.here).properties }) (a (Result x 0)) (a w.second ∷ a w.first ∷ [])
         mirror_gives d =
             let p = asks_one d in
             let r = of_rule m a done x q.here site how.Compare w.name in
-            let asks_so : asked (property_of (codes "predicate") put) ≡ Some (law.mirrored p.0) = ap asked (predicate_put (swapped_predicate w.number) (head q.here).properties) ∙ mirrored_number w.number p.0 p.1 in
+            let asks_so : requested (property_of (codes "predicate") put) ≡ Some (law.mirrored p.0) = ap requested (predicate_put (swapped_predicate w.number) (head q.here).properties) ∙ mirrored_number w.number p.0 p.1 in
             record {
               outcome = compare_out (law.mirrored p.0) (a w.second) (a w.first);
               is_made =
@@ -295,8 +295,8 @@ module _ (accepted : AreAccepted) where
               better =
                   gives_refined m a done x q.here site how.Compare (compare_out (law.mirrored p.0) (a w.second) (a w.first)) w.name r d
                   (λ z i.
-                  let g = given_some (asked (property_of (codes "predicate") (head q.here).properties)) (λ p. of_two (compare_outcome p) (map a (head q.here).operands)) z i in
-                  let same : g.0 ≡ p.0 = same_Some _ _ (sym (asked_number (property_of (codes "predicate") (head q.here).properties) w.number g.0 w.asked_for g.1) ∙ p.1) in
+                  let g = given_some (requested (property_of (codes "predicate") (head q.here).properties)) (λ p. of_two (compare_outcome p) (map a (head q.here).operands)) z i in
+                  let same : g.0 ≡ p.0 = same_Some _ _ (sym (requested_number (property_of (codes "predicate") (head q.here).properties) w.number g.0 w.requested_for g.1) ∙ p.1) in
                   turned p.0 k.between (a w.first) (a w.second) z first_of second_of
                   (subst (λ p. compare_outcome p (a w.first) (a w.second) ≡ Some z) same (subst (λ vs. of_two (compare_outcome g.0) (map a vs) ≡ Some z) w.operands g.2)));
             }
@@ -317,14 +317,14 @@ module _ (accepted : AreAccepted) where
   pub mirror_comparison_ready : KeepsReady MirrorComparison
   unfolding mirror_turns
   mirror_comparison_ready m n x ready e =
-      let q = ruled accepted MirrorComparison m n x ready.formed ready.sorted e in
+      let q = ruled accepted MirrorComparison m n x ready.wellformed ready.sorted e in
       let w = mirrors_here m n x q in
       let k = mirror_kinds m n x q w ready in
       turned_ready m n x q.here (mirror_turns m n x q w ready) ready (mirror_rises m n x q w ready k) (mirror_takes m n x q w ready k)
 
   pub mirror_comparison_computing : KeepsComputing MirrorComparison
   mirror_comparison_computing m n x a done ready computing e =
-      let q = ruled accepted MirrorComparison m n x ready.formed ready.sorted e in
+      let q = ruled accepted MirrorComparison m n x ready.wellformed ready.sorted e in
       let w = mirrors_here m n x q in
       let k = mirror_kinds m n x q w ready in
       turned_improves m n x q.here (mirror_turns m n x q w ready) ready a done computing (mirror_well m n x q w ready k a done computing) (mirror_comparison_ready m n x ready e).kinded

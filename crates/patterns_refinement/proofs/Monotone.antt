@@ -16,7 +16,7 @@ use Rattle.dialects_int.specs.declared.operations.Predicate.{Predicate}
 use Rattle.dialects_int.specs.declared.operations.Rule.{Rule}
 use Rattle.dialects_int.specs.declared.operations.Rule.TheVariants as rule
 use Rattle.dialects_int.specs.Arithmetic.{all_ones, cast_of, choice_of, comparison_of, least, quotient_of, remainder_of, signed_quotient_of, truncated, truth, value_of}
-use Rattle.dialects_int.specs.Folds.{Known, asked, property_of, rule_of, same_kind}
+use Rattle.dialects_int.specs.Folds.{Known, requested, property_of, rule_of, same_kind}
 use Rattle.dialects_int.proofs.KnownOperands.{same_itself}
 use Rattle.user_patterns_check.specs.Outcomes.{Outcome, compare_outcome, divides, given, is_signed_remainder, is_some_number, checked, known_pair, no_value, pair_outcome, resize_any, resize_outcome, select_outcome}
 use Rattle.user_patterns_check.specs.Checks.{refines}
@@ -308,7 +308,7 @@ module _ (h : Header) (k : BitsKind) where
   by_compare (i ∷ []) xs ys x t of s b m = absurd (true≢false (sym t))
   by_compare (i ∷ j ∷ l ∷ js) xs ys x t of s b m = absurd (true≢false (sym t))
   by_compare (i ∷ j ∷ []) xs ys x t of s b m =
-      let a = given_some (asked (property_of (codes "predicate") h.properties)) (λ p. of_two (compare_outcome p) xs) x m in
+      let a = given_some (requested (property_of (codes "predicate") h.properties)) (λ p. of_two (compare_outcome p) xs) x m in
       subst (λ o. Gives x (given o (λ p. of_two (compare_outcome p) ys))) (sym a.1) (go a.0 xs ys of b a.2)
     where
       go : (p : Predicate) (xs ys : List Outcome) → AreOf (i ∷ j ∷ []) ys → AllBetter xs ys → of_two (compare_outcome p) xs ≡ Some x → Gives x (of_two (compare_outcome p) ys)

@@ -34,7 +34,7 @@ use Rattle.user_patterns_data.specs.declared.pattern.PatternOp.{PatternOp}
 use Rattle.user_patterns_data.specs.Fitting.{content_with, kind_at, kind_with, kinds_with}
 use Rattle.user_patterns_data.specs.Planning.{kind_standing, old_place, planned}
 use Rattle.user_patterns_data.specs.Shapes.{PatternModel}
-use Rattle.user_patterns_data.specs.WellFormed.{front_stands, kind_stands, sides_stand}
+use Rattle.user_patterns_data.specs.WellFormed.{preceding_stands, kind_stands, sides_stand}
 use Rattle.user_patterns_build.specs.CanBuild.{new_type}
 use Rattle.user_patterns_build.specs.Unified.{first_same}
 use Rattle.user_patterns_build.specs.Unified as united
@@ -43,12 +43,12 @@ use Rattle.greedy.specs.PatternSet.{RuleOrPatternModel, OfOwn, OfRule, attempted
 use Rattle.patterns_refinement.specs.Better.{kind_in}
 use Rattle.patterns_refinement.specs.Keeping.{IsReady}
 use Rattle.patterns_refinement.specs.Runs.{KeptAreKept, kept_rules}
-use Rattle.patterns_refinement.specs.Passing.{KeptAt, is_kinded_at, new_is_defined, piece_passes}
+use Rattle.patterns_refinement.specs.Passing.{KeptAt, is_kinded_at, new_is_defined, pattern_op_passes}
 use Rattle.patterns_refinement.specs.Narrow.{HoldsNarrow, IsNarrow, IsNarrowly, NarrowKeep, NarrowRewritingKeeps, is_visited, is_narrow, is_settled, is_settled_as}
 use Rattle.patterns_refinement.specs.UsedTypes.{new_uses}
 use Rattle.patterns_refinement.proofs.Forms.{kind_is}
 use Rattle.patterns_refinement.proofs.Going.{typed_at, typed_parts}
-use Rattle.patterns_refinement.proofs.MixedRunning.{led}
+use Rattle.patterns_refinement.proofs.RuleListRunning.{led}
 use Rattle.patterns_refinement.proofs.Running.{own_of, runs_under}
 use Rattle.patterns_refinement.proofs.Standing.{IsTyped, stands_standing}
 use Rattle.patterns_refinement.proofs.PassingMatched.{Here}
@@ -139,7 +139,7 @@ module _ (most : ℕ) (p : PatternModel) (m : Module) (x : ℕ) (h : HoldsNarrow
 
   variable_within : (t v : ℕ) → t < length p.value_types → united.kind_in p.value_types t ≡ sort.Variable v → v < p.types
   variable_within t v l e =
-      let a = and_parts (front_stands p) (sides_stand p) h.proper.formed in
+      let a = and_parts (preceding_stands p) (sides_stand p) h.proper.wellformed in
       let b = and_parts (list_all (kind_stands p) p.value_types) _ a.0 in
       ltb-true v p.types (all_at (kind_stands p) p.value_types t (sort.Variable v) b.0 (slice_get-get_or p.value_types t (sort.Concrete kind.Index) l ∙ ap (λ z. Some z) e))
 
@@ -185,7 +185,7 @@ module _ (most : ℕ) (p : PatternModel) (m : Module) (x : ℕ) (h : HoldsNarrow
 -- ---- the laws
 pub narrow_keep : OwnAreAccepted → NarrowKeep
 narrow_keep accepted most p m n x h ready narrow e =
-    let t = and_parts (list_all piece_passes p.old) (list_all new_is_defined p.new) h.passing in
+    let t = and_parts (list_all pattern_op_passes p.old) (list_all new_is_defined p.new) h.passing in
     let s = site_of accepted p h.proper m n x ready e in
     let r = s.applied in
     let kinded = kinded_here most p m x h ready narrow r.made r.value r.plan s.here in

@@ -30,7 +30,7 @@ use Rattle.patterns_refinement.specs.Keeping.{IsReady}
 use Rattle.patterns_refinement.specs.Runs.{kept_rules}
 use Rattle.patterns_refinement.specs.Narrow.{HaveKinds, NarrowRulesKeep, is_narrow}
 use Rattle.patterns_refinement.proofs.Edited.{blocks_below, blocks_changed, blocks_without, each_both, each_changed, each_without}
-use Rattle.patterns_refinement.proofs.Formed.{is_below}
+use Rattle.patterns_refinement.proofs.Wellformed.{is_below}
 use Rattle.patterns_refinement.proofs.PlainRules.{AllPlain, IsFine, IsTypedBy, MakesPlain, fine_add_negative, fine_cancel_itself, fine_choose_known, fine_choose_opposite, fine_choose_same, fine_choose_truth, fine_compare_itself, fine_compare_zero, fine_cut_cast, fine_drop_all_ones, fine_drop_one, fine_drop_zero, fine_erase_dead, fine_expand_difference, fine_expand_min_max, fine_extend_extension, fine_fold_to_constant, fine_keep_itself, fine_mirror_comparison, fine_regroup_constants, fine_swap_constant, fine_zero_remainder}
 use Rattle.patterns_refinement.proofs.Readied.{HasKind, kinds_are}
 use Rattle.patterns_refinement.proofs.Rewritten.{all_blocks, all_put}
@@ -65,8 +65,8 @@ module _ (good : BitsKind → Bool) where
 
   pub small_of : (m : Module) → IsReady m → HaveKinds good m → AreSmall m.tree
   small_of m ready narrow =
-      let old = kinds_are m.tree ready.formed.distinct in
-      let below = is_below m.next m.tree ready.formed.below in
+      let old = kinds_are m.tree ready.wellformed.distinct in
+      let below = is_below m.next m.tree ready.wellformed.below in
       record {
         results = each_both (ResultsAre (HasKind (kind_in m.tree))) (λ h. h.id < m.next) SmallHead (λ h p l k ty e j i. narrow (Result h.id k) j (p k ty e ∙ i)) m.tree old.results below;
         arguments = blocks_below (ArgumentsAre (HasKind (kind_in m.tree))) SmallBlock m.next (λ y r args l p k ty e j i. narrow (Arg y r k) j (p k ty e ∙ i)) m.tree below old.arguments;
@@ -133,10 +133,10 @@ module _ (good : BitsKind → Bool) where
   -- ---- rules
   pub fine_narrow : AreAccepted → good (kind.Int 1) ≡ true → (r : Rule) → IsFine r → (m n : Module) (x : ℕ) → IsReady m → HaveKinds good m → rewrite_of r m x ≡ becomes n → HaveKinds good n
   fine_narrow accepted l r fine m n x ready narrow e =
-      let q = ruled accepted r m n x ready.formed ready.sorted e in
+      let q = ruled accepted r m n x ready.wellformed ready.sorted e in
       let s = small_of m ready narrow in
       let root = (each_found SmallHead x m.tree s.results q.here q.found).0 in
-      narrow_of n (subst (λ (n : Module). AreSmall n.tree) q.module_is (all_small (head q.here) l root q.edits m ((fine m.tree m.next q.front q.here).plain q.edits q.made) s))
+      narrow_of n (subst (λ (n : Module). AreSmall n.tree) q.module_is (all_small (head q.here) l root q.edits m ((fine m.tree m.next q.insertion q.here).plain q.edits q.made) s))
 
 abbrev EachFine : List Rule → Type 0
 EachFine [] = Unit {0}
@@ -151,8 +151,11 @@ each_fine : EachFine kept_rules
 each_fine =
     (fine_erase_dead, (fine_fold_to_constant, (fine_swap_constant, (fine_drop_zero, (fine_drop_one, (fine_drop_all_ones, (fine_cancel_itself, (fine_keep_itself, (fine_zero_remainder, (fine_regroup_constants, (fine_add_negative, (fine_compare_itself, (fine_mirror_comparison, (fine_compare_zero, (fine_choose_same, (fine_choose_known, (fine_choose_truth, (fine_choose_opposite, (fine_extend_extension, (fine_cut_cast, (fine_expand_min_max, (fine_expand_difference, tt))))))))))))))))))))))
 
+pub kept_fine : (r : Rule) → In r kept_rules → IsFine r
+kept_fine r i = one_fine kept_rules each_fine r i
+
 pub rules_keep_kinds : AreAccepted → (good : BitsKind → Bool) → good (kind.Int 1) ≡ true → (r : Rule) → In r kept_rules → (m n : Module) (x : ℕ) → IsReady m → HaveKinds good m → rewrite_of r m x ≡ becomes n → HaveKinds good n
-rules_keep_kinds accepted good l r i m n x ready kinds e = fine_narrow good accepted l r (one_fine kept_rules each_fine r i) m n x ready kinds e
+rules_keep_kinds accepted good l r i m n x ready kinds e = fine_narrow good accepted l r (kept_fine r i) m n x ready kinds e
 
 pub truth_narrow : (most : ℕ) → 1 ≤ most → is_narrow most (kind.Int 1) ≡ true
 truth_narrow most l = one most l

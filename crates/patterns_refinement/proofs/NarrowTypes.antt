@@ -10,7 +10,7 @@ use Rattle.ir_types.specs.Reasons.{is_width}
 use Rattle.dialects_int.specs.Folds.{same_kind}
 use Rattle.user_patterns_check.specs.declared.step.Step.TheVariants as step
 use Rattle.user_patterns_data.specs.declared.pattern.TypeConstraint.{TypeConstraint}
-use Rattle.user_patterns_data.specs.declared.pattern.TypeConstraint.TheVariants as asked
+use Rattle.user_patterns_data.specs.declared.pattern.TypeConstraint.TheVariants as requested
 use Rattle.user_patterns_data.specs.declared.pattern.ExtraConstant.{ExtraConstant}
 use Rattle.user_patterns_data.specs.declared.pattern.ExtraConstant.TheVariants as extra
 use Rattle.user_patterns_data.specs.declared.pattern.Literal.{Literal}
@@ -19,12 +19,12 @@ use Rattle.user_patterns_data.specs.declared.pattern.NewValue.TheVariants as new
 use Rattle.user_patterns_data.specs.declared.pattern.ConstantExpression.{ConstantExpression}
 use Rattle.user_patterns_data.specs.declared.pattern.ConstantExpression.TheVariants as number
 use Rattle.user_patterns_data.specs.declared.pattern.PatternOp.{PatternOp}
-use Rattle.user_patterns_data.specs.Fitting.{bits_with, content_with, fits, form_step, extra_fits, extra_step, is_asked, is_integer, kind_at, new_step, number_fits, number_step, or_zero, piece_step}
+use Rattle.user_patterns_data.specs.Fitting.{bits_with, content_with, fits, form_step, extra_fits, extra_step, is_requested, is_integer, kind_at, new_step, number_fits, number_step, or_zero, pattern_op_step}
 use Rattle.user_patterns_data.specs.Shapes.{PatternModel}
 use Rattle.user_patterns_build.specs.CanBuild.{new_type}
-use Rattle.patterns_refinement.specs.Applied.{extra_kind, kinds_after, kinds_given, kinds_matched, number_kind, piece_kind}
+use Rattle.patterns_refinement.specs.Applied.{extra_kind, kinds_after, kinds_given, kinds_matched, number_kind, pattern_op_kind}
 use Rattle.patterns_refinement.specs.Passing.{form_takes, is_kinded_at, new_takes, news_take}
-use Rattle.patterns_refinement.specs.UsedTypes.{asked_uses, extra_uses, new_uses, number_uses, piece_uses, uses_only}
+use Rattle.patterns_refinement.specs.UsedTypes.{requested_uses, extra_uses, new_uses, number_uses, pattern_op_uses, uses_only}
 use Rattle.patterns_refinement.proofs.StrictForms.{same_mapped, same_tested}
 
 after_same : {X : Type 0} (f g : List BitsKind → X → BitsKind) (test : X → Bool) → ((es : List BitsKind) (x : X) → test x ≡ true → f es x ≡ g es x) → (xs : List X) (es : List BitsKind) → list_all test xs ≡ true → kinds_after f xs es ≡ kinds_after g xs es
@@ -37,19 +37,19 @@ after_same f g test h (x ∷ xs) es e =
 pub record Settled (ok : ℕ → Bool) (p : PatternModel) : Type 0 where
   pub values : list_all ok p.values ≡ true
   pub extra : list_all (extra_uses ok) p.extra ≡ true
-  pub asked : list_all (asked_uses ok) p.type_constraints ≡ true
+  pub requested : list_all (requested_uses ok) p.type_constraints ≡ true
   pub given : list_all (number_uses ok) p.given ≡ true
-  pub olds : list_all (piece_uses ok) p.old ≡ true
+  pub olds : list_all (pattern_op_uses ok) p.old ≡ true
   pub news : list_all (new_uses ok) p.new ≡ true
 
 pub all_parts : (ok : ℕ → Bool) (p : PatternModel) → uses_only ok p ≡ true → Settled ok p
 all_parts ok p settled =
     let a = and_parts (list_all ok p.values) _ settled in
     let b = and_parts (list_all (extra_uses ok) p.extra) _ a.1 in
-    let c = and_parts (list_all (asked_uses ok) p.type_constraints) _ b.1 in
+    let c = and_parts (list_all (requested_uses ok) p.type_constraints) _ b.1 in
     let d = and_parts (list_all (number_uses ok) p.given) _ c.1 in
-    let e = and_parts (list_all (piece_uses ok) p.old) (list_all (new_uses ok) p.new) d.1 in
-    record { values = a.0; extra = b.0; asked = c.0; given = d.0; olds = e.0; news = e.1 }
+    let e = and_parts (list_all (pattern_op_uses ok) p.old) (list_all (new_uses ok) p.new) d.1 in
+    record { values = a.0; extra = b.0; requested = c.0; given = d.0; olds = e.0; news = e.1 }
 
 module _ (ok : ℕ → Bool) (p : PatternModel) (js ks : List BitsKind) (same : (t : ℕ) → ok t ≡ true → kind_at js t ≡ kind_at ks t) (settled : uses_only ok p ≡ true) where
   abbrev all : Settled ok p
@@ -74,11 +74,11 @@ module _ (ok : ℕ → Bool) (p : PatternModel) (js ks : List BitsKind) (same : 
   number_same (number.Log2 i) e = refl
   number_same (number.Require i) e = refl
 
-  piece_same : (o : PatternOp) → piece_uses ok o ≡ true → piece_step js o ≡ piece_step ks o
-  piece_same o e = ap (λ k. form_step k o.form) (same o.ty e)
+  pattern_op_same : (o : PatternOp) → pattern_op_uses ok o ≡ true → pattern_op_step js o ≡ pattern_op_step ks o
+  pattern_op_same o e = ap (λ k. form_step k o.form) (same o.ty e)
 
   new_same : (w : NewValue) → new_uses ok w ≡ true → new_step js w ≡ new_step ks w
-  new_same (new.Operation o) e = piece_same o e
+  new_same (new.Operation o) e = pattern_op_same o e
   new_same (new.Constant i u) e = refl
 
   -- ---- the condition under which it may be applied
@@ -97,17 +97,17 @@ module _ (ok : ℕ → Bool) (p : PatternModel) (js ks : List BitsKind) (same : 
   number_fit (number.Log2 i) e = refl
   number_fit (number.Require i) e = refl
 
-  asked_same : (a : TypeConstraint) → asked_uses ok a ≡ true → is_asked js a ≡ is_asked ks a
-  asked_same (asked.Narrower s u) e =
+  requested_same : (a : TypeConstraint) → requested_uses ok a ≡ true → is_requested js a ≡ is_requested ks a
+  requested_same (requested.Narrower s u) e =
       let q = and_parts (ok s) (ok u) e in
       let f = same s q.0 in
       let g = same u q.1 in
       (λ i. is_integer (f i) && (is_integer (g i) && nat_lt (width_of (f i)) (width_of (g i))))
-  asked_same (asked.Integer u) e = ap is_integer (same u e)
+  requested_same (requested.Integer u) e = ap is_integer (same u e)
 
   pub fits_same : fits js p ≡ fits ks p
   fits_same =
-      let a = same_tested (is_asked js) (is_asked ks) (asked_uses ok) asked_same p.type_constraints all.asked in
+      let a = same_tested (is_requested js) (is_requested ks) (requested_uses ok) requested_same p.type_constraints all.requested in
       let f = same_tested (extra_fits js) (extra_fits ks) (extra_uses ok) extra_fit p.extra all.extra in
       let n = same_tested (number_fits js) (number_fits ks) (number_uses ok) number_fit p.given all.given in
       (λ i. a i && (f i && n i))
@@ -118,7 +118,7 @@ module _ (ok : ℕ → Bool) (p : PatternModel) (js ks : List BitsKind) (same : 
       let v = same_mapped (kind_at js) (kind_at ks) ok same p.values all.values in
       let f = same_mapped (extra_step js) (extra_step ks) (extra_uses ok) extra_same p.extra all.extra in
       let g = same_mapped (number_step js) (number_step ks) (number_uses ok) number_same p.given all.given in
-      let o = same_mapped (piece_step js) (piece_step ks) (piece_uses ok) piece_same p.old all.olds in
+      let o = same_mapped (pattern_op_step js) (pattern_op_step ks) (pattern_op_uses ok) pattern_op_same p.old all.olds in
       let w = same_mapped (new_step js) (new_step ks) (new_uses ok) new_same p.new all.news in
       (λ i. record { applies = e i; value_types = v i; given = f i ++ g i; old = o i; old_result = p.root; new = w i; new_result = p.result })
 
@@ -138,10 +138,10 @@ module _ (ok : ℕ → Bool) (p : PatternModel) (js ks : List BitsKind) (same : 
   matched_same : kinds_matched js p ≡ kinds_matched ks p
   matched_same =
       let v = same_mapped (kind_at js) (kind_at ks) ok same p.values all.values in
-      ap (λ es. kinds_after (piece_kind js) p.old (kinds_after (number_kind js) p.given (kinds_after (extra_kind js) p.extra es))) v
-      ∙ ap (λ es. kinds_after (piece_kind js) p.old (kinds_after (number_kind js) p.given es)) (after_same (extra_kind js) (extra_kind ks) (extra_uses ok) extra_of p.extra (map (kind_at ks) p.values) all.extra)
-      ∙ ap (kinds_after (piece_kind js) p.old) (after_same (number_kind js) (number_kind ks) (number_uses ok) number_of p.given (kinds_after (extra_kind ks) p.extra (map (kind_at ks) p.values)) all.given)
-      ∙ after_same (piece_kind js) (piece_kind ks) (piece_uses ok) (λ es o e. same o.ty e) p.old (kinds_given ks p) all.olds
+      ap (λ es. kinds_after (pattern_op_kind js) p.old (kinds_after (number_kind js) p.given (kinds_after (extra_kind js) p.extra es))) v
+      ∙ ap (λ es. kinds_after (pattern_op_kind js) p.old (kinds_after (number_kind js) p.given es)) (after_same (extra_kind js) (extra_kind ks) (extra_uses ok) extra_of p.extra (map (kind_at ks) p.values) all.extra)
+      ∙ ap (kinds_after (pattern_op_kind js) p.old) (after_same (number_kind js) (number_kind ks) (number_uses ok) number_of p.given (kinds_after (extra_kind ks) p.extra (map (kind_at ks) p.values)) all.given)
+      ∙ after_same (pattern_op_kind js) (pattern_op_kind ks) (pattern_op_uses ok) (λ es o e. same o.ty e) p.old (kinds_given ks p) all.olds
 
   takes_same : (es : List BitsKind) (w : NewValue) → new_uses ok w ≡ true → new_takes js es w ≡ new_takes ks es w
   takes_same es (new.Operation o) e = ap (λ k. is_width (width_of k) && form_takes es k o.form) (same o.ty e)

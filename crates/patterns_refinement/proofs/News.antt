@@ -43,7 +43,7 @@ use Rattle.patterns_refinement.proofs.Standing.{Stands, ValuesStand, bound_elsew
 use Rattle.patterns_refinement.proofs.Steps.{push_last, push_other, run_grows}
 use Rattle.patterns_refinement.proofs.OfKinds.{IsKind, OfKinds, new_kind, push_kinds}
 use Rattle.patterns_refinement.proofs.OfBits.{AllOfBits, IsOfBits, push_bits, step_bits}
-use Rattle.patterns_refinement.proofs.Forms.{Asks, asked_at, by_constant, form_makes, kind_is, makes_is}
+use Rattle.patterns_refinement.proofs.Forms.{Asks, requested_at, by_constant, form_makes, kind_is, makes_is}
 use Rattle.patterns_refinement.proofs.Numbers.{within_parts}
 use Rattle.patterns_refinement.proofs.Olds.{form_places, operands_show}
 
@@ -87,7 +87,7 @@ values_stand (k ∷ ks) b vs e =
 -- ---- new operations, and constants
 made_asks : (f : Expression) → Asks f (entries_by (predicate_of f) (name_of f))
 made_asks (form.Binary o i j) = tt
-made_asks (form.Compare p i j) = asked_at p (i64, predicate_number p) refl
+made_asks (form.Compare p i j) = requested_at p (i64, predicate_number p) refl
 made_asks (form.Select c i j) = tt
 made_asks (form.IntegerCast c i) = tt
 made_asks (form.IndexCast c i) = tt

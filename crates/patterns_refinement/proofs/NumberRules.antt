@@ -83,9 +83,9 @@ remainder_pairs = ((op.RemainderSigned, refl, (λ w a n h l e. nothing_left w a 
 -- ---- their outcomes
 module _ (accepted : AreAccepted) where
   zero_number : (r : Rule) (m n : Module) (x : ℕ) (q : Ruled r m n x) (o : Arithmetic) (ty : TypeTerm) → is_erasing r ≡ false → IsReady m → rule_of (head q.here).name ≡ Some (how.Binary o) → (head q.here).results ≡ ty ∷ []
-      → give_constant q.front m.next (head q.here).id ty 0 ≡ q.edits → GivesNumber r m n x q
+      → give_constant q.insertion m.next (head q.here).id ty 0 ≡ q.edits → GivesNumber r m n x q
   zero_number r m n x q o ty stays ready name results edits =
-      let k = rule_kinds m.tree (head q.here) (each_found (λ h. is_kinded m.tree h ≡ true) x m.tree ready.kinded q.here q.found).0 (root_has q ready.formed ready.kinded stays) (how.Binary o) name in
+      let k = rule_kinds m.tree (head q.here) (each_found (λ h. is_kinded m.tree h ≡ true) x m.tree ready.kinded q.here q.found).0 (root_has q ready.wellformed ready.kinded stays) (how.Binary o) name in
       record { ty = ty; bits = 0; kind = k.kind; of = sym (ap (λ tys. given (slice_get tys 0) kind_of) results) ∙ k.is; fits = are_bits k.kind 0 k.width (pow_pos (width_of k.kind)); width = k.width; edits = edits }
 
   -- an operation on a value and itself
@@ -97,13 +97,13 @@ module _ (accepted : AreAccepted) where
     pub operands : (head q.here).operands ≡ first ∷ second ∷ []
     pub results : (head q.here).results ≡ ty ∷ []
     pub pair : IsCancelling (head q.here).name
-    pub edits : give_constant q.front m.next (head q.here).id ty 0 ≡ q.edits
+    pub edits : give_constant q.insertion m.next (head q.here).id ty 0 ≡ q.edits
 
   cancels : (m n : Module) (x : ℕ) (q : Ruled CancelItself m n x) → Cancels m n x q
   unfolding rule
   cancels m n x q =
-      let w = two_is (head q.here) (λ p. when (among self_inverse p.name && same_value p.first p.second) (Some (give_constant q.front m.next (head q.here).id p.ty 0))) q.edits q.made in
-      let g = when_some (among self_inverse (head q.here).name && same_value w.first w.second) (Some (give_constant q.front m.next (head q.here).id w.ty 0)) q.edits w.makes in
+      let w = two_is (head q.here) (λ p. when (among self_inverse p.name && same_value p.first p.second) (Some (give_constant q.insertion m.next (head q.here).id p.ty 0))) q.edits q.made in
+      let g = when_some (among self_inverse (head q.here).name && same_value w.first w.second) (Some (give_constant q.insertion m.next (head q.here).id w.ty 0)) q.edits w.makes in
       let h = and_parts (among self_inverse (head q.here).name) (same_value w.first w.second) g.0 in
       record {
         first = w.first;
@@ -118,17 +118,17 @@ module _ (accepted : AreAccepted) where
 
   pub cancel_itself_ready : KeepsReady CancelItself
   cancel_itself_ready m n x ready e =
-      let q = ruled accepted CancelItself m n x ready.formed ready.sorted e in
+      let q = ruled accepted CancelItself m n x ready.wellformed ready.sorted e in
       let c = cancels m n x q in
       number_ready CancelItself m n x q (zero_number CancelItself m n x q c.pair.0 c.ty refl ready c.pair.1 c.results c.edits) ready
 
   pub cancel_itself_computing : KeepsComputing CancelItself
   unfolding cancels zero_number
   cancel_itself_computing m n x a done ready computing e =
-      let q = ruled accepted CancelItself m n x ready.formed ready.sorted e in
+      let q = ruled accepted CancelItself m n x ready.wellformed ready.sorted e in
       let c = cancels m n x q in
       let g = zero_number CancelItself m n x q c.pair.0 c.ty refl ready c.pair.1 c.results c.edits in
-      let s = site_of m a done x q.here ready.formed ready.kinded computing q.found (root_has q ready.formed ready.kinded refl) in
+      let s = site_of m a done x q.here ready.wellformed ready.kinded computing q.found (root_has q ready.wellformed ready.kinded refl) in
       let k = of_rule m a done x q.here s (how.Binary c.pair.0) c.pair.1 in
       let value_types = and_parts (is_kind k.kind (kind_in m.tree c.first)) (is_kind k.kind (kind_in m.tree c.second)) (subst (λ vs. takes (how.Binary c.pair.0) (head q.here) k.kind (map (kind_in m.tree) vs) ≡ true) c.operands k.operands) in
       number_improves CancelItself m n x q g a done
@@ -149,13 +149,13 @@ module _ (accepted : AreAccepted) where
     pub operands : (head q.here).operands ≡ first ∷ second ∷ []
     pub results : (head q.here).results ≡ ty ∷ []
     pub pair : IsLeaving (head q.here).name
-    pub edits : give_constant q.front m.next (head q.here).id ty 0 ≡ q.edits
+    pub edits : give_constant q.insertion m.next (head q.here).id ty 0 ≡ q.edits
 
   leaves : (m n : Module) (x : ℕ) (q : Ruled ZeroRemainder m n x) → Leaves m n x q
   unfolding rule
   leaves m n x q =
-      let w = two_is (head q.here) (λ p. when (among remainders p.name && is_number m.tree 1 p.second) (Some (give_constant q.front m.next (head q.here).id p.ty 0))) q.edits q.made in
-      let g = when_some (among remainders (head q.here).name && is_number m.tree 1 w.second) (Some (give_constant q.front m.next (head q.here).id w.ty 0)) q.edits w.makes in
+      let w = two_is (head q.here) (λ p. when (among remainders p.name && is_number m.tree 1 p.second) (Some (give_constant q.insertion m.next (head q.here).id p.ty 0))) q.edits q.made in
+      let g = when_some (among remainders (head q.here).name && is_number m.tree 1 w.second) (Some (give_constant q.insertion m.next (head q.here).id w.ty 0)) q.edits w.makes in
       let h = and_parts (among remainders (head q.here).name) (is_number m.tree 1 w.second) g.0 in
       record {
         first = w.first;
@@ -170,17 +170,17 @@ module _ (accepted : AreAccepted) where
 
   pub zero_remainder_ready : KeepsReady ZeroRemainder
   zero_remainder_ready m n x ready e =
-      let q = ruled accepted ZeroRemainder m n x ready.formed ready.sorted e in
+      let q = ruled accepted ZeroRemainder m n x ready.wellformed ready.sorted e in
       let c = leaves m n x q in
       number_ready ZeroRemainder m n x q (zero_number ZeroRemainder m n x q c.pair.0 c.ty refl ready c.pair.1 c.results c.edits) ready
 
   pub zero_remainder_computing : KeepsComputing ZeroRemainder
   unfolding leaves zero_number
   zero_remainder_computing m n x a done ready computing e =
-      let q = ruled accepted ZeroRemainder m n x ready.formed ready.sorted e in
+      let q = ruled accepted ZeroRemainder m n x ready.wellformed ready.sorted e in
       let c = leaves m n x q in
       let g = zero_number ZeroRemainder m n x q c.pair.0 c.ty refl ready c.pair.1 c.results c.edits in
-      let s = site_of m a done x q.here ready.formed ready.kinded computing q.found (root_has q ready.formed ready.kinded refl) in
+      let s = site_of m a done x q.here ready.wellformed ready.kinded computing q.found (root_has q ready.wellformed ready.kinded refl) in
       let two = of_two_is m a done x q.here s c.first c.second c.operands in
       let k = of_rule m a done x q.here s (how.Binary c.pair.0) c.pair.1 in
       let value_types = and_parts (is_kind k.kind (kind_in m.tree c.first)) (is_kind k.kind (kind_in m.tree c.second)) (subst (λ vs. takes (how.Binary c.pair.0) (head q.here) k.kind (map (kind_in m.tree) vs) ≡ true) c.operands k.operands) in
@@ -190,7 +190,7 @@ module _ (accepted : AreAccepted) where
       (λ z i. zero_given c.pair.0 g.kind (a c.first) (a c.second) z (λ y j. kind_by m a done x q.here s c.first k.kind y value_types.0 j ∙ same_Some _ _ (sym k.is ∙ ap (λ tys. given (slice_get tys 0) kind_of) c.results ∙ g.of))
       (λ y w n j l v.
       let bits = value_bits m a done x q.here s c.first two.first y j in
-      let one : w.1 ≡ 1 = ap (λ (w : Known). w.1) (sym (known_is m a done ready.formed ready.kinded computing c.second number.0 w two.second (two.second_there d) number.1 l)) ∙ eqb-true number.0.1 1 number.2 in
+      let one : w.1 ≡ 1 = ap (λ (w : Known). w.1) (sym (known_is m a done ready.wellformed ready.kinded computing c.second number.0 w two.second (two.second_there d) number.1 l)) ∙ eqb-true number.0.1 1 number.2 in
       c.pair.2 (width_of y.0) y.1 n (some_bits y.0 y.1 bits) (below y.0 y.1 bits) (ap (value_of c.pair.0 (width_of y.0) y.1) (sym one) ∙ v))
       i))
       ready refl (zero_remainder_ready m n x ready e).kinded computing

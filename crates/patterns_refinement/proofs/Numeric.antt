@@ -15,7 +15,7 @@ use Rattle.patterns_base.specs.declared.rule.Rule.{Rule}
 use Rattle.patterns_base.specs.RuleNames.{number_of, same_rule}
 use Rattle.patterns_base.specs.Rules.{has_rule, rule, rules_for, table}
 use Rattle.patterns_refinement.proofs.Verified.{asks_kind}
-use Rattle.patterns_base.proofs.Dispatch.{beside_or, only_listed}
+use Rattle.patterns_base.proofs.Dispatch.{next_to_or, only_listed}
 
 -- the rules of arithmetic, by their numbers: all except those that erase dead operations, remove casts back, simplify
 -- loops and conditionals, and lower operations
@@ -63,12 +63,12 @@ table_passes = refl
 
 of_arithmetic : (name : List ℕ) → IsOfArithmetic name
 unfolding rules_for
-of_arithmetic name = beside_or IsOfArithmetic table name (all_pass table table_passes) (λ none e. absurd (true≢false (sym (sym (ap (λ rs. list_any is_numeric (unwrap_or rs [])) none) ∙ e))))
+of_arithmetic name = next_to_or IsOfArithmetic table name (all_pass table table_passes) (λ none e. absurd (true≢false (sym (sym (ap (λ rs. list_any is_numeric (unwrap_or rs [])) none) ∙ e))))
 
 -- if such a rule applies at an operation, the operation has the name of an arithmetic operation
-pub numeric_named : (r : Rule) (t : Operation) (n : ℕ) (front : Place) (o : Operation) (es : List Edit) → is_numeric r ≡ true → rule r t n front o ≡ Some es → asks_kind (rule_of (head o).name) ≡ true
-numeric_named r t n front o es i e = go (bool_cases (has_rule r (head o).name))
+pub numeric_named : (r : Rule) (t : Operation) (n : ℕ) (insertion : Place) (o : Operation) (es : List Edit) → is_numeric r ≡ true → rule r t n insertion o ≡ Some es → asks_kind (rule_of (head o).name) ≡ true
+numeric_named r t n insertion o es i e = go (bool_cases (has_rule r (head o).name))
   where
     go : (has_rule r (head o).name ≡ true) ⊎ (has_rule r (head o).name ≡ false) → asks_kind (rule_of (head o).name) ≡ true
     go (inl h) = of_arithmetic (head o).name (any_numeric r i (rules_for (head o).name) h)
-    go (inr h) = absurd (none-some es (sym (only_listed r t n front o h) ∙ e))
+    go (inr h) = absurd (none-some es (sym (only_listed r t n insertion o h) ∙ e))

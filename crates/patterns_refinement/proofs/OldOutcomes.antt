@@ -11,14 +11,14 @@ use Rattle.ir_tree.specs.declared.value.Value.{Value}
 use Rattle.ir_tree.specs.Meaning.{Operation}
 use Rattle.ir_tree_laws.specs.Values.{type_of_value}
 use Rattle.ir_tree_laws.proofs.Reasoned.{some_there}
-use Rattle.dialects_int.specs.Folds.{asked, kind_of, property_of, rule_of}
+use Rattle.dialects_int.specs.Folds.{requested, kind_of, property_of, rule_of}
 use Rattle.user_patterns_check.specs.Checks.{refines}
 use Rattle.user_patterns_check.specs.Outcomes.{Outcome, compare_outcome, given, pair_outcome, resize_outcome, run, select_outcome, step_of}
 use Rattle.patterns_laws.proofs.KnownFolds.{given_at}
 use Rattle.user_patterns_data.specs.declared.pattern.Expression.{Expression}
 use Rattle.user_patterns_data.specs.declared.pattern.Expression.TheVariants as form
 use Rattle.user_patterns_data.specs.declared.pattern.PatternOp.{PatternOp}
-use Rattle.user_patterns_data.specs.Fitting.{form_step, kind_at, piece_step}
+use Rattle.user_patterns_data.specs.Fitting.{form_step, kind_at, pattern_op_step}
 use Rattle.user_patterns_data.specs.Names.{name_of, operands_of}
 use Rattle.user_patterns_data.specs.Matching.{Header, Standing, defining_op_head}
 use Rattle.user_patterns_data.specs.Planning.{kind_standing}
@@ -26,7 +26,7 @@ use Rattle.user_patterns_data.specs.Shapes.{PatternModel}
 use Rattle.user_patterns_data.specs.WellFormed.{form_stands, is_old, is_type, is_within, old_begins, old_stands, olds_stand}
 use Rattle.user_patterns_build.specs.CanBuild.{has_name}
 use Rattle.patterns_refinement.specs.Meaning.{Assignment, makes, makes_by, of_one, of_three, of_two, result_kind}
-use Rattle.patterns_refinement.specs.Applied.{AreOfKinds, kinds_after, piece_kind}
+use Rattle.patterns_refinement.specs.Applied.{AreOfKinds, kinds_after, pattern_op_kind}
 use Rattle.patterns_refinement.specs.Better.{AllBetter, AreOf, is_kinded, kind_in, may_overflow}
 use Rattle.patterns_refinement.proofs.Forms.{Asks, defining_op_of, defining_op_type, form_asks, form_rule, kind_is, makes_is, named_is, rule_for}
 use Rattle.patterns_refinement.proofs.MadeOf.{HaveBits, made_of}
@@ -73,7 +73,7 @@ module _ (env : List Outcome) where
   by_places : (h : Header) (k : BitsKind) (ys : List Outcome) (f : Expression) → Asks f h.properties → AllPlaced env (operands_of f) ys → makes_by (rule_for f) h k ys ≡ step_of (form_step k f) env
   by_places h k ys (form.Binary o i j) q s = two_placed (pair_outcome o) i j ys s
   by_places h k ys (form.Compare p i j) q s =
-      given_at (asked (property_of (codes "predicate") h.properties)) p (λ p. of_two (compare_outcome p) ys) (of_two (compare_outcome p) ys) q refl
+      given_at (requested (property_of (codes "predicate") h.properties)) p (λ p. of_two (compare_outcome p) ys) (of_two (compare_outcome p) ys) q refl
       ∙ two_placed (compare_outcome p) i j ys s
   by_places h k ys (form.Select c i j) q s = three_placed select_outcome c i j ys s
   by_places h k ys (form.IntegerCast c i) q s = one_placed (resize_outcome c k) i ys s
@@ -107,9 +107,9 @@ module _ (t : Operation) (verified : Header → Bool) (a : Assignment) (b : Stan
 
   pub record OldsRefine (k : ℕ) (ps : List PatternOp) (env : List Outcome) : Type 0 where
     pub new : List Outcome
-    pub ran : run (map (piece_step (map kind_standing ts)) ps) env ≡ Some new
+    pub ran : run (map (pattern_op_step (map kind_standing ts)) ps) env ≡ Some new
     pub shows : ShowsBetter (k + length ps) new
-    pub of_kinds : (es : List BitsKind) → OfKinds es env → OfKinds (kinds_after (piece_kind (map kind_standing ts)) ps es) new
+    pub of_kinds : (es : List BitsKind) → OfKinds es env → OfKinds (kinds_after (pattern_op_kind (map kind_standing ts)) ps es) new
 
   old_shown : (k : ℕ) (env : List Outcome) → old_begins p ≤ k → ShowsBetter k env → (i : ℕ) (v : Value) → is_old p k i ≡ true → Stands i v b → ShownAt env i v
   old_shown k env low shows i v e s = elim (or_cases (nat_lt i (length p.values + length p.extra)) (is_within (old_begins p) k i) e) [
@@ -143,14 +143,14 @@ module _ (t : Operation) (verified : Header → Bool) (a : Assignment) (b : Stan
   -- the step of a pattern op computes a refinement of the outcome of the value at its place
   record Given (k : ℕ) (o : PatternOp) (env : List Outcome) (v : Value) : Type 0 where
     pub outcome : Outcome
-    pub is : step_of (piece_step (map kind_standing ts) o) env ≡ Some outcome
+    pub is : step_of (pattern_op_step (map kind_standing ts) o) env ≡ Some outcome
     pub better : refines (a v) outcome ≡ true
     pub of : IsKind (kind_at (map kind_standing ts) o.ty) outcome
     pub in_tree : (k : BitsKind) → kind_in t v ≡ Some k → IsKind k outcome
     pub bits : IsOfBits outcome
 
-  piece_given : (k : ℕ) (o : PatternOp) (env : List Outcome) → old_begins p ≤ k → old_stands p k o ≡ true → has_name o.form ≡ true → (r : Holds t verified k o b) → IsTyped t verified k o.ty b ts → ShowsBetter k env → Given k o env r.value
-  piece_given k o env low st named r q shows =
+  pattern_op_given : (k : ℕ) (o : PatternOp) (env : List Outcome) → old_begins p ≤ k → old_stands p k o ≡ true → has_name o.form ≡ true → (r : Holds t verified k o b) → IsTyped t verified k o.ty b ts → ShowsBetter k env → Given k o env r.value
+  pattern_op_given k o env low st named r q shows =
       let places = form_places p (is_old p k) o.form (and_parts (is_type p o.ty) (form_stands p (is_old p k) o.form) st).1 in
       let same : r.value ≡ q.value = one_stands k r.value q.value b r.stands q.stands in
       let of_value : type_of_value r.value t ≡ Some q.term = ap (λ v. type_of_value v t) same ∙ q.of_value in
@@ -195,11 +195,11 @@ module _ (t : Operation) (verified : Header → Bool) (a : Assignment) (b : Stan
       let parts = and_parts (old_stands p (end - length (o ∷ ps)) o) (olds_stand p end ps) st in
       let names = and_parts (has_name o.form) (list_all (λ (o : PatternOp). has_name o.form) ps) named in
       let at : end - length (o ∷ ps) ≡ k = omega (arith, sum) in
-      let g = piece_given k o env low (subst (λ z. old_stands p z o ≡ true) at parts.0) names.0 h.0 q.0 shows in
+      let g = pattern_op_given k o env low (subst (λ z. old_stands p z o ≡ true) at parts.0) names.0 h.0 q.0 shows in
       let ih = olds_refine end (k + 1) ps (env ++ (g.outcome ∷ [])) (length_push env g.outcome ∙ ap (λ n. n + 1) l) (omega (arith, sum)) (omega (arith, low)) parts.1 names.1 h.1 q.1 (shows_more k o env h.0.value g l h.0.stands shows) in
       record {
         new = ih.new;
-        ran = given_at (step_of (piece_step (map kind_standing ts) o) env) g.outcome (λ x. run (map (piece_step (map kind_standing ts)) ps) (env ++ (x ∷ []))) (Some ih.new) g.is ih.ran;
+        ran = given_at (step_of (pattern_op_step (map kind_standing ts) o) env) g.outcome (λ x. run (map (pattern_op_step (map kind_standing ts)) ps) (env ++ (x ∷ []))) (Some ih.new) g.is ih.ran;
         shows = λ j w o m s. ih.shows j w o (omega (arith, m)) s;
         of_kinds = λ es f. ih.of_kinds (es ++ (kind_at (map kind_standing ts) o.ty ∷ [])) (push_kinds es env (kind_at (map kind_standing ts) o.ty) g.outcome f g.of);
       }

@@ -32,23 +32,23 @@ pair_gives t o test es e =
 
 drop_zero_gives : GivesOld DropZero
 unfolding rule
-drop_zero_gives t n front o es e = pair_gives t o (λ p. among with_zero_as_right_identity p.name && is_number t 0 p.second) es e
+drop_zero_gives t n insertion o es e = pair_gives t o (λ p. among with_zero_as_right_identity p.name && is_number t 0 p.second) es e
 
 drop_one_gives : GivesOld DropOne
 unfolding rule
-drop_one_gives t n front o es e = pair_gives t o (λ p. among with_one_as_right_identity p.name && is_number t 1 p.second) es e
+drop_one_gives t n insertion o es e = pair_gives t o (λ p. among with_one_as_right_identity p.name && is_number t 1 p.second) es e
 
 drop_all_ones_gives : GivesOld DropAllOnes
 unfolding rule
-drop_all_ones_gives t n front o es e = pair_gives t o (λ p. named (codes "arith.andi") p.name && passes (is_all_ones p.ty) (known t p.second)) es e
+drop_all_ones_gives t n insertion o es e = pair_gives t o (λ p. named (codes "arith.andi") p.name && passes (is_all_ones p.ty) (known t p.second)) es e
 
 keep_itself_gives : GivesOld KeepItself
 unfolding rule
-keep_itself_gives t n front o es e = pair_gives t o (λ p. among idempotent p.name && same_value p.first p.second) es e
+keep_itself_gives t n insertion o es e = pair_gives t o (λ p. among idempotent p.name && same_value p.first p.second) es e
 
 choose_same_gives : GivesOld ChooseSame
 unfolding rule
-choose_same_gives t n front o es e =
+choose_same_gives t n insertion o es e =
     let w = three_is (head o) (λ p. when (named (codes "arith.select") p.name) (when (same_value p.second p.third) (Some (give (head o).id p.second)))) es e in
     let g = when_some (named (codes "arith.select") (head o).name) (when (same_value w.second w.third) (Some (give (head o).id w.second))) es w.makes in
     let h = when_some (same_value w.second w.third) (Some (give (head o).id w.second)) es g.1 in
@@ -56,7 +56,7 @@ choose_same_gives t n front o es e =
 
 choose_known_gives : GivesOld ChooseKnown
 unfolding rule
-choose_known_gives t n front o es e =
+choose_known_gives t n insertion o es e =
     let w = three_is (head o) (λ p. when (named (codes "arith.select") p.name) (given (known t p.first) (λ c. Some (give (head o).id (choice_of c.1 p.second p.third))))) es e in
     let g = when_some (named (codes "arith.select") (head o).name) (given (known t w.first) (λ c. Some (give (head o).id (choice_of c.1 w.second w.third)))) es w.makes in
     let k = given_some (known t w.first) (λ c. Some (give (head o).id (choice_of c.1 w.second w.third))) es g.1 in

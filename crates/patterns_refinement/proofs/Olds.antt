@@ -15,7 +15,7 @@ use Rattle.patterns_laws.proofs.KnownFolds.{given_at}
 use Rattle.user_patterns_data.specs.declared.pattern.Expression.{Expression}
 use Rattle.user_patterns_data.specs.declared.pattern.Expression.TheVariants as form
 use Rattle.user_patterns_data.specs.declared.pattern.PatternOp.{PatternOp}
-use Rattle.user_patterns_data.specs.Fitting.{kind_at, piece_step}
+use Rattle.user_patterns_data.specs.Fitting.{kind_at, pattern_op_step}
 use Rattle.user_patterns_data.specs.Names.{name_of, operands_of}
 use Rattle.user_patterns_data.specs.Matching.{Header, Standing}
 use Rattle.user_patterns_data.specs.Planning.{kind_standing}
@@ -24,7 +24,7 @@ use Rattle.user_patterns_data.specs.WellFormed.{form_stands, is_old, is_type, is
 use Rattle.user_patterns_build.specs.CanBuild.{has_name}
 use Rattle.ir_tree_laws.proofs.Reasoned.{some_there}
 use Rattle.patterns_refinement.specs.Meaning.{Assignment, IsOfType, result_kind}
-use Rattle.patterns_refinement.specs.Applied.{AreOfKinds, kinds_after, piece_kind}
+use Rattle.patterns_refinement.specs.Applied.{AreOfKinds, kinds_after, pattern_op_kind}
 use Rattle.patterns_refinement.proofs.Standing.{AllHold, AllTyped, Holds, IsTyped, Stands, ValuesStand, one_stands, stands_standing}
 use Rattle.patterns_refinement.proofs.Trees.{TypesFound}
 use Rattle.patterns_refinement.proofs.OfKinds.{IsKind, OfKinds, push_kinds}
@@ -61,9 +61,9 @@ module _ (t : Operation) (verified : Header → Bool) (a : Assignment) (b : Stan
 
   pub record OldsRun (k : ℕ) (ps : List PatternOp) (env : List Outcome) : Type 0 where
     pub new : List Outcome
-    pub ran : run (map (piece_step (map kind_standing ts)) ps) env ≡ Some new
+    pub ran : run (map (pattern_op_step (map kind_standing ts)) ps) env ≡ Some new
     pub shows : ShowsOld (k + length ps) new
-    pub of_kinds : (es : List BitsKind) → OfKinds es env → OfKinds (kinds_after (piece_kind (map kind_standing ts)) ps es) new
+    pub of_kinds : (es : List BitsKind) → OfKinds es env → OfKinds (kinds_after (pattern_op_kind (map kind_standing ts)) ps es) new
 
   -- a bound value has the kind of its type
   kind_there : (k ty : ℕ) (v : Value) → Stands k v b → IsTyped t verified k ty b ts → IsKind (kind_at (map kind_standing ts) ty) (a v)
@@ -79,9 +79,9 @@ module _ (t : Operation) (verified : Header → Bool) (a : Assignment) (b : Stan
   ]
 
   -- the step of a pattern op computes the outcome of the value at its place
-  piece_given : (k : ℕ) (o : PatternOp) (env : List Outcome) → old_begins p ≤ k → old_stands p k o ≡ true → has_name o.form ≡ true → (r : Holds t verified k o b) → IsTyped t verified k o.ty b ts → ShowsOld k env
-      → step_of (piece_step (map kind_standing ts) o) env ≡ Some (a r.value)
-  piece_given k o env low st named r q shows =
+  pattern_op_given : (k : ℕ) (o : PatternOp) (env : List Outcome) → old_begins p ≤ k → old_stands p k o ≡ true → has_name o.form ≡ true → (r : Holds t verified k o b) → IsTyped t verified k o.ty b ts → ShowsOld k env
+      → step_of (pattern_op_step (map kind_standing ts) o) env ≡ Some (a r.value)
+  pattern_op_given k o env low st named r q shows =
       let places = form_places p (is_old p k) o.form (and_parts (is_type p o.ty) (form_stands p (is_old p k) o.form) st).1 in
       let same : r.value ≡ q.value = one_stands k r.value q.value b r.stands q.stands in
       let first = defining_op_type t verified r.value r.header q.term (defining_op_of t verified r.value r.header r.gives) (ap (λ v. type_of_value v t) same ∙ q.of_value) in
@@ -105,13 +105,13 @@ module _ (t : Operation) (verified : Header → Bool) (a : Assignment) (b : Stan
       let parts = and_parts (old_stands p (end - length (o ∷ ps)) o) (olds_stand p end ps) st in
       let names = and_parts (has_name o.form) (list_all (λ (o : PatternOp). has_name o.form) ps) named in
       let at : end - length (o ∷ ps) ≡ k = omega (arith, sum) in
-      let gives = piece_given k o env low (subst (λ z. old_stands p z o ≡ true) at parts.0) names.0 h.0 q.0 shows in
+      let gives = pattern_op_given k o env low (subst (λ z. old_stands p z o ≡ true) at parts.0) names.0 h.0 q.0 shows in
       let v = h.0.value in
       let ih = olds_run end (k + 1) ps (env ++ (a v ∷ [])) (length_push env (a v) ∙ ap (λ n. n + 1) l) (omega (arith, sum)) (omega (arith, low)) parts.1 names.1 h.1 q.1 (shows_more k env v l h.0.stands shows) in
       record {
         new = ih.new;
         ran =
-            given_at (step_of (piece_step (map kind_standing ts) o) env) (a v) (λ x. run (map (piece_step (map kind_standing ts)) ps) (env ++ (x ∷ []))) (Some ih.new) gives ih.ran;
+            given_at (step_of (pattern_op_step (map kind_standing ts) o) env) (a v) (λ x. run (map (pattern_op_step (map kind_standing ts)) ps) (env ++ (x ∷ []))) (Some ih.new) gives ih.ran;
         shows = λ j w o m s. ih.shows j w o (omega (arith, m)) s;
         of_kinds = λ es g.
             ih.of_kinds (es ++ (kind_at (map kind_standing ts) o.ty ∷ [])) (push_kinds es env (kind_at (map kind_standing ts) o.ty) (a v) g (kind_there k o.ty v h.0.stands q.0));

@@ -24,7 +24,7 @@ use Rattle.user_patterns_check.specs.Outcomes.{Outcome, given, run}
 use Rattle.user_patterns_check.proofs.Following.{run_after}
 use Rattle.user_patterns_claims.specs.Outcomes.{AreOutcomes, IsNumberIf, IsOutcome, old_outcomes}
 use Rattle.user_patterns_data.specs.declared.pattern.Expression.{Expression}
-use Rattle.user_patterns_data.specs.Fitting.{content_with, extra_step, kind_at, number_step, piece_step}
+use Rattle.user_patterns_data.specs.Fitting.{content_with, extra_step, kind_at, number_step, pattern_op_step}
 use Rattle.user_patterns_data.specs.Matching.{Header, Standing, defining_op_head, known, standing}
 use Rattle.user_patterns_data.specs.Planning.{extra_place, kind_standing, known_at, new_place, old_place, outcomes, planned}
 use Rattle.user_patterns_data.specs.Shapes.{PatternModel}
@@ -40,7 +40,7 @@ use Rattle.patterns_refinement.specs.ForOutcomes.{KeepsForOutcomes, OutcomesKeep
 use Rattle.patterns_refinement.proofs.Beginning.{AreKnown, bits_below, constants_are, extra_shows, planner_alike}
 use Rattle.patterns_refinement.proofs.Forms.{defining_op_of, kind_is, rule_for}
 use Rattle.patterns_refinement.proofs.Giving.{Making}
-use Rattle.patterns_refinement.proofs.Going.{formed_parts, made_parts, matched_parts, typed_parts}
+use Rattle.patterns_refinement.proofs.Going.{wellformed_parts, made_parts, matched_parts, typed_parts}
 use Rattle.patterns_refinement.proofs.Improved.{new_ready}
 use Rattle.patterns_refinement.proofs.Makings.{all_bare, all_numbers}
 use Rattle.patterns_refinement.proofs.Monotone.{itself, same_refined, through}
@@ -182,7 +182,7 @@ module _ (m : Module) (p : PatternModel) (x : ℕ) (proper : IsProper p) (ready 
 
   numbers : Numbers
   numbers =
-      let f = formed_parts p proper.formed in
+      let f = wellformed_parts p proper.wellformed in
       let alike = planner_alike t verified a q.here q.types m.next p knows f.constants q.parts.constants variables variables_long variable_at in
       let r = run_alike p steps.given (outcomes t verified m.next p 0 p.values q.here) variables q.parts.env (given_speak p ks (old_begins p) f.extra f.numbers) alike q.parts.numbers in
       let g = run_grows steps.given variables r.0 r.1 in
@@ -224,12 +224,12 @@ module _ (m : Module) (p : PatternModel) (x : ℕ) (proper : IsProper p) (ready 
   -- ---- the matched operations
   olds : OldsRefine m.tree (is_verified m.tree) a q.here q.types p q.value_types raised (old_place p) p.old numbers.env
   olds =
-      let f = formed_parts p proper.formed in
+      let f = wellformed_parts p proper.wellformed in
       olds_refine t verified a q.here q.types p q.value_types raised (new_begins p) (old_place p) p.old numbers.env numbers.long (omega arith) (omega arith) f.olds proper.named
       (matched_parts t verified m.next p x q.here q.is_matched).pattern_ops (typed_parts t verified m.next p q.here q.types q.are_types).pattern_ops numbers_show
 
-  olds_grow : Grows (map (piece_step ks) p.old) numbers.env olds.new
-  olds_grow = run_grows (map (piece_step ks) p.old) numbers.env olds.new olds.ran
+  olds_grow : Grows (map (pattern_op_step ks) p.old) numbers.env olds.new
+  olds_grow = run_grows (map (pattern_op_step ks) p.old) numbers.env olds.new olds.ran
 
   olds_ran : old_outcomes steps variables ≡ Some olds.new
   olds_ran =
@@ -238,7 +238,7 @@ module _ (m : Module) (p : PatternModel) (x : ℕ) (proper : IsProper p) (ready 
 
   root_shown : Shows olds.new p.root (Result x 0)
   root_shown =
-      let f = formed_parts p proper.formed in
+      let f = wellformed_parts p proper.wellformed in
       let k = made_parts p proper.buildable in
       olds.shows p.root (Result x 0) (inr (omega (arith, k.root))) (omega (arith, f.root)) (matched_parts t verified m.next p x q.here q.is_matched).root
 
@@ -282,7 +282,7 @@ module _ (m : Module) (p : PatternModel) (x : ℕ) (proper : IsProper p) (ready 
   matched_kinds = olds.of_kinds (kinds_given ks p) numbered
 
   matched_bits : AllOfBits olds.new
-  matched_bits = run_bits (map (piece_step ks) p.old) numbers.env olds.new (run_bits steps.given variables numbers.env started_bits numbers.ran) olds.ran
+  matched_bits = run_bits (map (pattern_op_step ks) p.old) numbers.env olds.new (run_bits steps.given variables numbers.env started_bits numbers.ran) olds.ran
 
   has_numbers : HasNumbers q.types q.value_types p q.parts.env (λ v. None) olds.new
   has_numbers i y fixed s = olds_grow.stays i (Some y) (sym (numbers.alike.same i (number_fixed p (old_begins p) i fixed)) ∙ s)
@@ -298,7 +298,7 @@ module _ (m : Module) (p : PatternModel) (x : ℕ) (proper : IsProper p) (ready 
 
     pub making_outcomes : Making a m.next x done os value
     making_outcomes =
-        let f = formed_parts p proper.formed in
+        let f = wellformed_parts p proper.wellformed in
         let whole = new_side.env in
         let c = extended a m.next (new_place p) whole in
         let agrees = extended_agrees a m.next (new_place p) whole in
@@ -309,7 +309,7 @@ module _ (m : Module) (p : PatternModel) (x : ℕ) (proper : IsProper p) (ready 
               ∙ ap (λ z. Some z) (sym (agrees v (old_below m p x proper ready os value plan q kinded j v (record { within = i; stands = s }))))
           | inr i ↦ absurd (omega (arith, i, l))
         ]) in
-        let long : length olds.new ≡ new_place p = omega (arith, olds_grow.longer, numbers.long, length-map p.old (piece_step ks)) in
+        let long : length olds.new ≡ new_place p = omega (arith, olds_grow.longer, numbers.long, length-map p.old (pattern_op_step ks)) in
         let n =
         news_run q.types q.value_types p q.parts.env c (new_ends p) (new_place p) m.next p.new (kinds_matched ks p) olds.new whole q.here q.parts.last os new_side.ran q.parts.made long (omega arith) (omega arith) f.news (made_parts p proper.buildable).named
         matched_kinds matched_bits (news_typed ks (kinds_matched ks p) p.new kinded) (extended_later a m.next (new_place p) whole) shows has_numbers in

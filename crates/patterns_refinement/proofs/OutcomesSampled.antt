@@ -35,7 +35,7 @@ same_holds (j ∷ k ∷ []) wide kinds (c ∷ o ∷ []) are =
     subst (λ j. keeps_outcomes (content_with (j ∷ k ∷ []) same_choice) (c ∷ o ∷ []) ≡ true) (sym kinds.0) (same_kept k c o (subst (λ j. IsOutcome j c) kinds.0 are.0))
 
 pub sample_holds : SampleHolds
-sample_holds = (record { formed = refl; buildable = refl; form = refl; holds = same_holds }, refl)
+sample_holds = (record { wellformed = refl; buildable = refl; form = refl; holds = same_holds }, refl)
 
 -- ---- select(c, a, false)
 two : (v : ℕ) → suc (suc v) < 2 → ⊥
@@ -63,4 +63,4 @@ refuted holds = true≢false (sym (holds (kind.Int 1 ∷ []) refl (refl, tt) (So
     below = omega arith
 
 pub poison_refutes : PoisonRefutes
-poison_refutes = (record { formed = refl; buildable = refl; named = refl }, refl, known_kept, refuted)
+poison_refutes = (record { wellformed = refl; buildable = refl; named = refl }, refl, known_kept, refuted)

@@ -47,12 +47,12 @@ use Rattle.patterns_refinement.specs.Applied.{Goes, IsFound, IsProper, kinds_mat
 use Rattle.patterns_refinement.specs.Better.{kind_in}
 use Rattle.patterns_refinement.specs.Improving.{makes_no_quotient, is_quotient}
 use Rattle.patterns_refinement.specs.Keeping.{Computing, Improves, IsFed, IsReady, done_after, is_there}
-use Rattle.patterns_refinement.specs.Passing.{AppliedIsFound, CheckedPassingKeep, FoundAt, PassingKeep, is_kinded_at, kinds_there, new_is_defined, piece_passes, is_always_defined, passes_poison}
+use Rattle.patterns_refinement.specs.Passing.{AppliedIsFound, CheckedPassingKeep, FoundAt, PassingKeep, is_kinded_at, kinds_there, new_is_defined, pattern_op_passes, is_always_defined, passes_poison}
 use Rattle.patterns_refinement.proofs.Applying.{Applies, applies}
-use Rattle.patterns_refinement.proofs.Formed.{is_below}
+use Rattle.patterns_refinement.proofs.Wellformed.{is_below}
 use Rattle.patterns_refinement.proofs.Forms.{MakesIt, constant_there, defining_op_of, makes_is, named_is, rule_for, by_constant}
 use Rattle.patterns_refinement.proofs.Giving.{Making, after_new, given_improves}
-use Rattle.patterns_refinement.proofs.Going.{formed_parts, made_parts, planned_as, planned_there, plans_go}
+use Rattle.patterns_refinement.proofs.Going.{wellformed_parts, made_parts, planned_as, planned_there, plans_go}
 use Rattle.patterns_refinement.proofs.Improved.{AreNoQuotients, new_ready, no_quotients}
 use Rattle.patterns_refinement.proofs.Makings.{AllGive, AllMade, all_agree, all_at, all_bare, all_numbers, all_ready, all_results, all_risen, all_take, all_typed, still_there, with_all}
 use Rattle.patterns_refinement.proofs.News.{HasNumbers, ShowsNew, extended, extended_agrees, extended_later, new_place_of, news_run}
@@ -126,7 +126,7 @@ module _ (m : Module) (p : PatternModel) (x : ℕ) (proper : IsProper p) (ready 
   here_at = record { here = q.here; is_matched = q.is_matched; types = q.types; are_types = q.are_types }
 
   pub root_within : x < m.next
-  root_within = value_below m.next t (is_below m.next t ready.formed.below) (Result x 0) q.root
+  root_within = value_below m.next t (is_below m.next t ready.wellformed.below) (Result x 0) q.root
 
   pub its_unflagged : AreUnflagged os
   its_unflagged = all_unflagged q.types q.parts.env m.next (new_place p) p.new q.here q.parts.last os q.parts.made
@@ -182,11 +182,11 @@ module _ (m : Module) (p : PatternModel) (x : ℕ) (proper : IsProper p) (ready 
         )
 
     pub fed : AllPut (IsFed (done_after m.next x done)) m.next os
-    fed = all_fed_so m.next (new_place p) p.new os (omega arith) (omega arith) (omega arith) (are_built m p x proper ready os value plan q kinded) (formed_parts p proper.formed).news
+    fed = all_fed_so m.next (new_place p) p.new os (omega arith) (omega arith) (omega arith) (are_built m p x proper ready os value plan q kinded) (wellformed_parts p proper.wellformed).news
 
     pub value_there : done x ≡ true → is_there (done_after m.next x done) value ≡ true
     value_there d =
-        let f = formed_parts p proper.formed in
+        let f = wellformed_parts p proper.wellformed in
         let r = new_place_of q.types q.value_types p q.parts.env (λ v. None) (new_ends p) p.result (omega arith) f.result in
         let l = r.1 in
         fine_there p.result value r.0 (omega (arith, l)) (standing_stands p.result value q.parts.last q.parts.result) d
@@ -342,7 +342,7 @@ module _ (m : Module) (p : PatternModel) (x : ℕ) (proper : IsProper p) (ready 
 
     making_poison : list_all new_is_defined p.new ≡ true → done x ≡ true → a (Result x 0) ≡ None → Making a m.next x done os value
     making_poison defined d none =
-        let f = formed_parts p proper.formed in
+        let f = wellformed_parts p proper.wellformed in
         let r = run_there m p x proper ready os value plan q kinded defined places places_of_kinds (have_numbers d) in
         let c = extended a m.next (new_place p) r.0 in
         let shows : ShowsNew q.types q.value_types p q.parts.env c (new_place p) places q.here =
@@ -381,13 +381,13 @@ module _ (m : Module) (p : PatternModel) (x : ℕ) (proper : IsProper p) (ready 
           | inr b ↦ absurd (true≢false (sym known ∙ ap is_some b.2))
         ]
 
-    known_all : list_all piece_passes p.old ≡ true → done x ≡ true → is_some (a (Result x 0)) ≡ true → (i : ℕ) (w : Value) → Stands i w q.here → IsKnown w
+    known_all : list_all pattern_op_passes p.old ≡ true → done x ≡ true → is_some (a (Result x 0)) ≡ true → (i : ℕ) (w : Value) → Stands i w q.here → IsKnown w
     known_all passing d k =
         matched_all t (is_verified t) passes_poison IsKnown (λ f v h s e r i w n. record { there = there_pass f v h refl e r i.there w n; known = known_pass f v h s e r i w n })
         p x q.here passing proper.named q.is_matched (record { there = d; known = k })
 
     -- the pattern matches there
-    is_found : list_all piece_passes p.old ≡ true → done x ≡ true → is_some (a (Result x 0)) ≡ true → IsFound m.tree (is_verified m.tree) m.next p x a done
+    is_found : list_all pattern_op_passes p.old ≡ true → done x ≡ true → is_some (a (Result x 0)) ≡ true → IsFound m.tree (is_verified m.tree) m.next p x a done
     is_found passing d k = record {
       here = q.here;
       is_matched = q.is_matched;
@@ -401,11 +401,11 @@ module _ (m : Module) (p : PatternModel) (x : ℕ) (proper : IsProper p) (ready 
       variables = λ i v l s. (known_all passing d k i v (standing_stands i v q.here s)).known;
     }
 
-    module _ (passing : list_all piece_passes p.old ≡ true) (defined : list_all new_is_defined p.new ≡ true) (keeps : AlwaysKeeps (content_with (map kind_standing q.types) p)) where
+    module _ (passing : list_all pattern_op_passes p.old ≡ true) (defined : list_all new_is_defined p.new ≡ true) (keeps : AlwaysKeeps (content_with (map kind_standing q.types) p)) where
       goes_there : done x ≡ true → is_some (a (Result x 0)) ≡ true → Goes m.tree (is_verified m.tree) m.next p x a done os value
       unfolding is_found
       goes_there d k =
-          plans_go t (is_verified t) m.next p x a done proper (record { below = is_below m.next t ready.formed.below; fits = computing.fits; typed = computing.typed }) (is_found passing d k)
+          plans_go t (is_verified t) m.next p x a done proper (record { below = is_below m.next t ready.wellformed.below; fits = computing.fits; typed = computing.typed }) (is_found passing d k)
           (news_typed ks (kinds_matched ks p) p.new kinded) keeps os value plan
 
       making_known : done x ≡ true → is_some (a (Result x 0)) ≡ true → Making a m.next x done os value
@@ -440,12 +440,12 @@ module _ (accepted : OwnAreAccepted) (p : PatternModel) (proper : IsProper p) (m
   pub record Site : Type 0 where
     pub applied : Applies p m n x
     pub here : Here m p x proper ready applied.made applied.value applied.plan
-    pub free : Free (map (λ o. Make applied.front o) applied.made ++ give x applied.value) m
+    pub free : Free (map (λ o. Make applied.insertion o) applied.made ++ give x applied.value) m
 
   pub site_of : Site
   site_of =
       let r = applies p m n x rewrites in
-      record { applied = r; here = found_here m p x proper ready r.made r.value r.plan; free = accepted p m x ready.formed _ n r.edits r.becomes_it }
+      record { applied = r; here = found_here m p x proper ready r.made r.value r.plan; free = accepted p m x ready.wellformed _ n r.edits r.becomes_it }
 
   module _ (s : Site) (kinded : is_kinded_at (map kind_standing s.here.types) p ≡ true) where
     pub passing_ready : IsReady n
@@ -456,7 +456,7 @@ module _ (accepted : OwnAreAccepted) (p : PatternModel) (proper : IsProper p) (m
         let f = with_all (kind_in m.tree) m.next None (map (λ k. Some k) ks) in
         let are = are_made m p x proper ready r.made r.value r.plan q kinded in
         let at = all_at (kind_in m.tree) m.next None (map (λ k. Some k) ks) in
-        stays_ready m n x r.front r.made r.value ready s.free r.module_is f (λ w l. all_agree (kind_in m.tree) m.next None (map (λ k. Some k) ks) w l)
+        stays_ready m n x r.insertion r.made r.value ready s.free r.module_is f (λ w l. all_agree (kind_in m.tree) m.next None (map (λ k. Some k) ks) w l)
         (all_bare f r.made ks are) (record { results = all_results f m.next r.made ks are at; take = all_take f m.next r.made ks are }) (all_risen f m.next r.made ks are)
 
     -- the kinds of the module's values
@@ -468,16 +468,16 @@ module _ (accepted : OwnAreAccepted) (p : PatternModel) (proper : IsProper p) (m
         let f = with_all (kind_in m.tree) m.next None (map (λ k. Some k) ks) in
         let are = are_made m p x proper ready r.made r.value r.plan q kinded in
         let at = all_at (kind_in m.tree) m.next None (map (λ k. Some k) ks) in
-        stays_kinds m n x r.front r.made r.value ready s.free r.module_is f (λ w l. all_agree (kind_in m.tree) m.next None (map (λ k. Some k) ks) w l)
+        stays_kinds m n x r.insertion r.made r.value ready s.free r.module_is f (λ w l. all_agree (kind_in m.tree) m.next None (map (λ k. Some k) ks) w l)
         (all_bare f r.made ks are) (record { results = all_results f m.next r.made ks are at; take = all_take f m.next r.made ks are }) (all_risen f m.next r.made ks are) v e
 
     -- outcomes of the new operations are outcomes of the module
     pub making_improves : (a : Assignment) (done : ℕ → Bool) → Computing a done m.tree → Making a m.next x done s.applied.made s.applied.value → Improves a done m (done_after m.next x done) n.tree
     making_improves a done computing making =
         let r = s.applied in
-        given_improves m n x a done r.front r.made r.value ready.formed (root_within m p x proper ready r.made r.value r.plan s.here kinded) s.here.computed computing passing_ready.kinded making s.free r.module_is
+        given_improves m n x a done r.insertion r.made r.value ready.wellformed (root_within m p x proper ready r.made r.value r.plan s.here kinded) s.here.computed computing passing_ready.kinded making s.free r.module_is
 
-    pub passing_computing : list_all piece_passes p.old ≡ true → list_all new_is_defined p.new ≡ true → AlwaysKeeps (content_with (map kind_standing s.here.types) p) → (a : Assignment) (done : ℕ → Bool) → Computing a done m.tree → Improves a done m (done_after m.next x done) n.tree
+    pub passing_computing : list_all pattern_op_passes p.old ≡ true → list_all new_is_defined p.new ≡ true → AlwaysKeeps (content_with (map kind_standing s.here.types) p) → (a : Assignment) (done : ℕ → Bool) → Computing a done m.tree → Improves a done m (done_after m.next x done) n.tree
     passing_computing passing defined keeps a done computing =
         let r = s.applied in
         making_improves a done computing (making m p x proper ready r.made r.value r.plan s.here kinded a done computing passing defined keeps)
@@ -485,7 +485,7 @@ module _ (accepted : OwnAreAccepted) (p : PatternModel) (proper : IsProper p) (m
 -- ---- the laws
 pub passing_keep : OwnAreAccepted → PassingKeep
 passing_keep accepted p m n x passing proper ready e keeps =
-    let t = and_parts (list_all piece_passes p.old) (list_all new_is_defined p.new) passing in
+    let t = and_parts (list_all pattern_op_passes p.old) (list_all new_is_defined p.new) passing in
     let s = site_of accepted p proper m n x ready e in
     let at : FoundAt p m x = record { here = s.here.here; is_matched = s.here.is_matched; types = s.here.types; are_types = s.here.are_types } in
     let k = keeps at in

@@ -42,14 +42,14 @@ use Rattle.user_patterns_data.specs.WellFormed.{form_stands, is_new, is_number, 
 use Rattle.user_patterns_build.specs.CanBuild.{has_name, is_named, new_type}
 use Rattle.patterns_refinement.proofs.Flags.{entries_unset}
 use Rattle.patterns_refinement.specs.Meaning.{Assignment, owner}
-use Rattle.patterns_refinement.specs.Applied.{IsProper, form_fits, extra_kind, kinds_after, kinds_given, kinds_matched, new_fits, news_fit, number_kind, piece_kind}
+use Rattle.patterns_refinement.specs.Applied.{IsProper, form_fits, extra_kind, kinds_after, kinds_given, kinds_matched, new_fits, news_fit, number_kind, pattern_op_kind}
 use Rattle.patterns_refinement.specs.Better.{is_signed_quotient, kind_in, narrows, takes, takes_its}
 use Rattle.patterns_refinement.specs.Keeping.{IsReady}
 use Rattle.patterns_refinement.specs.Passing.{form_takes, is_always_defined, is_kinded_at, new_is_defined, new_takes, news_take}
 use Rattle.patterns_refinement.proofs.Extremes.{compare_is, compare_out, select_is, select_out}
-use Rattle.patterns_refinement.proofs.Formed.{is_below}
+use Rattle.patterns_refinement.proofs.Wellformed.{is_below}
 use Rattle.patterns_refinement.proofs.Forms.{form_rule, rule_for}
-use Rattle.patterns_refinement.proofs.Going.{formed_parts, made_parts}
+use Rattle.patterns_refinement.proofs.Going.{wellformed_parts, made_parts}
 use Rattle.patterns_refinement.proofs.Makings.{AllMade, MadeOne, all_agree, with_all}
 use Rattle.patterns_refinement.proofs.Monotone.{pair_better, resize_better}
 use Rattle.patterns_refinement.proofs.News.{HasNumbers, IsNewPlace, again_gives, kind_there, more_made, new_place_of, values_stand}
@@ -83,10 +83,10 @@ module _ (ks : List BitsKind) (p : PatternModel) where
       omega (arith, a, b, c)
 
   pub kinds_long : length (kinds_matched ks p) ≡ new_place p
-  kinds_long = let c = given_long in let d = after_long (piece_kind ks) p.old (kinds_given ks p) in omega (arith, c, d)
+  kinds_long = let c = given_long in let d = after_long (pattern_op_kind ks) p.old (kinds_given ks p) in omega (arith, c, d)
 
   pub given_at_place : (j : ℕ) → j < old_place p → kind_at (kinds_matched ks p) j ≡ kind_at (kinds_given ks p) j
-  given_at_place j l = let c = given_long in after_at (piece_kind ks) p.old (kinds_given ks p) j (omega (arith, l, c))
+  given_at_place j l = let c = given_long in after_at (pattern_op_kind ks) p.old (kinds_given ks p) j (omega (arith, l, c))
 
   pub first_at : (j : ℕ) → j < length p.values → kind_at (kinds_matched ks p) j ≡ kind_at (map (kind_at ks) p.values) j
   first_at j l =
@@ -326,7 +326,7 @@ module _ (m : Module) (p : PatternModel) (x : ℕ) (proper : IsProper p) (ready 
   ]
 
   pub old_below : (j : ℕ) (w : Value) → IsVariable j w → owner w < m.next
-  old_below j w h = value_below m.next m.tree (is_below m.next m.tree ready.formed.below) w (ap is_some (q.variables j w h.within h.stands).of_value)
+  old_below j w h = value_below m.next m.tree (is_below m.next m.tree ready.wellformed.below) w (ap is_some (q.variables j w h.within h.stands).of_value)
 
   -- ---- their kinds
   matched_at : (j : ℕ) → j < new_place p → kind_at whole j ≡ kind_at (kinds_matched ks p) j
@@ -405,7 +405,7 @@ module _ (m : Module) (p : PatternModel) (x : ℕ) (proper : IsProper p) (ready 
 
   pub are_made : AllMade (with_all (kind_in m.tree) m.next None (map (λ k. Some k) (map (λ w. kind_at (map kind_standing q.types) (new_type w)) p.new))) os (map (λ w. kind_at (map kind_standing q.types) (new_type w)) p.new)
   are_made =
-      let f = formed_parts p proper.formed in
+      let f = wellformed_parts p proper.wellformed in
       let k = made_parts p proper.buildable in
       all_made_so p.new os (kinds_matched ks p) builds.built k.named f.news (omega (arith, kinds_long ks p)) (omega (arith, kinds_long ks p)) kinded refl
 
@@ -447,5 +447,5 @@ module _ (m : Module) (p : PatternModel) (x : ℕ) (proper : IsProper p) (ready 
   pub run_there : list_all new_is_defined p.new ≡ true → (env : List Outcome) → OfKinds (kinds_matched (map kind_standing q.types) p) env → HasNumbers q.types q.value_types p q.parts.env (λ v. None) env
       → (new : List Outcome) × (run (map (new_step (map kind_standing q.types)) p.new) env ≡ Some new)
   run_there d env of numbers =
-      let f = formed_parts p proper.formed in
+      let f = wellformed_parts p proper.wellformed in
       all_run p.new os (kinds_matched ks p) env of numbers builds.built d f.news (omega (arith, kinds_long ks p)) (omega (arith, kinds_long ks p)) kinded

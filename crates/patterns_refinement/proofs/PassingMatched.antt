@@ -27,7 +27,7 @@ use Rattle.dialects_int.specs.declared.operations.Cast.{Cast}
 use Rattle.dialects_int.specs.declared.operations.Predicate.{Predicate}
 use Rattle.dialects_int.specs.declared.operations.Rule.{Rule as How}
 use Rattle.dialects_int.specs.declared.operations.Rule.TheVariants as how
-use Rattle.dialects_int.specs.Folds.{Known, asked, fold_of, kind_of, property_of, rule_of, same_kind}
+use Rattle.dialects_int.specs.Folds.{Known, requested, fold_of, kind_of, property_of, rule_of, same_kind}
 use Rattle.patterns_laws.specs.Words.{named}
 use Rattle.patterns_laws.proofs.KnownFolds.{given_some, kind_back}
 use Rattle.user_patterns_check.specs.Outcomes.{Outcome, compare_outcome, given, pair_outcome, resize_outcome, run}
@@ -54,7 +54,7 @@ use Rattle.patterns_refinement.specs.Keeping.{IsReady}
 use Rattle.patterns_refinement.specs.Passing.{passes_poison}
 use Rattle.patterns_refinement.proofs.Beginning.{outcomes_at, outcomes_long}
 use Rattle.patterns_refinement.proofs.Forms.{by_constant, fold_kind, form_rule, defining_op_of, defining_op_type, kind_is, named_is, rule_for}
-use Rattle.patterns_refinement.proofs.Going.{AreTyped, IsPlanned, formed_parts, has_type, made_parts, matched_parts, planned_as, planned_there, typed_at, typed_parts}
+use Rattle.patterns_refinement.proofs.Going.{AreTyped, IsPlanned, wellformed_parts, has_type, made_parts, matched_parts, planned_as, planned_there, typed_at, typed_parts}
 use Rattle.patterns_refinement.proofs.OfBits.{AllOfBits, run_bits}
 use Rattle.patterns_refinement.proofs.OfKinds.{OfKinds, extras_run, numbers_run}
 use Rattle.patterns_refinement.proofs.Rooted.{hold_at, named_at}
@@ -82,8 +82,8 @@ module _ (t : Operation) (verified : Header → Bool) (good : Expression → Boo
   abbrev pub AllAre : Standing Value → Type 0
   AllAre b = (i : ℕ) (v : Value) → Stands i v b → Q v
 
-  piece_all : (k : ℕ) (p : PatternOp) (b c : Standing Value) → good p.form ≡ true → has_name p.form ≡ true → op_matches t verified (k, p) b ≡ Some c → AllAre b → AllAre c
-  piece_all k p b c s n e all i w at =
+  pattern_op_all : (k : ℕ) (p : PatternOp) (b c : Standing Value) → good p.form ≡ true → has_name p.form ≡ true → op_matches t verified (k, p) b ≡ Some c → AllAre b → AllAre c
+  pattern_op_all k p b c s n e all i w at =
       let u = given_some (standing k b) (λ v. value_matched t verified p v b) c e in
       let g = given_some (defining_op_head t verified u.0) (λ h. header_matched t verified p h b) c u.2 in
       let f = when_is (named (name_of p.form) g.0.name && asks_alike t verified p g.0) (all_bound same_value (operands_of p.form) g.0.operands b) c g.2 in
@@ -108,11 +108,11 @@ module _ (t : Operation) (verified : Header → Bool) (good : Expression → Boo
       let r = and_parts (has_name p.form) (list_all (λ (o : PatternOp). has_name o.form) ps) n in
       pass_after (placed (k + 1) ps) (k, p) (pass_placed (k + 1) ps q.1 r.1) (q.0, r.0)
 
-  pieces_all : (ps : List (ℕ × PatternOp)) (b c : Standing Value) → AllPass ps → ops_match t verified ps b ≡ Some c → AllAre b → AllAre c
-  pieces_all [] b c s e all = subst AllAre (same_Some _ _ e) all
-  pieces_all (p ∷ ps) b c s e all =
+  pattern_ops_all : (ps : List (ℕ × PatternOp)) (b c : Standing Value) → AllPass ps → ops_match t verified ps b ≡ Some c → AllAre b → AllAre c
+  pattern_ops_all [] b c s e all = subst AllAre (same_Some _ _ e) all
+  pattern_ops_all (p ∷ ps) b c s e all =
       let g = given_some (op_matches t verified p b) (ops_match t verified ps) c e in
-      pieces_all ps g.0 c s.1 g.2 (piece_all p.0 p.1 b g.0 s.0.0 s.0.1 g.1 all)
+      pattern_ops_all ps g.0 c s.1 g.2 (pattern_op_all p.0 p.1 b g.0 s.0.0 s.0.1 g.1 all)
 
   none_stands : (xs : List ℕ) (i : ℕ) (v : Value) → Stands i v (map (λ j. None) xs) → ⊥
   none_stands [] i v e = none-some (Some v) e
@@ -122,7 +122,7 @@ module _ (t : Operation) (verified : Header → Bool) (good : Expression → Boo
   pub matched_all : (p : PatternModel) (x : ℕ) (b : Standing Value) → list_all (λ (o : PatternOp). good o.form) p.old ≡ true → list_all (λ (o : PatternOp). has_name o.form) p.old ≡ true → matched t verified p x ≡ Some b → Q (Result x 0) → AllAre b
   matched_all p x b s n e q =
       let g = given_some (bound same_value p.root (Result x 0) (nothing (places p))) (λ b. ops_match t verified (placed (old_place p) p.old) b) b e in
-      pieces_all (placed (old_place p) p.old) g.0 b (pass_placed (old_place p) p.old s n) g.2
+      pattern_ops_all (placed (old_place p) p.old) g.0 b (pass_placed (old_place p) p.old s n) g.2
       (λ i v at. elim (bound_from same_value same_value_true p.root (Result x 0) (nothing (places p)) g.0 g.1 i v at) [
         | inl n ↦ absurd (none_stands (range_with_len 0 (places p)) i v n)
         | inr n ↦ subst Q (sym n.1) q
@@ -193,7 +193,7 @@ known_compared p None y z k e = absurd (true≢false (sym k ∙ ap is_some (sym 
 pub operands_known : (f : Expression) (h : Header) (k : BitsKind) (xs : List Outcome) (z : Outcome) → passes_poison f ≡ true → is_some z ≡ true → makes_by (rule_for f) h k xs ≡ Some z → list_all is_some xs ≡ true
 operands_known (form.Binary o i j) h k xs z s known e = known_two (pair_outcome o) z (λ x y e. known_pair o x y z known e) xs e
 operands_known (form.Compare q i j) h k xs z s known e =
-    let g = given_some (asked (property_of (codes "predicate") h.properties)) (λ p. of_two (compare_outcome p) xs) z e in
+    let g = given_some (requested (property_of (codes "predicate") h.properties)) (λ p. of_two (compare_outcome p) xs) z e in
     known_two (compare_outcome g.0) z (λ x y e. known_compared g.0 x y z known e) xs g.2
 operands_known (form.Select c i j) h k xs z s known e = absurd (true≢false (sym s))
 operands_known (form.IntegerCast c i) h k xs z s known e = known_one (resize_outcome c k) z (λ x e. known_resized c k x z known e) xs e
@@ -248,7 +248,7 @@ module _ (m : Module) (ready : IsReady m) (v : Value) (h : Header) (e : defining
   defining_op_has =
       let g = defining_op_of m.tree (is_verified m.tree) v h e in
       let f = each_found (λ h. is_kinded m.tree h ≡ true) g.id m.tree ready.kinded g.here g.found in
-      subst HasKind g.heads (verified_has_kind m.tree g.here ready.formed.distinct (ap (λ y. find y m.tree) f.1 ∙ g.found) (ap (is_verified m.tree) g.heads ∙ g.passes_verifier) f.0)
+      subst HasKind g.heads (verified_has_kind m.tree g.here ready.wellformed.distinct (ap (λ y. find y m.tree) f.1 ∙ g.found) (ap (is_verified m.tree) g.heads ∙ g.passes_verifier) f.0)
 
   pub defining_op_kinds : (f : Expression) → rule_of h.name ≡ Some (rule_for f) → OfRule m.tree h (rule_for f)
   defining_op_kinds (form.Binary o i j) name = rule_kinds m.tree h defining_op_kinded defining_op_has (how.Binary o) name
@@ -379,7 +379,7 @@ module _ (m : Module) (p : PatternModel) (x : ℕ) (proper : IsProper p) (ready 
   found_here =
       let s = given_some (matched t verified p x) (λ c. given (typed t verified m.next p c) (planned_by t verified m.next p c)) (made, value) (sym (planned_as t verified m.next p x) ∙ plan) in
       let r = given_some (typed t verified m.next p s.0) (planned_by t verified m.next p s.0) (made, value) s.2 in
-      let f = formed_parts p proper.formed in
+      let f = wellformed_parts p proper.wellformed in
       let k = made_parts p proper.buildable in
       let found = matched_parts t verified m.next p x s.0 s.1 in
       let are = typed_parts t verified m.next p s.0 r.0 r.1 in

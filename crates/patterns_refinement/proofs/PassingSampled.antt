@@ -45,13 +45,13 @@ below (suc (suc zero)) d l = omega arith
 below (suc (suc (suc zero))) d l = omega arith
 below (suc (suc (suc (suc k)))) d l = absurd (four k l)
 
-formed : IsWellFormed is_isolated doubled
+wellformed : IsWellFormed is_isolated doubled
 unfolding words.operations words.is_listed words.is_table words.is_isolated
-formed = record {
+wellformed = record {
   distinct = IsDistinct-from_count nat_eq_equiv (0 ∷ 1 ∷ 2 ∷ 3 ∷ []) refl;
   below = below;
   next = omega arith;
-  formed = record { visible = refl; shallow = omega arith; counts = refl };
+  wellformed = record { visible = refl; shallow = omega arith; counts = refl };
 }
 
 kinded : AreKinded doubled.tree
@@ -59,7 +59,7 @@ unfolding folds.fold_of folds.rule_of folds.rules words.operations words.is_inhe
 kinded = (refl, (((refl, tt), ((refl, tt), ((refl, tt), tt))), tt))
 
 ready : IsReady doubled
-ready = record { formed = formed; sorted = refl; kinded = kinded }
+ready = record { wellformed = wellformed; sorted = refl; kinded = kinded }
 
 -- ---- the module computes
 one_type : (x : ℕ) → IsOfType i2 (lost (Result x 0)) → (k : ℕ) (ty : TypeTerm) → slice_get (i2 ∷ []) k ≡ Some ty → IsOfType ty (lost (Result x k))
@@ -145,7 +145,7 @@ by_width P one two ((suc (suc (suc w))) ∷ ws) l = absurd (none_above w l.1)
 pub holds_narrow : HoldsNarrow 2 times_power
 unfolding log_of first_below product_of left_shift_of
 holds_narrow = record {
-  proper = record { formed = refl; buildable = refl; named = refl };
+  proper = record { wellformed = refl; buildable = refl; named = refl };
   passing = refl;
   settled = refl;
   kinded = by_width (λ ws. fits (kinds_with ws times_power.value_types) times_power ≡ true → is_kinded_at (kinds_with ws times_power.value_types) times_power ≡ true) (λ e. refl) (λ e. refl);

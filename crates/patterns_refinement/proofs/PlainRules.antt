@@ -18,7 +18,7 @@ use Rattle.ir_event.specs.Modules.{Module}
 use Rattle.dialects_int.specs.Folds.{Known, fold_of}
 use Rattle.rewriter_machine.specs.Contents.{Edit, all_edited, edited}
 use Rattle.rewriter_machine.specs.Edits.{DropAttr, Erase, Insert, Make, Move, Replace, SetAttr, SetOperand}
-use Rattle.op_registry.specs.Registry.{beside}
+use Rattle.op_registry.specs.Registry.{next_to}
 use Rattle.patterns_laws.specs.Keeps.{Each as EachOf, given}
 use Rattle.patterns_laws.specs.Made.{i1}
 use Rattle.patterns_laws.specs.Words.{among, predicate_of_min_max, self_inverse, extensions, with_one_as_right_identity, with_zero_as_right_identity, idempotent, named, associative, remainders, commutative}
@@ -187,60 +187,60 @@ source_among_is t names v h e =
     let same : g.0 ≡ h = same_Some _ _ w.1 in
     ap (λ (h : Header). among names h.name) (sym same) ∙ (and_parts (among names g.0.name) (is_verified t g.0) w.0).0
 
-fine_folded : (t : Operation) (n : ℕ) (front : Place) (o : Operation) (tys : List TypeTerm) (k : Option Known) → (head o).results ≡ tys → Fine (head o) (folded_to t n front o tys k)
-fine_folded t n front o [] None s = fine_none
-fine_folded t n front o [] (Some k) s = fine_none
-fine_folded t n front o (ty ∷ uy ∷ tys) None s = fine_none
-fine_folded t n front o (ty ∷ uy ∷ tys) (Some k) s = fine_none
-fine_folded t n front o (ty ∷ []) None s = fine_none
-fine_folded t n front o (ty ∷ []) (Some k) s = fine_some _ ((plain_constant, refl, by_root (head o) ty (ap (λ tys. slice_get tys 0) s)), (tt, (tt, tt)))
+fine_folded : (t : Operation) (n : ℕ) (insertion : Place) (o : Operation) (tys : List TypeTerm) (k : Option Known) → (head o).results ≡ tys → Fine (head o) (folded_to t n insertion o tys k)
+fine_folded t n insertion o [] None s = fine_none
+fine_folded t n insertion o [] (Some k) s = fine_none
+fine_folded t n insertion o (ty ∷ uy ∷ tys) None s = fine_none
+fine_folded t n insertion o (ty ∷ uy ∷ tys) (Some k) s = fine_none
+fine_folded t n insertion o (ty ∷ []) None s = fine_none
+fine_folded t n insertion o (ty ∷ []) (Some k) s = fine_some _ ((plain_constant, refl, by_root (head o) ty (ap (λ tys. slice_get tys 0) s)), (tt, (tt, tt)))
 
 -- ---- each rule
 abbrev pub IsFine : Rule → Type 0
-IsFine r = (t : Operation) (n : ℕ) (front : Place) (o : Operation) → Fine (head o) (rule r t n front o)
+IsFine r = (t : Operation) (n : ℕ) (insertion : Place) (o : Operation) → Fine (head o) (rule r t n insertion o)
 
 pub fine_erase_dead : IsFine EraseDead
 unfolding rule
-fine_erase_dead t n front o = fine_when (is_erasable t o) _ (λ e. fine_some _ (tt, tt))
+fine_erase_dead t n insertion o = fine_when (is_erasable t o) _ (λ e. fine_some _ (tt, tt))
 
 pub fine_fold_to_constant : IsFine FoldToConstant
 unfolding rule
-fine_fold_to_constant t n front o =
+fine_fold_to_constant t n insertion o =
     let h = head o in
-    fine_when (not (named (codes "arith.constant") h.name) && list_all (may_read t n front o) h.operands) _
-    (λ e. fine_folded t n front o h.results (fold_of h.name h.properties (map (known t) h.operands) h.results) refl)
+    fine_when (not (named (codes "arith.constant") h.name) && list_all (may_read t n insertion o) h.operands) _
+    (λ e. fine_folded t n insertion o h.results (fold_of h.name h.properties (map (known t) h.operands) h.results) refl)
 
 pub fine_swap_constant : IsFine SwapConstant
 unfolding rule
-fine_swap_constant t n front o = fine_given (two (head o)) _ (λ p i. fine_when (among commutative p.name && is_to_swap t n front o p) _ (λ e. fine_some _ (tt, (tt, tt))))
+fine_swap_constant t n insertion o = fine_given (two (head o)) _ (λ p i. fine_when (among commutative p.name && is_to_swap t n insertion o p) _ (λ e. fine_some _ (tt, (tt, tt))))
 
 pub fine_drop_zero : IsFine DropZero
 unfolding rule
-fine_drop_zero t n front o = fine_given (two (head o)) _ (λ p i. fine_when (among with_zero_as_right_identity p.name && is_number t 0 p.second) _ (λ e. fine_some _ (tt, (tt, tt))))
+fine_drop_zero t n insertion o = fine_given (two (head o)) _ (λ p i. fine_when (among with_zero_as_right_identity p.name && is_number t 0 p.second) _ (λ e. fine_some _ (tt, (tt, tt))))
 
 pub fine_drop_one : IsFine DropOne
 unfolding rule
-fine_drop_one t n front o = fine_given (two (head o)) _ (λ p i. fine_when (among with_one_as_right_identity p.name && is_number t 1 p.second) _ (λ e. fine_some _ (tt, (tt, tt))))
+fine_drop_one t n insertion o = fine_given (two (head o)) _ (λ p i. fine_when (among with_one_as_right_identity p.name && is_number t 1 p.second) _ (λ e. fine_some _ (tt, (tt, tt))))
 
 pub fine_drop_all_ones : IsFine DropAllOnes
 unfolding rule
-fine_drop_all_ones t n front o = fine_given (two (head o)) _ (λ p i. fine_when (named (codes "arith.andi") p.name && passes (is_all_ones p.ty) (known t p.second)) _ (λ e. fine_some _ (tt, (tt, tt))))
+fine_drop_all_ones t n insertion o = fine_given (two (head o)) _ (λ p i. fine_when (named (codes "arith.andi") p.name && passes (is_all_ones p.ty) (known t p.second)) _ (λ e. fine_some _ (tt, (tt, tt))))
 
 pub fine_cancel_itself : IsFine CancelItself
 unfolding rule
-fine_cancel_itself t n front o = fine_given (two (head o)) _ (λ p i. fine_when (among self_inverse p.name && same_value p.first p.second) _ (λ e. fine_some _ ((plain_constant, refl, by_root (head o) p.ty (two_type (head o) p i)), (tt, (tt, tt)))))
+fine_cancel_itself t n insertion o = fine_given (two (head o)) _ (λ p i. fine_when (among self_inverse p.name && same_value p.first p.second) _ (λ e. fine_some _ ((plain_constant, refl, by_root (head o) p.ty (two_type (head o) p i)), (tt, (tt, tt)))))
 
 pub fine_keep_itself : IsFine KeepItself
 unfolding rule
-fine_keep_itself t n front o = fine_given (two (head o)) _ (λ p i. fine_when (among idempotent p.name && same_value p.first p.second) _ (λ e. fine_some _ (tt, (tt, tt))))
+fine_keep_itself t n insertion o = fine_given (two (head o)) _ (λ p i. fine_when (among idempotent p.name && same_value p.first p.second) _ (λ e. fine_some _ (tt, (tt, tt))))
 
 pub fine_zero_remainder : IsFine ZeroRemainder
 unfolding rule
-fine_zero_remainder t n front o = fine_given (two (head o)) _ (λ p i. fine_when (among remainders p.name && is_number t 1 p.second) _ (λ e. fine_some _ ((plain_constant, refl, by_root (head o) p.ty (two_type (head o) p i)), (tt, (tt, tt)))))
+fine_zero_remainder t n insertion o = fine_given (two (head o)) _ (λ p i. fine_when (among remainders p.name && is_number t 1 p.second) _ (λ e. fine_some _ ((plain_constant, refl, by_root (head o) p.ty (two_type (head o) p i)), (tt, (tt, tt)))))
 
 pub fine_regroup_constants : IsFine RegroupConstants
 unfolding rule
-fine_regroup_constants t n front o =
+fine_regroup_constants t n insertion o =
     fine_given (two (head o)) _
     (λ p i. fine_when (among associative p.name) _
     (λ e. fine_given (known t p.second) _
@@ -252,14 +252,14 @@ fine_regroup_constants t n front o =
 
 pub fine_add_negative : IsFine AddNegative
 unfolding rule
-fine_add_negative t n front o =
+fine_add_negative t n insertion o =
     fine_given (two (head o)) _
     (λ p i. fine_when (named (codes "arith.subi") p.name) _
     (λ e. fine_given (known t p.second) _ (λ c j. fine_some _ ((plain_constant, refl, by_root (head o) p.ty (two_type (head o) p i)), ((plain_addi, refl, by_root (head o) p.ty (two_type (head o) p i)), (tt, (tt, tt)))))))
 
 pub fine_compare_itself : IsFine CompareItself
 unfolding rule
-fine_compare_itself t n front o =
+fine_compare_itself t n insertion o =
     fine_given (two (head o)) _
     (λ p i. fine_when (named (codes "arith.cmpi") p.name) _
     (λ e. fine_given (predicate (head o)) _
@@ -267,15 +267,15 @@ fine_compare_itself t n front o =
 
 pub fine_mirror_comparison : IsFine MirrorComparison
 unfolding rule
-fine_mirror_comparison t n front o =
+fine_mirror_comparison t n insertion o =
     fine_given (two (head o)) _
     (λ p i. fine_when (named (codes "arith.cmpi") p.name) _
     (λ e. fine_given (predicate (head o)) _
-    (λ asks j. fine_when (is_to_swap t n front o p) _ (λ f. fine_some _ (tt, (tt, (tt, tt)))))))
+    (λ asks j. fine_when (is_to_swap t n insertion o p) _ (λ f. fine_some _ (tt, (tt, (tt, tt)))))))
 
 pub fine_compare_zero : IsFine CompareZero
 unfolding rule
-fine_compare_zero t n front o =
+fine_compare_zero t n insertion o =
     fine_given (two (head o)) _
     (λ p i. fine_when (named (codes "arith.cmpi") p.name) _
     (λ e. fine_given (predicate (head o)) _
@@ -283,26 +283,26 @@ fine_compare_zero t n front o =
 
 pub fine_choose_same : IsFine ChooseSame
 unfolding rule
-fine_choose_same t n front o =
+fine_choose_same t n insertion o =
     fine_given (three (head o)) _
     (λ p i. fine_when (named (codes "arith.select") p.name) _ (λ e. fine_when (same_value p.second p.third) _ (λ f. fine_some _ (tt, (tt, tt)))))
 
 pub fine_choose_known : IsFine ChooseKnown
 unfolding rule
-fine_choose_known t n front o =
+fine_choose_known t n insertion o =
     fine_given (three (head o)) _
     (λ p i. fine_when (named (codes "arith.select") p.name) _ (λ e. fine_given (known t p.first) _ (λ c j. fine_some _ (tt, (tt, tt)))))
 
 pub fine_choose_truth : IsFine ChooseTruth
 unfolding rule
-fine_choose_truth t n front o =
+fine_choose_truth t n insertion o =
     fine_given (three (head o)) _
     (λ p i. fine_when (named (codes "arith.select") p.name) _
     (λ e. fine_when (same_type p.ty i1 && (is_number t 1 p.second && is_number t 0 p.third)) _ (λ f. fine_some _ (tt, (tt, tt)))))
 
 pub fine_choose_opposite : IsFine ChooseOpposite
 unfolding rule
-fine_choose_opposite t n front o =
+fine_choose_opposite t n insertion o =
     fine_given (three (head o)) _
     (λ p i. fine_when (named (codes "arith.select") p.name) _
     (λ e. fine_given (source t (codes "arith.xori") p.first) _
@@ -310,7 +310,7 @@ fine_choose_opposite t n front o =
 
 pub fine_extend_extension : IsFine ExtendExtension
 unfolding rule
-fine_extend_extension t n front o =
+fine_extend_extension t n insertion o =
     fine_given (one (head o)) _
     (λ p i. fine_when (among extensions p.name) _
     (λ e. fine_given (source_among t extensions p.first) _
@@ -321,7 +321,7 @@ fine_extend_extension t n front o =
 
 pub fine_cut_cast : IsFine CutCast
 unfolding rule
-fine_cut_cast t n front o =
+fine_cut_cast t n insertion o =
     fine_given (one (head o)) _
     (λ p i. fine_when (named (codes "arith.trunci") p.name) _
     (λ e. fine_given (source_among t resizing p.first) _
@@ -332,14 +332,14 @@ fine_cut_cast t n front o =
 
 pub fine_expand_min_max : IsFine ExpandMinMax
 unfolding rule
-fine_expand_min_max t n front o =
+fine_expand_min_max t n insertion o =
     fine_given (two (head o)) _
-    (λ p i. fine_given (beside p.name predicate_of_min_max) _
+    (λ p i. fine_given (next_to p.name predicate_of_min_max) _
     (λ asks j. fine_some _ ((plain_cmpi, refl, by_truth (head o)), ((plain_select, refl, by_root (head o) p.ty (two_type (head o) p i)), (tt, (tt, tt))))))
 
 pub fine_expand_difference : IsFine ExpandDifference
 unfolding rule
-fine_expand_difference t n front o =
+fine_expand_difference t n insertion o =
     fine_given (two (head o)) _
     (λ p i.
     let root = by_root (head o) p.ty (two_type (head o) p i) in

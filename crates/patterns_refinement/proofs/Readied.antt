@@ -35,7 +35,7 @@ use Rattle.patterns_refinement.specs.After.{OperandsStand, rewritten, with_made}
 use Rattle.patterns_refinement.specs.Applied.{IsBelow}
 use Rattle.patterns_refinement.specs.Better.{AreKinded, is_kinded, kind_in, takes, takes_its}
 use Rattle.patterns_refinement.proofs.Edited.{blocks_below, each_both}
-use Rattle.patterns_refinement.proofs.Formed.{each_stands}
+use Rattle.patterns_refinement.proofs.Wellformed.{each_stands}
 use Rattle.patterns_refinement.proofs.Rewritten.{AllBare, AllPut, all_blocks, all_put, given_blocks, given_each}
 use Rattle.patterns_refinement.proofs.Settling.{each_by_found}
 use Rattle.patterns_refinement.proofs.Trees.{ArgumentsAre, ResultsAre, each_found, typed_found, value_below}
@@ -101,13 +101,13 @@ module _ (Q : ℕ → ℕ → List TypeTerm → Type 0) where
     region_blocks p path r empty own f = tt
     region_blocks p path r (block args os) own f = (own args os refl, ops_blocks p path r args [] os f)
 
-    ops_blocks : (p : Operation) (path : List Step) (r : ℕ) (args : List TypeTerm) (front : List Operation) (os : OpsOf (List ℕ) TypeTerm AttrTerm) → AllOwn (ops_stands p path r args front os) → BlocksAmong Q os
-    ops_blocks p path r args front no_ops f = tt
-    ops_blocks p path r args front (next o os) f =
-        let here = stands (record { parent = p; region = r; args = args; front = front; rest = os } ∷ path) o in
-        let more = ops_stands p path r args (front ++ (o ∷ [])) os in (
-          blocks_stand (record { parent = p; region = r; args = args; front = front; rest = os } ∷ path) o (λ s i. f s (in_left s here more i)),
-          ops_blocks p path r args (front ++ (o ∷ [])) os (λ s i. f s (in_right s here more i)),
+    ops_blocks : (p : Operation) (path : List Step) (r : ℕ) (args : List TypeTerm) (preceding : List Operation) (os : OpsOf (List ℕ) TypeTerm AttrTerm) → AllOwn (ops_stands p path r args preceding os) → BlocksAmong Q os
+    ops_blocks p path r args preceding no_ops f = tt
+    ops_blocks p path r args preceding (next o os) f =
+        let here = stands (record { parent = p; region = r; args = args; preceding = preceding; rest = os } ∷ path) o in
+        let more = ops_stands p path r args (preceding ++ (o ∷ [])) os in (
+          blocks_stand (record { parent = p; region = r; args = args; preceding = preceding; rest = os } ∷ path) o (λ s i. f s (in_left s here more i)),
+          ops_blocks p path r args (preceding ++ (o ∷ [])) os (λ s i. f s (in_right s here more i)),
         )
 
 -- the kinds of a tree's values are those of their types
@@ -174,25 +174,25 @@ pub same_kinds_of : (f g : Value → Option BitsKind) (p : Value → Bool) → (
 same_kinds_of f g p h [] e = refl
 same_kinds_of f g p h (v ∷ vs) e = let q = and_parts (p v) (list_all p vs) e in (λ i. h v q.0 i ∷ same_kinds_of f g p h vs q.1 i)
 
-module _ (value_types : Value → Option BitsKind) (n x : ℕ) (v : Value) (made : List Operation) (t : Operation) (front : Place) (distinct : HasDistinctIds t) (below : IsBelow n t) (agree : (w : Value) → owner w < n → value_types w ≡ kind_in t w) (bare : AllBare made) (news : NewKinds value_types n made) where
+module _ (value_types : Value → Option BitsKind) (n x : ℕ) (v : Value) (made : List Operation) (t : Operation) (insertion : Place) (distinct : HasDistinctIds t) (below : IsBelow n t) (agree : (w : Value) → owner w < n → value_types w ≡ kind_in t w) (bare : AllBare made) (news : NewKinds value_types n made) where
   -- the kinds after the new operations are inserted
-  pub made_kinds : AreKinds value_types (with_made front n made t)
+  pub made_kinds : AreKinds value_types (with_made insertion n made t)
   made_kinds =
       let old = kinds_are t distinct in
       record {
         results =
-            all_put (ResultsAre (HasKind value_types)) front n made t news.results bare
+            all_put (ResultsAre (HasKind value_types)) insertion n made t news.results bare
             (each_both (ResultsAre (HasKind (kind_in t))) (λ h. h.id < n) (ResultsAre (HasKind value_types)) (λ h p l k ty e. agree (Result h.id k) l ∙ p k ty e) t old.results below);
         arguments =
-            all_blocks (ArgumentsAre (HasKind value_types)) front n made t bare
+            all_blocks (ArgumentsAre (HasKind value_types)) insertion n made t bare
             (blocks_below (ArgumentsAre (HasKind (kind_in t))) (ArgumentsAre (HasKind value_types)) n (λ y r args l p k ty e. agree (Arg y r k) l ∙ p k ty e) t below old.arguments);
       }
 
   module _ (a : Assignment) (done : ℕ → Bool) (same : value_types v ≡ value_types (Result x 0)) where
-    pub after_kinds : AreKinds value_types (rewritten front n made x v t)
+    pub after_kinds : AreKinds value_types (rewritten insertion n made x v t)
     after_kinds = record {
-      results = given_each a a n x v done (ResultsAre (HasKind value_types)) (λ h p. p) (with_made front n made t) made_kinds.results;
-      arguments = given_blocks a a n x v done (ArgumentsAre (HasKind value_types)) (with_made front n made t) made_kinds.arguments;
+      results = given_each a a n x v done (ResultsAre (HasKind value_types)) (λ h p. p) (with_made insertion n made t) made_kinds.results;
+      arguments = given_blocks a a n x v done (ArgumentsAre (HasKind value_types)) (with_made insertion n made t) made_kinds.arguments;
     }
 
     put_kind : (w : Value) → value_types (put_value (Result x 0) v w) ≡ value_types w
@@ -210,13 +210,13 @@ module _ (value_types : Value → Option BitsKind) (n x : ℕ) (v : Value) (made
     change h p =
         same_takes h h.id (map (put_value (Result x 0) v) h.operands) (map value_types (map (put_value (Result x 0) v) h.operands)) ∙ ap (takes_its (rule_of h.name) (result_kind h) h) (put_kinds h.operands) ∙ p
 
-    pub after_kinded : AreKinded t → OperandsStand t → OperandsStand (rewritten front n made x v t) → AreKinded (rewritten front n made x v t)
+    pub after_kinded : AreKinded t → OperandsStand t → OperandsStand (rewritten insertion n made x v t) → AreKinded (rewritten insertion n made x v t)
     after_kinded kinded operands stand =
-        let u = rewritten front n made x v t in
+        let u = rewritten insertion n made x v t in
         each_both (Takes value_types) (λ h. list_all (λ v. has_value v u) h.operands ≡ true) (λ h. is_kinded u h ≡ true)
         (λ h p q. ap (takes_its (rule_of h.name) (result_kind h) h) (same_kinds_of (kind_in u) value_types (λ v. has_value v u) (kinds_found value_types u after_kinds) h.operands q) ∙ p) u
-        (given_each a a n x v done (Takes value_types) change (with_made front n made t)
-        (all_put (Takes value_types) front n made t news.take bare
+        (given_each a a n x v done (Takes value_types) change (with_made insertion n made t)
+        (all_put (Takes value_types) insertion n made t news.take bare
         (each_both (λ h. is_kinded t h ≡ true) (λ h. list_all (λ v. has_value v t) h.operands ≡ true) (Takes value_types)
         (λ h p q. ap (takes_its (rule_of h.name) (result_kind h) h) (same_kinds_of value_types (kind_in t) (λ v. has_value v t) (λ w e. agree w (value_below n t below w e)) h.operands q) ∙ p) t kinded operands)))
         stand

@@ -21,7 +21,7 @@ use Rattle.patterns_refinement.specs.Observing.{AreSameValues, Follows, IsSameVa
 use Rattle.patterns_refinement.specs.Refining.{IsStill, KeptIsRefined, ObservationsRefine, OperandsRefine, lasting, lasting_op, lasting_ops, lasting_region, observation, operand}
 use Rattle.patterns_refinement.proofs.Edited.{each_both}
 use Rattle.patterns_refinement.proofs.Follows.{by_goes, op_unmissed, union_goes, union_parts}
-use Rattle.patterns_refinement.proofs.Formed.{is_below, operands_stand}
+use Rattle.patterns_refinement.proofs.Wellformed.{is_below, operands_stand}
 use Rattle.patterns_refinement.proofs.Shown.{each_shown}
 use Rattle.patterns_refinement.proofs.Showing.{inside}
 use Rattle.patterns_refinement.proofs.Trees.{value_below}
@@ -196,7 +196,7 @@ pub kept_is_refined : KeptIsRefined
 kept_is_refined m n ready kept a done computing =
     let c = kept.2 a done computing in
     let i = c.improves in
-    let under = is_below m.next m.tree ready.formed.below in
+    let under = is_below m.next m.tree ready.wellformed.below in
     record {
       now = i.now;
       later = c.later;
@@ -205,5 +205,5 @@ kept_is_refined m n ready kept a done computing =
       computing = i.computing;
       refined = observed_refine a i.now done c.later m n.tree c.same i.shows (value_below m.next m.tree under)
           (each_both (λ h. h.id < m.next) (λ h. list_all (λ v. has_value v m.tree) h.operands ≡ true) (λ h. (h.id < m.next) × (list_all (λ v. has_value v m.tree) h.operands ≡ true)) (λ h p q. (p, q)) m.tree under
-          (operands_stand is_isolated m.tree ready.formed.distinct ready.formed.formed.visible));
+          (operands_stand is_isolated m.tree ready.wellformed.distinct ready.wellformed.wellformed.visible));
     }

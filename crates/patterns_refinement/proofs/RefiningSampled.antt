@@ -55,13 +55,13 @@ below (suc (suc (suc (suc (suc (suc (suc (suc k)))))))) d l = absurd (eight k l)
     eight : (k : ℕ) → suc (suc (suc (suc (suc (suc (suc (suc k))))))) < 8 → ⊥
     eight k l = omega (arith, l)
 
-formed : IsWellFormed is_isolated before
+wellformed : IsWellFormed is_isolated before
 unfolding words.operations words.is_listed words.is_table words.is_isolated
-formed = record {
+wellformed = record {
   distinct = IsDistinct-from_count nat_eq_equiv (0 ∷ 1 ∷ 2 ∷ 3 ∷ 4 ∷ 5 ∷ 6 ∷ 7 ∷ []) refl;
   below = below;
   next = omega arith;
-  formed = record { visible = refl; shallow = omega arith; counts = refl };
+  wellformed = record { visible = refl; shallow = omega arith; counts = refl };
 }
 
 in_range : Each (λ h. is_in_range h ≡ true) before.tree
@@ -77,7 +77,7 @@ unfolding words.operations words.is_inherent words.is_listed words.is_isolated w
 silent = refl
 
 verified : IsVerified before
-verified = record { formed = formed; sorted = refl; in_range = in_range; within = within; silent = silent }
+verified = record { wellformed = wellformed; sorted = refl; in_range = in_range; within = within; silent = silent }
 
 -- ---- the module computes
 no_result : (x k : ℕ) (ty : TypeTerm) → slice_get [] k ≡ Some ty → IsOfType ty (five (Result x k))

@@ -15,7 +15,7 @@ use Rattle.ir_tree.specs.declared.value.Value.TheVariants.{Result}
 use Rattle.ir_tree.specs.Tree.{head}
 use Rattle.ir_tree_laws.proofs.Reasoned.{some_there}
 use Rattle.ir_event.specs.Modules.{Module}
-use Rattle.op_registry.specs.Registry.{beside}
+use Rattle.op_registry.specs.Registry.{next_to}
 use Rattle.dialects_int.specs.declared.operations.Arithmetic.{Arithmetic}
 use Rattle.dialects_int.specs.declared.operations.Arithmetic.TheVariants as op
 use Rattle.dialects_int.specs.declared.operations.Rule.TheVariants as how
@@ -135,11 +135,11 @@ dividing_rows = (
   ),
 )
 
-row_there : (rows : List (List ℕ × List ℕ)) (name division : List ℕ) → EachOf (λ (row : List ℕ × List ℕ). IsDividing row.0 row.1) rows → beside name rows ≡ Some division → IsDividing name division
+row_there : (rows : List (List ℕ × List ℕ)) (name division : List ℕ) → EachOf (λ (row : List ℕ × List ℕ). IsDividing row.0 row.1) rows → next_to name rows ≡ Some division → IsDividing name division
 row_there [] name division each e = absurd (none-some division e)
 row_there (row ∷ rows) name division each e = go (bytes_eq name row.0) refl e (row_there rows name division each.1)
   where
-    go : (b : Bool) → bytes_eq name row.0 ≡ b → (if b then Some row.1 else beside name rows) ≡ Some division → (beside name rows ≡ Some division → IsDividing name division) → IsDividing name division
+    go : (b : Bool) → bytes_eq name row.0 ≡ b → (if b then Some row.1 else next_to name rows) ≡ Some division → (next_to name rows ≡ Some division → IsDividing name division) → IsDividing name division
     go true i e more =
         let same : row.1 ≡ division = same_Some _ _ e in
         subst (λ division. IsDividing name division) same (subst (λ name. IsDividing name row.1) (sym ((bytes_eq-Decides name row.0).0 i)) each.0)
@@ -251,15 +251,15 @@ module _ (accepted : AreAccepted) where
     pub results : (head q.here).results ≡ ty ∷ []
     pub division : List ℕ
     pub divides_it : IsDividing (head q.here).name division
-    pub edits : Make q.front (binary division ty first second) ∷ Make q.front (binary (codes "arith.muli") ty (Result m.next 0) second)
-        ∷ give_new q.front (m.next + 2) (head q.here).id (binary (codes "arith.subi") ty first (Result (m.next + 1) 0)) ≡ q.edits
+    pub edits : Make q.insertion (binary division ty first second) ∷ Make q.insertion (binary (codes "arith.muli") ty (Result m.next 0) second)
+        ∷ give_new q.insertion (m.next + 2) (head q.here).id (binary (codes "arith.subi") ty first (Result (m.next + 1) 0)) ≡ q.edits
 
   remains_here : (m n : Module) (x : ℕ) (q : Ruled ExpandRemainder m n x) → Remains m n x q
   unfolding rule
   remains_here m n x q =
       let h = head q.here in
-      let w = two_is h (λ p. given (beside p.name division_of_remainder) (λ division. Some (Make q.front (binary division p.ty p.first p.second) ∷ Make q.front (binary (codes "arith.muli") p.ty (Result m.next 0) p.second) ∷ give_new q.front (m.next + 2) h.id (binary (codes "arith.subi") p.ty p.first (Result (m.next + 1) 0))))) q.edits q.made in
-      let g = given_some (beside h.name division_of_remainder) (λ division. Some (Make q.front (binary division w.ty w.first w.second) ∷ Make q.front (binary (codes "arith.muli") w.ty (Result m.next 0) w.second) ∷ give_new q.front (m.next + 2) h.id (binary (codes "arith.subi") w.ty w.first (Result (m.next + 1) 0)))) q.edits w.makes in
+      let w = two_is h (λ p. given (next_to p.name division_of_remainder) (λ division. Some (Make q.insertion (binary division p.ty p.first p.second) ∷ Make q.insertion (binary (codes "arith.muli") p.ty (Result m.next 0) p.second) ∷ give_new q.insertion (m.next + 2) h.id (binary (codes "arith.subi") p.ty p.first (Result (m.next + 1) 0))))) q.edits q.made in
+      let g = given_some (next_to h.name division_of_remainder) (λ division. Some (Make q.insertion (binary division w.ty w.first w.second) ∷ Make q.insertion (binary (codes "arith.muli") w.ty (Result m.next 0) w.second) ∷ give_new q.insertion (m.next + 2) h.id (binary (codes "arith.subi") w.ty w.first (Result (m.next + 1) 0)))) q.edits w.makes in
       record { first = w.first; second = w.second; ty = w.ty; operands = w.operands; results = w.results; division = g.0; divides_it = row_there division_of_remainder h.name g.0 dividing_rows g.1; edits = same_Some _ _ g.2 }
 
   module _ (m n : Module) (x : ℕ) (q : Ruled ExpandRemainder m n x) (w : Remains m n x q) (k : OnTwo ExpandRemainder m n x q w.first w.second w.ty) where
@@ -276,7 +276,7 @@ module _ (accepted : AreAccepted) where
           value = Result (m.next + 2) 0;
           edits =
               sym w.edits
-              ∙ ap (λ y. Make q.front (binary w.division w.ty w.first w.second) ∷ Make q.front (binary (codes "arith.muli") w.ty (Result m.next 0) w.second) ∷ give_new q.front (m.next + 2) y (binary (codes "arith.subi") w.ty w.first (Result (m.next + 1) 0))) q.id;
+              ∙ ap (λ y. Make q.insertion (binary w.division w.ty w.first w.second) ∷ Make q.insertion (binary (codes "arith.muli") w.ty (Result m.next 0) w.second) ∷ give_new q.insertion (m.next + 2) y (binary (codes "arith.subi") w.ty w.first (Result (m.next + 1) 0))) q.id;
           are = (
             binary_made f w.division w.ty w.first w.second k.kind w.divides_it.quotient w.divides_it.by_division k.of k.width first second,
             (
@@ -361,16 +361,16 @@ module _ (accepted : AreAccepted) where
 
   pub expand_remainder_ready : KeepsReady ExpandRemainder
   expand_remainder_ready m n x ready e =
-      let q = ruled accepted ExpandRemainder m n x ready.formed ready.sorted e in
+      let q = ruled accepted ExpandRemainder m n x ready.wellformed ready.sorted e in
       let w = remains_here m n x q in
       new_ready ExpandRemainder m n x q (remainder_new m n x q w (on_two_values ExpandRemainder m n x q w.divides_it.rest w.first w.second w.ty refl ready w.divides_it.by w.operands w.results)) ready
 
   pub expands_remainders : ExpandsRemainders
   expands_remainders m n x o a done ready computing found has e =
-      let q = ruled accepted ExpandRemainder m n x ready.formed ready.sorted e in
+      let q = ruled accepted ExpandRemainder m n x ready.wellformed ready.sorted e in
       let w = remains_here m n x q in
       let k = on_two_values ExpandRemainder m n x q w.divides_it.rest w.first w.second w.ty refl ready w.divides_it.by w.operands w.results in
-      let s = site_of m a done x q.here ready.formed ready.kinded computing q.found (root_has q ready.formed ready.kinded refl) in
+      let s = site_of m a done x q.here ready.wellformed ready.kinded computing q.found (root_has q ready.wellformed ready.kinded refl) in
       let same : o ≡ q.here = same_Some _ _ (sym found ∙ q.found) in
       let quotient : done x ≡ true → (is_signed_remainder w.divides_it.rest && overflows (a w.first ∷ a w.second ∷ [])) ≡ false =
       (λ d. sym (λ i. is_signed (w.divides_it.by i) && overflows (map a (w.operands i))) ∙ subst (HasQuotient a done) (ap head same) has (ap done q.id ∙ d)) in

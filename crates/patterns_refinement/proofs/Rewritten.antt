@@ -108,17 +108,17 @@ module _ (P : Header → Type 0) where
   one_put : (m : ℕ) (o : Operation) → P (record (head o) { id = m }) → regions o ≡ no_regions → Each P (with_id m o)
   one_put m (op h rs) p e = (p, subst (λ rs. EachInRegions P rs) (sym e) tt)
 
-  pub all_put : (front : Place) (m : ℕ) (os : List Operation) (t : Operation) → AllPut m os → AllBare os → Each P t → Each P (with_made front m os t)
-  all_put front m [] t p bare s = s
-  all_put front m (o ∷ os) t p bare s = all_put front (m + 1) os (put front (with_id m o) t) p.1 bare.1 (each_put P front (with_id m o) (one_put m o p.0 bare.0) t s)
+  pub all_put : (insertion : Place) (m : ℕ) (os : List Operation) (t : Operation) → AllPut m os → AllBare os → Each P t → Each P (with_made insertion m os t)
+  all_put insertion m [] t p bare s = s
+  all_put insertion m (o ∷ os) t p bare s = all_put insertion (m + 1) os (put insertion (with_id m o) t) p.1 bare.1 (each_put P insertion (with_id m o) (one_put m o p.0 bare.0) t s)
 
 module _ (Q : ℕ → ℕ → List TypeTerm → Type 0) where
   one_blocks : (m : ℕ) (o : Operation) → regions o ≡ no_regions → EachBlock Q (with_id m o)
   one_blocks m (op h rs) e = subst (λ rs. BlocksInRegions Q m 0 rs) (sym e) tt
 
-  pub all_blocks : (front : Place) (m : ℕ) (os : List Operation) (t : Operation) → AllBare os → EachBlock Q t → EachBlock Q (with_made front m os t)
-  all_blocks front m [] t bare s = s
-  all_blocks front m (o ∷ os) t bare s = all_blocks front (m + 1) os (put front (with_id m o) t) bare.1 (blocks_put Q front (with_id m o) (one_blocks m o bare.0) t s)
+  pub all_blocks : (insertion : Place) (m : ℕ) (os : List Operation) (t : Operation) → AllBare os → EachBlock Q t → EachBlock Q (with_made insertion m os t)
+  all_blocks insertion m [] t bare s = s
+  all_blocks insertion m (o ∷ os) t bare s = all_blocks insertion (m + 1) os (put insertion (with_id m o) t) bare.1 (blocks_put Q insertion (with_id m o) (one_blocks m o bare.0) t s)
 
 -- ids
 new_below : (end m : ℕ) (os : List Operation) → m + length os ≤ end → AllPut (λ h. h.id < end) m os
@@ -212,7 +212,7 @@ module _ (a c : Assignment) (n x : ℕ) (v : Value) (done : ℕ → Bool) where
   given_blocks Q t s = blocks_without Q x (with_value_replaced (Result x 0) v t) (blocks_changed Q (put_values (Result x 0) v) (λ h. refl) t s)
 
 pub rewritten_computes : RewrittenComputes
-rewritten_computes t verified n p x a done front k proper computes operands found constants always root made v plan =
+rewritten_computes t verified n p x a done insertion k proper computes operands found constants always root made v plan =
     let goes = plans_go t verified n p x a done proper computes found constants always made v plan in
     let c = goes.after in
     let q = planned_there t verified n p x found.here found.types made v found.is_matched found.are_types plan in
@@ -225,15 +225,15 @@ rewritten_computes t verified n p x a done front k proper computes operands foun
       given_is = given_is;
       computes = record {
         below =
-            given_each a c n x v done (λ h. h.id < n + length made) (λ h p. p) (with_made front n made t)
-            (all_put (λ h. h.id < n + length made) front n made t (new_below (n + length made) n made (omega arith)) bare (old_below a c n x v done goes.agrees t computes.below (n + length made) (omega arith)));
+            given_each a c n x v done (λ h. h.id < n + length made) (λ h p. p) (with_made insertion n made t)
+            (all_put (λ h. h.id < n + length made) insertion n made t (new_below (n + length made) n made (omega arith)) bare (old_below a c n x v done goes.agrees t computes.below (n + length made) (omega arith)));
         fits =
-            given_fits a c n x v done (given_is ∙ sym root_is) (with_made front n made t)
-            (all_put (IsFit a c n x v done) front n made t (new_fit a c n x v done n made goes.fits (all_unflagged found.types q.env n _ p.new found.here q.last made q.made)) bare (old_fits a c n x v done goes.agrees t computes.below computes.fits operands));
+            given_fits a c n x v done (given_is ∙ sym root_is) (with_made insertion n made t)
+            (all_put (IsFit a c n x v done) insertion n made t (new_fit a c n x v done n made goes.fits (all_unflagged found.types q.env n _ p.new found.here q.last made q.made)) bare (old_fits a c n x v done goes.agrees t computes.below computes.fits operands));
         typed =
             let old = old_typed a c n x v done goes.agrees t computes.below computes.typed in (
-              given_each a c n x v done (ResultsOfTypes c) (λ h p. p) (with_made front n made t) (all_put (ResultsOfTypes c) front n made t (new_typed c n made goes.typed) bare old.0),
-              given_blocks a c n x v done (ArgumentsOfTypes c) (with_made front n made t) (all_blocks (ArgumentsOfTypes c) front n made t bare old.1),
+              given_each a c n x v done (ResultsOfTypes c) (λ h p. p) (with_made insertion n made t) (all_put (ResultsOfTypes c) insertion n made t (new_typed c n made goes.typed) bare old.0),
+              given_blocks a c n x v done (ArgumentsOfTypes c) (with_made insertion n made t) (all_blocks (ArgumentsOfTypes c) insertion n made t bare old.1),
             );
       };
     }

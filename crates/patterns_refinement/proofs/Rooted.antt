@@ -23,7 +23,7 @@ use Rattle.patterns_refinement.specs.Applied.{IsFound, IsProper}
 use Rattle.patterns_refinement.specs.Better.{is_arithmetic_there}
 use Rattle.patterns_refinement.specs.Observing.{is_computed}
 use Rattle.patterns_refinement.proofs.Forms.{form_rule, defining_op_of, defining_op_type, named_is}
-use Rattle.patterns_refinement.proofs.Going.{formed_parts, made_parts, matched_parts, typed_at, typed_parts}
+use Rattle.patterns_refinement.proofs.Going.{wellformed_parts, made_parts, matched_parts, typed_at, typed_parts}
 use Rattle.patterns_refinement.proofs.Rewritten.{AllPut}
 use Rattle.patterns_refinement.proofs.Standing.{AllHold, Holds, Stands, one_stands, stands_standing}
 
@@ -50,7 +50,7 @@ named_at (o ∷ ps) (suc i) q e s = named_at ps i q (and_parts (has_name o.form)
 -- if a pattern matches, an arithmetic operation computes the root's result
 pub root_computed : (t : Operation) (verified : Header → Bool) (n : ℕ) (p : PatternModel) (x : ℕ) (a : Assignment) (done : ℕ → Bool) → IsProper p → IsFound t verified n p x a done → is_computed t (Result x 0) ≡ true
 root_computed t verified n p x a done proper found =
-    let f = formed_parts p proper.formed in
+    let f = wellformed_parts p proper.wellformed in
     let k = made_parts p proper.buildable in
     let at = matched_parts t verified n p x found.here found.is_matched in
     let are = typed_parts t verified n p found.here found.types found.are_types in

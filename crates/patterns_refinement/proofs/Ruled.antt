@@ -34,7 +34,7 @@ use Rattle.user_patterns_check.specs.Checks.{refines}
 use Rattle.patterns_base.specs.declared.rule.Rule.{Rule}
 use Rattle.patterns_base.specs.declared.rule.Rule.TheVariants.{EraseDead}
 use Rattle.patterns_base.specs.RuleNames.{is_erasing}
-use Rattle.patterns_base.specs.Looks.{constant_value, front_of, defining_op, is_verified, is_in_order, known, source}
+use Rattle.patterns_base.specs.Looks.{constant_value, insertion_of, defining_op, is_verified, is_in_order, known, source}
 use Rattle.patterns_base.specs.Looks as looks
 use Rattle.patterns_base.specs.Rewrites.{becomes, edits_of, rewrite_of, eligible}
 use Rattle.patterns_base.specs.Rules.{rule}
@@ -47,7 +47,7 @@ use Rattle.patterns_refinement.specs.Better.{AreKinded, OthersAreKinded, is_arit
 use Rattle.patterns_refinement.specs.Observing.{is_computed}
 use Rattle.patterns_refinement.specs.Keeping.{Computing, IsFed, is_there}
 use Rattle.patterns_refinement.proofs.Applying.{carried, some_edits}
-use Rattle.patterns_refinement.proofs.Formed.{is_below, operands_stand}
+use Rattle.patterns_refinement.proofs.Wellformed.{is_below, operands_stand}
 use Rattle.patterns_refinement.proofs.Forms.{by_constant, fold_kind, makes_is, named_is}
 use Rattle.patterns_refinement.proofs.Monotone.{same_refined}
 use Rattle.patterns_refinement.proofs.Numeric.{is_numeric, numeric_named}
@@ -65,9 +65,9 @@ pub record Ruled (r : Rule) (m n : Module) (x : ℕ) : Type 0 where
   pub here : Operation
   pub found : find x m.tree ≡ Some here
   pub id : (head here).id ≡ x
-  pub front : Place
+  pub insertion : Place
   pub suited : eligible r m.tree (head here) ≡ true
-  pub made : rule r m.tree m.next front here ≡ Some edits
+  pub made : rule r m.tree m.next insertion here ≡ Some edits
   pub free : Free edits m
   pub module_is : all_edited edits m ≡ n
   pub within : x < m.next
@@ -79,21 +79,21 @@ unfolding eligible
 suited_verified r t h s e = sym (ap (λ b. if b then is_in_order t h else is_verified t h) e) ∙ s
 
 pub ruled : AreAccepted → (r : Rule) (m n : Module) (x : ℕ) → IsWellFormed is_isolated m → IsSorted m → rewrite_of r m x ≡ becomes n → Ruled r m n x
-ruled accepted r m n x formed sorted e =
+ruled accepted r m n x wellformed sorted e =
     let s = some_edits m n (edits_of r m x) (sym (rewrite_is r m x) ∙ e) in
-    let g = given_some (find x m.tree) (λ o. given (front_of x m.tree) (λ front. looks.when (eligible r m.tree (head o)) (rule r m.tree m.next front o))) s.0 (sym (edits_are r m x) ∙ s.1) in
-    let f = given_some (front_of x m.tree) (λ front. looks.when (eligible r m.tree (head g.0)) (rule r m.tree m.next front g.0)) s.0 g.2 in
+    let g = given_some (find x m.tree) (λ o. given (insertion_of x m.tree) (λ insertion. looks.when (eligible r m.tree (head o)) (rule r m.tree m.next insertion o))) s.0 (sym (edits_are r m x) ∙ s.1) in
+    let f = given_some (insertion_of x m.tree) (λ insertion. looks.when (eligible r m.tree (head g.0)) (rule r m.tree m.next insertion g.0)) s.0 g.2 in
     let w = when_some (eligible r m.tree (head g.0)) (rule r m.tree m.next f.0 g.0) s.0 f.2 in
-    let b = each_found (λ h. h.id < m.next) x m.tree (is_below m.next m.tree formed.below) g.0 g.1 in
+    let b = each_found (λ h. h.id < m.next) x m.tree (is_below m.next m.tree wellformed.below) g.0 g.1 in
     record {
       edits = s.0;
       here = g.0;
       found = g.1;
       id = b.1;
-      front = f.0;
+      insertion = f.0;
       suited = w.0;
       made = w.1;
-      free = accepted r m x formed sorted s.0 n s.1 s.2;
+      free = accepted r m x wellformed sorted s.0 n s.1 s.2;
       module_is = carried m n s.0 s.2;
       within = subst (λ y. y < m.next) b.1 b.0;
       numeric = λ i. numeric_named r m.tree m.next f.0 g.0 s.0 i w.1;
@@ -102,8 +102,8 @@ ruled accepted r m n x formed sorted e =
 
 -- the operation's result has a kind, unless the rule erases
 pub root_has : {r : Rule} {m n : Module} {x : ℕ} → (q : Ruled r m n x) → IsWellFormed is_isolated m → AreKinded m.tree → is_erasing r ≡ false → HasKind (head q.here)
-root_has {r} {m} {n} {x} q formed kinded e =
-    verified_has_kind m.tree q.here formed.distinct (ap (λ y. find y m.tree) q.id ∙ q.found) (q.verified e) (each_found (λ h. is_kinded m.tree h ≡ true) x m.tree kinded q.here q.found).0
+root_has {r} {m} {n} {x} q wellformed kinded e =
+    verified_has_kind m.tree q.here wellformed.distinct (ap (λ y. find y m.tree) q.id ∙ q.found) (q.verified e) (each_found (λ h. is_kinded m.tree h ≡ true) x m.tree kinded q.here q.found).0
 
 -- a rule of arithmetic doesn't erase
 pub numeric_stays : (r : Rule) → is_numeric r ≡ true → is_erasing r ≡ false
@@ -122,15 +122,15 @@ pub record Site (m : Module) (a : Assignment) (done : ℕ → Bool) (x : ℕ) (o
   pub has : HasKind (head o)
 
 pub site_of : (m : Module) (a : Assignment) (done : ℕ → Bool) (x : ℕ) (o : Operation) → IsWellFormed is_isolated m → AreKinded m.tree → Computing a done m.tree → find x m.tree ≡ Some o → HasKind (head o) → Site m a done x o
-site_of m a done x o formed kinded computing e has = record {
+site_of m a done x o wellformed kinded computing e has = record {
   has = has;
   found = e;
   computing = computing;
   types = types_found a m.tree computing.typed;
   kinded = (each_found (λ h. is_kinded m.tree h ≡ true) x m.tree kinded o e).0;
-  values = (each_found (λ h. list_all (λ v. has_value v m.tree) h.operands ≡ true) x m.tree (operands_stand is_isolated m.tree formed.distinct formed.formed.visible) o e).0;
+  values = (each_found (λ h. list_all (λ v. has_value v m.tree) h.operands ≡ true) x m.tree (operands_stand is_isolated m.tree wellformed.distinct wellformed.wellformed.visible) o e).0;
   fed = λ d. let f = each_found (IsFed done) x m.tree computing.fed o e in f.0 (ap done f.1 ∙ d);
-  below = is_below m.next m.tree formed.below;
+  below = is_below m.next m.tree wellformed.below;
 }
 
 -- the kinds of the operation's values
@@ -229,7 +229,7 @@ one_result name props (ty ∷ []) x zero e s = refl
 one_result name props (ty ∷ []) x (suc k) e s = absurd (true≢false (sym s))
 
 -- the known number of a value, by its constant, refines its outcome
-module _ (m : Module) (a : Assignment) (done : ℕ → Bool) (formed : IsWellFormed is_isolated m) (computing : Computing a done m.tree) (kinded : AreKinded m.tree) where
+module _ (m : Module) (a : Assignment) (done : ℕ → Bool) (wellformed : IsWellFormed is_isolated m) (computing : Computing a done m.tree) (kinded : AreKinded m.tree) where
   pub known_there : (v : Value) (x : Known) → has_value v m.tree ≡ true → is_there done v ≡ true → known m.tree v ≡ Some x → refines (a v) (Some x) ≡ true
   unfolding known
   known_there (Arg y r k) x h there e = absurd (none-some x e)
@@ -242,7 +242,7 @@ module _ (m : Module) (a : Assignment) (done : ℕ → Bool) (formed : IsWellFor
       let name = ap rule_of (ap (λ (h : Header). h.name) p.2 ∙ named_is (codes "arith.constant") f.0.name (and_parts (named (codes "arith.constant") f.0.name) (is_verified m.tree f.0) w.0).0) ∙ by_constant in
       let folds : fold_of (head p.0).name (head p.0).properties [] (head p.0).results ≡ Some x = subst (λ (h : Header). fold_of h.name h.properties [] h.results ≡ Some x) (sym head_is) g.2 in
       let first : k ≡ 0 = one_result (head p.0).name (head p.0).properties (head p.0).results x k folds (sym (ap (λ o. is_some (option_and_then (λ (o : Operation). slice_get (head o).results k) o)) p.1) ∙ h) in
-      let s = site_of m a done y p.0 formed kinded computing p.1 (λ e. absurd (true≢false (sym (sym (ap asks_kind name) ∙ e)))) in
+      let s = site_of m a done y p.0 wellformed kinded computing p.1 (λ e. absurd (true≢false (sym (sym (ap asks_kind name) ∙ e)))) in
       subst (λ k. refines (a (Result y k)) (Some x) ≡ true) (sym first)
       (gives_refined m a done y p.0 s how.Constant (Some x) name (known_kinds m.tree (head p.0) s.kinded how.Constant name x.0 (fold_kind (head p.0).name (head p.0).properties [] (head p.0).results x folds)) there
       (λ z i. same_refined z (Some x) (same_Some _ _ (sym i ∙ given_at (fold_of (head p.0).name (head p.0).properties [] (head p.0).results) x (λ x. Some (Some x)) (Some (Some x)) folds refl))))

@@ -14,7 +14,7 @@ use Rattle.user_patterns_apply.specs.Own.{own_rewrite}
 use Rattle.greedy.specs.PatternSet.{RuleOrPatternModel, OfOwn, OfRule, attempted}
 use Rattle.patterns_refinement.specs.Keeping.{IsReady, done_after}
 use Rattle.patterns_refinement.specs.Runs.{ComputesThrough, Leads, RunsKeep}
-use Rattle.patterns_refinement.specs.MixedRuns.{KeptThrough, LeadsBy}
+use Rattle.patterns_refinement.specs.RuleListRuns.{KeptThrough, LeadsBy}
 use Rattle.patterns_refinement.specs.Passing.{KeptAt}
 use Rattle.patterns_refinement.proofs.Applying.{applies}
 use Rattle.patterns_refinement.proofs.Giving.{after_old}
@@ -57,7 +57,7 @@ own_of p m n x e = where_tried _ (own_rewrite p m x) n e
 pub own_grows : (p : PatternModel) (m n : Module) (x : ℕ) → own_rewrite p m x ≡ becomes n → m.next ≤ n.next
 own_grows p m n x e =
     let q = applies p m n x e in
-    subst (λ (n : Module). m.next ≤ n.next) q.module_is (all_grow (map (λ o. Make q.front o) q.made ++ give x q.value) m)
+    subst (λ (n : Module). m.next ≤ n.next) q.module_is (all_grow (map (λ o. Make q.insertion o) q.made ++ give x q.value) m)
 
 attempt_grows : (t : RuleOrPatternModel) (m n : Module) (x : ℕ) → attempted t m x ≡ becomes n → m.next ≤ n.next
 attempt_grows (OfRule r) m n x e = rewrite_grows r m n x e
@@ -98,7 +98,7 @@ module _ (I : Module → Type 0) (ts : List RuleOrPatternModel) (keep : (t : Rul
                   stays = λ v l e. j.improves.stays v (omega (arith, l, grows)) (r.free v l e) ∙ r.stays v l e;
                   free = λ v l e. j.improves.free v (omega (arith, l, grows)) (r.free v l e);
                   computing = j.improves.computing;
-                  shows = shows_through a r.now j.improves.now m p n.tree (done_after m.next x done) j.later ready.formed grows j.same r.shows j.improves.shows;
+                  shows = shows_through a r.now j.improves.now m p n.tree (done_after m.next x done) j.later ready.wellformed grows j.same r.shows j.improves.shows;
                 };
               }),
         ),

@@ -112,4 +112,4 @@ keeps_all ((suc (suc (suc (suc v)))) ∷ vs) l = absurd (four v l.0)
 
 pub sample_is_kept : SampleIsKept
 unfolding found planned log_of first_below folds.fold_of folds.rule_of folds.rules words.operations words.is_inherent words.is_listed properties.is_allowed properties.is_of_kind properties.kind_of properties.kinds named.flagged registry.row_of rows.rows
-sample_is_kept = (record { formed = refl; buildable = refl; named = refl }, computes, (found, refl, keeps_all), refl)
+sample_is_kept = (record { wellformed = refl; buildable = refl; named = refl }, computes, (found, refl, keeps_all), refl)

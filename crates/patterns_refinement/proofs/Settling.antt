@@ -28,7 +28,7 @@ use Rattle.user_patterns_data.specs.Matching.{Header}
 use Rattle.patterns_refinement.proofs.FlagsKept.{known_refined, still_unbroken}
 use Rattle.patterns_refinement.specs.Meaning.{ArgumentsOfTypes, Assignment, Each, EachBlock, FitsDone, IsOfType, ResultsOfTypes, is_arithmetic, makes, makes_by, of_two, result_kind, Obeys, breaks_flags}
 use Rattle.patterns_refinement.specs.Better.{AllBetter, AreOf, GivesLess, GivesNoLess, IsSure, Settles, is_kinded, is_poison_by_ones, is_signed_quotient, kind_in, may_overflow, gives, is_arithmetic_there, KeepsFlags}
-use Rattle.patterns_refinement.proofs.Formed.{each_stands}
+use Rattle.patterns_refinement.proofs.Wellformed.{each_stands}
 use Rattle.patterns_refinement.proofs.Trees.{TypesFound, each_found, types_found}
 use Rattle.patterns_refinement.proofs.OfBits.{IsOfBits}
 use Rattle.patterns_refinement.proofs.MadeOf.{HaveBits, made_of}

@@ -32,7 +32,7 @@ use Rattle.patterns_refinement.specs.Better.{AllBetter, is_arithmetic_there}
 use Rattle.patterns_refinement.specs.Observing.{AreSameValues, IsSameValue, RegionsFollow, ShownWereThere, Shows, Stays, is_computed, is_unmissed, shown_regions}
 use Rattle.patterns_refinement.proofs.Edited.{each_both, each_changed}
 use Rattle.patterns_refinement.proofs.Follows.{EachWhole, IsUnmissedAt, WholeAmong, WholeInRegion, WholeInRegions, follows_changed, follows_itself, follows_through, follows_without, unmissed_among_shown, were_there}
-use Rattle.patterns_refinement.proofs.Formed.{is_below, operands_stand}
+use Rattle.patterns_refinement.proofs.Wellformed.{is_below, operands_stand}
 use Rattle.patterns_refinement.proofs.Monotone.{through}
 use Rattle.patterns_refinement.proofs.Rewritten.{AllPut}
 use Rattle.patterns_refinement.proofs.Settling.{each_by_found}
@@ -74,13 +74,13 @@ module _ (P : Operation → Type 0) where
     region_stand p path r empty f = tt
     region_stand p path r (block args os) f = ops_stand p path r args [] os f
 
-    ops_stand : (p : Operation) (path : List Step) (r : ℕ) (args : List TypeTerm) (front : List Operation) (os : Ops) → OfAll (ops_stands p path r args front os) → WholeAmong P os
-    ops_stand p path r args front no_ops f = tt
-    ops_stand p path r args front (next o os) f =
-        let here = stands (record { parent = p; region = r; args = args; front = front; rest = os } ∷ path) o in
-        let more = ops_stands p path r args (front ++ (o ∷ [])) os in (
-          whole_stands (record { parent = p; region = r; args = args; front = front; rest = os } ∷ path) o (λ s i. f s (in_left s here more i)),
-          ops_stand p path r args (front ++ (o ∷ [])) os (λ s i. f s (in_right s here more i)),
+    ops_stand : (p : Operation) (path : List Step) (r : ℕ) (args : List TypeTerm) (preceding : List Operation) (os : Ops) → OfAll (ops_stands p path r args preceding os) → WholeAmong P os
+    ops_stand p path r args preceding no_ops f = tt
+    ops_stand p path r args preceding (next o os) f =
+        let here = stands (record { parent = p; region = r; args = args; preceding = preceding; rest = os } ∷ path) o in
+        let more = ops_stands p path r args (preceding ++ (o ∷ [])) os in (
+          whole_stands (record { parent = p; region = r; args = args; preceding = preceding; rest = os } ∷ path) o (λ s i. f s (in_left s here more i)),
+          ops_stand p path r args (preceding ++ (o ∷ [])) os (λ s i. f s (in_right s here more i)),
         )
 
 -- ---- small parts
@@ -159,15 +159,15 @@ module _ (x : ℕ) (v : Value) (t : Operation) (numbers : Each (IsNumberAt x) t)
   regions_changed : (t : Operation) → regions (each_head (put_values (Result x 0) v) t) ≡ regions_each_head (put_values (Result x 0) v) (regions t)
   regions_changed (op h rs) = refl
 
-  shown_made : (front : Place) (n : ℕ) (made : List Operation) (t : Operation) → AllPut (λ h. is_arithmetic h ≡ true) n made → shown_regions (regions (with_made front n made t)) ≡ shown_regions (regions t)
-  shown_made front n [] t s = refl
-  shown_made front n (o ∷ os) t s = shown_made front (n + 1) os (put front (with_id n o) t) s.1 ∙ one t
+  shown_made : (insertion : Place) (n : ℕ) (made : List Operation) (t : Operation) → AllPut (λ h. is_arithmetic h ≡ true) n made → shown_regions (regions (with_made insertion n made t)) ≡ shown_regions (regions t)
+  shown_made insertion n [] t s = refl
+  shown_made insertion n (o ∷ os) t s = shown_made insertion (n + 1) os (put insertion (with_id n o) t) s.1 ∙ one t
     where
       number : (o : Operation) → is_arithmetic (record (head o) { id = n }) ≡ true → is_arithmetic (head (with_id n o)) ≡ true
       number (op h rs) e = e
 
-      one : (t : Operation) → shown_regions (regions (put front (with_id n o) t)) ≡ shown_regions (regions t)
-      one (op h rs) = shown_put front (with_id n o) (number o s.0) h.id 0 rs
+      one : (t : Operation) → shown_regions (regions (put insertion (with_id n o) t)) ≡ shown_regions (regions t)
+      one (op h rs) = shown_put insertion (with_id n o) (number o s.0) h.id 0 rs
 
   without_shown : (x : ℕ) (u : Operation) → shown_regions (regions (without x u)) ≡ regions_each_list (λ p r os. drop_op x os) (head u).id 0 (shown_regions (regions u))
   without_shown x (op h rs) = shown_without x h.id 0 rs
@@ -175,34 +175,34 @@ module _ (x : ℕ) (v : Value) (t : Operation) (numbers : Each (IsNumberAt x) t)
   changed_shown : (u : Operation) → shown_regions (regions (each_head (put_values (Result x 0) v) u)) ≡ regions_each_head (put_values (Result x 0) v) (shown_regions (regions u))
   changed_shown (op h rs) = shown_changed (put_values (Result x 0) v) (λ h. refl) rs
 
-  pub rewritten_shown : (front : Place) (n : ℕ) (made : List Operation) → AllPut (λ h. is_arithmetic h ≡ true) n made
-      → shown_regions (regions (rewritten front n made x v t)) ≡ regions_each_head (put_values (Result x 0) v) (shown_regions (regions t))
-  rewritten_shown front n made s =
-      let u = with_made front n made t in
+  pub rewritten_shown : (insertion : Place) (n : ℕ) (made : List Operation) → AllPut (λ h. is_arithmetic h ≡ true) n made
+      → shown_regions (regions (rewritten insertion n made x v t)) ≡ regions_each_head (put_values (Result x 0) v) (shown_regions (regions t))
+  rewritten_shown insertion n made s =
+      let u = with_made insertion n made t in
       let w = with_value_replaced (Result x 0) v u in
-      let same : shown_regions (regions w) ≡ shown_regions (regions (each_head f t)) = changed_shown u ∙ ap (regions_each_head f) (shown_made front n made t s) ∙ sym (changed_shown t) in
+      let same : shown_regions (regions w) ≡ shown_regions (regions (each_head f t)) = changed_shown u ∙ ap (regions_each_head f) (shown_made insertion n made t s) ∙ sym (changed_shown t) in
       without_shown x w ∙ ap (regions_each_list (λ p r os. drop_op x os) (head w).id 0) same
       ∙ shown_lacks x (head w).id 0 (regions (each_head f t)) (inside (IsNumberAt x) (each_head f t) (each_changed (IsNumberAt x) (IsNumberAt x) f (λ h p. p) t numbers))
       ∙ changed_shown t
 
-  head_made : (front : Place) (n : ℕ) (made : List Operation) (t : Operation) → head (with_made front n made t) ≡ head t
-  head_made front n [] t = refl
-  head_made front n (o ∷ os) t = head_made front (n + 1) os (put front (with_id n o) t) ∙ one t
+  head_made : (insertion : Place) (n : ℕ) (made : List Operation) (t : Operation) → head (with_made insertion n made t) ≡ head t
+  head_made insertion n [] t = refl
+  head_made insertion n (o ∷ os) t = head_made insertion (n + 1) os (put insertion (with_id n o) t) ∙ one t
     where
-      one : (t : Operation) → head (put front (with_id n o) t) ≡ head t
+      one : (t : Operation) → head (put insertion (with_id n o) t) ≡ head t
       one (op h rs) = refl
 
-  pub rewritten_head : (front : Place) (n : ℕ) (made : List Operation) → head (rewritten front n made x v t) ≡ put_values (Result x 0) v (head t)
-  rewritten_head front n made = one (with_made front n made t) ∙ ap f (head_made front n made t)
+  pub rewritten_head : (insertion : Place) (n : ℕ) (made : List Operation) → head (rewritten insertion n made x v t) ≡ put_values (Result x 0) v (head t)
+  rewritten_head insertion n made = one (with_made insertion n made t) ∙ ap f (head_made insertion n made t)
     where
       one : (u : Operation) → head (without x (with_value_replaced (Result x 0) v u)) ≡ put_values (Result x 0) v (head u)
       one (op h rs) = refl
 
-  pub rewritten_follows : (a now : Assignment) (later : ℕ → Bool) (front : Place) (n : ℕ) (made : List Operation) → AllPut (λ h. is_arithmetic h ≡ true) n made
+  pub rewritten_follows : (a now : Assignment) (later : ℕ → Bool) (insertion : Place) (n : ℕ) (made : List Operation) → AllPut (λ h. is_arithmetic h ≡ true) n made
       → Each (λ h. Stays t a now later h (put_values (Result x 0) v h)) t
-      → RegionsFollow (Stays t a now later) (shown_regions (regions t)) (shown_regions (regions (rewritten front n made x v t)))
-  rewritten_follows a now later front n made s e =
-      subst (RegionsFollow (Stays t a now later) (shown_regions (regions t))) (sym (rewritten_shown front n made s))
+      → RegionsFollow (Stays t a now later) (shown_regions (regions t)) (shown_regions (regions (rewritten insertion n made x v t)))
+  rewritten_follows a now later insertion n made s e =
+      subst (RegionsFollow (Stays t a now later) (shown_regions (regions t))) (sym (rewritten_shown insertion n made s))
       (follows_changed (Stays t a now later) f (shown_regions (regions t)) (each_shown (λ h. Stays t a now later h (put_values (Result x 0) v h)) (regions t) (inside (λ h. Stays t a now later h (put_values (Result x 0) v h)) t e)))
 
 -- ---- an operation erased
@@ -224,11 +224,11 @@ abbrev pub IsOld : ℕ → Header → Type 0
 IsOld n h = (h.id < n) × ((v : Value) → In v h.operands → owner v < n)
 
 all_old : (m : Module) → IsWellFormed is_isolated m → Each (IsOld m.next) m.tree
-all_old m formed =
-    let below = is_below m.next m.tree formed.below in
+all_old m wellformed =
+    let below = is_below m.next m.tree wellformed.below in
     each_both (λ h. h.id < m.next) (λ h. list_all (λ v. has_value v m.tree) h.operands ≡ true) (IsOld m.next)
     (λ h l e. (l, (λ v i. value_below m.next m.tree below v (all_each (λ v. has_value v m.tree) h.operands e v i)))) m.tree below
-    (operands_stand is_isolated m.tree formed.distinct formed.formed.visible)
+    (operands_stand is_isolated m.tree wellformed.distinct wellformed.wellformed.visible)
 
 module _ (a b c : Assignment) (m p : Operation) (n : ℕ) (before later : ℕ → Bool) (same : (y : ℕ) → y < n → later y ≡ before y) (plain : (v : Value) → owner v < n → is_computed m v ≡ false → is_computed p v ≡ false) where
   values_through : (us vs ws : List Value) → ((v : Value) → In v us → owner v < n) → AreSameValues m us vs → AreSameValues p vs ws → AreSameValues m us ws
@@ -262,8 +262,8 @@ module _ (a b c : Assignment) (m p : Operation) (n : ℕ) (before later : ℕ �
 -- a module shows what the first module showed, if each shows what the one before showed
 pub shows_through : (a b c : Assignment) (m p : Module) (t : Operation) (before later : ℕ → Bool) → IsWellFormed is_isolated m → m.next ≤ p.next → ((y : ℕ) → y < p.next → later y ≡ before y)
     → Shows a b m before p.tree → Shows b c p later t → Shows a c m later t
-shows_through a b c m p t before later formed grows same s r =
-    let old = all_old m formed in
+shows_through a b c m p t before later wellformed grows same s r =
+    let old = all_old m wellformed in
     let through = stays_through a b c m.tree p.tree m.next before later (λ y l. same y (omega (arith, l, grows))) s.plain in
     record {
       root = λ e. let first = s.root e in through (head m.tree) (head p.tree) (head t) (at_root (IsOld m.next) m.tree old) first (r.root (ap is_arithmetic (sym first.same) ∙ e));

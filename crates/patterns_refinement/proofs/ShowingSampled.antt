@@ -155,13 +155,13 @@ below (suc (suc (suc (suc k)))) d l = absurd (four k l)
     four : (k : ℕ) → suc (suc (suc (suc k))) < 4 → ⊥
     four k l = omega (arith, l)
 
-formed : IsWellFormed is_isolated (function_of 5 (summing (returning (Result 2 0))))
+wellformed : IsWellFormed is_isolated (function_of 5 (summing (returning (Result 2 0))))
 unfolding words.operations words.is_listed words.is_table words.is_isolated
-formed = record {
+wellformed = record {
   distinct = IsDistinct-from_count nat_eq_equiv (0 ∷ 1 ∷ 2 ∷ 4 ∷ []) refl;
   below = below;
   next = omega arith;
-  formed = record { visible = refl; shallow = omega arith; counts = refl };
+  wellformed = record { visible = refl; shallow = omega arith; counts = refl };
 }
 
 kinded : AreKinded (function_of 5 (summing (returning (Result 2 0)))).tree
@@ -190,7 +190,7 @@ computes = record {
 }
 
 sum_computes : SumComputes
-sum_computes = (record { formed = formed; sorted = refl; kinded = kinded }, computes, refl)
+sum_computes = (record { wellformed = wellformed; sorted = refl; kinded = kinded }, computes, refl)
 
 greatest_typed : (k : ℕ) (ty : TypeTerm) → slice_get (i8 ∷ []) k ≡ Some ty → IsOfType ty (greatest_and_one (Result 2 k))
 greatest_typed zero ty e = subst (λ ty. IsOfType ty (Some (kind.Int 8, 128))) (same_Some _ _ e) (refl, refl)

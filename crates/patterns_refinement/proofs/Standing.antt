@@ -111,8 +111,8 @@ module _ (t : Operation) (verified : Header → Bool) where
   all_hold_still k [] b c h r = tt
   all_hold_still k (p ∷ ps) b c h r = (holds_still k p b c h r.0, all_hold_still (k + 1) ps b c h r.1)
 
-  piece_holds : (k : ℕ) (p : PatternOp) (b c : Standing Value) → op_matches t verified (k, p) b ≡ Some c → Holds k p c × Keeps b c
-  piece_holds k p b c e =
+  pattern_op_holds : (k : ℕ) (p : PatternOp) (b c : Standing Value) → op_matches t verified (k, p) b ≡ Some c → Holds k p c × Keeps b c
+  pattern_op_holds k p b c e =
       let u = given_some (standing k b) (λ v. value_matched t verified p v b) c e in
       let s = given_some (defining_op_head t verified u.0) (λ h. header_matched t verified p h b) c u.2 in
       let w = when_is (named (name_of p.form) s.0.name && asks_alike t verified p s.0) (all_bound same_value (operands_of p.form) s.0.operands b) c s.2 in
@@ -148,7 +148,7 @@ module _ (t : Operation) (verified : Header → Bool) where
   all_hold k (p ∷ ps) b c e =
       let g = given_some (ops_match t verified (placed (k + 1) ps) b) (λ d. op_matches t verified (k, p) d) c (sym (matched_after (placed (k + 1) ps) (k, p) b) ∙ e) in
       let r = all_hold (k + 1) ps b g.0 g.1 in
-      let s = piece_holds k p g.0 c g.2 in
+      let s = pattern_op_holds k p g.0 c g.2 in
       ((s.0, all_hold_still (k + 1) ps g.0 c s.1 r.0), (λ j v h. s.1 j v (r.1 j v h)))
 
   -- ---- types

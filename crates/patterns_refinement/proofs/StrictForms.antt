@@ -16,25 +16,25 @@ use Rattle.user_patterns_data.specs.declared.pattern.ExtraConstant.TheVariants a
 use Rattle.user_patterns_data.specs.declared.pattern.ConstantExpression.{ConstantExpression}
 use Rattle.user_patterns_data.specs.declared.pattern.ConstantExpression.TheVariants as number
 use Rattle.user_patterns_data.specs.declared.pattern.TypeConstraint.{TypeConstraint}
-use Rattle.user_patterns_data.specs.declared.pattern.TypeConstraint.TheVariants as asked
+use Rattle.user_patterns_data.specs.declared.pattern.TypeConstraint.TheVariants as requested
 use Rattle.user_patterns_data.specs.declared.pattern.NewValue.{NewValue}
 use Rattle.user_patterns_data.specs.declared.pattern.NewValue.TheVariants as new
 use Rattle.user_patterns_data.specs.declared.pattern.PatternOp.{PatternOp}
-use Rattle.user_patterns_data.specs.Fitting.{bits_with, content_with, fits, form_step, extra_fits, extra_step, is_asked, is_integer, kind_at, new_step, number_fits, number_step, or_zero, piece_step}
+use Rattle.user_patterns_data.specs.Fitting.{bits_with, content_with, fits, form_step, extra_fits, extra_step, is_requested, is_integer, kind_at, new_step, number_fits, number_step, or_zero, pattern_op_step}
 use Rattle.user_patterns_data.specs.Shapes.{PatternModel}
-use Rattle.user_patterns_widths.specs.AllWidths.{extra_has, has_type, literal_has, new_has, number_has, piece_has}
+use Rattle.user_patterns_widths.specs.AllWidths.{extra_has, has_type, literal_has, new_has, number_has, pattern_op_has}
 use Rattle.user_patterns_widths.specs.Lasting.{RefinesAtAllWidths, are_kinds}
 use Rattle.patterns_refinement.specs.Applied.{is_typed}
-use Rattle.patterns_refinement.specs.Strict.{is_asked_of, new_is_total, piece_is_strict}
+use Rattle.patterns_refinement.specs.Strict.{is_requested_of, new_is_total, pattern_op_is_strict}
 
 -- the properties of such a pattern: at all valid kinds of its types its new values have their types, and it refines
 -- if its one type has some width
 pub record Uniform (p : PatternModel) : Type 0 where
   pub ty : ℕ
   pub values : list_all (λ v. v == ty) p.values ≡ true
-  pub olds : list_all (piece_has ty) p.old ≡ true
+  pub olds : list_all (pattern_op_has ty) p.old ≡ true
   pub news : list_all (new_has ty) p.new ≡ true
-  pub strict : list_all piece_is_strict p.old ≡ true
+  pub strict : list_all pattern_op_is_strict p.old ≡ true
   pub total : list_all new_is_total p.new ≡ true
   pub typed : (ks : List BitsKind) → is_typed ks p ≡ true
   pub keeps : (ks : List BitsKind) → is_width (width_of (kind_at ks ty)) ≡ true → AlwaysKeeps (content_with ks p)
@@ -53,7 +53,7 @@ pub record HasType (p : PatternModel) (t : ℕ) : Type 0 where
   pub values : list_all (λ v. v == t) p.values ≡ true
   pub extra : list_all (extra_has t) p.extra ≡ true
   pub given : list_all (number_has t) p.given ≡ true
-  pub olds : list_all (piece_has t) p.old ≡ true
+  pub olds : list_all (pattern_op_has t) p.old ≡ true
   pub news : list_all (new_has t) p.new ≡ true
 
 pub has_parts : (p : PatternModel) (t : ℕ) → has_type t p ≡ true → HasType p t
@@ -61,7 +61,7 @@ has_parts p t has =
     let a = and_parts (list_all (λ v. v == t) p.values) _ has in
     let b = and_parts (list_all (extra_has t) p.extra) _ a.1 in
     let c = and_parts (list_all (number_has t) p.given) _ b.1 in
-    let d = and_parts (list_all (piece_has t) p.old) (list_all (new_has t) p.new) c.1 in
+    let d = and_parts (list_all (pattern_op_has t) p.old) (list_all (new_has t) p.new) c.1 in
     record { values = a.0; extra = b.0; given = c.0; olds = d.0; news = d.1 }
 
 -- ---- a pattern without its width constraints
@@ -106,11 +106,11 @@ module _ (p : PatternModel) (t : ℕ) (ks js : List BitsKind) (same : kind_at js
   same_number (number.Log2 i) e = refl
   same_number (number.Require i) e = refl
 
-  same_piece : (o : PatternOp) → piece_has t o ≡ true → piece_step js o ≡ piece_step ks o
-  same_piece o e = ap (λ k. form_step k o.form) (at_type o.ty e)
+  same_pattern_op : (o : PatternOp) → pattern_op_has t o ≡ true → pattern_op_step js o ≡ pattern_op_step ks o
+  same_pattern_op o e = ap (λ k. form_step k o.form) (at_type o.ty e)
 
   same_new : (w : NewValue) → new_has t w ≡ true → new_step js w ≡ new_step ks w
-  same_new (new.Operation o) e = same_piece o e
+  same_new (new.Operation o) e = same_pattern_op o e
   same_new (new.Constant i u) e = refl
 
   extra_fits_too : (f : ExtraConstant) → extra_has t f ≡ true → extra_fits js f ≡ extra_fits ks f
@@ -138,13 +138,13 @@ module _ (p : PatternModel) (t : ℕ) (ks js : List BitsKind) (same : kind_at js
       let n = same_tested (number_fits js) (number_fits ks) (number_has t) number_fits_too p.given all_has.given in
       (λ i. f i && n i)
 
-  same_asked : (a : TypeConstraint) → is_asked_of t a ≡ true → is_asked js a ≡ is_asked ks a
-  same_asked (asked.Narrower s u) e =
+  same_requested : (a : TypeConstraint) → is_requested_of t a ≡ true → is_requested js a ≡ is_requested ks a
+  same_requested (requested.Narrower s u) e =
       let q = and_parts (s == t) (u == t) e in
       let f = at_type s q.0 in
       let g = at_type u q.1 in
       (λ i. is_integer (f i) && (is_integer (g i) && nat_lt (width_of (f i)) (width_of (g i))))
-  same_asked (asked.Integer u) e = ap is_integer (at_type u e)
+  same_requested (requested.Integer u) e = ap is_integer (at_type u e)
 
   -- except for the condition under which it may be applied
   same_content : (c d : Bool) → c ≡ d → record (content_with js p) { applies = c } ≡ record (content_with ks p) { applies = d }
@@ -152,13 +152,13 @@ module _ (p : PatternModel) (t : ℕ) (ks js : List BitsKind) (same : kind_at js
       let v = same_mapped (kind_at js) (kind_at ks) (λ v. v == t) at_type p.values all_has.values in
       let f = same_mapped (extra_step js) (extra_step ks) (extra_has t) same_extra p.extra all_has.extra in
       let g = same_mapped (number_step js) (number_step ks) (number_has t) same_number p.given all_has.given in
-      let o = same_mapped (piece_step js) (piece_step ks) (piece_has t) same_piece p.old all_has.olds in
+      let o = same_mapped (pattern_op_step js) (pattern_op_step ks) (pattern_op_has t) same_pattern_op p.old all_has.olds in
       let w = same_mapped (new_step js) (new_step ks) (new_has t) same_new p.new all_has.news in
       (λ i. record { applies = e i; value_types = v i; given = f i ++ g i; old = o i; old_result = p.root; new = w i; new_result = p.result })
 
-  pub keeps_as : list_all (is_asked_of t) p.type_constraints ≡ true → AlwaysKeeps (content_with js p) → AlwaysKeeps (content_with ks p)
+  pub keeps_as : list_all (is_requested_of t) p.type_constraints ≡ true → AlwaysKeeps (content_with js p) → AlwaysKeeps (content_with ks p)
   keeps_as asks k =
-      let a = same_tested (is_asked js) (is_asked ks) (is_asked_of t) same_asked p.type_constraints asks in
+      let a = same_tested (is_requested js) (is_requested ks) (is_requested_of t) same_requested p.type_constraints asks in
       let f = same_fits in
       subst AlwaysKeeps (same_content (fits js p) (fits ks p) (λ i. a i && f i)) k
 
@@ -166,7 +166,7 @@ module _ (p : PatternModel) (t : ℕ) (ks js : List BitsKind) (same : kind_at js
   keeps_with k =
       subst AlwaysKeeps (same_content (fits ks p) (fits ks p) refl)
       (applied_less (content_with js (unasked p)) (fits ks p)
-      (λ e. same_fits ∙ (and_parts (list_all (is_asked ks) p.type_constraints) (list_all (extra_fits ks) p.extra && list_all (number_fits ks) p.given) e).1) k)
+      (λ e. same_fits ∙ (and_parts (list_all (is_requested ks) p.type_constraints) (list_all (extra_fits ks) p.extra && list_all (number_fits ks) p.given) e).1) k)
 
 -- the pattern refines if its one type has some width, whatever its other types are
 pub keeps_by_type : (p : PatternModel) (t : ℕ) → has_type t p ≡ true → RefinesAtAllWidths (unasked p) → (ks : List BitsKind) → is_width (width_of (kind_at ks t)) ≡ true → AlwaysKeeps (content_with ks p)
@@ -175,7 +175,7 @@ keeps_by_type p t has k ks w =
     keeps_with p t ks (map (λ j. one) ks) (all_one one ks t refl) has (k (map (λ j. one) ks) (all_widths one ks w))
 
 -- the same if its constraints are on that type only
-pub keeps_of_type : (p : PatternModel) (t : ℕ) → has_type t p ≡ true → list_all (is_asked_of t) p.type_constraints ≡ true → RefinesAtAllWidths p → (ks : List BitsKind) → is_width (width_of (kind_at ks t)) ≡ true → AlwaysKeeps (content_with ks p)
+pub keeps_of_type : (p : PatternModel) (t : ℕ) → has_type t p ≡ true → list_all (is_requested_of t) p.type_constraints ≡ true → RefinesAtAllWidths p → (ks : List BitsKind) → is_width (width_of (kind_at ks t)) ≡ true → AlwaysKeeps (content_with ks p)
 keeps_of_type p t has asks k ks w =
     let one = kind_at ks t in
     keeps_as p t ks (map (λ j. one) ks) (all_one one ks t refl) has asks (k (map (λ j. one) ks) (all_widths one ks w))

@@ -27,13 +27,13 @@ use Rattle.user_patterns_data.specs.Planning.{kind_standing, old_place}
 use Rattle.user_patterns_data.specs.Shapes.{PatternModel}
 use Rattle.user_patterns_data.specs.WellFormed.{form_stands, is_new, is_type, new_ends, new_stands, news_stand}
 use Rattle.user_patterns_build.specs.CanBuild.{new_type}
-use Rattle.user_patterns_widths.specs.AllWidths.{new_has, piece_has}
+use Rattle.user_patterns_widths.specs.AllWidths.{new_has, pattern_op_has}
 use Rattle.user_patterns_apply.specs.Own.{OwnAreAccepted, own_rewrite}
 use Rattle.patterns_refinement.specs.Applied.{IsProper, kinds_matched, new_fits, news_fit}
 use Rattle.patterns_refinement.specs.Keeping.{IsReady}
-use Rattle.patterns_refinement.specs.Passing.{FoundAt, KeepsAt, form_takes, is_always_defined, is_kinded_at, is_passing, kinds_there, new_is_defined, new_takes, news_take, passes_poison, piece_passes}
-use Rattle.patterns_refinement.specs.Strict.{KeepsComputingOwn, KeepsReadyOwn, is_strict_form, is_total, is_total_form, new_is_total, piece_is_strict}
-use Rattle.patterns_refinement.proofs.Going.{formed_parts}
+use Rattle.patterns_refinement.specs.Passing.{FoundAt, KeepsAt, form_takes, is_always_defined, is_kinded_at, is_passing, kinds_there, new_is_defined, new_takes, news_take, passes_poison, pattern_op_passes}
+use Rattle.patterns_refinement.specs.Strict.{KeepsComputingOwn, KeepsReadyOwn, is_strict_form, is_total, is_total_form, new_is_total, pattern_op_is_strict}
+use Rattle.patterns_refinement.proofs.Going.{wellformed_parts}
 use Rattle.patterns_refinement.proofs.Monotone.{kinds_agree}
 use Rattle.patterns_refinement.proofs.News.{IsNewPlace, new_place_of}
 use Rattle.patterns_refinement.proofs.StrictForms.{Uniform}
@@ -42,11 +42,11 @@ use Rattle.patterns_refinement.proofs.PassingMade.{first_at, kinds_long}
 use Rattle.patterns_refinement.proofs.PassingKept.{one_way, passing_keep, site_of}
 
 -- ---- matched operations pass poison on, and new ones are always defined
-strict_passes : (os : List PatternOp) → list_all piece_is_strict os ≡ true → list_all piece_passes os ≡ true
+strict_passes : (os : List PatternOp) → list_all pattern_op_is_strict os ≡ true → list_all pattern_op_passes os ≡ true
 strict_passes [] e = refl
 strict_passes (o ∷ os) e =
-    let q = and_parts (piece_is_strict o) (list_all piece_is_strict os) e in
-    and_from (piece_passes o) (list_all piece_passes os) (one o.form q.0) (strict_passes os q.1)
+    let q = and_parts (pattern_op_is_strict o) (list_all pattern_op_is_strict os) e in
+    and_from (pattern_op_passes o) (list_all pattern_op_passes os) (one o.form q.0) (strict_passes os q.1)
   where
     one : (f : Expression) → is_strict_form f ≡ true → passes_poison f ≡ true
     one (form.Binary w i j) e = refl
@@ -129,12 +129,12 @@ module _ (p : PatternModel) (u : Uniform p) (proper : IsProper p) (ks : List Bit
       let l = length-map p.values (kind_at ks) in
       all_kinded p.new (kinds_matched ks p)
       (λ j o m. elim o [ inl i ↦ first_at ks p j i ∙ values_all ks u.ty p.values u.values j (omega (arith, i, l)) | inr i ↦ absurd (omega (arith, i, m, n)) ])
-      (omega (arith, n)) (omega (arith, n)) u.news u.total (formed_parts p proper.formed).news (u.typed ks)
+      (omega (arith, n)) (omega (arith, n)) u.news u.total (wellformed_parts p proper.wellformed).news (u.typed ks)
 
 -- ---- such patterns refine what is computed
-mapped_has : (t : ℕ) (os : List PatternOp) → list_all (piece_has t) os ≡ true → list_all (λ v. v == t) (map PatternOp.ty os) ≡ true
+mapped_has : (t : ℕ) (os : List PatternOp) → list_all (pattern_op_has t) os ≡ true → list_all (λ v. v == t) (map PatternOp.ty os) ≡ true
 mapped_has t [] e = refl
-mapped_has t (o ∷ os) e = let p = and_parts (piece_has t o) (list_all (piece_has t) os) e in (λ i. p.0 i && mapped_has t os p.1 i)
+mapped_has t (o ∷ os) e = let p = and_parts (pattern_op_has t o) (list_all (pattern_op_has t) os) e in (λ i. p.0 i && mapped_has t os p.1 i)
 
 pub uniform_at : OwnAreAccepted → (p : PatternModel) (u : Uniform p) (proper : IsProper p) (m n : Module) (x : ℕ) → IsReady m → own_rewrite p m x ≡ becomes n → KeepsAt p m x
 uniform_at accepted p u proper m n x ready e at =
@@ -148,7 +148,7 @@ uniform_at accepted p u proper m n x ready e at =
 
 pub uniform_keeps : OwnAreAccepted → (p : PatternModel) → Uniform p → IsProper p → KeepsReadyOwn p × KeepsComputingOwn p
 uniform_keeps accepted p u proper =
-    let passing : is_passing p ≡ true = and_from (list_all piece_passes p.old) (list_all new_is_defined p.new) (strict_passes p.old u.strict) (total_defined p.new u.total) in (
+    let passing : is_passing p ≡ true = and_from (list_all pattern_op_passes p.old) (list_all new_is_defined p.new) (strict_passes p.old u.strict) (total_defined p.new u.total) in (
       (λ m n x ready e. (passing_keep accepted p m n x passing proper ready e (uniform_at accepted p u proper m n x ready e)).0),
       (λ m n x a done ready computing e. (passing_keep accepted p m n x passing proper ready e (uniform_at accepted p u proper m n x ready e)).1 a done computing),
     )

@@ -18,13 +18,13 @@ use Rattle.user_patterns_data.specs.Fitting.{content_at, kind_at}
 use Rattle.user_patterns_data.specs.Shapes.{PatternModel}
 use Rattle.user_patterns_data.specs.WellFormed.{is_well_formed, new_ends, old_begins}
 use Rattle.user_patterns_widths.specs.Polynomials.{Polynomial}
-use Rattle.user_patterns_widths.specs.AllWidths.{Formal, first_type, form_is_bitwise, formal, formal_extras, formal_news, formal_numbers, formal_olds, formal_values, holds_at_all_widths, has_one_type, has_type, is_bit_by_bit, is_none_asked, is_one_polynomial, is_some_type, is_variable, is_variable_type, new_is_bitwise, number_is_bitwise, piece_is_bitwise, extra_is_bitwise, sides_are_one}
+use Rattle.user_patterns_widths.specs.AllWidths.{Formal, first_type, form_is_bitwise, formal, formal_extras, formal_news, formal_numbers, formal_olds, formal_values, holds_at_all_widths, has_one_type, has_type, is_bit_by_bit, is_none_requested, is_one_polynomial, is_some_type, is_variable, is_variable_type, new_is_bitwise, number_is_bitwise, pattern_op_is_bitwise, extra_is_bitwise, sides_are_one}
 use Rattle.user_patterns_widths.specs.Lasting.{HoldsAtAllWidths, RefinesAtAllWidths, PolynomialsKeep}
 use Rattle.user_patterns_build.specs.CanBuild.{can_build, has_name}
 use Rattle.user_patterns_apply.specs.Own.{OwnAreAccepted}
 use Rattle.patterns_refinement.specs.Applied.{IsProper, extra_kind, is_typed, kinds_after, kinds_given, kinds_matched}
-use Rattle.patterns_refinement.specs.Strict.{RegisteredKeep, HoldingKeep, StrictKeep, is_asked_of, is_strict, is_strict_at, is_strict_form, new_is_total, piece_is_strict}
-use Rattle.patterns_refinement.proofs.Going.{formed_parts}
+use Rattle.patterns_refinement.specs.Strict.{RegisteredKeep, HoldingKeep, StrictKeep, is_requested_of, is_strict, is_strict_at, is_strict_form, new_is_total, pattern_op_is_strict}
+use Rattle.patterns_refinement.proofs.Going.{wellformed_parts}
 use Rattle.patterns_refinement.proofs.StrictForms.{Uniform, has_parts, keeps_by_type, keeps_of_type, unasked}
 use Rattle.patterns_refinement.proofs.StrictKinded.{uniform_keeps}
 use Rattle.patterns_refinement.proofs.StrictTyped.{OneKind, extras_all, extras_one, news_all, news_one, numbers_all, numbers_one, olds_all, olds_one, typed_too, values_all, values_one}
@@ -59,7 +59,7 @@ module _ (p : PatternModel) (polynomial : is_one_polynomial p ≡ true) (keeps :
       let numbers = formal_numbers p.given (formal_extras p.extra (formal_values p.values [])) in
       let env = formal_some (formal p) parts.1 in
       let g = given_some (formal_olds p.old numbers) (formal_news p.new) env.0 env.1 in
-      let matched : (ks : List BitsKind) → OneKind (kind_at ks t.ty) g.0 (kinds_matched ks p) × (list_all piece_is_strict p.old ≡ true) =
+      let matched : (ks : List BitsKind) → OneKind (kind_at ks t.ty) g.0 (kinds_matched ks p) × (list_all pattern_op_is_strict p.old ≡ true) =
       (λ ks. olds_one ks t.ty p.old (formal_numbers p.given (formal_extras p.extra (formal_values p.values []))) g.0 (kinds_given ks p) has.olds g.1
       (numbers_one ks t.ty p.given (formal_extras p.extra (formal_values p.values [])) (kinds_after (extra_kind ks) p.extra (map (kind_at ks) p.values)) has.given
       (extras_one ks t.ty p.extra (formal_values p.values []) (map (kind_at ks) p.values) has.extra (values_one ks t.ty p.values [] [] has.values (none_yet (kind_at ks t.ty)))))) in
@@ -76,24 +76,24 @@ module _ (p : PatternModel) (polynomial : is_one_polynomial p ≡ true) (keeps :
       }
 
 -- ---- bit by bit
-none_asked : (p : PatternModel) → is_none_asked p.type_constraints ≡ true → unasked p ≡ p
-none_asked p e = go p.type_constraints refl e
+none_requested : (p : PatternModel) → is_none_requested p.type_constraints ≡ true → unasked p ≡ p
+none_requested p e = go p.type_constraints refl e
   where
-    go : (xs : List TypeConstraint) → p.type_constraints ≡ xs → is_none_asked xs ≡ true → unasked p ≡ p
+    go : (xs : List TypeConstraint) → p.type_constraints ≡ xs → is_none_requested xs ≡ true → unasked p ≡ p
     go [] i e = λ z. record p { type_constraints = sym i z }
     go (x ∷ xs) i e = absurd (true≢false (sym e))
 
 uniform_bits : (p : PatternModel) → is_bit_by_bit p ≡ true → IsProper p → RefinesAtAllWidths p → Uniform p
 uniform_bits p bits proper keeps =
     let a = and_parts (has_one_type p) _ bits in
-    let b = and_parts (is_none_asked p.type_constraints) _ a.1 in
+    let b = and_parts (is_none_requested p.type_constraints) _ a.1 in
     let c = and_parts (list_all extra_is_bitwise p.extra) _ b.1 in
     let d = and_parts (list_all number_is_bitwise p.given) _ c.1 in
-    let e = and_parts (list_all piece_is_bitwise p.old) (list_all new_is_bitwise p.new) d.1 in
+    let e = and_parts (list_all pattern_op_is_bitwise p.old) (list_all new_is_bitwise p.new) d.1 in
     let t = one_type p a.0 in
     let has = has_parts p t.ty t.has in
-    let f = formed_parts p proper.formed in
-    let made : (ks : List BitsKind) → (is_typed ks p ≡ true) × (list_all piece_is_strict p.old ≡ true) × (list_all new_is_total p.new ≡ true) =
+    let f = wellformed_parts p proper.wellformed in
+    let made : (ks : List BitsKind) → (is_typed ks p ≡ true) × (list_all pattern_op_is_strict p.old ≡ true) × (list_all new_is_total p.new ≡ true) =
     (λ ks.
     let l = length-map p.values (kind_at ks) in
     let x = extras_all p ks t.ty f.constants p.extra (map (kind_at ks) p.values) has.extra f.extra (omega (arith, l)) (values_all ks t.ty p.values has.values) in
@@ -112,7 +112,7 @@ uniform_bits p bits proper keeps =
       strict = (made []).1;
       total = (made []).2;
       typed = λ ks. (made ks).0;
-      keeps = keeps_by_type p t.ty t.has (subst RefinesAtAllWidths (sym (none_asked p b.0)) keeps);
+      keeps = keeps_by_type p t.ty t.has (subst RefinesAtAllWidths (sym (none_requested p b.0)) keeps);
     }
 
 -- ---- strict patterns
@@ -128,8 +128,8 @@ uniform_strict p e keeps = go (first_type p.old) e
     go None e = absurd (true≢false (sym e))
     go (Some t) e =
         let a = and_parts (is_variable_type p t) _ e in
-        let b = and_parts (list_all (is_asked_of t) p.type_constraints) _ a.1 in
-        let c = and_parts (list_all piece_is_strict p.old) _ b.1 in
+        let b = and_parts (list_all (is_requested_of t) p.type_constraints) _ a.1 in
+        let c = and_parts (list_all pattern_op_is_strict p.old) _ b.1 in
         let d = and_parts (list_all new_is_total p.new) (is_typed (map (λ k. kind.Index) p.value_types) p) c.1 in
         let v = and_parts (is_variable p (slice_get p.value_types t)) (has_type t p) a.0 in
         let has = has_parts p t v.1 in
@@ -160,10 +160,10 @@ pub holding_keep : OwnAreAccepted → PolynomialsKeep → HoldsAtAllWidths → H
 holding_keep accepted polynomials holds p e proper most low right = uniform_keeps accepted p (holding_uniform polynomials holds p e proper most low right) proper
 
 -- ---- patterns of a registry: all matched operations have names
-strict_named : (os : List PatternOp) → list_all piece_is_strict os ≡ true → list_all (λ (o : PatternOp). has_name o.form) os ≡ true
+strict_named : (os : List PatternOp) → list_all pattern_op_is_strict os ≡ true → list_all (λ (o : PatternOp). has_name o.form) os ≡ true
 strict_named [] e = refl
 strict_named (o ∷ os) e =
-    let q = and_parts (piece_is_strict o) (list_all piece_is_strict os) e in
+    let q = and_parts (pattern_op_is_strict o) (list_all pattern_op_is_strict os) e in
     and_from (has_name o.form) (list_all (λ (o : PatternOp). has_name o.form) os) (one o.form q.0) (strict_named os q.1)
   where
     one : (f : Expression) → is_strict_form f ≡ true → has_name f ≡ true
@@ -173,11 +173,11 @@ strict_named (o ∷ os) e =
     one (form.IntegerCast c i) e = refl
     one (form.IndexCast c i) e = absurd (true≢false (sym e))
 
-bitwise_strict : (os : List PatternOp) → list_all piece_is_bitwise os ≡ true → list_all piece_is_strict os ≡ true
+bitwise_strict : (os : List PatternOp) → list_all pattern_op_is_bitwise os ≡ true → list_all pattern_op_is_strict os ≡ true
 bitwise_strict [] e = refl
 bitwise_strict (o ∷ os) e =
-    let q = and_parts (piece_is_bitwise o) (list_all piece_is_bitwise os) e in
-    and_from (piece_is_strict o) (list_all piece_is_strict os) (one o.form q.0) (bitwise_strict os q.1)
+    let q = and_parts (pattern_op_is_bitwise o) (list_all pattern_op_is_bitwise os) e in
+    and_from (pattern_op_is_strict o) (list_all pattern_op_is_strict os) (one o.form q.0) (bitwise_strict os q.1)
   where
     one : (f : Expression) → form_is_bitwise f ≡ true → is_strict_form f ≡ true
     one (form.Binary o i j) e = refl
@@ -187,21 +187,21 @@ bitwise_strict (o ∷ os) e =
     one (form.IndexCast c i) e = absurd (true≢false (sym e))
 
 pub registered_proper : PolynomialsKeep → (p : PatternModel) → is_well_formed p ≡ true → can_build p ≡ true → holds_at_all_widths p ≡ true → IsProper p
-registered_proper polynomials p formed buildable e = record {
-  formed = formed;
+registered_proper polynomials p wellformed buildable e = record {
+  wellformed = wellformed;
   buildable = buildable;
   named = strict_named p.old
       (elim (or_cases (is_one_polynomial p) (is_bit_by_bit p) e) [
         | inl i ↦ (uniform_polynomial p i (polynomials (unasked p) i)).strict
         | inr i ↦
             let a = and_parts (has_one_type p) _ i in
-            let b = and_parts (is_none_asked p.type_constraints) _ a.1 in
+            let b = and_parts (is_none_requested p.type_constraints) _ a.1 in
             let c = and_parts (list_all extra_is_bitwise p.extra) _ b.1 in
             let d = and_parts (list_all number_is_bitwise p.given) _ c.1 in
-            bitwise_strict p.old (and_parts (list_all piece_is_bitwise p.old) (list_all new_is_bitwise p.new) d.1).0
+            bitwise_strict p.old (and_parts (list_all pattern_op_is_bitwise p.old) (list_all new_is_bitwise p.new) d.1).0
       ]);
 }
 
 pub registered_keep : OwnAreAccepted → PolynomialsKeep → HoldsAtAllWidths → RegisteredKeep
-registered_keep accepted polynomials holds p formed buildable e most low right =
-    holding_keep accepted polynomials holds p e (registered_proper polynomials p formed buildable e) most low right
+registered_keep accepted polynomials holds p wellformed buildable e most low right =
+    holding_keep accepted polynomials holds p e (registered_proper polynomials p wellformed buildable e) most low right

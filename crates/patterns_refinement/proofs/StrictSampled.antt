@@ -34,13 +34,13 @@ below (suc (suc (suc (suc zero)))) d l = omega arith
 below (suc (suc (suc (suc (suc zero))))) d l = omega arith
 below (suc (suc (suc (suc (suc (suc k)))))) d l = absurd (five k l)
 
-formed : IsWellFormed is_isolated crossed
+wellformed : IsWellFormed is_isolated crossed
 unfolding words.operations words.is_listed words.is_table words.is_isolated
-formed = record {
+wellformed = record {
   distinct = IsDistinct-from_count nat_eq_equiv (0 ∷ 1 ∷ 2 ∷ 3 ∷ 4 ∷ 5 ∷ []) refl;
   below = below;
   next = omega arith;
-  formed = record { visible = refl; shallow = omega arith; counts = refl };
+  wellformed = record { visible = refl; shallow = omega arith; counts = refl };
 }
 
 kinded : AreKinded crossed.tree
@@ -48,7 +48,7 @@ unfolding folds.rule_of folds.rules
 kinded = (refl, (((refl, tt), ((refl, tt), ((refl, tt), ((refl, tt), ((refl, tt), tt))))), tt))
 
 ready : IsReady crossed
-ready = record { formed = formed; sorted = refl; kinded = kinded }
+ready = record { wellformed = wellformed; sorted = refl; kinded = kinded }
 
 -- ---- the module computes
 one_type : (x : ℕ) → IsOfType i2 (poisoned (Result x 0)) → (k : ℕ) (ty : TypeTerm) → slice_get (i2 ∷ []) k ≡ Some ty → IsOfType ty (poisoned (Result x k))

@@ -29,9 +29,9 @@ use Rattle.user_patterns_data.specs.Shapes.{PatternModel}
 use Rattle.user_patterns_data.specs.WellFormed.{form_stands, extra_stands, is_constant, is_new, is_number, is_type, is_variable, is_within, new_begins, new_stands, news_stand, number_stands, numbers_stand, old_begins}
 use Rattle.user_patterns_build.specs.CanBuild.{new_type}
 use Rattle.user_patterns_widths.specs.Polynomials.{Polynomial, value_at}
-use Rattle.user_patterns_widths.specs.AllWidths.{Formal, form_is_bitwise, formal_at, formal_form, formal_extra, formal_extras, formal_new, formal_news, formal_next, formal_number, formal_numbers, formal_of, formal_olds, formal_pair, formal_values, extra_has, is_bitwise, new_has, new_is_bitwise, number_has, number_is_bitwise, piece_has, piece_is_bitwise}
-use Rattle.patterns_refinement.specs.Applied.{form_fits, extra_kind, is_typed, kinds_after, kinds_given, kinds_matched, new_fits, news_fit, number_kind, piece_kind}
-use Rattle.patterns_refinement.specs.Strict.{is_strict_form, is_total, is_total_form, new_is_total, piece_is_strict}
+use Rattle.user_patterns_widths.specs.AllWidths.{Formal, form_is_bitwise, formal_at, formal_form, formal_extra, formal_extras, formal_new, formal_news, formal_next, formal_number, formal_numbers, formal_of, formal_olds, formal_pair, formal_values, extra_has, is_bitwise, new_has, new_is_bitwise, number_has, number_is_bitwise, pattern_op_has, pattern_op_is_bitwise}
+use Rattle.patterns_refinement.specs.Applied.{form_fits, extra_kind, is_typed, kinds_after, kinds_given, kinds_matched, new_fits, news_fit, number_kind, pattern_op_kind}
+use Rattle.patterns_refinement.specs.Strict.{is_strict_form, is_total, is_total_form, new_is_total, pattern_op_is_strict}
 use Rattle.patterns_refinement.proofs.Monotone.{kinds_agree}
 use Rattle.patterns_refinement.proofs.Numbers.{within_parts}
 use Rattle.patterns_refinement.proofs.Standing.{standing_stands}
@@ -136,10 +136,10 @@ module _ (ks : List BitsKind) (t : ℕ) where
   strict_one (form.IntegerCast c i) env q e = absurd (none-some q e)
   strict_one (form.IndexCast c i) env q e = absurd (none-some q e)
 
-  pub olds_one : (os : List PatternOp) (env new : Formal) (es : List BitsKind) → list_all (piece_has t) os ≡ true → formal_olds os env ≡ Some new → AreOne env es → AreOne new (kinds_after (piece_kind ks) os es) × (list_all piece_is_strict os ≡ true)
+  pub olds_one : (os : List PatternOp) (env new : Formal) (es : List BitsKind) → list_all (pattern_op_has t) os ≡ true → formal_olds os env ≡ Some new → AreOne env es → AreOne new (kinds_after (pattern_op_kind ks) os es) × (list_all pattern_op_is_strict os ≡ true)
   olds_one [] env new es e f h = (subst (λ z. AreOne z es) (same_Some _ _ f) h, refl)
   olds_one (o ∷ os) env new es e f h =
-      let p = and_parts (piece_has t o) (list_all (piece_has t) os) e in
+      let p = and_parts (pattern_op_has t o) (list_all (pattern_op_has t) os) e in
       let g = given_some (formal_form o.form env) (λ q. formal_olds os (env ++ (Some q ∷ []))) new f in
       let ih = olds_one os (env ++ (Some g.0 ∷ [])) new (es ++ (kind_at ks o.ty ∷ [])) p.1 g.2 (push_one (kind_at ks t) env es (Some g.0) (kind_at ks o.ty) h (λ q i. at_number ks t o.ty p.0)) in
       (ih.0, (λ i. strict_one o.form env g.0 g.1 i && ih.1 i))
@@ -253,12 +253,12 @@ module _ (p : PatternModel) (ks : List BitsKind) (t : ℕ) (constants : list_all
   strict_bits (form.IntegerCast c i) e = absurd (true≢false (sym e))
   strict_bits (form.IndexCast c i) e = absurd (true≢false (sym e))
 
-  pub olds_all : (os : List PatternOp) (es : List BitsKind) → list_all (piece_has t) os ≡ true → list_all piece_is_bitwise os ≡ true → All es
-      → All (kinds_after (piece_kind ks) os es) × (length (kinds_after (piece_kind ks) os es) ≡ length es + length os) × (list_all piece_is_strict os ≡ true)
+  pub olds_all : (os : List PatternOp) (es : List BitsKind) → list_all (pattern_op_has t) os ≡ true → list_all pattern_op_is_bitwise os ≡ true → All es
+      → All (kinds_after (pattern_op_kind ks) os es) × (length (kinds_after (pattern_op_kind ks) os es) ≡ length es + length os) × (list_all pattern_op_is_strict os ≡ true)
   olds_all [] es e b h = (h, omega arith, refl)
   olds_all (o ∷ os) es e b h =
-      let p1 = and_parts (piece_has t o) (list_all (piece_has t) os) e in
-      let p2 = and_parts (piece_is_bitwise o) (list_all piece_is_bitwise os) b in
+      let p1 = and_parts (pattern_op_has t o) (list_all (pattern_op_has t) os) e in
+      let p2 = and_parts (pattern_op_is_bitwise o) (list_all pattern_op_is_bitwise os) b in
       let l = length_push es (kind_at ks o.ty) in
       let ih = olds_all os (es ++ (kind_at ks o.ty ∷ [])) p1.1 p2.1 (push_all es (kind_at ks o.ty) h (at_number ks t o.ty p1.0)) in
       let m = ih.1 in
@@ -369,10 +369,10 @@ module _ (is ks : List BitsKind) (t : ℕ) (index : kind_at is t ≡ kind.Index)
       one (number.Log2 j) e i = related_at es fs j h i
       one (number.Require j) e i = related_at es fs j h i
 
-  olds_related : (os : List PatternOp) (es fs : List BitsKind) → list_all (piece_has t) os ≡ true → Related es fs → Related (kinds_after (piece_kind is) os es) (kinds_after (piece_kind ks) os fs)
+  olds_related : (os : List PatternOp) (es fs : List BitsKind) → list_all (pattern_op_has t) os ≡ true → Related es fs → Related (kinds_after (pattern_op_kind is) os es) (kinds_after (pattern_op_kind ks) os fs)
   olds_related [] es fs e h = h
   olds_related (o ∷ os) es fs e h =
-      let p = and_parts (piece_has t o) (list_all (piece_has t) os) e in
+      let p = and_parts (pattern_op_has t o) (list_all (pattern_op_has t) os) e in
       olds_related os (es ++ (kind_at is o.ty ∷ [])) (fs ++ (kind_at ks o.ty ∷ [])) p.1 (push_related es fs (kind_at is o.ty) (kind_at ks o.ty) h (λ i. at_number ks t o.ty p.0))
 
   is_index : (es : List BitsKind) (i u : ℕ) → (u == t) ≡ true → same_kind (kind_at es i) (kind_at is u) ≡ true → kind_at es i ≡ kind.Index
@@ -399,7 +399,7 @@ module _ (is ks : List BitsKind) (t : ℕ) (index : kind_at is t ≡ kind.Index)
       one_fits (new.Operation o) e g f = form_there o.form o.ty e g f
       one_fits (new.Constant i u) e g f = kinds_agree (kind_at fs i) (kind_at ks u) (kind_at ks t) (related_at es fs i h (is_index es i u e f)) (at_number ks t u e)
 
-  pub typed_too : (p : PatternModel) → list_all (λ v. v == t) p.values ≡ true → list_all (extra_has t) p.extra ≡ true → list_all (number_has t) p.given ≡ true → list_all (piece_has t) p.old ≡ true → list_all (new_has t) p.new ≡ true
+  pub typed_too : (p : PatternModel) → list_all (λ v. v == t) p.values ≡ true → list_all (extra_has t) p.extra ≡ true → list_all (number_has t) p.given ≡ true → list_all (pattern_op_has t) p.old ≡ true → list_all (new_has t) p.new ≡ true
       → list_all new_is_total p.new ≡ true → is_typed is p ≡ true → is_typed ks p ≡ true
   typed_too p v f g o w total e =
       news_related p.new (kinds_matched is p) (kinds_matched ks p) w total e

@@ -54,8 +54,8 @@ use Rattle.patterns_refinement.specs.Applied.{IsBelow}
 use Rattle.patterns_refinement.specs.Keeping.{IsFed, KeepsComputing, KeepsReady, done_after, is_there}
 use Rattle.patterns_refinement.proofs.Dropping.{of_two_is}
 use Rattle.patterns_refinement.proofs.Edited.{blocks_changed, each_both, each_changed}
-use Rattle.patterns_refinement.proofs.EditsForm.{all_formed}
-use Rattle.patterns_refinement.proofs.Formed.{is_below, operands_stand}
+use Rattle.patterns_refinement.proofs.EditsForm.{all_wellformed}
+use Rattle.patterns_refinement.proofs.Wellformed.{is_below, operands_stand}
 use Rattle.patterns_refinement.proofs.Forms.{makes_is}
 use Rattle.patterns_refinement.proofs.Giving.{after_old}
 use Rattle.patterns_refinement.proofs.Monotone.{itself}
@@ -255,8 +255,8 @@ module _ (x : ℕ) (u v : Value) (o : Operation) (ops : (head o).operands ≡ u 
 abbrev pub Low : Module → (Header → Type 0) → Header → Type 0
 Low m P h = P h × (h.id < m.next)
 
-abbrev Stood : Module → Header → Type 0
-Stood m h = (h.id < m.next) × (list_all (λ v. has_value v m.tree) h.operands ≡ true)
+abbrev Located : Module → Header → Type 0
+Located m h = (h.id < m.next) × (list_all (λ v. has_value v m.tree) h.operands ≡ true)
 
 module _ (m : Module) (x : ℕ) (done : ℕ → Bool) (below : IsBelow m.next m.tree) where
   pub still_there : (ws : List Value) → list_all (λ v. has_value v m.tree) ws ≡ true → list_all (is_there done) ws ≡ true → list_all (is_there (done_after m.next x done)) ws ≡ true
@@ -272,8 +272,8 @@ module _ (m : Module) (x : ℕ) (done : ℕ → Bool) (below : IsBelow m.next m.
 
   pub fed_later : OperandsStand m.tree → Each (IsFed done) m.tree → Each (IsFed (done_after m.next x done)) m.tree
   fed_later operands fed =
-      each_both (IsFed done) (Stood m) (IsFed (done_after m.next x done)) (λ h p q i. still_there h.operands q.1 (p (sym (after_old m.next x done h.id q.0) ∙ i))) m.tree fed
-      (each_both (λ h. h.id < m.next) (λ h. list_all (λ v. has_value v m.tree) h.operands ≡ true) (Stood m) (λ h p q. (p, q)) m.tree below operands)
+      each_both (IsFed done) (Located m) (IsFed (done_after m.next x done)) (λ h p q i. still_there h.operands q.1 (p (sym (after_old m.next x done h.id q.0) ∙ i))) m.tree fed
+      (each_both (λ h. h.id < m.next) (λ h. list_all (λ v. has_value v m.tree) h.operands ≡ true) (Located m) (λ h p q. (p, q)) m.tree below operands)
 
 -- ---- the rule
 module _ (accepted : AreAccepted) where
@@ -306,18 +306,18 @@ module _ (accepted : AreAccepted) where
 
   pub swap_constant_ready : KeepsReady SwapConstant
   swap_constant_ready m n x ready e =
-      let q = ruled accepted SwapConstant m n x ready.formed ready.sorted e in
+      let q = ruled accepted SwapConstant m n x ready.wellformed ready.sorted e in
       let w = swaps_here m n x q in
       let own = eq-eqb (head q.here).id x q.id in
       let es = SetOperand x 0 w.second ∷ SetOperand x 1 w.first ∷ [] in
       let after : all_edited es m ≡ n = subst (λ es. all_edited es m ≡ n) w.edits q.module_is in
       let is = ap (λ (m : Module). m.tree) after in
-      let formed = subst (IsWellFormed is_isolated) after (all_formed es m (tt, (tt, tt)) ready.formed (subst (λ es. Free es m) w.edits q.free)) in
-      let it = its m n x q ready.formed.distinct in
-      let old = kinds_are m.tree ready.formed.distinct in
+      let wellformed = subst (IsWellFormed is_isolated) after (all_wellformed es m (tt, (tt, tt)) ready.wellformed (subst (λ es. Free es m) w.edits q.free)) in
+      let it = its m n x q ready.wellformed.distinct in
+      let old = kinds_are m.tree ready.wellformed.distinct in
       let value_types = kind_in m.tree in
-      let below = is_below m.next m.tree ready.formed.below in
-      let k = rule_kinds m.tree (head q.here) (each_found (λ h. is_kinded m.tree h ≡ true) x m.tree ready.kinded q.here q.found).0 (root_has q ready.formed ready.kinded refl) (how.Binary w.pair.0) w.pair.1 in
+      let below = is_below m.next m.tree ready.wellformed.below in
+      let k = rule_kinds m.tree (head q.here) (each_found (λ h. is_kinded m.tree h ≡ true) x m.tree ready.kinded q.here q.found).0 (root_has q ready.wellformed ready.kinded refl) (how.Binary w.pair.0) w.pair.1 in
       let both = and_parts (is_kind k.kind (value_types w.first)) (is_kind k.kind (value_types w.second)) (subst (λ vs. takes (how.Binary w.pair.0) (head q.here) k.kind (map (kind_in m.tree) vs) ≡ true) w.operands k.operands) in
       let takes_swapped : Takes (kind_in m.tree) (record (head q.here) { operands = w.second ∷ w.first ∷ [] }) =
       same_takes (head q.here) (head q.here).id (w.second ∷ w.first ∷ []) (value_types w.second ∷ value_types w.first ∷ [])
@@ -330,10 +330,10 @@ module _ (accepted : AreAccepted) where
         results = swapped_each x w.first w.second q.here w.operands own (ResultsAre (HasKind (kind_in m.tree))) (ResultsAre (HasKind (kind_in m.tree))) (λ h p. p) (λ p. p) m.tree it old.results;
         arguments = swapped_blocks x w.first w.second q.here w.operands own (ArgumentsAre (HasKind (kind_in m.tree))) m.tree old.arguments;
       } in
-      let stand = operands_stand is_isolated n.tree formed.distinct formed.formed.visible in
+      let stand = operands_stand is_isolated n.tree wellformed.distinct wellformed.wellformed.visible in
       record {
-        formed = formed;
-        sorted = all_rise n.tree formed.distinct (subst (λ t. Each Rises t) is (swapped_each x w.first w.second q.here w.operands own Rises Rises (λ h p. p) (λ p. p) m.tree it (each_rises m.tree ready.sorted)));
+        wellformed = wellformed;
+        sorted = all_rise n.tree wellformed.distinct (subst (λ t. Each Rises t) is (swapped_each x w.first w.second q.here w.operands own Rises Rises (λ h p. p) (λ p. p) m.tree it (each_rises m.tree ready.sorted)));
         kinded =
             each_both (Takes value_types) (λ h. list_all (λ v. has_value v n.tree) h.operands ≡ true) (λ h. is_kinded n.tree h ≡ true)
             (λ h p s. ap (takes_its (rule_of h.name) (result_kind h) h) (same_kinds_of (kind_in n.tree) value_types (λ v. has_value v n.tree) (kinds_found value_types n.tree (subst (λ t. AreKinds value_types t) is are)) h.operands s) ∙ p) n.tree
@@ -343,17 +343,17 @@ module _ (accepted : AreAccepted) where
 
   pub swap_constant_computing : KeepsComputing SwapConstant
   swap_constant_computing m n x a done ready computing e =
-      let q = ruled accepted SwapConstant m n x ready.formed ready.sorted e in
+      let q = ruled accepted SwapConstant m n x ready.wellformed ready.sorted e in
       let w = swaps_here m n x q in
       let own = eq-eqb (head q.here).id x q.id in
       let later = done_after m.next x done in
       let is : all_edited (SetOperand x 0 w.second ∷ SetOperand x 1 w.first ∷ []) m ≡ n = subst (λ es. all_edited es m ≡ n) w.edits q.module_is in
       let tree = ap (λ (m : Module). m.tree) is in
-      let it = its m n x q ready.formed.distinct in
-      let s = site_of m a done x q.here ready.formed ready.kinded computing q.found (root_has q ready.formed ready.kinded refl) in
+      let it = its m n x q ready.wellformed.distinct in
+      let s = site_of m a done x q.here ready.wellformed ready.kinded computing q.found (root_has q ready.wellformed ready.kinded refl) in
       let two = of_two_is m a done x q.here s w.first w.second w.operands in
       let k = of_rule m a done x q.here s (how.Binary w.pair.0) w.pair.1 in
-      let below = is_below m.next m.tree ready.formed.below in
+      let below = is_below m.next m.tree ready.wellformed.below in
       let h = head q.here in
       let makes_same : makes (record h { operands = w.second ∷ w.first ∷ [] }) (a w.second ∷ a w.first ∷ []) ≡ makes h (map a h.operands) =
       same_makes h h.id (w.second ∷ w.first ∷ []) (a w.second ∷ a w.first ∷ [])
@@ -372,7 +372,7 @@ module _ (accepted : AreAccepted) where
         free = λ v l e.
             ap (λ t. gives later t v) (sym tree)
             ∙ free_still m.next done later m.tree (all_edited (SetOperand x 0 w.second ∷ SetOperand x 1 w.first ∷ []) m).tree
-            (swapped_each x w.first w.second q.here w.operands own (Was m.next done later m.tree) (Was m.next done later m.tree) (λ h p. p) (λ p. p) m.tree it (was_old m.next done later m.tree ready.formed.distinct was)) v l e;
+            (swapped_each x w.first w.second q.here w.operands own (Was m.next done later m.tree) (Was m.next done later m.tree) (λ h p. p) (λ p. p) m.tree it (was_old m.next done later m.tree ready.wellformed.distinct was)) v l e;
         computing = record {
           fits = subst (λ t. Each (FitsDone a later) t) tree
               (swapped_each x w.first w.second q.here w.operands own (Low m (FitsDone a done)) (FitsDone a later) (λ h p i j. p.0 (was h.id p.1 i) j)
@@ -391,17 +391,17 @@ module _ (accepted : AreAccepted) where
               (λ p i.
               let b = and_parts (is_there later w.first) (is_there later w.second && true) (subst (λ vs. list_all (is_there later) vs ≡ true) w.operands (p i)) in
               and_from (is_there later w.second) (is_there later w.first && true) (and_parts (is_there later w.second) true b.1).0 (and_from (is_there later w.first) true b.0 refl))
-              m.tree it (fed_later m x done below (operands_stand is_isolated m.tree ready.formed.distinct ready.formed.formed.visible) computing.fed));
+              m.tree it (fed_later m x done below (operands_stand is_isolated m.tree ready.wellformed.distinct ready.wellformed.wellformed.visible) computing.fed));
         };
         shows =
             let first = put_operand 0 w.second in
             let second = put_operand 1 w.first in
-            let one = at_unseen x first (λ h. refl) m.tree (number_at x m.tree ready.formed.distinct (ap is_arithmetic_there q.found ∙ k.arithmetic)) in
+            let one = at_unseen x first (λ h. refl) m.tree (number_at x m.tree ready.wellformed.distinct (ap is_arithmetic_there q.found ∙ k.arithmetic)) in
             let t = each_head (at x first) m.tree in
             let two = at_unseen x second (λ h. refl) t one.numbers in
             let unseen : IsUnseen x m.tree n.tree = subst (IsUnseen x m.tree) tree (unseen_through x m.tree t (each_head (at x second) t) one two) in
             unseen_shows a a m later x n.tree unseen (λ v. itself (a v))
             (free_still m.next (λ y. true) (λ y. true) m.tree n.tree
             (subst (λ t. Each (Was m.next (λ y. true) (λ y. true) m.tree) t) tree
-            (swapped_each x w.first w.second q.here w.operands own (Was m.next (λ y. true) (λ y. true) m.tree) (Was m.next (λ y. true) (λ y. true) m.tree) (λ h p. p) (λ p. p) m.tree it (was_old m.next (λ y. true) (λ y. true) m.tree ready.formed.distinct (λ y l i. refl)))));
+            (swapped_each x w.first w.second q.here w.operands own (Was m.next (λ y. true) (λ y. true) m.tree) (Was m.next (λ y. true) (λ y. true) m.tree) (λ h p. p) (λ p. p) m.tree it (was_old m.next (λ y. true) (λ y. true) m.tree ready.wellformed.distinct (λ y l i. refl)))));
       }

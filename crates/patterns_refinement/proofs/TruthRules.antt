@@ -19,7 +19,7 @@ use Rattle.dialects_int.specs.declared.operations.Predicate.TheVariants as asks
 use Rattle.dialects_int.specs.declared.operations.Rule.TheVariants as how
 use Rattle.dialects_int.specs.Arithmetic.{comparison_of, truth}
 use Rattle.dialects_int.specs.Laws as law
-use Rattle.dialects_int.specs.Folds.{Known, asked, kind_of, predicates, property_of, rule_of, rules, same_kind}
+use Rattle.dialects_int.specs.Folds.{Known, requested, kind_of, predicates, property_of, rule_of, rules, same_kind}
 use Rattle.dialects_int.proofs.CastLaws.{below_zero, not_below_zero, with_itself}
 use Rattle.user_patterns_check.specs.Outcomes.{Outcome, compare_outcome, given}
 use Rattle.user_patterns_check.specs.Checks.{refines}
@@ -52,9 +52,9 @@ unfolding rule_of rules
 by_compare = refl
 
 -- ---- predicates by their numbers
-pub asked_number : (o : Option (TypeTerm × ℕ)) (n : ℕ) (p : Predicate) → option_map (λ (i : TypeTerm × ℕ). i.1) o ≡ Some n → asked o ≡ Some p → slice_get predicates n ≡ Some p
-asked_number None n p e f = absurd (none-some n e)
-asked_number (Some i) n p e f = ap (slice_get predicates) (sym (same_Some _ _ e)) ∙ f
+pub requested_number : (o : Option (TypeTerm × ℕ)) (n : ℕ) (p : Predicate) → option_map (λ (i : TypeTerm × ℕ). i.1) o ≡ Some n → requested o ≡ Some p → slice_get predicates n ≡ Some p
+requested_number None n p e f = absurd (none-some n e)
+requested_number (Some i) n p e f = ap (slice_get predicates) (sym (same_Some _ _ e)) ∙ f
 
 same_predicate : (q p : Predicate) → Some q ≡ Some p → truth (law.holds_of_itself p) ≡ truth (law.holds_of_itself q)
 same_predicate q p e = ap (λ p. truth (law.holds_of_itself p)) (sym (same_Some _ _ e))
@@ -94,8 +94,8 @@ module _ (m : Module) (a : Assignment) (done : ℕ → Bool) (x : ℕ) (o : Oper
   comparison_refined n b u v e number ops d f =
       gives_refined m a done x o s how.Compare (Some (kind.Int 1, b)) e (of_rule m a done x o s how.Compare e) d
       (λ z i.
-      let g = given_some (asked (property_of (codes "predicate") (head o).properties)) (λ p. of_two (compare_outcome p) (map a (head o).operands)) z i in
-      compared g.0 b (a u) (a v) z (λ y w j l. f g.0 y w (asked_number (property_of (codes "predicate") (head o).properties) n g.0 number g.1) j l)
+      let g = given_some (requested (property_of (codes "predicate") (head o).properties)) (λ p. of_two (compare_outcome p) (map a (head o).operands)) z i in
+      compared g.0 b (a u) (a v) z (λ y w j l. f g.0 y w (requested_number (property_of (codes "predicate") (head o).properties) n g.0 number g.1) j l)
       (subst (λ vs. of_two (compare_outcome g.0) (map a vs) ≡ Some z) ops g.2))
 
 -- ---- rules on comparisons that give a truth value
@@ -105,27 +105,27 @@ module _ (accepted : AreAccepted) where
     pub second : Value
     pub ty : TypeTerm
     pub number : ℕ
-    pub asked_for : predicate (head q.here) ≡ Some number
+    pub requested_for : predicate (head q.here) ≡ Some number
     pub passed : what number first second ≡ true
     pub name : rule_of (head q.here).name ≡ Some how.Compare
     pub operands : (head q.here).operands ≡ first ∷ second ∷ []
     pub results : (head q.here).results ≡ ty ∷ []
-    pub edits : give_constant q.front m.next (head q.here).id ty (truth_of number) ≡ q.edits
+    pub edits : give_constant q.insertion m.next (head q.here).id ty (truth_of number) ≡ q.edits
 
   comparison : (r : Rule) (m n : Module) (x : ℕ) (q : Ruled r m n x) (what : ℕ → Value → Value → Bool) (truth_of : ℕ → ℕ)
-      → given (two (head q.here)) (λ p. when (named (codes "arith.cmpi") p.name) (given (predicate (head q.here)) (λ n. when (what n p.first p.second) (Some (give_constant q.front m.next (head q.here).id p.ty (truth_of n)))))) ≡ Some q.edits
+      → given (two (head q.here)) (λ p. when (named (codes "arith.cmpi") p.name) (given (predicate (head q.here)) (λ n. when (what n p.first p.second) (Some (give_constant q.insertion m.next (head q.here).id p.ty (truth_of n)))))) ≡ Some q.edits
       → OfComparison r m n x q what truth_of
   comparison r m n x q what truth_of e =
-      let w = two_is (head q.here) (λ p. when (named (codes "arith.cmpi") p.name) (given (predicate (head q.here)) (λ n. when (what n p.first p.second) (Some (give_constant q.front m.next (head q.here).id p.ty (truth_of n)))))) q.edits e in
-      let g = when_some (named (codes "arith.cmpi") (head q.here).name) (given (predicate (head q.here)) (λ n. when (what n w.first w.second) (Some (give_constant q.front m.next (head q.here).id w.ty (truth_of n))))) q.edits w.makes in
-      let k = given_some (predicate (head q.here)) (λ n. when (what n w.first w.second) (Some (give_constant q.front m.next (head q.here).id w.ty (truth_of n)))) q.edits g.1 in
-      let h = when_some (what k.0 w.first w.second) (Some (give_constant q.front m.next (head q.here).id w.ty (truth_of k.0))) q.edits k.2 in
+      let w = two_is (head q.here) (λ p. when (named (codes "arith.cmpi") p.name) (given (predicate (head q.here)) (λ n. when (what n p.first p.second) (Some (give_constant q.insertion m.next (head q.here).id p.ty (truth_of n)))))) q.edits e in
+      let g = when_some (named (codes "arith.cmpi") (head q.here).name) (given (predicate (head q.here)) (λ n. when (what n w.first w.second) (Some (give_constant q.insertion m.next (head q.here).id w.ty (truth_of n))))) q.edits w.makes in
+      let k = given_some (predicate (head q.here)) (λ n. when (what n w.first w.second) (Some (give_constant q.insertion m.next (head q.here).id w.ty (truth_of n)))) q.edits g.1 in
+      let h = when_some (what k.0 w.first w.second) (Some (give_constant q.insertion m.next (head q.here).id w.ty (truth_of k.0))) q.edits k.2 in
       record {
         first = w.first;
         second = w.second;
         ty = w.ty;
         number = k.0;
-        asked_for = k.1;
+        requested_for = k.1;
         passed = h.0;
         name = ap rule_of (named_is (codes "arith.cmpi") (head q.here).name g.0) ∙ by_compare;
         operands = w.operands;
@@ -135,7 +135,7 @@ module _ (accepted : AreAccepted) where
 
   truth_number : (r : Rule) (m n : Module) (x : ℕ) (q : Ruled r m n x) (what : ℕ → Value → Value → Bool) (truth_of : ℕ → ℕ) (c : OfComparison r m n x q what truth_of) → is_erasing r ≡ false → IsReady m → is_bits (kind.Int 1) (truth_of c.number) ≡ true → GivesNumber r m n x q
   truth_number r m n x q what truth_of c stays ready bits =
-      let k = rule_kinds m.tree (head q.here) (each_found (λ h. is_kinded m.tree h ≡ true) x m.tree ready.kinded q.here q.found).0 (root_has q ready.formed ready.kinded stays) how.Compare c.name in
+      let k = rule_kinds m.tree (head q.here) (each_found (λ h. is_kinded m.tree h ≡ true) x m.tree ready.kinded q.here q.found).0 (root_has q ready.wellformed ready.kinded stays) how.Compare c.name in
       let one = compares_kind k.kind (kind_in m.tree c.first) (kind_in m.tree c.second) (subst (λ vs. takes how.Compare (head q.here) k.kind (map (kind_in m.tree) vs) ≡ true) c.operands k.operands) in
       record { ty = c.ty; bits = truth_of c.number; kind = kind.Int 1; of = sym (ap (λ tys. given (slice_get tys 0) kind_of) c.results) ∙ k.is ∙ ap (λ k. Some k) (sym one); fits = bits; width = refl; edits = c.edits }
 
@@ -156,19 +156,19 @@ module _ (accepted : AreAccepted) where
 
   pub compare_itself_ready : KeepsReady CompareItself
   compare_itself_ready m n x ready e =
-      let q = ruled accepted CompareItself m n x ready.formed ready.sorted e in
+      let q = ruled accepted CompareItself m n x ready.wellformed ready.sorted e in
       let c = compares_itself m n x q in
       number_ready CompareItself m n x q (truth_number CompareItself m n x q (λ n u v. same_value u v) is_true_when_equal c refl ready (itself_bits c.number)) ready
 
   pub compare_itself_computing : KeepsComputing CompareItself
   unfolding truth_number
   compare_itself_computing m n x a done ready computing e =
-      let q = ruled accepted CompareItself m n x ready.formed ready.sorted e in
+      let q = ruled accepted CompareItself m n x ready.wellformed ready.sorted e in
       let c = compares_itself m n x q in
       let g = truth_number CompareItself m n x q (λ n u v. same_value u v) is_true_when_equal c refl ready (itself_bits c.number) in
-      let s = site_of m a done x q.here ready.formed ready.kinded computing q.found (root_has q ready.formed ready.kinded refl) in
+      let s = site_of m a done x q.here ready.wellformed ready.kinded computing q.found (root_has q ready.wellformed ready.kinded refl) in
       number_improves CompareItself m n x q g a done
-      (λ d. comparison_refined m a done x q.here s c.number (is_true_when_equal c.number) c.first c.second c.name c.asked_for c.operands d
+      (λ d. comparison_refined m a done x q.here s c.number (is_true_when_equal c.number) c.first c.second c.name c.requested_for c.operands d
       (λ p y w i j l.
       let both : y ≡ w = same_Some _ _ (sym j ∙ ap a (same_value_true c.first c.second c.passed) ∙ l) in
       ap (λ (w : Known). truth (comparison_of (width_of y.0) p y.1 w.1)) (sym both) ∙ ap truth (with_itself p (width_of y.0) y.1) ∙ itself_number c.number p i))
@@ -204,23 +204,23 @@ module _ (accepted : AreAccepted) where
 
   pub compare_zero_ready : KeepsReady CompareZero
   compare_zero_ready m n x ready e =
-      let q = ruled accepted CompareZero m n x ready.formed ready.sorted e in
+      let q = ruled accepted CompareZero m n x ready.wellformed ready.sorted e in
       let c = compares_zero m n x q in
       number_ready CompareZero m n x q (truth_number CompareZero m n x q (λ n u v. is_number m.tree 0 v && (eqb n 6 || eqb n 9)) (λ n. if eqb n 9 then 1 else 0) c refl ready (zero_bits c.number)) ready
 
   pub compare_zero_computing : KeepsComputing CompareZero
   unfolding truth_number
   compare_zero_computing m n x a done ready computing e =
-      let q = ruled accepted CompareZero m n x ready.formed ready.sorted e in
+      let q = ruled accepted CompareZero m n x ready.wellformed ready.sorted e in
       let c = compares_zero m n x q in
       let g = truth_number CompareZero m n x q (λ n u v. is_number m.tree 0 v && (eqb n 6 || eqb n 9)) (λ n. if eqb n 9 then 1 else 0) c refl ready (zero_bits c.number) in
-      let s = site_of m a done x q.here ready.formed ready.kinded computing q.found (root_has q ready.formed ready.kinded refl) in
+      let s = site_of m a done x q.here ready.wellformed ready.kinded computing q.found (root_has q ready.wellformed ready.kinded refl) in
       let two = of_two_is m a done x q.here s c.first c.second c.operands in
       let tests = and_parts (is_number m.tree 0 c.second) (eqb c.number 6 || eqb c.number 9) c.passed in
       let number = known_test (λ k. eqb k.1 0) (known m.tree c.second) tests.0 in
       number_improves CompareZero m n x q g a done
-      (λ d. comparison_refined m a done x q.here s c.number (if eqb c.number 9 then 1 else 0) c.first c.second c.name c.asked_for c.operands d
+      (λ d. comparison_refined m a done x q.here s c.number (if eqb c.number 9 then 1 else 0) c.first c.second c.name c.requested_for c.operands d
       (λ p y w i j l.
-      let zero_is : w.1 ≡ 0 = ap (λ (w : Known). w.1) (sym (known_is m a done ready.formed ready.kinded computing c.second number.0 w two.second (two.second_there d) number.1 l)) ∙ eqb-true number.0.1 0 number.2 in
+      let zero_is : w.1 ≡ 0 = ap (λ (w : Known). w.1) (sym (known_is m a done ready.wellformed ready.kinded computing c.second number.0 w two.second (two.second_there d) number.1 l)) ∙ eqb-true number.0.1 0 number.2 in
       ap (λ b. truth (comparison_of (width_of y.0) p y.1 b)) zero_is ∙ below_number p (width_of y.0) y.1 c.number tests.1 i))
       ready refl (compare_zero_ready m n x ready e).kinded computing

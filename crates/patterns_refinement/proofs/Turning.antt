@@ -26,7 +26,7 @@ use Rattle.patterns_refinement.specs.Applied.{IsBelow}
 use Rattle.patterns_refinement.specs.Better.{AllSure, AreKinded, GivesLess, GivesNoLess, IsSure, gives, is_arithmetic_there, is_kinded, kind_in, may_overflow, takes_its, KeepsFlags}
 use Rattle.patterns_refinement.specs.Keeping.{Computing, Improves, IsFed, IsReady, done_after, is_there}
 use Rattle.patterns_refinement.proofs.Edited.{blocks_changed, each_both, each_changed}
-use Rattle.patterns_refinement.proofs.Formed.{is_below, operands_stand}
+use Rattle.patterns_refinement.proofs.Wellformed.{is_below, operands_stand}
 use Rattle.patterns_refinement.proofs.Frees.{Was, free_still, was_old}
 use Rattle.patterns_refinement.proofs.Giving.{after_old}
 use Rattle.patterns_refinement.proofs.Monotone.{itself}
@@ -119,14 +119,14 @@ pub record Turns (m n : Module) (x : ℕ) (o : Operation) : Type 0 where
   pub properties : List (List ℕ × AttrTerm)
   pub becomes : third (second (first (head o))) ≡ record (head o) { operands = operands; properties = properties }
   pub tree : turned_tree x first second third m.tree ≡ n.tree
-  pub formed : IsWellFormed is_isolated n
+  pub wellformed : IsWellFormed is_isolated n
 
 module _ (m n : Module) (x : ℕ) (o : Operation) (w : Turns m n x o) (ready : IsReady m) where
   abbrev last : Header
   last = record (head o) { operands = w.operands; properties = w.properties }
 
   it : Each (λ j. eqb j.id x ≡ true → j ≡ head o) m.tree
-  it = each_by_found (λ j. eqb j.id x ≡ true → j ≡ head o) m.tree ready.formed.distinct (λ p e i. ap head (same_Some _ _ (sym (ap (λ y. find y m.tree) (sym (eqb-true (head p).id x i)) ∙ e) ∙ w.found)))
+  it = each_by_found (λ j. eqb j.id x ≡ true → j ≡ head o) m.tree ready.wellformed.distinct (λ p e i. ap head (same_Some _ _ (sym (ap (λ y. find y m.tree) (sym (eqb-true (head p).id x i)) ∙ e) ∙ w.found)))
 
   abbrev each : (P Q : Header → Type 0) → ((j : Header) → P j → Q j) → (P (head o) → Q (record (head o) { operands = w.operands; properties = w.properties })) → Each P m.tree → Each Q n.tree
   each P Q other its s =
@@ -141,19 +141,19 @@ module _ (m n : Module) (x : ℕ) (o : Operation) (w : Turns m n x o) (ready : I
   pub turned_ready : Rises (record (head o) { operands = w.operands; properties = w.properties }) → Takes (kind_in m.tree) (record (head o) { operands = w.operands; properties = w.properties }) → IsReady n
   turned_ready risen taken =
       let value_types = kind_in m.tree in
-      let old = kinds_are m.tree ready.formed.distinct in
+      let old = kinds_are m.tree ready.wellformed.distinct in
       let are : AreKinds (kind_in m.tree) n.tree = record {
         results = each (ResultsAre (HasKind (kind_in m.tree))) (ResultsAre (HasKind (kind_in m.tree))) (λ h p. p) (λ p. p) old.results;
         arguments = all_blocks (ArgumentsAre (HasKind (kind_in m.tree))) old.arguments;
       } in
       record {
-        formed = w.formed;
-        sorted = all_rise n.tree w.formed.distinct (each Rises Rises (λ h p. p) (λ p. risen) (each_rises m.tree ready.sorted));
+        wellformed = w.wellformed;
+        sorted = all_rise n.tree w.wellformed.distinct (each Rises Rises (λ h p. p) (λ p. risen) (each_rises m.tree ready.sorted));
         kinded =
             each_both (Takes value_types) (λ h. list_all (λ v. has_value v n.tree) h.operands ≡ true) (λ h. is_kinded n.tree h ≡ true)
             (λ h p s. ap (takes_its (rule_of h.name) (result_kind h) h) (same_kinds_of (kind_in n.tree) value_types (λ v. has_value v n.tree) (kinds_found value_types n.tree are) h.operands s) ∙ p) n.tree
             (each (λ h. is_kinded m.tree h ≡ true) (Takes value_types) (λ h p. p) (λ p. taken) ready.kinded)
-            (operands_stand is_isolated n.tree w.formed.distinct w.formed.formed.visible);
+            (operands_stand is_isolated n.tree w.wellformed.distinct w.wellformed.wellformed.visible);
       }
 
   -- the effect of the change
@@ -170,7 +170,7 @@ module _ (m n : Module) (x : ℕ) (o : Operation) (w : Turns m n x o) (ready : I
     later = done_after m.next x done
 
     below : IsBelow m.next m.tree
-    below = is_below m.next m.tree ready.formed.below
+    below = is_below m.next m.tree ready.wellformed.below
 
     was : (y : ℕ) → y < m.next → done_after m.next x done y ≡ true → done y ≡ true
     was y l i = sym (after_old m.next x done y l) ∙ i
@@ -202,17 +202,17 @@ module _ (m n : Module) (x : ℕ) (o : Operation) (w : Turns m n x o) (ready : I
     all_fed =
         each (Low m (IsFed (done_after m.next x done))) (IsFed (done_after m.next x done)) (λ h p. p.0) (λ p i. still_there m x done below w.operands k.values (k.fed (its_done p.1 i)))
         (each_both (IsFed (done_after m.next x done)) (λ h. h.id < m.next) (Low m (IsFed (done_after m.next x done))) (λ h p l. (p, l)) m.tree
-        (fed_later m x done below (operands_stand is_isolated m.tree ready.formed.distinct ready.formed.formed.visible) computing.fed) below)
+        (fed_later m x done below (operands_stand is_isolated m.tree ready.wellformed.distinct ready.wellformed.wellformed.visible) computing.fed) below)
 
     all_were : Each (Was m.next done (done_after m.next x done) m.tree) n.tree
-    all_were = each (Was m.next done (done_after m.next x done) m.tree) (Was m.next done (done_after m.next x done) m.tree) (λ h p. p) (λ p i l j. p i l k.arithmetic) (was_old m.next done (done_after m.next x done) m.tree ready.formed.distinct was)
+    all_were = each (Was m.next done (done_after m.next x done) m.tree) (Was m.next done (done_after m.next x done) m.tree) (λ h p. p) (λ p i l j. p i l k.arithmetic) (was_old m.next done (done_after m.next x done) m.tree ready.wellformed.distinct was)
 
     all_plain : Each (Was m.next (λ y. true) (λ y. true) m.tree) n.tree
-    all_plain = each (Was m.next (λ y. true) (λ y. true) m.tree) (Was m.next (λ y. true) (λ y. true) m.tree) (λ h p. p) (λ p i l j. p i l k.arithmetic) (was_old m.next (λ y. true) (λ y. true) m.tree ready.formed.distinct (λ y l i. refl))
+    all_plain = each (Was m.next (λ y. true) (λ y. true) m.tree) (Was m.next (λ y. true) (λ y. true) m.tree) (λ h p. p) (λ p i l j. p i l k.arithmetic) (was_old m.next (λ y. true) (λ y. true) m.tree ready.wellformed.distinct (λ y l i. refl))
 
     unseen : IsUnseen x m.tree n.tree
     unseen =
-        let one = at_unseen x w.first w.number_first m.tree (number_at x m.tree ready.formed.distinct (ap is_arithmetic_there w.found ∙ k.arithmetic)) in
+        let one = at_unseen x w.first w.number_first m.tree (number_at x m.tree ready.wellformed.distinct (ap is_arithmetic_there w.found ∙ k.arithmetic)) in
         let t = each_head (at x w.first) m.tree in
         let two = at_unseen x w.second w.number_second t one.numbers in
         let u = each_head (at x w.second) t in
@@ -226,7 +226,7 @@ module _ (m n : Module) (x : ℕ) (o : Operation) (w : Turns m n x o) (ready : I
           each (ResultsOfTypes a) (ResultsOfTypes a) (λ h p. p) (λ p. p) computing.typed.0,
           all_blocks (ArgumentsOfTypes a) computing.typed.1,
         ) in
-        let s = settles a (done_after m.next x done) n.tree w.formed.distinct kinded typed all_sure all_give in
+        let s = settles a (done_after m.next x done) n.tree w.wellformed.distinct kinded typed all_sure all_give in
         let free : (v : Value) → owner v < m.next → gives done m.tree v ≡ false → gives (done_after m.next x done) n.tree v ≡ false = free_still m.next done (done_after m.next x done) m.tree n.tree all_were in
         record {
           now = s.now;

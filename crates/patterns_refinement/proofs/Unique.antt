@@ -126,16 +126,16 @@ module _ (a b : Assignment) (done : ℕ → Bool) (isolated : List ℕ → Bool)
         (here, ops_same (scope ++ (results_of o ∷ [])) os (with_frame scope (results_of o) same (results_same o (at_root Same o here))) p.1 s.1)
 
 pub outcomes_are_unique : OutcomesAreUnique
-outcomes_are_unique m a b done formed of_a of_b inputs = all
+outcomes_are_unique m a b done wellformed of_a of_b inputs = all
   where
     free : Each (Free a b done is_isolated (λ x r k. inputs (Arg x r k) refl)) m.tree
     free =
-        each_by_found (Free a b done is_isolated (λ x r k. inputs (Arg x r k) refl)) m.tree formed.distinct
+        each_by_found (Free a b done is_isolated (λ x r k. inputs (Arg x r k) refl)) m.tree wellformed.distinct
         (λ o i k e. inputs (Result (head o).id k) (ap (λ q. (k == 0) && (done (head o).id && is_arithmetic_there q)) i ∙ e))
 
     each : Each (Same a b done is_isolated (λ x r k. inputs (Arg x r k) refl)) m.tree
     each =
-        op_same a b done is_isolated (λ x r k. inputs (Arg x r k) refl) [] m.tree (λ v e. absurd (true≢false (sym e))) formed.formed.visible
+        op_same a b done is_isolated (λ x r k. inputs (Arg x r k) refl) [] m.tree (λ v e. absurd (true≢false (sym e))) wellformed.wellformed.visible
         (each_both (Both a b done is_isolated (λ x r k. inputs (Arg x r k) refl)) (Free a b done is_isolated (λ x r k. inputs (Arg x r k) refl)) (Known a b done is_isolated (λ x r k. inputs (Arg x r k) refl)) (λ h p q. (p, q)) m.tree
         (each_both (FitsDone a done) (FitsDone b done) (Both a b done is_isolated (λ x r k. inputs (Arg x r k) refl)) (λ h p q. (p, q)) m.tree of_a of_b) free)
 

@@ -32,7 +32,7 @@ use Rattle.ir_tree_laws.proofs.Members.{found_stands, stand_found, stand_of_memb
 use Rattle.op_registry.specs.declared.definition.TypeRule.{TypeRule}
 use Rattle.op_registry.specs.declared.definition.TypeRule.TheVariants as type
 use Rattle.op_registry.specs.Rows.{Row, TypesRow, rows}
-use Rattle.op_registry.specs.Registry.{beside, row_of}
+use Rattle.op_registry.specs.Registry.{next_to, row_of}
 use Rattle.listeners_support.specs.Surroundings.{surround, surroundings}
 use Rattle.listeners_support.specs.Facts.{sorted_facts}
 use Rattle.listeners_support.proofs.Reading.{head_shown}
@@ -58,7 +58,7 @@ use Rattle.user_patterns_data.specs.Matching.{Header}
 use Rattle.patterns_refinement.specs.Meaning.{result_kind}
 use Rattle.patterns_refinement.specs.Better.{are_its_bits, compares, has_no_condition, is_kind, is_kinded, kind_in, narrows, takes, takes_its}
 use Rattle.patterns_refinement.specs.Verified.{VerifiedIsReady, has_width, is_covered, is_in_range, is_within, is_within_by}
-use Rattle.patterns_refinement.proofs.Formed.{each_stands}
+use Rattle.patterns_refinement.proofs.Wellformed.{each_stands}
 use Rattle.patterns_refinement.proofs.Trees.{each_found}
 
 abbrev Stand : Type 0
@@ -155,17 +155,17 @@ rows_fit : EachIn (λ (row : List ℕ × How). RowFits row.0 row.1) rules
 unfolding rules row_of rows
 rows_fit = ((refl, tt), ((refl, tt), ((refl, tt), ((refl, tt), ((refl, tt), ((refl, tt), ((refl, tt), ((refl, tt), ((refl, tt), ((refl, tt), ((refl, tt), ((refl, tt), ((refl, tt), ((refl, tt), ((refl, tt), ((refl, tt), ((refl, tt), ((refl, tt), ((refl, tt), ((refl, refl), ((refl, tt), ((refl, tt), ((refl, refl), ((refl, tt), ((refl, tt), tt)))))))))))))))))))))))))
 
-beside_fits : (name : List ℕ) (r : How) (rows : List (List ℕ × How)) → EachIn (λ (row : List ℕ × How). RowFits row.0 row.1) rows → beside name rows ≡ Some r → RowFits name r
-beside_fits name r [] all e = absurd (none-some r e)
-beside_fits name r (row ∷ rows) all e = go (bytes_eq name row.0) refl e (beside_fits name r rows all.1)
+next_to_fits : (name : List ℕ) (r : How) (rows : List (List ℕ × How)) → EachIn (λ (row : List ℕ × How). RowFits row.0 row.1) rows → next_to name rows ≡ Some r → RowFits name r
+next_to_fits name r [] all e = absurd (none-some r e)
+next_to_fits name r (row ∷ rows) all e = go (bytes_eq name row.0) refl e (next_to_fits name r rows all.1)
   where
-    go : (b : Bool) → bytes_eq name row.0 ≡ b → (if b then Some row.1 else beside name rows) ≡ Some r → (beside name rows ≡ Some r → RowFits name r) → RowFits name r
+    go : (b : Bool) → bytes_eq name row.0 ≡ b → (if b then Some row.1 else next_to name rows) ≡ Some r → (next_to name rows ≡ Some r → RowFits name r) → RowFits name r
     go true f e later = subst (λ n. RowFits n r) (sym ((bytes_eq-Decides name row.0).0 f)) (subst (RowFits row.0) (same_Some row.1 r e) all.0)
     go false f e later = later e
 
 rule_fits : (name : List ℕ) (r : How) → rule_of name ≡ Some r → RowFits name r
 unfolding rule_of
-rule_fits name r e = beside_fits name r rules rows_fit e
+rule_fits name r e = next_to_fits name r rules rows_fit e
 
 pub named_select : (name : List ℕ) → rule_of name ≡ Some how.Select → bytes_eq name (codes "arith.select") ≡ true
 named_select name e = (rule_fits name how.Select e).1
@@ -258,7 +258,7 @@ record Verified (r : How) (name : List ℕ) (ts : List (Option TypeTerm)) (us : 
   number : known.number ≡ first_called type.Number (asks_of r).0.first ts
   same : known.same ≡ first_called type.Any (asks_of r).0.first ts
   is_number : is_no_number known.number ≡ false
-  asked : types_fit known (asks_of r).0 ts ≡ true
+  requested : types_fit known (asks_of r).0 ts ≡ true
   returned : types_fit known (asks_of r).1 (there us) ≡ true
   cut : bytes_eq name (codes "arith.trunci") ≡ true → isnt_smaller ts us ≡ false
 
@@ -289,10 +289,10 @@ module _ (h : Header) (ts : List (Option TypeTerm)) (us : List TypeTerm) where
     of : kind_of own ≡ Some k
 
   two_numbers : (known : Known) → known.number ≡ first_called type.Number (type.Number ∷ type.Number ∷ []) ts → is_no_number known.number ≡ false → types_fit known (types (type.Number ∷ type.Number ∷ [])) ts ≡ true → Numbers known
-  two_numbers known number is asked =
-      let w = two_fit known type.Number type.Number ts asked in
+  two_numbers known number is requested =
+      let w = two_fit known type.Number type.Number ts requested in
       let number_is : known.number ≡ w.0 = number ∙ ap (first_called type.Number (type.Number ∷ type.Number ∷ [])) w.2 in
-      let fits : types_fit known (types (type.Number ∷ type.Number ∷ [])) (w.0 ∷ w.1 ∷ []) ≡ true = sym (ap (types_fit known (types (type.Number ∷ type.Number ∷ []))) w.2) ∙ asked in
+      let fits : types_fit known (types (type.Number ∷ type.Number ∷ [])) (w.0 ∷ w.1 ∷ []) ≡ true = sym (ap (types_fit known (types (type.Number ∷ type.Number ∷ []))) w.2) ∙ requested in
       let f = and_parts (is_the_number known.number w.0) _ fits in
       let s = and_parts (is_the_number known.number w.1) _ f.1 in
       let u = number_there known.number w.0 number_is is f.0 in
@@ -302,7 +302,7 @@ module _ (h : Header) (ts : List (Option TypeTerm)) (us : List TypeTerm) where
 
   takes_pair : (o : _) (name : List ℕ) → Verified (how.Binary o) name ts us → Takes (how.Binary o) h ts us
   takes_pair o name v =
-      let w = two_numbers v.known v.number v.is_number v.asked in
+      let w = two_numbers v.known v.number v.is_number v.requested in
       let r = result_fits v.known type.Number us v.returned in
       let fits : types_fit v.known (types (type.Number ∷ [])) (Some r.0 ∷ []) ≡ true = sym (ap (λ us. types_fit v.known (types (type.Number ∷ [])) (there us)) r.1) ∙ v.returned in
       let same = same_number v.known.number (Some r.0) w.own w.number_is (and_parts (is_the_number v.known.number (Some r.0)) _ fits).0 in
@@ -316,7 +316,7 @@ module _ (h : Header) (ts : List (Option TypeTerm)) (us : List TypeTerm) where
 
   takes_compare : (name : List ℕ) → Verified how.Compare name ts us → Takes how.Compare h ts us
   takes_compare name v =
-      let w = two_numbers v.known v.number v.is_number v.asked in
+      let w = two_numbers v.known v.number v.is_number v.requested in
       let r = result_fits v.known type.Boolean us v.returned in
       let fits : types_fit v.known (types (type.Boolean ∷ [])) (Some r.0 ∷ []) ≡ true = sym (ap (λ us. types_fit v.known (types (type.Boolean ∷ [])) (there us)) r.1) ∙ v.returned in
       let truth = truth_kind r.0 (and_parts (is_boolean r.0) _ fits).0 in
@@ -330,12 +330,12 @@ module _ (h : Header) (ts : List (Option TypeTerm)) (us : List TypeTerm) where
 
   takes_select : (name : List ℕ) → is_some (given (slice_get us 0) kind_of) ≡ true → Verified how.Select name ts us → Takes how.Select h ts us
   takes_select name some v =
-      let w = three_fit v.known type.Boolean type.Any type.Same ts v.asked in
+      let w = three_fit v.known type.Boolean type.Any type.Same ts v.requested in
       let r = result_fits v.known type.Same us v.returned in
       let fits : types_fit v.known (types (type.Same ∷ [])) (Some r.0 ∷ []) ≡ true = sym (ap (λ us. types_fit v.known (types (type.Same ∷ [])) (there us)) r.1) ∙ v.returned in
       let same_is : v.known.same ≡ w.1 = v.same ∙ ap (first_called type.Any (type.Boolean ∷ type.Any ∷ type.Same ∷ [])) w.3 in
       let known_is : v.known.same ≡ Some r.0 = same_there v.known.same (Some r.0) r.0 refl (and_parts (option_eq same_type v.known.same (Some r.0)) _ fits).0 in
-      let all : types_fit v.known (types (type.Boolean ∷ type.Any ∷ type.Same ∷ [])) (w.0 ∷ w.1 ∷ w.2 ∷ []) ≡ true = sym (ap (types_fit v.known (types (type.Boolean ∷ type.Any ∷ type.Same ∷ []))) w.3) ∙ v.asked in
+      let all : types_fit v.known (types (type.Boolean ∷ type.Any ∷ type.Same ∷ [])) (w.0 ∷ w.1 ∷ w.2 ∷ []) ≡ true = sym (ap (types_fit v.known (types (type.Boolean ∷ type.Any ∷ type.Same ∷ []))) w.3) ∙ v.requested in
       let f = and_parts (is_there is_boolean w.0) _ all in
       let third = same_then v.known.same w.2 r.0 known_is (and_parts (option_eq same_type v.known.same w.2) _ f.1).0 in
       let c = there_is is_boolean w.0 f.0 in
@@ -357,8 +357,8 @@ module _ (h : Header) (ts : List (Option TypeTerm)) (us : List TypeTerm) where
 
   selects_by_truth : (name : List ℕ) → Verified how.Select name ts us → has_no_condition (kinds_of_types ts) ≡ false
   selects_by_truth name v =
-      let w = three_fit v.known type.Boolean type.Any type.Same ts v.asked in
-      let all : types_fit v.known (types (type.Boolean ∷ type.Any ∷ type.Same ∷ [])) (w.0 ∷ w.1 ∷ w.2 ∷ []) ≡ true = sym (ap (types_fit v.known (types (type.Boolean ∷ type.Any ∷ type.Same ∷ []))) w.3) ∙ v.asked in
+      let w = three_fit v.known type.Boolean type.Any type.Same ts v.requested in
+      let all : types_fit v.known (types (type.Boolean ∷ type.Any ∷ type.Same ∷ [])) (w.0 ∷ w.1 ∷ w.2 ∷ []) ≡ true = sym (ap (types_fit v.known (types (type.Boolean ∷ type.Any ∷ type.Same ∷ []))) w.3) ∙ v.requested in
       let c = there_is is_boolean w.0 (and_parts (is_there is_boolean w.0) _ all).0 in
       ap (λ ts. has_no_condition (kinds_of_types ts)) w.3 ∙ ap not (its_kind (given w.0 kind_of) (kind.Int 1) (known_kind w.0 c.0 (kind.Int 1) c.1 (truth_kind c.0 c.2)))
 
@@ -369,10 +369,10 @@ module _ (h : Header) (ts : List (Option TypeTerm)) (us : List TypeTerm) where
 
   takes_resize : (c : Cast) (name : List ℕ) → IsCut (how.IntegerCast c) name → Verified (how.IntegerCast c) name ts us → Takes (how.IntegerCast c) h ts us
   takes_resize c name is_cut v =
-      let w = one_fits v.known type.Integer ts v.asked in
+      let w = one_fits v.known type.Integer ts v.requested in
       let r = result_fits v.known type.Integer us v.returned in
       let fits : types_fit v.known (types (type.Integer ∷ [])) (Some r.0 ∷ []) ≡ true = sym (ap (λ us. types_fit v.known (types (type.Integer ∷ [])) (there us)) r.1) ∙ v.returned in
-      let all : types_fit v.known (types (type.Integer ∷ [])) (w.0 ∷ []) ≡ true = sym (ap (types_fit v.known (types (type.Integer ∷ []))) w.1) ∙ v.asked in
+      let all : types_fit v.known (types (type.Integer ∷ [])) (w.0 ∷ []) ≡ true = sym (ap (types_fit v.known (types (type.Integer ∷ []))) w.1) ∙ v.requested in
       let to = integer_is r.0 (and_parts (is_integer r.0) _ fits).0 in
       let u = there_is is_integer w.0 (and_parts (is_there is_integer w.0) _ all).0 in
       let from = integer_is u.0 u.2 in
@@ -396,10 +396,10 @@ module _ (h : Header) (ts : List (Option TypeTerm)) (us : List TypeTerm) where
 
   takes_index_cast : (c : Cast) (name : List ℕ) → IsCut (how.IndexCast c) name → Verified (how.IndexCast c) name ts us → Takes (how.IndexCast c) h ts us
   takes_index_cast c name is_cut v =
-      let w = one_fits v.known type.Number ts v.asked in
+      let w = one_fits v.known type.Number ts v.requested in
       let r = result_fits v.known type.OtherNumber us v.returned in
       let fits : types_fit v.known (types (type.OtherNumber ∷ [])) (Some r.0 ∷ []) ≡ true = sym (ap (λ us. types_fit v.known (types (type.OtherNumber ∷ [])) (there us)) r.1) ∙ v.returned in
-      let all : types_fit v.known (types (type.Number ∷ [])) (w.0 ∷ []) ≡ true = sym (ap (types_fit v.known (types (type.Number ∷ []))) w.1) ∙ v.asked in
+      let all : types_fit v.known (types (type.Number ∷ [])) (w.0 ∷ []) ≡ true = sym (ap (types_fit v.known (types (type.Number ∷ []))) w.1) ∙ v.requested in
       let number_is : v.known.number ≡ w.0 = v.number ∙ ap (first_called type.Number (type.Number ∷ [])) w.1 in
       let u = number_there v.known.number w.0 number_is v.is_number (and_parts (is_the_number v.known.number w.0) _ all).0 in
       let j = kind_there u.0 u.2 in
@@ -469,7 +469,7 @@ module _ (t : Operation) (distinct : HasDistinctIds t) (s : Stand) (here : In s 
         number = ap (λ (p : TypesRow). first_called type.Number p.first around.types) operands;
         same = ap (λ (p : TypesRow). first_called type.Any p.first around.types) operands;
         is_number = parts.0;
-        asked = sym (ap (λ p. types_fit k p around.types) operands) ∙ not-false _ parts.1;
+        requested = sym (ap (λ p. types_fit k p around.types) operands) ∙ not-false _ parts.1;
         returned = sym (λ i. types_fit k (results i) (there (own_results i))) ∙ not-false _ u.results;
         cut = λ e.
             sym (ap (isnt_smaller around.types) own_results)
@@ -581,11 +581,11 @@ verified_has_kind t o distinct e verified kinded =
 
 pub verified_is_ready : VerifiedIsReady
 verified_is_ready m v = record {
-  formed = v.formed;
+  wellformed = v.wellformed;
   sorted = v.sorted;
   kinded = each_stands (λ h. is_kinded m.tree h ≡ true) [] m.tree (λ s here.
-      let found_here = stand_found m.tree v.formed.distinct s here in
-      operation_kinded m.tree v.formed.distinct s here v.silent
+      let found_here = stand_found m.tree v.wellformed.distinct s here in
+      operation_kinded m.tree v.wellformed.distinct s here v.silent
       (each_found (λ h. is_in_range h ≡ true) (stand_id s) m.tree v.in_range s.here found_here).0
       (each_found (λ h. is_within m.tree h ≡ true) (stand_id s) m.tree v.within s.here found_here).0);
 }

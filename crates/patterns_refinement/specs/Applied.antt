@@ -61,11 +61,11 @@ abbrev pub kinds_given : List BitsKind → PatternModel → List BitsKind
 kinds_given ks p = kinds_after (number_kind ks) p.given (kinds_after (extra_kind ks) p.extra (map (kind_at ks) p.values))
 
 -- the kinds of the matched operations, and of the new values
-abbrev pub piece_kind : List BitsKind → List BitsKind → PatternOp → BitsKind
-piece_kind ks es o = kind_at ks o.ty
+abbrev pub pattern_op_kind : List BitsKind → List BitsKind → PatternOp → BitsKind
+pattern_op_kind ks es o = kind_at ks o.ty
 
 abbrev pub kinds_matched : List BitsKind → PatternModel → List BitsKind
-kinds_matched ks p = kinds_after (piece_kind ks) p.old (kinds_given ks p)
+kinds_matched ks p = kinds_after (pattern_op_kind ks) p.old (kinds_given ks p)
 
 -- the operation's result has the kind of its type: operands of arithmetic and of `select` have it, and a comparison
 -- gives i1
@@ -144,7 +144,7 @@ module _ (t : Operation) (verified : Header → Bool) (n : ℕ) (p : PatternMode
 
 -- the premises on patterns: well-formed, can be built, and each matched operation has a name
 pub record IsProper (p : PatternModel) : Type 0 where
-  pub formed : is_well_formed p ≡ true
+  pub wellformed : is_well_formed p ≡ true
   pub buildable : can_build p ≡ true
   pub named : all_named p ≡ true
 

@@ -10,7 +10,7 @@ use Rattle.dialects_int.specs.declared.operations.Cast.{Cast}
 use Rattle.dialects_int.specs.declared.operations.Cast.TheVariants as cast
 use Rattle.user_patterns_check.specs.Families.{AreWidths}
 use Rattle.user_patterns_data.specs.declared.pattern.TypeConstraint.{TypeConstraint}
-use Rattle.user_patterns_data.specs.declared.pattern.TypeConstraint.TheVariants as asked
+use Rattle.user_patterns_data.specs.declared.pattern.TypeConstraint.TheVariants as requested
 use Rattle.user_patterns_data.specs.declared.pattern.Expression.{Expression}
 use Rattle.user_patterns_data.specs.declared.pattern.Expression.TheVariants as form
 use Rattle.user_patterns_data.specs.declared.pattern.ExtraConstant.{ExtraConstant}
@@ -49,12 +49,12 @@ number_sort ss es (number.Compare q i j) = sort.Concrete (kind.Int 1)
 number_sort ss es (number.Log2 i) = sort_at es i
 number_sort ss es (number.Require i) = sort_at es i
 
-abbrev pub piece_sort : List PatternType → List PatternType → PatternOp → PatternType
-piece_sort ss es o = sort_at ss o.ty
+abbrev pub pattern_op_sort : List PatternType → List PatternType → PatternOp → PatternType
+pattern_op_sort ss es o = sort_at ss o.ty
 
 abbrev pub sorts_matched : PatternModel → List PatternType
 sorts_matched p =
-    sorts_after (piece_sort p.value_types) p.old
+    sorts_after (pattern_op_sort p.value_types) p.old
     (sorts_after (number_sort p.value_types) p.given
     (sorts_after (extra_sort p.value_types) p.extra (map (sort_at p.value_types) p.values)))
 
@@ -66,8 +66,8 @@ module _ (p : PatternModel) where
 
   -- the pattern has the constraint that the first type is narrower than the second
   abbrev pub asks_narrower : PatternType → PatternType → TypeConstraint → Bool
-  asks_narrower a b (asked.Narrower s t) = is_same (sort_at p.value_types s) a && is_same (sort_at p.value_types t) b
-  asks_narrower a b (asked.Integer t) = false
+  asks_narrower a b (requested.Narrower s t) = is_same (sort_at p.value_types s) a && is_same (sort_at p.value_types t) b
+  asks_narrower a b (requested.Integer t) = false
 
   -- one concrete type has fewer bits than another
   abbrev pub is_written_less : PatternType → PatternType → Bool

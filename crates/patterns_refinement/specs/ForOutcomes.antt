@@ -30,7 +30,7 @@ use Rattle.patterns_refinement.specs.Keeping.{IsReady}
 use Rattle.patterns_refinement.specs.Runs.{kept_rules}
 use Rattle.patterns_refinement.specs.Canonical.{IsPlain}
 use Rattle.patterns_refinement.specs.Passing.{FoundAt, KeptAt, is_kinded_at, kinds_there}
-use Rattle.patterns_refinement.specs.MixedRuns.{HoldsEverywhere}
+use Rattle.patterns_refinement.specs.RuleListRuns.{HoldsForAllWidths}
 use Rattle.patterns_refinement.specs.Refining.{IsRefinedBy}
 use Rattle.patterns_refinement.specs.UsedTypes.{uses_only}
 use Rattle.patterns_refinement.specs.Narrow.{HaveKinds}
@@ -97,7 +97,7 @@ is_sound_form p =
 
 -- a pattern that holds at all widths for all outcomes
 pub record HoldsForOutcomes (p : PatternModel) : Type 0 where
-  pub formed : is_well_formed p ≡ true
+  pub wellformed : is_well_formed p ≡ true
   pub buildable : can_build p ≡ true
   pub form : is_sound_form p ≡ true
   pub holds : HoldsAtAllWidths p
@@ -117,12 +117,12 @@ RulesStayInRange = (r : Rule) → In r kept_rules → (m n : Module) (x : ℕ) �
 -- and so do patterns that hold by the form of both sides
 abbrev pub PatternsStayInRange : Type 0
 PatternsStayInRange =
-    (p : PatternModel) (m n : Module) (x : ℕ) → HoldsEverywhere p → IsReady m → IsInRange m → own_rewrite p m x ≡ becomes n → IsInRange n
+    (p : PatternModel) (m n : Module) (x : ℕ) → HoldsForAllWidths p → IsReady m → IsInRange m → own_rewrite p m x ≡ becomes n → IsInRange n
 
 -- a listed rule, or a pattern that holds at all widths by its form or for all outcomes
 abbrev pub IsProved : RuleOrPatternModel → Type 0
 IsProved (OfRule r) = In r kept_rules
-IsProved (OfOwn p) = HoldsEverywhere p ⊎ HoldsForOutcomes p
+IsProved (OfOwn p) = HoldsForAllWidths p ⊎ HoldsForOutcomes p
 
 -- the rewrite that `apply` makes at an operation
 abbrev pub applied : RuleOrPatternModel → Module → ℕ → Rewrite

@@ -51,7 +51,7 @@ pub record Improves (a : Assignment) (done : ℕ → Bool) (m : Module) (later :
 -- a module in which rules refine: well-formed, with sorted dictionaries, and each arithmetic operation has operands
 -- and a result of the kinds that it needs
 pub record IsReady (m : Module) : Type 0 where
-  pub formed : IsWellFormed is_isolated m
+  pub wellformed : IsWellFormed is_isolated m
   pub sorted : IsSorted m
   pub kinded : AreKinded m.tree
 

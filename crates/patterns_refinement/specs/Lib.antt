@@ -14,7 +14,7 @@ pub mod Runs
 pub mod Canonical
 pub mod Strict
 pub mod Passing
-pub mod MixedRuns
+pub mod RuleListRuns
 pub mod Refining
 pub mod RefiningSamples
 pub mod UsedTypes
@@ -23,6 +23,9 @@ pub mod ByForm
 pub mod StrictSamples
 pub mod ForOutcomes
 pub mod ForOutcomesSamples
+pub mod Noted
+pub mod CanonLists
+pub mod Answered
 pub mod PassingSamples
 pub mod Told
 pub mod Remainders

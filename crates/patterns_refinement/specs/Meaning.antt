@@ -17,9 +17,9 @@ use Rattle.dialects_int.specs.declared.operations.Cast.TheVariants as cast
 use Rattle.dialects_int.specs.declared.operations.Rule.{Rule}
 use Rattle.dialects_int.specs.declared.operations.Rule.TheVariants as rule
 use Rattle.dialects_int.specs.Arithmetic.{difference_of, product_of, sum_of, zero_extended}
-use Rattle.dialects_int.specs.Folds.{asked, fold_of, kind_of, property_of, rule_of}
+use Rattle.dialects_int.specs.Folds.{requested, fold_of, kind_of, property_of, rule_of}
 use Rattle.user_patterns_check.specs.Outcomes.{Outcome, compare_outcome, given, pair_outcome, resize_outcome, select_outcome}
-use Rattle.op_registry.specs.Registry.{beside}
+use Rattle.op_registry.specs.Registry.{next_to}
 use Rattle.user_patterns_data.specs.Names.{are_none}
 use Rattle.user_patterns_data.specs.Matching.{Header}
 
@@ -52,7 +52,7 @@ of_three f _ = None
 abbrev pub makes_by : Rule → Header → BitsKind → List Outcome → Option Outcome
 makes_by rule.Constant h k xs = given (fold_of h.name h.properties [] h.results) (λ x. Some (Some x))
 makes_by (rule.Binary o) h k xs = of_two (pair_outcome o) xs
-makes_by rule.Compare h k xs = given (asked (property_of (codes "predicate") h.properties)) (λ p. of_two (compare_outcome p) xs)
+makes_by rule.Compare h k xs = given (requested (property_of (codes "predicate") h.properties)) (λ p. of_two (compare_outcome p) xs)
 makes_by rule.Select h k xs = of_three select_outcome xs
 makes_by (rule.IntegerCast c) h k xs = of_one (resize_outcome c k) xs
 makes_by (rule.IndexCast c) h k xs = of_one (resize_outcome c k) xs
@@ -89,9 +89,9 @@ is_exact (Some _) = false
 abbrev pub flags_by : List (List ℕ × AttrTerm) → Flags
 flags_by properties =
     record {
-      nsw = (flags_in (beside (codes "overflowFlags") properties)).0;
-      nuw = (flags_in (beside (codes "overflowFlags") properties)).1;
-      exact = is_exact (beside (codes "isExact") properties);
+      nsw = (flags_in (next_to (codes "overflowFlags") properties)).0;
+      nuw = (flags_in (next_to (codes "overflowFlags") properties)).1;
+      exact = is_exact (next_to (codes "isExact") properties);
     }
 
 abbrev pub flags_of : Header → Flags
@@ -99,7 +99,7 @@ flags_of h = flags_by h.properties
 
 -- whether the operation has a flag
 abbrev pub has_flags_by : List (List ℕ × AttrTerm) → Bool
-has_flags_by properties = not (are_none (beside (codes "overflowFlags") properties)) || is_exact (beside (codes "isExact") properties)
+has_flags_by properties = not (are_none (next_to (codes "overflowFlags") properties)) || is_exact (next_to (codes "isExact") properties)
 
 abbrev pub has_flags : Header → Bool
 has_flags h = has_flags_by h.properties

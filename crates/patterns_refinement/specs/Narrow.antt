@@ -28,7 +28,7 @@ use Rattle.patterns_refinement.specs.Applied.{IsProper}
 use Rattle.patterns_refinement.specs.Keeping.{IsReady}
 use Rattle.patterns_refinement.specs.Runs.{kept_rules}
 use Rattle.patterns_refinement.specs.Canonical.{IsPlain}
-use Rattle.patterns_refinement.specs.MixedRuns.{KeptThrough}
+use Rattle.patterns_refinement.specs.RuleListRuns.{KeptThrough}
 use Rattle.patterns_refinement.specs.Passing.{KeptAt, is_kinded_at, is_passing}
 use Rattle.patterns_refinement.specs.UsedTypes.{uses_only}
 

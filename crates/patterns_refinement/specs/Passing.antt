@@ -29,7 +29,7 @@ use Rattle.patterns_refinement.specs.Meaning.{Assignment}
 use Rattle.patterns_refinement.specs.Better.{narrows}
 use Rattle.patterns_refinement.specs.Applied.{IsProper, kinds_matched, matched}
 use Rattle.patterns_refinement.specs.Keeping.{Computing, Improves, IsReady, done_after}
-pub use Rattle.user_patterns_widths.specs.Passing.{passes_poison, piece_passes, is_always_defined, new_is_defined, is_passing}
+pub use Rattle.user_patterns_widths.specs.Passing.{passes_poison, pattern_op_passes, is_always_defined, new_is_defined, is_passing}
 
 -- ---- kinds
 

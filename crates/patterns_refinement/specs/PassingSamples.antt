@@ -9,7 +9,7 @@ use Rattle.ir_event.specs.Modules.{Module}
 use Rattle.dialects_int.specs.declared.operations.Arithmetic.TheVariants as way
 use Rattle.dialects_int.specs.declared.operations.Cast.TheVariants as cast
 use Rattle.patterns_base.specs.Rewrites.{becomes}
-use Rattle.user_patterns_data.specs.declared.pattern.TypeConstraint.TheVariants as asked
+use Rattle.user_patterns_data.specs.declared.pattern.TypeConstraint.TheVariants as requested
 use Rattle.user_patterns_data.specs.declared.pattern.Expression.TheVariants as form
 use Rattle.user_patterns_data.specs.declared.pattern.PatternType.TheVariants as ty
 use Rattle.user_patterns_data.specs.declared.pattern.NewValue.TheVariants as new
@@ -35,7 +35,7 @@ cut_sum =
       values = 0 ∷ 0 ∷ [];
       constants = [];
       extra = [];
-      type_constraints = asked.Narrower 1 0 ∷ [];
+      type_constraints = requested.Narrower 1 0 ∷ [];
       given = [];
       old = record { form = form.Binary way.Add 0 1; bare = false; ty = 0 } ∷ record { form = form.IntegerCast cast.Truncate 2; bare = false; ty = 1 } ∷ [];
       root = 3;

@@ -21,7 +21,7 @@ use Rattle.patterns_refinement.specs.Better.{gives}
 use Rattle.patterns_refinement.specs.Observing.{is_computed, is_unmissed, shown_regions, without_operands}
 use Rattle.patterns_refinement.specs.Keeping.{Computing, IsReady}
 use Rattle.patterns_refinement.specs.Canonical.{IsPlain}
-use Rattle.patterns_refinement.specs.MixedRuns.{IsShown, KeptThrough}
+use Rattle.patterns_refinement.specs.RuleListRuns.{IsShown, KeptThrough}
 
 -- ---- observations
 -- Returns the operations inside some regions, in order. Operations that may be erased are left out, with all operations

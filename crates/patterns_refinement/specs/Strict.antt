@@ -11,7 +11,7 @@ use Rattle.patterns_base.specs.Rewrites.{becomes}
 use Rattle.user_patterns_check.specs.declared.verdict.Verdict.TheVariants as verdict
 use Rattle.user_patterns_check.specs.Families.{IsVerdict}
 use Rattle.user_patterns_data.specs.declared.pattern.TypeConstraint.{TypeConstraint}
-use Rattle.user_patterns_data.specs.declared.pattern.TypeConstraint.TheVariants as asked
+use Rattle.user_patterns_data.specs.declared.pattern.TypeConstraint.TheVariants as requested
 use Rattle.user_patterns_data.specs.declared.pattern.Expression.{Expression}
 use Rattle.user_patterns_data.specs.declared.pattern.Expression.TheVariants as form
 use Rattle.user_patterns_data.specs.declared.pattern.NewValue.{NewValue}
@@ -48,8 +48,8 @@ abbrev pub is_strict_form : Expression → Bool
 is_strict_form (form.Binary o i j) = true
 is_strict_form _ = false
 
-abbrev pub piece_is_strict : PatternOp → Bool
-piece_is_strict o = is_strict_form o.form
+abbrev pub pattern_op_is_strict : PatternOp → Bool
+pattern_op_is_strict o = is_strict_form o.form
 
 -- arithmetic that has a value for all operands: no division and no shift
 abbrev pub is_total : Arithmetic → Bool
@@ -80,17 +80,17 @@ new_is_total (new.Operation o) = is_total_form o.form
 new_is_total (new.Constant i t) = true
 
 -- the only width constraint is on the type with this number
-abbrev pub is_asked_of : ℕ → TypeConstraint → Bool
-is_asked_of t (asked.Narrower s u) = (s == t) && (u == t)
-is_asked_of t (asked.Integer u) = u == t
+abbrev pub is_requested_of : ℕ → TypeConstraint → Bool
+is_requested_of t (requested.Narrower s u) = (s == t) && (u == t)
+is_requested_of t (requested.Integer u) = u == t
 
 -- the matched operations are strict and the new ones total; everything has one type, and so have the numbers of new
 -- constants (a truth value would be of that type only at width 1)
 abbrev pub is_strict_at : PatternModel → Option ℕ → Bool
 is_strict_at p None = false
 is_strict_at p (Some t) =
-    is_variable_type p t && (list_all (is_asked_of t) p.type_constraints
-    && (list_all piece_is_strict p.old && (list_all new_is_total p.new && is_typed (map (λ k. kind.Index) p.value_types) p)))
+    is_variable_type p t && (list_all (is_requested_of t) p.type_constraints
+    && (list_all pattern_op_is_strict p.old && (list_all new_is_total p.new && is_typed (map (λ k. kind.Index) p.value_types) p)))
 
 abbrev pub is_strict : PatternModel → Bool
 is_strict p = is_strict_at p (first_type p.old)

@@ -2,7 +2,7 @@
 use Rattle.std.specs.Prelude.{ℕ, Bool, true, ◌&&◌}
 use Rattle.std.specs.List.{list_all}
 use Rattle.user_patterns_data.specs.declared.pattern.TypeConstraint.{TypeConstraint}
-use Rattle.user_patterns_data.specs.declared.pattern.TypeConstraint.TheVariants as asked
+use Rattle.user_patterns_data.specs.declared.pattern.TypeConstraint.TheVariants as requested
 use Rattle.user_patterns_data.specs.declared.pattern.ExtraConstant.{ExtraConstant}
 use Rattle.user_patterns_data.specs.declared.pattern.ExtraConstant.TheVariants as extra
 use Rattle.user_patterns_data.specs.declared.pattern.ConstantExpression.{ConstantExpression}
@@ -26,12 +26,12 @@ module _ (ok : ℕ → Bool) where
   number_uses (number.Log2 i) = true
   number_uses (number.Require i) = true
 
-  abbrev pub asked_uses : TypeConstraint → Bool
-  asked_uses (asked.Narrower s t) = ok s && ok t
-  asked_uses (asked.Integer t) = ok t
+  abbrev pub requested_uses : TypeConstraint → Bool
+  requested_uses (requested.Narrower s t) = ok s && ok t
+  requested_uses (requested.Integer t) = ok t
 
-  abbrev pub piece_uses : PatternOp → Bool
-  piece_uses o = ok o.ty
+  abbrev pub pattern_op_uses : PatternOp → Bool
+  pattern_op_uses o = ok o.ty
 
   abbrev pub new_uses : NewValue → Bool
   new_uses w = ok (new_type w)
@@ -39,5 +39,5 @@ module _ (ok : ℕ → Bool) where
   -- all types that a pattern uses pass the test
   abbrev pub uses_only : PatternModel → Bool
   uses_only p =
-      list_all ok p.values && (list_all extra_uses p.extra && (list_all asked_uses p.type_constraints
-      && (list_all number_uses p.given && (list_all piece_uses p.old && list_all new_uses p.new))))
+      list_all ok p.values && (list_all extra_uses p.extra && (list_all requested_uses p.type_constraints
+      && (list_all number_uses p.given && (list_all pattern_op_uses p.old && list_all new_uses p.new))))

@@ -54,7 +54,7 @@ is_within t h = is_within_by (rule_of h.name) (result_kind h) (map (kind_in t) h
 -- A module of a context, without diagnostics. The module may have an operation on vectors. Its operands and results
 -- are no integers.
 pub record IsVerified (m : Module) : Type 0 where
-  pub formed : IsWellFormed is_isolated m
+  pub wellformed : IsWellFormed is_isolated m
   pub sorted : IsSorted m
   pub in_range : Each (λ h. is_in_range h ≡ true) m.tree
   pub within : Each (λ h. is_within m.tree h ≡ true) m.tree

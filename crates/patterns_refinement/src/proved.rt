@@ -1,5 +1,6 @@
 //! User patterns that hold at all widths for all outcomes of their variables, poison included, refine what a module
 //! computes: each at an operation, and so runs of such patterns, of patterns that hold by their form, and of rules.
+ghost use Rattle.patterns_refinement.specs.CanonLists.{CanonListsRefine};
 ghost use Rattle.patterns_refinement.specs.ForOutcomes.{CanonStaysInRange, OutcomesKeep, OutcomesKeepThere};
 ghost use Rattle.patterns_refinement.specs.ForOutcomes.{PatternsStayInRange, ProvedApplyRefines};
 ghost use Rattle.patterns_refinement.specs.ForOutcomes.{ProvedRewriteRefines, RulesStayInRange};
@@ -48,6 +49,21 @@ pub fn proved_patterns_refine()
     pattern_edits_are_accepted();
     polynomials_keep();
     check_holds_at_all_widths();
+    listed_rules_keep_what_is_computed();
+    strict_patterns_keep_what_is_computed();
+}
+
+/// After `rewrite` by a list of such rules and patterns and of rules 1 to 24, as `canon` in a list means, an observer sees
+/// a refinement of what an observer saw before, if the module has no unrealized casts, and no loops and conditionals of
+/// `scf`.
+pub fn lists_with_canon_refine()
+    ensures { CanonListsRefine }
+{
+    no_edit_is_refused();
+    pattern_edits_are_accepted();
+    polynomials_keep();
+    check_holds_at_all_widths();
+    only_listed_rules_apply();
     listed_rules_keep_what_is_computed();
     strict_patterns_keep_what_is_computed();
 }

@@ -1,6 +1,6 @@
 //! User patterns that hold at all widths refine what a module computes, also if values are poison: each at an
 //! operation, and so runs of patterns and rules.
-ghost use Rattle.patterns_refinement.specs.MixedRuns.{MixedRewritingKeeps, MixedRunsKeep, ShownAreKept};
+ghost use Rattle.patterns_refinement.specs.RuleListRuns.{RuleListRewritingKeeps, RuleListRunsKeep, ShownAreKept};
 ghost use Rattle.patterns_refinement.specs.Strict.{RegisteredKeep, HoldingKeep, StrictKeep};
 ghost use Rattle.patterns_refinement.specs.StrictSamples.{SampleIsReady, SamplesAreStrict};
 
@@ -23,13 +23,13 @@ pub fn strict_patterns_keep_what_is_computed()
 
 /// If each rule and pattern of a list keeps modules ready and refines what they compute, so does each run of them.
 pub fn list_runs_refine()
-    ensures { MixedRunsKeep }
+    ensures { RuleListRunsKeep }
 {}
 
 /// If each rule and pattern of a list keeps modules ready and refines what they compute, so does rewriting by the list
 /// up to a limit.
-pub fn mixed_rewriting_keeps_what_is_computed()
-    ensures { MixedRewritingKeeps }
+pub fn rule_list_rewriting_keeps_what_is_computed()
+    ensures { RuleListRewritingKeeps }
 {}
 
 /// Each listed rule, and each pattern whose check covers all widths, keeps modules ready and refines what they compute.

@@ -20,7 +20,7 @@ use Rattle.ir_event.proofs.of_tree_laws.Around.{around_there, gone_within, prese
 use Rattle.ir_event.proofs.of_tree_laws.Put.{child}
 use Rattle.ir_event.proofs.of_tree_laws.DominatedBy.{visible_there}
 use Rattle.ir_event.proofs.of_tree_laws.Values.{shape}
-use Rattle.patterns_base.proofs.Front.{cut_at, stands_before, joined_cut}
+use Rattle.patterns_base.proofs.Preceding.{cut_at, stands_before, joined_cut}
 use Rattle.patterns_base.proofs.Inner.{seen_outside}
 use Rattle.patterns_base.proofs.Moved.{deeper}
 use Rattle.patterns_base.proofs.Placed.{Following, before_it}
@@ -75,9 +75,9 @@ module _ {N T A : Type 0} where
           let deep = own_depth (g.step_in ∷ e.path) e.first u.0 u.1 (ap (λ (z : StandOf N T A). length z.path) same) in
           let paths : g.step_in ∷ e.path ≡ e.step_in ∷ e.path = ap (λ (z : StandOf N T A). z.path) (sym deep ∙ same) in
           let steps : g.step_in ≡ e.step_in = cc in
-          let l = ap (λ (s : StepOf N T A). length s.front) steps in
-          let n = ap length g.front in
-          let m = long g.step_in.front e.first g.between in
+          let l = ap (λ (s : StepOf N T A). length s.preceding) steps in
+          let n = ap length g.preceding in
+          let m = long g.step_in.preceding e.first g.between in
           absurd (omega (arith, l, n, m)))
     ]
       where
@@ -97,8 +97,8 @@ module _ {N T A : Type 0} where
       -- an operation dominated by an argument of z is inside z
       pub argument_within : (isolated : N → Bool) (o : OpOf N T A) (p : List (StepOf N T A)) → In (stand o p) (stands [] t) → (r k : ℕ) → dominated_by isolated p (Arg (head z).id r k) ≡ true → has_id (head o).id z ≡ true
       argument_within isolated o [] h r k e = absurd (true≢false (sym e))
-      argument_within isolated o (a ∷ q) h r k e = elim (either (list_any (λ f. shows (Arg (head z).id r k) (results_of f)) a.front) _ e) [
-        | inl m ↦ absurd (true≢false (sym m ∙ none_shows (head z).id r k a.front))
+      argument_within isolated o (a ∷ q) h r k e = elim (either (list_any (λ f. shows (Arg (head z).id r k) (results_of f)) a.preceding) _ e) [
+        | inl m ↦ absurd (true≢false (sym m ∙ none_shows (head z).id r k a.preceding))
         | inr m ↦ elim (either (shows (Arg (head z).id r k) (arguments (head a.parent).id a.region (length a.args))) _ m) [
           | inl l ↦ (let id = eqb-true (head z).id (head a.parent).id (both (eqb (head z).id (head a.parent).id) _ l).0 in
               child_within o a q h (ap (λ i. has_id i z) (sym id) ∙ own_id z))
@@ -117,19 +117,19 @@ module _ {N T A : Type 0} where
       pub users_after : (isolated : N → Bool) (us vs : List (OpOf N T A)) (z : OpOf N T A) → all ≡ us ++ z ∷ vs → (w : OpOf N T A) (p : List (StepOf N T A)) → In (stand w p) (stands [] t) → (k : ℕ) → dominated_by isolated p (Result (head z).id k) ≡ true
           → (o : OpOf N T A) × In o vs × (has_id (head w).id o ≡ true)
       users_after isolated us vs z parts w [] h k e = absurd (true≢false (sym e))
-      users_after isolated us vs z parts w (a ∷ q) h k e = elim (either (list_any (λ f. shows (Result (head z).id k) (results_of f)) a.front) _ e) [
-        | inl m ↦ (let f = one_any (λ f. shows (Result (head z).id k) (results_of f)) a.front m in
+      users_after isolated us vs z parts w (a ∷ q) h k e = elim (either (list_any (λ f. shows (Result (head z).id k) (results_of f)) a.preceding) _ e) [
+        | inl m ↦ (let f = one_any (λ f. shows (Result (head z).id k) (results_of f)) a.preceding m in
             let g = stands_before t w f.0 a q h f.1 in
             let id = eqb-true (head z).id (head f.0).id (both (eqb (head z).id (head f.0).id) _ f.2).0 in
             let same = same_stand t d (stand f.0 (g.step_in ∷ q)) (stand z (step xo r args us (joined_ops vs no_ops) ∷ xp)) g.there (one_stands us vs z parts) (sym id) in
             let paths : g.step_in ∷ q ≡ step xo r args us (joined_ops vs no_ops) ∷ xp = ap (λ (s : StandOf N T A). s.path) same in
             let steps : g.step_in ≡ step xo r args us (joined_ops vs no_ops) = cc in
-            let its : a.front ≡ us ++ z ∷ g.between = g.front ∙ (λ i. (steps i).front ++ (same i).here ∷ g.between) in
-            let blocks : Some (block a.args (joined_ops a.front (next w a.rest))) ≡ Some (block args (joined_ops all no_ops)) =
+            let its : a.preceding ≡ us ++ z ∷ g.between = g.preceding ∙ (λ i. (steps i).preceding ++ (same i).here ∷ g.between) in
+            let blocks : Some (block a.args (joined_ops a.preceding (next w a.rest))) ≡ Some (block args (joined_ops all no_ops)) =
             sym (shape t w a q h) ∙ (λ i. region_at ((sym g.region ∙ ap (λ (s : StepOf N T A). s.region) steps) i) (regions ((sym g.parent ∙ ap (λ (s : StepOf N T A). s.parent) steps) i))) ∙ is in
-            let lists : joined_ops a.front (next w a.rest) ≡ joined_ops all no_ops = cc in
+            let lists : joined_ops a.preceding (next w a.rest) ≡ joined_ops all no_ops = cc in
             let whole : us ++ (z ∷ g.between ++ w ∷ listed a.rest) ≡ us ++ z ∷ vs =
-            sym (append_assoc us (z ∷ g.between) (w ∷ listed a.rest)) ∙ ap (λ l. l ++ w ∷ listed a.rest) (sym its) ∙ sym (listed_next a.front w a.rest) ∙ ap listed lists ∙ listed_all all ∙ parts in
+            sym (append_assoc us (z ∷ g.between) (w ∷ listed a.rest)) ∙ ap (λ l. l ++ w ∷ listed a.rest) (sym its) ∙ sym (listed_next a.preceding w a.rest) ∙ ap listed lists ∙ listed_all all ∙ parts in
             let rest : z ∷ g.between ++ w ∷ listed a.rest ≡ z ∷ vs = cancelled us (z ∷ g.between ++ w ∷ listed a.rest) (z ∷ vs) whole in
             let trailing : g.between ++ w ∷ listed a.rest ≡ vs = cc in
             (w, subst (In w) trailing (in_right w g.between (w ∷ listed a.rest) (inl refl)), own_id w))
@@ -144,17 +144,17 @@ module _ {N T A : Type 0} where
     module _ (xo : OpOf N T A) (xp : List (StepOf N T A)) (up : In (stand xo xp) (stands [] t)) (r : ℕ) (args : List T) (all : List (OpOf N T A)) (is : region_at r (regions xo) ≡ Some (block args (joined_ops all no_ops))) where
       pub argument_users : (isolated : N → Bool) (w : OpOf N T A) (p : List (StepOf N T A)) → In (stand w p) (stands [] t) → (k : ℕ) → dominated_by isolated p (Arg (head xo).id r k) ≡ true → (o : OpOf N T A) × In o all × (has_id (head w).id o ≡ true)
       argument_users isolated w [] h k e = absurd (true≢false (sym e))
-      argument_users isolated w (a ∷ q) h k e = elim (either (list_any (λ f. shows (Arg (head xo).id r k) (results_of f)) a.front) _ e) [
-        | inl m ↦ absurd (true≢false (sym m ∙ none_shows (head xo).id r k a.front))
+      argument_users isolated w (a ∷ q) h k e = elim (either (list_any (λ f. shows (Arg (head xo).id r k) (results_of f)) a.preceding) _ e) [
+        | inl m ↦ absurd (true≢false (sym m ∙ none_shows (head xo).id r k a.preceding))
         | inr m ↦ elim (either (shows (Arg (head xo).id r k) (arguments (head a.parent).id a.region (length a.args))) _ m) [
           | inl l ↦ (let c = both (eqb (head xo).id (head a.parent).id) (eqb r a.region && nat_lt k (length a.args)) l in
               let id = eqb-true (head xo).id (head a.parent).id c.0 in
               let re = eqb-true r a.region (both (eqb r a.region) _ c.1).0 in
               let same = same_stand t d (stand xo xp) (stand a.parent q) up (around_there t w a q h).1 id in
-              let blocks : Some (block a.args (joined_ops a.front (next w a.rest))) ≡ Some (block args (joined_ops all no_ops)) = sym (shape t w a q h) ∙ (λ i. region_at (sym re i) (regions (sym same i).here)) ∙ is in
-              let lists : joined_ops a.front (next w a.rest) ≡ joined_ops all no_ops = cc in
-              let whole : a.front ++ w ∷ listed a.rest ≡ all = sym (listed_next a.front w a.rest) ∙ ap listed lists ∙ listed_all all in
-              (w, subst (In w) whole (in_right w a.front (w ∷ listed a.rest) (inl refl)), own_id w))
+              let blocks : Some (block a.args (joined_ops a.preceding (next w a.rest))) ≡ Some (block args (joined_ops all no_ops)) = sym (shape t w a q h) ∙ (λ i. region_at (sym re i) (regions (sym same i).here)) ∙ is in
+              let lists : joined_ops a.preceding (next w a.rest) ≡ joined_ops all no_ops = cc in
+              let whole : a.preceding ++ w ∷ listed a.rest ≡ all = sym (listed_next a.preceding w a.rest) ∙ ap listed lists ∙ listed_all all in
+              (w, subst (In w) whole (in_right w a.preceding (w ∷ listed a.rest) (inl refl)), own_id w))
           | inr l ↦ (let b = both (not (isolated (head a.parent).name)) (dominated_by isolated q (Arg (head xo).id r k)) l in
               let u = argument_users isolated a.parent q (around_there t w a q h).1 k b.1 in
               let c = cut_at u.0 all u.1 in
@@ -164,14 +164,14 @@ module _ {N T A : Type 0} where
       ]
 
   -- places before an operation
-  pub after_inside : (x : ℕ) (front : Place) (t : OpOf N T A) → Following x front t → Inside front.parent front.region x t
-  after_inside x front t s = record { here = s.here; step_in = s.step_in; path = s.path; there = s.there; id = s.id; parent = ap (λ (p : Place). p.parent) (sym s.place); region = ap (λ (p : Place). p.region) (sym s.place) }
+  pub after_inside : (x : ℕ) (preceding : Place) (t : OpOf N T A) → Following x preceding t → Inside preceding.parent preceding.region x t
+  after_inside x preceding t s = record { here = s.here; step_in = s.step_in; path = s.path; there = s.there; id = s.id; parent = ap (λ (p : Place). p.parent) (sym s.place); region = ap (λ (p : Place). p.region) (sym s.place) }
 
-  pub inside_after : (x : ℕ) (front : Place) (t : OpOf N T A) → front.before ≡ Some x → Inside front.parent front.region x t → Following x front t
-  inside_after x front t e s = record { here = s.here; step_in = s.step_in; path = s.path; there = s.there; id = s.id; place = λ i. record { parent = sym s.parent i; region = sym s.region i; before = e i } }
+  pub inside_after : (x : ℕ) (preceding : Place) (t : OpOf N T A) → preceding.before ≡ Some x → Inside preceding.parent preceding.region x t → Following x preceding t
+  inside_after x preceding t e s = record { here = s.here; step_in = s.step_in; path = s.path; there = s.there; id = s.id; place = λ i. record { parent = sym s.parent i; region = sym s.region i; before = e i } }
 
-  pub before_is : (x : ℕ) (front : Place) (t : OpOf N T A) → Following x front t → front.before ≡ Some x
-  before_is x front t s = ap (λ (p : Place). p.before) s.place
+  pub before_is : (x : ℕ) (preceding : Place) (t : OpOf N T A) → Following x preceding t → preceding.before ≡ Some x
+  before_is x preceding t s = ap (λ (p : Place). p.before) s.place
 
   -- an earlier operation comes after a place in the same block
   pub sibling_inside : (t : OpOf N T A) → HasDistinctIds t → (p r a b : ℕ) → Inside p r b t → Before a b t → Inside p r a t
@@ -200,10 +200,10 @@ module _ {N T A : Type 0} where
   ]
 
   -- an operation isn't the parent of its own block
-  pub not_parent : (x : ℕ) (front : Place) (t : OpOf N T A) → HasDistinctIds t → Following x front t → eqb x front.parent ≡ false
-  not_parent x front t d s = elim (bool_cases (eqb x front.parent)) [
+  pub not_parent : (x : ℕ) (preceding : Place) (t : OpOf N T A) → HasDistinctIds t → Following x preceding t → eqb x preceding.parent ≡ false
+  not_parent x preceding t d s = elim (bool_cases (eqb x preceding.parent)) [
     | inr k ↦ k
-    | inl k ↦ (let same = same_stand t d (stand s.here (s.step_in ∷ s.path)) (stand s.step_in.parent s.path) s.there (around_there t s.here s.step_in s.path s.there).1 (s.id ∙ eqb-true x front.parent k ∙ ap (λ (p : Place). p.parent) s.place) in
+    | inl k ↦ (let same = same_stand t d (stand s.here (s.step_in ∷ s.path)) (stand s.step_in.parent s.path) s.there (around_there t s.here s.step_in s.path s.there).1 (s.id ∙ eqb-true x preceding.parent k ∙ ap (λ (p : Place). p.parent) s.place) in
         let l = ap (λ (z : StandOf N T A). length z.path) same in
         absurd (omega (arith, l)))
   ]

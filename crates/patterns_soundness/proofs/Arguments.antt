@@ -55,9 +55,9 @@ module _ {N T A : Type 0} (isolated : N → Bool) (t : OpOf N T A) (d : HasDisti
 
   inside_dominated_by : (u : OpOf N T A) (q : List (StepOf N T A)) → In (stand u q) (stands [] t) → (r k : ℕ) → dominated_by_from isolated q (Arg (head o).id r k) ≡ true → (v : Value) → dominated_by_from isolated p v ≡ true → dominated_by_from isolated q v ≡ true
   inside_dominated_by u [] h r k e v s = absurd (true≢false (sym e))
-  inside_dominated_by u (a ∷ q) h r k e v s = elim (either (list_any (λ f. shows (Arg (head o).id r k) (results_of f)) a.front) _ e) [
-    | inl m ↦ absurd (true≢false (sym m ∙ none_shows r k a.front))
-    | inr m ↦ or_right (list_any (λ f. shows v (results_of f)) a.front) _ (or_right (shows v (arguments (head a.parent).id a.region (length a.args))) _ (elim (either (shows (Arg (head o).id r k) (arguments (head a.parent).id a.region (length a.args))) _ m) [
+  inside_dominated_by u (a ∷ q) h r k e v s = elim (either (list_any (λ f. shows (Arg (head o).id r k) (results_of f)) a.preceding) _ e) [
+    | inl m ↦ absurd (true≢false (sym m ∙ none_shows r k a.preceding))
+    | inr m ↦ or_right (list_any (λ f. shows v (results_of f)) a.preceding) _ (or_right (shows v (arguments (head a.parent).id a.region (length a.args))) _ (elim (either (shows (Arg (head o).id r k) (arguments (head a.parent).id a.region (length a.args))) _ m) [
       | inl l ↦ (let id = eqb-true (head o).id (head a.parent).id (both (eqb (head o).id (head a.parent).id) _ l).0 in
           let same = same_stand t d (stand o p) (stand a.parent q) there (around_there t u a q h).1 id in
           both_hold _ _ (ap (λ (z : StandOf N T A). not (isolated (head z.here).name)) (sym same) ∙ ap not opened) (ap (λ (z : StandOf N T A). dominated_by_from isolated z.path v) (sym same) ∙ s))
@@ -67,9 +67,9 @@ module _ {N T A : Type 0} (isolated : N → Bool) (t : OpOf N T A) (d : HasDisti
   ]
 
   users_inside : operands_visible isolated t ≡ true → (r k : ℕ) (v : Value) → dominated_by_from isolated p v ≡ true → users_see isolated (Arg (head o).id r k) v t ≡ true
-  users_inside formed r k v e = each_all (λ u. visible isolated t u.0 v) (uses_of (Arg (head o).id r k) t) (λ u h.
+  users_inside wellformed r k v e = each_all (λ u. visible isolated t u.0 v) (uses_of (Arg (head o).id r k) t) (λ u h.
       let s = user (Arg (head o).id r k) t u h in
-      let own = all_each (dominated_by_from isolated s.0.path) (head s.0.here).operands (all_each (λ (z : StandOf N T A). list_all (dominated_by_from isolated z.path) (head z.here).operands) (stands [] t) (sym (stands_operands isolated t) ∙ formed) s.0 s.1) (Arg (head o).id r k) s.3 in
+      let own = all_each (dominated_by_from isolated s.0.path) (head s.0.here).operands (all_each (λ (z : StandOf N T A). list_all (dominated_by_from isolated z.path) (head z.here).operands) (stands [] t) (sym (stands_operands isolated t) ∙ wellformed) s.0 s.1) (Arg (head o).id r k) s.3 in
       ap (λ z. visible isolated t z v) s.2 ∙ visible_there isolated t d s.0 s.1 v ∙ inside_dominated_by s.0.here s.0.path s.1 r k own v e)
 
 -- a block in a tree with heads changed
@@ -147,37 +147,37 @@ each_similar f alike [] = tt
 each_similar f alike (w ∷ ws) = ((each_id f alike w, λ z. ap (list_any (λ y. eqb y z)) (edit_ids f alike w)), each_similar f alike ws)
 
 -- operation x isn't isolated and isn't a symbol table, and its first block has these arguments and operations
-pub record Taking (x : ℕ) (front : Place) (args : List TypeTerm) (held : List ℕ) (m : Module) : Type 0 where
-  pub stood : StandsAt x front m
+pub record Taking (x : ℕ) (insertion : Place) (args : List TypeTerm) (held : List ℕ) (m : Module) : Type 0 where
+  pub located : StandsAt x insertion m
   pub list : OpsOf (List ℕ) TypeTerm AttrTerm
-  pub is : region_at 0 (regions stood.at.here) ≡ Some (block args list)
+  pub is : region_at 0 (regions located.at.here) ≡ Some (block args list)
   pub ids : list_ids list ≡ held
-  pub opened : is_isolated (head stood.at.here).name ≡ false
-  pub plain : is_table (head stood.at.here).name ≡ false
+  pub opened : is_isolated (head located.at.here).name ≡ false
+  pub plain : is_table (head located.at.here).name ≡ false
 
-module _ (x : ℕ) (front : Place) (args : List TypeTerm) (held : List ℕ) where
+module _ (x : ℕ) (insertion : Place) (args : List TypeTerm) (held : List ℕ) where
   -- the types of the arguments
-  pub argument_type : (m : Module) → Taking x front args held m → (k : ℕ) → type_of_value (Arg x 0 k) m.tree ≡ slice_get args k
+  pub argument_type : (m : Module) → Taking x insertion args held m → (k : ℕ) → type_of_value (Arg x 0 k) m.tree ≡ slice_get args k
   argument_type m h k =
-      ap (option_and_then (λ o. option_and_then (λ args. slice_get args k) (arguments_at 0 o))) (headed.found_there is_isolated x front m h.stood)
+      ap (option_and_then (λ o. option_and_then (λ args. slice_get args k) (arguments_at 0 o))) (headed.found_there is_isolated x insertion m h.located)
       ∙ ap (λ g. option_and_then (λ args. slice_get args k) (option_and_then arguments_of g)) h.is
 
   -- one argument is replaced
-  module _ (m : Module) (h : Taking x front args held m) (v : Value) (seen : dominated_by x v m ≡ true) (n : ℕ) where
+  module _ (m : Module) (h : Taking x insertion args held m) (v : Value) (seen : dominated_by x v m ≡ true) (n : ℕ) where
     abbrev new : Module
     new = edited (Replace (Arg x 0 n) v) m
 
     abbrev f : Header → Header
     f = put_values (Arg x 0 n) v
 
-    from_there : dominated_by_from is_isolated (h.stood.at.step_in ∷ h.stood.at.path) v ≡ true
+    from_there : dominated_by_from is_isolated (h.located.at.step_in ∷ h.located.at.path) v ≡ true
     from_there =
-        sym (visible_there is_isolated m.tree h.stood.formed.distinct (stand h.stood.at.here (h.stood.at.step_in ∷ h.stood.at.path)) h.stood.at.there v)
-        ∙ ap (λ z. visible is_isolated m.tree z v) h.stood.at.id ∙ seen
+        sym (visible_there is_isolated m.tree h.located.wellformed.distinct (stand h.located.at.here (h.located.at.step_in ∷ h.located.at.path)) h.located.at.there v)
+        ∙ ap (λ z. visible is_isolated m.tree z v) h.located.at.id ∙ seen
 
     users : users_see is_isolated (Arg x 0 n) v m.tree ≡ true
-    users = subst (λ z. users_see is_isolated (Arg z 0 n) v m.tree ≡ true) h.stood.at.id
-        (users_inside is_isolated m.tree h.stood.formed.distinct h.stood.at.here (h.stood.at.step_in ∷ h.stood.at.path) h.stood.at.there h.opened h.stood.formed.formed.visible 0 n v from_there)
+    users = subst (λ z. users_see is_isolated (Arg z 0 n) v m.tree ≡ true) h.located.at.id
+        (users_inside is_isolated m.tree h.located.wellformed.distinct h.located.at.here (h.located.at.step_in ∷ h.located.at.path) h.located.at.there h.opened h.located.wellformed.wellformed.visible 0 n v from_there)
 
     differs : (k : ℕ) → same_value (Arg x 0 k) v ≡ false
     differs k = go (same_value (Arg x 0 k) v) refl
@@ -185,23 +185,23 @@ module _ (x : ℕ) (front : Place) (args : List TypeTerm) (held : List ℕ) wher
         go : (b : Bool) → same_value (Arg x 0 k) v ≡ b → same_value (Arg x 0 k) v ≡ false
         go false e = e
         go true e =
-            (let w = seer is_isolated m.tree h.stood.formed.distinct x v seen in
-            absurd (not_own is_isolated m.tree h.stood.formed.distinct w.0 w.1 v w.3 (ap (λ z. (owner_of z).0) (sym (same_value_true (Arg x 0 k) v e)) ∙ sym w.2)))
+            (let w = seer is_isolated m.tree h.located.wellformed.distinct x v seen in
+            absurd (not_own is_isolated m.tree h.located.wellformed.distinct w.0 w.1 v w.3 (ap (λ z. (owner_of z).0) (sym (same_value_true (Arg x 0 k) v e)) ∙ sym w.2)))
 
-    abbrev stood_after : StandsAt x front (edited (Replace (Arg x 0 n) v) m)
-    stood_after = headed.stood_headed is_isolated (put_values (Arg x 0 n) v) (λ g. record { id = refl; name = refl; results = refl }) x front m h.stood (replaced_keeps is_isolated (Arg x 0 n) v m h.stood.formed users)
+    abbrev located_after : StandsAt x insertion (edited (Replace (Arg x 0 n) v) m)
+    located_after = headed.located_headed is_isolated (put_values (Arg x 0 n) v) (λ g. record { id = refl; name = refl; results = refl }) x insertion m h.located (replaced_keeps is_isolated (Arg x 0 n) v m h.located.wellformed users)
 
     same_name : (o : Operation) → (head (each_head (put_values (Arg x 0 n) v) o)).name ≡ (head o).name
     same_name (op g rs) = refl
 
-    taking_after : Taking x front args held (edited (Replace (Arg x 0 n) v) m)
+    taking_after : Taking x insertion args held (edited (Replace (Arg x 0 n) v) m)
     taking_after = record {
-      stood = stood_after;
+      located = located_after;
       list = ops_each_head f h.list;
-      is = each_region f h.stood.at.here 0 ∙ ap (option_map (region_each_head f)) h.is;
+      is = each_region f h.located.at.here 0 ∙ ap (option_map (region_each_head f)) h.is;
       ids = each_ids f h.list (λ g. refl) ∙ h.ids;
-      opened = ap is_isolated (same_name h.stood.at.here) ∙ h.opened;
-      plain = ap is_table (same_name h.stood.at.here) ∙ h.plain;
+      opened = ap is_isolated (same_name h.located.at.here) ∙ h.opened;
+      plain = ap is_table (same_name h.located.at.here) ∙ h.plain;
     }
 
     dominated_by_after : (w : Value) → dominated_by x w (edited (Replace (Arg x 0 n) v) m) ≡ dominated_by x w m
@@ -217,7 +217,7 @@ module _ (x : ℕ) (front : Place) (args : List TypeTerm) (held : List ℕ) wher
         go None = refl
         go (Some (op g rs)) = refl
 
-    given_after : (vs : List Value) (tys : List TypeTerm) → AreGiven x front vs tys m → AreGiven x front vs tys (edited (Replace (Arg x 0 n) v) m)
+    given_after : (vs : List Value) (tys : List TypeTerm) → AreGiven x insertion vs tys m → AreGiven x insertion vs tys (edited (Replace (Arg x 0 n) v) m)
     given_after [] [] g = tt
     given_after (w ∷ vs) (ty ∷ tys) g = ((dominated_by_after w ∙ g.0.0, (g.0.1.0, types_after w ∙ g.0.1.1, g.0.1.2)), given_after vs tys g.1)
     given_after [] (ty ∷ tys) g = absurd g
@@ -284,22 +284,22 @@ module _ (x : ℕ) (front : Place) (args : List TypeTerm) (held : List ℕ) wher
 
   pub record Outcome (n : ℕ) (vs : List Value) (m : Module) : Type 0 where
     pub free : (es : List Edit) → Free es (after n vs m) → Free (replacing (arguments_from x n vs) vs ++ es) m
-    pub taking : Taking x front args held (after n vs m)
+    pub taking : Taking x insertion args held (after n vs m)
     pub unused : (j : ℕ) → uses_of (Arg x 0 j) (after n vs m).tree ≡ []
     pub heads : (z : ℕ) → option_map head (find z (after n vs m).tree) ≡ option_map (with_operands (changed n vs)) (option_map head (find z m.tree))
     pub types : (v : Value) → type_of_value v (after n vs m).tree ≡ type_of_value v m.tree
     pub changed_types : (v : Value) → type_of_value (changed n vs v) m.tree ≡ type_of_value v m.tree
     pub dominance : (v : Value) → dominated_by x v (after n vs m) ≡ dominated_by x v m
     pub numbers : (after n vs m).next ≡ m.next
-    pub lists : (s : StandsAt x front m) (ws : List Operation) → region_at 0 (regions s.at.here) ≡ Some (block args (joined_ops ws no_ops)) → (zs : List Operation) × (region_at 0 (regions taking.stood.at.here) ≡ Some (block args (joined_ops zs no_ops))) × Similar ws zs
+    pub lists : (s : StandsAt x insertion m) (ws : List Operation) → region_at 0 (regions s.at.here) ≡ Some (block args (joined_ops ws no_ops)) → (zs : List Operation) × (region_at 0 (regions taking.located.at.here) ≡ Some (block args (joined_ops zs no_ops))) × Similar ws zs
     pub users : (w : Value) (u : ℕ × ℕ) → In u (uses_of w (after n vs m).tree) → (e : ℕ × ℕ) × (e.0 ≡ u.0) × (In e (uses_of w m.tree) ⊎ ((j : ℕ) × In e (uses_of (Arg x 0 j) m.tree)))
     pub counts : op_count (after n vs m).tree ≡ op_count m.tree
     pub befores : (a b : ℕ) → Before a b m.tree → Before a b (after n vs m).tree
 
-  pub one_here : (m : Module) (s k : StandsAt x front m) → s.at.here ≡ k.at.here
-  one_here m s k = (let two : Some s.at.here ≡ Some k.at.here = sym (headed.found_there is_isolated x front m s) ∙ headed.found_there is_isolated x front m k in cc)
+  pub one_here : (m : Module) (s k : StandsAt x insertion m) → s.at.here ≡ k.at.here
+  one_here m s k = (let two : Some s.at.here ≡ Some k.at.here = sym (headed.found_there is_isolated x insertion m s) ∙ headed.found_there is_isolated x insertion m k in cc)
 
-  pub outcome : (vs : List Value) (tys done : List TypeTerm) (m : Module) → Taking x front args held m → args ≡ done ++ tys → AreGiven x front vs tys m → (n : ℕ) → n ≡ length done
+  pub outcome : (vs : List Value) (tys done : List TypeTerm) (m : Module) → Taking x insertion args held m → args ≡ done ++ tys → AreGiven x insertion vs tys m → (n : ℕ) → n ≡ length done
       → ((j : ℕ) → (j < n) ⊎ (length args ≤ j) → uses_of (Arg x 0 j) m.tree ≡ []) → Outcome n vs m
   outcome [] [] done m h is g n at unused = record {
     free = λ es k. k;
@@ -310,7 +310,7 @@ module _ (x : ℕ) (front : Place) (args : List TypeTerm) (held : List ℕ) wher
     changed_types = λ v. refl;
     dominance = λ v. refl;
     numbers = refl;
-    lists = λ s ws is. (ws, ap (λ o. region_at 0 (regions o)) (one_here m h.stood s) ∙ is, similar_none ws);
+    lists = λ s ws is. (ws, ap (λ o. region_at 0 (regions o)) (one_here m h.located s) ∙ is, similar_none ws);
     users = λ w u i. (u, refl, inl i);
     counts = refl;
     befores = λ a b k. k;
@@ -335,14 +335,14 @@ module _ (x : ℕ) (front : Place) (args : List TypeTerm) (held : List ℕ) wher
         changed_types = λ w. changed_type next_one w (same_value (Arg x 0 n) w) refl;
         dominance = λ w. next_one.dominance w ∙ dominated_by_after m h v g.0.0 n w;
         numbers = next_one.numbers;
-        lists = λ s ws is. (let p = next_one.lists (stood_after m h v g.0.0 n) (map (each_head (put_values (Arg x 0 n) v)) ws) (list_after ws (ap (λ o. region_at 0 (regions o)) (one_here m h.stood s) ∙ is)) in (p.0, p.1, similar_both ws (map (each_head (put_values (Arg x 0 n) v)) ws) p.0 (each_similar (put_values (Arg x 0 n) v) (λ k. record { id = refl; name = refl; results = refl }) ws) p.2));
+        lists = λ s ws is. (let p = next_one.lists (located_after m h v g.0.0 n) (map (each_head (put_values (Arg x 0 n) v)) ws) (list_after ws (ap (λ o. region_at 0 (regions o)) (one_here m h.located s) ∙ is)) in (p.0, p.1, similar_both ws (map (each_head (put_values (Arg x 0 n) v)) ws) p.0 (each_similar (put_values (Arg x 0 n) v) (λ k. record { id = refl; name = refl; results = refl }) ws) p.2));
         users = λ w u i. users_both next_one w u i;
         befores = λ a b k. next_one.befores a b (before_headed (put_values (Arg x 0 n) v) (λ j. record { id = refl; name = refl; results = refl }) m.tree a b k);
         counts = next_one.counts ∙ ap length (edit_ids (put_values (Arg x 0 n) v) (λ k. record { id = refl; name = refl; results = refl }) m.tree);
       }
     where
-      list_after : (ws : List Operation) → region_at 0 (regions h.stood.at.here) ≡ Some (block args (joined_ops ws no_ops)) → region_at 0 (regions (stood_after m h v g.0.0 n).at.here) ≡ Some (block args (joined_ops (map (each_head (put_values (Arg x 0 n) v)) ws) no_ops))
-      list_after ws is = each_region (put_values (Arg x 0 n) v) h.stood.at.here 0 ∙ ap (option_map (region_each_head (put_values (Arg x 0 n) v))) is ∙ ap (λ l. Some (block args l)) (each_joined (put_values (Arg x 0 n) v) ws)
+      list_after : (ws : List Operation) → region_at 0 (regions h.located.at.here) ≡ Some (block args (joined_ops ws no_ops)) → region_at 0 (regions (located_after m h v g.0.0 n).at.here) ≡ Some (block args (joined_ops (map (each_head (put_values (Arg x 0 n) v)) ws) no_ops))
+      list_after ws is = each_region (put_values (Arg x 0 n) v) h.located.at.here 0 ∙ ap (option_map (region_each_head (put_values (Arg x 0 n) v))) is ∙ ap (λ l. Some (block args l)) (each_joined (put_values (Arg x 0 n) v) ws)
 
       users_both : Outcome (n + 1) vs (edited (Replace (Arg x 0 n) v) m) → (w : Value) (u : ℕ × ℕ) → In u (uses_of w (after n (v ∷ vs) m).tree) → (e : ℕ × ℕ) × (e.0 ≡ u.0) × (In e (uses_of w m.tree) ⊎ ((j : ℕ) × In e (uses_of (Arg x 0 j) m.tree)))
       users_both later w u i = (let p = later.users w u i in by_first p.0 p.1 p.2)

@@ -19,7 +19,7 @@ use Rattle.patterns_base.specs.Lists.{Free}
 use Rattle.patterns_base.proofs.Plans.{dominated_by}
 use Rattle.patterns_soundness.specs.base.Looks.{Header}
 use Rattle.patterns_soundness.specs.base.Makes.{moving}
-use Rattle.patterns_soundness.specs.base.Lowering.{beside, brought, end_of, gathering}
+use Rattle.patterns_soundness.specs.base.Lowering.{next_to, brought, end_of, gathering}
 use Rattle.patterns_soundness.proofs.Inwards as inwards
 use Rattle.patterns_soundness.proofs.Moving.{HasBlock}
 use Rattle.patterns_soundness.proofs.Ordered.{Before, Inside}
@@ -60,34 +60,34 @@ in_turned (u ∷ us) rs o i = go (in_turned us (u ∷ rs) o i)
     go : In o (us ++ u ∷ rs) → In o (u ∷ us ++ rs)
     go k = shift us k
 
-module _ (x y r : ℕ) (front : Place) (hx hy : Header) (deep : ℕ) (x_opened : is_isolated hx.name ≡ false) (x_plain : is_table hx.name ≡ false) (y_opened : is_isolated hy.name ≡ false) (y_plain : is_table hy.name ≡ false) (args : List TypeTerm) (B : ℕ → Type 0) (News : Value → Type 0)
-    (us : List Operation) (last : Operation) (m : Module) (start : Out x y r front hx hy deep x_opened x_plain y_opened y_plain args B [] (us ++ last ∷ []) m) where
+module _ (x y r : ℕ) (insertion : Place) (hx hy : Header) (deep : ℕ) (x_opened : is_isolated hx.name ≡ false) (x_plain : is_table hx.name ≡ false) (y_opened : is_isolated hy.name ≡ false) (y_plain : is_table hy.name ≡ false) (args : List TypeTerm) (B : ℕ → Type 0) (News : Value → Type 0)
+    (us : List Operation) (last : Operation) (m : Module) (start : Out x y r insertion hx hy deep x_opened x_plain y_opened y_plain args B [] (us ++ last ∷ []) m) where
   abbrev zs : List Operation
   zs = us ++ last ∷ []
 
   abbrev place : Place
-  place = beside front y
+  place = next_to insertion y
 
   -- the new values dominate the last operation, after the earlier ones are at the end of the block
   abbrev pub LastDominatedBy : Type 0
-  LastDominatedBy = (n : Module) → Across x y front hx hy deep n → HasBlock y r n.tree → Stays x y r front hx hy deep x_opened x_plain y_opened y_plain args B (us ++ last ∷ []) m n → Inside y r (head last).id n.tree
+  LastDominatedBy = (n : Module) → Across x y insertion hx hy deep n → HasBlock y r n.tree → Stays x y r insertion hx hy deep x_opened x_plain y_opened y_plain args B (us ++ last ∷ []) m n → Inside y r (head last).id n.tree
       → ((c : ℕ) → Inside y r c n.tree → eqb c (head last).id ≡ false → Before c (head last).id n.tree) → (v : Value) → News v → dominated_by (head last).id v n ≡ true
 
   pub record Brought : Type 0 where
     pub after : Module
-    pub free : (fs : List Edit) → Free fs after → Free (brought front y r (map (λ o. id_of o) us) (head last).id ++ fs) m
-    pub coming : Coming x y r front hx hy deep x_opened x_plain y_opened y_plain args B News [] (us ++ last ∷ []) after
-    pub stays : Stays x y r front hx hy deep x_opened x_plain y_opened y_plain args B (us ++ last ∷ []) m after
-    pub sides : (q : ℕ) (targs : List TypeTerm) (ws : List Operation) → ((o : Operation) → In o ws → Fit x y front hx hy deep o) → ((z o : Operation) → In z (us ++ last ∷ []) → In o ws → has_id (head z).id o ≡ false)
-        → Side x y r front hx hy deep x_opened x_plain y_opened y_plain args B q targs ws m start.across → Side x y r front hx hy deep x_opened x_plain y_opened y_plain args B q targs ws after coming.across
+    pub free : (fs : List Edit) → Free fs after → Free (brought insertion y r (map (λ o. id_of o) us) (head last).id ++ fs) m
+    pub coming : Coming x y r insertion hx hy deep x_opened x_plain y_opened y_plain args B News [] (us ++ last ∷ []) after
+    pub stays : Stays x y r insertion hx hy deep x_opened x_plain y_opened y_plain args B (us ++ last ∷ []) m after
+    pub sides : (q : ℕ) (targs : List TypeTerm) (ws : List Operation) → ((o : Operation) → In o ws → Fit x y insertion hx hy deep o) → ((z o : Operation) → In z (us ++ last ∷ []) → In o ws → has_id (head z).id o ≡ false)
+        → Side x y r insertion hx hy deep x_opened x_plain y_opened y_plain args B q targs ws m start.across → Side x y r insertion hx hy deep x_opened x_plain y_opened y_plain args B q targs ws after coming.across
 
   abbrev m1 : Module
-  m1 = all_edited (moving (beside front y) (map (λ o. id_of o) (us ++ last ∷ []))) m
+  m1 = all_edited (moving (next_to insertion y) (map (λ o. id_of o) (us ++ last ∷ []))) m
 
   abbrev rs : List Operation
   rs = turned_onto us []
 
-  edits_are : brought front y r (map (λ o. id_of o) us) (head last).id ≡ moving (beside front y) (map (λ o. id_of o) (us ++ last ∷ [])) ++ Move (head last).id (end_of y r) ∷ gathering y r (head last).id (map (λ o. id_of o) (turned_onto us []))
+  edits_are : brought insertion y r (map (λ o. id_of o) us) (head last).id ≡ moving (next_to insertion y) (map (λ o. id_of o) (us ++ last ∷ [])) ++ Move (head last).id (end_of y r) ∷ gathering y r (head last).id (map (λ o. id_of o) (turned_onto us []))
   edits_are =
       let ids = map (λ o. id_of o) us in
       let li = (head last).id in
@@ -102,7 +102,7 @@ module _ (x y r : ℕ) (front : Place) (hx hy : Header) (deep : ℕ) (x_opened :
   turned_in o i = in_left o us (last ∷ []) (subst (In o) (append_none us) (in_turned us [] o i))
 
   -- all of them are before y
-  abbrev coming_first : Out x y r front hx hy deep x_opened x_plain y_opened y_plain args B (turned_onto (us ++ last ∷ []) []) [] m1 → Coming x y r front hx hy deep x_opened x_plain y_opened y_plain args B News (last ∷ turned_onto us []) [] m1
+  abbrev coming_first : Out x y r insertion hx hy deep x_opened x_plain y_opened y_plain args B (turned_onto (us ++ last ∷ []) []) [] m1 → Coming x y r insertion hx hy deep x_opened x_plain y_opened y_plain args B News (last ∷ turned_onto us []) [] m1
   coming_first o = record {
     across = o.across;
     into = o.into;
@@ -115,39 +115,39 @@ module _ (x y r : ℕ) (front : Place) (hx hy : Header) (deep : ℕ) (x_opened :
     news = λ v h p i. absurd i;
   }
 
-  Sides : (n : Module) → Across x y front hx hy deep n → (n2 : Module) → Across x y front hx hy deep n2 → Type 0
+  Sides : (n : Module) → Across x y insertion hx hy deep n → (n2 : Module) → Across x y insertion hx hy deep n2 → Type 0
   Sides n s n2 s2 =
-      (q : ℕ) (targs : List TypeTerm) (ws : List Operation) → ((o : Operation) → In o ws → Fit x y front hx hy deep o) → ((z o : Operation) → In z (us ++ last ∷ []) → In o ws → has_id (head z).id o ≡ false)
-      → Side x y r front hx hy deep x_opened x_plain y_opened y_plain args B q targs ws n s → Side x y r front hx hy deep x_opened x_plain y_opened y_plain args B q targs ws n2 s2
+      (q : ℕ) (targs : List TypeTerm) (ws : List Operation) → ((o : Operation) → In o ws → Fit x y insertion hx hy deep o) → ((z o : Operation) → In z (us ++ last ∷ []) → In o ws → has_id (head z).id o ≡ false)
+      → Side x y r insertion hx hy deep x_opened x_plain y_opened y_plain args B q targs ws n s → Side x y r insertion hx hy deep x_opened x_plain y_opened y_plain args B q targs ws n2 s2
 
   pub bring : ((v : Value) → News v → (o : Operation) → In o (us ++ last ∷ []) → eqb (owner_of v).0 (head o).id ≡ false) → LastDominatedBy → Brought
   unfolding Sides
   bring apart dominated_by_last =
-      let p1 = phase_out x y r front hx hy deep x_opened x_plain y_opened y_plain args B zs [] m start in
+      let p1 = phase_out x y r insertion hx hy deep x_opened x_plain y_opened y_plain args B zs [] m start in
       let c1 = coming_first p1.out in
       let zf = c1.moved_fits last (inl refl) in
       let before = (c1.moved last (inl refl)).0 in
       let at = (c1.moved last (inl refl)).1 in
       let next = record m1 { tree = put (end_of y r) last (without (head last).id m1.tree) } in
-      let stays2 = stays_both x y r front hx hy deep x_opened x_plain y_opened y_plain args B zs (last ∷ []) m m1 next p1.stays (in_step_stays x y r front hx hy deep x_opened x_plain y_opened y_plain args B News last rs [] m1 c1) zs (λ o i. i) only in
-      let across = inwards.in_across x y r front hx hy deep y_opened y_plain m1 c1.across c1.into last before at [] c1.came c1.first zf c1.fits c1.turned.0.1 c1.turned.0.0 in
-      let into = inwards.in_block x y r front hx hy deep y_opened y_plain m1 c1.across c1.into last before at [] c1.came c1.first zf c1.fits c1.turned.0.1 c1.turned.0.0 y r zf.y_out c1.into in
-      let inside = inwards.now_inside x y r front hx hy deep y_opened y_plain m1 c1.across c1.into last before at [] c1.came c1.first zf c1.fits c1.turned.0.1 c1.turned.0.0 in
-      let trailing = inwards.in_last x y r front hx hy deep y_opened y_plain m1 c1.across c1.into last before at [] c1.came c1.first zf c1.fits c1.turned.0.1 c1.turned.0.0 refl in
-      let e = entered x y r front hx hy deep x_opened x_plain y_opened y_plain args B News last rs [] m1 c1 (λ v h o i. one_only next v (dominated_by_last next across into stays2 inside trailing v h) o i) in
+      let stays2 = stays_both x y r insertion hx hy deep x_opened x_plain y_opened y_plain args B zs (last ∷ []) m m1 next p1.stays (in_step_stays x y r insertion hx hy deep x_opened x_plain y_opened y_plain args B News last rs [] m1 c1) zs (λ o i. i) only in
+      let across = inwards.in_across x y r insertion hx hy deep y_opened y_plain m1 c1.across c1.into last before at [] c1.came c1.first zf c1.fits c1.turned.0.1 c1.turned.0.0 in
+      let into = inwards.in_block x y r insertion hx hy deep y_opened y_plain m1 c1.across c1.into last before at [] c1.came c1.first zf c1.fits c1.turned.0.1 c1.turned.0.0 y r zf.y_out c1.into in
+      let inside = inwards.now_inside x y r insertion hx hy deep y_opened y_plain m1 c1.across c1.into last before at [] c1.came c1.first zf c1.fits c1.turned.0.1 c1.turned.0.0 in
+      let trailing = inwards.in_last x y r insertion hx hy deep y_opened y_plain m1 c1.across c1.into last before at [] c1.came c1.first zf c1.fits c1.turned.0.1 c1.turned.0.0 refl in
+      let e = entered x y r insertion hx hy deep x_opened x_plain y_opened y_plain args B News last rs [] m1 c1 (λ v h o i. one_only next v (dominated_by_last next across into stays2 inside trailing v h) o i) in
       let m2 = edited (Move (head last).id (end_of y r)) m1 in
-      let p3 = phase_in x y r front hx hy deep x_opened x_plain y_opened y_plain args B News rs last [] m2 e.0 (λ v h o i. apart v h o (turned_in o i)) in
+      let p3 = phase_in x y r insertion hx hy deep x_opened x_plain y_opened y_plain args B News rs last [] m2 e.0 (λ v h o i. apart v h o (turned_in o i)) in
       let m3 = all_edited (gathering y r (head last).id (map (λ o. id_of o) rs)) m2 in
       let sides : Sides m start.across m3 p3.coming.across = (λ q targs ws wf lacks side. p3.sides q targs ws wf (λ z o i j. lacks z o (turned_in z i) j) (e.2 q targs ws wf (λ o j. lacks last o last_in j) (p1.sides q targs ws wf lacks side))) in
-      let packed = subst (λ l. (c : Coming x y r front hx hy deep x_opened x_plain y_opened y_plain args B News [] l m3) × Sides m start.across m3 c.across) (turned_twice us [] (last ∷ [])) (p3.coming, sides) in
+      let packed = subst (λ l. (c : Coming x y r insertion hx hy deep x_opened x_plain y_opened y_plain args B News [] l m3) × Sides m start.across m3 c.across) (turned_twice us [] (last ∷ [])) (p3.coming, sides) in
       record {
         after = m3;
         free = λ fs k. subst (λ l. Free (l ++ fs) m) (sym edits_are)
             (subst (λ l. Free l m) (sym (append_assoc (moving place (map (λ o. id_of o) zs)) (Move (head last).id (end_of y r) ∷ gathering y r (head last).id (map (λ o. id_of o) rs)) fs))
-            (p1.free (Move (head last).id (end_of y r) ∷ gathering y r (head last).id (map (λ o. id_of o) rs) ++ fs) (in_step_reason x y r front hx hy deep x_opened x_plain y_opened y_plain args B News last rs [] m1 c1, p3.free fs k)));
+            (p1.free (Move (head last).id (end_of y r) ∷ gathering y r (head last).id (map (λ o. id_of o) rs) ++ fs) (in_step_reason x y r insertion hx hy deep x_opened x_plain y_opened y_plain args B News last rs [] m1 c1, p3.free fs k)));
         coming = packed.0;
-        stays = stays_both x y r front hx hy deep x_opened x_plain y_opened y_plain args B zs zs m m2 m3 (stays_both x y r front hx hy deep x_opened x_plain y_opened y_plain args B zs (last ∷ []) m m1 m2 p1.stays e.1 zs (λ o i. i) only)
-            (stays_both x y r front hx hy deep x_opened x_plain y_opened y_plain args B rs [] m2 m3 m3 p3.stays (stays_none x y r front hx hy deep x_opened x_plain y_opened y_plain args B m3) zs turned_in (λ o i. absurd i)) zs (λ o i. i) (λ o i. i);
+        stays = stays_both x y r insertion hx hy deep x_opened x_plain y_opened y_plain args B zs zs m m2 m3 (stays_both x y r insertion hx hy deep x_opened x_plain y_opened y_plain args B zs (last ∷ []) m m1 m2 p1.stays e.1 zs (λ o i. i) only)
+            (stays_both x y r insertion hx hy deep x_opened x_plain y_opened y_plain args B rs [] m2 m3 m3 p3.stays (stays_none x y r insertion hx hy deep x_opened x_plain y_opened y_plain args B m3) zs turned_in (λ o i. absurd i)) zs (λ o i. i) (λ o i. i);
         sides = packed.1;
       }
     where

@@ -37,7 +37,7 @@ use Rattle.patterns_soundness.specs.base.Lowering.{before_in, bridges, brought, 
 use Rattle.patterns_soundness.proofs.Across.{inside_after}
 use Rattle.patterns_soundness.proofs.Brought as bringing
 use Rattle.patterns_soundness.proofs.Brought.{Brought}
-use Rattle.patterns_soundness.proofs.CastsAccepted.{Room}
+use Rattle.patterns_soundness.proofs.CastsAccepted.{Headroom}
 use Rattle.patterns_soundness.proofs.Handed.{HandedOn, handed_on}
 use Rattle.patterns_soundness.proofs.Kept as kept
 use Rattle.patterns_soundness.proofs.Moving.{HasBlock}
@@ -61,9 +61,9 @@ pub cast_uses : (n : ℕ) (ty : TypeTerm) (v u : Value) → same_value u v ≡ f
 cast_uses n ty v u e = ap (λ b. cond b ((n, 0) ∷ []) [] ++ []) e
 
 -- a block of x without arguments, whose operations move into that of y; the terminator's operands go through casts
-module _ (x y r : ℕ) (front : Place) (hx hy : Header) (deep : ℕ) (x_opened : is_isolated hx.name ≡ false) (x_plain : is_table hx.name ≡ false) (y_opened : is_isolated hy.name ≡ false) (y_plain : is_table hy.name ≡ false)
-    (us : List Operation) (last : Operation) (ms : List Bool) (m : Module) (a : Across x y front hx hy deep m) (into : HasBlock y r m.tree) (is : region_at r (regions a.stood.at.here) ≡ Some (block [] (joined_ops (us ++ last ∷ []) no_ops)))
-    (fits : (o : Operation) → In o (us ++ last ∷ []) → Fit x y front hx hy deep o) (wide : length ms ≡ length (head last).operands) (Q : (n : Module) → Across x y front hx hy deep n → Type 0) where
+module _ (x y r : ℕ) (insertion : Place) (hx hy : Header) (deep : ℕ) (x_opened : is_isolated hx.name ≡ false) (x_plain : is_table hx.name ≡ false) (y_opened : is_isolated hy.name ≡ false) (y_plain : is_table hy.name ≡ false)
+    (us : List Operation) (last : Operation) (ms : List Bool) (m : Module) (a : Across x y insertion hx hy deep m) (into : HasBlock y r m.tree) (is : region_at r (regions a.located.at.here) ≡ Some (block [] (joined_ops (us ++ last ∷ []) no_ops)))
+    (fits : (o : Operation) → In o (us ++ last ∷ []) → Fit x y insertion hx hy deep o) (wide : length ms ≡ length (head last).operands) (Q : (n : Module) → Across x y insertion hx hy deep n → Type 0) where
   abbrev B : ℕ → Type 0
   B b = ⊥
 
@@ -80,14 +80,14 @@ module _ (x y r : ℕ) (front : Place) (hx hy : Header) (deep : ℕ) (x_opened :
   last_in = in_right last us (last ∷ []) (inl refl)
 
   pub spared : (k : ℕ) → uses_of (Arg x r k) m.tree ≡ []
-  spared k = missing_unused m a.stood.formed (Arg x r k)
-      (ap (λ f. is_some (option_and_then (λ o. option_and_then (λ args. slice_get args k) (arguments_at r o)) f)) (found_there is_isolated x front m a.stood) ∙ ap (λ g. is_some (option_and_then (λ args. slice_get args k) (option_and_then arguments_of g))) is ∙ none k)
+  spared k = missing_unused m a.located.wellformed (Arg x r k)
+      (ap (λ f. is_some (option_and_then (λ o. option_and_then (λ args. slice_get args k) (arguments_at r o)) f)) (found_there is_isolated x insertion m a.located) ∙ ap (λ g. is_some (option_and_then (λ args. slice_get args k) (option_and_then arguments_of g))) is ∙ none k)
     where
       none : (k : ℕ) → is_some (slice_get {X = TypeTerm} [] k) ≡ false
       none zero = refl
       none (suc k) = refl
 
-  abbrev pub start : Out x y r front hx hy deep x_opened x_plain y_opened y_plain [] B [] (us ++ last ∷ []) m
+  abbrev pub start : Out x y r insertion hx hy deep x_opened x_plain y_opened y_plain [] B [] (us ++ last ∷ []) m
   start = record {
     across = a;
     into = into;
@@ -96,30 +96,30 @@ module _ (x y r : ℕ) (front : Place) (hx hy : Header) (deep : ℕ) (x_opened :
     moved = λ o i. absurd i;
     fits = fits;
     moved_fits = λ o i. absurd i;
-    rel = rel_of x front m a.stood r [] (us ++ last ∷ []) is [] (us ++ last ∷ []) refl;
+    rel = rel_of x insertion m a.located r [] (us ++ last ∷ []) is [] (us ++ last ∷ []) refl;
     turned = tt;
   }
 
   abbrev Bring : Type 0
-  Bring = Brought x y r front hx hy deep x_opened x_plain y_opened y_plain [] B News us last m start
+  Bring = Brought x y r insertion hx hy deep x_opened x_plain y_opened y_plain [] B News us last m start
 
-  pub b : Brought x y r front hx hy deep x_opened x_plain y_opened y_plain [] B News us last m start
-  b = bringing.bring x y r front hx hy deep x_opened x_plain y_opened y_plain [] B News us last m start (λ v h o i. absurd h) (λ n c i k w f v h. absurd h)
+  pub b : Brought x y r insertion hx hy deep x_opened x_plain y_opened y_plain [] B News us last m start
+  b = bringing.bring x y r insertion hx hy deep x_opened x_plain y_opened y_plain [] B News us last m start (λ v h o i. absurd h) (λ n c i k w f v h. absurd h)
 
   abbrev n : Module
   n = b.after
 
-  stood_last : StandsAt (head last).id (before_in y r (head last).id) b.after
-  stood_last = record { formed = b.coming.across.stood.formed; at = inside_after l place n.tree refl (b.coming.came last last_in).0 }
+  located_last : StandsAt (head last).id (before_in y r (head last).id) b.after
+  located_last = record { wellformed = b.coming.across.located.wellformed; at = inside_after l place n.tree refl (b.coming.came last last_in).0 }
 
-  here_last : stood_last.at.here ≡ last
-  here_last = (let two : Some stood_last.at.here ≡ Some last = sym (found_there is_isolated l place n stood_last) ∙ (b.coming.came last last_in).1 in cc)
+  here_last : located_last.at.here ≡ last
+  here_last = (let two : Some located_last.at.here ≡ Some last = sym (found_there is_isolated l place n located_last) ∙ (b.coming.came last last_in).1 in cc)
 
   last_dominated_by : (v : Value) → In v (head last).operands → dominated_by (head last).id v b.after ≡ true
   last_dominated_by v i =
-      let q = stood_last.at.step_in ∷ stood_last.at.path in
-      ap (λ z. visible is_isolated n.tree z v) (sym stood_last.at.id) ∙ visible_there is_isolated n.tree stood_last.formed.distinct (stand stood_last.at.here q) stood_last.at.there v
-      ∙ own_operand n.tree stood_last.formed.distinct stood_last.formed.formed.visible (stand stood_last.at.here q) stood_last.at.there v (subst (λ (z : Operation). In v (head z).operands) (sym here_last) i)
+      let q = located_last.at.step_in ∷ located_last.at.path in
+      ap (λ z. visible is_isolated n.tree z v) (sym located_last.at.id) ∙ visible_there is_isolated n.tree located_last.wellformed.distinct (stand located_last.at.here q) located_last.at.there v
+      ∙ own_operand n.tree located_last.wellformed.distinct located_last.wellformed.wellformed.visible (stand located_last.at.here q) located_last.at.there v (subst (λ (z : Operation). In v (head z).operands) (sym here_last) i)
 
   not_of_y : (v : Value) → In v (head last).operands → (j : ℕ) → same_value (Result y j) v ≡ false
   not_of_y v i j = go (same_value (Result y j) v) refl
@@ -127,8 +127,8 @@ module _ (x y r : ℕ) (front : Place) (hx hy : Header) (deep : ℕ) (x_opened :
       go : (c : Bool) → same_value (Result y j) v ≡ c → same_value (Result y j) v ≡ false
       go false e = e
       go true e =
-          (let q = stood_last.at.step_in ∷ stood_last.at.path in
-          absurd (used_value n.tree (stand stood_last.at.here q) stood_last.at.there (Result y j) (subst (λ (z : Value). In z (head stood_last.at.here).operands) (sym (same_value_true (Result y j) v e)) (subst (λ (z : Operation). In v (head z).operands) (sym here_last) i)) (b.coming.across.unused j)))
+          (let q = located_last.at.step_in ∷ located_last.at.path in
+          absurd (used_value n.tree (stand located_last.at.here q) located_last.at.there (Result y j) (subst (λ (z : Value). In z (head located_last.at.here).operands) (sym (same_value_true (Result y j) v e)) (subst (λ (z : Operation). In v (head z).operands) (sym here_last) i)) (b.coming.across.unused j)))
 
   apart : (z : ℕ) → has_id z last ≡ false → eqb z (head last).id ≡ false
   apart z h = go (eqb z (head last).id) refl
@@ -139,37 +139,37 @@ module _ (x y r : ℕ) (front : Place) (hx hy : Header) (deep : ℕ) (x_opened :
 
   -- properties that must hold after each insertion
   abbrev Made : Type 0
-  Made = (k : Module) (s : Across x y front hx hy deep k) (point : has_place (before_in y r (head last).id) k.tree ≡ true) (o : Operation) (leaf : hold_none (regions o) ≡ true) (unused : (j : ℕ) → uses_of (Result y j) (with_id k.next o) ≡ [])
-      (formed : IsWellFormed is_isolated (edited (Make (before_in y r (head last).id) o) k)) → Q k s → Q (edited (Make (before_in y r (head last).id) o) k) (within_y.across_made x y r front hx hy deep k s (before_in y r (head last).id) point refl refl o leaf unused formed)
+  Made = (k : Module) (s : Across x y insertion hx hy deep k) (point : has_place (before_in y r (head last).id) k.tree ≡ true) (o : Operation) (leaf : hold_none (regions o) ≡ true) (unused : (j : ℕ) → uses_of (Result y j) (with_id k.next o) ≡ [])
+      (wellformed : IsWellFormed is_isolated (edited (Make (before_in y r (head last).id) o) k)) → Q k s → Q (edited (Make (before_in y r (head last).id) o) k) (within_y.across_made x y r insertion hx hy deep k s (before_in y r (head last).id) point refl refl o leaf unused wellformed)
 
   abbrev Set : Type 0
-  Set = (k : Module) (s : Across x y front hx hy deep k) (i : ℕ) (v : Value) (xa : eqb x (head last).id ≡ false) (ya : eqb y (head last).id ≡ false) (other : (j : ℕ) → same_value (Result y j) v ≡ false) (formed : IsWellFormed is_isolated (edited (SetOperand (head last).id i v) k))
-      → Q k s → Q (edited (SetOperand (head last).id i v) k) (within_y.across_set x y r front hx hy deep k s (head last).id i v xa ya other formed)
+  Set = (k : Module) (s : Across x y insertion hx hy deep k) (i : ℕ) (v : Value) (xa : eqb x (head last).id ≡ false) (ya : eqb y (head last).id ≡ false) (other : (j : ℕ) → same_value (Result y j) v ≡ false) (wellformed : IsWellFormed is_isolated (edited (SetOperand (head last).id i v) k))
+      → Q k s → Q (edited (SetOperand (head last).id i v) k) (within_y.across_set x y r insertion hx hy deep k s (head last).id i v xa ya other wellformed)
 
   pub record Taken : Type 0 where
     pub after : Module
-    pub free : (fs : List Edit) → Free fs after → Free ((brought front y r (map (λ o. id_of o) us) (head last).id ++ (bridges i64 (before_in y r (head last).id) ms (head last).operands ++ crossing (head last).id 0 m.next ms)) ++ fs) m
-    pub across : Across x y front hx hy deep after
+    pub free : (fs : List Edit) → Free fs after → Free ((brought insertion y r (map (λ o. id_of o) us) (head last).id ++ (bridges i64 (before_in y r (head last).id) ms (head last).operands ++ crossing (head last).id 0 m.next ms)) ++ fs) m
+    pub across : Across x y insertion hx hy deep after
     pub extra : Q after across
     pub next : after.next ≡ m.next + marked ms
-    pub rooms : (k : ℕ) → Room (marked ms + k) m → Room k after
+    pub headrooms : (k : ℕ) → Headroom (marked ms + k) m → Headroom k after
 
   abbrev P : Module → Type 0
-  P k = (s : Across x y front hx hy deep k) × Q k s
+  P k = (s : Across x y insertion hx hy deep k) × Q k s
 
-  pub taken : (y < m.next) → (Q m a → Q b.after b.coming.across) → Made → Set → Room (marked ms) m → Q m a → Taken
-  taken low brought_q made_q set_q room q =
+  pub taken : (y < m.next) → (Q m a → Q b.after b.coming.across) → Made → Set → Headroom (marked ms) m → Q m a → Taken
+  taken low brought_q made_q set_q headroom q =
       let same = b.stays.next in
-      let h = handed_on l place b.after.next (head last).operands P p_made (p_set (omega (arith, low, same))) ms b.after stood_last last_dominated_by wide
-      (let e = ap (λ (z : Operation). length (head z).operands) here_last in omega (arith, wide, e)) (omega arith) (b.stays.rooms (marked ms) room) (b.coming.across, brought_q q) in
+      let h = handed_on l place b.after.next (head last).operands P p_made (p_set (omega (arith, low, same))) ms b.after located_last last_dominated_by wide
+      (let e = ap (λ (z : Operation). length (head z).operands) here_last in omega (arith, wide, e)) (omega arith) (b.stays.headrooms (marked ms) headroom) (b.coming.across, brought_q q) in
       record {
         after = h.after;
-        free = λ fs k. subst (λ es. Free es m) (sym (append_assoc (brought front y r (map (λ o. id_of o) us) l) (bridges i64 place ms (head last).operands ++ crossing l 0 m.next ms) fs))
+        free = λ fs k. subst (λ es. Free es m) (sym (append_assoc (brought insertion y r (map (λ o. id_of o) us) l) (bridges i64 place ms (head last).operands ++ crossing l 0 m.next ms) fs))
             (b.free ((bridges i64 place ms (head last).operands ++ crossing l 0 m.next ms) ++ fs) (subst (λ c. Free ((bridges i64 place ms (head last).operands ++ crossing l 0 c ms) ++ fs) b.after) same (h.free fs k)));
         across = h.keeps.0;
         extra = h.keeps.1;
         next = h.next ∙ ap (λ k. k + marked ms) same;
-        rooms = λ k w. h.rooms k (b.stays.rooms (marked ms + k) w);
+        headrooms = λ k w. h.headrooms k (b.stays.headrooms (marked ms + k) w);
       }
     where
       p_made : (k : Module) → StandsAt (head last).id (before_in y r (head last).id) k → (v : Value) → In v (head last).operands → dominated_by (head last).id v k ≡ true → b.after.next ≤ k.next → StandsAt (head last).id (before_in y r (head last).id) (edited (Make (before_in y r (head last).id) (bridge i64 v)) k) → P k
@@ -177,14 +177,14 @@ module _ (x y r : ℕ) (front : Place) (hx hy : Header) (deep : ℕ) (x_opened :
       p_made k st v i e lw st2 p =
           let point = made_there.point is_isolated l place k st in
           let unused : (j : ℕ) → uses_of (Result y j) (with_id k.next (bridge i64 v)) ≡ [] = (λ j. cast_uses k.next i64 v (Result y j) (not_of_y v i j)) in
-          (within_y.across_made x y r front hx hy deep k p.0 place point refl refl (bridge i64 v) refl unused st2.formed, made_q k p.0 point (bridge i64 v) refl unused st2.formed p.1)
+          (within_y.across_made x y r insertion hx hy deep k p.0 place point refl refl (bridge i64 v) refl unused st2.wellformed, made_q k p.0 point (bridge i64 v) refl unused st2.wellformed p.1)
 
       p_set : y < b.after.next → (k : Module) → StandsAt (head last).id (before_in y r (head last).id) k → (i c : ℕ) → b.after.next ≤ c → dominated_by (head last).id (Result c 0) k ≡ true → StandsAt (head last).id (before_in y r (head last).id) (edited (SetOperand (head last).id i (Result c 0)) k) → P k → P (edited (SetOperand (head last).id i (Result c 0)) k)
       p_set lower k st i c lw e st2 p =
           let xa = apart x (fits last last_in).x_out in
           let ya = apart y (fits last last_in).y_out in
           let other : (j : ℕ) → same_value (Result y j) (Result c 0) ≡ false = (λ j. ap (λ z. z && eqb j 0) (differs (eqb y c) refl)) in
-          (within_y.across_set x y r front hx hy deep k p.0 l i (Result c 0) xa ya other st2.formed, set_q k p.0 i (Result c 0) xa ya other st2.formed p.1)
+          (within_y.across_set x y r insertion hx hy deep k p.0 l i (Result c 0) xa ya other st2.wellformed, set_q k p.0 i (Result c 0) xa ya other st2.wellformed p.1)
         where
           differs : (d : Bool) → eqb y c ≡ d → eqb y c ≡ false
           differs false h = h

@@ -23,7 +23,7 @@ use Rattle.ir_event.specs.Modules.{Module}
 use Rattle.rewriter_machine.specs.Contents.{Edit, edited}
 use Rattle.rewriter_machine.specs.Edits.{Erase, Make}
 use Rattle.patterns_base.specs.Lists.{Free}
-use Rattle.patterns_base.proofs.Front.{cut_at}
+use Rattle.patterns_base.proofs.Preceding.{cut_at}
 use Rattle.patterns_base.proofs.Plans.{StandsAt, dominated_by}
 use Rattle.patterns_soundness.specs.base.Keeps.{given, lowered_type}
 use Rattle.patterns_soundness.specs.base.Words.{named}
@@ -36,15 +36,15 @@ use Rattle.patterns_soundness.proofs.Ends.{Ending, ending}
 use Rattle.patterns_soundness.proofs.Yielding.{choices_ask_truth, choices_hand_on_all}
 use Rattle.patterns_soundness.proofs.Across.{one_stands}
 use Rattle.patterns_soundness.proofs.VerifiedBlocks.{block_is, if_arguments, if_opened, if_plain}
-use Rattle.patterns_soundness.proofs.CastsAccepted.{AreLowered, MadeThere, Room, given_free, made_one}
+use Rattle.patterns_soundness.proofs.CastsAccepted.{AreLowered, MadeThere, Headroom, given_free, made_one}
 use Rattle.patterns_soundness.proofs.ChoicesAccepted.{Taken, b as brought_there, taken}
-use Rattle.patterns_soundness.proofs.Given.{HasRoom}
+use Rattle.patterns_soundness.proofs.Given.{HasHeadroom}
 use Rattle.patterns_soundness.proofs.Indexed.{head_there, lowered_fits, lowered_holds_none, lowered_seen, own_fits}
 use Rattle.patterns_soundness.proofs.Moving.{HasBlock}
 use Rattle.patterns_soundness.proofs.Ordered.{later_shows}
 use Rattle.patterns_soundness.proofs.Phases.{id_of}
 use Rattle.patterns_soundness.proofs.Points.{Point, here_is, dominated_by_operand, stands_there}
-use Rattle.patterns_soundness.proofs.Started.{beside_out, fit_of, fresh, lowered_at, started, started_block, started_side}
+use Rattle.patterns_soundness.proofs.Started.{next_to_out, fit_of, fresh, lowered_at, started, started_block, started_side}
 use Rattle.patterns_soundness.proofs.Steps.{Across, Fit, there_of}
 use Rattle.patterns_soundness.proofs.Within as within_y
 use Rattle.patterns_soundness.proofs.of_base.Facts.{bridges_make, when_some}
@@ -76,15 +76,15 @@ uncrossed n ms [] e l = (let k = ap length e in absurd (omega (arith, k, l)))
 uncrossed n ms (v ∷ []) e l = ap (λ z. crossed n z (v ∷ [])) e
 uncrossed n ms (v ∷ w ∷ vs) e l = (let k = ap length e in absurd (omega (arith, k, l)))
 
-module _ (m : Module) (o : Operation) (front : Place) (s : Point m o front) (name : named (codes "scf.if") (head o).name ≡ true) (e f : Ended) (e_is : body m.tree o 0 ≡ Some e) (f_is : body m.tree o 1 ≡ Some f) where
+module _ (m : Module) (o : Operation) (preceding : Place) (s : Point m o preceding) (name : named (codes "scf.if") (head o).name ≡ true) (e f : Ended) (e_is : body m.tree o 0 ≡ Some e) (f_is : body m.tree o 1 ≡ Some f) where
   abbrev x : ℕ
   x = (head o).id
 
   abbrev t : Operation
   t = m.tree
 
-  abbrev st : StandsAt (head o).id front m
-  st = stands_there m o front s
+  abbrev st : StandsAt (head o).id preceding m
+  st = stands_there m o preceding s
 
   abbrev ms : List Bool
   ms = indices (head o).results
@@ -93,25 +93,25 @@ module _ (m : Module) (o : Operation) (front : Place) (s : Point m o front) (nam
   name_is = (bytes_eq-Decides (head o).name (codes "scf.if")).0 name
 
   verified_if : IsVerifiedOf m.tree o (head o).id (codes "scf.if")
-  verified_if = record { distinct = s.formed.distinct; found = s.found; verified = s.verified; name = name }
+  verified_if = record { distinct = s.wellformed.distinct; found = s.found; verified = s.verified; name = name }
 
   abbrev new : Operation
-  new = lowered_op o (crossed m.next (index_operands m.tree m.next front o) (head o).operands)
+  new = lowered_op o (crossed m.next (index_operands m.tree m.next preceding o) (head o).operands)
 
-  leaf : hold_none (regions (lowered_op o (crossed m.next (index_operands m.tree m.next front o) (head o).operands))) ≡ true
+  leaf : hold_none (regions (lowered_op o (crossed m.next (index_operands m.tree m.next preceding o) (head o).operands))) ≡ true
   leaf = lowered_holds_none (regions o)
 
-  asked : index_operands m.tree m.next front o ≡ false ∷ []
-  asked = choices_ask_truth t o x verified_if
+  requested : index_operands m.tree m.next preceding o ≡ false ∷ []
+  requested = choices_ask_truth t o x verified_if
 
-  wide_operands : length (index_operands m.tree m.next front o) ≡ length (head o).operands
+  wide_operands : length (index_operands m.tree m.next preceding o) ≡ length (head o).operands
   wide_operands = length-map (head o).operands (is_index_value t)
 
-  plain_operands : crossed m.next (index_operands m.tree m.next front o) (head o).operands ≡ (head o).operands
-  plain_operands = uncrossed m.next (index_operands t m.next front o) (head o).operands asked wide_operands
+  plain_operands : crossed m.next (index_operands m.tree m.next preceding o) (head o).operands ≡ (head o).operands
+  plain_operands = uncrossed m.next (index_operands t m.next preceding o) (head o).operands requested wide_operands
 
-  seen : (v : Value) → In v (head (lowered_op o (crossed m.next (index_operands m.tree m.next front o) (head o).operands))).operands → dominated_by (head o).id v m ≡ true
-  seen v i = dominated_by_operand m o front s v (subst (In v) plain_operands i)
+  seen : (v : Value) → In v (head (lowered_op o (crossed m.next (index_operands m.tree m.next preceding o) (head o).operands))).operands → dominated_by (head o).id v m ≡ true
+  seen v i = dominated_by_operand m o preceding s v (subst (In v) plain_operands i)
 
   -- the blocks
   module _ (r : ℕ) (small : r ≤ 1) (k : Ended) (k_is : body m.tree o r ≡ Some k) where
@@ -119,16 +119,16 @@ module _ (m : Module) (o : Operation) (front : Place) (s : Point m o front) (nam
     ends = ending m.tree o r k k_is
 
     abbrev pub all : List Operation
-    all = (ending m.tree o r k k_is).front ++ (ending m.tree o r k k_is).last ∷ []
+    all = (ending m.tree o r k k_is).preceding ++ (ending m.tree o r k k_is).last ∷ []
 
     no_args : (ending m.tree o r k k_is).args ≡ []
-    no_args = if_arguments m o front s name_is r small ends.args (block_is o r (block ends.args (joined_ops ends.front (next ends.last no_ops))) ends.block)
+    no_args = if_arguments m o preceding s name_is r small ends.args (block_is o r (block ends.args (joined_ops ends.preceding (next ends.last no_ops))) ends.block)
 
-    pub side : region_at r (regions st.at.here) ≡ Some (block [] (joined_ops ((ending m.tree o r k k_is).front ++ (ending m.tree o r k k_is).last ∷ []) no_ops))
-    side = ap (λ z. region_at r (regions z)) (here_is m o front s) ∙ ends.block ∙ (λ i. Some (block (no_args i) (sym (cut_last ends.front ends.last) i)))
+    pub side : region_at r (regions st.at.here) ≡ Some (block [] (joined_ops ((ending m.tree o r k k_is).preceding ++ (ending m.tree o r k k_is).last ∷ []) no_ops))
+    side = ap (λ z. region_at r (regions z)) (here_is m o preceding s) ∙ ends.block ∙ (λ i. Some (block (no_args i) (sym (cut_last ends.preceding ends.last) i)))
 
-    pub into : region_at r (regions (lowered_op o (crossed m.next (index_operands m.tree m.next front o) (head o).operands))) ≡ Some (block (map lowered_type (ending m.tree o r k k_is).args) no_ops)
-    into = lowered_at r (regions o) ends.args (joined_ops ends.front (next ends.last no_ops)) ends.block
+    pub into : region_at r (regions (lowered_op o (crossed m.next (index_operands m.tree m.next preceding o) (head o).operands))) ≡ Some (block (map lowered_type (ending m.tree o r k k_is).args) no_ops)
+    into = lowered_at r (regions o) ends.args (joined_ops ends.preceding (next ends.last no_ops)) ends.block
 
     pub wide : length (indices (head o).results) ≡ length (head (ending m.tree o r k k_is).last).operands
     wide =
@@ -146,30 +146,30 @@ module _ (m : Module) (o : Operation) (front : Place) (s : Point m o front) (nam
   abbrev zs1 : List Operation
   zs1 = all 1 high f f_is
 
-  module _ (room : Room (1 + (mk + (mk + mk))) m) where
-    one_made : MadeThere (head o).id front (λ b. ⊥) (lowered_op o (crossed m.next (index_operands m.tree m.next front o) (head o).operands)) m
+  module _ (headroom : Headroom (1 + (mk + (mk + mk))) m) where
+    one_made : MadeThere (head o).id preceding (λ b. ⊥) (lowered_op o (crossed m.next (index_operands m.tree m.next preceding o) (head o).operands)) m
     one_made =
-        (let ops = room.ops in
-        let ids = room.ids in
-        made_one x front (λ b. ⊥) m st new leaf (lowered_fits o (crossed m.next (index_operands t m.next front o) (head o).operands) (ap length plain_operands) (own_fits m o front s)) seen (mk + (mk + mk)) (record { ops = omega (arith, ops); ids = omega (arith, ids) }))
+        (let ops = headroom.ops in
+        let ids = headroom.ids in
+        made_one x preceding (λ b. ⊥) m st new leaf (lowered_fits o (crossed m.next (index_operands t m.next preceding o) (head o).operands) (ap length plain_operands) (own_fits m o preceding s)) seen (mk + (mk + mk)) (record { ops = omega (arith, ops); ids = omega (arith, ids) }))
 
     abbrev m1 : Module
-    m1 = edited (Make front new) m
+    m1 = edited (Make preceding new) m
 
     abbrev hx : Header
-    hx = head (stands_there m o front s).at.here
+    hx = head (stands_there m o preceding s).at.here
 
     abbrev hy : Header
-    hy = head (with_id m.next (lowered_op o (crossed m.next (index_operands m.tree m.next front o) (head o).operands)))
+    hy = head (with_id m.next (lowered_op o (crossed m.next (index_operands m.tree m.next preceding o) (head o).operands)))
 
     abbrev deep : ℕ
-    deep = length ((stands_there m o front s).at.step_in ∷ (stands_there m o front s).at.path)
+    deep = length ((stands_there m o preceding s).at.step_in ∷ (stands_there m o preceding s).at.path)
 
-    abbrev a1 : Across (head o).id m.next front hx hy deep m1
-    a1 = started x front m st new leaf seen one_made.stood
+    abbrev a1 : Across (head o).id m.next preceding hx hy deep m1
+    a1 = started x preceding m st new leaf seen one_made.located
 
     hx_is : hx ≡ head o
-    hx_is = ap (λ (z : Operation). head z) (here_is m o front s)
+    hx_is = ap (λ (z : Operation). head z) (here_is m o preceding s)
 
     x_opened : is_isolated hx.name ≡ false
     x_opened = ap (λ (h : Header). is_isolated h.name) hx_is ∙ ap is_isolated name_is ∙ if_opened
@@ -184,16 +184,16 @@ module _ (m : Module) (o : Operation) (front : Place) (s : Point m o front) (nam
     y_plain = ap is_table name_is ∙ if_plain
 
     y_fresh : has_id m.next m.tree ≡ false
-    y_fresh = fresh x front m st new leaf seen one_made.stood
+    y_fresh = fresh x preceding m st new leaf seen one_made.located
 
-    fits : (r : ℕ) (small : r ≤ 1) (k : Ended) (k_is : body m.tree o r ≡ Some k) (p : Operation) → In p (all r small k k_is) → Fit (head o).id m.next front hx hy deep p
-    fits r small k k_is p i = fit_of x front m st r [] (all r small k k_is) (side r small k k_is) m.next hx hy deep y_fresh refl p i
+    fits : (r : ℕ) (small : r ≤ 1) (k : Ended) (k_is : body m.tree o r ≡ Some k) (p : Operation) → In p (all r small k k_is) → Fit (head o).id m.next preceding hx hy deep p
+    fits r small k k_is p i = fit_of x preceding m st r [] (all r small k k_is) (side r small k k_is) m.next hx hy deep y_fresh refl p i
 
     blocks : (r : ℕ) (small : r ≤ 1) (k : Ended) (k_is : body m.tree o r ≡ Some k) → HasBlock m.next r m1.tree
-    blocks r small k k_is = started_block x front m st new leaf seen one_made.stood r (map lowered_type (ends r small k k_is).args) no_ops (into r small k k_is)
+    blocks r small k k_is = started_block x preceding m st new leaf seen one_made.located r (map lowered_type (ends r small k k_is).args) no_ops (into r small k k_is)
 
-    sides : (r : ℕ) (small : r ≤ 1) (k : Ended) (k_is : body m.tree o r ≡ Some k) → region_at r (regions one_made.stood.at.here) ≡ Some (block [] (joined_ops (all r small k k_is) no_ops))
-    sides r small k k_is = started_side x front m st new leaf seen one_made.stood r [] (all r small k k_is) (λ p i. (fits r small k k_is p i).parent_out) (side r small k k_is)
+    sides : (r : ℕ) (small : r ≤ 1) (k : Ended) (k_is : body m.tree o r ≡ Some k) → region_at r (regions one_made.located.at.here) ≡ Some (block [] (joined_ops (all r small k k_is) no_ops))
+    sides r small k k_is = started_side x preceding m st new leaf seen one_made.located r [] (all r small k k_is) (λ p i. (fits r small k k_is p i).parent_out) (side r small k k_is)
 
     abbrev ends0 : Ending m.tree o 0 e
     ends0 = ends 0 low e e_is
@@ -206,41 +206,41 @@ module _ (m : Module) (o : Operation) (front : Place) (s : Point m o front) (nam
     crossed_out z p i j =
         let c = cut_at z zs0 i in
         let k = cut_at p zs1 j in
-        let there = one_stands t s.formed.distinct st.at.here (st.at.step_in ∷ st.at.path) st.at.there 0 [] zs0 (side 0 low e e_is) c.0 c.1 z c.2 in
-        beside_out x front m st 1 [] zs1 (side 1 high f f_is) k.0 k.1 p k.2 z (step st.at.here 0 [] c.0 (joined_ops c.1 no_ops)) (st.at.step_in ∷ st.at.path) there refl
+        let there = one_stands t s.wellformed.distinct st.at.here (st.at.step_in ∷ st.at.path) st.at.there 0 [] zs0 (side 0 low e e_is) c.0 c.1 z c.2 in
+        next_to_out x preceding m st 1 [] zs1 (side 1 high f f_is) k.0 k.1 p k.2 z (step st.at.here 0 [] c.0 (joined_ops c.1 no_ops)) (st.at.step_in ∷ st.at.path) there refl
         (λ q. let n = ap (λ (b : StepOf (List ℕ) TypeTerm AttrTerm). b.region) q in omega (arith, n))
 
-    abbrev Q0 : (n : Module) → Across (head o).id m.next front hx hy deep n → Type 0
-    Q0 n a = HasBlock m.next 1 n.tree × (region_at 1 (regions a.stood.at.here) ≡ Some (block [] (joined_ops (all 1 high f f_is) no_ops)))
+    abbrev Q0 : (n : Module) → Across (head o).id m.next preceding hx hy deep n → Type 0
+    Q0 n a = HasBlock m.next 1 n.tree × (region_at 1 (regions a.located.at.here) ≡ Some (block [] (joined_ops (all 1 high f f_is) no_ops)))
 
-    abbrev Q1 : (n : Module) → Across (head o).id m.next front hx hy deep n → Type 0
+    abbrev Q1 : (n : Module) → Across (head o).id m.next preceding hx hy deep n → Type 0
     Q1 n a = Unit {0}
 
-    first : Taken (head o).id m.next 0 front hx hy deep x_opened x_plain y_opened y_plain ends0.front ends0.last (indices (head o).results) m1 a1 (blocks 0 low e e_is) (sides 0 low e e_is) (fits 0 low e e_is) (wide 0 low e e_is) Q0
+    first : Taken (head o).id m.next 0 preceding hx hy deep x_opened x_plain y_opened y_plain ends0.preceding ends0.last (indices (head o).results) m1 a1 (blocks 0 low e e_is) (sides 0 low e e_is) (fits 0 low e e_is) (wide 0 low e e_is) Q0
     first =
         let y = m.next in
         let fits1 = fits 1 high f f_is in
-        let b0 = brought_there x y 0 front hx hy deep x_opened x_plain y_opened y_plain ends0.front ends0.last ms m1 a1 (blocks 0 low e e_is) (sides 0 low e e_is) (fits 0 low e e_is) (wide 0 low e e_is) Q0 in
-        taken x y 0 front hx hy deep x_opened x_plain y_opened y_plain ends0.front ends0.last ms m1 a1 (blocks 0 low e e_is) (sides 0 low e e_is) (fits 0 low e e_is) (wide 0 low e e_is) Q0
+        let b0 = brought_there x y 0 preceding hx hy deep x_opened x_plain y_opened y_plain ends0.preceding ends0.last ms m1 a1 (blocks 0 low e e_is) (sides 0 low e e_is) (fits 0 low e e_is) (wide 0 low e e_is) Q0 in
+        taken x y 0 preceding hx hy deep x_opened x_plain y_opened y_plain ends0.preceding ends0.last ms m1 a1 (blocks 0 low e e_is) (sides 0 low e e_is) (fits 0 low e e_is) (wide 0 low e e_is) Q0
         (omega arith)
         (λ q. (b0.stays.blocks y 1 (λ p i. (fits 0 low e e_is p i).y_out) q.0, b0.sides 1 [] zs1 fits1 crossed_out q.1))
-        (λ k a point n leaf unused formed q. (
-          within_y.block_made x y 0 front hx hy deep k a (before_in y 0 (head ends0.last).id) point refl refl n leaf unused formed y 1 q.0,
-          within_y.side_made x y 0 front hx hy deep k a (before_in y 0 (head ends0.last).id) point refl refl n leaf unused formed (within_y.across_made x y 0 front hx hy deep k a (before_in y 0 (head ends0.last).id) point refl refl n leaf unused formed).stood 1 [] zs1 (λ p i. (fits1 p i).y_out) q.1,
+        (λ k a point n leaf unused wellformed q. (
+          within_y.block_made x y 0 preceding hx hy deep k a (before_in y 0 (head ends0.last).id) point refl refl n leaf unused wellformed y 1 q.0,
+          within_y.side_made x y 0 preceding hx hy deep k a (before_in y 0 (head ends0.last).id) point refl refl n leaf unused wellformed (within_y.across_made x y 0 preceding hx hy deep k a (before_in y 0 (head ends0.last).id) point refl refl n leaf unused wellformed).located 1 [] zs1 (λ p i. (fits1 p i).y_out) q.1,
         ))
-        (λ k a i v xa ya other formed q. (
-          within_y.block_set x y 0 front hx hy deep k a (head ends0.last).id i v xa ya other formed y 1 q.0,
-          within_y.side_set x y 0 front hx hy deep k a (head ends0.last).id i v xa ya other formed 1 [] zs1 (λ p j. crossed_out ends0.last p (in_right ends0.last ends0.front (ends0.last ∷ []) (inl refl)) j) q.1,
+        (λ k a i v xa ya other wellformed q. (
+          within_y.block_set x y 0 preceding hx hy deep k a (head ends0.last).id i v xa ya other wellformed y 1 q.0,
+          within_y.side_set x y 0 preceding hx hy deep k a (head ends0.last).id i v xa ya other wellformed 1 [] zs1 (λ p j. crossed_out ends0.last p (in_right ends0.last ends0.preceding (ends0.last ∷ []) (inl refl)) j) q.1,
         ))
-        (one_made.rooms mk (let a = room.ops in let b = room.ids in record { ops = omega (arith, a); ids = omega (arith, b) }))
+        (one_made.headrooms mk (let a = headroom.ops in let b = headroom.ids in record { ops = omega (arith, a); ids = omega (arith, b) }))
         (blocks 1 high f f_is, sides 1 high f f_is)
 
-    second : Taken (head o).id m.next 1 front hx hy deep x_opened x_plain y_opened y_plain ends1.front ends1.last (indices (head o).results) first.after first.across first.extra.0 first.extra.1 (fits 1 high f f_is) (wide 1 high f f_is) Q1
+    second : Taken (head o).id m.next 1 preceding hx hy deep x_opened x_plain y_opened y_plain ends1.preceding ends1.last (indices (head o).results) first.after first.across first.extra.0 first.extra.1 (fits 1 high f f_is) (wide 1 high f f_is) Q1
     second =
         (let n1 = first.next in
-        taken x m.next 1 front hx hy deep x_opened x_plain y_opened y_plain ends1.front ends1.last ms first.after first.across first.extra.0 first.extra.1 (fits 1 high f f_is) (wide 1 high f f_is) Q1
-        (omega (arith, n1)) (λ q. tt) (λ k a point n leaf unused formed q. tt) (λ k a i v xa ya other formed q. tt)
-        (first.rooms mk (one_made.rooms (mk + mk) (let a = room.ops in let b = room.ids in record { ops = omega (arith, a); ids = omega (arith, b) }))) tt)
+        taken x m.next 1 preceding hx hy deep x_opened x_plain y_opened y_plain ends1.preceding ends1.last ms first.after first.across first.extra.0 first.extra.1 (fits 1 high f f_is) (wide 1 high f f_is) Q1
+        (omega (arith, n1)) (λ q. tt) (λ k a point n leaf unused wellformed q. tt) (λ k a i v xa ya other wellformed q. tt)
+        (first.headrooms mk (one_made.headrooms (mk + mk) (let a = headroom.ops in let b = headroom.ids in record { ops = omega (arith, a); ids = omega (arith, b) }))) tt)
 
     abbrev m3 : Module
     m3 = second.after
@@ -254,56 +254,56 @@ module _ (m : Module) (o : Operation) (front : Place) (s : Point m o front) (nam
     y_results : (head y_last.0).results ≡ map lowered_type (head o).results
     y_results = ap (λ (h : Header). h.results) y_last.2
 
-    results_lowered : AreLowered (head o).id m.next front 0 (head o).results second.after
-    results_lowered = lowered_seen x m.next front m3 (head o).results
-        (λ k l. later_shows is_isolated m3.tree second.across.stood.formed.distinct m.next x second.across.before y_last.0 y_last.1 k (lt-ltb k (length (head y_last.0).results) (let a = ap length y_results in let b = length-map (head o).results lowered_type in omega (arith, l, a, b))))
+    results_lowered : AreLowered (head o).id m.next preceding 0 (head o).results second.after
+    results_lowered = lowered_seen x m.next preceding m3 (head o).results
+        (λ k l. later_shows is_isolated m3.tree second.across.located.wellformed.distinct m.next x second.across.before y_last.0 y_last.1 k (lt-ltb k (length (head y_last.0).results) (let a = ap length y_results in let b = length-map (head o).results lowered_type in omega (arith, l, a, b))))
         (λ k. ap (λ g. option_and_then (λ (z : Operation). slice_get (head z).results k) g) y_last.1 ∙ ap (λ l. slice_get l k) y_results)
 
-    given_last : Free (give_lowered m.tree m.next front o m.next second.after.next) second.after
-    given_last = given_free x m.next front m3 second.across.stood (head o).results (ap (λ (h : Header). h.results) (head_there x front m3 second.across.stood hx second.across.x_is ∙ hx_is)) y_there results_lowered
-        (second.rooms mk (first.rooms (mk + mk) (one_made.rooms (mk + (mk + mk)) (let a = room.ops in let b = room.ids in record { ops = omega (arith, a); ids = omega (arith, b) }))))
+    given_last : Free (give_lowered m.tree m.next preceding o m.next second.after.next) second.after
+    given_last = given_free x m.next preceding m3 second.across.located (head o).results (ap (λ (h : Header). h.results) (head_there x preceding m3 second.across.located hx second.across.x_is ∙ hx_is)) y_there results_lowered
+        (second.headrooms mk (first.headrooms (mk + mk) (one_made.headrooms (mk + (mk + mk)) (let a = headroom.ops in let b = headroom.ids in record { ops = omega (arith, a); ids = omega (arith, b) }))))
 
     -- the parts of the list
     abbrev brings : ℕ → ℕ → Ended → List Edit
-    brings y r k = brought front y r k.before k.last.id
+    brings y r k = brought preceding y r k.before k.last.id
 
-    part : (y r c : ℕ) (k : Ended) (n : Ending m.tree o r k) → brought front y r (map (λ o. id_of o) n.front) (head n.last).id ++ (bridges i64 (before_in y r (head n.last).id) ms (head n.last).operands ++ crossing (head n.last).id 0 c ms)
-        ≡ move_over m.tree m.next front o y r k ++ take_over m.tree m.next front o y r c k [] []
-    part y r c k n = λ i. brought front y r (sym n.before i) (sym n.is i).id ++ (bridges i64 (before_in y r (sym n.is i).id) ms ((ap (λ (h : Header). h.operands) (sym n.is) ∙ sym (left_alone k.last.operands)) i) ++ crossing (sym n.is i).id 0 c ms)
+    part : (y r c : ℕ) (k : Ended) (n : Ending m.tree o r k) → brought preceding y r (map (λ o. id_of o) n.preceding) (head n.last).id ++ (bridges i64 (before_in y r (head n.last).id) ms (head n.last).operands ++ crossing (head n.last).id 0 c ms)
+        ≡ move_over m.tree m.next preceding o y r k ++ take_over m.tree m.next preceding o y r c k [] []
+    part y r c k n = λ i. brought preceding y r (sym n.before i) (sym n.is i).id ++ (bridges i64 (before_in y r (sym n.is i).id) ms ((ap (λ (h : Header). h.operands) (sym n.is) ∙ sym (left_alone k.last.operands)) i) ++ crossing (sym n.is i).id 0 c ms)
 
     abbrev all_edits : ℕ → ℕ → ℕ → ℕ → List Edit
     all_edits y c0 c1 c2 =
-        make_lowered m.tree m.next front o
-        ++ move_over m.tree m.next front o y 0 e ++ take_over m.tree m.next front o y 0 c0 e [] []
-        ++ move_over m.tree m.next front o y 1 f ++ take_over m.tree m.next front o y 1 c1 f [] []
-        ++ give_lowered m.tree m.next front o y c2
+        make_lowered m.tree m.next preceding o
+        ++ move_over m.tree m.next preceding o y 0 e ++ take_over m.tree m.next preceding o y 0 c0 e [] []
+        ++ move_over m.tree m.next preceding o y 1 f ++ take_over m.tree m.next preceding o y 1 c1 f [] []
+        ++ give_lowered m.tree m.next preceding o y c2
 
     all_free : Free (all_edits m.next m1.next first.after.next second.after.next) m
     all_free =
         let y = m.next in
-        let g = give_lowered t m.next front o y second.after.next in
-        let a0 = move_over t m.next front o y 0 e in
-        let b0 = take_over t m.next front o y 0 m1.next e [] [] in
-        let a1 = move_over t m.next front o y 1 f in
-        let b1 = take_over t m.next front o y 1 first.after.next f [] [] in
+        let g = give_lowered t m.next preceding o y second.after.next in
+        let a0 = move_over t m.next preceding o y 0 e in
+        let b0 = take_over t m.next preceding o y 0 m1.next e [] [] in
+        let a1 = move_over t m.next preceding o y 1 f in
+        let b1 = take_over t m.next preceding o y 1 first.after.next f [] [] in
         let f1 = subst (λ l. Free (l ++ g) first.after) (part y 1 first.after.next f ends1) (second.free g given_last) in
         let f0 = subst (λ l. Free (l ++ ((a1 ++ b1) ++ g)) m1) (part y 0 m1.next e ends0) (first.free ((a1 ++ b1) ++ g) f1) in
-        subst (λ l. Free l m) (sym (regrouped (make_lowered t m.next front o) a0 b0 a1 b1 g)) (one_made.free ((a0 ++ b0) ++ ((a1 ++ b1) ++ g)) f0)
+        subst (λ l. Free l m) (sym (regrouped (make_lowered t m.next preceding o) a0 b0 a1 b1 g)) (one_made.free ((a0 ++ b0) ++ ((a1 ++ b1) ++ g)) f0)
 
-    id_is : m.next ≡ lowered_id m.tree m.next front o
-    id_is = (let k = ap marked asked in omega (arith, k))
+    id_is : m.next ≡ lowered_id m.tree m.next preceding o
+    id_is = (let k = ap marked requested in omega (arith, k))
 
-    choice_free : Free (lowered_if m.tree m.next front o e f) m
+    choice_free : Free (lowered_if m.tree m.next preceding o e f) m
     choice_free =
         (let a = id_is in
         let b = first.next in
         let c = second.next in
-        let c0 : m1.next ≡ lowered_id t m.next front o + 1 = omega (arith, a) in
-        let c1 : first.after.next ≡ lowered_id t m.next front o + 1 + mk = omega (arith, a, b) in
-        let c2 : second.after.next ≡ lowered_id t m.next front o + 1 + mk + mk = omega (arith, a, b, c) in
+        let c0 : m1.next ≡ lowered_id t m.next preceding o + 1 = omega (arith, a) in
+        let c1 : first.after.next ≡ lowered_id t m.next preceding o + 1 + mk = omega (arith, a, b) in
+        let c2 : second.after.next ≡ lowered_id t m.next preceding o + 1 + mk + mk = omega (arith, a, b, c) in
         subst (λ l. Free l m) (λ i. all_edits (a i) (c0 i) (c1 i) (c2 i)) all_free)
 
-  handed_make : (y r c : ℕ) (k : Ended) (r_small : r ≤ 1) (k_is : body m.tree o r ≡ Some k) → made_by (take_over m.tree m.next front o y r c k [] []) ≡ mk + made_by (crossing k.last.id 0 c (indices (head o).results))
+  handed_make : (y r c : ℕ) (k : Ended) (r_small : r ≤ 1) (k_is : body m.tree o r ≡ Some k) → made_by (take_over m.tree m.next preceding o y r c k [] []) ≡ mk + made_by (crossing k.last.id 0 c (indices (head o).results))
   handed_make y r c k small k_is =
       let vs = map (replaced [] []) k.last.operands in
       let a = joined (bridges i64 (before_in y r k.last.id) ms vs) (crossing k.last.id 0 c ms) in
@@ -313,21 +313,21 @@ module _ (m : Module) (o : Operation) (front : Place) (s : Point m o front) (nam
       let b = bridges_make i64 (before_in y r k.last.id) ms vs (omega (arith, l, w, h)) in
       omega (arith, a, b)
 
-  makes_much : (n : ℕ) → made_by (lowered_if m.tree m.next front o e f) ≡ n → 1 + (mk + (mk + mk)) ≤ n
+  makes_much : (n : ℕ) → made_by (lowered_if m.tree m.next preceding o e f) ≡ n → 1 + (mk + (mk + mk)) ≤ n
   makes_much n is =
-      let y = lowered_id t m.next front o in
+      let y = lowered_id t m.next preceding o in
       let rs = (head o).results in
       let c0 = y + 1 in
       let c1 = c0 + mk in
       let c2 = c1 + mk in
-      let ml = make_lowered t m.next front o in
-      let a0 = move_over t m.next front o y 0 e in
-      let b0 = take_over t m.next front o y 0 c0 e [] [] in
-      let a1 = move_over t m.next front o y 1 f in
-      let b1 = take_over t m.next front o y 1 c1 f [] [] in
-      let g = give_lowered t m.next front o y c2 in
+      let ml = make_lowered t m.next preceding o in
+      let a0 = move_over t m.next preceding o y 0 e in
+      let b0 = take_over t m.next preceding o y 0 c0 e [] [] in
+      let a1 = move_over t m.next preceding o y 1 f in
+      let b1 = take_over t m.next preceding o y 1 c1 f [] [] in
+      let g = give_lowered t m.next preceding o y c2 in
       let vs = results_from y 0 rs in
-      let ds = bridges Index front ms vs in
+      let ds = bridges Index preceding ms vs in
       let es = replacing (results_from x 0 rs) (crossed c2 ms vs) in
       let p1 = joined ((((ml ++ a0) ++ b0) ++ a1) ++ b1) g in
       let p2 = joined (((ml ++ a0) ++ b0) ++ a1) b1 in
@@ -338,7 +338,7 @@ module _ (m : Module) (o : Operation) (front : Place) (s : Point m o front) (nam
       let p7 = joined ds es in
       let q0 = handed_make y 0 c0 e low e_is in
       let q1 = handed_make y 1 c1 f high f_is in
-      let q2 = bridges_make Index front ms vs (lengths y 0 rs) in
+      let q2 = bridges_make Index preceding ms vs (lengths y 0 rs) in
       let q3 : made_by ml ≡ 1 = refl in
       omega (arith, p1, p2, p3, p4, p5, p6, p7, q0, q1, q2, q3, is)
     where
@@ -346,19 +346,19 @@ module _ (m : Module) (o : Operation) (front : Place) (s : Point m o front) (nam
       lengths y k [] = refl
       lengths y k (ty ∷ tys) = (let e = lengths y (k + 1) tys in omega (arith, e))
 
-pub free_lower_choice : (m : Module) (o : Operation) (front : Place) → Point m o front → (es : List Edit) → lower_choice m.tree m.next front o ≡ Some es → HasRoom m es → Free es m
-free_lower_choice m o front s es is room =
-    let w = when_some (named (codes "scf.if") (head o).name && any (index_results m.tree m.next front o)) _ es is in
+pub free_lower_choice : (m : Module) (o : Operation) (insertion : Place) → Point m o insertion → (es : List Edit) → lower_choice m.tree m.next insertion o ≡ Some es → HasHeadroom m es → Free es m
+free_lower_choice m o insertion s es is headroom =
+    let w = when_some (named (codes "scf.if") (head o).name && any (index_results m.tree m.next insertion o)) _ es is in
     let e = given_some (body m.tree o 0) _ es w.1 in
     let f = given_some (body m.tree o 1) _ es e.2 in
-    let same = same_Some (lowered_if m.tree m.next front o e.0 f.0) es f.2 in
+    let same = same_Some (lowered_if m.tree m.next insertion o e.0 f.0) es f.2 in
     let name = (both (named (codes "scf.if") (head o).name) _ w.0).0 in
-    subst (λ z. Free z m) same (choice_free m o front s name e.0 f.0 e.1 f.1 (enough m o front s name e.0 f.0 e.1 f.1 (subst (HasRoom m) (sym same) room)))
+    subst (λ z. Free z m) same (choice_free m o insertion s name e.0 f.0 e.1 f.1 (enough m o insertion s name e.0 f.0 e.1 f.1 (subst (HasHeadroom m) (sym same) headroom)))
   where
-    enough : (m : Module) (o : Operation) (front : Place) (s : Point m o front) (name : named (codes "scf.if") (head o).name ≡ true) (e f : Ended) (e_is : body m.tree o 0 ≡ Some e) (f_is : body m.tree o 1 ≡ Some f) → HasRoom m (lowered_if m.tree m.next front o e f)
-        → Room (1 + (marked (indices (head o).results) + (marked (indices (head o).results) + marked (indices (head o).results)))) m
-    enough m o front s name e f e_is f_is room =
-        let n = makes_much m o front s name e f e_is f_is (made_by (lowered_if m.tree m.next front o e f)) refl in
-        let a = room.0 in
-        let b = room.1 in
+    enough : (m : Module) (o : Operation) (insertion : Place) (s : Point m o insertion) (name : named (codes "scf.if") (head o).name ≡ true) (e f : Ended) (e_is : body m.tree o 0 ≡ Some e) (f_is : body m.tree o 1 ≡ Some f) → HasHeadroom m (lowered_if m.tree m.next insertion o e f)
+        → Headroom (1 + (marked (indices (head o).results) + (marked (indices (head o).results) + marked (indices (head o).results)))) m
+    enough m o insertion s name e f e_is f_is headroom =
+        let n = makes_much m o insertion s name e f e_is f_is (made_by (lowered_if m.tree m.next insertion o e f)) refl in
+        let a = headroom.0 in
+        let b = headroom.1 in
         record { ops = omega (arith, a, n); ids = omega (arith, b, n) }

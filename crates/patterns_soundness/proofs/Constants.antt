@@ -89,7 +89,7 @@ fold_to_constant_facts = record {
   near = λ lowers t n place o. (near_fold_to_constant t n place o).each;
   alike = λ lowers t u n k f g o p looks. same_fold_to_constant t u n k f g o p looks.heads looks.dominated_by;
   accepted = are_accepted_at FoldToConstant;
-  makes = λ converts t n front o es. converting_rules_make FoldToConstant t n front o es converts;
+  makes = λ converts t n insertion o es. converting_rules_make FoldToConstant t n insertion o es converts;
 }
 
 pub regroup_constants_facts : Soundness RegroupConstants

@@ -45,41 +45,41 @@ Stand = StandOf (List ℕ) TypeTerm AttrTerm
 
 -- if one operation is left in a block, no value of the block dominates it, so the values that dominate it dominate the
 -- operation around it
-module _ (x r : ℕ) (front : Place) (y : ℕ) (m : Module) (h : HasFirst x r front (y ∷ []) m) where
-  module _ (o : Operation) (os : OpsOf (List ℕ) TypeTerm AttrTerm) (is : region_at r (regions h.stood.at.here) ≡ Some (block h.args (next o os))) where
-    there_it : In (stand o (step h.stood.at.here r h.args [] os ∷ h.stood.at.step_in ∷ h.stood.at.path)) (stands [] m.tree)
-    there_it = stands_in m.tree h.stood.at.here (h.stood.at.step_in ∷ h.stood.at.path) r h.args [] o os h.stood.at.there is
+module _ (x r : ℕ) (insertion : Place) (y : ℕ) (m : Module) (h : HasFirst x r insertion (y ∷ []) m) where
+  module _ (o : Operation) (os : OpsOf (List ℕ) TypeTerm AttrTerm) (is : region_at r (regions h.located.at.here) ≡ Some (block h.args (next o os))) where
+    there_it : In (stand o (step h.located.at.here r h.args [] os ∷ h.located.at.step_in ∷ h.located.at.path)) (stands [] m.tree)
+    there_it = stands_in m.tree h.located.at.here (h.located.at.step_in ∷ h.located.at.path) r h.args [] o os h.located.at.there is
 
     unused_argument : (k : ℕ) → In (Arg x r k) (head o).operands → ⊥
     unused_argument k i =
-        let s = stand o (step h.stood.at.here r h.args [] os ∷ h.stood.at.step_in ∷ h.stood.at.path) in
+        let s = stand o (step h.located.at.here r h.args [] os ∷ h.located.at.step_in ∷ h.located.at.path) in
         let n = used_here (Arg x r k) (stand_id s) 0 (head o).operands (Arg x r k) i (same_value_refl (Arg x r k)) in
         subst (In (stand_id s, n.0)) (stands_uses (Arg x r k) [] m.tree ∙ h.spared k) (in_gather (λ (z : Stand). operand_uses (Arg x r k) (stand_id z) 0 (head z.here).operands) (stand_id s, n.0) s (stands [] m.tree) there_it n.1)
 
-    no_argument : (v : Value) → In v (head o).operands → shows v (arguments (head h.stood.at.here).id r (length h.args)) ≡ true → ⊥
+    no_argument : (v : Value) → In v (head o).operands → shows v (arguments (head h.located.at.here).id r (length h.args)) ≡ true → ⊥
     no_argument (Result z k) i e = absurd cc
     no_argument (Arg z q k) i e =
-        let a = both (eqb z (head h.stood.at.here).id) _ e in
+        let a = both (eqb z (head h.located.at.here).id) _ e in
         let b = both (eqb q r) _ a.1 in
-        unused_argument k (subst (λ (v : Value). In v (head o).operands) (λ j. Arg ((eqb-true z (head h.stood.at.here).id a.0 ∙ h.stood.at.id) j) (eqb-true q r b.0 j) k) i)
+        unused_argument k (subst (λ (v : Value). In v (head o).operands) (λ j. Arg ((eqb-true z (head h.located.at.here).id a.0 ∙ h.located.at.id) j) (eqb-true q r b.0 j) k) i)
 
     seen_around : (v : Value) → In v (head o).operands → dominated_by x v m ≡ true
     seen_around v i =
-        let p = h.stood.at.step_in ∷ h.stood.at.path in
-        let own = own_operand m.tree h.stood.formed.distinct h.stood.formed.formed.visible (stand o (step h.stood.at.here r h.args [] os ∷ p)) there_it v i in
-        elim (either (shows v (arguments (head h.stood.at.here).id r (length h.args))) (not (is_isolated (head h.stood.at.here).name) && dominated_by_from is_isolated p v) own) [
+        let p = h.located.at.step_in ∷ h.located.at.path in
+        let own = own_operand m.tree h.located.wellformed.distinct h.located.wellformed.wellformed.visible (stand o (step h.located.at.here r h.args [] os ∷ p)) there_it v i in
+        elim (either (shows v (arguments (head h.located.at.here).id r (length h.args))) (not (is_isolated (head h.located.at.here).name) && dominated_by_from is_isolated p v) own) [
           | inl k ↦ absurd (no_argument v i k)
-          | inr k ↦ ap (λ z. dominated_by z v m) (sym h.stood.at.id) ∙ visible_there is_isolated m.tree h.stood.formed.distinct (stand h.stood.at.here p) h.stood.at.there v ∙ (both (not (is_isolated (head h.stood.at.here).name)) (dominated_by_from is_isolated p v) k).1
+          | inr k ↦ ap (λ z. dominated_by z v m) (sym h.located.at.id) ∙ visible_there is_isolated m.tree h.located.wellformed.distinct (stand h.located.at.here p) h.located.at.there v ∙ (both (not (is_isolated (head h.located.at.here).name)) (dominated_by_from is_isolated p v) k).1
         ]
 
   pub end_seen : (f : Header) → option_map head (find y m.tree) ≡ Some f → (v : Value) → In v f.operands → dominated_by x v m ≡ true
   end_seen f e v i = go h.list h.is h.ids
     where
-      go : (os : OpsOf (List ℕ) TypeTerm AttrTerm) → region_at r (regions h.stood.at.here) ≡ Some (block h.args os) → list_ids os ≡ y ∷ [] → dominated_by x v m ≡ true
+      go : (os : OpsOf (List ℕ) TypeTerm AttrTerm) → region_at r (regions h.located.at.here) ≡ Some (block h.args os) → list_ids os ≡ y ∷ [] → dominated_by x v m ≡ true
       go no_ops is ids = absurd cc
       go (next o os) is ids =
           let id : (head o).id ≡ y = cc in
-          let found : find y m.tree ≡ Some o = ap (λ z. find z m.tree) (sym id) ∙ stand_found m.tree h.stood.formed.distinct _ (there_it o os is) in
+          let found : find y m.tree ≡ Some o = ap (λ z. find z m.tree) (sym id) ∙ stand_found m.tree h.located.wellformed.distinct _ (there_it o os is) in
           let one : head o ≡ f = same_Some (head o) f (sym (ap (option_map head) found) ∙ e) in
           seen_around o os is v (subst (λ (z : Header). In v z.operands) (sym one) i)
 
@@ -102,32 +102,32 @@ have_types [] (ty ∷ tys) m e = absurd cc
 have_types (v ∷ vs) [] m e = absurd cc
 
 -- values of these types that dominate x do so in another module with the same types
-all_given : (x : ℕ) (front : Place) (vs : List Value) (tys : List TypeTerm) (m n : Module) → HaveTypes vs tys m → ((v : Value) → type_of_value v n.tree ≡ type_of_value v m.tree) → ((v : Value) → In v vs → dominated_by x v n ≡ true) → AreGiven x front vs tys n
-all_given x front [] [] m n g types seen = tt
-all_given x front (v ∷ vs) (ty ∷ tys) m n g types seen = ((seen v (inl refl), (g.0.0, types v ∙ g.0.1, g.0.2)), all_given x front vs tys m n g.1 types (λ w i. seen w (inr i)))
-all_given x front [] (ty ∷ tys) m n g types seen = absurd g
-all_given x front (v ∷ vs) [] m n g types seen = absurd g
+all_given : (x : ℕ) (insertion : Place) (vs : List Value) (tys : List TypeTerm) (m n : Module) → HaveTypes vs tys m → ((v : Value) → type_of_value v n.tree ≡ type_of_value v m.tree) → ((v : Value) → In v vs → dominated_by x v n ≡ true) → AreGiven x insertion vs tys n
+all_given x insertion [] [] m n g types seen = tt
+all_given x insertion (v ∷ vs) (ty ∷ tys) m n g types seen = ((seen v (inl refl), (g.0.0, types v ∙ g.0.1, g.0.2)), all_given x insertion vs tys m n g.1 types (λ w i. seen w (inr i)))
+all_given x insertion [] (ty ∷ tys) m n g types seen = absurd g
+all_given x insertion (v ∷ vs) [] m n g types seen = absurd g
 
 -- the operations of a block but the last are inserted before x, and the operands of the last one replace the results
 -- of x
-module _ (x r : ℕ) (front : Place) (ys : List ℕ) (y : ℕ) (m : Module) (h : HasFirst x r front (ys ++ y ∷ []) m) (f : Header) (last : option_map head (find y m.tree) ≡ Some f) where
+module _ (x r : ℕ) (insertion : Place) (ys : List ℕ) (y : ℕ) (m : Module) (h : HasFirst x r insertion (ys ++ y ∷ []) m) (f : Header) (last : option_map head (find y m.tree) ≡ Some f) where
   abbrev n : Module
-  n = all_edited (moving front ys) m
+  n = all_edited (moving insertion ys) m
 
-  left : HasFirst x r front (y ∷ []) (all_edited (moving front ys) m)
-  left = move_rest x r front ys (y ∷ []) m h
+  left : HasFirst x r insertion (y ∷ []) (all_edited (moving insertion ys) m)
+  left = move_rest x r insertion ys (y ∷ []) m h
 
-  results_left : (head left.stood.at.here).results ≡ (head h.stood.at.here).results
+  results_left : (head left.located.at.here).results ≡ (head h.located.at.here).results
   results_left =
-      let two : Some (head left.stood.at.here) ≡ Some (head h.stood.at.here) = ap (option_map head) (sym (found_there is_isolated x front n left.stood)) ∙ moved_heads x r front ys (y ∷ []) m h x ∙ ap (option_map head) (found_there is_isolated x front m h.stood) in
-      ap (λ (z : Header). z.results) (same_Some (head left.stood.at.here) (head h.stood.at.here) two)
+      let two : Some (head left.located.at.here) ≡ Some (head h.located.at.here) = ap (option_map head) (sym (found_there is_isolated x insertion n left.located)) ∙ moved_heads x r insertion ys (y ∷ []) m h x ∙ ap (option_map head) (found_there is_isolated x insertion m h.located) in
+      ap (λ (z : Header). z.results) (same_Some (head left.located.at.here) (head h.located.at.here) two)
 
-  pub body_free : (vs : List Value) → ((v : Value) → In v vs → In v f.operands) → HaveTypes vs (head h.stood.at.here).results m → Free (give_body front x ys vs) m
+  pub body_free : (vs : List Value) → ((v : Value) → In v vs → In v f.operands) → HaveTypes vs (head h.located.at.here).results m → Free (give_body insertion x ys vs) m
   body_free vs among types =
-      subst (λ es. Free es m) (sym (append_assoc (moving front ys) (replacing (results_from x 0 vs) vs) (Erase x ∷ [])))
-      (move_free x r front ys (y ∷ []) m h (replacing (results_from x 0 vs) vs ++ Erase x ∷ [])
-      (results_free x front vs (head h.stood.at.here).results [] n left.stood results_left
-      (all_given x front vs (head h.stood.at.here).results m n types (moved_types x r front ys (y ∷ []) m h) (λ v i. end_seen x r front y n left f (moved_heads x r front ys (y ∷ []) m h y ∙ last) v (among v i)))
+      subst (λ es. Free es m) (sym (append_assoc (moving insertion ys) (replacing (results_from x 0 vs) vs) (Erase x ∷ [])))
+      (move_free x r insertion ys (y ∷ []) m h (replacing (results_from x 0 vs) vs ++ Erase x ∷ [])
+      (results_free x insertion vs (head h.located.at.here).results [] n left.located results_left
+      (all_given x insertion vs (head h.located.at.here).results m n types (moved_types x r insertion ys (y ∷ []) m h) (λ v i. end_seen x r insertion y n left f (moved_heads x r insertion ys (y ∷ []) m h y ∙ last) v (among v i)))
       0 refl (λ j l. absurd (omega (arith, l)))))
 
 -- a block that ends with a verified operation
@@ -135,15 +135,15 @@ pub joined_ids : (fs : List Operation) (l : Operation) → list_ids (joined_ops 
 joined_ids [] l = refl
 joined_ids (f ∷ fs) l = ap (λ is. (head f).id ∷ is) (joined_ids fs l)
 
-module _ (m : Module) (o : Operation) (front : Place) (s : Point m o front) (r : ℕ) (e : Ended) (n : Ending m.tree o r e) (opened : is_isolated (head o).name ≡ false) (plain : is_table (head o).name ≡ false) (spared : (k : ℕ) → uses_of (Arg (head o).id r k) m.tree ≡ []) where
-  pub has_first : HasFirst (head o).id r front (e.before ++ e.last.id ∷ []) m
+module _ (m : Module) (o : Operation) (insertion : Place) (s : Point m o insertion) (r : ℕ) (e : Ended) (n : Ending m.tree o r e) (opened : is_isolated (head o).name ≡ false) (plain : is_table (head o).name ≡ false) (spared : (k : ℕ) → uses_of (Arg (head o).id r k) m.tree ≡ []) where
+  pub has_first : HasFirst (head o).id r insertion (e.before ++ e.last.id ∷ []) m
   has_first = record {
-    stood = stands_there m o front s;
+    located = stands_there m o insertion s;
     args = n.args;
-    list = joined_ops n.front (next n.last no_ops);
-    is = ap (λ z. region_at r (regions z)) (here_is m o front s) ∙ n.block;
-    ids = joined_ids n.front n.last ∙ λ i. sym n.before i ++ (sym n.is i).id ∷ [];
-    opened = ap (λ z. is_isolated (head z).name) (here_is m o front s) ∙ opened;
-    plain = ap (λ z. is_table (head z).name) (here_is m o front s) ∙ plain;
+    list = joined_ops n.preceding (next n.last no_ops);
+    is = ap (λ z. region_at r (regions z)) (here_is m o insertion s) ∙ n.block;
+    ids = joined_ids n.preceding n.last ∙ λ i. sym n.before i ++ (sym n.is i).id ∷ [];
+    opened = ap (λ z. is_isolated (head z).name) (here_is m o insertion s) ∙ opened;
+    plain = ap (λ z. is_table (head z).name) (here_is m o insertion s) ∙ plain;
     spared = spared;
   }

@@ -30,10 +30,10 @@ arguments_read (region g rs) (suc r) = arguments_read rs r
 -- a block's operations, and the last of them
 pub record Ending (t o : Operation) (r : ℕ) (e : Ended) : Type 0 where
   pub args : List TypeTerm
-  pub front : List Operation
+  pub preceding : List Operation
   pub last : Operation
-  pub block : region_at r (regions o) ≡ Some (block args (joined_ops front (next last no_ops)))
-  pub before : e.before ≡ map (λ (o : Operation). (head o).id) front
+  pub block : region_at r (regions o) ≡ Some (block args (joined_ops preceding (next last no_ops)))
+  pub before : e.before ≡ map (λ (o : Operation). (head o).id) preceding
   pub is : e.last ≡ head last
   pub verified : is_verified t (head last) ≡ true
 
@@ -58,7 +58,7 @@ ending t o r e k = go (region_at r (regions o)) refl k
         let one : ended_by p os ≡ e = cc in
         record {
           args = args;
-          front = s.before;
+          preceding = s.before;
           last = s.end;
           block = f ∙ ap (λ l. Some (block args l)) s.parts;
           before = sym (ap (λ (z : Ended). z.before) one) ∙ s.ids_are;

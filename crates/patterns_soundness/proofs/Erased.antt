@@ -22,12 +22,12 @@ use Rattle.ir_event.specs.Modules.{Module}
 use Rattle.rewriter_machine.specs.Contents.{Edit, all_edited, edit_reason, edited}
 use Rattle.rewriter_machine.specs.Edits.{Erase}
 use Rattle.patterns_base.specs.Lists.{Free}
-use Rattle.patterns_base.proofs.Front.{stands_before}
+use Rattle.patterns_base.proofs.Preceding.{stands_before}
 use Rattle.patterns_base.proofs.Plans.{dominated_by}
 use Rattle.patterns_soundness.proofs.Across.{later_outside, not_root, own_depth}
-use Rattle.patterns_soundness.proofs.CastsAccepted.{Room}
+use Rattle.patterns_soundness.proofs.CastsAccepted.{Headroom}
 use Rattle.patterns_soundness.proofs.Kept.{Kept}
-use Rattle.patterns_soundness.proofs.NearAccepted.{erase_formed, erase_reason, left_kept, results_in, there_by}
+use Rattle.patterns_soundness.proofs.NearAccepted.{erase_wellformed, erase_reason, left_kept, results_in, there_by}
 use Rattle.patterns_soundness.proofs.Ordered.{Before, Inside, before_both, there_left}
 use Rattle.patterns_soundness.proofs.Replacing.{Holder, Near, holder_kept, near_kept}
 
@@ -79,21 +79,21 @@ abbrev pub AllOther : List Held → Type 0
 AllOther [] = Unit {0}
 AllOther (h ∷ hs) = ((q : Held) → In q hs → eqb h.0 q.0 ≡ false) × AllOther hs
 
-module _ (x y l : ℕ) (front : Place) (rs ys : List TypeTerm) (few : ℕ) where
+module _ (x y l : ℕ) (insertion : Place) (rs ys : List TypeTerm) (few : ℕ) where
   pub record ErasedAll (hs : List Held) (m : Module) : Type 0 where
     pub free : (fs : List Edit) → Free fs (all_edited (erase_edits hs) m) → Free (erase_edits hs ++ fs) m
-    pub near : Near x y l front rs ys few (all_edited (erase_edits hs) m)
+    pub near : Near x y l insertion rs ys few (all_edited (erase_edits hs) m)
     pub dominance : (v : Value) → ((h : Held) → In h hs → eqb (owner_of v).0 h.0 ≡ false) → dominated_by l v m ≡ true → dominated_by l v (all_edited (erase_edits hs) m) ≡ true
     pub next : (all_edited (erase_edits hs) m).next ≡ m.next
-    pub rooms : (k : ℕ) → Room k m → Room k (all_edited (erase_edits hs) m)
+    pub headrooms : (k : ℕ) → Headroom k m → Headroom k (all_edited (erase_edits hs) m)
 
   -- one placeholder is erased
-  module _ (h : Held) (m : Module) (s : Near x y l front rs ys few m) (k : Holder x y l front rs ys few h.0 h.1 m) (unused : uses_of (Result h.0 0) m.tree ≡ []) (other : eqb l h.0 ≡ false) where
+  module _ (h : Held) (m : Module) (s : Near x y l insertion rs ys few m) (k : Holder x y l insertion rs ys few h.0 h.1 m) (unused : uses_of (Result h.0 0) m.tree ≡ []) (other : eqb l h.0 ≡ false) where
     abbrev t : Operation
     t = m.tree
 
     abbrev w : IsWellFormed is_isolated m
-    w = s.stood.formed
+    w = s.located.wellformed
 
     abbrev o : Operation
     o = (there_by h.0 m.tree (h.1 ∷ []) k.results).0
@@ -118,8 +118,8 @@ module _ (x y l : ℕ) (front : Place) (rs ys : List TypeTerm) (few : ℕ) where
     pub gone_reason : edit_reason (Erase h.0) m ≡ None
     gone_reason = erase_reason m w h.0 o found root none
 
-    gone_formed : IsWellFormed is_isolated (edited (Erase h.0) m)
-    gone_formed = erase_formed m w h.0 o found root none
+    gone_wellformed : IsWellFormed is_isolated (edited (Erase h.0) m)
+    gone_wellformed = erase_wellformed m w h.0 o found root none
 
     y_out : has_id y (there_by h.0 m.tree (h.1 ∷ []) k.results).0 ≡ false
     y_out = later_outside t w.distinct h.0 y k.before o found
@@ -137,7 +137,7 @@ module _ (x y l : ℕ) (front : Place) (rs ys : List TypeTerm) (few : ℕ) where
     present b z = ap (λ i. has_id i t) (sym z.2) ∙ stand_present [] t z.0 z.1
 
     x_there : has_id x m.tree ≡ true
-    x_there = present x (stand s.stood.at.here (s.stood.at.step_in ∷ s.stood.at.path), s.stood.at.there, s.stood.at.id)
+    x_there = present x (stand s.located.at.here (s.located.at.step_in ∷ s.located.at.path), s.located.at.there, s.located.at.id)
 
     y_there : has_id y m.tree ≡ true
     y_there = (let g = stands_before t s.before.here s.before.first s.before.step_in s.before.path s.before.there s.before.among in present y (stand s.before.first (g.step_in ∷ s.before.path), g.there, s.before.is))
@@ -151,13 +151,13 @@ module _ (x y l : ℕ) (front : Place) (rs ys : List TypeTerm) (few : ℕ) where
     stays : Kept is_isolated Here m.tree (without h.0 m.tree)
     stays = subst (λ i. Kept is_isolated Here t (without i t)) o_there.2 (left_kept t o w.distinct at_own Here (λ b e. e.0) (λ b e. e.1))
 
-    pub gone_near : Near x y l front rs ys few (edited (Erase h.0) m)
-    gone_near = near_kept x y l front rs ys few Here m (edited (Erase h.0) m) (x_there, x_out) (y_there, y_out) (l_there, l_out) stays gone_formed s
+    pub gone_near : Near x y l insertion rs ys few (edited (Erase h.0) m)
+    gone_near = near_kept x y l insertion rs ys few Here m (edited (Erase h.0) m) (x_there, x_out) (y_there, y_out) (l_there, l_out) stays gone_wellformed s
 
-    pub gone_holder : (q : Held) → eqb h.0 q.0 ≡ false → Holder x y l front rs ys few q.0 q.1 m → Holder x y l front rs ys few q.0 q.1 (edited (Erase h.0) m)
+    pub gone_holder : (q : Held) → eqb h.0 q.0 ≡ false → Holder x y l insertion rs ys few q.0 q.1 m → Holder x y l insertion rs ys few q.0 q.1 (edited (Erase h.0) m)
     gone_holder q apart e =
         (let g = stands_before t e.before.here e.before.first e.before.step_in e.before.path e.before.there e.before.among in
-        holder_kept x y l front rs ys few Here m (edited (Erase h.0) m) q.0 q.1 (present q.0 (stand e.before.first (g.step_in ∷ e.before.path), g.there, e.before.is), sibling_out t w.distinct h.0 q.0 y k.before e.before apart o found) (y_there, y_out) stays e)
+        holder_kept x y l insertion rs ys few Here m (edited (Erase h.0) m) q.0 q.1 (present q.0 (stand e.before.first (g.step_in ∷ e.before.path), g.there, e.before.is), sibling_out t w.distinct h.0 q.0 y k.before e.before apart o found) (y_there, y_out) stays e)
 
     pub gone_dominance : (v : Value) → eqb (owner_of v).0 h.0 ≡ false → dominated_by l v m ≡ true → dominated_by l v (edited (Erase h.0) m) ≡ true
     gone_dominance v apart e = dominance_stays h.0 t w.distinct l (subst (λ i. has_id l (without i t) ≡ true) o_there.2 (there_left t o w.distinct at_own l l_there l_out)) is_isolated v apart ∙ e
@@ -173,12 +173,12 @@ module _ (x y l : ℕ) (front : Place) (rs ys : List TypeTerm) (few : ℕ) where
         none_left [] ys e = (refl, e)
         none_left (x ∷ xs) ys e = absurd cc
 
-    pub gone_rooms : (j : ℕ) → Room j m → Room j (edited (Erase h.0) m)
-    gone_rooms j r = (let c = taken_op_count h.0 t o w.distinct found root in let a = r.ops in record { ops = omega (arith, a, c); ids = r.ids })
+    pub gone_headrooms : (j : ℕ) → Headroom j m → Headroom j (edited (Erase h.0) m)
+    gone_headrooms j r = (let c = taken_op_count h.0 t o w.distinct found root in let a = r.ops in record { ops = omega (arith, a, c); ids = r.ids })
 
   -- all placeholders are erased
-  pub erased_all : (hs : List Held) (m : Module) → Near x y l front rs ys few m → ((h : Held) → In h hs → Holder x y l front rs ys few h.0 h.1 m × (uses_of (Result h.0 0) m.tree ≡ []) × (eqb l h.0 ≡ false)) → AllOther hs → ErasedAll hs m
-  erased_all [] m s each other = record { free = λ fs k. k; near = s; dominance = λ v a e. e; next = refl; rooms = λ k r. r }
+  pub erased_all : (hs : List Held) (m : Module) → Near x y l insertion rs ys few m → ((h : Held) → In h hs → Holder x y l insertion rs ys few h.0 h.1 m × (uses_of (Result h.0 0) m.tree ≡ []) × (eqb l h.0 ≡ false)) → AllOther hs → ErasedAll hs m
+  erased_all [] m s each other = record { free = λ fs k. k; near = s; dominance = λ v a e. e; next = refl; headrooms = λ k r. r }
   erased_all (h ∷ hs) m s each other =
       let k = each h (inl refl) in
       let n = edited (Erase h.0) m in
@@ -188,5 +188,5 @@ module _ (x y l : ℕ) (front : Place) (rs ys : List TypeTerm) (few : ℕ) where
         near = later.near;
         dominance = λ v a e. later.dominance v (λ q i. a q (inr i)) (gone_dominance h m s k.0 k.1 k.2 v (a h (inl refl)) e);
         next = later.next;
-        rooms = λ j r. later.rooms j (gone_rooms h m s k.0 k.1 k.2 j r);
+        headrooms = λ j r. later.headrooms j (gone_headrooms h m s k.0 k.1 k.2 j r);
       }

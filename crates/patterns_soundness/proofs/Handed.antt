@@ -25,21 +25,21 @@ use Rattle.patterns_base.proofs.Plans.{StandsAt, dominated_by}
 use Rattle.patterns_soundness.specs.base.Looks.{Header}
 use Rattle.patterns_soundness.specs.base.Made.{bridge, i64}
 use Rattle.patterns_soundness.specs.base.Lowering.{bridges, crossing, marked}
-use Rattle.patterns_soundness.proofs.CastsAccepted.{AreCrossed, Room, bridged, made_one}
+use Rattle.patterns_soundness.proofs.CastsAccepted.{AreCrossed, Headroom, bridged, made_one}
 use Rattle.patterns_soundness.proofs.Indexed.{head_there}
 use Rattle.patterns_base.proofs.EditFacts.{edited_both}
 
 module _ (l : ℕ) (place : Place) (base : ℕ) (ws : List Value) (P : Module → Type 0)
     (p_made : (k : Module) → StandsAt l place k → (v : Value) → In v ws → dominated_by l v k ≡ true → base ≤ k.next → StandsAt l place (edited (Make place (bridge i64 v)) k) → P k → P (edited (Make place (bridge i64 v)) k))
     (p_set : (k : Module) → StandsAt l place k → (i c : ℕ) → base ≤ c → dominated_by l (Result c 0) k ≡ true → StandsAt l place (edited (SetOperand l i (Result c 0)) k) → P k → P (edited (SetOperand l i (Result c 0)) k)) where
-  casts_keep : (ms : List Bool) (vs : List Value) (m : Module) → StandsAt l place m → ((v : Value) → In v vs → dominated_by l v m ≡ true) → ((v : Value) → In v vs → In v ws) → base ≤ m.next → Room (marked ms) m → P m → P (all_edited (bridges i64 place ms vs) m)
-  casts_keep [] vs m s seen among low room p = p
-  casts_keep (true ∷ ms) [] m s seen among low room p = p
-  casts_keep (false ∷ ms) [] m s seen among low room p = p
-  casts_keep (false ∷ ms) (v ∷ vs) m s seen among low room p = casts_keep ms vs m s (λ w i. seen w (inr i)) (λ w i. among w (inr i)) low room p
-  casts_keep (true ∷ ms) (v ∷ vs) m s seen among low room p =
-      let one = made_one l place (λ b. ⊥) m s (bridge i64 v) refl refl only (marked ms) room in
-      casts_keep ms vs (edited (Make place (bridge i64 v)) m) one.stood (λ w i. one.dominance w (seen w (inr i))) (λ w i. among w (inr i)) (omega (arith, low)) (one.rooms (marked ms) room) (p_made m s v (among v (inl refl)) (seen v (inl refl)) low one.stood p)
+  casts_keep : (ms : List Bool) (vs : List Value) (m : Module) → StandsAt l place m → ((v : Value) → In v vs → dominated_by l v m ≡ true) → ((v : Value) → In v vs → In v ws) → base ≤ m.next → Headroom (marked ms) m → P m → P (all_edited (bridges i64 place ms vs) m)
+  casts_keep [] vs m s seen among low headroom p = p
+  casts_keep (true ∷ ms) [] m s seen among low headroom p = p
+  casts_keep (false ∷ ms) [] m s seen among low headroom p = p
+  casts_keep (false ∷ ms) (v ∷ vs) m s seen among low headroom p = casts_keep ms vs m s (λ w i. seen w (inr i)) (λ w i. among w (inr i)) low headroom p
+  casts_keep (true ∷ ms) (v ∷ vs) m s seen among low headroom p =
+      let one = made_one l place (λ b. ⊥) m s (bridge i64 v) refl refl only (marked ms) headroom in
+      casts_keep ms vs (edited (Make place (bridge i64 v)) m) one.located (λ w i. one.dominance w (seen w (inr i))) (λ w i. among w (inr i)) (omega (arith, low)) (one.headrooms (marked ms) headroom) (p_made m s v (among v (inl refl)) (seen v (inl refl)) low one.located p)
     where
       only : (w : Value) → In w (v ∷ []) → dominated_by l w m ≡ true
       only w (inl i) = seen w (inl i)
@@ -67,7 +67,7 @@ module _ (l : ℕ) (place : Place) (base : ℕ) (ws : List Value) (P : Module �
     set_one = plans.set_free l place m s (Result c 0) seen i has
 
     abbrev pub set_stands : StandsAt l place (edited (SetOperand l i (Result c 0)) m)
-    set_stands = headed.set_stood is_isolated l place m s (Result c 0) seen i (lt-ltb i (length (head s.at.here).operands) few)
+    set_stands = headed.set_located is_isolated l place m s (Result c 0) seen i (lt-ltb i (length (head s.at.here).operands) few)
 
     set_dominance : (v : Value) → dominated_by l v (edited (SetOperand l i (Result c 0)) m) ≡ dominated_by l v m
     set_dominance v = headed.set_dominated_by is_isolated l place m s (Result c 0) seen i has v
@@ -90,13 +90,13 @@ module _ (l : ℕ) (place : Place) (base : ℕ) (ws : List Value) (P : Module �
     free : (fs : List Edit) → Free fs (all_edited (crossing l i c ms) m) → Free (crossing l i c ms ++ fs) m
     keeps : P m → P (all_edited (crossing l i c ms) m)
     next : (all_edited (crossing l i c ms) m).next ≡ m.next
-    rooms : (k : ℕ) → Room k m → Room k (all_edited (crossing l i c ms) m)
+    headrooms : (k : ℕ) → Headroom k m → Headroom k (all_edited (crossing l i c ms) m)
 
   crossing_free : (ms : List Bool) (i c : ℕ) (m : Module) (s : StandsAt l place m) → i + length ms ≤ length (head s.at.here).operands → base ≤ c → AreSeen ms c m → Crossing ms i c m
-  crossing_free [] i c m s few low a = record { free = λ fs k. k; keeps = λ p. p; next = refl; rooms = λ k r. r }
+  crossing_free [] i c m s few low a = record { free = λ fs k. k; keeps = λ p. p; next = refl; headrooms = λ k r. r }
   crossing_free (false ∷ ms) i c m s few low a =
       let later = crossing_free ms (i + 1) c m s (omega (arith, few)) low a in
-      record { free = later.free; keeps = later.keeps; next = later.next; rooms = later.rooms }
+      record { free = later.free; keeps = later.keeps; next = later.next; headrooms = later.headrooms }
   crossing_free (true ∷ ms) i c m s few low a =
       let less : i < length (head s.at.here).operands = omega (arith, few) in
       let same = set_count m s i c a.0 less in
@@ -107,7 +107,7 @@ module _ (l : ℕ) (place : Place) (base : ℕ) (ws : List Value) (P : Module �
         free = λ fs k. set_one m s i c a.0 less (crossing l (i + 1) (c + 1) ms ++ fs) (later.free fs k);
         keeps = λ p. later.keeps (p_set m s i c low a.0 (set_stands m s i c a.0 less) p);
         next = later.next;
-        rooms = λ k r. later.rooms k (let o = r.ops in let d = r.ids in record { ops = omega (arith, o, count); ids = omega (arith, d) });
+        headrooms = λ k r. later.headrooms k (let o = r.ops in let d = r.ids in record { ops = omega (arith, o, count); ids = omega (arith, d) });
       }
 
   -- the casts are made, and set as operands
@@ -116,21 +116,21 @@ module _ (l : ℕ) (place : Place) (base : ℕ) (ws : List Value) (P : Module �
     pub free : (fs : List Edit) → Free fs after → Free ((bridges i64 place ms ws ++ crossing l 0 c ms) ++ fs) m
     pub keeps : P after
     pub next : after.next ≡ m.next + marked ms
-    pub rooms : (k : ℕ) → Room (marked ms + k) m → Room k after
+    pub headrooms : (k : ℕ) → Headroom (marked ms + k) m → Headroom k after
 
-  pub handed_on : (ms : List Bool) (m : Module) (s : StandsAt l place m) → ((v : Value) → In v ws → dominated_by l v m ≡ true) → length ms ≡ length ws → length ms ≤ length (head s.at.here).operands → base ≤ m.next → Room (marked ms) m → P m → HandedOn ms m.next m
-  handed_on ms m s seen wide few low room p =
-      let b = bridged l place (λ b. has_id b m.tree ≡ true) i64 ms ws m s seen room in
+  pub handed_on : (ms : List Bool) (m : Module) (s : StandsAt l place m) → ((v : Value) → In v ws → dominated_by l v m ≡ true) → length ms ≡ length ws → length ms ≤ length (head s.at.here).operands → base ≤ m.next → Headroom (marked ms) m → P m → HandedOn ms m.next m
+  handed_on ms m s seen wide few low headroom p =
+      let b = bridged l place (λ b. has_id b m.tree ≡ true) i64 ms ws m s seen headroom in
       let n = all_edited (bridges i64 place ms ws) m in
       let there = headed.found_there is_isolated l place m s in
       let here : has_id l m.tree ≡ true = there_is is_isolated l place m s in
       let header : option_map head (find l n.tree) ≡ Some (head s.at.here) = (b.stays (λ z h. h)).heads l here ∙ ap (option_map head) there in
-      let same : length (head b.stood.at.here).operands ≡ length (head s.at.here).operands = ap (λ (h : Header). length h.operands) (head_there l place n b.stood (head s.at.here) header) in
-      let c = crossing_free ms 0 m.next n b.stood (omega (arith, few, same)) low (seen_crossed ms ws m.next n wide b.made) in
+      let same : length (head b.located.at.here).operands ≡ length (head s.at.here).operands = ap (λ (h : Header). length h.operands) (head_there l place n b.located (head s.at.here) header) in
+      let c = crossing_free ms 0 m.next n b.located (omega (arith, few, same)) low (seen_crossed ms ws m.next n wide b.made) in
       record {
         after = all_edited (crossing l 0 m.next ms) n;
         free = λ fs k. subst (λ es. Free es m) (sym (append_assoc (bridges i64 place ms ws) (crossing l 0 m.next ms) fs)) (b.free (crossing l 0 m.next ms ++ fs) (c.free fs k));
-        keeps = c.keeps (casts_keep ms ws m s seen (λ v i. i) low room p);
+        keeps = c.keeps (casts_keep ms ws m s seen (λ v i. i) low headroom p);
         next = c.next ∙ b.next wide;
-        rooms = λ k r. c.rooms k (b.rooms k r);
+        headrooms = λ k r. c.headrooms k (b.headrooms k r);
       }

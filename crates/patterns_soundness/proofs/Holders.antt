@@ -27,7 +27,7 @@ use Rattle.patterns_soundness.specs.base.Looks.{Header}
 use Rattle.patterns_soundness.specs.base.Made.{bridge, i64, placeholder}
 use Rattle.patterns_soundness.specs.base.Lowering.{bridges, marked}
 use Rattle.patterns_soundness.proofs.Arguments.{one_here}
-use Rattle.patterns_soundness.proofs.CastsAccepted.{Room, made_one}
+use Rattle.patterns_soundness.proofs.CastsAccepted.{Headroom, made_one}
 use Rattle.patterns_soundness.proofs.Kept as kept
 use Rattle.patterns_soundness.proofs.Kept.{Kept, kept_none}
 use Rattle.patterns_soundness.proofs.NearAccepted.{result_type, results_in}
@@ -39,24 +39,24 @@ abbrev pub holders_from : ℕ → List TypeTerm → List Value
 holders_from n tys = map (λ i. Result i 0) (range_with_len n (length tys))
 
 abbrev pub placeholders : Place → List TypeTerm → List Edit
-placeholders front tys = map (λ ty. Make front (placeholder ty)) tys
+placeholders insertion tys = map (λ ty. Make insertion (placeholder ty)) tys
 
-module _ (x : ℕ) (front : Place) (q : ℕ) (args : List TypeTerm) (ws : List Operation) (lacks : (p : Operation) → In p ws → has_id front.parent p ≡ false) where
-  abbrev pub Has : (m : Module) → StandsAt x front m → Type 0
+module _ (x : ℕ) (insertion : Place) (q : ℕ) (args : List TypeTerm) (ws : List Operation) (lacks : (p : Operation) → In p ws → has_id insertion.parent p ≡ false) where
+  abbrev pub Has : (m : Module) → StandsAt x insertion m → Type 0
   Has m s = region_at q (regions s.at.here) ≡ Some (block args (joined_ops ws no_ops))
 
-  has_any : (m : Module) (s k : StandsAt x front m) → Has m s → Has m k
-  has_any m s k h = ap (λ z. region_at q (regions z)) (one_here x front [] [] m k s) ∙ h
+  has_any : (m : Module) (s k : StandsAt x insertion m) → Has m s → Has m k
+  has_any m s k h = ap (λ z. region_at q (regions z)) (one_here x insertion [] [] m k s) ∙ h
 
   -- x keeps its block after the casts are inserted
-  pub bridged_has : (ms : List Bool) (vs : List Value) (m : Module) (s : StandsAt x front m) → ((v : Value) → In v vs → dominated_by x v m ≡ true) → Room (marked ms) m → Has m s → (k : StandsAt x front (all_edited (bridges i64 front ms vs) m)) → Has (all_edited (bridges i64 front ms vs) m) k
-  bridged_has [] vs m s seen room h k = has_any m s k h
-  bridged_has (true ∷ ms) [] m s seen room h k = has_any m s k h
-  bridged_has (false ∷ ms) [] m s seen room h k = has_any m s k h
-  bridged_has (false ∷ ms) (v ∷ vs) m s seen room h k = bridged_has ms vs m s (λ w i. seen w (inr i)) room h k
-  bridged_has (true ∷ ms) (v ∷ vs) m s seen room h k =
-      let one = made_one x front (λ b. ⊥) m s (bridge i64 v) refl refl only (marked ms) room in
-      bridged_has ms vs (edited (Make front (bridge i64 v)) m) one.stood (λ w i. one.dominance w (seen w (inr i))) (one.rooms (marked ms) room) (started_side x front m s (bridge i64 v) refl only one.stood q args ws lacks h) k
+  pub bridged_has : (ms : List Bool) (vs : List Value) (m : Module) (s : StandsAt x insertion m) → ((v : Value) → In v vs → dominated_by x v m ≡ true) → Headroom (marked ms) m → Has m s → (k : StandsAt x insertion (all_edited (bridges i64 insertion ms vs) m)) → Has (all_edited (bridges i64 insertion ms vs) m) k
+  bridged_has [] vs m s seen headroom h k = has_any m s k h
+  bridged_has (true ∷ ms) [] m s seen headroom h k = has_any m s k h
+  bridged_has (false ∷ ms) [] m s seen headroom h k = has_any m s k h
+  bridged_has (false ∷ ms) (v ∷ vs) m s seen headroom h k = bridged_has ms vs m s (λ w i. seen w (inr i)) headroom h k
+  bridged_has (true ∷ ms) (v ∷ vs) m s seen headroom h k =
+      let one = made_one x insertion (λ b. ⊥) m s (bridge i64 v) refl refl only (marked ms) headroom in
+      bridged_has ms vs (edited (Make insertion (bridge i64 v)) m) one.located (λ w i. one.dominance w (seen w (inr i))) (one.headrooms (marked ms) headroom) (started_side x insertion m s (bridge i64 v) refl only one.located q args ws lacks h) k
     where
       only : (w : Value) → In w (v ∷ []) → dominated_by x w m ≡ true
       only w (inl i) = seen w (inl i)
@@ -67,22 +67,22 @@ module _ (x : ℕ) (front : Place) (q : ℕ) (args : List TypeTerm) (ws : List O
   AreHeld n [] m = Unit {0}
   AreHeld n (ty ∷ tys) m = (Before n x m.tree × (results_in n m.tree ≡ Some (ty ∷ []))) × AreHeld (n + 1) tys m
 
-  pub record Placed (tys : List TypeTerm) (m : Module) (s : StandsAt x front m) : Type 0 where
-    pub free : (fs : List Edit) → Free fs (all_edited (placeholders front tys) m) → Free (placeholders front tys ++ fs) m
-    pub stood : StandsAt x front (all_edited (placeholders front tys) m)
-    pub dominance : (v : Value) → dominated_by x v m ≡ true → dominated_by x v (all_edited (placeholders front tys) m) ≡ true
-    pub has : Has m s → Has (all_edited (placeholders front tys) m) stood
-    pub given : AreGiven x front (holders_from m.next tys) tys (all_edited (placeholders front tys) m)
-    pub held : AreHeld m.next tys (all_edited (placeholders front tys) m)
-    pub unused : (v : Value) → uses_of v m.tree ≡ [] → uses_of v (all_edited (placeholders front tys) m).tree ≡ []
-    pub stays : Kept is_isolated (λ b. has_id b m.tree ≡ true) m.tree (all_edited (placeholders front tys) m).tree
-    pub next : (all_edited (placeholders front tys) m).next ≡ m.next + length tys
-    pub rooms : (k : ℕ) → Room (length tys + k) m → Room k (all_edited (placeholders front tys) m)
+  pub record Placed (tys : List TypeTerm) (m : Module) (s : StandsAt x insertion m) : Type 0 where
+    pub free : (fs : List Edit) → Free fs (all_edited (placeholders insertion tys) m) → Free (placeholders insertion tys ++ fs) m
+    pub located : StandsAt x insertion (all_edited (placeholders insertion tys) m)
+    pub dominance : (v : Value) → dominated_by x v m ≡ true → dominated_by x v (all_edited (placeholders insertion tys) m) ≡ true
+    pub has : Has m s → Has (all_edited (placeholders insertion tys) m) located
+    pub given : AreGiven x insertion (holders_from m.next tys) tys (all_edited (placeholders insertion tys) m)
+    pub held : AreHeld m.next tys (all_edited (placeholders insertion tys) m)
+    pub unused : (v : Value) → uses_of v m.tree ≡ [] → uses_of v (all_edited (placeholders insertion tys) m).tree ≡ []
+    pub stays : Kept is_isolated (λ b. has_id b m.tree ≡ true) m.tree (all_edited (placeholders insertion tys) m).tree
+    pub next : (all_edited (placeholders insertion tys) m).next ≡ m.next + length tys
+    pub headrooms : (k : ℕ) → Headroom (length tys + k) m → Headroom k (all_edited (placeholders insertion tys) m)
 
-  pub placed_all : (tys : List TypeTerm) (m : Module) (s : StandsAt x front m) → Room (length tys) m → Placed tys m s
-  placed_all [] m s room = record {
+  pub placed_all : (tys : List TypeTerm) (m : Module) (s : StandsAt x insertion m) → Headroom (length tys) m → Placed tys m s
+  placed_all [] m s headroom = record {
     free = λ fs k. k;
-    stood = s;
+    located = s;
     dominance = λ v e. e;
     has = λ h. h;
     given = tt;
@@ -90,27 +90,27 @@ module _ (x : ℕ) (front : Place) (q : ℕ) (args : List TypeTerm) (ws : List O
     unused = λ v e. e;
     stays = kept_none is_isolated (λ b. has_id b m.tree ≡ true) m.tree (λ b h. h);
     next = omega arith;
-    rooms = λ k r. (let a = r.ops in let b = r.ids in record { ops = omega (arith, a); ids = omega (arith, b) });
+    headrooms = λ k r. (let a = r.ops in let b = r.ids in record { ops = omega (arith, a); ids = omega (arith, b) });
   }
-  placed_all (ty ∷ tys) m s room =
-      let more : Room (length tys + 1) m = (let a = room.ops in let b = room.ids in record { ops = omega (arith, a); ids = omega (arith, b) }) in
+  placed_all (ty ∷ tys) m s headroom =
+      let more : Headroom (length tys + 1) m = (let a = headroom.ops in let b = headroom.ids in record { ops = omega (arith, a); ids = omega (arith, b) }) in
       let none : (v : Value) → In v (head (placeholder ty)).operands → dominated_by x v m ≡ true = (λ v i. absurd i) in
-      let one = made_one x front (λ b. has_id b m.tree ≡ true) m s (placeholder ty) refl refl none (length tys) more in
-      let n = edited (Make front (placeholder ty)) m in
-      let later = placed_all tys n one.stood (one.rooms (length tys) more) in
-      let end = all_edited (placeholders front tys) n in
-      let point = made_there.point is_isolated x front m s in
+      let one = made_one x insertion (λ b. has_id b m.tree ≡ true) m s (placeholder ty) refl refl none (length tys) more in
+      let n = edited (Make insertion (placeholder ty)) m in
+      let later = placed_all tys n one.located (one.headrooms (length tys) more) in
+      let end = all_edited (placeholders insertion tys) n in
+      let point = made_there.point is_isolated x insertion m s in
       let up = one.stays (λ b h. h) in
-      let x_there = there_is is_isolated x front m s in
-      let results : results_in m.next end.tree ≡ Some (ty ∷ []) = ap (option_map (λ (h : Header). h.results)) (later.stays.heads m.next one.new_there) ∙ ap (λ f. option_map (λ (h : Header). h.results) (option_map head f)) (kept.made_found is_isolated m s.formed front point (placeholder ty) refl) in
+      let x_there = there_is is_isolated x insertion m s in
+      let results : results_in m.next end.tree ≡ Some (ty ∷ []) = ap (option_map (λ (h : Header). h.results)) (later.stays.heads m.next one.new_there) ∙ ap (λ f. option_map (λ (h : Header). h.results) (option_map head f)) (kept.made_found is_isolated m s.wellformed insertion point (placeholder ty) refl) in
       record {
-        free = λ fs k. one.free (placeholders front tys ++ fs) (later.free fs k);
-        stood = later.stood;
+        free = λ fs k. one.free (placeholders insertion tys ++ fs) (later.free fs k);
+        located = later.located;
         dominance = λ v e. later.dominance v (one.dominance v e);
-        has = λ h. later.has (started_side x front m s (placeholder ty) refl none one.stood q args ws lacks h);
+        has = λ h. later.has (started_side x insertion m s (placeholder ty) refl none one.located q args ws lacks h);
         given = ((later.dominance (Result m.next 0) (one.new_dominance 0 refl), (ty, result_type m.next end.tree ty results, type_refl ty)), later.given);
-        held = ((later.stays.before m.next x one.new_there (up.present x x_there) (started x front m s (placeholder ty) refl none one.stood).before, results), later.held);
-        unused = λ v e. later.unused v (nothing_used m s.formed front point (placeholder ty) refl v refl e);
+        held = ((later.stays.before m.next x one.new_there (up.present x x_there) (started x insertion m s (placeholder ty) refl none one.located).before, results), later.held);
+        unused = λ v e. later.unused v (nothing_used m s.wellformed insertion point (placeholder ty) refl v refl e);
         stays = record {
           present = λ b h. later.stays.present b (up.present b h);
           heads = λ b h. later.stays.heads b (up.present b h) ∙ up.heads b h;
@@ -120,5 +120,5 @@ module _ (x : ℕ) (front : Place) (q : ℕ) (args : List TypeTerm) (ws : List O
           arounds = λ b h. later.stays.arounds b (up.present b h) ∙ up.arounds b h;
         };
         next = (let e = later.next in omega (arith, e));
-        rooms = λ k r. later.rooms k (one.rooms (length tys + k) (let a = r.ops in let b = r.ids in record { ops = omega (arith, a); ids = omega (arith, b) }));
+        headrooms = λ k r. later.headrooms k (one.headrooms (length tys + k) (let a = r.ops in let b = r.ids in record { ops = omega (arith, a); ids = omega (arith, b) }));
       }

@@ -28,7 +28,7 @@ use Rattle.ir_event.proofs.of_tree_laws.Keys.{keys_ordered}
 use Rattle.ir_event.proofs.of_tree_laws.Listed.{all_each, both, not_false, or_right}
 use Rattle.ir_event.proofs.of_tree_laws.Readings.{stands_every, stands_uses}
 use Rattle.ir_event.specs.Modules.{Module}
-use Rattle.op_registry.specs.Registry.{beside}
+use Rattle.op_registry.specs.Registry.{next_to}
 use Rattle.dialects_int.specs.Folds.{property_of}
 use Rattle.effects.specs.Dead.{is_result_of, is_unused}
 use Rattle.rewriter_machine.specs.Contents.{Edit, edited, tests}
@@ -40,7 +40,7 @@ use Rattle.patterns_base.proofs.Plans.{StandsAt, dominated_by}
 use Rattle.patterns_soundness.specs.base.Keeps.{swapped_predicate}
 use Rattle.patterns_soundness.specs.base.Words.{among, named, commutative}
 use Rattle.patterns_soundness.specs.base.Made.{i64}
-use Rattle.patterns_soundness.specs.base.Looks.{Header, front_of, is_constant, is_known, is_number, is_erasable, predicate, source}
+use Rattle.patterns_soundness.specs.base.Looks.{Header, insertion_of, is_constant, is_known, is_number, is_erasable, predicate, source}
 use Rattle.patterns_soundness.specs.base.Folding.{erase_dead, swap_constant, mirror_comparison, choose_opposite}
 use Rattle.patterns_soundness.proofs.Points.{Point, here_is, dominated_by_after, dominated_by_operand, stands_after, stands_there}
 use Rattle.patterns_soundness.proofs.Shapes.{source_is, three_is, two_is}
@@ -78,11 +78,11 @@ dead_unused t o e = (both (is_unused (head o).id t) _ e).0
 
 -- ---- operands set one after another
 
-module _ (x : ℕ) (front : Place) (n : ℕ) where
+module _ (x : ℕ) (insertion : Place) (n : ℕ) where
   -- operation x comes after a place and has n operands
   pub record Holds (m : Module) : Type 0 where
-    pub stood : StandsAt x front m
-    pub long : length (head stood.at.here).operands ≡ n
+    pub located : StandsAt x insertion m
+    pub long : length (head located.at.here).operands ≡ n
 
   as_long : (f : HeadOf (List ℕ) TypeTerm AttrTerm → HeadOf (List ℕ) TypeTerm AttrTerm) → ((h : HeadOf (List ℕ) TypeTerm AttrTerm) → length (f h).operands ≡ length h.operands) → (o : Operation) → length (head (each_head (at x f) o)).operands ≡ length (head o).operands
   as_long f same (op h rs) = go (eqb h.id x)
@@ -92,20 +92,20 @@ module _ (x : ℕ) (front : Place) (n : ℕ) where
       go false = refl
 
   module _ (m : Module) (h : Holds m) (k : ℕ) (v : Value) (has : nat_lt k n ≡ true) (seen : dominated_by x v m ≡ true) where
-    has_operand : nat_lt k (length (head h.stood.at.here).operands) ≡ true
+    has_operand : nat_lt k (length (head h.located.at.here).operands) ≡ true
     has_operand = ap (nat_lt k) h.long ∙ has
 
     pub set_first : (es : List Edit) → Free es (edited (SetOperand x k v) m) → Free (SetOperand x k v ∷ es) m
-    set_first es = plans.set_free x front m h.stood v seen k has_operand es
+    set_first es = plans.set_free x insertion m h.located v seen k has_operand es
 
     pub set_holds : Holds (edited (SetOperand x k v) m)
     set_holds = record {
-      stood = headed.set_stood is_isolated x front m h.stood v seen k has_operand;
-      long = as_long (put_operand k v) (λ h. length-set h.operands k v) h.stood.at.here ∙ h.long;
+      located = headed.set_located is_isolated x insertion m h.located v seen k has_operand;
+      long = as_long (put_operand k v) (λ h. length-set h.operands k v) h.located.at.here ∙ h.long;
     }
 
     pub set_dominated_by : (w : Value) → dominated_by x w m ≡ true → dominated_by x w (edited (SetOperand x k v) m) ≡ true
-    set_dominated_by w e = headed.set_dominated_by is_isolated x front m h.stood v seen k has_operand w ∙ e
+    set_dominated_by w e = headed.set_dominated_by is_isolated x insertion m h.located v seen k has_operand w ∙ e
 
 -- ---- an attribute set at a key that is there
 
@@ -118,7 +118,7 @@ part_operands Props f h = refl
 part_operands Attrs f h = refl
 
 -- an entry that is found by its key's bytes is found in the order of keys
-entry_there : (k : List ℕ) (es : Entries) (a : AttrTerm) → beside k es ≡ Some a → is_some (entry_at key_before k es) ≡ true
+entry_there : (k : List ℕ) (es : Entries) (a : AttrTerm) → next_to k es ≡ Some a → is_some (entry_at key_before k es) ≡ true
 entry_there k [] a e = absurd cc
 entry_there k (f ∷ es) a e = go (bytes_eq k f.0) refl e (entry_there k es a)
   where
@@ -129,20 +129,20 @@ entry_there k (f ∷ es) a e = go (bytes_eq k f.0) refl e (entry_there k es a)
     first true h = refl
     first false h = h
 
-    go : (b : Bool) → bytes_eq k f.0 ≡ b → (if b then Some f.1 else beside k es) ≡ Some a → (beside k es ≡ Some a → is_some (entry_at key_before k es) ≡ true) → is_some (entry_at key_before k (f ∷ es)) ≡ true
+    go : (b : Bool) → bytes_eq k f.0 ≡ b → (if b then Some f.1 else next_to k es) ≡ Some a → (next_to k es ≡ Some a → is_some (entry_at key_before k es) ≡ true) → is_some (entry_at key_before k (f ∷ es)) ≡ true
     go true i e later = found ((bytes_eq-Decides k f.0).0 i)
     go false i e later = first (not (key_before k f.0) && not (key_before f.0 k)) (later e)
 
 past : (k : List ℕ) (f : List ℕ × AttrTerm) (es : Entries) → bytes_eq k f.0 ≡ false → property_of k (f ∷ es) ≡ property_of k es
 past k f es i = rw i refl
 
-property_there : (k : List ℕ) (es : Entries) (i : TypeTerm × ℕ) → property_of k es ≡ Some i → (a : AttrTerm) × (beside k es ≡ Some a)
+property_there : (k : List ℕ) (es : Entries) (i : TypeTerm × ℕ) → property_of k es ≡ Some i → (a : AttrTerm) × (next_to k es ≡ Some a)
 property_there k [] i e = absurd cc
 property_there k (f ∷ es) i e = go (bytes_eq k f.0) refl (property_there k es i)
   where
-    go : (b : Bool) → bytes_eq k f.0 ≡ b → (property_of k es ≡ Some i → (a : AttrTerm) × (beside k es ≡ Some a)) → (a : AttrTerm) × ((if bytes_eq k f.0 then Some f.1 else beside k es) ≡ Some a)
-    go true g later = (f.1, ap (λ b. if b then Some f.1 else beside k es) g)
-    go false g later = (let w = later (sym (past k f es g) ∙ e) in (w.0, ap (λ b. if b then Some f.1 else beside k es) g ∙ w.1))
+    go : (b : Bool) → bytes_eq k f.0 ≡ b → (property_of k es ≡ Some i → (a : AttrTerm) × (next_to k es ≡ Some a)) → (a : AttrTerm) × ((if bytes_eq k f.0 then Some f.1 else next_to k es) ≡ Some a)
+    go true g later = (f.1, ap (λ b. if b then Some f.1 else next_to k es) g)
+    go false g later = (let w = later (sym (past k f es g) ∙ e) in (w.0, ap (λ b. if b then Some f.1 else next_to k es) g ∙ w.1))
 
 predicate_there : (h : Header) (n : ℕ) → predicate h ≡ Some n → is_some (entry_at key_before (codes "predicate") h.properties) ≡ true
 predicate_there h n e = go (property_of (codes "predicate") h.properties) refl e
@@ -152,38 +152,38 @@ predicate_there h n e = go (property_of (codes "predicate") h.properties) refl e
     go (Some i) f e = (let w = property_there (codes "predicate") h.properties i f in entry_there (codes "predicate") h.properties w.0 w.1)
 
 -- a dead operation is erased, verified or not
-pub free_erase_dead : (m : Module) (o : Operation) (front : Place) → IsWellFormed is_isolated m → front_of (head o).id m.tree ≡ Some front → (n : ℕ) (es : List Edit) → erase_dead m.tree n front o ≡ Some es → Free es m
-free_erase_dead m o front formed at n es e =
+pub free_erase_dead : (m : Module) (o : Operation) (insertion : Place) → IsWellFormed is_isolated m → insertion_of (head o).id m.tree ≡ Some insertion → (n : ℕ) (es : List Edit) → erase_dead m.tree n insertion o ≡ Some es → Free es m
+free_erase_dead m o insertion wellformed at n es e =
     let x = (head o).id in
     let w = when_some (is_erasable m.tree o) (Some (Erase x ∷ [])) es e in
-    subst (λ z. Free z m) (same_Some (Erase x ∷ []) es w.1) (plans.erase_free x front m (stands_after m x front formed at) (λ k l. unused_result x m.tree (dead_unused m.tree o w.0) k), tt)
+    subst (λ z. Free z m) (same_Some (Erase x ∷ []) es w.1) (plans.erase_free x insertion m (stands_after m x insertion wellformed at) (λ k l. unused_result x m.tree (dead_unused m.tree o w.0) k), tt)
 
-module _ (m : Module) (o : Operation) (front : Place) (s : Point m o front) where
+module _ (m : Module) (o : Operation) (insertion : Place) (s : Point m o insertion) where
   abbrev x : ℕ
   x = (head o).id
 
   abbrev t : Operation
   t = m.tree
 
-  pub holds : (vs : List Value) → (head o).operands ≡ vs → Holds (head o).id front (length vs) m
-  holds vs e = record { stood = stands_there m o front s; long = ap (λ z. length (head z).operands) (here_is m o front s) ∙ ap length e }
+  pub holds : (vs : List Value) → (head o).operands ≡ vs → Holds (head o).id insertion (length vs) m
+  holds vs e = record { located = stands_there m o insertion s; long = ap (λ z. length (head z).operands) (here_is m o insertion s) ∙ ap length e }
 
   first_seen : (a : Value) (vs : List Value) → (head o).operands ≡ a ∷ vs → dominated_by (head o).id a m ≡ true
-  first_seen a vs e = dominated_by_operand m o front s a (subst (In a) (sym e) (inl refl))
+  first_seen a vs e = dominated_by_operand m o insertion s a (subst (In a) (sym e) (inl refl))
 
   second_seen : (a b : Value) (vs : List Value) → (head o).operands ≡ a ∷ b ∷ vs → dominated_by (head o).id b m ≡ true
-  second_seen a b vs e = dominated_by_operand m o front s b (subst (In b) (sym e) (inr (inl refl)))
+  second_seen a b vs e = dominated_by_operand m o insertion s b (subst (In b) (sym e) (inr (inl refl)))
 
   third_seen : (a b c : Value) (vs : List Value) → (head o).operands ≡ a ∷ b ∷ c ∷ vs → dominated_by (head o).id c m ≡ true
-  third_seen a b c vs e = dominated_by_operand m o front s c (subst (In c) (sym e) (inr (inr (inl refl))))
+  third_seen a b c vs e = dominated_by_operand m o insertion s c (subst (In c) (sym e) (inr (inr (inl refl))))
 
   -- two operands are swapped
-  swaps : (n : Module) → Holds (head o).id front 2 n → (a b : Value) → dominated_by (head o).id a n ≡ true → dominated_by (head o).id b n ≡ true → Free (SetOperand (head o).id 0 b ∷ SetOperand (head o).id 1 a ∷ []) n
+  swaps : (n : Module) → Holds (head o).id insertion 2 n → (a b : Value) → dominated_by (head o).id a n ≡ true → dominated_by (head o).id b n ≡ true → Free (SetOperand (head o).id 0 b ∷ SetOperand (head o).id 1 a ∷ []) n
   swaps n h a b p q =
-      set_first x front 2 n h 0 b refl q (SetOperand x 1 a ∷ [])
-      (set_first x front 2 (edited (SetOperand x 0 b) n) (set_holds x front 2 n h 0 b refl q) 1 a refl (set_dominated_by x front 2 n h 0 b refl q a p) [] tt)
+      set_first x insertion 2 n h 0 b refl q (SetOperand x 1 a ∷ [])
+      (set_first x insertion 2 (edited (SetOperand x 0 b) n) (set_holds x insertion 2 n h 0 b refl q) 1 a refl (set_dominated_by x insertion 2 n h 0 b refl q a p) [] tt)
 
-  pub free_swap_constant : (n : ℕ) (es : List Edit) → swap_constant m.tree n front o ≡ Some es → Free es m
+  pub free_swap_constant : (n : ℕ) (es : List Edit) → swap_constant m.tree n insertion o ≡ Some es → Free es m
   free_swap_constant n es e =
       let p = two_is (head o) _ es e in
       let w = when_some (among commutative (head o).name && (is_known t p.first && not (is_constant t p.second))) (Some (SetOperand x 0 p.second ∷ SetOperand x 1 p.first ∷ [])) es p.makes in
@@ -212,22 +212,22 @@ module _ (m : Module) (o : Operation) (front : Place) (s : Point m o front) wher
     alike : (h : Header) → Alike (at (head o).id (change_part (part_for tests (head o).id k m.tree) (change_entry key_before k (Some a))) h) h
     alike = alike_at x change (alike_part part (change_entry key_before k (Some a)))
 
-    entry_stands : StandsAt (head o).id front (edited (SetAttr (head o).id k a) m)
+    entry_stands : StandsAt (head o).id insertion (edited (SetAttr (head o).id k a) m)
     entry_stands =
-        headed.stood_headed is_isolated (at x change) alike x front m (stands_there m o front s)
-        (entry_keeps is_isolated key_before keys_ordered.trans x part k (Some a) m s.formed s.sorted no_reason)
+        headed.located_headed is_isolated (at x change) alike x insertion m (stands_there m o insertion s)
+        (entry_keeps is_isolated key_before keys_ordered.trans x part k (Some a) m s.wellformed s.sorted no_reason)
 
-    entry_holds : (vs : List Value) → (head o).operands ≡ vs → Holds (head o).id front (length vs) (edited (SetAttr (head o).id k a) m)
+    entry_holds : (vs : List Value) → (head o).operands ≡ vs → Holds (head o).id insertion (length vs) (edited (SetAttr (head o).id k a) m)
     unfolding holds entry_stands
     entry_holds vs e = record {
-      stood = entry_stands;
-      long = as_long x front (length vs) change (part_operands part (change_entry key_before k (Some a))) (stands_there m o front s).at.here ∙ (holds vs e).long;
+      located = entry_stands;
+      long = as_long x insertion (length vs) change (part_operands part (change_entry key_before k (Some a))) (stands_there m o insertion s).at.here ∙ (holds vs e).long;
     }
 
     entry_dominated_by : (v : Value) → dominated_by (head o).id v m ≡ true → dominated_by (head o).id v (edited (SetAttr (head o).id k a) m) ≡ true
     entry_dominated_by v e = headed.dominated_by_headed is_isolated (at x change) alike t x v ∙ e
 
-  pub free_mirror_comparison : (n : ℕ) (es : List Edit) → mirror_comparison m.tree n front o ≡ Some es → Free es m
+  pub free_mirror_comparison : (n : ℕ) (es : List Edit) → mirror_comparison m.tree n insertion o ≡ Some es → Free es m
   free_mirror_comparison n es e =
       let p = two_is (head o) _ es e in
       let w = when_some (named (codes "arith.cmpi") (head o).name) _ es p.makes in
@@ -242,24 +242,24 @@ module _ (m : Module) (o : Operation) (front : Place) (s : Point m o front) wher
       )
 
   -- three operands are set
-  sets_three : (n : Module) → Holds (head o).id front 3 n → (a b c : Value) → dominated_by (head o).id a n ≡ true → dominated_by (head o).id b n ≡ true → dominated_by (head o).id c n ≡ true
+  sets_three : (n : Module) → Holds (head o).id insertion 3 n → (a b c : Value) → dominated_by (head o).id a n ≡ true → dominated_by (head o).id b n ≡ true → dominated_by (head o).id c n ≡ true
       → Free (SetOperand (head o).id 0 a ∷ SetOperand (head o).id 1 b ∷ SetOperand (head o).id 2 c ∷ []) n
   sets_three n h a b c p q r =
-      let one = set_holds x front 3 n h 0 a refl p in
+      let one = set_holds x insertion 3 n h 0 a refl p in
       let n1 = edited (SetOperand x 0 a) n in
-      let q1 = set_dominated_by x front 3 n h 0 a refl p b q in
-      let r1 = set_dominated_by x front 3 n h 0 a refl p c r in
-      set_first x front 3 n h 0 a refl p (SetOperand x 1 b ∷ SetOperand x 2 c ∷ [])
-      (set_first x front 3 n1 one 1 b refl q1 (SetOperand x 2 c ∷ [])
-      (set_first x front 3 (edited (SetOperand x 1 b) n1) (set_holds x front 3 n1 one 1 b refl q1) 2 c refl (set_dominated_by x front 3 n1 one 1 b refl q1 c r1) [] tt))
+      let q1 = set_dominated_by x insertion 3 n h 0 a refl p b q in
+      let r1 = set_dominated_by x insertion 3 n h 0 a refl p c r in
+      set_first x insertion 3 n h 0 a refl p (SetOperand x 1 b ∷ SetOperand x 2 c ∷ [])
+      (set_first x insertion 3 n1 one 1 b refl q1 (SetOperand x 2 c ∷ [])
+      (set_first x insertion 3 (edited (SetOperand x 1 b) n1) (set_holds x insertion 3 n1 one 1 b refl q1) 2 c refl (set_dominated_by x insertion 3 n1 one 1 b refl q1 c r1) [] tt))
 
-  pub free_choose_opposite : (n : ℕ) (es : List Edit) → choose_opposite m.tree n front o ≡ Some es → Free es m
+  pub free_choose_opposite : (n : ℕ) (es : List Edit) → choose_opposite m.tree n insertion o ≡ Some es → Free es m
   free_choose_opposite n es e =
       let p = three_is (head o) _ es e in
       let w = when_some (named (codes "arith.select") (head o).name) _ es p.makes in
       let y = given_some (source t (codes "arith.xori") p.first) _ es w.1 in
       let q = two_is y.0 _ es y.2 in
       let u = when_some (is_number t 1 q.second) (Some (SetOperand x 0 q.first ∷ SetOperand x 1 p.third ∷ SetOperand x 2 p.second ∷ [])) es q.makes in
-      let trailing = dominated_by_after m o front s p.first (subst (In p.first) (sym p.operands) (inl refl)) y.0 (source_is t (codes "arith.xori") p.first y.0 y.1) q.first (subst (In q.first) (sym q.operands) (inl refl)) in
+      let trailing = dominated_by_after m o insertion s p.first (subst (In p.first) (sym p.operands) (inl refl)) y.0 (source_is t (codes "arith.xori") p.first y.0 y.1) q.first (subst (In q.first) (sym q.operands) (inl refl)) in
       subst (λ z. Free z m) (same_Some (SetOperand x 0 q.first ∷ SetOperand x 1 p.third ∷ SetOperand x 2 p.second ∷ []) es u.1)
       (sets_three m (holds (p.first ∷ p.second ∷ p.third ∷ []) p.operands) q.first p.third p.second trailing (third_seen p.first p.second p.third [] p.operands) (second_seen p.first p.second (p.third ∷ []) p.operands))

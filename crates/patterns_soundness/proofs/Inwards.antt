@@ -32,7 +32,7 @@ use Rattle.ir_event.proofs.of_tree_laws.Values.{not_own}
 use Rattle.ir_event.specs.Modules.{Module}
 use Rattle.rewriter_machine.specs.Contents.{edit_reason, edited}
 use Rattle.rewriter_machine.specs.Edits.{Move}
-use Rattle.patterns_base.proofs.Front.{stands_before}
+use Rattle.patterns_base.proofs.Preceding.{stands_before}
 use Rattle.patterns_base.proofs.Placed as placed
 use Rattle.patterns_base.proofs.Placed.{Following}
 use Rattle.patterns_base.proofs.Plans.{dominated_by}
@@ -62,14 +62,14 @@ abbrev pub IsFirst : List Operation → Operation → Type 0
 IsFirst [] t = Unit {0}
 IsFirst (p ∷ vs) t = (o : Operation) → In o vs → Before (head p).id (head o).id t
 
-module _ (x y r : ℕ) (front : Place) (hx hy : Header) (deep : ℕ) (y_opened : is_isolated hy.name ≡ false) (y_plain : is_table hy.name ≡ false)
-    (m : Module) (s : Across x y front hx hy deep m) (into : HasBlock y r m.tree) (z : Operation) (before : Before (head z).id y m.tree) (at : find (head z).id m.tree ≡ Some z) (vs : List Operation) (came : (o : Operation) → In o vs → Came y r m.tree o) (first : IsFirst vs m.tree)
-    (fit : Fit x y front hx hy deep z) (fits : (o : Operation) → In o vs → Fit x y front hx hy deep o) (lacks : (o : Operation) → In o vs → Lack z o) (users : UsedBy z vs m.tree) where
+module _ (x y r : ℕ) (insertion : Place) (hx hy : Header) (deep : ℕ) (y_opened : is_isolated hy.name ≡ false) (y_plain : is_table hy.name ≡ false)
+    (m : Module) (s : Across x y insertion hx hy deep m) (into : HasBlock y r m.tree) (z : Operation) (before : Before (head z).id y m.tree) (at : find (head z).id m.tree ≡ Some z) (vs : List Operation) (came : (o : Operation) → In o vs → Came y r m.tree o) (first : IsFirst vs m.tree)
+    (fit : Fit x y insertion hx hy deep z) (fits : (o : Operation) → In o vs → Fit x y insertion hx hy deep o) (lacks : (o : Operation) → In o vs → Lack z o) (users : UsedBy z vs m.tree) where
   abbrev t : Operation
   t = m.tree
 
   abbrev d : HasDistinctIds m.tree
-  d = s.stood.formed.distinct
+  d = s.located.wellformed.distinct
 
   abbrev zi : ℕ
   zi = (head z).id
@@ -112,14 +112,14 @@ module _ (x y r : ℕ) (front : Place) (hx hy : Header) (deep : ℕ) (y_opened :
   after = put (record { parent = y; region = r; before = first_came vs }) z (without (head z).id m.tree)
 
   abbrev d' : HasDistinctIds (put (record { parent = y; region = r; before = first_came vs }) z (without (head z).id m.tree))
-  d' = moving.after_distinct is_isolated is_table m s.stood.formed z (record { parent = y; region = r; before = first_came vs }) found root point outside
+  d' = moving.after_distinct is_isolated is_table m s.located.wellformed z (record { parent = y; region = r; before = first_came vs }) found root point outside
 
   -- then z is in the block
   pub now_inside : Inside y r (head z).id (put (record { parent = y; region = r; before = first_came vs }) z (without (head z).id m.tree))
-  now_inside = put_inside place_of_it z (without zi t) (moving.may is_isolated is_table m s.stood.formed z place_of_it found root point outside) y r refl refl
+  now_inside = put_inside place_of_it z (without zi t) (moving.may is_isolated is_table m s.located.wellformed z place_of_it found root point outside) y r refl refl
 
   pub now_found : find (head z).id (put (record { parent = y; region = r; before = first_came vs }) z (without (head z).id m.tree)) ≡ Some z
-  now_found = moving.itself_found is_isolated is_table m s.stood.formed z place_of_it found root point outside
+  now_found = moving.itself_found is_isolated is_table m s.located.wellformed z place_of_it found root point outside
 
   -- the operations that moved earlier stay
   module _ (o : Operation) (i : In o vs) where
@@ -128,12 +128,12 @@ module _ (x y r : ℕ) (front : Place) (hx hy : Header) (deep : ℕ) (y_opened :
 
     pub came_still : Came y r (put (record { parent = y; region = r; before = first_came vs }) z (without (head z).id m.tree)) o
     came_still = (
-      moving.inside_same is_isolated is_table m s.stood.formed z place_of_it found root point outside (head o).id other_there (lacks o i).0 y r (came o i).0,
-      moving.literal is_isolated is_table m s.stood.formed z place_of_it found root point outside o (came o i).1 (lacks o i).0 (lacks o i).1 (fits o i).y_out,
+      moving.inside_same is_isolated is_table m s.located.wellformed z place_of_it found root point outside (head o).id other_there (lacks o i).0 y r (came o i).0,
+      moving.literal is_isolated is_table m s.located.wellformed z place_of_it found root point outside o (came o i).1 (lacks o i).0 (lacks o i).1 (fits o i).y_out,
     )
 
     apart_of : eqb (head o).id (head z).id ≡ false
-    apart_of = kept.apart is_isolated is_table m s.stood.formed z place_of_it found root point outside (λ b. ⊥) (λ b h. absurd h) (λ b h. absurd h) (head o).id (lacks o i).0
+    apart_of = kept.apart is_isolated is_table m s.located.wellformed z place_of_it found root point outside (λ b. ⊥) (λ b h. absurd h) (λ b h. absurd h) (head o).id (lacks o i).0
 
   -- z comes before them
   pub now_first : IsFirst (z ∷ vs) (put (record { parent = y; region = r; before = first_came vs }) z (without (head z).id m.tree))
@@ -142,7 +142,7 @@ module _ (x y r : ℕ) (front : Place) (hx hy : Header) (deep : ℕ) (y_opened :
       go : (ws : List Operation) → vs ≡ ws → IsFirst ws m.tree → (o : Operation) → In o vs → Before (head z).id (head o).id (put (record { parent = y; region = r; before = first_came vs }) z (without (head z).id m.tree))
       go [] same f o i = absurd (subst (In o) same i)
       go (p ∷ ws) same f o i =
-          let to_first : Before (head z).id (head p).id after = put_before place_of_it z (without zi t) (moving.may is_isolated is_table m s.stood.formed z place_of_it found root point outside) (head p).id (ap first_came same) in
+          let to_first : Before (head z).id (head p).id after = put_before place_of_it z (without zi t) (moving.may is_isolated is_table m s.located.wellformed z place_of_it found root point outside) (head p).id (ap first_came same) in
           by_member (subst (In o) same i) to_first
         where
           by_member : In o (p ∷ ws) → Before (head z).id (head p).id (put (record { parent = y; region = r; before = first_came vs }) z (without (head z).id m.tree)) → Before (head z).id (head o).id (put (record { parent = y; region = r; before = first_came vs }) z (without (head z).id m.tree))
@@ -150,7 +150,7 @@ module _ (x y r : ℕ) (front : Place) (hx hy : Header) (deep : ℕ) (y_opened :
           by_member (inr k) b =
               let pi : In p vs = subst (In p) (sym same) (inl refl) in
               before_both (head z).id (head p).id (head o).id after d' b
-              (moving.before_same is_isolated is_table m s.stood.formed z place_of_it found root point outside (head o).id (other_there o i) (lacks o i).0 (head p).id (apart_of p pi) (f o k))
+              (moving.before_same is_isolated is_table m s.located.wellformed z place_of_it found root point outside (head o).id (other_there o i) (lacks o i).0 (head p).id (apart_of p pi) (f o k))
 
   -- the values that z needs dominate it there
   abbrev Any : Value → Type 0
@@ -160,25 +160,25 @@ module _ (x y r : ℕ) (front : Place) (hx hy : Header) (deep : ℕ) (y_opened :
   more v u e =
       let by_z : visible is_isolated t zi v ≡ true = visible_there is_isolated t d (stand z z_path.0) z_path.1 v ∙ e in
       let by_y = later_dominated_by is_isolated t d zi y before v by_z in
-      let yn = there_of (find y after) hy (moving.head_same is_isolated is_table m s.stood.formed z place_of_it found root point outside y y_there fit.y_out ∙ s.y_is) in
+      let yn = there_of (find y after) hy (moving.head_same is_isolated is_table m s.located.wellformed z place_of_it found root point outside y y_there fit.y_out ∙ s.y_is) in
       inner_dominated_by is_isolated after d' y r zi now_inside yn.0 yn.1 (ap (λ (h : Header). is_isolated h.name) yn.2 ∙ y_opened) v
-      (moving.dominance is_isolated is_table m s.stood.formed z place_of_it found root point outside y y_there fit.y_out v (not_its (eqb (owner_of v).0 zi) refl) ∙ by_y)
+      (moving.dominance is_isolated is_table m s.located.wellformed z place_of_it found root point outside y y_there fit.y_out v (not_its (eqb (owner_of v).0 zi) refl) ∙ by_y)
     where
       not_its : (b : Bool) → eqb (owner_of v).0 (head z).id ≡ b → eqb (owner_of v).0 (head z).id ≡ false
       not_its false k = k
       not_its true k = absurd (not_own is_isolated t d (stand z z_path.0) z_path.1 v e (eqb-true (owner_of v).0 zi k))
 
   users_ok : (k : ℕ) → k < length (head z).results → list_all (λ u. visible is_isolated (put (record { parent = y; region = r; before = first_came vs }) z (without (head z).id m.tree)) u.0 (Result (head z).id k)) (uses_of (Result (head z).id k) m.tree) ≡ true
-  users_ok k l = users_moved x y front hx hy deep m s z place_of_it found root point outside fit vs users (λ o i. (came o i).1) lacks (λ o i. (fits o i).y_out)
+  users_ok k l = users_moved x y insertion hx hy deep m s z place_of_it found root point outside fit vs users (λ o i. (came o i).1) lacks (λ o i. (fits o i).y_out)
       (λ o i j n. later_shows is_isolated after d' zi (head o).id (now_first o i) z now_found j (lt-ltb j (length (head z).results) n)) k l
 
   y_now : (o : Operation) × (find y (put (record { parent = y; region = r; before = first_came vs }) z (without (head z).id m.tree)) ≡ Some o) × (head o ≡ hy)
-  y_now = there_of (find y after) hy (moving.head_same is_isolated is_table m s.stood.formed z place_of_it found root point outside y y_there fit.y_out ∙ s.y_is)
+  y_now = there_of (find y after) hy (moving.head_same is_isolated is_table m s.located.wellformed z place_of_it found root point outside y y_there fit.y_out ∙ s.y_is)
 
   tables : table_of is_table (head z).id m.tree ≡ table_of is_table (head z).id (put (record { parent = y; region = r; before = first_came vs }) z (without (head z).id m.tree))
   tables =
       later_table is_table t d zi y before
-      ∙ sym (moving.table_same is_isolated is_table m s.stood.formed z place_of_it found root point outside y y_there fit.y_out)
+      ∙ sym (moving.table_same is_isolated is_table m s.located.wellformed z place_of_it found root point outside y y_there fit.y_out)
       ∙ sym (inner_table is_table after d' y r zi now_inside y_now.0 y_now.1 (ap (λ (h : Header). is_table h.name) y_now.2 ∙ y_plain))
 
   levels : fits_around (depth z) (around y m.tree) ≡ true
@@ -186,62 +186,62 @@ module _ (x y r : ℕ) (front : Place) (hx hy : Header) (deep : ℕ) (y_opened :
 
   -- the move isn't refused
   pub in_reason : edit_reason (Move (head z).id (record { parent = y; region = r; before = first_came vs })) m ≡ None
-  in_reason = moving.move_reason is_isolated is_table m s.stood.formed z place_of_it found root point outside z_path.0 z_path.1 Any (λ a b v c. tt) more users_ok y_there tables levels
+  in_reason = moving.move_reason is_isolated is_table m s.located.wellformed z place_of_it found root point outside z_path.0 z_path.1 Any (λ a b v c. tt) more users_ok y_there tables levels
 
-  in_formed : IsWellFormed is_isolated (record m { tree = put (record { parent = y; region = r; before = first_came vs }) z (without (head z).id m.tree) })
-  in_formed = moving.move_formed is_isolated is_table m s.stood.formed z place_of_it found root point outside z_path.0 z_path.1 Any (λ a b v c. tt) more users_ok y_there tables levels
+  in_wellformed : IsWellFormed is_isolated (record m { tree = put (record { parent = y; region = r; before = first_came vs }) z (without (head z).id m.tree) })
+  in_wellformed = moving.move_wellformed is_isolated is_table m s.located.wellformed z place_of_it found root point outside z_path.0 z_path.1 Any (λ a b v c. tt) more users_ok y_there tables levels
 
   pub in_is : edited (Move (head z).id (record { parent = y; region = r; before = first_came vs })) m ≡ record m { tree = put (record { parent = y; region = r; before = first_came vs }) z (without (head z).id m.tree) }
-  in_is = ap (λ q. record m { tree = q }) (moving.is_put is_isolated is_table m s.stood.formed z place_of_it found root point outside)
+  in_is = ap (λ q. record m { tree = q }) (moving.is_put is_isolated is_table m s.located.wellformed z place_of_it found root point outside)
 
   x_there : has_id x m.tree ≡ true
   x_there = (let o = there_of (find x t) hx s.x_is in let w = found_stands x t o.0 o.1 in ap (λ i. has_id i t) (sym w.2) ∙ stand_present [] t w.0 w.1)
 
   -- x and y stay as they were
-  pub in_across : Across x y front hx hy deep (record m { tree = put (record { parent = y; region = r; before = first_came vs }) z (without (head z).id m.tree) })
-  in_across = across_moved x y front hx hy deep m s z place_of_it found root point outside fit in_formed (λ v own e n.
+  pub in_across : Across x y insertion hx hy deep (record m { tree = put (record { parent = y; region = r; before = first_came vs }) z (without (head z).id m.tree) })
+  in_across = across_moved x y insertion hx hy deep m s z place_of_it found root point outside fit in_wellformed (λ v own e n.
       absurd (inner_unseen is_isolated after d' y r x zi
-      (moving.before_same is_isolated is_table m s.stood.formed z place_of_it found root point outside x x_there fit.x_out y
-      (kept.apart is_isolated is_table m s.stood.formed z place_of_it found root point outside (λ b. ⊥) (λ b h. absurd h) (λ b h. absurd h) y fit.y_out) s.before) now_inside v own n e))
+      (moving.before_same is_isolated is_table m s.located.wellformed z place_of_it found root point outside x x_there fit.x_out y
+      (kept.apart is_isolated is_table m s.located.wellformed z place_of_it found root point outside (λ b. ⊥) (λ b h. absurd h) (λ b h. absurd h) y fit.y_out) s.before) now_inside v own n e))
 
   pub in_block : (p q : ℕ) → has_id p z ≡ false → HasBlock p q m.tree → HasBlock p q (put (record { parent = y; region = r; before = first_came vs }) z (without (head z).id m.tree))
-  in_block p q out b = moving.block_same is_isolated is_table m s.stood.formed z place_of_it found root point outside p q out b
+  in_block p q out b = moving.block_same is_isolated is_table m s.located.wellformed z place_of_it found root point outside p q out b
 
   pub in_used : (v : Value) (u : ℕ × ℕ) → In u (uses_of v (put (record { parent = y; region = r; before = first_came vs }) z (without (head z).id m.tree))) → In u (uses_of v m.tree)
-  in_used = moving.used_before is_isolated is_table m s.stood.formed z place_of_it found root point outside
+  in_used = moving.used_before is_isolated is_table m s.located.wellformed z place_of_it found root point outside
 
   pub in_kept : (B : ℕ → Type 0) → ((b : ℕ) → B b → has_id b m.tree ≡ true) → ((b : ℕ) → B b → has_id b z ≡ false) → Kept is_isolated B m.tree (put (record { parent = y; region = r; before = first_came vs }) z (without (head z).id m.tree))
-  in_kept B all out = kept.moved_kept is_isolated is_table m s.stood.formed z place_of_it found root point outside B all out
+  in_kept B all out = kept.moved_kept is_isolated is_table m s.located.wellformed z place_of_it found root point outside B all out
 
   -- an operation before y that stays as it is
   pub in_moved : (o : Operation) → Lack z o → has_id y o ≡ false → Before (head o).id y m.tree → find (head o).id m.tree ≡ Some o
       → Before (head o).id y (put (record { parent = y; region = r; before = first_came vs }) z (without (head z).id m.tree)) × (find (head o).id (put (record { parent = y; region = r; before = first_came vs }) z (without (head z).id m.tree)) ≡ Some o)
   in_moved o lack far b at_o = (
-    moving.before_same is_isolated is_table m s.stood.formed z place_of_it found root point outside y y_there fit.y_out (head o).id
-        (kept.apart is_isolated is_table m s.stood.formed z place_of_it found root point outside (λ b. ⊥) (λ b h. absurd h) (λ b h. absurd h) (head o).id lack.0) b,
-    moving.literal is_isolated is_table m s.stood.formed z place_of_it found root point outside o at_o lack.0 lack.1 far,
+    moving.before_same is_isolated is_table m s.located.wellformed z place_of_it found root point outside y y_there fit.y_out (head o).id
+        (kept.apart is_isolated is_table m s.located.wellformed z place_of_it found root point outside (λ b. ⊥) (λ b h. absurd h) (λ b h. absurd h) (head o).id lack.0) b,
+    moving.literal is_isolated is_table m s.located.wellformed z place_of_it found root point outside o at_o lack.0 lack.1 far,
   )
 
   -- the values that dominated the first moved operation dominate z, and the values that dominated the moved ones still
   -- do
   pub in_dominated_by : (v : Value) → eqb (owner_of v).0 (head z).id ≡ false → ((o : Operation) → In o vs → dominated_by (head o).id v m ≡ true) → (p : Operation) (ws : List Operation) → vs ≡ p ∷ ws → (o : Operation) → In o (z ∷ vs)
       → visible is_isolated (put (record { parent = y; region = r; before = first_came vs }) z (without (head z).id m.tree)) (head o).id v ≡ true
-  in_dominated_by v other seen p ws same o (inr i) = moving.dominance is_isolated is_table m s.stood.formed z place_of_it found root point outside (head o).id (other_there o i) (lacks o i).0 v other ∙ seen o i
+  in_dominated_by v other seen p ws same o (inr i) = moving.dominance is_isolated is_table m s.located.wellformed z place_of_it found root point outside (head o).id (other_there o i) (lacks o i).0 v other ∙ seen o i
   in_dominated_by v other seen p ws same o (inl e) =
       let pi : In p vs = subst (In p) (sym same) (inl refl) in
       let left = there_left t z d found (head p).id (other_there p pi) (lacks p pi).0 in
       let b : Following (head p).id place_of_it (without zi t) = inside_after (head p).id place_of_it (without zi t) (ap first_came same) (inside_left zi y r (head p).id t d left (came p pi).0) in
       ap (λ (q : Operation). visible is_isolated after (head q).id v) e
-      ∙ placed.new_dominated_by (head p).id place_of_it (without zi t) (left_distinct zi t d) b z (moving.may is_isolated is_table m s.stood.formed z place_of_it found root point outside) is_isolated v
+      ∙ placed.new_dominated_by (head p).id place_of_it (without zi t) (left_distinct zi t d) b z (moving.may is_isolated is_table m s.located.wellformed z place_of_it found root point outside) is_isolated v
       (dominance_stays zi t d (head p).id left is_isolated v other ∙ seen p pi)
 
-  pub in_side : (q : ℕ) (targs : List TypeTerm) (ws : List Operation) → ((o : Operation) → In o ws → (has_id (head z).id o ≡ false) × (has_id y o ≡ false)) → region_at q (regions s.stood.at.here) ≡ Some (block targs (joined_ops ws no_ops))
-      → region_at q (regions in_across.stood.at.here) ≡ Some (block targs (joined_ops ws no_ops))
-  in_side q targs ws lacks side = side_moved x y front hx hy deep m s z place_of_it found root point outside fit in_across.stood q targs ws lacks (λ i. two_apart x y front hx hy deep m s i && eqb q r) side
+  pub in_side : (q : ℕ) (targs : List TypeTerm) (ws : List Operation) → ((o : Operation) → In o ws → (has_id (head z).id o ≡ false) × (has_id y o ≡ false)) → region_at q (regions s.located.at.here) ≡ Some (block targs (joined_ops ws no_ops))
+      → region_at q (regions in_across.located.at.here) ≡ Some (block targs (joined_ops ws no_ops))
+  in_side q targs ws lacks side = side_moved x y insertion hx hy deep m s z place_of_it found root point outside fit in_across.located q targs ws lacks (λ i. two_apart x y insertion hx hy deep m s i && eqb q r) side
 
   pub in_count : op_count (put (record { parent = y; region = r; before = first_came vs }) z (without (head z).id m.tree)) ≡ op_count m.tree
-  in_count = count_moved x y front hx hy deep m s z place_of_it found root point outside fit
+  in_count = count_moved x y insertion hx hy deep m s z place_of_it found root point outside fit
 
   -- if none moved earlier, the operations in the block come before z
   pub in_last : vs ≡ [] → (c : ℕ) → Inside y r c (put (record { parent = y; region = r; before = first_came vs }) z (without (head z).id m.tree)) → eqb c (head z).id ≡ false → Before c (head z).id (put (record { parent = y; region = r; before = first_came vs }) z (without (head z).id m.tree))
-  in_last none c i apart = put_last place_of_it z (without zi t) (moving.may is_isolated is_table m s.stood.formed z place_of_it found root point outside) (ap first_came none) c i apart
+  in_last none c i apart = put_last place_of_it z (without zi t) (moving.may is_isolated is_table m s.located.wellformed z place_of_it found root point outside) (ap first_came none) c i apart

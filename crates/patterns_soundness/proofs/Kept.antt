@@ -21,7 +21,7 @@ use Rattle.ir_event.specs.tree_laws.Restores.{MayPut}
 use Rattle.ir_event.specs.tree_laws.Values.{has_value}
 use Rattle.ir_event.proofs.of_tree_laws.Around.{present_stand, stand_present}
 use Rattle.ir_event.proofs.of_tree_laws.Edited.{around_stays, head_stays, put_op_count, put_uses, dominance_stays}
-use Rattle.ir_event.proofs.of_tree_laws.Formed.{ids_below}
+use Rattle.ir_event.proofs.of_tree_laws.Wellformed.{ids_below}
 use Rattle.ir_event.proofs.of_tree_laws.Listed.{both_hold, each_all, in_left, in_parts, in_right}
 use Rattle.ir_event.proofs.of_tree_laws.PutForm as put_form
 use Rattle.ir_event.proofs.of_tree_laws.Reasoned.{none_ids}
@@ -123,20 +123,20 @@ module _ {N T A : Type 0} (isolated : N → Bool) (m : ModuleOf N T A) (w : IsWe
         | inr k ↦ elim (in_parts u (uses_of v (with_id m.next o)) p.1 k) [ inl l ↦ inr l | inr l ↦ inl (subst (In u) (sym p.2) (in_right u p.0 p.1 l)) ]
       ]
 
-  module _ (parent : has_id place.parent m.tree ≡ true) (fits : op_fits o ≡ true) (room : nat_lt (op_count m.tree) most_ops ≡ true) (more : nat_lt m.next most_next ≡ true) (levels : fits_around 0 (around place.parent m.tree) ≡ true)
+  module _ (parent : has_id place.parent m.tree ≡ true) (fits : op_fits o ≡ true) (headroom : nat_lt (op_count m.tree) most_ops ≡ true) (more : nat_lt m.next most_next ≡ true) (levels : fits_around 0 (around place.parent m.tree) ≡ true)
       (values : (v : Value) → In v (head o).operands → has_value v m.tree ≡ true) (seen : (v : Value) → In v (head o).operands → visible isolated (put place (with_id m.next o) m.tree) m.next v ≡ true) where
     pub made_free : put_reason isolated place o m.next m.tree ≡ None
     made_free =
         passed _ _ _ parent
         (passed _ _ _ point
-        (passed _ _ _ (both_hold _ _ room fits)
+        (passed _ _ _ (both_hold _ _ headroom fits)
         (passed _ _ _ more
         (passed _ _ _ levels
         (passed _ _ _ (each_all (λ v. has_value v m.tree) (head o).operands values)
         (passed _ _ _ (each_all (visible isolated after m.next) (head o).operands seen) refl))))))
 
-    pub made_formed : IsWellFormed isolated (record { tree = put place (with_id m.next o) m.tree; next = m.next + 1 })
-    made_formed = put_keeps isolated place o m w leaf made_free
+    pub made_wellformed : IsWellFormed isolated (record { tree = put place (with_id m.next o) m.tree; next = m.next + 1 })
+    made_wellformed = put_keeps isolated place o m w leaf made_free
 
 -- an operation is moved
 module _ {N T A : Type 0} (isolated is_table : N → Bool) (m : ModuleOf N T A) (w : IsWellFormed isolated m) (z : OpOf N T A) (place : Place) (found : find (head z).id m.tree ≡ Some z) (root : eqb (head m.tree).id (head z).id ≡ false) (point : has_place place m.tree ≡ true) (outside : leads_inside place (Some z) ≡ false)

@@ -33,7 +33,7 @@ use Rattle.patterns_soundness.specs.base.Looks.{Header, is_index}
 use Rattle.patterns_soundness.specs.base.Made.{bridge}
 use Rattle.patterns_soundness.specs.base.Makes.{arguments_from}
 use Rattle.patterns_soundness.specs.base.Lowering.{bridges, end_of, indices, marked}
-use Rattle.patterns_soundness.proofs.CastsAccepted.{Room}
+use Rattle.patterns_soundness.proofs.CastsAccepted.{Headroom}
 use Rattle.patterns_soundness.proofs.ChoicesAccepted.{cast_uses}
 use Rattle.patterns_soundness.proofs.Kept as kept
 use Rattle.patterns_soundness.proofs.Kept.{Kept, kept_both, kept_none}
@@ -52,13 +52,13 @@ short : (done : List TypeTerm) (ty : TypeTerm) (tys : List TypeTerm) → length 
 short [] ty tys = omega arith
 short (d ∷ done) ty tys = (let k = short done ty tys in omega (arith, k))
 
-module _ (x y : ℕ) (front : Place) (hx hy : Header) (deep : ℕ) (y_opened : is_isolated hy.name ≡ false) (args zargs : List TypeTerm) (zs : List Operation) (lacks : (o : Operation) → In o zs → has_id y o ≡ false) (room_around : deep + 1 ≤ most_around) where
+module _ (x y : ℕ) (insertion : Place) (hx hy : Header) (deep : ℕ) (y_opened : is_isolated hy.name ≡ false) (args zargs : List TypeTerm) (zs : List Operation) (lacks : (o : Operation) → In o zs → has_id y o ≡ false) (headroom_around : deep + 1 ≤ most_around) where
   -- y comes before x and has these block arguments, and x has these operations
   pub record Led (m : Module) : Type 0 where
-    pub across : Across x y front hx hy deep m
+    pub across : Across x y insertion hx hy deep m
     pub into : HasBlock y 0 m.tree
     pub args_are : into.args ≡ map lowered_type args
-    pub side : region_at 0 (regions across.stood.at.here) ≡ Some (block zargs (joined_ops zs no_ops))
+    pub side : region_at 0 (regions across.located.at.here) ≡ Some (block zargs (joined_ops zs no_ops))
 
   -- a cast in its block
   pub record Cast (c : ℕ) (m : Module) : Type 0 where
@@ -81,12 +81,12 @@ module _ (x y : ℕ) (front : Place) (hx hy : Header) (deep : ℕ) (y_opened : i
       ∙ ap (λ l. slice_get l k) s.args_are
 
   -- one cast is made
-  module _ (m : Module) (s : Led m) (k : ℕ) (few : k < length args) (rest : ℕ) (room : Room (rest + 1) m) where
+  module _ (m : Module) (s : Led m) (k : ℕ) (few : k < length args) (rest : ℕ) (headroom : Headroom (rest + 1) m) where
     abbrev t : Operation
     t = m.tree
 
     abbrev w : IsWellFormed is_isolated m
-    w = s.across.stood.formed
+    w = s.across.located.wellformed
 
     abbrev new : Operation
     new = bridge Index (Arg y 0 k)
@@ -132,7 +132,7 @@ module _ (x y : ℕ) (front : Place) (hx hy : Header) (deep : ℕ) (y_opened : i
         (lt-ltb k (length s.into.args) (let n = lowered_length in let a = ap length s.args_are in omega (arith, few, n, a)))
 
     levels : fits_around 0 (around y m.tree) ≡ true
-    levels = ap (fits_around 0) (later_around t w.distinct y x s.across.before ∙ s.across.depths) ∙ le-leb (deep + 1 + 0) most_around (omega (arith, room_around))
+    levels = ap (fits_around 0) (later_around t w.distinct y x s.across.before ∙ s.across.depths) ∙ le-leb (deep + 1 + 0) most_around (omega (arith, headroom_around))
 
     values : (v : Value) → In v (Arg y 0 k ∷ []) → has_value v m.tree ≡ true
     values v (inl e) = ap (λ z. has_value z t) e ∙ there_now
@@ -143,20 +143,20 @@ module _ (x y : ℕ) (front : Place) (hx hy : Header) (deep : ℕ) (y_opened : i
     all_seen v (inr e) = absurd e
 
     roomy : nat_lt (op_count m.tree) most_ops ≡ true
-    roomy = (let a = room.ops in lt-ltb (op_count m.tree) most_ops (omega (arith, a)))
+    roomy = (let a = headroom.ops in lt-ltb (op_count m.tree) most_ops (omega (arith, a)))
 
     numbered : nat_lt m.next most_next ≡ true
-    numbered = (let a = room.ids in lt-ltb m.next most_next (omega (arith, a)))
+    numbered = (let a = headroom.ids in lt-ltb m.next most_next (omega (arith, a)))
 
     pub lead_reason : edit_reason (Make (end_of y 0) (bridge Index (Arg y 0 k))) m ≡ None
     lead_reason = kept.made_free is_isolated m w (end_of y 0) point new refl y_there refl roomy numbered levels values all_seen
 
-    lead_formed : IsWellFormed is_isolated (edited (Make (end_of y 0) (bridge Index (Arg y 0 k))) m)
-    lead_formed = kept.made_formed is_isolated m w (end_of y 0) point new refl y_there refl roomy numbered levels values all_seen
+    lead_wellformed : IsWellFormed is_isolated (edited (Make (end_of y 0) (bridge Index (Arg y 0 k))) m)
+    lead_wellformed = kept.made_wellformed is_isolated m w (end_of y 0) point new refl y_there refl roomy numbered levels values all_seen
 
     pub lead_on : Led (edited (Make (end_of y 0) (bridge Index (Arg y 0 k))) m)
     lead_on = record {
-      across = within_y.across_made x y 0 front hx hy deep m s.across (end_of y 0) point refl refl new refl unused lead_formed;
+      across = within_y.across_made x y 0 insertion hx hy deep m s.across (end_of y 0) point refl refl new refl unused lead_wellformed;
       into = record {
         here = put (end_of y 0) (with_id m.next new) s.into.here;
         found = y_found;
@@ -165,7 +165,7 @@ module _ (x y : ℕ) (front : Place) (hx hy : Header) (deep : ℕ) (y_opened : i
         is = each_at (put_here (end_of y 0) (with_id m.next new)) 0 s.into.here s.into.args s.into.list s.into.is;
       };
       args_are = s.args_are;
-      side = within_y.side_made x y 0 front hx hy deep m s.across (end_of y 0) point refl refl new refl unused lead_formed (within_y.across_made x y 0 front hx hy deep m s.across (end_of y 0) point refl refl new refl unused lead_formed).stood 0 zargs zs lacks s.side;
+      side = within_y.side_made x y 0 insertion hx hy deep m s.across (end_of y 0) point refl refl new refl unused lead_wellformed (within_y.across_made x y 0 insertion hx hy deep m s.across (end_of y 0) point refl refl new refl unused lead_wellformed).located 0 zargs zs lacks s.side;
     }
 
     pub lead_cast : Cast m.next (edited (Make (end_of y 0) (bridge Index (Arg y 0 k))) m)
@@ -183,8 +183,8 @@ module _ (x y : ℕ) (front : Place) (hx hy : Header) (deep : ℕ) (y_opened : i
       | inr e ↦ absurd (subst (In u) (cast_uses m.next Index (Arg y 0 k) v apart) e)
     ]
 
-    pub lead_rooms : (j : ℕ) → Room (j + 1) m → Room j (edited (Make (end_of y 0) (bridge Index (Arg y 0 k))) m)
-    lead_rooms j r = (let a = r.ops in let b = r.ids in let c = kept.made_count is_isolated m w (end_of y 0) point new refl in record { ops = omega (arith, a, c); ids = omega (arith, b) })
+    pub lead_headrooms : (j : ℕ) → Headroom (j + 1) m → Headroom j (edited (Make (end_of y 0) (bridge Index (Arg y 0 k))) m)
+    lead_headrooms j r = (let a = r.ops in let b = r.ids in let c = kept.made_count is_isolated m w (end_of y 0) point new refl in record { ops = omega (arith, a, c); ids = omega (arith, b) })
 
   cast_kept : (m n : Module) → Kept is_isolated (λ b. has_id b m.tree ≡ true) m.tree n.tree → (c : ℕ) → has_id c m.tree ≡ true → Cast c m → Cast c n
   cast_kept m n k c h s = record { inside = k.inside y 0 c h s.inside; results = ap (option_map (λ (z : Header). z.results)) (k.heads c h) ∙ s.results }
@@ -196,14 +196,14 @@ module _ (x y : ℕ) (front : Place) (hx hy : Header) (deep : ℕ) (y_opened : i
     pub made : AreNew ms k m.next tys (all_edited (bridges Index (end_of y 0) ms (arguments_from y k tys)) m)
     pub uses : (v : Value) → ((j : ℕ) → same_value v (Arg y 0 j) ≡ false) → (u : ℕ × ℕ) → In u (uses_of v (all_edited (bridges Index (end_of y 0) ms (arguments_from y k tys)) m).tree) → In u (uses_of v m.tree)
     pub next : (all_edited (bridges Index (end_of y 0) ms (arguments_from y k tys)) m).next ≡ m.next + marked ms
-    pub rooms : (j : ℕ) → Room (marked ms + j) m → Room j (all_edited (bridges Index (end_of y 0) ms (arguments_from y k tys)) m)
+    pub headrooms : (j : ℕ) → Headroom (marked ms + j) m → Headroom j (all_edited (bridges Index (end_of y 0) ms (arguments_from y k tys)) m)
 
-  pub lead_all : (ms : List Bool) (done tys : List TypeTerm) → length ms ≡ length tys → args ≡ done ++ tys → (k : ℕ) → k ≡ length done → (m : Module) → Led m → Room (marked ms) m → LedOn ms k tys m
-  lead_all [] done [] l e k at m s room = record { free = λ fs f. f; led = s; stays = kept_none is_isolated (λ b. has_id b m.tree ≡ true) m.tree (λ b h. h); made = tt; uses = λ v a u i. i; next = omega arith; rooms = λ j r. (let a = r.ops in let b = r.ids in record { ops = omega (arith, a); ids = omega (arith, b) }) }
-  lead_all [] done (ty ∷ tys) l e k at m s room = absurd (omega (arith, l))
-  lead_all (b ∷ ms) done [] l e k at m s room = absurd (omega (arith, l))
-  lead_all (false ∷ ms) done (ty ∷ tys) l e k at m s room =
-      let later = lead_all ms (done ++ ty ∷ []) tys (omega (arith, l)) (e ∙ sym (append_assoc done (ty ∷ []) tys)) (k + 1) (let z = length-append done (ty ∷ []) in omega (arith, z, at)) m s room in
+  pub lead_all : (ms : List Bool) (done tys : List TypeTerm) → length ms ≡ length tys → args ≡ done ++ tys → (k : ℕ) → k ≡ length done → (m : Module) → Led m → Headroom (marked ms) m → LedOn ms k tys m
+  lead_all [] done [] l e k at m s headroom = record { free = λ fs f. f; led = s; stays = kept_none is_isolated (λ b. has_id b m.tree ≡ true) m.tree (λ b h. h); made = tt; uses = λ v a u i. i; next = omega arith; headrooms = λ j r. (let a = r.ops in let b = r.ids in record { ops = omega (arith, a); ids = omega (arith, b) }) }
+  lead_all [] done (ty ∷ tys) l e k at m s headroom = absurd (omega (arith, l))
+  lead_all (b ∷ ms) done [] l e k at m s headroom = absurd (omega (arith, l))
+  lead_all (false ∷ ms) done (ty ∷ tys) l e k at m s headroom =
+      let later = lead_all ms (done ++ ty ∷ []) tys (omega (arith, l)) (e ∙ sym (append_assoc done (ty ∷ []) tys)) (k + 1) (let z = length-append done (ty ∷ []) in omega (arith, z, at)) m s headroom in
       record {
         free = later.free;
         led = later.led;
@@ -211,16 +211,16 @@ module _ (x y : ℕ) (front : Place) (hx hy : Header) (deep : ℕ) (y_opened : i
         made = (argument_type (all_edited (bridges Index (end_of y 0) ms (arguments_from y (k + 1) tys)) m) later.led k ∙ (λ i. slice_get (map lowered_type (e i)) (at i)) ∙ slice_at done ty tys, later.made);
         uses = later.uses;
         next = later.next;
-        rooms = later.rooms;
+        headrooms = later.headrooms;
       }
-  lead_all (true ∷ ms) done (ty ∷ tys) l e k at m s room =
+  lead_all (true ∷ ms) done (ty ∷ tys) l e k at m s headroom =
       let few : k < length args = (let z = short done ty tys in let q = length-map (done ++ ty ∷ tys) lowered_type in let p = ap length e in omega (arith, z, q, p, at)) in
       let n = edited (Make (end_of y 0) (bridge Index (Arg y 0 k))) m in
-      let later = lead_all ms (done ++ ty ∷ []) tys (omega (arith, l)) (e ∙ sym (append_assoc done (ty ∷ []) tys)) (k + 1) (let z = length-append done (ty ∷ []) in omega (arith, z, at)) n (lead_on m s k few (marked ms) room) (lead_rooms m s k few (marked ms) room (marked ms) room) in
-      let one = lead_kept m s k few (marked ms) room in
+      let later = lead_all ms (done ++ ty ∷ []) tys (omega (arith, l)) (e ∙ sym (append_assoc done (ty ∷ []) tys)) (k + 1) (let z = length-append done (ty ∷ []) in omega (arith, z, at)) n (lead_on m s k few (marked ms) headroom) (lead_headrooms m s k few (marked ms) headroom (marked ms) headroom) in
+      let one = lead_kept m s k few (marked ms) headroom in
       let end = all_edited (bridges Index (end_of y 0) ms (arguments_from y (k + 1) tys)) n in
       record {
-        free = λ fs f. (lead_reason m s k few (marked ms) room, later.free fs f);
+        free = λ fs f. (lead_reason m s k few (marked ms) headroom, later.free fs f);
         led = later.led;
         stays = kept_both is_isolated (λ b. has_id b m.tree ≡ true) m.tree n.tree end.tree one
             (record {
@@ -231,8 +231,8 @@ module _ (x y : ℕ) (front : Place) (hx hy : Header) (deep : ℕ) (y_opened : i
               inside = λ p r b h q. later.stays.inside p r b (one.present b h) q;
               arounds = λ b h. later.stays.arounds b (one.present b h);
             });
-        made = (cast_kept n end later.stays m.next (lead_there m s k few (marked ms) room) (lead_cast m s k few (marked ms) room), later.made);
-        uses = λ v a u i. lead_uses m s k few (marked ms) room v (a k) u (later.uses v a u i);
+        made = (cast_kept n end later.stays m.next (lead_there m s k few (marked ms) headroom) (lead_cast m s k few (marked ms) headroom), later.made);
+        uses = λ v a u i. lead_uses m s k few (marked ms) headroom v (a k) u (later.uses v a u i);
         next = (let q = later.next in omega (arith, q));
-        rooms = λ j r. later.rooms j (lead_rooms m s k few (marked ms) room (marked ms + j) (let a = r.ops in let b = r.ids in record { ops = omega (arith, a); ids = omega (arith, b) }));
+        headrooms = λ j r. later.headrooms j (lead_headrooms m s k few (marked ms) headroom (marked ms + j) (let a = r.ops in let b = r.ids in record { ops = omega (arith, a); ids = omega (arith, b) }));
       }

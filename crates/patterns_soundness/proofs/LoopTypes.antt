@@ -48,13 +48,13 @@ row_that f None x e = absurd cc
 row_that f (Some row) x e = (row, refl, cc)
 
 -- the types that a table entry requires
-pub record Asked : Type 0 where
+pub record Requested : Type 0 where
   pub operands : TypesRow
   pub results : TypesRow
   pub regions : List RegionRow
 
-abbrev asked_in : Row → Asked
-asked_in row = record { operands = row.operands; results = row.results; regions = row.regions }
+abbrev requested_in : Row → Requested
+requested_in row = record { operands = row.operands; results = row.results; regions = row.regions }
 
 -- the known types, by what the table entry requires of operands
 abbrev pub known_by : TypesRow → Surroundings → Known
@@ -67,35 +67,35 @@ known_by operands s = record {
 }
 
 -- the types of a verified operation with this table entry
-pub record Fitting (m : Module) (o : Operation) (a : Asked) : Type 0 where
+pub record Fitting (m : Module) (o : Operation) (a : Requested) : Type 0 where
   pub at : Surroundings
   pub types : at.types ≡ map (λ v. type_of_value v m.tree) (head o).operands
   pub operands : types_fit (known_by a.operands at) a.operands at.types ≡ true
   pub results : types_fit (known_by a.operands at) a.results (there (head o).results) ≡ true
   pub regions : any_differ (known_by a.operands at) a.regions (node_of o) ≡ false
 
-pub fitting : (m : Module) (o : Operation) (front : Place) → Point m o front → (a : Asked) → option_map asked_in (row_of (head o).name) ≡ Some a → Fitting m o a
-fitting m o front s a e =
-    let w = row_that asked_in (row_of (head o).name) a e in
-    let u = unbroken_there m o front s w.0 w.1 in
+pub fitting : (m : Module) (o : Operation) (insertion : Place) → Point m o insertion → (a : Requested) → option_map requested_in (row_of (head o).name) ≡ Some a → Fitting m o a
+fitting m o insertion s a e =
+    let w = row_that requested_in (row_of (head o).name) a e in
+    let u = unbroken_there m o insertion s w.0 w.1 in
     let z = surround m.tree (stand o u.0) in
     record {
       at = z;
       types = refl;
-      operands = sym (ap (λ (b : Asked). types_fit (known_by b.operands z) b.operands z.types) w.2) ∙ not-false _ (neither (is_no_number (known_by w.0.operands z).number) _ u.1.operands).1;
+      operands = sym (ap (λ (b : Requested). types_fit (known_by b.operands z) b.operands z.types) w.2) ∙ not-false _ (neither (is_no_number (known_by w.0.operands z).number) _ u.1.operands).1;
       results = ap (λ l. types_fit (known_by a.operands z) a.results (there l)) (ap (λ h. h.results) (sym (head_shown o)))
-          ∙ sym (ap (λ (b : Asked). types_fit (known_by b.operands z) b.results (there (node_of o).head.results)) w.2) ∙ not-false _ u.1.results;
-      regions = sym (ap (λ (b : Asked). any_differ (known_by b.operands z) b.regions (node_of o)) w.2) ∙ u.1.arguments;
+          ∙ sym (ap (λ (b : Requested). types_fit (known_by b.operands z) b.results (there (node_of o).head.results)) w.2) ∙ not-false _ u.1.results;
+      regions = sym (ap (λ (b : Requested). any_differ (known_by b.operands z) b.regions (node_of o)) w.2) ∙ u.1.arguments;
     }
 
 -- values of some types that dominate x
-pub given_from : (x : ℕ) (front : Place) (m : Module) (vs : List Value) (tys : List TypeTerm) → same_types (map (λ v. type_of_value v m.tree) vs) (there tys) ≡ true → ((v : Value) → In v vs → dominated_by x v m ≡ true) → AreGiven x front vs tys m
-given_from x front m [] [] e seen = tt
-given_from x front m [] (ty ∷ tys) e seen = absurd cc
-given_from x front m (v ∷ vs) [] e seen = absurd cc
-given_from x front m (v ∷ vs) (ty ∷ tys) e seen =
+pub given_from : (x : ℕ) (insertion : Place) (m : Module) (vs : List Value) (tys : List TypeTerm) → same_types (map (λ v. type_of_value v m.tree) vs) (there tys) ≡ true → ((v : Value) → In v vs → dominated_by x v m ≡ true) → AreGiven x insertion vs tys m
+given_from x insertion m [] [] e seen = tt
+given_from x insertion m [] (ty ∷ tys) e seen = absurd cc
+given_from x insertion m (v ∷ vs) [] e seen = absurd cc
+given_from x insertion m (v ∷ vs) (ty ∷ tys) e seen =
     let b = both (option_eq same_type (type_of_value v m.tree) (Some ty)) _ e in
-    ((seen v (inl refl), one (type_of_value v m.tree) b.0), given_from x front m vs tys b.1 (λ w i. seen w (inr i)))
+    ((seen v (inl refl), one (type_of_value v m.tree) b.0), given_from x insertion m vs tys b.1 (λ w i. seen w (inr i)))
   where
     one : (o : Option TypeTerm) → option_eq same_type o (Some ty) ≡ true → (u : TypeTerm) × (o ≡ Some u) × (same_type ty u ≡ true)
     one None e = absurd cc
@@ -108,27 +108,27 @@ any_types = record { first = []; more = Some type.Any }
 abbrev initial_types : TypesRow
 initial_types = record { first = []; more = Some type.Initial }
 
-abbrev pub while_asks : Asked
+abbrev pub while_asks : Requested
 while_asks = record {
   operands = record { first = []; more = Some type.Any };
   results = record { first = []; more = Some type.Any };
   regions = record { arguments = record { first = []; more = Some type.Initial }; may_be_empty = false } ∷ record { arguments = record { first = []; more = Some type.Result }; may_be_empty = false } ∷ [];
 }
 
-while_asked : option_map asked_in (row_of (codes "scf.while")) ≡ Some while_asks
+while_requested : option_map requested_in (row_of (codes "scf.while")) ≡ Some while_asks
 unfolding row_of rows
-while_asked = refl
+while_requested = refl
 
-abbrev pub for_asks : Asked
+abbrev pub for_asks : Requested
 for_asks = record {
   operands = record { first = type.Number ∷ type.Number ∷ type.Number ∷ []; more = Some type.Any };
   results = record { first = []; more = Some type.Initial };
   regions = record { arguments = record { first = type.Number ∷ []; more = Some type.Initial }; may_be_empty = false } ∷ [];
 }
 
-for_asked : option_map asked_in (row_of (codes "scf.for")) ≡ Some for_asks
+for_requested : option_map requested_in (row_of (codes "scf.for")) ≡ Some for_asks
 unfolding row_of rows
-for_asked = refl
+for_requested = refl
 
 pub while_opened : is_isolated (codes "scf.while") ≡ false
 unfolding is_isolated
@@ -146,21 +146,21 @@ pub for_plain : is_table (codes "scf.for") ≡ false
 unfolding is_table
 for_plain = refl
 
-module _ (m : Module) (o : Operation) (front : Place) (s : Point m o front) where
+module _ (m : Module) (o : Operation) (insertion : Place) (s : Point m o insertion) where
   abbrev types_of : List Value → List (Option TypeTerm)
   types_of vs = map (λ v. type_of_value v m.tree) vs
 
   -- the arguments of a while loop's first block have the types of its operands
   pub while_arguments : (head o).name ≡ codes "scf.while" → (args : List TypeTerm) → block_at 0 (node_of o) ≡ Some args → same_types (map (λ v. type_of_value v m.tree) (head o).operands) (there args) ≡ true
   while_arguments name args e =
-      let w = fitting m o front s while_asks (ap (λ n. option_map asked_in (row_of n)) name ∙ while_asked) in
+      let w = fitting m o insertion s while_asks (ap (λ n. option_map requested_in (row_of n)) name ∙ while_requested) in
       let k = known_by while_asks.operands w.at in
       let a = neither (arguments_differ k (record { arguments = initial_types; may_be_empty = false }) (block_at 0 (node_of o))) _ w.regions in
       ap (λ l. same_types l (there args)) (sym w.types) ∙ not-false _ (sym (ap (arguments_differ k (record { arguments = initial_types; may_be_empty = false })) e) ∙ a.0)
 
   module _ (name : (head o).name ≡ codes "scf.for") (lower upper number : Value) (inits : List Value) (operands : (head o).operands ≡ lower ∷ upper ∷ number ∷ inits) where
     for_fits : Fitting m o for_asks
-    for_fits = fitting m o front s for_asks (ap (λ n. option_map asked_in (row_of n)) name ∙ for_asked)
+    for_fits = fitting m o insertion s for_asks (ap (λ n. option_map requested_in (row_of n)) name ∙ for_requested)
 
     types_are : for_fits.at.types ≡ map (λ v. type_of_value v m.tree) (lower ∷ upper ∷ number ∷ inits)
     types_are = for_fits.types ∙ ap (map (λ v. type_of_value v m.tree)) operands
@@ -221,30 +221,30 @@ unfolding row_of rows
 condition_listed = refl
 
 -- the types of the operands of the condition in a while loop's first block
-pub condition_types : (m : Module) (o : Operation) (front : Place) → Point m o front → (head o).name ≡ codes "scf.while" → (e : Ended) → body m.tree o 0 ≡ Some e → same_types (there (head o).results) (drop 1 (map (λ v. type_of_value v m.tree) e.last.operands)) ≡ true
-condition_types m o front s name e k =
+pub condition_types : (m : Module) (o : Operation) (insertion : Place) → Point m o insertion → (head o).name ≡ codes "scf.while" → (e : Ended) → body m.tree o 0 ≡ Some e → same_types (there (head o).results) (drop 1 (map (λ v. type_of_value v m.tree) e.last.operands)) ≡ true
+condition_types m o insertion s name e k =
     let w = found_stands (head o).id m.tree o s.found in
     let path = w.0.path in
     let here : In (stand o path) (stands [] m.tree) = subst (λ (z : Operation). In (stand z path) (stands [] m.tree)) w.3 w.1 in
     let n = ending m.tree o 0 e k in
-    let row = row_that asked_in (row_of (head o).name) while_asks (ap (λ n. option_map asked_in (row_of n)) name ∙ while_asked) in
-    let u = verified_unbroken m.tree (stand o path) row.0 s.verified (stand_of_member m.tree s.formed.distinct (stand o path) here) row.1 in
+    let row = row_that requested_in (row_of (head o).name) while_asks (ap (λ n. option_map requested_in (row_of n)) name ∙ while_requested) in
+    let u = verified_unbroken m.tree (stand o path) row.0 s.verified (stand_of_member m.tree s.wellformed.distinct (stand o path) here) row.1 in
     go path here n row.0 row.1 u
   where
     go : (path : List (StepOf (List ℕ) TypeTerm AttrTerm)) → In (stand o path) (stands [] m.tree) → (n : Ending m.tree o 0 e) → (row : Row) → row_of (head o).name ≡ Some row → Unbroken row (surround m.tree (stand o path))
         → same_types (there (head o).results) (drop 1 (map (λ v. type_of_value v m.tree) e.last.operands)) ≡ true
     go path here n row listed u =
-        let inner = stand n.last (step o 0 n.args n.front no_ops ∷ path) in
-        let inner_stood = stand_of_member m.tree s.formed.distinct inner (stands_in m.tree o path 0 n.args n.front n.last no_ops here n.block) in
+        let inner = stand n.last (step o 0 n.args n.preceding no_ops ∷ path) in
+        let inner_located = stand_of_member m.tree s.wellformed.distinct inner (stands_in m.tree o path 0 n.args n.preceding n.last no_ops here n.block) in
         let outer = surround m.tree (stand o path) in
         let node_name = ap (λ h. h.name) (head_shown o) ∙ name in
-        let last_is : last_at 0 outer ≡ Some (head n.last).name = ap (option_and_then (λ last. last)) (names_at (regions o) 0 ∙ ap (option_map (λ g. option_and_then last_name (ops_in g))) n.block) ∙ name_joined n.front n.last in
+        let last_is : last_at 0 outer ≡ Some (head n.last).name = ap (option_and_then (λ last. last)) (names_at (regions o) 0 ∙ ap (option_map (λ g. option_and_then last_name (ops_in g))) n.block) ∙ name_joined n.preceding n.last in
         let y : (head n.last).name ≡ codes "scf.condition" = (bytes_eq-Decides (head n.last).name (codes "scf.condition")).0
         (not-false (bytes_eq (head n.last).name (codes "scf.condition"))
         (sym (ap (isnt_wanted (codes "scf.condition")) last_is) ∙ spoken (is_some (block_at 0 (node_of o))) _ (ap is_some (block_is o 0 (block n.args _) n.block)) (while_ends outer node_name u.ends))) in
         let found = row_there (row_of (codes "scf.condition")) condition_listed in
         let z = surround m.tree inner in
-        let v = verified_unbroken m.tree inner found.0 n.verified inner_stood (ap row_of y ∙ found.1) in
+        let v = verified_unbroken m.tree inner found.0 n.verified inner_located (ap row_of y ∙ found.1) in
         let named_so : is_named z.node (codes "scf.condition") ≡ true = ap (λ h. bytes_eq h.name (codes "scf.condition")) (head_shown n.last) ∙ ap (λ m. bytes_eq m (codes "scf.condition")) y in
         let outside : ended_of z ≡ Some (node_of o) = ap (if_well_shaped (node_of o)) (ap (λ h. row_of h.name) (head_shown o) ∙ listed) ∙ ap (λ b. if◌then◌else◌ b (Some (node_of o)) None) u.shaped in
         let told = spoken (is_named z.node (codes "scf.condition")) (differ (option_and_then passed (ended_of z)) (drop 1 z.types)) named_so v.passes in

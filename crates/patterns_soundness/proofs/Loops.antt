@@ -44,7 +44,7 @@ use Rattle.patterns_soundness.proofs.LoopStages.{got_none}
 use Rattle.std.proofs.lemmas.Option.{same_Some}
 use Rattle.patterns_soundness.proofs.of_base.Facts.{when_some}
 
-module _ (m : Module) (o : Operation) (front : Place) (s : Point m o front) where
+module _ (m : Module) (o : Operation) (insertion : Place) (s : Point m o insertion) where
   abbrev x : ℕ
   x = (head o).id
 
@@ -57,33 +57,33 @@ module _ (m : Module) (o : Operation) (front : Place) (s : Point m o front) wher
     abbrev n : Ending m.tree o 0 e
     n = ending m.tree o 0 e ends
 
-    taking : Taking (head o).id front (ending m.tree o 0 e ends).args (e.before ++ e.last.id ∷ []) m
+    taking : Taking (head o).id insertion (ending m.tree o 0 e ends).args (e.before ++ e.last.id ∷ []) m
     taking = record {
-      stood = stands_there m o front s;
-      list = joined_ops n.front (next n.last no_ops);
-      is = ap (λ z. region_at 0 (regions z)) (here_is m o front s) ∙ n.block;
-      ids = joined_ids n.front n.last ∙ λ i. sym n.before i ++ (sym n.is i).id ∷ [];
-      opened = ap (λ z. is_isolated (head z).name) (here_is m o front s) ∙ opens;
-      plain = ap (λ z. is_table (head z).name) (here_is m o front s) ∙ plain;
+      located = stands_there m o insertion s;
+      list = joined_ops n.preceding (next n.last no_ops);
+      is = ap (λ z. region_at 0 (regions z)) (here_is m o insertion s) ∙ n.block;
+      ids = joined_ids n.preceding n.last ∙ λ i. sym n.before i ++ (sym n.is i).id ∷ [];
+      opened = ap (λ z. is_isolated (head z).name) (here_is m o insertion s) ∙ opens;
+      plain = ap (λ z. is_table (head z).name) (here_is m o insertion s) ∙ plain;
     }
 
-    module _ (given : AreGiven (head o).id front vs (ending m.tree o 0 e ends).args m) where
+    module _ (given : AreGiven (head o).id insertion vs (ending m.tree o 0 e ends).args m) where
       unused : (j : ℕ) → (j < 0) ⊎ (length (ending m.tree o 0 e ends).args ≤ j) → uses_of (Arg (head o).id 0 j) m.tree ≡ []
       unused j (inl l) = absurd (omega (arith, l))
-      unused j (inr l) = no_uses m o front s (Arg x 0 j) (ap is_some (argument_type x front n.args (e.before ++ e.last.id ∷ []) m taking j) ∙ got_none n.args j l)
+      unused j (inr l) = no_uses m o insertion s (Arg x 0 j) (ap is_some (argument_type x insertion n.args (e.before ++ e.last.id ∷ []) m taking j) ∙ got_none n.args j l)
 
-      came : Outcome (head o).id front (ending m.tree o 0 e ends).args (e.before ++ e.last.id ∷ []) 0 vs m
-      came = outcome x front n.args (e.before ++ e.last.id ∷ []) vs n.args [] m taking refl given 0 refl unused
+      came : Outcome (head o).id insertion (ending m.tree o 0 e ends).args (e.before ++ e.last.id ∷ []) 0 vs m
+      came = outcome x insertion n.args (e.before ++ e.last.id ∷ []) vs n.args [] m taking refl given 0 refl unused
 
       abbrev m1 : Module
-      m1 = after (head o).id front (ending m.tree o 0 e ends).args (e.before ++ e.last.id ∷ []) 0 vs m
+      m1 = after (head o).id insertion (ending m.tree o 0 e ends).args (e.before ++ e.last.id ∷ []) 0 vs m
 
       abbrev turned : Value → Value
-      turned = changed (head o).id front (ending m.tree o 0 e ends).args (e.before ++ e.last.id ∷ []) 0 vs
+      turned = changed (head o).id insertion (ending m.tree o 0 e ends).args (e.before ++ e.last.id ∷ []) 0 vs
 
-      first : HasFirst (head o).id 0 front (e.before ++ e.last.id ∷ []) m1
+      first : HasFirst (head o).id 0 insertion (e.before ++ e.last.id ∷ []) m1
       first = record {
-        stood = came.taking.stood;
+        located = came.taking.located;
         args = n.args;
         list = came.taking.list;
         is = came.taking.is;
@@ -94,12 +94,12 @@ module _ (m : Module) (o : Operation) (front : Place) (s : Point m o front) wher
       }
 
       last_is : option_map head (find e.last.id m1.tree) ≡ Some (with_operands turned e.last)
-      last_is = came.heads e.last.id ∙ ap (option_map (with_operands turned)) (last_there m o front s 0 e ends)
+      last_is = came.heads e.last.id ∙ ap (option_map (with_operands turned)) (last_there m o insertion s 0 e ends)
 
-      results_are : (head o).results ≡ (head first.stood.at.here).results
+      results_are : (head o).results ≡ (head first.located.at.here).results
       results_are =
-          (let two : Some (with_operands turned (head o)) ≡ Some (head first.stood.at.here) = ap (option_map (with_operands turned)) (ap (option_map head) (sym s.found)) ∙ sym (came.heads x) ∙ ap (option_map head) (found_there is_isolated x front m1 first.stood) in
-          ap (λ (h : Header). h.results) (same_Some (with_operands turned (head o)) (head first.stood.at.here) two))
+          (let two : Some (with_operands turned (head o)) ≡ Some (head first.located.at.here) = ap (option_map (with_operands turned)) (ap (option_map head) (sym s.found)) ∙ sym (came.heads x) ∙ ap (option_map head) (found_there is_isolated x insertion m1 first.located) in
+          ap (λ (h : Header). h.results) (same_Some (with_operands turned (head o)) (head first.located.at.here) two))
 
       types_turned : (ws : List Value) (tys : List TypeTerm) → HaveTypes ws tys m → HaveTypes (map turned ws) tys m1
       types_turned [] [] g = tt
@@ -107,10 +107,10 @@ module _ (m : Module) (o : Operation) (front : Place) (s : Point m o front) wher
       types_turned [] (ty ∷ tys) g = absurd g
       types_turned (w ∷ ws) [] g = absurd g
 
-      opened_free : (handed : List Value) → ((v : Value) → In v handed → In v e.last.operands) → HaveTypes handed (head o).results m → Free (opened m.tree front o e vs handed) m
+      opened_free : (handed : List Value) → ((v : Value) → In v handed → In v e.last.operands) → HaveTypes handed (head o).results m → Free (opened m.tree insertion o e vs handed) m
       opened_free handed among types =
-          came.free (give_body front x e.before (map turned handed))
-          (body_free x 0 front e.before e.last.id m1 first (with_operands turned e.last) last_is (map turned handed)
+          came.free (give_body insertion x e.before (map turned handed))
+          (body_free x 0 insertion e.before e.last.id m1 first (with_operands turned e.last) last_is (map turned handed)
           (λ v i. let w = in_mapped turned v handed i in subst (λ z. In z (map turned e.last.operands)) (sym w.2) (in_map turned w.0 e.last.operands (among w.0 w.1)))
           (subst (λ tys. HaveTypes (map turned handed) tys m1) results_are (types_turned handed (head o).results types)))
 
@@ -119,24 +119,24 @@ module _ (m : Module) (o : Operation) (front : Place) (s : Point m o front) wher
     while_name : (head o).name ≡ codes "scf.while"
     while_name = (bytes_eq-Decides (head o).name (codes "scf.while")).0 name
 
-    stops : (e : Ended) → body m.tree o 0 ≡ Some e → (c : Value) (handed : List Value) → e.last.operands ≡ c ∷ handed → Free (opened m.tree front o e (head o).operands handed) m
+    stops : (e : Ended) → body m.tree o 0 ≡ Some e → (c : Value) (handed : List Value) → e.last.operands ≡ c ∷ handed → Free (opened m.tree insertion o e (head o).operands handed) m
     stops e ends c handed is =
         let n = ending t o 0 e ends in
         opened_free e ends (ap is_isolated while_name ∙ while_opened) (ap is_table while_name ∙ while_plain) (head o).operands
-        (given_from x front m (head o).operands n.args (while_arguments m o front s while_name n.args (block_is o 0 (block n.args (joined_ops n.front (next n.last no_ops))) n.block)) (dominated_by_operand m o front s))
+        (given_from x insertion m (head o).operands n.args (while_arguments m o insertion s while_name n.args (block_is o 0 (block n.args (joined_ops n.preceding (next n.last no_ops))) n.block)) (dominated_by_operand m o insertion s))
         handed (λ v i. subst (In v) (sym is) (inr i))
-        (have_types handed (head o).results m (ap (λ l. same_types (there (head o).results) (drop 1 (map (λ v. type_of_value v t) l))) (sym is) ∙ condition_types m o front s while_name e ends))
+        (have_types handed (head o).results m (ap (λ l. same_types (there (head o).results) (drop 1 (map (λ v. type_of_value v t) l))) (sym is) ∙ condition_types m o insertion s while_name e ends))
 
-    by_last : (es : List Edit) (e : Ended) → body m.tree o 0 ≡ Some e → (vs : List Value) → e.last.operands ≡ vs → by_end m.tree front o e vs ≡ Some es → Free es m
+    by_last : (es : List Edit) (e : Ended) → body m.tree o 0 ≡ Some e → (vs : List Value) → e.last.operands ≡ vs → by_end m.tree insertion o e vs ≡ Some es → Free es m
     by_last es e ends [] is f = absurd cc
     by_last es e ends (c ∷ handed) is f =
-        let w = when_some (is_number t 0 c) (Some (opened t front o e (head o).operands handed)) es f in
-        subst (λ z. Free z m) (same_Some (opened t front o e (head o).operands handed) es w.1) (stops e ends c handed is)
+        let w = when_some (is_number t 0 c) (Some (opened t insertion o e (head o).operands handed)) es f in
+        subst (λ z. Free z m) (same_Some (opened t insertion o e (head o).operands handed) es w.1) (stops e ends c handed is)
 
-  pub free_stop_loop : (es : List Edit) → stop_loop m.tree front o ≡ Some es → Free es m
+  pub free_stop_loop : (es : List Edit) → stop_loop m.tree insertion o ≡ Some es → Free es m
   free_stop_loop es e =
       let w = when_some (named (codes "scf.while") (head o).name) _ es e in
-      let b = given_some (body t o 0) (λ e. by_end t front o e e.last.operands) es w.1 in
+      let b = given_some (body t o 0) (λ e. by_end t insertion o e e.last.operands) es w.1 in
       by_last w.0 es b.0 b.1 b.0.last.operands refl b.2
 
   -- a loop that runs once or never
@@ -148,18 +148,18 @@ module _ (m : Module) (o : Operation) (front : Place) (s : Point m o front) wher
     loop = record { lower = lower; upper = upper; step = number; inits = inits }
 
     seen : (v : Value) → In v (lower ∷ upper ∷ number ∷ inits) → dominated_by (head o).id v m ≡ true
-    seen v i = dominated_by_operand m o front s v (subst (In v) (sym operands) i)
+    seen v i = dominated_by_operand m o insertion s v (subst (In v) (sym operands) i)
 
-    never_free : Free (never m.tree front o (record { lower = lower; upper = upper; step = number; inits = inits })) m
-    never_free = results_free x front inits (head o).results [] m (stands_there m o front s) (ap (λ z. (head z).results) (here_is m o front s))
-        (given_from x front m inits (head o).results (for_results m o front s for_name lower upper number inits operands) (λ v i. seen v (inr (inr (inr i))))) 0 refl (λ j l. absurd (omega (arith, l)))
+    never_free : Free (never m.tree insertion o (record { lower = lower; upper = upper; step = number; inits = inits })) m
+    never_free = results_free x insertion inits (head o).results [] m (stands_there m o insertion s) (ap (λ z. (head z).results) (here_is m o insertion s))
+        (given_from x insertion m inits (head o).results (for_results m o insertion s for_name lower upper number inits operands) (λ v i. seen v (inr (inr (inr i))))) 0 refl (λ j l. absurd (omega (arith, l)))
 
-    once_free : (e : Ended) → body m.tree o 0 ≡ Some e → Free (opened m.tree front o e (lower ∷ inits) e.last.operands) m
+    once_free : (e : Ended) → body m.tree o 0 ≡ Some e → Free (opened m.tree insertion o e (lower ∷ inits) e.last.operands) m
     once_free e ends =
         let n = ending t o 0 e ends in
-        let verified : IsVerifiedOf t o x (codes "scf.for") = record { distinct = s.formed.distinct; found = s.found; verified = s.verified; name = name } in
+        let verified : IsVerifiedOf t o x (codes "scf.for") = record { distinct = s.wellformed.distinct; found = s.found; verified = s.verified; name = name } in
         opened_free e ends (ap is_isolated for_name ∙ for_opened) (ap is_table for_name ∙ for_plain) (lower ∷ inits)
-        (given_from x front m (lower ∷ inits) n.args (for_arguments m o front s for_name lower upper number inits operands n.args (block_is o 0 (block n.args (joined_ops n.front (next n.last no_ops))) n.block)) both_seen)
+        (given_from x insertion m (lower ∷ inits) n.args (for_arguments m o insertion s for_name lower upper number inits operands n.args (block_is o 0 (block n.args (joined_ops n.preceding (next n.last no_ops))) n.block)) both_seen)
         e.last.operands (λ v i. i)
         (have_types e.last.operands (head o).results m (loop_types t o x e verified ends))
       where
@@ -167,26 +167,26 @@ module _ (m : Module) (o : Operation) (front : Place) (s : Point m o front) wher
         both_seen v (inl i) = seen v (inl i)
         both_seen v (inr i) = seen v (inr (inr (inr i)))
 
-    of_bounds : (es : List Edit) → by_bounds m.tree front o (record { lower = lower; upper = upper; step = number; inits = inits }) ≡ Some es → Free es m
+    of_bounds : (es : List Edit) → by_bounds m.tree insertion o (record { lower = lower; upper = upper; step = number; inits = inits }) ≡ Some es → Free es m
     of_bounds es e =
         let low = given_some (known t lower) _ es e in
         let high = given_some (known t upper) _ es low.2 in
         by_order low.0 high.0 (int_lt (reading low.0) (reading high.0)) high.2
       where
-        by_order : (low high : Known) (b : Bool) → (if b then given (known m.tree number) (λ k. when (goes_once m.tree front o (reading low) (reading high) (reading k)) (once m.tree front o loop)) else Some (never m.tree front o loop)) ≡ Some es → Free es m
+        by_order : (low high : Known) (b : Bool) → (if b then given (known m.tree number) (λ k. when (goes_once m.tree insertion o (reading low) (reading high) (reading k)) (once m.tree insertion o loop)) else Some (never m.tree insertion o loop)) ≡ Some es → Free es m
         by_order low high true f =
             let k = given_some (known t number) _ es f in
-            let w = when_some _ (once t front o loop) es k.2 in
-            let b = given_some (body t o 0) (λ e. Some (opened t front o e (lower ∷ inits) e.last.operands)) es w.1 in
-            subst (λ z. Free z m) (same_Some (opened t front o b.0 (lower ∷ inits) b.0.last.operands) es b.2) (once_free b.0 b.1)
-        by_order low high false f = subst (λ z. Free z m) (same_Some (never t front o loop) es f) never_free
+            let w = when_some _ (once t insertion o loop) es k.2 in
+            let b = given_some (body t o 0) (λ e. Some (opened t insertion o e (lower ∷ inits) e.last.operands)) es w.1 in
+            subst (λ z. Free z m) (same_Some (opened t insertion o b.0 (lower ∷ inits) b.0.last.operands) es b.2) (once_free b.0 b.1)
+        by_order low high false f = subst (λ z. Free z m) (same_Some (never t insertion o loop) es f) never_free
 
-  pub free_open_loop : (es : List Edit) → open_loop m.tree front o ≡ Some es → Free es m
+  pub free_open_loop : (es : List Edit) → open_loop m.tree insertion o ≡ Some es → Free es m
   free_open_loop es e =
       let w = when_some (named (codes "scf.for") (head o).name) _ es e in
       go w.0 (head o).operands refl w.1
     where
-      go : named (codes "scf.for") (head o).name ≡ true → (vs : List Value) → (head o).operands ≡ vs → given (loop_from vs) (by_bounds m.tree front o) ≡ Some es → Free es m
+      go : named (codes "scf.for") (head o).name ≡ true → (vs : List Value) → (head o).operands ≡ vs → given (loop_from vs) (by_bounds m.tree insertion o) ≡ Some es → Free es m
       go name [] is f = absurd cc
       go name (a ∷ []) is f = absurd cc
       go name (a ∷ b ∷ []) is f = absurd cc

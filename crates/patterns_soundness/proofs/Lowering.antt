@@ -16,7 +16,7 @@ lower_index_facts = record {
   near = λ lowers. absurd cc;
   alike = λ lowers. absurd cc;
   accepted = are_accepted_at LowerIndex;
-  makes = λ converts t n front o es. converting_rules_make LowerIndex t n front o es converts;
+  makes = λ converts t n insertion o es. converting_rules_make LowerIndex t n insertion o es converts;
 }
 
 pub lower_loop_facts : Soundness LowerLoop
@@ -27,7 +27,7 @@ lower_loop_facts = record {
   near = λ lowers. absurd cc;
   alike = λ lowers. absurd cc;
   accepted = are_accepted_at LowerLoop;
-  makes = λ converts t n front o es. converting_rules_make LowerLoop t n front o es converts;
+  makes = λ converts t n insertion o es. converting_rules_make LowerLoop t n insertion o es converts;
 }
 
 pub lower_choice_facts : Soundness LowerChoice
@@ -38,5 +38,5 @@ lower_choice_facts = record {
   near = λ lowers. absurd cc;
   alike = λ lowers. absurd cc;
   accepted = are_accepted_at LowerChoice;
-  makes = λ converts t n front o es. converting_rules_make LowerChoice t n front o es converts;
+  makes = λ converts t n insertion o es. converting_rules_make LowerChoice t n insertion o es converts;
 }

@@ -51,8 +51,8 @@ module _ {N T A : Type 0} where
   each_block f r (op h rs) args os e = (_, region_each f h.id 0 r rs ∙ ap (option_map (region_each_list f h.id (0 + r))) e)
 
   -- the position of an operation after another is taken out
-  pub stood_left : (t z o : OpOf N T A) → HasDistinctIds t → find (head z).id t ≡ Some z → find (head o).id t ≡ Some o → has_id (head o).id z ≡ false → find (head o).id (without (head z).id t) ≡ Some (each_list (dropping (head z).id) o)
-  stood_left t z o d found at out =
+  pub located_left : (t z o : OpOf N T A) → HasDistinctIds t → find (head z).id t ≡ Some z → find (head o).id t ≡ Some o → has_id (head o).id z ≡ false → find (head o).id (without (head z).id t) ≡ Some (each_list (dropping (head z).id) o)
+  located_left t z o d found at out =
       let zi = (head z).id in
       let s = found_stands (head o).id t o at in
       let there : In (stand o s.0.path) (stands [] t) = subst (λ (q : OpOf N T A). In (stand q s.0.path) (stands [] t)) s.3 s.1 in
@@ -119,14 +119,14 @@ module _ {N T A : Type 0} (isolated is_table : N → Bool) (m : ModuleOf N T A) 
   pub literal : (o : OpOf N T A) → find (head o).id m.tree ≡ Some o → has_id (head o).id z ≡ false → has_id (head z).id o ≡ false → has_id place.parent o ≡ false → find (head o).id (put place z (without (head z).id m.tree)) ≡ Some o
   literal o at out lacks far =
       put_find place z (head o).id (absent_find (head o).id z out) (without zi t)
-      ∙ ap (option_map (put place z)) (stood_left t z o d found at out ∙ ap Some (untouched zi o lacks))
+      ∙ ap (option_map (put place z)) (located_left t z o d found at out ∙ ap Some (untouched zi o lacks))
       ∙ ap Some (unput place z o far)
 
   pub block_same : (p r : ℕ) → has_id p z ≡ false → (HasBlock p r m.tree) → HasBlock p r (put place z (without (head z).id m.tree))
   block_same p r out b =
       let s = found_stands p t b.here b.found in
       let id : (head b.here).id ≡ p = ap (λ (q : OpOf N T A). (head q).id) (sym s.3) ∙ s.2 in
-      let at = stood_left t z b.here d found (ap (λ i. find i t) id ∙ b.found) (ap (λ i. has_id i z) id ∙ out) in
+      let at = located_left t z b.here d found (ap (λ i. find i t) id ∙ b.found) (ap (λ i. has_id i z) id ∙ out) in
       let one = each_block (dropping zi) r b.here b.args b.list b.is in
       let two = each_block (put_here place z) r (each_list (dropping zi) b.here) b.args one.0 one.1 in
       record {
@@ -165,7 +165,7 @@ module _ {N T A : Type 0} (isolated is_table : N → Bool) (m : ModuleOf N T A) 
       ∙ r.3 v refl (ap (λ (k : StandOf N T A). dominated_by isolated k.path v) same ∙ own)
 
   -- the move isn't refused
-  module _ (zp : List (StepOf N T A)) (stood : In (stand z zp) (stands [] m.tree)) (P : Value → Type 0) (used : (s : StandOf N T A) → In s (stands zp z) → (v : Value) → In v (head s.here).operands → P v)
+  module _ (zp : List (StepOf N T A)) (located : In (stand z zp) (stands [] m.tree)) (P : Value → Type 0) (used : (s : StandOf N T A) → In s (stands zp z) → (v : Value) → In v (head s.here).operands → P v)
       (more : (v : Value) → P v → dominated_by isolated zp v ≡ true → visible isolated (put place z (without (head z).id m.tree)) (head z).id v ≡ true)
       (users : (k : ℕ) → k < length (head z).results → list_all (λ u. visible isolated (put place z (without (head z).id m.tree)) u.0 (Result (head z).id k)) (uses_of (Result (head z).id k) m.tree) ≡ true) where
     inner : every (λ q. list_all (visible isolated (put place z (without (head z).id m.tree)) (head q).id) (head q).operands) z ≡ true
@@ -175,20 +175,20 @@ module _ {N T A : Type 0} (isolated is_table : N → Bool) (m : ModuleOf N T A) 
         sym (stands_every (λ q. list_all (visible isolated after (head q).id) (head q).operands) zq z)
         ∙ each_all (λ (s : StandOf N T A). list_all (visible isolated after (head s.here).id) (head s.here).operands) (stands zq z) (λ s h.
         let r = restands isolated P zp zq (λ v n e. sym (visible_there isolated after after_distinct (stand z zq) l.there v) ∙ more v n e) z s h in
-        let was = within z zp r.0 r.1 [] t stood in
+        let was = within z zp r.0 r.1 [] t located in
         each_all (visible isolated after (head s.here).id) (head s.here).operands (λ v i.
         let j : In v (head r.0.here).operands = subst (λ (q : OpOf N T A). In v (head q).operands) (sym r.2) i in
         visible_there isolated after after_distinct s (within z zq s h [] after l.there) v
-        ∙ r.3 v (used r.0 r.1 v j) (all_each (dominated_by isolated r.0.path) (head r.0.here).operands (all_each (λ (k : StandOf N T A). list_all (dominated_by isolated k.path) (head k.here).operands) (stands [] t) (sym (stands_operands isolated t) ∙ w.formed.visible) r.0 was) v j)))
+        ∙ r.3 v (used r.0 r.1 v j) (all_each (dominated_by isolated r.0.path) (head r.0.here).operands (all_each (λ (k : StandOf N T A). list_all (dominated_by isolated k.path) (head k.here).operands) (stands [] t) (sym (stands_operands isolated t) ∙ w.wellformed.visible) r.0 was) v j)))
 
     pub all_seen : operands_visible isolated (shifted (head z).id place m.tree) ≡ true
-    all_seen = shift_dominated_by isolated zi place t z d found root point outside w.formed.visible
+    all_seen = shift_dominated_by isolated zi place t z d found root point outside w.wellformed.visible
         (subst (λ q. every (λ q'. list_all (visible isolated q (head q').id) (head q').operands) z ≡ true) (sym is_put) inner)
         (λ k n. subst (λ q. list_all (λ u. visible isolated q u.0 (Result zi k)) (uses_of (Result zi k) t) ≡ true) (sym is_put) (users k n))
 
     pub move_reason : has_id place.parent m.tree ≡ true → table_of is_table (head z).id m.tree ≡ table_of is_table (head z).id (put place z (without (head z).id m.tree)) → fits_around (depth z) (around place.parent m.tree) ≡ true → shift_reason isolated is_table (head z).id place m.tree ≡ None
     move_reason parent tables levels =
-        passed _ _ _ (both_hold _ _ (stand_present [] t (stand z zp) stood) parent)
+        passed _ _ _ (both_hold _ _ (stand_present [] t (stand z zp) located) parent)
         (passed _ _ _ (ap not root)
         (passed _ _ _ point
         (passed _ _ _ (ap not (ap (leads_inside place) found ∙ outside))
@@ -196,5 +196,5 @@ module _ {N T A : Type 0} (isolated is_table : N → Bool) (m : ModuleOf N T A) 
         (passed _ _ _ (ap (λ o. fits_around (levels_in o) (around place.parent t)) found ∙ levels)
         (passed _ _ _ all_seen refl))))))
 
-    pub move_formed : has_id place.parent m.tree ≡ true → table_of is_table (head z).id m.tree ≡ table_of is_table (head z).id (put place z (without (head z).id m.tree)) → fits_around (depth z) (around place.parent m.tree) ≡ true → IsWellFormed isolated (record m { tree = put place z (without (head z).id m.tree) })
-    move_formed parent tables levels = subst (λ q. IsWellFormed isolated (record m { tree = q })) is_put (shift_keeps isolated is_table zi place m w (move_reason parent tables levels))
+    pub move_wellformed : has_id place.parent m.tree ≡ true → table_of is_table (head z).id m.tree ≡ table_of is_table (head z).id (put place z (without (head z).id m.tree)) → fits_around (depth z) (around place.parent m.tree) ≡ true → IsWellFormed isolated (record m { tree = put place z (without (head z).id m.tree) })
+    move_wellformed parent tables levels = subst (λ q. IsWellFormed isolated (record m { tree = q })) is_put (shift_keeps isolated is_table zi place m w (move_reason parent tables levels))

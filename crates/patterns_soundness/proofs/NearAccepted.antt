@@ -28,7 +28,7 @@ use Rattle.ir_event.specs.tree_laws.Reasons.{users_see}
 use Rattle.ir_event.specs.tree_laws.Values.{has_value, type_of_value}
 use Rattle.ir_event.proofs.of_tree_laws.Around.{around_there, present_stand, stand_present, within_gone}
 use Rattle.ir_event.proofs.of_tree_laws.Edited.{around_stays, head_stays, dominance_stays, taken_op_count}
-use Rattle.ir_event.proofs.of_tree_laws.Formed.{left_well_formed}
+use Rattle.ir_event.proofs.of_tree_laws.Wellformed.{left_well_formed}
 use Rattle.ir_event.proofs.of_tree_laws.HeadForm.{edit_ids, replaced_keeps}
 use Rattle.ir_event.proofs.of_tree_laws.Heads.{Alike}
 use Rattle.ir_event.proofs.of_tree_laws.Listed.{all_each, bool_cases, both, both_hold, each_all, either, one_any, or_left, or_right}
@@ -40,14 +40,14 @@ use Rattle.rewriter_machine.specs.Contents.{Edit, all_edited, edit_reason, edite
 use Rattle.rewriter_machine.specs.Edits.{Erase, Replace}
 use Rattle.patterns_base.specs.Lists.{Free}
 use Rattle.patterns_base.proofs.Erasing.{nobody_uses}
-use Rattle.patterns_base.proofs.Front.{stands_before}
+use Rattle.patterns_base.proofs.Preceding.{stands_before}
 use Rattle.patterns_base.proofs.Given.{seen_is, user}
 use Rattle.patterns_base.proofs.Headed as headed
 use Rattle.patterns_base.proofs.Plans.{StandsAt, dominated_by}
 use Rattle.patterns_soundness.specs.base.Looks.{Header}
 use Rattle.patterns_soundness.proofs.Across.{argument_within, before_is, after_inside, child_within, inside_after, not_root}
 use Rattle.patterns_soundness.proofs.Arguments.{replaced_uses}
-use Rattle.patterns_soundness.proofs.CastsAccepted.{Room}
+use Rattle.patterns_soundness.proofs.CastsAccepted.{Headroom}
 use Rattle.patterns_soundness.proofs.ChoicesAccepted.{used_value}
 use Rattle.patterns_soundness.proofs.Kept.{Kept, was_there}
 use Rattle.patterns_soundness.proofs.Ordered.{Before, Inside, before_left, inside_left, there_left}
@@ -110,15 +110,15 @@ module _ (m : Module) (w : IsWellFormed is_isolated m) (h : ℕ) (o : Operation)
       (let k = found_stands h t o found in
       passed _ _ _ (ap (λ i. has_id i t) (sym k.2) ∙ stand_present [] t k.0 k.1)
       (passed _ _ _ (ap not root)
-      (passed _ _ _ (nobody_uses is_isolated h t o w.distinct root found w.formed.visible unused) refl)))
+      (passed _ _ _ (nobody_uses is_isolated h t o w.distinct root found w.wellformed.visible unused) refl)))
 
-  pub erase_formed : IsWellFormed is_isolated (edited (Erase h) m)
-  erase_formed = left_well_formed is_isolated h m w (λ s i gone. each_all (λ v. not (eqb (owner_of v).0 h)) (head s.here).operands (λ v j. ap not (spared s i gone v j (eqb (owner_of v).0 h) refl)))
+  pub erase_wellformed : IsWellFormed is_isolated (edited (Erase h) m)
+  erase_wellformed = left_well_formed is_isolated h m w (λ s i gone. each_all (λ v. not (eqb (owner_of v).0 h)) (head s.here).operands (λ v j. ap not (spared s i gone v j (eqb (owner_of v).0 h) refl)))
     where
       spared : (s : Stand) → In s (stands [] m.tree) → is_gone h s ≡ false → (v : Value) → In v (head s.here).operands → (b : Bool) → eqb (owner_of v).0 h ≡ b → eqb (owner_of v).0 h ≡ false
       spared s i gone v j false e = e
       spared s i gone (Result q k) j true e =
-          (let own = own_operand t w.distinct w.formed.visible s i (Result q k) j in
+          (let own = own_operand t w.distinct w.wellformed.visible s i (Result q k) j in
           let g = seen_by is_isolated t w.distinct s i (Result q k) own in
           let same = eqb-true q h e in
           let is : is_some (option_and_then (λ (z : Operation). slice_get (head z).results k) (find h t)) ≡ true = subst (λ z. is_some (option_and_then (λ (z : Operation). slice_get (head z).results k) (find z t)) ≡ true) same g.is in
@@ -128,7 +128,7 @@ module _ (m : Module) (w : IsWellFormed is_isolated m) (h : ℕ) (o : Operation)
           few k None e h = absurd (true≢false (sym h))
           few k (Some ty) e h = slice_get_within (head o).results k ty e
       spared s i gone (Arg q r k) j true e =
-          (let own = own_operand t w.distinct w.formed.visible s i (Arg q r k) j in
+          (let own = own_operand t w.distinct w.wellformed.visible s i (Arg q r k) j in
           let f = found_stands h t o found in
           let same = eqb-true q h e in
           let here : In (stand o f.0.path) (stands [] t) = subst (λ (z : Operation). In (stand z f.0.path) (stands [] t)) f.3 f.1 in
@@ -166,15 +166,15 @@ module _ (t : Operation) (d : HasDistinctIds t) (z : Operation) (zp : List (Step
       ])
     where
       around : has_id (head a.parent).id z ≡ true → (dominated_by_from is_isolated q v0 ≡ true → dominated_by_from is_isolated q v ≡ true) → dominated_by_from is_isolated (a ∷ q) v ≡ true
-      around inside later = elim (either (list_any (λ f. shows v0 (results_of f)) a.front) _ e) [
-        | inl m ↦ (let f = one_any (λ f. shows v0 (results_of f)) a.front m in
+      around inside later = elim (either (list_any (λ f. shows v0 (results_of f)) a.preceding) _ e) [
+        | inl m ↦ (let f = one_any (λ f. shows v0 (results_of f)) a.preceding m in
             let g = stands_before t o f.0 a q h f.1 in
             let sib = child_within t d z zp there f.0 g.step_in q g.there (ap (λ (k : Operation). has_id (head k).id z) g.parent ∙ inside) in
             absurd (true≢false (sym (ap (λ k. has_id k z) (owner_is v0 f.0 f.2) ∙ sib) ∙ out)))
         | inr m ↦ elim (either (shows v0 (arguments (head a.parent).id a.region (length a.args))) _ m) [
           | inl l ↦ absurd (true≢false (sym (ap (λ k. has_id k z) (argument_of v0 l) ∙ inside) ∙ out))
           | inr l ↦ (let b = both (not (is_isolated (head a.parent).name)) (dominated_by_from is_isolated q v0) l in
-              or_right (list_any (λ f. shows v (results_of f)) a.front) _ (or_right (shows v (arguments (head a.parent).id a.region (length a.args))) _ (both_hold _ _ b.0 (later b.1))))
+              or_right (list_any (λ f. shows v (results_of f)) a.preceding) _ (or_right (shows v (arguments (head a.parent).id a.region (length a.args))) _ (both_hold _ _ b.0 (later b.1))))
         ]
       ]
         where

@@ -40,7 +40,7 @@ pub left_alone : (vs : List Value) → map (replaced [] []) vs ≡ vs
 left_alone [] = refl
 left_alone (v ∷ vs) = ap (λ l. v ∷ l) (left_alone vs)
 
-module _ (m : Module) (o : Operation) (front : Place) (s : Point m o front) where
+module _ (m : Module) (o : Operation) (insertion : Place) (s : Point m o insertion) where
   abbrev x : ℕ
   x = (head o).id
 
@@ -53,9 +53,9 @@ module _ (m : Module) (o : Operation) (front : Place) (s : Point m o front) wher
       let n = ending t o r e k in
       let w = found_stands x t o s.found in
       let here : In (stand o w.0.path) (stands [] t) = subst (λ (z : Operation). In (stand z w.0.path) (stands [] t)) w.3 w.1 in
-      let it = stand n.last (step o r n.args n.front no_ops ∷ w.0.path) in
+      let it = stand n.last (step o r n.args n.preceding no_ops ∷ w.0.path) in
       ap (λ (h : Header). option_map head (find h.id t)) n.is
-      ∙ ap (option_map head) (stand_found t s.formed.distinct it (stands_in t o w.0.path r n.args n.front n.last no_ops here n.block))
+      ∙ ap (option_map head) (stand_found t s.wellformed.distinct it (stands_in t o w.0.path r n.args n.preceding n.last no_ops here n.block))
       ∙ ap Some (sym n.is)
 
   module _ (name : named (codes "scf.if") (head o).name ≡ true) where
@@ -63,40 +63,40 @@ module _ (m : Module) (o : Operation) (front : Place) (s : Point m o front) wher
     name_is = (bytes_eq-Decides (head o).name (codes "scf.if")).0 name
 
     verified_if : IsVerifiedOf m.tree o (head o).id (codes "scf.if")
-    verified_if = record { distinct = s.formed.distinct; found = s.found; verified = s.verified; name = name }
+    verified_if = record { distinct = s.wellformed.distinct; found = s.found; verified = s.verified; name = name }
 
     -- its block is inserted before it
-    comes : (r : ℕ) → r ≤ 1 → (args : List TypeTerm) (os : OpsOf (List ℕ) TypeTerm AttrTerm) → region_at r (regions o) ≡ Some (block args os) → (e : Ended) → body m.tree o r ≡ Some e → Free (give_body front (head o).id e.before e.last.operands) m
+    comes : (r : ℕ) → r ≤ 1 → (args : List TypeTerm) (os : OpsOf (List ℕ) TypeTerm AttrTerm) → region_at r (regions o) ≡ Some (block args os) → (e : Ended) → body m.tree o r ≡ Some e → Free (give_body insertion (head o).id e.before e.last.operands) m
     comes r small args os is e k =
         let n = ending t o r e k in
-        let none : args ≡ [] = if_arguments m o front s name_is r small args (block_is o r (block args os) is) in
-        let h = has_first m o front s r e n (ap is_isolated name_is ∙ if_opened) (ap is_table name_is ∙ if_plain) (no_arguments m o front s r (ap (option_and_then arguments_of) is ∙ ap Some none)) in
-        let here : (head o).results ≡ (head h.stood.at.here).results = ap (λ (z : Operation). (head z).results) (same_Some o h.stood.at.here (sym s.found ∙ found_there is_isolated x front m h.stood)) in
-        body_free x r front e.before e.last.id m h e.last (last_there r e k) e.last.operands (λ v i. i)
+        let none : args ≡ [] = if_arguments m o insertion s name_is r small args (block_is o r (block args os) is) in
+        let h = has_first m o insertion s r e n (ap is_isolated name_is ∙ if_opened) (ap is_table name_is ∙ if_plain) (no_arguments m o insertion s r (ap (option_and_then arguments_of) is ∙ ap Some none)) in
+        let here : (head o).results ≡ (head h.located.at.here).results = ap (λ (z : Operation). (head z).results) (same_Some o h.located.at.here (sym s.found ∙ found_there is_isolated x insertion m h.located)) in
+        body_free x r insertion e.before e.last.id m h e.last (last_there r e k) e.last.operands (λ v i. i)
         (subst (λ tys. HaveTypes e.last.operands tys m) here (have_types e.last.operands (head o).results m (choice_types t o x r e small verified_if k)))
 
     -- a region without a block
     goes : (r : ℕ) → r ≤ 1 → region_at r (regions o) ≡ Some empty → Free (Erase (head o).id ∷ []) m
     goes r small is =
-        let none : (head o).results ≡ [] = none_given m o front s name_is r small (block_is o r empty is) in
-        (plans.erase_free x front m (stands_there m o front s) (λ k l. let n = ap (λ z. length (head z).results) (here_is m o front s) ∙ ap length none in absurd (omega (arith, l, n))), tt)
+        let none : (head o).results ≡ [] = none_given m o insertion s name_is r small (block_is o r empty is) in
+        (plans.erase_free x insertion m (stands_there m o insertion s) (λ k l. let n = ap (λ z. length (head z).results) (here_is m o insertion s) ∙ ap length none in absurd (omega (arith, l, n))), tt)
 
-    by_region : (es : List Edit) (r : ℕ) → r ≤ 1 → (g : RegionOf (List ℕ) TypeTerm AttrTerm) → region_at r (regions o) ≡ Some g → chosen m.tree front o g r ≡ Some es → Free es m
+    by_region : (es : List Edit) (r : ℕ) → r ≤ 1 → (g : RegionOf (List ℕ) TypeTerm AttrTerm) → region_at r (regions o) ≡ Some g → chosen m.tree insertion o g r ≡ Some es → Free es m
     by_region es r small empty is e = subst (λ z. Free z m) (same_Some (Erase x ∷ []) es e) (goes r small is)
     by_region es r small (block args os) is e =
-        let b = given_some (body t o r) (λ e. Some (opened t front o e [] e.last.operands)) es e in
-        subst (λ z. Free z m) (same_Some (opened t front o b.0 [] b.0.last.operands) es b.2) (subst (λ vs. Free (give_body front x b.0.before vs) m) (sym (left_alone b.0.last.operands)) (comes r small args os is b.0 b.1))
+        let b = given_some (body t o r) (λ e. Some (opened t insertion o e [] e.last.operands)) es e in
+        subst (λ z. Free z m) (same_Some (opened t insertion o b.0 [] b.0.last.operands) es b.2) (subst (λ vs. Free (give_body insertion x b.0.before vs) m) (sym (left_alone b.0.last.operands)) (comes r small args os is b.0 b.1))
 
-    by_operands : (es : List Edit) (vs : List Value) → by_condition m.tree front o vs ≡ Some es → Free es m
+    by_operands : (es : List Edit) (vs : List Value) → by_condition m.tree insertion o vs ≡ Some es → Free es m
     by_operands es [] e = absurd cc
     by_operands es (c ∷ []) e =
         let k = given_some (known t c) _ es e in
         by_bit (eqb k.0.1 0) k.2
       where
-        by_bit : (b : Bool) → given (region_at (if b then 1 else 0) (regions o)) (λ g. chosen m.tree front o g (if b then 1 else 0)) ≡ Some es → Free es m
-        by_bit true e = (let g = given_some (region_at 1 (regions o)) (λ g. chosen t front o g 1) es e in by_region es 1 (omega arith) g.0 g.1 g.2)
-        by_bit false e = (let g = given_some (region_at 0 (regions o)) (λ g. chosen t front o g 0) es e in by_region es 0 (omega arith) g.0 g.1 g.2)
+        by_bit : (b : Bool) → given (region_at (if b then 1 else 0) (regions o)) (λ g. chosen m.tree insertion o g (if b then 1 else 0)) ≡ Some es → Free es m
+        by_bit true e = (let g = given_some (region_at 1 (regions o)) (λ g. chosen t insertion o g 1) es e in by_region es 1 (omega arith) g.0 g.1 g.2)
+        by_bit false e = (let g = given_some (region_at 0 (regions o)) (λ g. chosen t insertion o g 0) es e in by_region es 0 (omega arith) g.0 g.1 g.2)
     by_operands es (c ∷ d ∷ vs) e = absurd cc
 
-  pub free_open_branch : (es : List Edit) → open_branch m.tree front o ≡ Some es → Free es m
+  pub free_open_branch : (es : List Edit) → open_branch m.tree insertion o ≡ Some es → Free es m
   free_open_branch es e = (let w = when_some (named (codes "scf.if") (head o).name) _ es e in by_operands w.0 es (head o).operands w.1)

@@ -28,7 +28,7 @@ use Rattle.ir_event.proofs.of_tree_laws.PutForm as put_form
 use Rattle.ir_event.proofs.of_tree_laws.DominatedBy.{visible_there}
 use Rattle.ir_event.proofs.of_tree_laws.Values.{shape}
 use Rattle.ir_event.proofs.of_tree_laws.Without.{left_member, member_left, same_head}
-use Rattle.patterns_base.proofs.Front.{stands_before}
+use Rattle.patterns_base.proofs.Preceding.{stands_before}
 
 module _ {N T A : Type 0} where
   -- operation a comes before operation b in its block
@@ -39,7 +39,7 @@ module _ {N T A : Type 0} where
     pub there : In (stand here (step_in ∷ path)) (stands [] t)
     pub id : (head here).id ≡ b
     pub first : OpOf N T A
-    pub among : In first step_in.front
+    pub among : In first step_in.preceding
     pub is : (head first).id ≡ a
 
   -- operation b is in the block of region r of operation p
@@ -84,7 +84,7 @@ module _ {N T A : Type 0} where
         there = left_member z t (stand e.here (e.step_in ∷ e.path)) e.there gone;
         id = ap (λ (y : HeadOf N T A). y.id) (same_head z (dropping z) e.here) ∙ e.id;
         first = each_list (dropping z) e.first;
-        among = in_filter (λ (o : OpOf N T A). not (eqb (head o).id z)) (each_list (dropping z) e.first) (map (each_list (dropping z)) e.step_in.front) (ap (λ i. not (eqb i z)) same ∙ ap not apart) (in_map (each_list (dropping z)) e.first e.step_in.front e.among);
+        among = in_filter (λ (o : OpOf N T A). not (eqb (head o).id z)) (each_list (dropping z) e.first) (map (each_list (dropping z)) e.step_in.preceding) (ap (λ i. not (eqb i z)) same ∙ ap not apart) (in_map (each_list (dropping z)) e.first e.step_in.preceding e.among);
         is = same;
       }
 
@@ -122,8 +122,8 @@ module _ {N T A : Type 0} where
   pub before_back : (z a b : ℕ) (t : OpOf N T A) → Before a b (without z t) → Before a b t
   before_back z a b t e =
       let w = was z e.here e.step_in e.path t e.there in
-      let f = in_filtered (λ (o : OpOf N T A). not (eqb (head o).id z)) e.first (map (each_list (dropping z)) w.old_step.front) (subst (λ (s : StepOf N T A). In e.first s.front) w.step_is e.among) in
-      let g = in_mapped (each_list (dropping z)) e.first w.old_step.front f.0 in
+      let f = in_filtered (λ (o : OpOf N T A). not (eqb (head o).id z)) e.first (map (each_list (dropping z)) w.old_step.preceding) (subst (λ (s : StepOf N T A). In e.first s.preceding) w.step_is e.among) in
+      let g = in_mapped (each_list (dropping z)) e.first w.old_step.preceding f.0 in
       record {
         here = w.it;
         step_in = w.old_step;
@@ -158,7 +158,7 @@ module _ {N T A : Type 0} where
       there = subst (In (edit_stand f (stand e.here (e.step_in ∷ e.path)))) (sym (each_stands f [] t)) (in_map (edit_stand f) (stand e.here (e.step_in ∷ e.path)) (stands [] t) e.there);
       id = each_id f alike e.here ∙ e.id;
       first = each_head f e.first;
-      among = in_map (each_head f) e.first e.step_in.front e.among;
+      among = in_map (each_head f) e.first e.step_in.preceding e.among;
       is = each_id f alike e.first ∙ e.is;
     }
 
@@ -187,16 +187,16 @@ module _ {N T A : Type 0} where
         there = f.there;
         id = f.id;
         first = e.first;
-        among = subst (λ l. In e.first l) (sym g.front) (in_left e.first g.step_in.front (f.first ∷ g.between) (subst (λ (s : StepOf N T A). In e.first s.front) steps e.among));
+        among = subst (λ l. In e.first l) (sym g.preceding) (in_left e.first g.step_in.preceding (f.first ∷ g.between) (subst (λ (s : StepOf N T A). In e.first s.preceding) steps e.among));
         is = e.is;
       }
 
   module _ (isolated : N → Bool) (t : OpOf N T A) (d : HasDistinctIds t) where
-    seen_later : (v : Value) (a b : StepOf N T A) (q : List (StepOf N T A)) (vs : List (OpOf N T A)) (f : OpOf N T A) → b.parent ≡ a.parent → b.region ≡ a.region → b.args ≡ a.args → a.front ≡ b.front ++ f ∷ vs → dominated_by isolated (b ∷ q) v ≡ true → dominated_by isolated (a ∷ q) v ≡ true
+    seen_later : (v : Value) (a b : StepOf N T A) (q : List (StepOf N T A)) (vs : List (OpOf N T A)) (f : OpOf N T A) → b.parent ≡ a.parent → b.region ≡ a.region → b.args ≡ a.args → a.preceding ≡ b.preceding ++ f ∷ vs → dominated_by isolated (b ∷ q) v ≡ true → dominated_by isolated (a ∷ q) v ≡ true
     seen_later v a b q vs f x y z l e =
-        elim (either (list_any (λ f. shows v (results_of f)) b.front) _ e) [
-          | inl m ↦ or_left _ _ (ap (list_any (λ f. shows v (results_of f))) l ∙ more b.front vs f m)
-          | inr m ↦ or_right (list_any (λ f. shows v (results_of f)) a.front) _ ((λ i. shows v (arguments (head (sym x i)).id (sym y i) (length (sym z i))) || (not (isolated (head (sym x i)).name) && dominated_by isolated q v)) ∙ m)
+        elim (either (list_any (λ f. shows v (results_of f)) b.preceding) _ e) [
+          | inl m ↦ or_left _ _ (ap (list_any (λ f. shows v (results_of f))) l ∙ more b.preceding vs f m)
+          | inr m ↦ or_right (list_any (λ f. shows v (results_of f)) a.preceding) _ ((λ i. shows v (arguments (head (sym x i)).id (sym y i) (length (sym z i))) || (not (isolated (head (sym x i)).name) && dominated_by isolated q v)) ∙ m)
         ]
       where
         more : (us vs : List (OpOf N T A)) (f : OpOf N T A) → list_any (λ f. shows v (results_of f)) us ≡ true → list_any (λ f. shows v (results_of f)) (us ++ f ∷ vs) ≡ true
@@ -207,7 +207,7 @@ module _ {N T A : Type 0} where
     later_dominated_by a b e v s =
         let g = stands_before t e.here e.first e.step_in e.path e.there e.among in
         ap (λ i. visible isolated t i v) (sym e.id) ∙ visible_there isolated t d (stand e.here (e.step_in ∷ e.path)) e.there v
-        ∙ seen_later v e.step_in g.step_in e.path g.between e.first g.parent g.region g.args g.front (sym (visible_there isolated t d (stand e.first (g.step_in ∷ e.path)) g.there v) ∙ ap (λ i. visible isolated t i v) e.is ∙ s)
+        ∙ seen_later v e.step_in g.step_in e.path g.between e.first g.parent g.region g.args g.preceding (sym (visible_there isolated t d (stand e.first (g.step_in ∷ e.path)) g.there v) ∙ ap (λ i. visible isolated t i v) e.is ∙ s)
 
     -- and so do the results of the earlier one
     pub later_shows : (a b : ℕ) → Before a b t → (o : OpOf N T A) → find a t ≡ Some o → (k : ℕ) → nat_lt k (length (head o).results) ≡ true → visible isolated t b (Result a k) ≡ true
@@ -216,7 +216,7 @@ module _ {N T A : Type 0} where
         let one : Some e.first ≡ Some o = sym (ap (λ i. find i t) (sym e.is) ∙ stand_found t d (stand e.first (g.step_in ∷ e.path)) g.there) ∙ found in
         let is : e.first ≡ o = cc in
         ap (λ i. visible isolated t i (Result a k)) (sym e.id) ∙ visible_there isolated t d (stand e.here (e.step_in ∷ e.path)) e.there (Result a k)
-        ∙ or_left _ _ (any_one (λ f. shows (Result a k) (results_of f)) e.step_in.front e.first e.among (both_hold _ _ (eq-eqb a (head e.first).id (sym e.is)) (ap (λ (z : OpOf N T A). nat_lt k (length (head z).results)) is ∙ l)))
+        ∙ or_left _ _ (any_one (λ f. shows (Result a k) (results_of f)) e.step_in.preceding e.first e.among (both_hold _ _ (eq-eqb a (head e.first).id (sym e.is)) (ap (λ (z : OpOf N T A). nat_lt k (length (head z).results)) is ∙ l)))
 
     -- the values that dominate an operation dominate the operations inside it
     module _ (p r b : ℕ) (e : Inside p r b t) (o : OpOf N T A) (found : find p t ≡ Some o) where
@@ -229,16 +229,16 @@ module _ {N T A : Type 0} where
       pub inner_dominated_by : isolated (head o).name ≡ false → (v : Value) → visible isolated t p v ≡ true → visible isolated t b v ≡ true
       inner_dominated_by opened v s =
           ap (λ i. visible isolated t i v) (sym e.id) ∙ visible_there isolated t d (stand e.here (e.step_in ∷ e.path)) e.there v
-          ∙ or_right (list_any (λ f. shows v (results_of f)) e.step_in.front) _ (or_right (shows v (arguments (head e.step_in.parent).id e.step_in.region (length e.step_in.args))) _
+          ∙ or_right (list_any (λ f. shows v (results_of f)) e.step_in.preceding) _ (or_right (shows v (arguments (head e.step_in.parent).id e.step_in.region (length e.step_in.args))) _
           (both_hold _ _ (ap (λ (z : OpOf N T A). not (isolated (head z).name)) parent_is ∙ ap not opened)
           (sym (visible_there isolated t d (stand e.step_in.parent e.path) up v) ∙ ap (λ i. visible isolated t i v) e.parent ∙ s)))
 
       pub inner_shows : (args : List T) (os : OpsOf N T A) → region_at r (regions o) ≡ Some (block args os) → (k : ℕ) → nat_lt k (length args) ≡ true → visible isolated t b (Arg p r k) ≡ true
       inner_shows args os is k l =
-          let one : Some (block e.step_in.args (joined_ops e.step_in.front (next e.here e.step_in.rest))) ≡ Some (block args os) = sym (shape t e.here e.step_in e.path e.there) ∙ (λ i. region_at (e.region i) (regions (parent_is i))) ∙ is in
+          let one : Some (block e.step_in.args (joined_ops e.step_in.preceding (next e.here e.step_in.rest))) ≡ Some (block args os) = sym (shape t e.here e.step_in e.path e.there) ∙ (λ i. region_at (e.region i) (regions (parent_is i))) ∙ is in
           let same : e.step_in.args ≡ args = cc in
           ap (λ i. visible isolated t i (Arg p r k)) (sym e.id) ∙ visible_there isolated t d (stand e.here (e.step_in ∷ e.path)) e.there (Arg p r k)
-          ∙ or_right (list_any (λ f. shows (Arg p r k) (results_of f)) e.step_in.front) _ (or_left _ _
+          ∙ or_right (list_any (λ f. shows (Arg p r k) (results_of f)) e.step_in.preceding) _ (or_left _ _
           (both_hold _ _ (eq-eqb p (head e.step_in.parent).id (sym e.parent)) (both_hold _ _ (eq-eqb r e.step_in.region (sym e.region)) (ap (λ (z : List T). nat_lt k (length z)) same ∙ l))))
 
   -- its symbol tables and its depth
@@ -282,7 +282,7 @@ module _ {N T A : Type 0} where
     pub put_inside : (p r : ℕ) → place.parent ≡ p → place.region ≡ r → Inside p r (head o).id (put place o t)
     put_inside p r e f = record { here = o; step_in = l.step_in; path = l.path; there = l.there; id = refl; parent = l.parent ∙ e; region = l.region ∙ f }
 
-    joined_more : (front : List (OpOf N T A)) (o : OpOf N T A) (os : OpsOf N T A) → joined_ops (front ++ o ∷ []) os ≡ joined_ops front (next o os)
+    joined_more : (preceding : List (OpOf N T A)) (o : OpOf N T A) (os : OpsOf N T A) → joined_ops (preceding ++ o ∷ []) os ≡ joined_ops preceding (next o os)
     joined_more [] o os = refl
     joined_more (f ∷ fs) o os = ap (next f) (joined_more fs o os)
 
@@ -293,17 +293,17 @@ module _ {N T A : Type 0} where
         go no_ops f g = (let bad : None ≡ Some b = g in absurd cc)
         go (next q os) f g =
             let id : (head q).id ≡ b = cc in
-            let new = step l.step_in.parent l.step_in.region l.step_in.args (l.step_in.front ++ o ∷ []) os in
-            let list : joined_ops l.step_in.front (next o l.step_in.rest) ≡ joined_ops (l.step_in.front ++ o ∷ []) (next q os) = ap (λ z. joined_ops l.step_in.front (next o z)) f ∙ sym (joined_more l.step_in.front o (next q os)) in
+            let new = step l.step_in.parent l.step_in.region l.step_in.args (l.step_in.preceding ++ o ∷ []) os in
+            let list : joined_ops l.step_in.preceding (next o l.step_in.rest) ≡ joined_ops (l.step_in.preceding ++ o ∷ []) (next q os) = ap (λ z. joined_ops l.step_in.preceding (next o z)) f ∙ sym (joined_more l.step_in.preceding o (next q os)) in
             record {
               here = q;
               step_in = new;
               path = l.path;
-              there = within l.step_in.parent l.path (stand q (new ∷ l.path)) (child l.step_in.parent l.path l.step_in.region l.step_in.args (joined_ops l.step_in.front (next o l.step_in.rest)) (stand q (new ∷ l.path)) (shape after o l.step_in l.path l.there)
-                  (subst (λ z. In (stand q (new ∷ l.path)) (ops_stands l.step_in.parent l.path l.step_in.region l.step_in.args [] z)) (sym list) (ops_child l.step_in.parent l.path l.step_in.region l.step_in.args [] (l.step_in.front ++ o ∷ []) q os))) [] after l.around;
+              there = within l.step_in.parent l.path (stand q (new ∷ l.path)) (child l.step_in.parent l.path l.step_in.region l.step_in.args (joined_ops l.step_in.preceding (next o l.step_in.rest)) (stand q (new ∷ l.path)) (shape after o l.step_in l.path l.there)
+                  (subst (λ z. In (stand q (new ∷ l.path)) (ops_stands l.step_in.parent l.path l.step_in.region l.step_in.args [] z)) (sym list) (ops_child l.step_in.parent l.path l.step_in.region l.step_in.args [] (l.step_in.preceding ++ o ∷ []) q os))) [] after l.around;
               id = id;
               first = o;
-              among = in_right o l.step_in.front (o ∷ []) (inl refl);
+              among = in_right o l.step_in.preceding (o ∷ []) (inl refl);
               is = refl;
             }
 
@@ -327,12 +327,12 @@ module _ {N T A : Type 0} where
         go : (os : OpsOf N T A) → l.step_in.rest ≡ os → first_id os ≡ None → Before c (head o).id (put place o t)
         go (next q os) f g = absurd cc
         go no_ops f g =
-            let blocks : Some (block i.step_in.args (joined_ops i.step_in.front (next i.here i.step_in.rest))) ≡ Some (block l.step_in.args (joined_ops l.step_in.front (next o l.step_in.rest))) =
+            let blocks : Some (block i.step_in.args (joined_ops i.step_in.preceding (next i.here i.step_in.rest))) ≡ Some (block l.step_in.args (joined_ops l.step_in.preceding (next o l.step_in.rest))) =
             sym (shape after i.here i.step_in i.path i.there) ∙ (λ j. region_at ((i.region ∙ sym l.region) j) (regions (same j).here)) ∙ shape after o l.step_in l.path l.there in
-            let lists : joined_ops i.step_in.front (next i.here i.step_in.rest) ≡ joined_ops l.step_in.front (next o l.step_in.rest) = cc in
-            let all : i.step_in.front ++ i.here ∷ listed i.step_in.rest ≡ l.step_in.front ++ o ∷ [] =
-            sym (listed_joined i.step_in.front (next i.here i.step_in.rest)) ∙ ap listed lists ∙ listed_joined l.step_in.front (next o l.step_in.rest) ∙ ap (λ z. l.step_in.front ++ o ∷ listed z) f in
-            elim (in_parts i.here l.step_in.front (o ∷ []) (subst (In i.here) all (in_right i.here i.step_in.front (i.here ∷ listed i.step_in.rest) (inl refl)))) [
+            let lists : joined_ops i.step_in.preceding (next i.here i.step_in.rest) ≡ joined_ops l.step_in.preceding (next o l.step_in.rest) = cc in
+            let all : i.step_in.preceding ++ i.here ∷ listed i.step_in.rest ≡ l.step_in.preceding ++ o ∷ [] =
+            sym (listed_joined i.step_in.preceding (next i.here i.step_in.rest)) ∙ ap listed lists ∙ listed_joined l.step_in.preceding (next o l.step_in.rest) ∙ ap (λ z. l.step_in.preceding ++ o ∷ listed z) f in
+            elim (in_parts i.here l.step_in.preceding (o ∷ []) (subst (In i.here) all (in_right i.here i.step_in.preceding (i.here ∷ listed i.step_in.rest) (inl refl)))) [
               | inl k ↦ record { here = o; step_in = l.step_in; path = l.path; there = l.there; id = refl; first = i.here; among = k; is = i.id }
               | inr k ↦ elim k [
                 | inl m ↦ absurd (true≢false (sym (eq-eqb c (head o).id (sym i.id ∙ ap (λ (z : OpOf N T A). (head z).id) m)) ∙ apart))
@@ -351,14 +351,14 @@ module _ {N T A : Type 0} where
         go no_ops p q = (let bad : None ≡ Some b = q in absurd cc)
         go (next r os) p q =
             let id : (head r).id ≡ b = cc in
-            let new = step l.step_in.parent l.step_in.region l.step_in.args (l.step_in.front ++ o ∷ []) os in
-            let list : joined_ops l.step_in.front (next o l.step_in.rest) ≡ joined_ops (l.step_in.front ++ o ∷ []) (next r os) = ap (λ z. joined_ops l.step_in.front (next o z)) p ∙ sym (joined_more l.step_in.front o (next r os)) in
-            let there : In (stand r (new ∷ l.path)) (stands [] (put place o t)) = within l.step_in.parent l.path (stand r (new ∷ l.path)) (child l.step_in.parent l.path l.step_in.region l.step_in.args (joined_ops l.step_in.front (next o l.step_in.rest)) (stand r (new ∷ l.path)) (shape after o l.step_in l.path l.there)
-            (subst (λ z. In (stand r (new ∷ l.path)) (ops_stands l.step_in.parent l.path l.step_in.region l.step_in.args [] z)) (sym list) (ops_child l.step_in.parent l.path l.step_in.region l.step_in.args [] (l.step_in.front ++ o ∷ []) r os))) [] after l.around in
+            let new = step l.step_in.parent l.step_in.region l.step_in.args (l.step_in.preceding ++ o ∷ []) os in
+            let list : joined_ops l.step_in.preceding (next o l.step_in.rest) ≡ joined_ops (l.step_in.preceding ++ o ∷ []) (next r os) = ap (λ z. joined_ops l.step_in.preceding (next o z)) p ∙ sym (joined_more l.step_in.preceding o (next r os)) in
+            let there : In (stand r (new ∷ l.path)) (stands [] (put place o t)) = within l.step_in.parent l.path (stand r (new ∷ l.path)) (child l.step_in.parent l.path l.step_in.region l.step_in.args (joined_ops l.step_in.preceding (next o l.step_in.rest)) (stand r (new ∷ l.path)) (shape after o l.step_in l.path l.there)
+            (subst (λ z. In (stand r (new ∷ l.path)) (ops_stands l.step_in.parent l.path l.step_in.region l.step_in.args [] z)) (sym list) (ops_child l.step_in.parent l.path l.step_in.region l.step_in.args [] (l.step_in.preceding ++ o ∷ []) r os))) [] after l.around in
             let same = same_stand after distinct (stand f.here (f.step_in ∷ f.path)) (stand r (new ∷ l.path)) f.there there (f.id ∙ sym id) in
             let paths : f.step_in ∷ f.path ≡ new ∷ l.path = ap (λ (z : StandOf N T A). z.path) same in
             let steps : f.step_in ≡ new = cc in
-            elim (in_parts f.first l.step_in.front (o ∷ []) (subst (λ (s : StepOf N T A). In f.first s.front) steps f.among)) [
+            elim (in_parts f.first l.step_in.preceding (o ∷ []) (subst (λ (s : StepOf N T A). In f.first s.preceding) steps f.among)) [
               | inl k ↦ record { here = o; step_in = l.step_in; path = l.path; there = l.there; id = refl; first = f.first; among = k; is = f.is }
               | inr k ↦ elim k [
                 | inl m ↦ absurd (true≢false (sym (eq-eqb a (head o).id (sym f.is ∙ ap (λ (z : OpOf N T A). (head z).id) m)) ∙ apart))

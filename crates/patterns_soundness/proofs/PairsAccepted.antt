@@ -139,8 +139,8 @@ module _ (y : ℕ) where
       let m = r.high in
       record { low = omega (arith, l); high = omega (arith, m); other = λ j n. r.other j (omega (arith, n)) }
 
-  module _ (x l : ℕ) (front : Place) (rs ys : List TypeTerm) (few : ℕ) where
-    pub pairs_apart : (ms : List Bool) (h k c : ℕ) (tys : List TypeTerm) → h + length tys ≤ c → AllApart x y l front rs ys few (pairs ms h k c tys)
+  module _ (x l : ℕ) (insertion : Place) (rs ys : List TypeTerm) (few : ℕ) where
+    pub pairs_apart : (ms : List Bool) (h k c : ℕ) (tys : List TypeTerm) → h + length tys ≤ c → AllApart x y l insertion rs ys few (pairs ms h k c tys)
     unfolding pairs
     pairs_apart [] h k c tys e = tt
     pairs_apart (true ∷ ms) h k c [] e = tt

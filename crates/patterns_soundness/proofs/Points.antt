@@ -20,18 +20,18 @@ use Rattle.ir_event.proofs.of_tree_laws.Members.{found_stands}
 use Rattle.ir_event.proofs.of_tree_laws.DominatedBy.{stands_operands, visible_there}
 use Rattle.ir_event.specs.Modules.{Module}
 use Rattle.ir_event.specs.Step.{IsSorted}
-use Rattle.patterns_base.proofs.Front.{after_dominated_by}
+use Rattle.patterns_base.proofs.Preceding.{after_dominated_by}
 use Rattle.patterns_base.proofs.Headed.{found_there}
-use Rattle.patterns_base.proofs.Made.{stood}
+use Rattle.patterns_base.proofs.Made.{located}
 use Rattle.patterns_base.proofs.Plans.{StandsAt, dominated_by}
-use Rattle.patterns_soundness.specs.base.Looks.{Header, front_of, defining_op, insertion_point, is_verified}
+use Rattle.patterns_soundness.specs.base.Looks.{Header, insertion_of, defining_op, insertion_point, is_verified}
 
 -- the operation is in the module and verified, and this place is before it
-pub record Point (m : Module) (o : Operation) (front : Place) : Type 0 where
-  pub formed : IsWellFormed is_isolated m
+pub record Point (m : Module) (o : Operation) (insertion : Place) : Type 0 where
+  pub wellformed : IsWellFormed is_isolated m
   pub sorted : IsSorted m
   pub found : find (head o).id m.tree ≡ Some o
-  pub place : front_of (head o).id m.tree ≡ Some front
+  pub place : insertion_of (head o).id m.tree ≡ Some insertion
   pub verified : is_verified m.tree (head o) ≡ true
 
 -- the defining operation of a value
@@ -53,19 +53,19 @@ defining_op_is t (Result x k) h e = go (find x t) refl e
 
 -- the operands of operations in a tree
 pub own_operand : (t : Operation) → HasDistinctIds t → operands_visible is_isolated t ≡ true → (s : StandOf (List ℕ) TypeTerm AttrTerm) → In s (stands [] t) → (v : Value) → In v (head s.here).operands → dominated_by_from is_isolated s.path v ≡ true
-own_operand t d formed s h v i =
+own_operand t d wellformed s h v i =
     all_each (dominated_by_from is_isolated s.path) (head s.here).operands
-    (all_each (λ (z : StandOf (List ℕ) TypeTerm AttrTerm). list_all (dominated_by_from is_isolated z.path) (head z.here).operands) (stands [] t) (sym (stands_operands is_isolated t) ∙ formed) s h) v i
+    (all_each (λ (z : StandOf (List ℕ) TypeTerm AttrTerm). list_all (dominated_by_from is_isolated z.path) (head z.here).operands) (stands [] t) (sym (stands_operands is_isolated t) ∙ wellformed) s h) v i
 
 -- an operation comes after the place before it, verified or not
-pub stands_after : (m : Module) (x : ℕ) (front : Place) → IsWellFormed is_isolated m → front_of x m.tree ≡ Some front → StandsAt x front m
-stands_after m x front formed at = placed (place_of x m.tree) refl at
+pub stands_after : (m : Module) (x : ℕ) (insertion : Place) → IsWellFormed is_isolated m → insertion_of x m.tree ≡ Some insertion → StandsAt x insertion m
+stands_after m x insertion wellformed at = placed (place_of x m.tree) refl at
   where
-    placed : (p : Option Place) → place_of x m.tree ≡ p → option_map (insertion_point x) p ≡ Some front → StandsAt x front m
+    placed : (p : Option Place) → place_of x m.tree ≡ p → option_map (insertion_point x) p ≡ Some insertion → StandsAt x insertion m
     placed None e f = absurd cc
-    placed (Some p) e f = (let one : insertion_point x p ≡ front = cc in subst (λ z. StandsAt x z m) one (stood is_isolated x p m formed e))
+    placed (Some p) e f = (let one : insertion_point x p ≡ insertion = cc in subst (λ z. StandsAt x z m) one (located is_isolated x p m wellformed e))
 
-module _ (m : Module) (o : Operation) (front : Place) (s : Point m o front) where
+module _ (m : Module) (o : Operation) (insertion : Place) (s : Point m o insertion) where
   abbrev x : ℕ
   x = (head o).id
 
@@ -73,28 +73,28 @@ module _ (m : Module) (o : Operation) (front : Place) (s : Point m o front) wher
   t = m.tree
 
   -- the operation comes after that place
-  pub stands_there : StandsAt (head o).id front m
-  stands_there = stands_after m (head o).id front s.formed s.place
+  pub stands_there : StandsAt (head o).id insertion m
+  stands_there = stands_after m (head o).id insertion s.wellformed s.place
 
   pub here_is : stands_there.at.here ≡ o
-  here_is = (let two : Some stands_there.at.here ≡ Some o = sym (found_there is_isolated (head o).id front m stands_there) ∙ s.found in cc)
+  here_is = (let two : Some stands_there.at.here ≡ Some o = sym (found_there is_isolated (head o).id insertion m stands_there) ∙ s.found in cc)
 
   -- its operands dominate it
   pub dominated_by_operand : (v : Value) → In v (head o).operands → dominated_by (head o).id v m ≡ true
   dominated_by_operand v i =
       let w = found_stands x t o s.found in
       ap (λ z. dominated_by z v m) (sym w.2)
-      ∙ visible_there is_isolated t s.formed.distinct w.0 w.1 v
-      ∙ own_operand t s.formed.distinct s.formed.formed.visible w.0 w.1 v (subst (λ (z : Operation). In v (head z).operands) (sym w.3) i)
+      ∙ visible_there is_isolated t s.wellformed.distinct w.0 w.1 v
+      ∙ own_operand t s.wellformed.distinct s.wellformed.wellformed.visible w.0 w.1 v (subst (λ (z : Operation). In v (head z).operands) (sym w.3) i)
 
   -- and so do the operands of an operand's defining operation
   pub dominated_by_after : (v : Value) → In v (head o).operands → (h : Header) → DefiningOp m.tree v h → (w : Value) → In w h.operands → dominated_by (head o).id w m ≡ true
   dominated_by_after v i h g w j =
       let own = found_stands x t o s.found in
       let far = found_stands g.id t g.there g.found in
-      let d = s.formed.distinct in
-      let inner = own_operand t d s.formed.formed.visible far.0 far.1 w (subst (λ (z : Operation). In w (head z).operands) (sym far.3) (subst (λ (z : Header). In w z.operands) (sym g.header) j)) in
-      let near = own_operand t d s.formed.formed.visible own.0 own.1 (Result (head far.0.here).id g.number)
+      let d = s.wellformed.distinct in
+      let inner = own_operand t d s.wellformed.wellformed.visible far.0 far.1 w (subst (λ (z : Operation). In w (head z).operands) (sym far.3) (subst (λ (z : Header). In w z.operands) (sym g.header) j)) in
+      let near = own_operand t d s.wellformed.wellformed.visible own.0 own.1 (Result (head far.0.here).id g.number)
       (subst (λ (z : Value). In z (head own.0.here).operands) (g.is ∙ ap (λ z. Result z g.number) (sym far.2)) (subst (λ (z : Operation). In v (head z).operands) (sym own.3) i)) in
       ap (λ z. dominated_by z w m) (sym own.2)
       ∙ visible_there is_isolated t d own.0 own.1 w

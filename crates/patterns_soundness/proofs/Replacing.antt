@@ -36,16 +36,16 @@ use Rattle.ir_event.specs.Modules.{Module}
 use Rattle.rewriter_machine.specs.Contents.{Edit, all_edited, edit_reason, edited}
 use Rattle.rewriter_machine.specs.Edits.{Erase, Replace}
 use Rattle.patterns_base.specs.Lists.{Free}
-use Rattle.patterns_base.proofs.Front.{stands_before}
+use Rattle.patterns_base.proofs.Preceding.{stands_before}
 use Rattle.patterns_base.proofs.Given.{user}
 use Rattle.patterns_base.proofs.Headed as headed
 use Rattle.patterns_base.proofs.Plans.{StandsAt, dominated_by}
 use Rattle.patterns_soundness.specs.base.Looks.{Header}
 use Rattle.patterns_soundness.proofs.Across.{before_is, after_inside, inside_after, later_outside, not_root, own_depth}
 use Rattle.patterns_soundness.proofs.Arguments.{replaced_uses}
-use Rattle.patterns_soundness.proofs.CastsAccepted.{Room}
+use Rattle.patterns_soundness.proofs.CastsAccepted.{Headroom}
 use Rattle.patterns_soundness.proofs.Kept.{Kept}
-use Rattle.patterns_soundness.proofs.NearAccepted.{erase_formed, erase_reason, inner_more, left_kept, operands_in, result_type, results_in, there_by, there_is}
+use Rattle.patterns_soundness.proofs.NearAccepted.{erase_wellformed, erase_reason, inner_more, left_kept, operands_in, result_type, results_in, there_by, there_is}
 use Rattle.patterns_soundness.proofs.Ordered.{Before, Inside, before_headed, inside_headed}
 use Rattle.patterns_soundness.proofs.Results.{type_kept}
 use Rattle.patterns_soundness.proofs.Points.{own_operand}
@@ -62,10 +62,10 @@ Pair = ℕ × Value × TypeTerm
 abbrev pub pair_edits : List Pair → List Edit
 pair_edits ps = map (λ (p : Pair). Replace (Result p.0 0) p.1) ps
 
-module _ (x y l : ℕ) (front : Place) (rs ys : List TypeTerm) (few : ℕ) where
+module _ (x y l : ℕ) (insertion : Place) (rs ys : List TypeTerm) (few : ℕ) where
   -- x comes after y, and l is in a block of y
   pub record Near (m : Module) : Type 0 where
-    pub stood : StandsAt x front m
+    pub located : StandsAt x insertion m
     pub before : Before y x m.tree
     pub x_results : results_in x m.tree ≡ Some rs
     pub y_results : results_in y m.tree ≡ Some ys
@@ -79,7 +79,7 @@ module _ (x y l : ℕ) (front : Place) (rs ys : List TypeTerm) (few : ℕ) where
 
   pub near_kept : (B : ℕ → Type 0) (m n : Module) → B x → B y → B l → Kept is_isolated B m.tree n.tree → IsWellFormed is_isolated n → Near m → Near n
   near_kept B m n bx by bl k w s = record {
-    stood = record { formed = w; at = inside_after x front n.tree (before_is x front m.tree s.stood.at) (k.inside front.parent front.region x bx (after_inside x front m.tree s.stood.at)) };
+    located = record { wellformed = w; at = inside_after x insertion n.tree (before_is x insertion m.tree s.located.at) (k.inside insertion.parent insertion.region x bx (after_inside x insertion m.tree s.located.at)) };
     before = k.before y x by bx s.before;
     x_results = ap (option_map (λ (h : Header). h.results)) (k.heads x bx) ∙ s.x_results;
     y_results = ap (option_map (λ (h : Header). h.results)) (k.heads y by) ∙ s.y_results;
@@ -100,7 +100,7 @@ module _ (x y l : ℕ) (front : Place) (rs ys : List TypeTerm) (few : ℕ) where
 
     pub near_headed : Near m → IsWellFormed is_isolated (record m { tree = each_head f m.tree }) → Near (record m { tree = each_head f m.tree })
     near_headed s w = record {
-      stood = headed.stood_headed is_isolated f alike x front m s.stood w;
+      located = headed.located_headed is_isolated f alike x insertion m s.located w;
       before = before_headed f alike m.tree y x s.before;
       x_results = results_headed x rs s.x_results;
       y_results = results_headed y ys s.y_results;
@@ -139,7 +139,7 @@ module _ (x y l : ℕ) (front : Place) (rs ys : List TypeTerm) (few : ℕ) where
     users_ok = each_all (λ u. visible is_isolated t u.0 p.1) (uses_of (Result p.0 0) t) (λ u h.
         let o = s.users u h in
         let k = user (Result p.0 0) t u h in
-        let own = own_operand t w.distinct w.formed.visible k.0 k.1 (Result p.0 0) k.3 in
+        let own = own_operand t w.distinct w.wellformed.visible k.0 k.1 (Result p.0 0) k.3 in
         let z = found_stands (head o.0).id t o.0 (finds o.0 o.1) in
         let there : In (stand o.0 z.0.path) (stands [] t) = subst (λ (q : Operation). In (stand q z.0.path) (stands [] t)) z.3 z.1 in
         ap (λ i. visible is_isolated t i p.1) k.2
@@ -154,8 +154,8 @@ module _ (x y l : ℕ) (front : Place) (rs ys : List TypeTerm) (few : ℕ) where
         (passed _ _ _ ((λ i. option_eq same_type (old i) (s.of i)) ∙ s.same)
         (passed _ _ _ users_ok refl))))
 
-    pub one_formed : IsWellFormed is_isolated (edited (Replace (Result p.0 0) p.1) m)
-    one_formed = replaced_keeps is_isolated (Result p.0 0) p.1 m w users_ok
+    pub one_wellformed : IsWellFormed is_isolated (edited (Replace (Result p.0 0) p.1) m)
+    one_wellformed = replaced_keeps is_isolated (Result p.0 0) p.1 m w users_ok
 
     abbrev zs_after : List Operation
     zs_after = map (each_head (put_values (Result p.0 0) p.1)) zs
@@ -194,7 +194,7 @@ module _ (x y l : ℕ) (front : Place) (rs ys : List TypeTerm) (few : ℕ) where
 
   pub record ReplacedAll (ps : List Pair) (m : Module) : Type 0 where
     pub free : (fs : List Edit) → Free fs (all_edited (pair_edits ps) m) → Free (pair_edits ps ++ fs) m
-    pub formed : IsWellFormed is_isolated (all_edited (pair_edits ps) m)
+    pub wellformed : IsWellFormed is_isolated (all_edited (pair_edits ps) m)
     pub near : Near m → Near (all_edited (pair_edits ps) m)
     pub holders : (h : ℕ) (ty : TypeTerm) → Holder h ty m → Holder h ty (all_edited (pair_edits ps) m)
     pub unused : (p : Pair) → In p ps → uses_of (Result p.0 0) (all_edited (pair_edits ps) m).tree ≡ []
@@ -204,18 +204,18 @@ module _ (x y l : ℕ) (front : Place) (rs ys : List TypeTerm) (few : ℕ) where
     pub counts : op_count (all_edited (pair_edits ps) m).tree ≡ op_count m.tree
 
   pub replaced_all : (ps : List Pair) (zs : List Operation) (m : Module) → IsWellFormed is_isolated m → ((o : Operation) → In o zs → find (head o).id m.tree ≡ Some o) → ((p : Pair) → In p ps → Fresh p zs m) → AllApart ps → ReplacedAll ps m
-  replaced_all [] zs m w finds fresh apart = record { free = λ fs k. k; formed = w; near = λ s. s; holders = λ h ty s. s; unused = λ p i. absurd i; keeps = λ v a e. e; dominance = λ b v. refl; next = refl; counts = refl }
+  replaced_all [] zs m w finds fresh apart = record { free = λ fs k. k; wellformed = w; near = λ s. s; holders = λ h ty s. s; unused = λ p i. absurd i; keeps = λ v a e. e; dominance = λ b v. refl; next = refl; counts = refl }
   replaced_all (p ∷ ps) zs m w finds fresh apart =
       let s = fresh p (inl refl) in
       let n = edited (Replace (Result p.0 0) p.1) m in
-      let formed = one_formed p zs m w finds s in
+      let wellformed = one_wellformed p zs m w finds s in
       let g = put_values (Result p.0 0) p.1 in
       let like : (h : Header) → Alike (put_values (Result p.0 0) p.1 h) h = (λ h. record { id = refl; name = refl; results = refl }) in
-      let later = replaced_all ps (map (each_head g) zs) n formed (finds_after p zs m w finds s) (λ q i. fresh_after p zs m w finds s q (fresh q (inr i))) apart.2 in
+      let later = replaced_all ps (map (each_head g) zs) n wellformed (finds_after p zs m w finds s) (λ q i. fresh_after p zs m w finds s q (fresh q (inr i))) apart.2 in
       record {
         free = λ fs k. (one_reason p zs m w finds s, later.free fs k);
-        formed = later.formed;
-        near = λ k. later.near (near_headed g like (λ h. refl) (λ h. length-map h.operands (put_value (Result p.0 0) p.1)) m k formed);
+        wellformed = later.wellformed;
+        near = λ k. later.near (near_headed g like (λ h. refl) (λ h. length-map h.operands (put_value (Result p.0 0) p.1)) m k wellformed);
         holders = λ h ty k. later.holders h ty (holder_headed g like (λ h. refl) (λ h. length-map h.operands (put_value (Result p.0 0) p.1)) m h ty k);
         unused = done later;
         keeps = λ v a e. later.keeps v (λ q i. a q (inr i)) (others_stay (Result p.0 0) p.1 v (a p (inl refl)).0 (a p (inl refl)).1 m.tree ∙ e);

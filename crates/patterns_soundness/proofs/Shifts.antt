@@ -96,14 +96,14 @@ module _ (x : ℕ) (place : Place) (m : Module) (d : HasDistinctIds m.tree) (fre
   move_heads = move_stays.1
 
 -- the first operations of a block are moved before the operation around it, one after another
-pub moved_types : (x r : ℕ) (front : Place) (ys zs : List ℕ) (m : Module) → HasFirst x r front (ys ++ zs) m → (v : Value) → type_of_value v (all_edited (moving front ys) m).tree ≡ type_of_value v m.tree
-moved_types x r front [] zs m h v = refl
-moved_types x r front (y ∷ ys) zs m h v =
-    let k = hold_step is_isolated is_table x r front y (ys ++ zs) m h in
-    moved_types x r front ys zs (edited (Move y front) m) k.1 v ∙ move_types y front m h.stood.formed.distinct k.0 v
+pub moved_types : (x r : ℕ) (insertion : Place) (ys zs : List ℕ) (m : Module) → HasFirst x r insertion (ys ++ zs) m → (v : Value) → type_of_value v (all_edited (moving insertion ys) m).tree ≡ type_of_value v m.tree
+moved_types x r insertion [] zs m h v = refl
+moved_types x r insertion (y ∷ ys) zs m h v =
+    let k = hold_step is_isolated is_table x r insertion y (ys ++ zs) m h in
+    moved_types x r insertion ys zs (edited (Move y insertion) m) k.1 v ∙ move_types y insertion m h.located.wellformed.distinct k.0 v
 
-pub moved_heads : (x r : ℕ) (front : Place) (ys zs : List ℕ) (m : Module) → HasFirst x r front (ys ++ zs) m → (z : ℕ) → option_map head (find z (all_edited (moving front ys) m).tree) ≡ option_map head (find z m.tree)
-moved_heads x r front [] zs m h z = refl
-moved_heads x r front (y ∷ ys) zs m h z =
-    let k = hold_step is_isolated is_table x r front y (ys ++ zs) m h in
-    moved_heads x r front ys zs (edited (Move y front) m) k.1 z ∙ move_heads y front m h.stood.formed.distinct k.0 z
+pub moved_heads : (x r : ℕ) (insertion : Place) (ys zs : List ℕ) (m : Module) → HasFirst x r insertion (ys ++ zs) m → (z : ℕ) → option_map head (find z (all_edited (moving insertion ys) m).tree) ≡ option_map head (find z m.tree)
+moved_heads x r insertion [] zs m h z = refl
+moved_heads x r insertion (y ∷ ys) zs m h z =
+    let k = hold_step is_isolated is_table x r insertion y (ys ++ zs) m h in
+    moved_heads x r insertion ys zs (edited (Move y insertion) m) k.1 z ∙ move_heads y insertion m h.located.wellformed.distinct k.0 z

@@ -40,19 +40,19 @@ use Rattle.ir_event.proofs.of_tree_laws.Without.{same_head}
 use Rattle.ir_event.specs.Modules.{Module}
 use Rattle.rewriter_machine.specs.Contents.{Edit, edit_reason, edited}
 use Rattle.rewriter_machine.specs.Edits.{Move}
-use Rattle.patterns_base.proofs.Front.{cut_at, stands_before}
+use Rattle.patterns_base.proofs.Preceding.{cut_at, stands_before}
 use Rattle.patterns_base.proofs.Given.{seen_is, user}
 use Rattle.patterns_base.proofs.Headed.{found_there}
 use Rattle.patterns_base.proofs.Placed as placed
 use Rattle.patterns_base.proofs.Placed.{Following}
 use Rattle.patterns_base.proofs.Plans.{StandsAt, dominated_by}
 use Rattle.patterns_soundness.specs.base.Looks.{Header}
-use Rattle.patterns_soundness.specs.base.Lowering.{before_in, beside, end_of}
+use Rattle.patterns_soundness.specs.base.Lowering.{before_in, next_to, end_of}
 use Rattle.patterns_soundness.proofs.Across.{argument_within, before_is, after_inside, inner_unseen, inside_after, later_outside, not_parent, not_root, one_stands, sibling_inside}
 use Rattle.patterns_soundness.proofs.Kept as kept
 use Rattle.patterns_soundness.proofs.Kept.{Kept}
 use Rattle.patterns_soundness.proofs.Moving as moving
-use Rattle.patterns_soundness.proofs.Moving.{HasBlock, stood_left}
+use Rattle.patterns_soundness.proofs.Moving.{HasBlock, located_left}
 use Rattle.patterns_soundness.proofs.Ordered.{Before, Inside, around_at, before_both, inner_dominated_by, inner_table, inside_left, later_around, later_dominated_by, later_shows, later_table, put_before, put_inside, there_left}
 use Rattle.ir_event.proofs.Facts.{own_id}
 
@@ -97,10 +97,10 @@ pub each_at : (f : ℕ → ℕ → OpsOf (List ℕ) TypeTerm AttrTerm → OpsOf 
     → region_at r (regions (each_list f q)) ≡ Some (block args (f (head q).id r (ops_each_list f os)))
 each_at f r (op h rs) args os e = (let n : 0 + r ≡ r = omega arith in region_each f h.id 0 r rs ∙ ap (λ z. option_map (region_each_list f h.id z) (region_at r rs)) n ∙ ap (option_map (region_each_list f h.id r)) e)
 
-module _ (x y : ℕ) (front : Place) (hx hy : Header) (deep : ℕ) where
+module _ (x y : ℕ) (insertion : Place) (hx hy : Header) (deep : ℕ) where
   -- y comes before x, which comes after a place
   pub record Across (m : Module) : Type 0 where
-    pub stood : StandsAt x front m
+    pub located : StandsAt x insertion m
     pub before : Before y x m.tree
     pub x_is : option_map head (find x m.tree) ≡ Some hx
     pub y_is : option_map head (find y m.tree) ≡ Some hy
@@ -112,7 +112,7 @@ module _ (x y : ℕ) (front : Place) (hx hy : Header) (deep : ℕ) where
   pub record Fit (z : Operation) : Type 0 where
     pub x_out : has_id x z ≡ false
     pub y_out : has_id y z ≡ false
-    pub parent_out : has_id front.parent z ≡ false
+    pub parent_out : has_id insertion.parent z ≡ false
     pub levels : deep + 1 + depth z ≤ most_around
 
   -- x and y are different
@@ -120,7 +120,7 @@ module _ (x y : ℕ) (front : Place) (hx hy : Header) (deep : ℕ) where
   two_apart m s =
       let o = there_of (find y m.tree) hy s.y_is in
       let w = found_stands y m.tree o.0 o.1 in
-      go o.0 (ap (λ (z : Operation). (head z).id) (sym w.3) ∙ w.2) (later_outside m.tree s.stood.formed.distinct y x s.before o.0 o.1) (eqb x y) refl
+      go o.0 (ap (λ (z : Operation). (head z).id) (sym w.3) ∙ w.2) (later_outside m.tree s.located.wellformed.distinct y x s.before o.0 o.1) (eqb x y) refl
     where
       go : (o : Operation) → (head o).id ≡ y → has_id x o ≡ false → (b : Bool) → eqb x y ≡ b → eqb x y ≡ false
       go o id out false e = e
@@ -135,36 +135,36 @@ module _ (x y : ℕ) (front : Place) (hx hy : Header) (deep : ℕ) where
     after = put place z (without (head z).id m.tree)
 
     x_there : has_id x m.tree ≡ true
-    x_there = ap (λ i. has_id i t) (sym s.stood.at.id) ∙ stand_present [] t (stand s.stood.at.here (s.stood.at.step_in ∷ s.stood.at.path)) s.stood.at.there
+    x_there = ap (λ i. has_id i t) (sym s.located.at.id) ∙ stand_present [] t (stand s.located.at.here (s.located.at.step_in ∷ s.located.at.path)) s.located.at.there
 
     y_there : has_id y m.tree ≡ true
     y_there = (let o = there_of (find y t) hy s.y_is in let w = found_stands y t o.0 o.1 in ap (λ i. has_id i t) (sym w.2) ∙ stand_present [] t w.0 w.1)
 
     y_apart : eqb y (head z).id ≡ false
-    y_apart = kept.apart is_isolated is_table m s.stood.formed z place found root point outside (λ b. ⊥) (λ b h. absurd h) (λ b h. absurd h) y fit.y_out
+    y_apart = kept.apart is_isolated is_table m s.located.wellformed z place found root point outside (λ b. ⊥) (λ b h. absurd h) (λ b h. absurd h) y fit.y_out
 
     -- the properties of x and y that the move keeps
     pub across_moved : IsWellFormed is_isolated (record m { tree = put place z (without (head z).id m.tree) })
         → ((v : Value) → (owner_of v).0 ≡ (head z).id → visible is_isolated (put place z (without (head z).id m.tree)) x v ≡ true → eqb (owner_of v).0 y ≡ false → visible is_isolated (put place z (without (head z).id m.tree)) y v ≡ true)
         → Across (record m { tree = put place z (without (head z).id m.tree) })
-    across_moved formed new = record {
-      stood = record {
-        formed = formed;
-        at = inside_after x front after (before_is x front t s.stood.at) (moving.inside_same is_isolated is_table m s.stood.formed z place found root point outside x x_there fit.x_out front.parent front.region (after_inside x front t s.stood.at));
+    across_moved wellformed new = record {
+      located = record {
+        wellformed = wellformed;
+        at = inside_after x insertion after (before_is x insertion t s.located.at) (moving.inside_same is_isolated is_table m s.located.wellformed z place found root point outside x x_there fit.x_out insertion.parent insertion.region (after_inside x insertion t s.located.at));
       };
-      before = moving.before_same is_isolated is_table m s.stood.formed z place found root point outside x x_there fit.x_out y y_apart s.before;
-      x_is = moving.head_same is_isolated is_table m s.stood.formed z place found root point outside x x_there fit.x_out ∙ s.x_is;
-      y_is = moving.head_same is_isolated is_table m s.stood.formed z place found root point outside y y_there fit.y_out ∙ s.y_is;
-      unused = λ k. nothing (uses_of (Result y k) after) (λ u i. subst (In u) (s.unused k) (moving.used_before is_isolated is_table m s.stood.formed z place found root point outside (Result y k) u i));
+      before = moving.before_same is_isolated is_table m s.located.wellformed z place found root point outside x x_there fit.x_out y y_apart s.before;
+      x_is = moving.head_same is_isolated is_table m s.located.wellformed z place found root point outside x x_there fit.x_out ∙ s.x_is;
+      y_is = moving.head_same is_isolated is_table m s.located.wellformed z place found root point outside y y_there fit.y_out ∙ s.y_is;
+      unused = λ k. nothing (uses_of (Result y k) after) (λ u i. subst (In u) (s.unused k) (moving.used_before is_isolated is_table m s.located.wellformed z place found root point outside (Result y k) u i));
       near = λ v e n. near_by v e n (eqb (owner_of v).0 (head z).id) refl;
-      depths = moving.around_same is_isolated is_table m s.stood.formed z place found root point outside x x_there fit.x_out ∙ s.depths;
+      depths = moving.around_same is_isolated is_table m s.located.wellformed z place found root point outside x x_there fit.x_out ∙ s.depths;
     }
       where
         near_by : (v : Value) → visible is_isolated (put place z (without (head z).id m.tree)) x v ≡ true → eqb (owner_of v).0 y ≡ false → (b : Bool) → eqb (owner_of v).0 (head z).id ≡ b → visible is_isolated (put place z (without (head z).id m.tree)) y v ≡ true
         near_by v e n true k = new v (eqb-true (owner_of v).0 (head z).id k) e n
         near_by v e n false k =
-            moving.dominance is_isolated is_table m s.stood.formed z place found root point outside y y_there fit.y_out v k
-            ∙ s.near v (sym (moving.dominance is_isolated is_table m s.stood.formed z place found root point outside x x_there fit.x_out v k) ∙ e) n
+            moving.dominance is_isolated is_table m s.located.wellformed z place found root point outside y y_there fit.y_out v k
+            ∙ s.near v (sym (moving.dominance is_isolated is_table m s.located.wellformed z place found root point outside x x_there fit.x_out v k) ∙ e) n
 
     -- the users of z's results are other operations, or inside other operations, that stay as they are
     pub users_moved : (vs : List Operation) → UsedBy z vs m.tree → ((o : Operation) → In o vs → find (head o).id m.tree ≡ Some o) → ((o : Operation) → In o vs → Lack z o) → ((o : Operation) → In o vs → has_id place.parent o ≡ false)
@@ -173,27 +173,27 @@ module _ (x y : ℕ) (front : Place) (hx hy : Header) (deep : ℕ) where
     users_moved vs users finds lacks far seen k l = each_all (λ u. visible is_isolated after u.0 (Result (head z).id k)) (uses_of (Result (head z).id k) t) (λ u h.
         let o = users k u h in
         let w = user (Result (head z).id k) t u h in
-        let own = all_each (dominated_by_from is_isolated w.0.path) (head w.0.here).operands (all_each (λ (z : Stand). list_all (dominated_by_from is_isolated z.path) (head z.here).operands) (stands [] t) (sym (stands_operands is_isolated t) ∙ s.stood.formed.formed.visible) w.0 w.1) (Result (head z).id k) w.3 in
+        let own = all_each (dominated_by_from is_isolated w.0.path) (head w.0.here).operands (all_each (λ (z : Stand). list_all (dominated_by_from is_isolated z.path) (head z.here).operands) (stands [] t) (sym (stands_operands is_isolated t) ∙ s.located.wellformed.wellformed.visible) w.0 w.1) (Result (head z).id k) w.3 in
         let old = found_stands (head o.0).id t o.0 (finds o.0 o.1) in
         let lack = lacks o.0 o.1 in
-        let new = found_stands (head o.0).id after o.0 (moving.literal is_isolated is_table m s.stood.formed z place found root point outside o.0 (finds o.0 o.1) lack.0 lack.1 (far o.0 o.1)) in
-        let distinct = moving.after_distinct is_isolated is_table m s.stood.formed z place found root point outside in
+        let new = found_stands (head o.0).id after o.0 (moving.literal is_isolated is_table m s.located.wellformed z place found root point outside o.0 (finds o.0 o.1) lack.0 lack.1 (far o.0 o.1)) in
+        let distinct = moving.after_distinct is_isolated is_table m s.located.wellformed z place found root point outside in
         let new_there : In (stand o.0 new.0.path) (stands [] after) = subst (λ (q : Operation). In (stand q new.0.path) (stands [] after)) new.3 new.1 in
         ap (λ i. visible is_isolated after i (Result (head z).id k)) w.2
-        ∙ moving.transferred is_isolated is_table m s.stood.formed z place found root point outside o.0 old.0.path new.0.path (subst (λ (q : Operation). In (stand q old.0.path) (stands [] t)) old.3 old.1) new_there (Result (head z).id k)
+        ∙ moving.transferred is_isolated is_table m s.located.wellformed z place found root point outside o.0 old.0.path new.0.path (subst (λ (q : Operation). In (stand q old.0.path) (stands [] t)) old.3 old.1) new_there (Result (head z).id k)
         (sym (visible_there is_isolated after distinct (stand o.0 new.0.path) new_there (Result (head z).id k)) ∙ seen o.0 o.1 k l) w.0 w.1 (ap (λ i. has_id i o.0) (sym w.2) ∙ o.2) own)
 
     -- a block of x that z isn't moved out of or into
-    pub side_moved : (n : StandsAt x front (record m { tree = put place z (without (head z).id m.tree) })) (q : ℕ) (args : List TypeTerm) (ws : List Operation) → ((o : Operation) → In o ws → (has_id (head z).id o ≡ false) × (has_id place.parent o ≡ false)) → is_in_block place x q ≡ false
-        → region_at q (regions s.stood.at.here) ≡ Some (block args (joined_ops ws no_ops)) → region_at q (regions n.at.here) ≡ Some (block args (joined_ops ws no_ops))
+    pub side_moved : (n : StandsAt x insertion (record m { tree = put place z (without (head z).id m.tree) })) (q : ℕ) (args : List TypeTerm) (ws : List Operation) → ((o : Operation) → In o ws → (has_id (head z).id o ≡ false) × (has_id place.parent o ≡ false)) → is_in_block place x q ≡ false
+        → region_at q (regions s.located.at.here) ≡ Some (block args (joined_ops ws no_ops)) → region_at q (regions n.at.here) ≡ Some (block args (joined_ops ws no_ops))
     side_moved n q args ws lacks elsewhere is =
         let zi = (head z).id in
-        let xo = s.stood.at.here in
+        let xo = s.located.at.here in
         let rest = joined_ops ws no_ops in
-        let id : (head xo).id ≡ x = s.stood.at.id in
-        let left = stood_left t z xo s.stood.formed.distinct found (ap (λ i. find i t) id ∙ found_there is_isolated x front m s.stood) (ap (λ i. has_id i z) id ∙ fit.x_out) in
+        let id : (head xo).id ≡ x = s.located.at.id in
+        let left = located_left t z xo s.located.wellformed.distinct found (ap (λ i. find i t) id ∙ found_there is_isolated x insertion m s.located) (ap (λ i. has_id i z) id ∙ fit.x_out) in
         let now : find x after ≡ Some (put place z (each_list (dropping zi) xo)) = put_find place z x (absent_find x z fit.x_out) (without zi t) ∙ ap (option_map (put place z)) (ap (λ i. find i (without zi t)) (sym id) ∙ left) in
-        let same : Some n.at.here ≡ Some (put place z (each_list (dropping zi) xo)) = sym (found_there is_isolated x front (record m { tree = after }) n) ∙ now in
+        let same : Some n.at.here ≡ Some (put place z (each_list (dropping zi) xo)) = sym (found_there is_isolated x insertion (record m { tree = after }) n) ∙ now in
         let here : n.at.here ≡ put place z (each_list (dropping zi) xo) = cc in
         let one = each_at (dropping zi) q xo args rest is in
         let two = each_at (put_here place z) q (each_list (dropping zi) xo) args (drop_op zi (ops_each_list (dropping zi) rest)) one in
@@ -209,6 +209,6 @@ module _ (x y : ℕ) (front : Place) (hx hy : Header) (deep : ℕ) where
     -- the number of operations stays the same
     pub count_moved : op_count (put place z (without (head z).id m.tree)) ≡ op_count m.tree
     count_moved =
-        let a = put_op_count place z (without (head z).id t) (moving.may is_isolated is_table m s.stood.formed z place found root point outside) in
-        let b = taken_op_count (head z).id t z s.stood.formed.distinct found root in
+        let a = put_op_count place z (without (head z).id t) (moving.may is_isolated is_table m s.located.wellformed z place found root point outside) in
+        let b = taken_op_count (head z).id t z s.located.wellformed.distinct found root in
         omega (arith, a, b)

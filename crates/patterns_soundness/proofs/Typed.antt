@@ -71,7 +71,7 @@ pub record Typed (t o : Operation) (ins outs : TypesRow) : Type 0 where
   pub known : Known
   pub number : known.number ≡ first_called type.Number ins.first (map (λ v. type_of_value v t) (head o).operands)
   pub same : known.same ≡ first_called type.Any ins.first (map (λ v. type_of_value v t) (head o).operands)
-  pub asked : types_fit known ins (map (λ v. type_of_value v t) (head o).operands) ≡ true
+  pub requested : types_fit known ins (map (λ v. type_of_value v t) (head o).operands) ≡ true
   pub given : types_fit known outs (there (head o).results) ≡ true
 
 row_at : (name : List ℕ) (p : TypesRow × TypesRow) → types_at name ≡ Some p → (row : Row) × (row_of name ≡ Some row) × (pair_of row ≡ p)
@@ -98,13 +98,13 @@ typed t o ins outs d found verified listed = go (found_stands (head o).id t o fo
           known = k;
           number = ap (λ (p : TypesRow). first_called type.Number p.first s.types) operands;
           same = ap (λ (p : TypesRow). first_called type.Any p.first s.types) operands;
-          asked = sym (ap (λ (p : TypesRow). types_fit k p s.types) operands) ∙ not-false _ (neither (is_no_number k.number) _ u.operands).1;
+          requested = sym (ap (λ (p : TypesRow). types_fit k p s.types) operands) ∙ not-false _ (neither (is_no_number k.number) _ u.operands).1;
           given = sym (λ i. types_fit k (results i) (there (own i))) ∙ given;
         }
 
 -- the type of one number of two is that of the result
 pub number_is : (t o : Operation) (a b : Value) (ty : TypeTerm) → Typed t o two_numbers.0 two_numbers.1 → (head o).operands ≡ a ∷ b ∷ [] → (head o).results ≡ ty ∷ [] → (u : TypeTerm) × (type_of_value a t ≡ Some u) × (same_type u ty ≡ true)
-number_is t o a b ty w operands results = go (type_of_value a t) refl number asked
+number_is t o a b ty w operands results = go (type_of_value a t) refl number requested
   where
     types : map (λ v. type_of_value v t) (head o).operands ≡ type_of_value a t ∷ type_of_value b t ∷ []
     types = ap (map (λ v. type_of_value v t)) operands
@@ -112,8 +112,8 @@ number_is t o a b ty w operands results = go (type_of_value a t) refl number ask
     number : w.known.number ≡ type_of_value a t
     number = w.number ∙ ap (first_called type.Number two_numbers.0.first) types
 
-    asked : is_the_number w.known.number (type_of_value a t) ≡ true
-    asked = (both (is_the_number w.known.number (type_of_value a t)) _ (sym (ap (types_fit w.known two_numbers.0) types) ∙ w.asked)).0
+    requested : is_the_number w.known.number (type_of_value a t) ≡ true
+    requested = (both (is_the_number w.known.number (type_of_value a t)) _ (sym (ap (types_fit w.known two_numbers.0) types) ∙ w.requested)).0
 
     given : is_the_number w.known.number (Some ty) ≡ true
     given = (both (is_the_number w.known.number (Some ty)) _ (sym (ap (λ l. types_fit w.known two_numbers.1 (there l)) results) ∙ w.given)).0
@@ -124,9 +124,9 @@ number_is t o a b ty w operands results = go (type_of_value a t) refl number ask
 
 -- the types of a choice
 pub record ChoiceTypes (t : Operation) (c a b : Value) (ty : TypeTerm) : Type 0 where
-  pub asked : TypeTerm
-  pub condition : type_of_value c t ≡ Some asked
-  pub truth : asked ≡ i1
+  pub requested : TypeTerm
+  pub condition : type_of_value c t ≡ Some requested
+  pub truth : requested ≡ i1
   pub first : TypeTerm
   pub taken : type_of_value a t ≡ Some first
   pub same : same_type first ty ≡ true
@@ -159,14 +159,14 @@ pub choice_is : (t o : Operation) (c a b : Value) (ty : TypeTerm) → Typed t o 
 choice_is t o c a b ty w operands results =
     let types : map (λ v. type_of_value v t) (head o).operands ≡ type_of_value c t ∷ type_of_value a t ∷ type_of_value b t ∷ [] = ap (map (λ v. type_of_value v t)) operands in
     let same : w.known.same ≡ type_of_value a t = w.same ∙ ap (first_called type.Any a_choice.0.first) types in
-    let asked = both (is_there is_boolean (type_of_value c t)) _ (sym (ap (types_fit w.known a_choice.0) types) ∙ w.asked) in
-    let third = both (option_eq same_type w.known.same (type_of_value b t)) _ asked.1 in
+    let requested = both (is_there is_boolean (type_of_value c t)) _ (sym (ap (types_fit w.known a_choice.0) types) ∙ w.requested) in
+    let third = both (option_eq same_type w.known.same (type_of_value b t)) _ requested.1 in
     let given = both (option_eq same_type w.known.same (Some ty)) _ (sym (ap (λ l. types_fit w.known a_choice.1 (there l)) results) ∙ w.given) in
-    let first = there_is is_boolean (type_of_value c t) asked.0 in
+    let first = there_is is_boolean (type_of_value c t) requested.0 in
     let second = comes w.known.same ty given.0 in
     let taken : type_of_value a t ≡ Some second.0 = sym same ∙ second.1 in
     let other = alike w.known.same (type_of_value b t) second.0 second.1 third.0 in
-    record { asked = first.0; condition = first.1; truth = truth_is first.0 first.2; first = second.0; taken = taken; same = second.2; second = other.0; other = other.1; like = other.2 }
+    record { requested = first.0; condition = first.1; truth = truth_is first.0 first.2; first = second.0; taken = taken; same = second.2; second = other.0; other = other.1; like = other.2 }
 
 -- the table entries of the rules' operations
 pub choices_are : types_at (codes "arith.select") ≡ Some a_choice

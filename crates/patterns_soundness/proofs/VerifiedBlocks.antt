@@ -37,21 +37,21 @@ use Rattle.std.proofs.lemmas.Bool.{not-false}
 use Rattle.patterns_soundness.proofs.Yielding.{row_there}
 
 -- the rules that a verified operation doesn't break
-pub unbroken_there : (m : Module) (o : Operation) (front : Place) → Point m o front → (row : Row) → row_of (head o).name ≡ Some row → (path : List (StepOf (List ℕ) TypeTerm AttrTerm)) × Unbroken row (surround m.tree (stand o path))
-unbroken_there m o front s row listed =
+pub unbroken_there : (m : Module) (o : Operation) (insertion : Place) → Point m o insertion → (row : Row) → row_of (head o).name ≡ Some row → (path : List (StepOf (List ℕ) TypeTerm AttrTerm)) × Unbroken row (surround m.tree (stand o path))
+unbroken_there m o insertion s row listed =
     let w = found_stands (head o).id m.tree o s.found in
     let here : In (stand o w.0.path) (stands [] m.tree) = subst (λ (z : Operation). In (stand z w.0.path) (stands [] m.tree)) w.3 w.1 in
-    (w.0.path, verified_unbroken m.tree (stand o w.0.path) row s.verified (stand_of_member m.tree s.formed.distinct (stand o w.0.path) here) listed)
+    (w.0.path, verified_unbroken m.tree (stand o w.0.path) row s.verified (stand_of_member m.tree s.wellformed.distinct (stand o w.0.path) here) listed)
 
 -- the block of a region
 pub block_is : (o : Operation) (r : ℕ) (g : RegionOf (List ℕ) TypeTerm AttrTerm) → region_at r (regions o) ≡ Some g → block_at r (node_of o) ≡ arguments_of g
 block_is (op h rs) r g e = ap (option_and_then (λ args. args)) (arguments_read rs r ∙ ap (option_map (λ g. arguments_of g)) e)
 
-pub no_uses : (m : Module) (o : Operation) (front : Place) → Point m o front → (v : Value) → has_value v m.tree ≡ false → uses_of v m.tree ≡ []
-no_uses m o front s v none =
+pub no_uses : (m : Module) (o : Operation) (insertion : Place) → Point m o insertion → (v : Value) → has_value v m.tree ≡ false → uses_of v m.tree ≡ []
+no_uses m o insertion s v none =
     sym (stands_uses v [] m.tree)
     ∙ gather_none (λ (s : Stand). operand_uses v (stand_id s) 0 (head s.here).operands) (stands [] m.tree) (λ z i.
-    none_here v (stand_id z) 0 (head z.here).operands (λ w j. differs w (seen_by is_isolated m.tree s.formed.distinct z i w (own_operand m.tree s.formed.distinct s.formed.formed.visible z i w j)).is))
+    none_here v (stand_id z) 0 (head z.here).operands (λ w j. differs w (seen_by is_isolated m.tree s.wellformed.distinct z i w (own_operand m.tree s.wellformed.distinct s.wellformed.wellformed.visible z i w j)).is))
   where
     differs : (w : Value) → has_value w m.tree ≡ true → same_value v w ≡ false
     differs w there = go (same_value v w) refl
@@ -64,9 +64,9 @@ abbrev no_type : List TypeTerm
 no_type = []
 
 -- a block without arguments has no argument uses
-pub no_arguments : (m : Module) (o : Operation) (front : Place) → Point m o front → (r : ℕ) → arguments_at r o ≡ Some [] → (k : ℕ) → uses_of (Arg (head o).id r k) m.tree ≡ []
-no_arguments m o front s r none k =
-    no_uses m o front s (Arg (head o).id r k)
+pub no_arguments : (m : Module) (o : Operation) (insertion : Place) → Point m o insertion → (r : ℕ) → arguments_at r o ≡ Some [] → (k : ℕ) → uses_of (Arg (head o).id r k) m.tree ≡ []
+no_arguments m o insertion s r none k =
+    no_uses m o insertion s (Arg (head o).id r k)
     (ap (λ f. is_some (option_and_then (λ o. option_and_then (λ args. slice_get args k) (arguments_at r o)) f)) s.found ∙ ap (λ f. is_some (option_and_then (λ args. slice_get args k) f)) none ∙ at_none k)
   where
     at_none : (k : ℕ) → is_some (slice_get no_type k) ≡ false
@@ -105,12 +105,12 @@ row_with (Some row) rs e = (row, refl, cc)
 
 -- the blocks of a branch have no arguments; a branch without a first block breaks a rule, and one without a second has
 -- no results
-module _ (m : Module) (o : Operation) (front : Place) (s : Point m o front) (name : (head o).name ≡ codes "scf.if") where
+module _ (m : Module) (o : Operation) (insertion : Place) (s : Point m o insertion) (name : (head o).name ≡ codes "scf.if") where
   abbrev listed : (row : Row) × (row_of (head o).name ≡ Some row) × (row.regions ≡ if_regions)
   listed = row_with (row_of (head o).name) if_regions (ap regions_in name ∙ if_regions_are)
 
   unbroken : (path : List (StepOf (List ℕ) TypeTerm AttrTerm)) × Unbroken (row_with (row_of (head o).name) if_regions (ap regions_in name ∙ if_regions_are)).0 (surround m.tree (stand o path))
-  unbroken = unbroken_there m o front s listed.0 listed.1
+  unbroken = unbroken_there m o insertion s listed.0 listed.1
 
   arguments_fit : (known : Known) × (any_differ known if_regions (node_of o) ≡ false)
   arguments_fit = (let u = unbroken in let s = surround m.tree (stand o u.0) in (known_of listed.0 s, sym (ap (λ rs. any_differ (known_of listed.0 s) rs (node_of o)) listed.2) ∙ u.1.arguments))

@@ -127,15 +127,15 @@ unused_set l i v w t other none = nothing (uses_of w (with_operand l i v t)) (λ
           | inr j ↦ was_used s h j
         ]
 
-module _ (x y r : ℕ) (front : Place) (hx hy : Header) (deep : ℕ) where
+module _ (x y r : ℕ) (insertion : Place) (hx hy : Header) (deep : ℕ) where
   -- ---- an operation is made in a block of y
-  module _ (m : Module) (s : Across x y front hx hy deep m) (place : Place) (point : has_place place m.tree ≡ true) (in_y : place.parent ≡ y) (in_r : place.region ≡ r) (o : Operation) (leaf : hold_none (regions o) ≡ true)
-      (unused : (j : ℕ) → uses_of (Result y j) (with_id m.next o) ≡ []) (formed : IsWellFormed is_isolated (edited (Make place o) m)) where
+  module _ (m : Module) (s : Across x y insertion hx hy deep m) (place : Place) (point : has_place place m.tree ≡ true) (in_y : place.parent ≡ y) (in_r : place.region ≡ r) (o : Operation) (leaf : hold_none (regions o) ≡ true)
+      (unused : (j : ℕ) → uses_of (Result y j) (with_id m.next o) ≡ []) (wellformed : IsWellFormed is_isolated (edited (Make place o) m)) where
     abbrev t : Operation
     t = m.tree
 
     abbrev w : IsWellFormed is_isolated m
-    w = s.stood.formed
+    w = s.located.wellformed
 
     abbrev after : Operation
     after = put place (with_id m.next o) m.tree
@@ -144,7 +144,7 @@ module _ (x y r : ℕ) (front : Place) (hx hy : Header) (deep : ℕ) where
     there b h e = (let q = there_of (find b t) h e in let k = found_stands b t q.0 q.1 in ap (λ i. has_id i t) (sym k.2) ∙ stand_present [] t k.0 k.1)
 
     abbrev stays : kept.Kept is_isolated (λ b. has_id b m.tree ≡ true) m.tree (put place (with_id m.next o) m.tree)
-    stays = kept.made_kept is_isolated m s.stood.formed place point o leaf (λ b. has_id b m.tree ≡ true) (λ b h. h)
+    stays = kept.made_kept is_isolated m s.located.wellformed place point o leaf (λ b. has_id b m.tree ≡ true) (λ b h. h)
 
     lone : (b : ℕ) (q : Operation) → hold_none (regions q) ≡ true → eqb b m.next ≡ false → has_id b (with_id m.next q) ≡ false
     lone b (op h rs) k e = λ i. (nat_eq_equiv.symm m.next b ∙ e) i || list_any (λ z. eqb z b) (none_ids rs k i)
@@ -155,9 +155,9 @@ module _ (x y r : ℕ) (front : Place) (hx hy : Header) (deep : ℕ) where
     pub made_inside : Inside y r m.next (put place (with_id m.next o) m.tree)
     made_inside = subst (λ i. Inside y r i after) (new_id m.next o) (put_inside place (with_id m.next o) t (kept.may is_isolated m w place point o leaf) y r in_y in_r)
 
-    pub across_made : Across x y front hx hy deep (edited (Make place o) m)
+    pub across_made : Across x y insertion hx hy deep (edited (Make place o) m)
     across_made = record {
-      stood = record { formed = formed; at = inside_after x front after (before_is x front t s.stood.at) (stays.inside front.parent front.region x (there x hx s.x_is) (after_inside x front t s.stood.at)) };
+      located = record { wellformed = wellformed; at = inside_after x insertion after (before_is x insertion t s.located.at) (stays.inside insertion.parent insertion.region x (there x hx s.x_is) (after_inside x insertion t s.located.at)) };
       before = stays.before y x (there y hy s.y_is) (there x hx s.x_is) s.before;
       x_is = stays.heads x (there x hx s.x_is) ∙ s.x_is;
       y_is = stays.heads y (there y hy s.y_is) ∙ s.y_is;
@@ -173,16 +173,16 @@ module _ (x y r : ℕ) (front : Place) (hx hy : Header) (deep : ℕ) where
             ∙ s.near v (sym (kept.made_dominance is_isolated m w place point o leaf x (there x hx s.x_is) v k) ∙ e) n
 
     -- a block of x
-    pub side_made : (n : StandsAt x front (edited (Make place o) m)) (q : ℕ) (args : List TypeTerm) (ws : List Operation) → ((p : Operation) → In p ws → has_id y p ≡ false) → region_at q (regions s.stood.at.here) ≡ Some (block args (joined_ops ws no_ops)) → region_at q (regions n.at.here) ≡ Some (block args (joined_ops ws no_ops))
+    pub side_made : (n : StandsAt x insertion (edited (Make place o) m)) (q : ℕ) (args : List TypeTerm) (ws : List Operation) → ((p : Operation) → In p ws → has_id y p ≡ false) → region_at q (regions s.located.at.here) ≡ Some (block args (joined_ops ws no_ops)) → region_at q (regions n.at.here) ≡ Some (block args (joined_ops ws no_ops))
     side_made n q args ws lacks is =
-        let xo = s.stood.at.here in
+        let xo = s.located.at.here in
         let new = with_id m.next o in
         let rest = joined_ops ws no_ops in
-        let now : find x after ≡ Some (put place new xo) = put_find place new x (absent_find x new (fresh x (there x hx s.x_is))) t ∙ ap (option_map (put place new)) (found_there is_isolated x front m s.stood) in
-        let same : Some n.at.here ≡ Some (put place new xo) = sym (found_there is_isolated x front (edited (Make place o) m) n) ∙ now in
+        let now : find x after ≡ Some (put place new xo) = put_find place new x (absent_find x new (fresh x (there x hx s.x_is))) t ∙ ap (option_map (put place new)) (found_there is_isolated x insertion m s.located) in
+        let same : Some n.at.here ≡ Some (put place new xo) = sym (found_there is_isolated x insertion (edited (Make place o) m) n) ∙ now in
         let here : n.at.here ≡ put place new xo = cc in
         let unput = ops_unput place new rest (absent_all place.parent ws (λ p i. ap (λ z. has_id z p) in_y ∙ lacks p i)) in
-        let other : is_in_block place (head xo).id q ≡ false = (λ i. eqb (s.stood.at.id i) (in_y i) && eqb q place.region) ∙ λ i. two_apart x y front hx hy deep m s i && eqb q place.region in
+        let other : is_in_block place (head xo).id q ≡ false = (λ i. eqb (s.located.at.id i) (in_y i) && eqb q place.region) ∙ λ i. two_apart x y insertion hx hy deep m s i && eqb q place.region in
         ap (λ z. region_at q (regions z)) here
         ∙ each_at (put_here place new) q xo args rest is
         ∙ ap (λ l. Some (block args (put_here place new (head xo).id q l))) unput
@@ -202,7 +202,7 @@ module _ (x y r : ℕ) (front : Place) (hx hy : Header) (deep : ℕ) where
         }
 
   -- ---- operation l of a block of y gets another operand
-  module _ (m : Module) (s : Across x y front hx hy deep m) (l i : ℕ) (v : Value) (x_apart : eqb x l ≡ false) (y_apart : eqb y l ≡ false) (other : (j : ℕ) → same_value (Result y j) v ≡ false) (formed : IsWellFormed is_isolated (edited (SetOperand l i v) m)) where
+  module _ (m : Module) (s : Across x y insertion hx hy deep m) (l i : ℕ) (v : Value) (x_apart : eqb x l ≡ false) (y_apart : eqb y l ≡ false) (other : (j : ℕ) → same_value (Result y j) v ≡ false) (wellformed : IsWellFormed is_isolated (edited (SetOperand l i v) m)) where
     abbrev f : Header → Header
     f = at l (put_operand i v)
 
@@ -215,9 +215,9 @@ module _ (x y r : ℕ) (front : Place) (hx hy : Header) (deep : ℕ) where
     same_head_of : (b : ℕ) (h : Header) → option_map head (find b m.tree) ≡ Some h → eqb b l ≡ false → option_map head (find b (with_operand l i v m.tree)) ≡ Some h
     same_head_of b h e apart = heads_headed f alike m.tree b ∙ ap (option_map f) e ∙ ap Some (ap (λ c. cond c (put_operand i v h) h) (ap (λ z. eqb z l) (id_of_head b h e) ∙ apart))
 
-    pub across_set : Across x y front hx hy deep (edited (SetOperand l i v) m)
+    pub across_set : Across x y insertion hx hy deep (edited (SetOperand l i v) m)
     across_set = record {
-      stood = headed.stood_headed is_isolated f alike x front m s.stood formed;
+      located = headed.located_headed is_isolated f alike x insertion m s.located wellformed;
       before = before_headed f alike m.tree y x s.before;
       x_is = same_head_of x hx s.x_is x_apart;
       y_is = same_head_of y hy s.y_is y_apart;
@@ -228,16 +228,16 @@ module _ (x y r : ℕ) (front : Place) (hx hy : Header) (deep : ℕ) where
       where
         arounds : around x (with_operand l i v m.tree) ≡ Some deep
         arounds =
-            (let n = headed.stood_headed is_isolated f alike x front m s.stood formed in
-            ap (λ k. around k (with_operand l i v m.tree)) (sym n.at.id) ∙ around_at (with_operand l i v m.tree) formed.distinct (stand n.at.here (n.at.step_in ∷ n.at.path)) n.at.there
-            ∙ ap Some (length-map (s.stood.at.step_in ∷ s.stood.at.path) (edit_step f))
-            ∙ sym (ap (λ k. around k m.tree) (sym s.stood.at.id) ∙ around_at m.tree s.stood.formed.distinct (stand s.stood.at.here (s.stood.at.step_in ∷ s.stood.at.path)) s.stood.at.there)
+            (let n = headed.located_headed is_isolated f alike x insertion m s.located wellformed in
+            ap (λ k. around k (with_operand l i v m.tree)) (sym n.at.id) ∙ around_at (with_operand l i v m.tree) wellformed.distinct (stand n.at.here (n.at.step_in ∷ n.at.path)) n.at.there
+            ∙ ap Some (length-map (s.located.at.step_in ∷ s.located.at.path) (edit_step f))
+            ∙ sym (ap (λ k. around k m.tree) (sym s.located.at.id) ∙ around_at m.tree s.located.wellformed.distinct (stand s.located.at.here (s.located.at.step_in ∷ s.located.at.path)) s.located.at.there)
             ∙ s.depths)
 
-    pub side_set : (q : ℕ) (args : List TypeTerm) (ws : List Operation) → ((p : Operation) → In p ws → has_id l p ≡ false) → region_at q (regions s.stood.at.here) ≡ Some (block args (joined_ops ws no_ops)) → region_at q (regions across_set.stood.at.here) ≡ Some (block args (joined_ops ws no_ops))
+    pub side_set : (q : ℕ) (args : List TypeTerm) (ws : List Operation) → ((p : Operation) → In p ws → has_id l p ≡ false) → region_at q (regions s.located.at.here) ≡ Some (block args (joined_ops ws no_ops)) → region_at q (regions across_set.located.at.here) ≡ Some (block args (joined_ops ws no_ops))
     unfolding across_set
     side_set q args ws lacks is =
-        each_region f s.stood.at.here q ∙ ap (option_map (region_each_head f)) is
+        each_region f s.located.at.here q ∙ ap (option_map (region_each_head f)) is
         ∙ ap (λ k. Some (block args k)) (ops_unedited l (put_operand i v) (joined_ops ws no_ops) (absent_all l ws lacks))
 
     pub block_set : (p q : ℕ) → HasBlock p q m.tree → HasBlock p q (with_operand l i v m.tree)

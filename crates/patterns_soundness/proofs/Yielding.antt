@@ -122,15 +122,15 @@ as_long same (x ∷ xs) (y ∷ ys) e = (let k = as_long same xs ys (and_parts (s
 
 -- an operation of a tree, with the last operation of one of its blocks
 module _ (t o : Operation) (d : HasDistinctIds t) (path : List (StepOf (List ℕ) TypeTerm AttrTerm)) (here : In (stand o path) (stands [] t)) (verified : is_verified t (head o) ≡ true) where
-  stood : stand_of (head o).id t ≡ Some (stand o path)
-  stood = stand_of_member t d (stand o path) here
+  located : stand_of (head o).id t ≡ Some (stand o path)
+  located = stand_of_member t d (stand o path) here
 
   module _ (r : ℕ) (e : Ended) (n : Ending t o r e) where
     abbrev inner : Stand
-    inner = stand n.last (step o r n.args n.front no_ops ∷ path)
+    inner = stand n.last (step o r n.args n.preceding no_ops ∷ path)
 
-    inner_stood : stand_of (head n.last).id t ≡ Some inner
-    inner_stood = stand_of_member t d inner (stands_in t o path r n.args n.front n.last no_ops here n.block)
+    inner_located : stand_of (head n.last).id t ≡ Some inner
+    inner_located = stand_of_member t d inner (stands_in t o path r n.args n.preceding n.last no_ops here n.block)
 
     -- the last operation is an `scf.yield`, if the parent requires one
     yields : ends_otherwise r (codes "scf.yield") (surround t (stand o path)) ≡ false → (head n.last).name ≡ codes "scf.yield"
@@ -143,7 +143,7 @@ module _ (t o : Operation) (d : HasDistinctIds t) (path : List (StepOf (List ℕ
         last_is : last_at r (surround t (stand o path)) ≡ Some (head n.last).name
         last_is =
             ap (option_and_then (λ last. last)) (names_at (regions o) r ∙ ap (option_map (λ g. option_and_then last_name (ops_in g))) n.block)
-            ∙ name_joined n.front n.last
+            ∙ name_joined n.preceding n.last
 
         node_arguments : (o : Operation) → (node_of o).arguments ≡ regions_arguments (regions o)
         node_arguments (op h rs) = refl
@@ -157,7 +157,7 @@ module _ (t o : Operation) (d : HasDistinctIds t) (path : List (StepOf (List ℕ
     handed_types row f u y w =
         let found = row_there (row_of (codes "scf.yield")) yield_listed in
         let s = surround t inner in
-        let v = verified_unbroken t inner found.0 n.verified inner_stood (ap row_of y ∙ found.1) in
+        let v = verified_unbroken t inner found.0 n.verified inner_located (ap row_of y ∙ found.1) in
         let named_so : is_named s.node (codes "scf.yield") ≡ true = ap (λ h. bytes_eq h.name (codes "scf.yield")) (head_shown n.last) ∙ ap (λ m. bytes_eq m (codes "scf.yield")) y in
         let outside : ended_of s ≡ Some (node_of o) = ap (if_well_shaped (node_of o)) (ap (λ h. row_of h.name) (head_shown o) ∙ f) ∙ ap (λ b. if◌then◌else◌ b (Some (node_of o)) None) u.shaped in
         let told = spoken (is_named s.node (codes "scf.yield")) (differ (option_and_then yielded (ended_of s)) s.types) named_so v.yields in
@@ -180,7 +180,7 @@ choice_types t o x r e small h k = go (found_stands x t o h.found)
         let name = name_is (codes "scf.if") (head o).name h.name in
         let row = row_there (row_of (codes "scf.if")) if_listed in
         let listed = ap row_of name ∙ row.1 in
-        let u = verified_unbroken t (stand o w.0.path) row.0 h.verified (stood t o h.distinct w.0.path here h.verified) listed in
+        let u = verified_unbroken t (stand o w.0.path) row.0 h.verified (located t o h.distinct w.0.path here h.verified) listed in
         let node_name = ap (λ h. h.name) (head_shown o) ∙ name in
         let y = yields t o h.distinct w.0.path here h.verified r e n (which r small (surround t (stand o w.0.path)) (if_ends (surround t (stand o w.0.path)) node_name u.ends)) in
         ap (λ h. same_types (there (head o).results) (map (λ v. type_of_value v t) h.operands)) n.is ∙ handed_types t o h.distinct w.0.path here h.verified r e n row.0 listed u y (if_wants (node_of o) node_name)
@@ -196,7 +196,7 @@ loop_types t o x e h k = go (found_stands x t o h.found)
         let name = name_is (codes "scf.for") (head o).name h.name in
         let row = row_there (row_of (codes "scf.for")) for_listed in
         let listed = ap row_of name ∙ row.1 in
-        let u = verified_unbroken t (stand o w.0.path) row.0 h.verified (stood t o h.distinct w.0.path here h.verified) listed in
+        let u = verified_unbroken t (stand o w.0.path) row.0 h.verified (located t o h.distinct w.0.path here h.verified) listed in
         let node_name = ap (λ h. h.name) (head_shown o) ∙ name in
         let y = yields t o h.distinct w.0.path here h.verified 0 e n (for_ends (surround t (stand o w.0.path)) node_name u.ends) in
         ap (λ h. same_types (there (head o).results) (map (λ v. type_of_value v t) h.operands)) n.is ∙ handed_types t o h.distinct w.0.path here h.verified 0 e n row.0 listed u y (for_wants (node_of o) node_name)
@@ -243,7 +243,7 @@ choices_ask_truth t o x h = go (found_stands x t o h.found)
         let row = row_there (row_of (codes "scf.if")) if_listed in
         let listed = ap row_of name ∙ row.1 in
         let s = surround t (stand o w.0.path) in
-        let u = verified_unbroken t (stand o w.0.path) row.0 h.verified (stood t o h.distinct w.0.path here h.verified) listed in
+        let u = verified_unbroken t (stand o w.0.path) row.0 h.verified (located t o h.distinct w.0.path here h.verified) listed in
         let fit = not-false (types_fit (known_of row.0 s) row.0.operands s.types) (or_no (is_no_number (known_of row.0 s).number) (not (types_fit (known_of row.0 s) row.0.operands s.types)) u.operands).1 in
         let asks : Some row.0.operands ≡ Some (record { first = type.Boolean ∷ []; more = None }) = sym (ap (option_map (λ (row : Row). row.operands)) row.1) ∙ if_asks in
         let one : row.0.operands ≡ record { first = type.Boolean ∷ []; more = None } = same_Some row.0.operands (record { first = type.Boolean ∷ []; more = None }) asks in

@@ -6,5 +6,5 @@ ghost use Rattle.patterns_soundness.specs.Yields.{ChoicesAskTruth, ChoicesHandOn
 pub fn verified_blocks_hand_on_all()
     ensures loops { LoopsHandOnAll }
     ensures choices { ChoicesHandOnAll }
-    ensures asked { ChoicesAskTruth }
+    ensures requested { ChoicesAskTruth }
 {}

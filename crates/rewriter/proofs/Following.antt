@@ -82,7 +82,7 @@ pub tidy_put : (place : Place) (o : Op) (s : Stored) → HasNoStaleIds s → Has
 tidy_put place o s h = kept.tidy_put place o s h
 
 pub tidy_take : (c : ContextModel) (x : ℕ) (s : Stored) → IsStoreOf c s → HasNoStaleIds s → HasNoStaleIds (after_take x s)
-tidy_take c x s w h = kept.tidy_taken (isolated_in c) x s w.formed h
+tidy_take c x s w h = kept.tidy_taken (isolated_in c) x s w.wellformed h
 
 pub tidy_released : (from : ℕ) (s u : Stored) → Releases from s u → from ≤ s.module_of.next → HasNoStaleIds u
 tidy_released from s u r le = released.tidy_released from s u r le

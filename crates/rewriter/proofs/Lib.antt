@@ -20,5 +20,5 @@ pub mod Made
 pub mod MarkLaws
 pub mod Outcomes
 pub mod Released
-pub mod Beside
+pub mod NextTo
 pub use Rattle.rewriter_machine.proofs.Numbers

@@ -13,7 +13,7 @@ use Rattle.ir_event.proofs.Kept.{kept_attached, kept_detached, kept_begun, kept_
 use Rattle.ir_event.specs.Panels.{AllKept, AttachedLast, BegunAgain, Detached, HandedBack, NotBegunAgain, IsListener, has_kind, is_kind}
 use Rattle.ir_event.specs.Rows.{RowTerm, RowIsOf, Shows, rows_meaning}
 use Rattle.ir_event.specs.declared.row.Row.{Row}
-use Rattle.rewriter.specs.Machine.{State, OpenMark, Attach, Detach, Resync, Report, Reply, Done, Refused, Shows as ShownBeside, Nothing, Rows, Goes}
+use Rattle.rewriter.specs.Machine.{State, OpenMark, Attach, Detach, Resync, Report, Reply, Done, Refused, Shows as ShownNextTo, Nothing, Rows, Goes}
 use Rattle.rewriter.specs.Panels.{shown, all_shown, has_kind as kind_among, is_kind as is_shown_kind}
 use Rattle.rewriter.specs.Held.{TransactionModel, module_held, open_marks}
 use Rattle.rewriter.specs.RewriterCalls.{Benched, Does, AgreesOrStale, attach_reply_of, reply_of}
@@ -56,7 +56,7 @@ module _ {B : Type 0} (meaning : B → Listener) (m : Module) (ks : List OpenMar
 
   -- a listener reports its rows
   module _ (kind : ℕ) (xs : List B) where
-    abbrev Reports : Reply → ShownBeside → Type 0
+    abbrev Reports : Reply → ShownNextTo → Type 0
     Reports reply shows = Goes (with xs) (Report kind) reply shows (with xs)
 
     found_as : (o : Option B) → find (is_kind meaning kind) xs ≡ o → find (is_shown_kind kind) (all_shown meaning xs) ≡ option_map (λ b. shown (meaning b)) o

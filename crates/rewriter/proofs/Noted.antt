@@ -13,7 +13,7 @@ use Rattle.rewriter.specs.Moves.{Recorded, all_noted, noted}
 use Rattle.rewriter.specs.RewriterCalls.{Benched, Notified, Journaled, JournalAfter, Made}
 use Rattle.rewriter.specs.Rolling.{Dropped}
 use Rattle.rewriter.proofs.MarkLaws.{push-none}
-use Rattle.rewriter.proofs.OpenMarks.{last_same, front_same}
+use Rattle.rewriter.proofs.OpenMarks.{last_same, preceding_same}
 
 -- ---- events at the end of a journal
 
@@ -45,8 +45,8 @@ kept_none : (ks : List JournalMark) (js : List Event) → (ks ≡ [] → js ≡ 
 kept_none [] js none = sym (none refl)
 kept_none (k ∷ ks) js none = sym (append-nil js)
 
-front_taken : (js es : List Event) → take (length js) (js ++ es) ≡ js
-front_taken js es = take-append-le (length js) js es (omega arith) ∙ take_all (length js) js (omega arith)
+preceding_taken : (js es : List Event) → take (length js) (js ++ es) ≡ js
+preceding_taken js es = take-append-le (length js) js es (omega arith) ∙ take_all (length js) js (omega arith)
 
 -- ---- transactions
 
@@ -78,7 +78,7 @@ module _ (stays : Bool) (a b c d : TransactionModel) (begun : b ≡ with_mark fa
   both_are = sym x.mark.marks ∙ marks_are
 
   left_are : d.marks ≡ a.marks
-  left_are = x.marks ∙ front_same x.mark.rest a.marks (record { length = x.newest; counted = x.mark.counted }) own both_are
+  left_are = x.marks ∙ preceding_same x.mark.rest a.marks (record { length = x.newest; counted = x.mark.counted }) own both_are
 
   newest_is : x.newest ≡ length a.journal
   newest_is = ap (λ (m : JournalMark). m.length) (last_same x.mark.rest a.marks (record { length = x.newest; counted = x.mark.counted }) own both_are)
@@ -105,7 +105,7 @@ module _ (stays : Bool) (a b c d : TransactionModel) (begun : b ≡ with_mark fa
   -- the events were undone
   pub recorded_undone : stays ≡ false → Recorded [] a d
   recorded_undone is =
-      let taken : take x.newest c.journal ≡ a.journal = (λ i. take (newest_is i) (journal_is i)) ∙ front_taken a.journal es in
+      let taken : take x.newest c.journal ≡ a.journal = (λ i. take (newest_is i) (journal_is i)) ∙ preceding_taken a.journal es in
       let journal : d.journal ≡ all_noted a.marks a.journal [] = x.journal ∙ (λ i. kept (left_are i) (cond (is i) c.journal (taken i))) ∙ kept_none a.marks a.journal none in
       let length_is = ap (λ (js : List Event). length js) journal in
       let longer = longer_noted a.marks a.journal [] in

@@ -77,13 +77,13 @@ pub drop_taken : (n : ℕ) (es : List Event) → drop n (take n es) ≡ []
 drop_taken n es = ap (λ m. drop n (take m es)) (let e : n ≡ n + 0 = omega arith in e) ∙ drop-take n 0 es
 
 -- the marks before the newest are equal too
-pub front_same : (ks js : List JournalMark) (k j : JournalMark) → ks ++ k ∷ [] ≡ js ++ j ∷ [] → ks ≡ js
-front_same [] [] k j e = refl
-front_same [] (i ∷ []) k j e = absurd cc
-front_same [] (i ∷ (l ∷ js)) k j e = absurd cc
-front_same (i ∷ []) [] k j e = absurd cc
-front_same (i ∷ (l ∷ ks)) [] k j e = absurd cc
-front_same (i ∷ ks) (l ∷ js) k j e =
+pub preceding_same : (ks js : List JournalMark) (k j : JournalMark) → ks ++ k ∷ [] ≡ js ++ j ∷ [] → ks ≡ js
+preceding_same [] [] k j e = refl
+preceding_same [] (i ∷ []) k j e = absurd cc
+preceding_same [] (i ∷ (l ∷ js)) k j e = absurd cc
+preceding_same (i ∷ []) [] k j e = absurd cc
+preceding_same (i ∷ (l ∷ ks)) [] k j e = absurd cc
+preceding_same (i ∷ ks) (l ∷ js) k j e =
     let f : ks ++ k ∷ [] ≡ js ++ j ∷ [] = cc in
     let g : i ≡ l = cc in
-    (λ n. g n ∷ front_same ks js k j f n)
+    (λ n. g n ∷ preceding_same ks js k j f n)

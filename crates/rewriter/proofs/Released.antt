@@ -26,8 +26,8 @@ module _ (c : ContextModel) (from : ℕ) (s u : Stored) (r : Releases from s u) 
   pub sound_released : IsSoundIn c s.module_of.tree → IsSoundIn c u.module_of.tree
   sound_released h = subst (λ (m : Module). IsSoundIn c m.tree) (sym r.module_of) h
 
-  pub formed_released : IsWellFormed (isolated_in c) s.module_of → IsWellFormed (isolated_in c) u.module_of
-  formed_released h = subst (IsWellFormed (isolated_in c)) (sym r.module_of) h
+  pub wellformed_released : IsWellFormed (isolated_in c) s.module_of → IsWellFormed (isolated_in c) u.module_of
+  wellformed_released h = subst (IsWellFormed (isolated_in c)) (sym r.module_of) h
 
   pub held_released : HeldIsSound c s.held → HeldIsSound c u.held
   held_released h x o e = h x o (held_was x o e)

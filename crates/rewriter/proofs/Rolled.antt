@@ -21,7 +21,7 @@ use Rattle.rewriter.proofs.MarkLaws.{newest, push-none}
 use Rattle.rewriter.specs.Moves.{Grown, HoldsModuleAlone, HoldsNone, IsAnswered, Tidied}
 use Rattle.rewriter.specs.RewriterCalls.{Benched, Does, Notified, Led, NotifiedBack, reply_of, state_of}
 use Rattle.rewriter.specs.Rolling.{Dropped, GivenUp, IsSettled, Settled, UndoneTo}
-use Rattle.rewriter.proofs.OpenMarks.{open_none, counted_open, front_same, last_same, drop_taken}
+use Rattle.rewriter.proofs.OpenMarks.{open_none, counted_open, preceding_same, last_same, drop_taken}
 use Rattle.rewriter.proofs.Told.{notified_onward, notified_still, led_ages, led_left, led_still}
 
 -- the released operations
@@ -132,7 +132,7 @@ dropped_kept g h k good shut t =
     record {
       newest = shut.mark.length;
       mark = newest g h.marks shut.mark shut.marks good;
-      marks = t.marks ∙ front_same h.marks (newest g h.marks shut.mark shut.marks good).rest shut.mark (record { length = shut.mark.length; counted = (newest g h.marks shut.mark shut.marks good).counted }) (sym shut.marks ∙ (newest g h.marks shut.mark shut.marks good).marks);
+      marks = t.marks ∙ preceding_same h.marks (newest g h.marks shut.mark shut.marks good).rest shut.mark (record { length = shut.mark.length; counted = (newest g h.marks shut.mark shut.marks good).counted }) (sym shut.marks ∙ (newest g h.marks shut.mark shut.marks good).marks);
       journal = t.journal ∙ ap (λ (l : TransactionModel). l.journal) shut.held ∙ ap (λ ks. kept ks g.journal) (sym t.marks);
       trailing = λ some n le. t.trailing n ∙ closed_after g h shut (λ none. some (t.marks ∙ none)) n;
     }
@@ -143,7 +143,7 @@ dropped_undone mark g d h k last u shut t =
     record {
       newest = mark;
       mark = last;
-      marks = t.marks ∙ front_same h.marks last.rest shut.mark (record { length = mark; counted = last.counted }) (sym shut.marks ∙ u.marks ∙ last.marks);
+      marks = t.marks ∙ preceding_same h.marks last.rest shut.mark (record { length = mark; counted = last.counted }) (sym shut.marks ∙ u.marks ∙ last.marks);
       journal = journal;
       trailing = λ some n le.
           (let short = taken_short k.marks mark g.journal in

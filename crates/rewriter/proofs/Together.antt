@@ -87,20 +87,20 @@ module _ {B : Type 0} (meaning : B → Listener) where
   -- part of an edit is made: the remaining part leads to the state to which the whole edit leads
   pub record IsUnderway (e : NumberedEdit) (a b : Benched B) : Type 0 where
     pub onward : Onward meaning a b
-    pub formed : IsWellFormed (isolated_in a.transaction.ctx) b.transaction.store.module_of
+    pub wellformed : IsWellFormed (isolated_in a.transaction.ctx) b.transaction.store.module_of
     pub free : reason_by (tests_in a.transaction.ctx) e b.transaction.store.module_of ≡ None
     pub same : edited_by (tests_in a.transaction.ctx) e b.transaction.store.module_of ≡ edited_by (tests_in a.transaction.ctx) e a.transaction.store.module_of
 
   pub underway_none : Stays → (e : NumberedEdit) (a : Benched B) → IsWellFormed (isolated_in a.transaction.ctx) a.transaction.store.module_of → reason_by (tests_in a.transaction.ctx) e a.transaction.store.module_of ≡ None → IsUnderway e a a
-  underway_none none e a formed free = record { onward = onward_none none a; formed = formed; free = free; same = refl }
+  underway_none none e a wellformed free = record { onward = onward_none none a; wellformed = wellformed; free = free; same = refl }
 
   pub underway_made : Composes → (e : NumberedEdit) (s : Stored) (a b d : Benched B) → Holds a.transaction.ctx → IsUnderway e a b → Made meaning s b d → IsWellFormed (isolated_in a.transaction.ctx) s.module_of → reason_by (tests_in a.transaction.ctx) e s.module_of ≡ None
       → edited_by (tests_in a.transaction.ctx) e s.module_of ≡ edited_by (tests_in a.transaction.ctx) e b.transaction.store.module_of → IsUnderway e a d
-  underway_made more e s a b d holds u m formed free same =
+  underway_made more e s a b d holds u m wellformed free same =
       let is : s.module_of ≡ d.transaction.store.module_of = sym (made_module meaning s b d m) in
       record {
         onward = onward_made more s a b d holds u.onward m;
-        formed = subst (λ (x : Numbered). IsWellFormed (isolated_in a.transaction.ctx) x) is formed;
+        wellformed = subst (λ (x : Numbered). IsWellFormed (isolated_in a.transaction.ctx) x) is wellformed;
         free = subst (λ (x : Numbered). reason_by (tests_in a.transaction.ctx) e x ≡ None) is free;
         same = subst (λ (x : Numbered). edited_by (tests_in a.transaction.ctx) e x ≡ edited_by (tests_in a.transaction.ctx) e a.transaction.store.module_of) is (same ∙ u.same);
       }

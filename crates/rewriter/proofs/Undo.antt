@@ -77,14 +77,14 @@ module _ {B : Type 0} (meaning : B → Listener) (mark : ℕ) (from : Transactio
     rest_is : drop mark from.journal ≡ on.es
     rest_is = (λ i. drop (at_mark i) (on.journal i)) ∙ drop-append_seam h.journal on.es
 
-    front_is : take mark from.journal ≡ h.journal
-    front_is = (λ i. take (at_mark i) (on.journal i)) ∙ take-append-le (length h.journal) h.journal on.es (omega arith) ∙ take_all (length h.journal) h.journal (omega arith)
+    preceding_is : take mark from.journal ≡ h.journal
+    preceding_is = (λ i. take (at_mark i) (on.journal i)) ∙ take-append-le (length h.journal) h.journal on.es (omega arith) ∙ take_all (length h.journal) h.journal (omega arith)
 
     pub undone_to : UndoneTo mark from h
     undone_to =
         record {
           ctx = on.ctx;
-          journal = sym front_is;
+          journal = sym preceding_is;
           marks = on.marks;
           module_of = (λ i. module_meaning (on.ctx i) (on.store i).module_of) ∙ ap (λ es. before from.ctx es from.store) (sym rest_is);
           opens = on.opens;

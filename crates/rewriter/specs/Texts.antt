@@ -25,5 +25,5 @@ free_in t name =
 
 -- the text is the operation, and may use the values of the module; `opaque` says whether unknown types and attributes
 -- are kept as their texts
-abbrev pub SpellsBeside : Bool → Module → List ℕ → Operation → Type 0
-SpellsBeside opaque m bytes o = SpellsOp opaque (free_in m.tree) m.next bytes o
+abbrev pub SpellsNextTo : Bool → Module → List ℕ → Operation → Type 0
+SpellsNextTo opaque m bytes o = SpellsOp opaque (free_in m.tree) m.next bytes o

@@ -110,10 +110,10 @@ impl<L: Analysis> Bench<L> {
     /// Lemma: the invariants of every rewriter. The module is well-formed and of its context, whose entries are
     /// distinct. If no mark is open, the journal is empty and nothing is held. The events of the journal lead to the
     /// module.
-    pub fn is_formed(&self)
+    pub fn is_wellformed(&self)
         ensures context { IsSound self.now.transaction.ctx }
         ensures sound { IsSoundIn self.now.transaction.ctx self.now.transaction.store.module_of.tree }
-        ensures formed { IsWellFormed (isolated_in self.now.transaction.ctx) self.now.transaction.store.module_of }
+        ensures wellformed { IsWellFormed (isolated_in self.now.transaction.ctx) self.now.transaction.store.module_of }
         ensures settled { IsSettled self.now.transaction }
         ensures none { self.now.transaction.marks ≡ [] → self.now.transaction.journal ≡ [] }
         ensures leads { IsJournal self.now.transaction.ctx self.now.transaction.journal self.now.transaction.store }

@@ -12,7 +12,7 @@ use std::slice::from_ref;
 /// Reserves capacity for one more event if a mark is open.
 pub(crate) fn claim(journal: &mut Vec<Event>, marks: &[JournalMark]) -> Result<(), AllocError>
     ensures items { journal.new.items ≡ journal.old.items }
-    ensures room { OnOk result (marks.now ≢ [] → vec_len journal.new < vec_capacity journal.new) }
+    ensures headroom { OnOk result (marks.now ≢ [] → vec_len journal.new < vec_capacity journal.new) }
     ensures err { OnErr result (marks.now ≢ []) }
 {
     match marks {

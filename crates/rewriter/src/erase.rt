@@ -26,7 +26,7 @@ fn take_all<L: Analysis>(bench: &mut Bench<L>, op: OpId) -> Result<(), Refusal>
 {
     erasing_by_last::<u32, u32, u32>();
     led_benches_are_kept::<L>();
-    bench.is_formed();
+    bench.is_wellformed();
     'rest: while let Some(last) = bench.world().store.last_within(op) {
         if let Err(refusal) = bench.take(last) {
             return Err(refusal);
@@ -51,7 +51,7 @@ impl<L: Analysis> Bench<L> {
         ensures ctx { self.new.transaction.ctx ≡ self.old.transaction.ctx }
         ensures journal { JournalAfter L.meaning result self.old self.new }
     {
-        self.is_formed();
+        self.is_wellformed();
         match self.take(op) {
             Ok(()) => Ok(()),
             Err(_) => self.erase_whole(op),
@@ -68,7 +68,7 @@ impl<L: Analysis> Bench<L> {
         ensures journal { JournalAfter L.meaning result self.old self.new }
     {
         led_benches_are_kept::<L>();
-        self.is_formed();
+        self.is_wellformed();
         if let Some(refusal) = erase_fault(self.world(), op) {
             return Err(refusal);
         }

@@ -16,7 +16,7 @@ use ir_event::types::refusal::Refusal;
 use ir_event::world::World;
 
 /// Returns whether the operations of `tree` and `others` more are at most `most`.
-fn fits_beside(others: u64, tree: &TreeOp, most: u64) -> bool
+fn fits_next_to(others: u64, tree: &TreeOp, most: u64) -> bool
     requires { most < 2 ^ 64 - 1 }
     ensures { result ≡ nat_le (others + count_of tree.now) most }
 {
@@ -28,7 +28,7 @@ fn fits_limits(store: &Store, tree: &TreeOp) -> bool
     ensures { result ≡ (nat_le (count_of store.now.module_of.tree + count_of tree.now) most_ops
         && every op_fits tree.now) }
 {
-    fits_beside(store.op_count(), tree, MOST_OPS) && counts_are_within(tree)
+    fits_next_to(store.op_count(), tree, MOST_OPS) && counts_are_within(tree)
 }
 
 /// Returns whether `tree`, inserted into `parent`, keeps within the depth limit.
@@ -55,7 +55,7 @@ pub(crate) fn insert_fault(world: &World, place: &Place, tree: &TreeOp) -> Optio
     if !fits_limits(store, tree) {
         return Some(Refusal::Full);
     }
-    if !fits_beside(u64::from(store.next_id()), tree, u64::from(u32::MAX)) {
+    if !fits_next_to(u64::from(store.next_id()), tree, u64::from(u32::MAX)) {
         return Some(Refusal::IdsExhausted);
     }
     if !fits_inside(store, place.parent, tree) {

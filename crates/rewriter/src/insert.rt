@@ -37,7 +37,7 @@ impl<L: Analysis> Bench<L> {
     {
         inserts_are_tried::<u32, u32, u32>();
         led_benches_are_kept::<L>();
-        self.is_formed();
+        self.is_wellformed();
         if let Some(refusal) = insert_fault(self.world(), &place, tree) {
             return Err(refusal);
         }

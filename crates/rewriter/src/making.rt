@@ -33,7 +33,7 @@ fn make_each<L: Analysis>(
 {
     inserting_is_making::<u32, u32, u32>();
     led_benches_are_kept::<L>();
-    bench.is_formed();
+    bench.is_wellformed();
     for header in headers {
         if let Err(refusal) = bench.make(header.0, &header.1) {
             return Err(refusal);
@@ -73,14 +73,14 @@ pub(crate) fn make_all<L: Analysis>(
     headers_are_bare();
     inserts_are_tried::<u32, u32, u32>();
     led_benches_are_kept::<L>();
-    bench.is_formed();
+    bench.is_wellformed();
     let headers = match headers_of(bench.alloc(), place, tree) {
         Ok(headers) => headers,
         Err(_) => return Err(Refusal::Memory),
     };
     match make_each(bench, &headers) {
         Ok(()) => {
-            bench.is_formed();
+            bench.is_wellformed();
             Ok(())
         }
         Err(refusal) => Err(refused_whole(refusal)),

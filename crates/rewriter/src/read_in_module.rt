@@ -10,7 +10,7 @@ ghost use Rattle.ir_text.specs.Public.{IsFull, IsOpRefusal, IsTextRefusal};
 ghost use Rattle.ir_text.specs.Public.{IsNoAttr};
 ghost use Rattle.ir_text.specs.Public.{SpellsAttr};
 ghost use Rattle.ir_text.specs.Public.{IsNone};
-ghost use Rattle.rewriter.specs.Texts.{Grown, SpellsBeside};
+ghost use Rattle.rewriter.specs.Texts.{Grown, SpellsNextTo};
 
 use ir_event::trees::tree::TreeOp;
 use ir_event::types::ids::AttrId;
@@ -39,11 +39,11 @@ pub fn parse_attr(alloc: Global, world: &mut World, text: &[u8]) -> Result<AttrI
 ///
 /// Refusals: those of the reader.
 pub fn read_op(alloc: Global, world: &mut World, text: &[u8]) -> Result<TreeOp, ReadError>
-    ensures read { IfOk result (λ t. SpellsBeside world.old.ctx.opaque (module_in world.old) text.now (meaning world.new.ctx t)) }
+    ensures read { IfOk result (λ t. SpellsNextTo world.old.ctx.opaque (module_in world.old) text.now (meaning world.new.ctx t)) }
     ensures sound { IfOk result (λ t. IsSoundIn world.new.ctx t) }
     ensures numbered { IfOk result (λ t. IsNumberedFrom world.old.store.module_of.next t) }
     ensures refused { (r : Reason) (o : ℕ) → result ≡ Err (ReadError.Refused r o)
-        → IsNone (SpellsBeside world.old.ctx.opaque (module_in world.old) text.now) }
+        → IsNone (SpellsNextTo world.old.ctx.opaque (module_in world.old) text.now) }
     ensures told { IfErr result (λ e. IsOpRefusal text.now e) }
     ensures full { (o : ℕ) → result ≡ Err (ReadError.Full o) → IsFull world.new.ctx }
     ensures grown { Grown world.old world.new }

@@ -30,7 +30,7 @@ fn set_uses<L: Analysis>(bench: &mut Bench<L>, old: &Value, new: &Value) -> Resu
 {
     replacing_by_uses::<u32, u32, u32>();
     led_benches_are_kept::<L>();
-    bench.is_formed();
+    bench.is_wellformed();
     'uses: while let Some(site) = bench.world().store.first_use(*old) {
         if let Err(refusal) = bench.set_operand(site.0, site.1, *new) {
             return Err(refusal);
@@ -55,7 +55,7 @@ impl<L: Analysis> Bench<L> {
     {
         replacing_by_uses::<u32, u32, u32>();
         led_benches_are_kept::<L>();
-        self.is_formed();
+        self.is_wellformed();
         if let Some(refusal) = replace_fault(self.world(), &old, &new) {
             return Err(refusal);
         }

@@ -9,7 +9,7 @@ ghost use Rattle.rewriter.specs.Public.{IsFull, IsOpRefusal, IsTextRefusal};
 ghost use Rattle.rewriter.specs.Public.{IsNoAttr};
 ghost use Rattle.rewriter.specs.Public.{SpellsAttr};
 ghost use Rattle.rewriter.specs.Public.{IsNone};
-ghost use Rattle.rewriter.specs.Texts.{SpellsBeside};
+ghost use Rattle.rewriter.specs.Texts.{SpellsNextTo};
 ghost use Rattle.rewriter.specs.Held.{module_held};
 ghost use Rattle.rewriter.specs.Moves.{Grown};
 ghost use Rattle.rewriter.specs.RewriterCalls.{Led};
@@ -45,11 +45,11 @@ impl<L: Analysis> Bench<L> {
     /// Refusals: those of the reader.
     pub fn read_op(&mut self, text: &[u8]) -> Result<TreeOp, ReadError>
         ensures read { IfOk result
-            (λ t. SpellsBeside self.old.transaction.ctx.opaque (module_held self.old.transaction) text.now (meaning self.new.transaction.ctx t)) }
+            (λ t. SpellsNextTo self.old.transaction.ctx.opaque (module_held self.old.transaction) text.now (meaning self.new.transaction.ctx t)) }
         ensures sound { IfOk result (λ t. IsSoundIn self.new.transaction.ctx t) }
         ensures numbered { IfOk result (λ t. IsNumberedFrom self.old.transaction.store.module_of.next t) }
         ensures refused { (r : Reason) (o : ℕ) → result ≡ Err (ReadError.Refused r o)
-            → IsNone (SpellsBeside self.old.transaction.ctx.opaque (module_held self.old.transaction) text.now) }
+            → IsNone (SpellsNextTo self.old.transaction.ctx.opaque (module_held self.old.transaction) text.now) }
         ensures told { IfErr result (λ e. IsOpRefusal text.now e) }
         ensures full { (o : ℕ) → result ≡ Err (ReadError.Full o) → IsFull self.new.transaction.ctx }
         ensures grown { Grown self.old.transaction self.new.transaction }

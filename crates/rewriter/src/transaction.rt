@@ -62,7 +62,7 @@ fn counted_in(marks: &[JournalMark]) -> usize
 }
 
 /// Returns whether one more mark may be opened. `counted` says whether the mark counts.
-fn has_room(marks: &[JournalMark], counted: bool) -> bool
+fn has_headroom(marks: &[JournalMark], counted: bool) -> bool
     ensures { result ≡ not (is_some (mark_reason counted marks.now)) }
 {
     !counted || counted_in(marks) < MOST_MARKS
@@ -106,7 +106,7 @@ impl Transaction {
         ensures err { OnErr result (self.new ≡ self.old) }
         ensures refused { IsAnswered (Unit {0}) (mark_reason counted self.old.marks) result }
     {
-        if !has_room(&self.marks, counted) {
+        if !has_headroom(&self.marks, counted) {
             return Err(Refusal::TooManyMarks);
         }
         let length = self.journal.len();

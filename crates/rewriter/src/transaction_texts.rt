@@ -9,7 +9,7 @@ ghost use Rattle.ir_text.specs.Public.{IsFull, IsOpRefusal, IsTextRefusal};
 ghost use Rattle.ir_text.specs.Public.{IsNoAttr};
 ghost use Rattle.ir_text.specs.Public.{SpellsAttr};
 ghost use Rattle.ir_text.specs.Public.{IsNone};
-ghost use Rattle.rewriter.specs.Texts.{SpellsBeside};
+ghost use Rattle.rewriter.specs.Texts.{SpellsNextTo};
 ghost use Rattle.rewriter.specs.Held.{module_held};
 ghost use Rattle.rewriter.specs.Moves.{Grown};
 
@@ -41,11 +41,11 @@ impl Transaction {
     ///
     /// Refusals: those of the reader.
     pub fn read_op(&mut self, alloc: Global, text: &[u8]) -> Result<TreeOp, ReadError>
-        ensures read { IfOk result (λ t. SpellsBeside self.old.ctx.opaque (module_held self.old) text.now (meaning self.new.ctx t)) }
+        ensures read { IfOk result (λ t. SpellsNextTo self.old.ctx.opaque (module_held self.old) text.now (meaning self.new.ctx t)) }
         ensures sound { IfOk result (λ t. IsSoundIn self.new.ctx t) }
         ensures numbered { IfOk result (λ t. IsNumberedFrom self.old.store.module_of.next t) }
         ensures refused { (r : Reason) (o : ℕ) → result ≡ Err (ReadError.Refused r o)
-            → IsNone (SpellsBeside self.old.ctx.opaque (module_held self.old) text.now) }
+            → IsNone (SpellsNextTo self.old.ctx.opaque (module_held self.old) text.now) }
         ensures told { IfErr result (λ e. IsOpRefusal text.now e) }
         ensures full { (o : ℕ) → result ≡ Err (ReadError.Full o) → IsFull self.new.ctx }
         ensures grown { Grown self.old self.new }

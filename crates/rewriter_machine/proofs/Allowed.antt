@@ -69,10 +69,10 @@ module _ {N T A : Type 0} (isolated : N → Bool) (new : Value) where
     dominated_by_it = head_visible (at u.0 (put_operand u.1 new)) (alike_operand u.0 u.1 new) isolated t z.0 new ∙ a.dominated_by_it;
   }
 
-  all_formed : (us : List (ℕ × ℕ)) (m : ModuleOf N T A) → IsWellFormed isolated m → ((z : ℕ × ℕ) → In z us → Takes z m.tree) → IsWellFormed isolated (record m { tree = all_set new us m.tree })
-  all_formed [] m w f = w
-  all_formed (u ∷ us) m w f =
-      all_formed us (record m { tree = with_operand u.0 u.1 new m.tree }) (operand_keeps isolated u.0 u.1 new m w (f u (inl refl)).dominated_by_it) (λ z h. still u z m.tree (f z (inr h)))
+  all_wellformed : (us : List (ℕ × ℕ)) (m : ModuleOf N T A) → IsWellFormed isolated m → ((z : ℕ × ℕ) → In z us → Takes z m.tree) → IsWellFormed isolated (record m { tree = all_set new us m.tree })
+  all_wellformed [] m w f = w
+  all_wellformed (u ∷ us) m w f =
+      all_wellformed us (record m { tree = with_operand u.0 u.1 new m.tree }) (operand_keeps isolated u.0 u.1 new m w (f u (inl refl)).dominated_by_it) (λ z h. still u z m.tree (f z (inr h)))
 
   all_still : (us : List (ℕ × ℕ)) (z : ℕ × ℕ) (t : OpOf N T A) → Takes z t → Takes z (all_set new us t)
   all_still [] z t a = a
@@ -96,9 +96,9 @@ module _ {N T A : Type 0} (w : TestsOf N T) (old new : Value) (m : ModuleOf N T 
         dominated_by_it = all_each (λ u. visible w.isolated m.tree u.0 new) (uses_of old m.tree) uses_see z h;
       }
 
-  pub set_formed : (us vs : List (ℕ × ℕ)) → us ++ vs ≡ uses_of old m.tree → IsWellFormed w.isolated (record m { tree = all_set new us m.tree })
-  set_formed us vs is = all_formed w.isolated new us m f (λ z h. each_takes z (subst (In z) is (in_left z us vs h)))
+  pub set_wellformed : (us vs : List (ℕ × ℕ)) → us ++ vs ≡ uses_of old m.tree → IsWellFormed w.isolated (record m { tree = all_set new us m.tree })
+  set_wellformed us vs is = all_wellformed w.isolated new us m f (λ z h. each_takes z (subst (In z) is (in_left z us vs h)))
 
   pub set_allowed : (us vs : List (ℕ × ℕ)) (u : ℕ × ℕ) → us ++ u ∷ vs ≡ uses_of old m.tree → set_operand_reason w.isolated u.0 u.1 new (all_set new us m.tree) ≡ None
   set_allowed us vs u is =
-      may_set w.isolated new u (all_set new us m.tree) (set_formed us (u ∷ vs) is).distinct (all_still w.isolated new us u m.tree (each_takes u (subst (In u) is (in_middle us vs u))))
+      may_set w.isolated new u (all_set new us m.tree) (set_wellformed us (u ∷ vs) is).distinct (all_still w.isolated new us u m.tree (each_takes u (subst (In u) is (in_middle us vs u))))

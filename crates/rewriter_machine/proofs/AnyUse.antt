@@ -23,7 +23,7 @@ use Rattle.ir_event.proofs.of_tree_laws.Listed.{bool_cases, in_parts, one_any, a
 use Rattle.ir_event.proofs.of_tree_laws.Readings.{stands_ids, stands_uses}
 use Rattle.ir_event.proofs.of_tree_laws.Members.{same_stand}
 use Rattle.ir_event.proofs.of_tree_laws.DominatedBy.{visible_there}
-use Rattle.ir_event.proofs.of_tree_laws.Formed.{from_formed}
+use Rattle.ir_event.proofs.of_tree_laws.Wellformed.{from_wellformed}
 use Rattle.ir_event.proofs.of_tree_laws.Reasoned.{no_unless}
 use Rattle.ir_event.proofs.of_tree_laws.HeadForm.{in_gather, operand_keeps}
 use Rattle.ir_event.specs.store.Using.{same_use, is_use}
@@ -249,8 +249,8 @@ module _ {N T A : Type 0} (w : TestsOf N T) (old new : Value) (m : ModuleOf N T 
     pub turn_allowed : set_operand_reason w.isolated u.0 u.1 new m.tree ≡ None
     turn_allowed = may_set w.isolated new u m.tree f.distinct (each_takes w old new m f e u h)
 
-    pub turn_formed : IsWellFormed w.isolated (record m { tree = with_operand u.0 u.1 new m.tree })
-    turn_formed = operand_keeps w.isolated u.0 u.1 new m f (each_takes w old new m f e u h).dominated_by_it
+    pub turn_wellformed : IsWellFormed w.isolated (record m { tree = with_operand u.0 u.1 new m.tree })
+    turn_wellformed = operand_keeps w.isolated u.0 u.1 new m f (each_takes w old new m f e u h).dominated_by_it
 
     typed : (v : Value) → type_of_value v (with_operand u.0 u.1 new m.tree) ≡ type_of_value v m.tree
     typed v = type_kept {N = N} {T = T} {A = A} (at u.0 (put_operand u.1 new)) (λ h. elim (eqb h.id u.0) as (λ b. (cond b (put_operand u.1 new h) h).results ≡ h.results) [ true ↦ refl | false ↦ refl ])
@@ -278,7 +278,7 @@ module _ {N T A : Type 0} (w : TestsOf N T) (old new : Value) (m : ModuleOf N T 
       let g = of_gather (λ (s : StandOf N T A). operand_uses old (stand_id s) 0 (head s.here).operands) z (stands [] m.tree) (subst (In z) (sym (stands_uses old [] m.tree)) k) in
       ap (λ x. visible w.isolated m.tree x old) (user old (stand_id g.0) 0 (head g.0.here).operands z g.2)
       ∙ visible_there w.isolated m.tree f.distinct g.0 g.1 old
-      ∙ all_each (dominated_by w.isolated g.0.path) (head g.0.here).operands ((from_formed w.isolated m.tree f.formed).dominated_by_own g.0 g.1) old (use_in_list old (stand_id g.0) 0 (head g.0.here).operands z g.2))
+      ∙ all_each (dominated_by w.isolated g.0.path) (head g.0.here).operands ((from_wellformed w.isolated m.tree f.wellformed).dominated_by_own g.0 g.1) old (use_in_list old (stand_id g.0) 0 (head g.0.here).operands z g.2))
 
   pub equal_allowed : ((t : T) → w.same_type t t ≡ true) → same_value old new ≡ true → has_value old m.tree ≡ true → reason_by w (Replace old new) m ≡ None
   equal_allowed r e k =

@@ -98,11 +98,11 @@ module _ {N T A : Type 0} where
     region_header_of p path x r empty u k = absurd k
     region_header_of p path x r (block args os) u k = ops_header_of p path x r args [] os u k
 
-    ops_header_of : (p : OpOf N T A) (path : List (StepOf N T A)) (x r : ℕ) (args : List T) (front : List (OpOf N T A)) (os : OpsOf N T A) (u : Place × OpOf N T A) → In u (ops_headers x r os) → HeaderIn u (ops_stands p path r args front os)
-    ops_header_of p path x r args front no_ops u k = absurd k
-    ops_header_of p path x r args front (next o os) u k = elim (in_parts u (headers (end_of x r) o) (ops_headers x r os) k) [
-      | inl l ↦ left_in u (stands (step p r args front os ∷ path) o) (ops_stands p path r args (front ++ o ∷ []) os) (header_of (step p r args front os ∷ path) (end_of x r) o u l)
-      | inr l ↦ right_in u (stands (step p r args front os ∷ path) o) (ops_stands p path r args (front ++ o ∷ []) os) (ops_header_of p path x r args (front ++ o ∷ []) os u l)
+    ops_header_of : (p : OpOf N T A) (path : List (StepOf N T A)) (x r : ℕ) (args : List T) (preceding : List (OpOf N T A)) (os : OpsOf N T A) (u : Place × OpOf N T A) → In u (ops_headers x r os) → HeaderIn u (ops_stands p path r args preceding os)
+    ops_header_of p path x r args preceding no_ops u k = absurd k
+    ops_header_of p path x r args preceding (next o os) u k = elim (in_parts u (headers (end_of x r) o) (ops_headers x r os) k) [
+      | inl l ↦ left_in u (stands (step p r args preceding os ∷ path) o) (ops_stands p path r args (preceding ++ o ∷ []) os) (header_of (step p r args preceding os ∷ path) (end_of x r) o u l)
+      | inr l ↦ right_in u (stands (step p r args preceding os ∷ path) o) (ops_stands p path r args (preceding ++ o ∷ []) os) (ops_header_of p path x r args (preceding ++ o ∷ []) os u l)
     ]
 
   -- each has an id of the tree
@@ -190,70 +190,70 @@ module _ {N T A : Type 0} where
   region_there (q ∷ gs) g rs = region_there gs g rs
 
   -- appended operations
-  front_ids : (front : List (OpOf N T A)) → ops_ids (joined_ops front no_ops) ≡ all_ids front
-  front_ids [] = refl
-  front_ids (o ∷ front) = ap (λ l. ids o ++ l) (front_ids front)
+  preceding_ids : (preceding : List (OpOf N T A)) → ops_ids (joined_ops preceding no_ops) ≡ all_ids preceding
+  preceding_ids [] = refl
+  preceding_ids (o ∷ preceding) = ap (λ l. ids o ++ l) (preceding_ids preceding)
 
-  more_op_ids : (front : List (OpOf N T A)) (o : OpOf N T A) → all_ids (front ++ o ∷ []) ≡ all_ids front ++ ids o
+  more_op_ids : (preceding : List (OpOf N T A)) (o : OpOf N T A) → all_ids (preceding ++ o ∷ []) ≡ all_ids preceding ++ ids o
   more_op_ids [] o = append-nil (ids o)
-  more_op_ids (q ∷ front) o = ap (λ l. ids q ++ l) (more_op_ids front o) ∙ sym (append_assoc (ids q) (all_ids front) (ids o))
+  more_op_ids (q ∷ preceding) o = ap (λ l. ids q ++ l) (more_op_ids preceding o) ∙ sym (append_assoc (ids q) (all_ids preceding) (ids o))
 
-  last_of : (q : OpOf N T A) (front : List (OpOf N T A)) → put_last q (joined_ops front no_ops) ≡ joined_ops (front ++ q ∷ []) no_ops
+  last_of : (q : OpOf N T A) (preceding : List (OpOf N T A)) → put_last q (joined_ops preceding no_ops) ≡ joined_ops (preceding ++ q ∷ []) no_ops
   last_of q [] = refl
-  last_of q (p ∷ front) = ap (next p) (last_of q front)
+  last_of q (p ∷ preceding) = ap (next p) (last_of q preceding)
 
-  last_there : (q : OpOf N T A) (gs : List (RegionOf N T A)) (args : List T) (front : List (OpOf N T A)) (rs : RegionsOf N T A)
-      → with_last (length gs) q (joined gs (region (block args (joined_ops front no_ops)) rs)) ≡ joined gs (region (block args (joined_ops (front ++ q ∷ []) no_ops)) rs)
-  last_there q [] args front rs = ap (λ l. region (block args l) rs) (last_of q front)
-  last_there q (g ∷ gs) args front rs = ap (region g) (last_there q gs args front rs)
+  last_there : (q : OpOf N T A) (gs : List (RegionOf N T A)) (args : List T) (preceding : List (OpOf N T A)) (rs : RegionsOf N T A)
+      → with_last (length gs) q (joined gs (region (block args (joined_ops preceding no_ops)) rs)) ≡ joined gs (region (block args (joined_ops (preceding ++ q ∷ []) no_ops)) rs)
+  last_there q [] args preceding rs = ap (λ l. region (block args l) rs) (last_of q preceding)
+  last_there q (g ∷ gs) args preceding rs = ap (region g) (last_there q gs args preceding rs)
 
   -- ---- an operation whose regions are filled from the first on
   module _ (h : HeadOf N T A) (gs : List (RegionOf N T A)) (args : List T) (rs : RegionsOf N T A) (none : regions_ids rs ≡ []) where
     abbrev filled : List (OpOf N T A) → OpOf N T A
-    filled front = op h (joined gs (region (block args (joined_ops front no_ops)) rs))
+    filled preceding = op h (joined gs (region (block args (joined_ops preceding no_ops)) rs))
 
-    filled_ids : (front : List (OpOf N T A)) → ids (filled front) ≡ h.id ∷ (list_ids gs ++ all_ids front)
-    filled_ids front =
-        ap (λ l. h.id ∷ l) (joined_ids gs (region (block args (joined_ops front no_ops)) rs)
-        ∙ ap (λ l. list_ids gs ++ l) ((λ i. front_ids front i ++ none i) ∙ append-nil (all_ids front)))
+    filled_ids : (preceding : List (OpOf N T A)) → ids (filled preceding) ≡ h.id ∷ (list_ids gs ++ all_ids preceding)
+    filled_ids preceding =
+        ap (λ l. h.id ∷ l) (joined_ids gs (region (block args (joined_ops preceding no_ops)) rs)
+        ∙ ap (λ l. list_ids gs ++ l) ((λ i. preceding_ids preceding i ++ none i) ∙ append-nil (all_ids preceding)))
 
-    has_end : (front : List (OpOf N T A)) → has_place (end_of h.id (length gs)) (filled front) ≡ true
-    has_end front = of_point (end_of h.id (length gs)) (filled front) (record {
-      parent = filled front;
-      found = ap (λ b. cond b (Some (filled front)) (regions_find h.id (joined gs (region (block args (joined_ops front no_ops)) rs)))) (eq-eqb h.id h.id refl);
+    has_end : (preceding : List (OpOf N T A)) → has_place (end_of h.id (length gs)) (filled preceding) ≡ true
+    has_end preceding = of_point (end_of h.id (length gs)) (filled preceding) (record {
+      parent = filled preceding;
+      found = ap (λ b. cond b (Some (filled preceding)) (regions_find h.id (joined gs (region (block args (joined_ops preceding no_ops)) rs)))) (eq-eqb h.id h.id refl);
       args = args;
-      list = joined_ops front no_ops;
-      is = region_there gs (block args (joined_ops front no_ops)) rs;
+      list = joined_ops preceding no_ops;
+      is = region_there gs (block args (joined_ops preceding no_ops)) rs;
       among = refl;
     })
 
     -- one more operation is appended
-    one_filled : (front : List (OpOf N T A)) (q : OpOf N T A) → IsDistinct eqb (h.id ∷ (list_ids gs ++ all_ids front)) → put (end_of h.id (length gs)) q (filled front) ≡ filled (front ++ q ∷ [])
-    one_filled front q d =
-        put_at_end h (joined gs (region (block args (joined_ops front no_ops)) rs)) (length gs) q
-        (absent_first h.id (regions_ids (joined gs (region (block args (joined_ops front no_ops)) rs))) (subst (IsDistinct eqb) (sym (filled_ids front)) d))
-        ∙ ap (op h) (last_there q gs args front rs)
+    one_filled : (preceding : List (OpOf N T A)) (q : OpOf N T A) → IsDistinct eqb (h.id ∷ (list_ids gs ++ all_ids preceding)) → put (end_of h.id (length gs)) q (filled preceding) ≡ filled (preceding ++ q ∷ [])
+    one_filled preceding q d =
+        put_at_end h (joined gs (region (block args (joined_ops preceding no_ops)) rs)) (length gs) q
+        (absent_first h.id (regions_ids (joined gs (region (block args (joined_ops preceding no_ops)) rs))) (subst (IsDistinct eqb) (sym (filled_ids preceding)) d))
+        ∙ ap (op h) (last_there q gs args preceding rs)
 
-    may_fill : (front : List (OpOf N T A)) (q : OpOf N T A) (later : List ℕ) → IsDistinct eqb ((h.id ∷ (list_ids gs ++ all_ids front)) ++ (ids q ++ later)) → MayPut (end_of h.id (length gs)) q (filled front)
-    may_fill front q later d =
-        let hv = halves (h.id ∷ (list_ids gs ++ all_ids front)) (ids q ++ later) d in
+    may_fill : (preceding : List (OpOf N T A)) (q : OpOf N T A) (later : List ℕ) → IsDistinct eqb ((h.id ∷ (list_ids gs ++ all_ids preceding)) ++ (ids q ++ later)) → MayPut (end_of h.id (length gs)) q (filled preceding)
+    may_fill preceding q later d =
+        let hv = halves (h.id ∷ (list_ids gs ++ all_ids preceding)) (ids q ++ later) d in
         let inner = halves (ids q) later hv.right in
         record {
-          distinct = subst (IsDistinct eqb) (sym (filled_ids front)) hv.left;
+          distinct = subst (IsDistinct eqb) (sym (filled_ids preceding)) hv.left;
           own = inner.left;
-          apart = λ y k. ap (list_any (λ z. eqb z y)) (filled_ids front) ∙ elim (bool_cases (list_any (λ z. eqb z y) (h.id ∷ (list_ids gs ++ all_ids front)))) [
+          apart = λ y k. ap (list_any (λ z. eqb z y)) (filled_ids preceding) ∙ elim (bool_cases (list_any (λ z. eqb z y) (h.id ∷ (list_ids gs ++ all_ids preceding)))) [
             | inr j ↦ j
             | inl j ↦ absurd (true≢false (sym (present_left y (ids q) later k) ∙ hv.disjoint y j))
           ];
-          point = has_end front;
+          point = has_end preceding;
         }
 
-    next_distinct : (front : List (OpOf N T A)) (q : OpOf N T A) (later : List ℕ) → IsDistinct eqb ((h.id ∷ (list_ids gs ++ all_ids front)) ++ (ids q ++ later)) → IsDistinct eqb ((h.id ∷ (list_ids gs ++ all_ids (front ++ q ∷ []))) ++ later)
-    next_distinct front q later d =
-        subst (IsDistinct eqb) (ap (λ l. h.id ∷ l) (sym (ap (λ l. (list_ids gs ++ l) ++ later) (more_op_ids front q)
-        ∙ append_assoc (list_ids gs) (all_ids front ++ ids q) later
-        ∙ ap (λ l. list_ids gs ++ l) (append_assoc (all_ids front) (ids q) later)
-        ∙ sym (append_assoc (list_ids gs) (all_ids front) (ids q ++ later))))) d
+    next_distinct : (preceding : List (OpOf N T A)) (q : OpOf N T A) (later : List ℕ) → IsDistinct eqb ((h.id ∷ (list_ids gs ++ all_ids preceding)) ++ (ids q ++ later)) → IsDistinct eqb ((h.id ∷ (list_ids gs ++ all_ids (preceding ++ q ∷ []))) ++ later)
+    next_distinct preceding q later d =
+        subst (IsDistinct eqb) (ap (λ l. h.id ∷ l) (sym (ap (λ l. (list_ids gs ++ l) ++ later) (more_op_ids preceding q)
+        ∙ append_assoc (list_ids gs) (all_ids preceding ++ ids q) later
+        ∙ ap (λ l. list_ids gs ++ l) (append_assoc (all_ids preceding) (ids q) later)
+        ∙ sym (append_assoc (list_ids gs) (all_ids preceding) (ids q ++ later))))) d
 
   mutual
     -- a tree is built at its place by its headers
@@ -285,17 +285,17 @@ module _ {N T A : Type 0} where
     region_build h gs r e empty rs none d = record { is = refl; lands = tt }
     region_build h gs r e (block args os) rs none d = ops_build h gs r e args [] os rs none (subst (λ l. IsDistinct eqb ((h.id ∷ l) ++ ops_ids os)) (sym (append-nil (list_ids gs))) d)
 
-    ops_build : (h : HeadOf N T A) (gs : List (RegionOf N T A)) (r : ℕ) → r ≡ length gs → (args : List T) (front : List (OpOf N T A)) (os : OpsOf N T A) (rs : RegionsOf N T A) → regions_ids rs ≡ []
-        → IsDistinct eqb ((h.id ∷ (list_ids gs ++ all_ids front)) ++ ops_ids os)
-        → Builds (ops_headers h.id r os) (op h (joined gs (region (block args (joined_ops front no_ops)) rs))) (op h (joined gs (region (block args (joined_ops front os)) rs)))
-    ops_build h gs r e args front no_ops rs none d = record { is = refl; lands = tt }
-    ops_build h gs r e args front (next q os) rs none d =
-        let t = op h (joined gs (region (block args (joined_ops front no_ops)) rs)) in
-        let may : MayPut (end_of h.id r) q t = subst (λ n. MayPut (end_of h.id n) q t) (sym e) (may_fill h gs args rs none front q (ops_ids os) d) in
+    ops_build : (h : HeadOf N T A) (gs : List (RegionOf N T A)) (r : ℕ) → r ≡ length gs → (args : List T) (preceding : List (OpOf N T A)) (os : OpsOf N T A) (rs : RegionsOf N T A) → regions_ids rs ≡ []
+        → IsDistinct eqb ((h.id ∷ (list_ids gs ++ all_ids preceding)) ++ ops_ids os)
+        → Builds (ops_headers h.id r os) (op h (joined gs (region (block args (joined_ops preceding no_ops)) rs))) (op h (joined gs (region (block args (joined_ops preceding os)) rs)))
+    ops_build h gs r e args preceding no_ops rs none d = record { is = refl; lands = tt }
+    ops_build h gs r e args preceding (next q os) rs none d =
+        let t = op h (joined gs (region (block args (joined_ops preceding no_ops)) rs)) in
+        let may : MayPut (end_of h.id r) q t = subst (λ n. MayPut (end_of h.id n) q t) (sym e) (may_fill h gs args rs none preceding q (ops_ids os) d) in
         let one = build (end_of h.id r) q t may in
-        let is : put (end_of h.id r) q t ≡ op h (joined gs (region (block args (joined_ops (front ++ q ∷ []) no_ops)) rs)) =
-        ap (λ n. put (end_of h.id n) q t) e ∙ one_filled h gs args rs none front q (halves (h.id ∷ (list_ids gs ++ all_ids front)) (ids q ++ ops_ids os) d).left in
-        let rest = ops_build h gs r e args (front ++ q ∷ []) os rs none (next_distinct h gs args rs none front q (ops_ids os) d) in
-        then_builds (headers (end_of h.id r) q) (ops_headers h.id r os) t (op h (joined gs (region (block args (joined_ops (front ++ q ∷ []) no_ops)) rs))) (op h (joined gs (region (block args (joined_ops front (next q os))) rs)))
+        let is : put (end_of h.id r) q t ≡ op h (joined gs (region (block args (joined_ops (preceding ++ q ∷ []) no_ops)) rs)) =
+        ap (λ n. put (end_of h.id n) q t) e ∙ one_filled h gs args rs none preceding q (halves (h.id ∷ (list_ids gs ++ all_ids preceding)) (ids q ++ ops_ids os) d).left in
+        let rest = ops_build h gs r e args (preceding ++ q ∷ []) os rs none (next_distinct h gs args rs none preceding q (ops_ids os) d) in
+        then_builds (headers (end_of h.id r) q) (ops_headers h.id r os) t (op h (joined gs (region (block args (joined_ops (preceding ++ q ∷ []) no_ops)) rs))) (op h (joined gs (region (block args (joined_ops preceding (next q os))) rs)))
         (subst (Builds (headers (end_of h.id r) q) t) is one)
-        (subst (λ (l : OpsOf N T A). Builds (ops_headers h.id r os) (op h (joined gs (region (block args (joined_ops (front ++ q ∷ []) no_ops)) rs))) (op h (joined gs (region (block args l) rs)))) (joined_more front q os) rest)
+        (subst (λ (l : OpsOf N T A). Builds (ops_headers h.id r os) (op h (joined gs (region (block args (joined_ops (preceding ++ q ∷ []) no_ops)) rs))) (op h (joined gs (region (block args l) rs)))) (joined_more preceding q os) rest)

@@ -55,10 +55,10 @@ module _ {N T A : Type 0} (isolated : N → Bool) where
   -- a list of ids, split before an operation and after everything inside it; the owners of the values visible at it are
   -- in the front part, or pass a test
   pub record Cut (xs : List ℕ) (s : StandOf N T A) (Test : Value → Type 0) : Type 0 where
-    pub front : List ℕ
+    pub preceding : List ℕ
     pub back : List ℕ
-    pub is : xs ≡ front ++ (ids s.here ++ back)
-    pub seen : (v : Value) → dominated_by isolated s.path v ≡ true → Test v ⊎ Present (owner_of v).0 front
+    pub is : xs ≡ preceding ++ (ids s.here ++ back)
+    pub seen : (v : Value) → dominated_by isolated s.path v ≡ true → Test v ⊎ Present (owner_of v).0 preceding
 
   abbrev Above : List (StepOf N T A) → Value → Type 0
   Above path v = dominated_by isolated path v ≡ true
@@ -67,29 +67,29 @@ module _ {N T A : Type 0} (isolated : N → Bool) where
   Inside p path v = Above path v ⊎ ((owner_of v).0 ≡ (head p).id)
 
   abbrev Following : OpOf N T A → List (StepOf N T A) → List (OpOf N T A) → Value → Type 0
-  Following p path front v = Inside p path v ⊎ (list_any (λ o. shows v (results_of o)) front ≡ true)
+  Following p path preceding v = Inside p path v ⊎ (list_any (λ o. shows v (results_of o)) preceding ≡ true)
 
   cut_left : (xs ys : List ℕ) (s : StandOf N T A) (P Q : Value → Type 0) → ((v : Value) → P v → Q v) → Cut xs s P → Cut (xs ++ ys) s Q
   cut_left xs ys s P Q f c = record {
-    front = c.front;
+    preceding = c.preceding;
     back = c.back ++ ys;
-    is = ap (λ l. l ++ ys) c.is ∙ append_assoc c.front (ids s.here ++ c.back) ys ∙ ap (λ l. c.front ++ l) (append_assoc (ids s.here) c.back ys);
+    is = ap (λ l. l ++ ys) c.is ∙ append_assoc c.preceding (ids s.here ++ c.back) ys ∙ ap (λ l. c.preceding ++ l) (append_assoc (ids s.here) c.back ys);
     seen = λ v k. elim (c.seen v k) [ inl a ↦ inl (f v a) | inr a ↦ inr a ];
   }
 
   cut_right : (xs ys : List ℕ) (s : StandOf N T A) (P Q : Value → Type 0) → ((v : Value) → P v → Q v ⊎ Present (owner_of v).0 xs) → Cut ys s P → Cut (xs ++ ys) s Q
   cut_right xs ys s P Q f c = record {
-    front = xs ++ c.front;
+    preceding = xs ++ c.preceding;
     back = c.back;
-    is = ap (λ l. xs ++ l) c.is ∙ sym (append_assoc xs c.front (ids s.here ++ c.back));
+    is = ap (λ l. xs ++ l) c.is ∙ sym (append_assoc xs c.preceding (ids s.here ++ c.back));
     seen = λ v k. elim (c.seen v k) [
-      | inl a ↦ elim (f v a) [ inl b ↦ inl b | inr b ↦ inr (present_left (owner_of v).0 xs c.front b) ]
-      | inr a ↦ inr (present_right (owner_of v).0 xs c.front a)
+      | inl a ↦ elim (f v a) [ inl b ↦ inl b | inr b ↦ inr (present_left (owner_of v).0 xs c.preceding b) ]
+      | inr a ↦ inr (present_right (owner_of v).0 xs c.preceding a)
     ];
   }
 
-  from_block : (p : OpOf N T A) (path : List (StepOf N T A)) (r : ℕ) (args : List T) (front : List (OpOf N T A)) (os : OpsOf N T A) (v : Value) → dominated_by isolated (step p r args front os ∷ path) v ≡ true → Following p path front v
-  from_block p path r args front os v e = elim (either (list_any (λ o. shows v (results_of o)) front) _ e) [
+  from_block : (p : OpOf N T A) (path : List (StepOf N T A)) (r : ℕ) (args : List T) (preceding : List (OpOf N T A)) (os : OpsOf N T A) (v : Value) → dominated_by isolated (step p r args preceding os ∷ path) v ≡ true → Following p path preceding v
+  from_block p path r args preceding os v e = elim (either (list_any (λ o. shows v (results_of o)) preceding) _ e) [
     | inl k ↦ inr k
     | inr k ↦ elim (either (shows v (arguments (head p).id r (length args))) _ k) [
       | inl j ↦ inl (inr (shown_argument v (head p).id r (length args) j))
@@ -97,9 +97,9 @@ module _ {N T A : Type 0} (isolated : N → Bool) where
     ]
   ]
 
-  from_list : (p : OpOf N T A) (path : List (StepOf N T A)) (front : List (OpOf N T A)) (o : OpOf N T A) (v : Value) → Following p path (front ++ o ∷ []) v → Following p path front v ⊎ Present (owner_of v).0 (ids o)
-  from_list p path front o v (inl a) = inl (inl a)
-  from_list p path front (op h rs) v (inr a) = elim (either (list_any (λ o. shows v (results_of o)) front) _ (sym (list_any-append (λ o. shows v (results_of o)) front (op h rs ∷ [])) ∙ a)) [
+  from_list : (p : OpOf N T A) (path : List (StepOf N T A)) (preceding : List (OpOf N T A)) (o : OpOf N T A) (v : Value) → Following p path (preceding ++ o ∷ []) v → Following p path preceding v ⊎ Present (owner_of v).0 (ids o)
+  from_list p path preceding o v (inl a) = inl (inl a)
+  from_list p path preceding (op h rs) v (inr a) = elim (either (list_any (λ o. shows v (results_of o)) preceding) _ (sym (list_any-append (λ o. shows v (results_of o)) preceding (op h rs ∷ [])) ∙ a)) [
     | inl k ↦ inl (inr k)
     | inr k ↦ elim (either (shows v (results_of (op h rs))) false k) [
       | inl j ↦ inr (first_there h.id (owner_of v).0 (regions_ids rs) (shown_result v (op h rs) j))
@@ -114,7 +114,7 @@ module _ {N T A : Type 0} (isolated : N → Bool) where
   mutual
     pub op_cut : (path : List (StepOf N T A)) (t : OpOf N T A) (s : StandOf N T A) → In s (stands path t) → Cut (ids t) s (Above path)
     op_cut path (op h rs) s (inl e) = record {
-      front = [];
+      preceding = [];
       back = [];
       is = ap (λ (z : StandOf N T A). ids z.here) (sym e) ∙ sym (append-nil (ids s.here));
       seen = λ v k. inl (ap (λ (z : StandOf N T A). dominated_by isolated z.path v) (sym e) ∙ k);
@@ -135,15 +135,15 @@ module _ {N T A : Type 0} (isolated : N → Bool) where
     region_cut p path r (block args os) s k =
         cut_right [] (ops_ids os) s (Following p path []) (Inside p path) (λ v a. inl (none_before p path v a)) (ops_cut p path r args [] os s k)
 
-    ops_cut : (p : OpOf N T A) (path : List (StepOf N T A)) (r : ℕ) (args : List T) (front : List (OpOf N T A)) (os : OpsOf N T A) (s : StandOf N T A)
-        → In s (ops_stands p path r args front os) → Cut (ops_ids os) s (Following p path front)
-    ops_cut p path r args front no_ops s k = absurd k
-    ops_cut p path r args front (next o os) s k =
-        elim (in_parts s (stands (step p r args front os ∷ path) o) (ops_stands p path r args (front ++ o ∷ []) os) k) [
-          | inl l ↦ cut_left (ids o) (ops_ids os) s (Above (step p r args front os ∷ path)) (Following p path front) (from_block p path r args front os) (op_cut (step p r args front os ∷ path) o s l)
-          | inr l ↦ cut_right (ids o) (ops_ids os) s (Following p path (front ++ o ∷ [])) (Following p path front) (from_list p path front o) (ops_cut p path r args (front ++ o ∷ []) os s l)
+    ops_cut : (p : OpOf N T A) (path : List (StepOf N T A)) (r : ℕ) (args : List T) (preceding : List (OpOf N T A)) (os : OpsOf N T A) (s : StandOf N T A)
+        → In s (ops_stands p path r args preceding os) → Cut (ops_ids os) s (Following p path preceding)
+    ops_cut p path r args preceding no_ops s k = absurd k
+    ops_cut p path r args preceding (next o os) s k =
+        elim (in_parts s (stands (step p r args preceding os ∷ path) o) (ops_stands p path r args (preceding ++ o ∷ []) os) k) [
+          | inl l ↦ cut_left (ids o) (ops_ids os) s (Above (step p r args preceding os ∷ path)) (Following p path preceding) (from_block p path r args preceding os) (op_cut (step p r args preceding os ∷ path) o s l)
+          | inr l ↦ cut_right (ids o) (ops_ids os) s (Following p path (preceding ++ o ∷ [])) (Following p path preceding) (from_list p path preceding o) (ops_cut p path r args (preceding ++ o ∷ []) os s l)
         ]
 
   -- in a whole tree
-  pub seen_earlier : (t : OpOf N T A) (s : StandOf N T A) (h : In s (stands [] t)) (v : Value) → dominated_by isolated s.path v ≡ true → Present (owner_of v).0 (op_cut [] t s h).front
+  pub seen_earlier : (t : OpOf N T A) (s : StandOf N T A) (h : In s (stands [] t)) (v : Value) → dominated_by isolated s.path v ≡ true → Present (owner_of v).0 (op_cut [] t s h).preceding
   seen_earlier t s h v e = elim ((op_cut [] t s h).seen v e) [ inl a ↦ absurd (true≢false (sym a)) | inr a ↦ a ]

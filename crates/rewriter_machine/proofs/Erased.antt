@@ -25,7 +25,7 @@ use Rattle.ir_event.proofs.of_tree_laws.PutForm.{put_found}
 use Rattle.ir_event.proofs.of_tree_laws.Shift.{Inner, inner_of, inner_place, own_distinct}
 use Rattle.rewriter_machine.specs.Edits.{TestsOf, Erase, reason_by}
 use Rattle.rewriter_machine.specs.Erasing.{ids_in, erase_order, all_taken}
-use Rattle.rewriter_machine.proofs.Taken.{Erasing, reach, each_may, all_gone, each_formed}
+use Rattle.rewriter_machine.proofs.Taken.{Erasing, reach, each_may, all_gone, each_wellformed}
 
 module _ {N T A : Type 0} (w : TestsOf N T) (x : ℕ) (m : ModuleOf N T A) (f : IsWellFormed w.isolated m) (e : reason_by w (Erase x) m ≡ None) where
   abbrev t : OpOf N T A
@@ -96,7 +96,7 @@ module _ {N T A : Type 0} (w : TestsOf N T) (x : ℕ) (m : ModuleOf N T A) (f : 
           apart = apart;
           point = point_left w.isolated x m.tree f.distinct o i.step_in i.path i.there i.id place refl;
         };
-        formed = subst (λ (t : OpOf N T A). IsWellFormed w.isolated (record { tree = t; next = m.next })) (sym is) f;
+        wellformed = subst (λ (t : OpOf N T A). IsWellFormed w.isolated (record { tree = t; next = m.next })) (sym is) f;
         spared = spared;
       }
 
@@ -115,10 +115,10 @@ module _ {N T A : Type 0} (w : TestsOf N T) (x : ℕ) (m : ModuleOf N T A) (f : 
   pub erased_may : (ys zs : List ℕ) (y : ℕ) → ys ++ y ∷ zs ≡ erase_order x m.tree → take_reason y (all_taken ys m.tree) ≡ None
   erased_may ys zs y k = ap (take_reason y) (taken_is ys) ∙ each_may w.isolated erased.place (without x m.tree) m.next ys y zs erased.here erased.goes (order_is (ys ++ y ∷ zs) k)
 
-  pub erased_formed : (ys zs : List ℕ) → ys ++ zs ≡ erase_order x m.tree → IsWellFormed w.isolated (record m { tree = all_taken ys m.tree })
-  erased_formed ys zs k =
+  pub erased_wellformed : (ys zs : List ℕ) → ys ++ zs ≡ erase_order x m.tree → IsWellFormed w.isolated (record m { tree = all_taken ys m.tree })
+  erased_wellformed ys zs k =
       subst (λ (t : OpOf N T A). IsWellFormed w.isolated (record { tree = t; next = m.next })) (sym (taken_is ys))
-      (each_formed w.isolated erased.place (without x m.tree) m.next ys zs erased.here erased.goes (order_is (ys ++ zs) k))
+      (each_wellformed w.isolated erased.place (without x m.tree) m.next ys zs erased.here erased.goes (order_is (ys ++ zs) k))
 
   pub erased_left : (ys zs : List ℕ) → ys ++ zs ≡ erase_order x m.tree → erase_order x (all_taken ys m.tree) ≡ zs
   erased_left ys [] k =

@@ -18,7 +18,7 @@ use Rattle.ir_event.specs.declared.event.Event.{Event}
 use Rattle.ir_event.specs.declared.event.Event.TheVariants.{Put, Take, SetOperand, SetEntry, Shift}
 use Rattle.ir_event.specs.Modules.{Module, module_meaning}
 use Rattle.ir_event.specs.Step.{EventIsOf, IsAttrOrNone, Step}
-use Rattle.ir_event.proofs.Growing.{formed_stays, held_stays, module_stays}
+use Rattle.ir_event.proofs.Growing.{wellformed_stays, held_stays, module_stays}
 use Rattle.ir_event.proofs.Steps.{step_stays}
 use Rattle.ir_event.specs.Undoing.{CameFrom, Keeps, undone}
 use Rattle.rewriter_machine.specs.Journals.{IsJournal, IsStoreOf, before, undone_all}
@@ -30,7 +30,7 @@ module _ (c d : ContextModel) (g : IsExtendedBy c d) (rich : IsSound d) where
   store_stays s w = record {
     context = rich;
     sound = stays_sound c d s.module_of.tree g w.sound;
-    formed = formed_stays c d s.module_of w.context.holds g w.sound w.formed;
+    wellformed = wellformed_stays c d s.module_of w.context.holds g w.sound w.wellformed;
     held = held_stays c d s.held g w.held;
   }
 

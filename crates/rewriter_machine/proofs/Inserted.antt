@@ -25,7 +25,7 @@ use Rattle.ir_event.proofs.of_tree_laws.Readings.{stands_every}
 use Rattle.ir_event.proofs.of_tree_laws.Members.{stand, within}
 use Rattle.ir_event.proofs.of_tree_laws.Around.{stand_present}
 use Rattle.ir_event.proofs.of_tree_laws.DominatedBy.{visible_there, all_same, operands_visible_each}
-use Rattle.ir_event.proofs.of_tree_laws.Formed.{FormedEach, from_formed}
+use Rattle.ir_event.proofs.of_tree_laws.Wellformed.{WellformedEach, from_wellformed}
 use Rattle.ir_event.proofs.of_tree_laws.PutForm.{landed, put_distinct, put_found, put_around}
 use Rattle.ir_event.proofs.of_tree_laws.Reasoned.{no_unless}
 use Rattle.ir_event.proofs.of_tree_laws.Values.{seen_by}
@@ -37,7 +37,7 @@ use Rattle.rewriter_machine.specs.Edits.{TestsOf, Insert, Make, edited_by, reaso
 use Rattle.rewriter_machine.specs.Erasing.{all_taken}
 use Rattle.rewriter_machine.specs.Inserting.{headers, all_made}
 use Rattle.rewriter_machine.proofs.Parts.{in_middle}
-use Rattle.rewriter_machine.proofs.Taken.{taken_more, Erasing, each_may, each_formed}
+use Rattle.rewriter_machine.proofs.Taken.{taken_more, Erasing, each_may, each_wellformed}
 use Rattle.rewriter_machine.proofs.Built.{header_id, header_ids, header_of, header_count, bare_holds, all_put, Lands, put_more, lands_rest, Builds, build}
 use Rattle.ir_event.proofs.Facts.{own_id}
 
@@ -87,23 +87,23 @@ module _ {N T A : Type 0} where
       ∙ take_put u.0 u.1 t (l.0.apart (header_id u) (own_id u.1))
 
   -- a header that can be taken out again can be inserted
-  module _ (isolated : N → Bool) (u : Place × OpOf N T A) (t : OpOf N T A) (free : ℕ) (may : MayPut u.0 u.1 t) (formed : IsWellFormed isolated (record { tree = put u.0 u.1 t; next = free })) (takes : take_reason (header_id u) (put u.0 u.1 t) ≡ None) where
+  module _ (isolated : N → Bool) (u : Place × OpOf N T A) (t : OpOf N T A) (free : ℕ) (may : MayPut u.0 u.1 t) (wellformed : IsWellFormed isolated (record { tree = put u.0 u.1 t; next = free })) (takes : take_reason (header_id u) (put u.0 u.1 t) ≡ None) where
     abbrev now : OpOf N T A
     now = put u.0 u.1 t
 
     abbrev path : List (StepOf N T A)
     path = (landed u.0 u.1 t may).step_in ∷ (landed u.0 u.1 t may).path
 
-    each : FormedEach isolated (put u.0 u.1 t)
-    each = from_formed isolated now formed.formed
+    each : WellformedEach isolated (put u.0 u.1 t)
+    each = from_wellformed isolated now wellformed.wellformed
 
     there : In (stand u.1 path) (stands [] (put u.0 u.1 t))
     there = (landed u.0 u.1 t may).there
 
     values : list_all (λ v. has_value v t) (head u.1).operands ≡ true
     values =
-        let c = take_changes (header_id u) false (record { tree = now; next = free }) (record { tree = t; next = free }) formed.distinct takes (sym (take_put u.0 u.1 t (may.apart (header_id u) (own_id u.1)))) refl in
-        (may_restore isolated (header_id u) c.0 false (record { tree = t; next = free }) (record { tree = now; next = free }) formed c.1 u.1 (put_found u.0 u.1 t may)).values
+        let c = take_changes (header_id u) false (record { tree = now; next = free }) (record { tree = t; next = free }) wellformed.distinct takes (sym (take_put u.0 u.1 t (may.apart (header_id u) (own_id u.1)))) refl in
+        (may_restore isolated (header_id u) c.0 false (record { tree = t; next = free }) (record { tree = now; next = free }) wellformed c.1 u.1 (put_found u.0 u.1 t may)).values
 
     may_put_again : header_id u < most_next → put_reason isolated u.0 u.1 (header_id u) t ≡ None
     may_put_again low =
@@ -117,7 +117,7 @@ module _ {N T A : Type 0} where
         ∙ le-leb (length (landed u.0 u.1 t may).path + 1 + 0) most_around (let a = each.shallow (stand u.1 path) there in omega (arith, a)))
         (passed _ NoSuchValue _ values
         (passed _ NotVisible None (ap (λ c. list_all (visible isolated (put u.0 c t) (header_id u)) (head u.1).operands) (with_own (header_id u) u.1 refl)
-        ∙ all_same _ _ (head u.1).operands (λ v n. visible_there isolated now formed.distinct (stand u.1 path) there v)
+        ∙ all_same _ _ (head u.1).operands (λ v n. visible_there isolated now wellformed.distinct (stand u.1 path) there v)
         ∙ each.dominated_by_own (stand u.1 path) there) refl))))))
 
 module _ {N T A : Type 0} (w : TestsOf N T) (place : Place) (o : OpOf N T A) (m : ModuleOf N T A) where
@@ -139,7 +139,7 @@ module _ {N T A : Type 0} (w : TestsOf N T) (place : Place) (o : OpOf N T A) (m 
 module _ {N T A : Type 0} (w : TestsOf N T) (place : Place) (o : OpOf N T A) (m : ModuleOf N T A) (f : IsWellFormed w.isolated m) (numbered : IsNumberedFrom m.next o) (e : reason_by w (Insert place o) m ≡ None) where
   record Free : Type 0 where
     point : has_place place m.tree ≡ true
-    room : nat_le (op_count m.tree + op_count o) most_ops ≡ true
+    headroom : nat_le (op_count m.tree + op_count o) most_ops ≡ true
     fits : every op_fits o ≡ true
     next : nat_le (m.next + op_count o) most_next ≡ true
     levels : fits_around (depth o) (around place.parent m.tree) ≡ true
@@ -154,7 +154,7 @@ module _ {N T A : Type 0} (w : TestsOf N T) (place : Place) (o : OpOf N T A) (m 
       let g = no_unless (nat_le (m.next + op_count o) most_next) IdsExhausted _ d.1 in
       let h = no_unless (fits_around (depth o) (around place.parent m.tree)) TooDeepHere _ g.1 in
       let i = no_unless (operands_visible w.isolated (put place o m.tree)) NotVisible None h.1 in
-      record { point = b.0; room = c.0; fits = d.0; next = g.0; levels = h.0; dominated_by_it = i.0 }
+      record { point = b.0; headroom = c.0; fits = d.0; next = g.0; levels = h.0; dominated_by_it = i.0 }
 
   may : MayPut place o m.tree
   may = may_put_tree w.isolated place o m f numbered free.point
@@ -172,20 +172,20 @@ module _ {N T A : Type 0} (w : TestsOf N T) (place : Place) (o : OpOf N T A) (m 
       all_each (λ (s : StandOf N T A). p s.here) (stands [] full) (stands_every p [] full ∙ sym (operands_visible_each w.isolated full (put_distinct place o m.tree may)) ∙ free.dominated_by_it) s
       (within o point_path s k [] full (landed place o m.tree may).there))
 
-  pub whole_formed : IsWellFormed w.isolated (record { tree = put place o m.tree; next = m.next + op_count o })
-  whole_formed =
-      insert_keeps w.isolated place o m f numbered free.point (record { dominated_by_own = dominated_by_own; levels = free.levels; count = leb-true (op_count m.tree + op_count o) most_ops free.room; fits = free.fits })
+  pub whole_wellformed : IsWellFormed w.isolated (record { tree = put place o m.tree; next = m.next + op_count o })
+  whole_wellformed =
+      insert_keeps w.isolated place o m f numbered free.point (record { dominated_by_own = dominated_by_own; levels = free.levels; count = leb-true (op_count m.tree + op_count o) most_ops free.headroom; fits = free.fits })
       (leb-true (m.next + op_count o) most_next free.next)
 
   spared : (y : ℕ) → has_id y o ≡ true → (s : StandOf N T A) → In s (stands [] m.tree) → leaves y (head s.here) ≡ true
   spared y h s k =
-      let g = from_formed w.isolated m.tree f.formed in
+      let g = from_wellformed w.isolated m.tree f.wellformed in
       each_all (λ v. not (eqb (owner_of v).0 y)) (head s.here).operands (λ v n. ap not (ne_eqb (owner_of v).0 y (λ same.
       let q = seen_by w.isolated m.tree f.distinct s k v (all_each (dominated_by w.isolated s.path) (head s.here).operands (g.dominated_by_own s k) v n) in
       true≢false (sym (subst (λ z. has_id z m.tree ≡ true) (sym q.id ∙ same) (stand_present [] m.tree q.owner q.there)) ∙ may.apart y h))))
 
   goes : Erasing w.isolated place m.tree (m.next + op_count o) o
-  goes = record { may = may; formed = whole_formed; spared = spared }
+  goes = record { may = may; wellformed = whole_wellformed; spared = spared }
 
   built : Builds (headers place o) m.tree (put place o m.tree)
   built = build place o m.tree may
@@ -225,7 +225,7 @@ module _ {N T A : Type 0} (w : TestsOf N T) (place : Place) (o : OpOf N T A) (m 
     allowed : put_reason w.isolated u.0 u.1 (header_id u) (all_put us m.tree) ≡ None
     allowed = may_put_again w.isolated u (all_put us m.tree) (m.next + op_count o) lands.0
         (subst (λ (t : OpOf N T A). IsWellFormed w.isolated (record { tree = t; next = m.next + op_count o })) back
-        (each_formed w.isolated place m.tree (m.next + op_count o) (reverse (map header_id vs)) (header_id u ∷ reverse (map header_id us)) o goes order))
+        (each_wellformed w.isolated place m.tree (m.next + op_count o) (reverse (map header_id vs)) (header_id u ∷ reverse (map header_id us)) o goes order))
         (sym (ap (take_reason (header_id u)) back) ∙ each_may w.isolated place m.tree (m.next + op_count o) (reverse (map header_id vs)) (header_id u) (reverse (map header_id us)) o goes order) low
 
     pub header_next : (head u.1).id ≡ (all_made w us m).next
@@ -247,12 +247,12 @@ pub header_bare : {N T A : Type 0} (place : Place) (o : OpOf N T A) (u : Place �
 header_bare place o u h = let s = header_of [] place o u h in ap (λ z. hold_none (regions z)) s.2 ∙ bare_holds s.0.here
 
 module _ {N T A : Type 0} (w : TestsOf N T) (place : Place) (o : OpOf N T A) (m : ModuleOf N T A) (f : IsWellFormed w.isolated m) (numbered : IsNumberedFrom m.next o) (e : reason_by w (Insert place o) m ≡ None) where
-  more_formed : (ps us vs : List (Place × OpOf N T A)) → ps ++ (us ++ vs) ≡ headers place o → IsWellFormed w.isolated (all_made w ps m) → IsWellFormed w.isolated (all_made w (ps ++ us) m)
-  more_formed ps [] vs k g = subst (λ l. IsWellFormed w.isolated (all_made w l m)) (sym (append-nil ps)) g
-  more_formed ps (u ∷ us) vs k g =
+  more_wellformed : (ps us vs : List (Place × OpOf N T A)) → ps ++ (us ++ vs) ≡ headers place o → IsWellFormed w.isolated (all_made w ps m) → IsWellFormed w.isolated (all_made w (ps ++ us) m)
+  more_wellformed ps [] vs k g = subst (λ l. IsWellFormed w.isolated (all_made w l m)) (sym (append-nil ps)) g
+  more_wellformed ps (u ∷ us) vs k g =
       let kept = put_keeps w.isolated u.0 u.1 (all_made w ps m) g (header_bare place o u (header_in w place o m f numbered e ps (us ++ vs) u k)) (header_allowed w place o m f numbered e ps (us ++ vs) u k) in
       subst (λ l. IsWellFormed w.isolated (all_made w l m)) (append_assoc ps (u ∷ []) us)
-      (more_formed (ps ++ u ∷ []) us vs (append_assoc ps (u ∷ []) (us ++ vs) ∙ k) (subst (IsWellFormed w.isolated) (sym (made_more w ps (u ∷ []) m)) kept))
+      (more_wellformed (ps ++ u ∷ []) us vs (append_assoc ps (u ∷ []) (us ++ vs) ∙ k) (subst (IsWellFormed w.isolated) (sym (made_more w ps (u ∷ []) m)) kept))
 
-  pub made_formed : (us vs : List (Place × OpOf N T A)) → us ++ vs ≡ headers place o → IsWellFormed w.isolated (all_made w us m)
-  made_formed us vs k = more_formed [] us vs k f
+  pub made_wellformed : (us vs : List (Place × OpOf N T A)) → us ++ vs ≡ headers place o → IsWellFormed w.isolated (all_made w us m)
+  made_wellformed us vs k = more_wellformed [] us vs k f

@@ -23,7 +23,7 @@ use Rattle.ir_event.proofs.of_tree_laws.PutForm.{put_found}
 use Rattle.rewriter_machine.specs.Edits.{TestsOf, Erase, erase_reason, reason_by}
 use Rattle.rewriter_machine.specs.Erasing.{ids_in, erase_order}
 use Rattle.rewriter_machine.proofs.Taken.{Erasing, taken_along, taken_goes_on, id_stays}
-use Rattle.rewriter_machine.proofs.Erased.{Erased, erased, erased_may, erased_formed, erased_left}
+use Rattle.rewriter_machine.proofs.Erased.{Erased, erased, erased_may, erased_wellformed, erased_left}
 use Rattle.std.proofs.lemmas.Bool.{ne_eqb}
 use Rattle.ir_event.proofs.Facts.{own_id}
 use Rattle.ir_event.proofs.of_tree_laws.Reverted.{passed}
@@ -72,8 +72,8 @@ module _ {N T A : Type 0} (w : TestsOf N T) (x y : ℕ) (ys : List ℕ) (m : Mod
   pub last_allowed : take_reason y m.tree ≡ None
   last_allowed = erased_may w x m f e [] (reverse ys) y order
 
-  pub last_formed : IsWellFormed w.isolated (record m { tree = without y m.tree })
-  last_formed = erased_formed w x m f e (y ∷ []) (reverse ys) order
+  pub last_wellformed : IsWellFormed w.isolated (record m { tree = without y m.tree })
+  last_wellformed = erased_wellformed w x m f e (y ∷ []) (reverse ys) order
 
   pub last_fewer : ids_in (find x (without y m.tree)) ≡ ys
   last_fewer =

@@ -2,7 +2,7 @@ pub mod Numbers
 pub mod Answers
 pub mod Nested
 pub mod Single
-pub mod Formed
+pub mod Wellformed
 pub mod Parts
 pub mod Setting
 pub mod Left

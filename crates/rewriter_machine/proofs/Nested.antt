@@ -9,27 +9,27 @@ use Rattle.rewriter_machine.proofs.Answers.{refused_leaves, accepted_gives}
 
 -- this many marks are open above some others
 record Above (n : ℕ) (base marks : List OpenMark) : Type 0 where
-  front : List OpenMark
-  is : marks ≡ front ++ base
-  many : length front ≡ n
+  preceding : List OpenMark
+  is : marks ≡ preceding ++ base
+  many : length preceding ≡ n
 
 one_more : (k : OpenMark) (n : ℕ) (base old new : List OpenMark) → new ≡ k ∷ old → Above n base old → Above (suc n) base new
-one_more k n base old new e a = record { front = k ∷ a.front; is = e ∙ ap (λ l. k ∷ l) a.is; many = ap suc a.many }
+one_more k n base old new e a = record { preceding = k ∷ a.preceding; is = e ∙ ap (λ l. k ∷ l) a.is; many = ap suc a.many }
 
 one_fewer : (k : OpenMark) (n m : ℕ) (base old new : List OpenMark) → old ≡ k ∷ new → lower n ≡ Some m → Above n base old → Above m base new
 one_fewer k zero m base old new e l a = absurd cc
-one_fewer k (suc n) m base old new e l a = go a.front a.is a.many
+one_fewer k (suc n) m base old new e l a = go a.preceding a.is a.many
   where
-    go : (front : List OpenMark) → old ≡ front ++ base → length front ≡ suc n → Above m base new
+    go : (preceding : List OpenMark) → old ≡ preceding ++ base → length preceding ≡ suc n → Above m base new
     go [] is many = absurd cc
-    go (f ∷ front) is many = (let both : k ∷ new ≡ f ∷ (front ++ base) = sym e ∙ is in
-        let rest : new ≡ front ++ base = cc in
+    go (f ∷ preceding) is many = (let both : k ∷ new ≡ f ∷ (preceding ++ base) = sym e ∙ is in
+        let rest : new ≡ preceding ++ base = cc in
         let size : n ≡ m = cc in
-        let long : length front ≡ n = cc in
-        record { front = front; is = rest; many = long ∙ size })
+        let long : length preceding ≡ n = cc in
+        record { preceding = preceding; is = rest; many = long ∙ size })
 
 stays : (n m : ℕ) (base old new : List OpenMark) → new ≡ old → Some n ≡ Some m → Above n base old → Above m base new
-stays n m base old new e l a = (let size : n ≡ m = cc in record { front = a.front; is = e ∙ a.is; many = a.many ∙ size })
+stays n m base old new e l a = (let size : n ≡ m = cc in record { preceding = a.preceding; is = e ∙ a.is; many = a.many ∙ size })
 
 given_above : (call : Call) (x y : Module) (n m : ℕ) (base old new : List OpenMark) → Gives call x old y new → level_after call n ≡ Some m → Above n base old → Above m base new
 given_above (Do e) x y n m base old new g l a = stays n m base old new g.2 l a
@@ -61,14 +61,14 @@ runs_above (c ∷ calls) s t n m base r l a = go (λ k. runs_above calls r.0 t k
 
 -- calls that close exactly the marks that they open keep the marks
 pub nested_leaves : (s t : State) (calls : List Answered) → Runs s calls t → IsNested calls → t.marks ≡ s.marks
-nested_leaves s t calls r nested = go (runs_above calls s t 0 0 s.marks r nested (record { front = []; is = refl; many = refl }))
+nested_leaves s t calls r nested = go (runs_above calls s t 0 0 s.marks r nested (record { preceding = []; is = refl; many = refl }))
   where
     go : Above 0 s.marks t.marks → t.marks ≡ s.marks
-    go a = none a.front a.is a.many
+    go a = none a.preceding a.is a.many
       where
-        none : (front : List OpenMark) → t.marks ≡ front ++ s.marks → length front ≡ 0 → t.marks ≡ s.marks
+        none : (preceding : List OpenMark) → t.marks ≡ preceding ++ s.marks → length preceding ≡ 0 → t.marks ≡ s.marks
         none [] is many = is
-        none (k ∷ front) is many = absurd cc
+        none (k ∷ preceding) is many = absurd cc
 
 -- if a mark is open, a rollback is accepted and restores the marked module
 pub rollback_gives : (s t : State) (reply : Reply) (shows : Shows) (k : OpenMark) (ks : List OpenMark) → Goes s Rollback reply shows t → s.marks ≡ k ∷ ks → (reply ≡ Done) × (t.held ≡ k.marked) × (t.marks ≡ ks)

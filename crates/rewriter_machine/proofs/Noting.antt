@@ -26,7 +26,7 @@ use Rattle.ir_event.specs.Modules.{module_meaning}
 use Rattle.ir_event.specs.Step.{IsAttrOrNone, IsOperandStep, Step}
 use Rattle.ir_event.proofs.Shown.{known_there}
 use Rattle.ir_event.proofs.Sounds.{found_sound, renamed_sound, shifted_sound}
-use Rattle.ir_event.proofs.Steps.{formed_numbers}
+use Rattle.ir_event.proofs.Steps.{wellformed_numbers}
 use Rattle.ir_event.specs.Edits.{IsEntryStep, IsPutStep, IsShiftStep, IsTakeStep}
 use Rattle.ir_event.specs.Undoing.{undone}
 use Rattle.ir_event.proofs.Taking.{held_now, hold_sound}
@@ -45,7 +45,7 @@ module _ (c : ContextModel) (es : List Event) (s : Stored) (w : IsStoreOf c s) (
   after_put_noted place o own step =
       let x = s.module_of.next in
       noted_from c es (Put x place true) s (after_put place o s) w
-      (record { context = w.context; sound = put_sound c place (with_id x o) s.module_of.tree (renamed_sound c x o own) w.sound; formed = formed_numbers c (after_put place o s).module_of step.after; held = w.held }) h refl (record { step = step; keeps = tt })
+      (record { context = w.context; sound = put_sound c place (with_id x o) s.module_of.tree (renamed_sound c x o own) w.sound; wellformed = wellformed_numbers c (after_put place o s).module_of step.after; held = w.held }) h refl (record { step = step; keeps = tt })
       (λ e. carries_same x s (undone c (Put x place true) (after_put place o s)) e (λ y lt k. hold_other x (find x (after_put place o s).module_of.tree) s.held y (λ same. omega (arith, lt, same))) (λ y lt. set_other s.gone x none_gone y (λ same. omega (arith, lt, same))))
 
   after_take_noted : (x : ℕ) (place : Place) → Step c (Take x place false) (module_meaning c s.module_of) (module_meaning c (after_take x s).module_of) → Noted c es (Take x place false) s (after_take x s)
@@ -56,7 +56,7 @@ module _ (c : ContextModel) (es : List Event) (s : Stored) (w : IsStoreOf c s) (
       (record {
         context = w.context;
         sound = without_sound c x s.module_of.tree w.sound;
-        formed = formed_numbers c (after_take x s).module_of step.after;
+        wellformed = wellformed_numbers c (after_take x s).module_of step.after;
         held = hold_sound c x (find x s.module_of.tree) s.held (λ o e. found_sound c x s.module_of.tree o w.sound e) w.held;
       }) h refl
       (record { step = step; keeps = (o.0, held_now x (find x s.module_of.tree) s.held o.0 o.1, map_find (name_term c) (type_term c) (attr_term c) x s.module_of.tree ∙ ap (option_map (meaning c)) o.1) })
@@ -67,13 +67,13 @@ module _ (c : ContextModel) (es : List Event) (s : Stored) (w : IsStoreOf c s) (
   after_operand_noted : (x k : ℕ) (old v : Value) → Step c (SetOperand x k old v) (module_meaning c s.module_of) (module_meaning c (after_operand x k v s).module_of) → Noted c es (SetOperand x k old v) s (after_operand x k v s)
   after_operand_noted x k old v step =
       noted_from c es (SetOperand x k old v) s (after_operand x k v s) w
-      (record { context = w.context; sound = operand_sound c x k v s.module_of.tree w.sound; formed = formed_numbers c (after_operand x k v s).module_of step.after; held = w.held }) h tt (record { step = step; keeps = tt })
+      (record { context = w.context; sound = operand_sound c x k v s.module_of.tree w.sound; wellformed = wellformed_numbers c (after_operand x k v s).module_of step.after; held = w.held }) h tt (record { step = step; keeps = tt })
       (λ e. carries_same s.module_of.next s (undone c (SetOperand x k old v) (after_operand x k v s)) e (λ y lt k. refl) (λ y lt. refl))
 
   after_shift_noted : (x : ℕ) (old place : Place) → Step c (Shift x old place) (module_meaning c s.module_of) (module_meaning c (after_shift x place s).module_of) → Noted c es (Shift x old place) s (after_shift x place s)
   after_shift_noted x old place step =
       noted_from c es (Shift x old place) s (after_shift x place s) w
-      (record { context = w.context; sound = shifted_sound c x place s.module_of.tree w.sound; formed = formed_numbers c (after_shift x place s).module_of step.after; held = w.held }) h tt (record { step = step; keeps = tt })
+      (record { context = w.context; sound = shifted_sound c x place s.module_of.tree w.sound; wellformed = wellformed_numbers c (after_shift x place s).module_of step.after; held = w.held }) h tt (record { step = step; keeps = tt })
       (λ e. carries_same s.module_of.next s (undone c (Shift x old place) (after_shift x place s)) e (λ y lt k. refl) (λ y lt. refl))
 
   module _ (x : ℕ) (part : Part) (k : ℕ) (old a : Option ℕ) (step : Step c (SetEntry x part k old a) (module_meaning c s.module_of) (module_meaning c (after_entry (key_before_in c) x part k a s).module_of)) where
@@ -117,7 +117,7 @@ module _ (c : ContextModel) (es : List Event) (s : Stored) (w : IsStoreOf c s) (
         (record {
           context = w.context;
           sound = entry_sound c x part k a s.module_of.tree (lt-ltb k (length c.names) step.numbers.0) (attr_is c a step.numbers.1.1) w.sound;
-          formed = formed_numbers c after.module_of step.after;
+          wellformed = wellformed_numbers c after.module_of step.after;
           held = w.held;
         }) h tt (record { step = step; keeps = (slot_after (key_before_in c) x part k a s o.0 o.1 some, is_set a reason) })
         (λ e. carries_reverted (key_before_in c) x part k a old s o.0 o.1 (was_key old refl (entry_at (key_before_in c) k entries) refl) e s.module_of.next)

@@ -50,7 +50,7 @@ module _ (from : ℕ) (s u : Stored) (r : Releases from s u) where
   store_released c w = record {
     context = w.context;
     sound = subst (λ (m : Numbered). IsSoundIn c m.tree) (sym r.module_of) w.sound;
-    formed = subst (IsWellFormed (isolated_in c)) (sym r.module_of) w.formed;
+    wellformed = subst (IsWellFormed (isolated_in c)) (sym r.module_of) w.wellformed;
     held = λ x o e. w.held x o (held_was x o e).1;
   }
 

@@ -61,11 +61,11 @@ module _ {N T A : Type 0} where
       region_agree p path r empty k = refl
       region_agree p path r (block args os) k = ap (block args) (ops_agree p path r args [] os k)
 
-      ops_agree : (p : OpOf N T A) (path : List (StepOf N T A)) (r : ℕ) (args : List T) (front : List (OpOf N T A)) (os : OpsOf N T A) → Agree (ops_stands p path r args front os) → ops_each_head f os ≡ ops_each_head g os
-      ops_agree p path r args front no_ops k = refl
-      ops_agree p path r args front (next o os) k = λ i.
-          next (agree (step p r args front os ∷ path) o (λ s m. k s (in_left s (stands (step p r args front os ∷ path) o) (ops_stands p path r args (front ++ o ∷ []) os) m)) i)
-          (ops_agree p path r args (front ++ o ∷ []) os (λ s m. k s (in_right s (stands (step p r args front os ∷ path) o) (ops_stands p path r args (front ++ o ∷ []) os) m)) i)
+      ops_agree : (p : OpOf N T A) (path : List (StepOf N T A)) (r : ℕ) (args : List T) (preceding : List (OpOf N T A)) (os : OpsOf N T A) → Agree (ops_stands p path r args preceding os) → ops_each_head f os ≡ ops_each_head g os
+      ops_agree p path r args preceding no_ops k = refl
+      ops_agree p path r args preceding (next o os) k = λ i.
+          next (agree (step p r args preceding os ∷ path) o (λ s m. k s (in_left s (stands (step p r args preceding os ∷ path) o) (ops_stands p path r args (preceding ++ o ∷ []) os) m)) i)
+          (ops_agree p path r args (preceding ++ o ∷ []) os (λ s m. k s (in_right s (stands (step p r args preceding os ∷ path) o) (ops_stands p path r args (preceding ++ o ∷ []) os) m)) i)
 
   -- some operands of a head set to a value
   abbrev set_all : Value → List (ℕ × ℕ) → HeadOf N T A → HeadOf N T A

@@ -29,11 +29,11 @@ use Rattle.rewriter_machine.specs.Inserting.{headers, all_made}
 use Rattle.rewriter_machine.specs.Events.{event_count}
 use Rattle.rewriter_machine.proofs.Parts.{in_middle}
 use Rattle.rewriter_machine.proofs.Setting.{all_set_more, all_replaced}
-use Rattle.rewriter_machine.proofs.Allowed.{set_formed, set_allowed}
+use Rattle.rewriter_machine.proofs.Allowed.{set_wellformed, set_allowed}
 use Rattle.rewriter_machine.proofs.Taken.{taken_more}
-use Rattle.rewriter_machine.proofs.Erased.{erased_whole, erased_formed, erased_may}
+use Rattle.rewriter_machine.proofs.Erased.{erased_whole, erased_wellformed, erased_may}
 use Rattle.rewriter_machine.proofs.Built.{header_count, all_put}
-use Rattle.rewriter_machine.proofs.Inserted.{header_bare, header_allowed, made_formed, made_more, made_tree, all_made_whole}
+use Rattle.rewriter_machine.proofs.Inserted.{header_bare, header_allowed, made_wellformed, made_more, made_tree, all_made_whole}
 use Rattle.rewriter_machine.proofs.Bare.{header_sound}
 
 module _ (c : ContextModel) where
@@ -68,7 +68,7 @@ module _ (c : ContextModel) where
 
       one_set : (us vs : List (ℕ × ℕ)) (u : ℕ × ℕ) → us ++ u ∷ vs ≡ uses_of old m.tree → (what : Event) × Step c what (module_meaning c (set_so_far us)) (module_meaning c (set_so_far (us ++ u ∷ [])))
       one_set us vs u k =
-          one_edit (SetOperand u.0 u.1 new) (set_so_far us) (set_so_far (us ++ u ∷ [])) tt (set_formed (tests_in c) old new m w e us (u ∷ vs) k) (set_sound us m.tree sound) tt
+          one_edit (SetOperand u.0 u.1 new) (set_so_far us) (set_so_far (us ++ u ∷ [])) tt (set_wellformed (tests_in c) old new m w e us (u ∷ vs) k) (set_sound us m.tree sound) tt
           (set_allowed (tests_in c) old new m w e us vs u k) (ap (λ (t : Op). record m { tree = t }) (all_set_more new us (u ∷ []) m.tree))
 
       replace_steps : InSteps (length (uses_of old m.tree)) (module_meaning c m) (module_meaning c (edited_by (tests_in c) (Replace old new) m))
@@ -87,7 +87,7 @@ module _ (c : ContextModel) where
 
       one_taken : (ys zs : List ℕ) (y : ℕ) → ys ++ y ∷ zs ≡ erase_order x m.tree → (what : Event) × Step c what (module_meaning c (taken_so_far ys)) (module_meaning c (taken_so_far (ys ++ y ∷ [])))
       one_taken ys zs y k =
-          let s = take_steps c y (taken_so_far ys) (erased_formed (tests_in c) x m w e ys (y ∷ zs) k) (taken_sound ys m.tree sound) (erased_may (tests_in c) x m w e ys zs y k) in
+          let s = take_steps c y (taken_so_far ys) (erased_wellformed (tests_in c) x m w e ys (y ∷ zs) k) (taken_sound ys m.tree sound) (erased_may (tests_in c) x m w e ys zs y k) in
           (event.Take y s.0 false, subst (λ (t : Op). Step c (event.Take y s.0 false) (module_meaning c (taken_so_far ys)) (module_meaning c (record m { tree = t }))) (sym (taken_more ys (y ∷ []) m.tree)) s.1)
 
       erase_steps : InSteps (length (ids_in (find x m.tree))) (module_meaning c m) (module_meaning c (edited_by (tests_in c) (Erase x) m))
@@ -110,7 +110,7 @@ module _ (c : ContextModel) where
           let there : In u (headers place o) = subst (In u) k (in_middle us vs u) in
           let so_far : IsSoundIn c (made_so_far us).tree = subst (IsSoundIn c) (sym (made_tree (tests_in c) place o m w numbered e us (u ∷ vs) k))
           (put_all_sound us m.tree (λ z h. header_sound c place o own z (subst (In z) k (in_left z us (u ∷ vs) h))) sound) in
-          one_edit (Make u.0 u.1) (made_so_far us) (made_so_far (us ++ u ∷ [])) tt (made_formed (tests_in c) place o m w numbered e us (u ∷ vs) k) so_far
+          one_edit (Make u.0 u.1) (made_so_far us) (made_so_far (us ++ u ∷ [])) tt (made_wellformed (tests_in c) place o m w numbered e us (u ∷ vs) k) so_far
           (header_sound c place o own u there, header_bare place o u there) (header_allowed (tests_in c) place o m w numbered e us vs u k) (made_more (tests_in c) us (u ∷ []) m)
 
       insert_steps : InSteps (op_count o) (module_meaning c m) (module_meaning c (edited_by (tests_in c) (Insert place o) m))

@@ -22,7 +22,7 @@ use Rattle.ir_event.proofs.of_tree_laws.Readings.{stands_every}
 use Rattle.ir_event.proofs.of_tree_laws.Members.{found_stands, stand_found}
 use Rattle.ir_event.proofs.of_tree_laws.Around.{stand_present, present_stand}
 use Rattle.ir_event.proofs.of_tree_laws.Without.{same_head}
-use Rattle.ir_event.proofs.of_tree_laws.Formed.{from_formed}
+use Rattle.ir_event.proofs.of_tree_laws.Wellformed.{from_wellformed}
 use Rattle.ir_event.proofs.of_tree_laws.PutForm.{landed, put_distinct, put_cases}
 use Rattle.ir_event.proofs.of_tree_laws.Cuts.{one_cut, absent_before}
 use Rattle.ir_event.proofs.of_tree_laws.Edited.{put_order, taken_order}
@@ -76,8 +76,8 @@ module _ {N T A : Type 0} where
     last_found isolated z e =
         let s = found_stands y q z e in
         let c = op_cut isolated [] q s.0 s.1 in
-        let n = ends y ys c.front (regions_ids (regions s.0.here)) c.back (subst (IsDistinct eqb) is d)
-        (sym is ∙ c.is ∙ ap (λ l. c.front ++ (l ++ c.back)) (ids_head s.0.here ∙ ap (λ w. w ∷ regions_ids (regions s.0.here)) s.2)) in
+        let n = ends y ys c.preceding (regions_ids (regions s.0.here)) c.back (subst (IsDistinct eqb) is d)
+        (sym is ∙ c.is ∙ ap (λ l. c.preceding ++ (l ++ c.back)) (ids_head s.0.here ∙ ap (λ w. w ∷ regions_ids (regions s.0.here)) s.2)) in
         record { here = s.0.here; found = e ∙ ap Some (sym s.3); id = s.2; bare = n.1 }
 
     left_last : (z : OpOf N T A) → find y q ≡ Some z → (head z).id ≡ y → eqb (head q).id y ≡ false → ids (without y q) ≡ ys
@@ -98,7 +98,7 @@ module _ {N T A : Type 0} where
   module _ (isolated : N → Bool) (place : Place) (rest : OpOf N T A) (free : ℕ) where
     pub record Erasing (q : OpOf N T A) : Type 0 where
       pub may : MayPut place q rest
-      pub formed : IsWellFormed isolated (record { tree = put place q rest; next = free })
+      pub wellformed : IsWellFormed isolated (record { tree = put place q rest; next = free })
       pub spared : (y : ℕ) → has_id y q ≡ true → (s : StandOf N T A) → In s (stands [] rest) → leaves y (head s.here) ≡ true
 
     module _ (q : OpOf N T A) (i : Erasing q) (ys : List ℕ) (y : ℕ) (is : ids q ≡ ys ++ y ∷ []) where
@@ -126,12 +126,12 @@ module _ {N T A : Type 0} where
           let c = op_cut isolated [] (put place q rest) s h in
           let o = put_order place q rest i.may in
           let d = put_distinct place q rest i.may in
-          let early : Present y c.front = subst (λ z. Present z c.front) own (seen_earlier isolated (put place q rest) s h v e) in
+          let early : Present y c.preceding = subst (λ z. Present z c.preceding) own (seen_earlier isolated (put place q rest) s h v e) in
           let late : Present (stand_id s) (ids s.here ++ c.back) = present_left (stand_id s) (ids s.here) c.back (own_id s.here) in
           elim (present_cases (stand_id s) ys (y ∷ []) (sym (ap (list_any (λ z. eqb z (stand_id s))) is) ∙ k)) [
             | inr a ↦ (let same : stand_id s ≡ y = one a in
-                true≢false (sym (subst (λ z. Present z (ids s.here ++ c.back)) same late) ∙ (halves c.front (ids s.here ++ c.back) (subst (IsDistinct eqb) c.is d)).disjoint y early))
-            | inl a ↦ crossed y (stand_id s) c.front (ids s.here ++ c.back) (o.0 ++ ys) (y ∷ o.1) (subst (IsDistinct eqb) c.is d)
+                true≢false (sym (subst (λ z. Present z (ids s.here ++ c.back)) same late) ∙ (halves c.preceding (ids s.here ++ c.back) (subst (IsDistinct eqb) c.is d)).disjoint y early))
+            | inl a ↦ crossed y (stand_id s) c.preceding (ids s.here ++ c.back) (o.0 ++ ys) (y ∷ o.1) (subst (IsDistinct eqb) c.is d)
                 (sym c.is ∙ o.3 ∙ ap (λ l. o.0 ++ (l ++ o.1)) is ∙ ap (λ l. o.0 ++ l) (append_assoc ys (y ∷ []) o.1) ∙ sym (append_assoc o.0 ys (y ∷ o.1)))
                 early late (present_right (stand_id s) o.0 ys a) (first_there y y o.1 refl)
           ]
@@ -147,7 +147,7 @@ module _ {N T A : Type 0} where
             | inl k ↦ sym (ap (leaves y) (same_head (head q).id (dropping (head q).id) s.here)) ∙ i.spared y (last_there q i.may.own ys y is) (left_stand (head q).id s) k.0
             | inr k ↦ each_all (λ v. not (eqb (owner_of v).0 y)) (head s.here).operands (λ v m. ap not (ne_eqb (owner_of v).0 y (λ e.
                 unseen s h (stand_present ((landed place q rest i.may).step_in ∷ (landed place q rest i.may).path) q s k) v
-                (all_each (dominated_by isolated s.path) (head s.here).operands ((from_formed isolated (put place q rest) i.formed.formed).dominated_by_own s h) v m) e)))
+                (all_each (dominated_by isolated s.path) (head s.here).operands ((from_wellformed isolated (put place q rest) i.wellformed.wellformed).dominated_by_own s h) v m) e)))
           ]
 
       pub may_take : take_reason y (put place q rest) ≡ None
@@ -171,7 +171,7 @@ module _ {N T A : Type 0} where
         pub taken_goes_on : Erasing (without y q)
         taken_goes_on = record {
           may = record { distinct = i.may.distinct; own = left_distinct y q i.may.own; apart = λ z h. i.may.apart z (still_there z h); point = i.may.point };
-          formed = subst (λ (t : OpOf N T A). IsWellFormed isolated (record { tree = t; next = free })) taken_along (take_keeps isolated y (record { tree = put place q rest; next = free }) i.formed may_take);
+          wellformed = subst (λ (t : OpOf N T A). IsWellFormed isolated (record { tree = t; next = free })) taken_along (take_keeps isolated y (record { tree = put place q rest; next = free }) i.wellformed may_take);
           spared = λ z h. i.spared z (still_there z h);
         }
 
@@ -238,18 +238,18 @@ module _ {N T A : Type 0} where
         ∙ ap (λ z. without z (put place r.here rest)) (sym r.same)
         ∙ take_put place r.here rest (r.goes_on.may.apart (head r.here).id (own_id r.here))
 
-    pub rest_formed : (q : OpOf N T A) → Erasing q → IsWellFormed isolated (record { tree = rest; next = free })
-    rest_formed q i =
+    pub rest_wellformed : (q : OpOf N T A) → Erasing q → IsWellFormed isolated (record { tree = rest; next = free })
+    rest_wellformed q i =
         let xs = reverse (regions_ids (regions q)) in
         let r = reach xs (head q).id [] q i (sym (order_ends q)) in
         let e = sym (ap (λ l. all_taken l (put place q rest)) (order_ends q) ∙ taken_more xs ((head q).id ∷ []) (put place q rest) ∙ ap (without (head q).id) r.is) ∙ all_gone q i in
         subst (λ (t : OpOf N T A). IsWellFormed isolated (record { tree = t; next = free })) e
-        (take_keeps isolated (head q).id (record { tree = put place r.here rest; next = free }) r.goes_on.formed
+        (take_keeps isolated (head q).id (record { tree = put place r.here rest; next = free }) r.goes_on.wellformed
         (may_take r.here r.goes_on [] (head q).id (last_of (head q).id [] (ids r.here) (sym r.order))))
 
-    pub each_formed : (ys zs : List ℕ) (q : OpOf N T A) → Erasing q → ys ++ zs ≡ reverse (ids q) → IsWellFormed isolated (record { tree = all_taken ys (put place q rest); next = free })
-    each_formed ys [] q i e =
-        subst (λ (t : OpOf N T A). IsWellFormed isolated (record { tree = t; next = free })) (sym (ap (λ l. all_taken l (put place q rest)) (sym (append-nil ys) ∙ e) ∙ all_gone q i)) (rest_formed q i)
-    each_formed ys (z ∷ zs) q i e =
+    pub each_wellformed : (ys zs : List ℕ) (q : OpOf N T A) → Erasing q → ys ++ zs ≡ reverse (ids q) → IsWellFormed isolated (record { tree = all_taken ys (put place q rest); next = free })
+    each_wellformed ys [] q i e =
+        subst (λ (t : OpOf N T A). IsWellFormed isolated (record { tree = t; next = free })) (sym (ap (λ l. all_taken l (put place q rest)) (sym (append-nil ys) ∙ e) ∙ all_gone q i)) (rest_wellformed q i)
+    each_wellformed ys (z ∷ zs) q i e =
         let r = reach ys z zs q i e in
-        subst (λ (t : OpOf N T A). IsWellFormed isolated (record { tree = t; next = free })) (sym r.is) r.goes_on.formed
+        subst (λ (t : OpOf N T A). IsWellFormed isolated (record { tree = t; next = free })) (sym r.is) r.goes_on.wellformed

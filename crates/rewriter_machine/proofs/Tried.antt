@@ -44,7 +44,7 @@ module _ {N T A : Type 0} where
 
     pub tried_through : IsWellFormed w.isolated (all_made w (headers place o) m) → reason_by w (Insert place o) m ≡ None
     tried_through g =
-        seen_left ∙ ap (λ b. unless b NotVisible None) (sym (ap (λ (n : ModuleOf N T A). operands_visible w.isolated n.tree) tried_whole) ∙ g.formed.visible)
+        seen_left ∙ ap (λ b. unless b NotVisible None) (sym (ap (λ (n : ModuleOf N T A). operands_visible w.isolated n.tree) tried_whole) ∙ g.wellformed.visible)
 
     pub tried_failed : (us vs : List (Place × OpOf N T A)) (u : Place × OpOf N T A) (r : Refusal) → us ++ u ∷ vs ≡ headers place o → put_reason w.isolated u.0 u.1 (all_made w us m).next (all_made w us m).tree ≡ Some r
         → reason_by w (Insert place o) m ≡ Some NotVisible

@@ -25,7 +25,7 @@ use Rattle.ir_event.specs.tree_laws.Stands.{dropping}
 use Rattle.ir_event.proofs.of_tree_laws.Around.{present_stand}
 use Rattle.ir_event.proofs.of_tree_laws.Changed.{may_retract}
 use Rattle.ir_event.proofs.of_tree_laws.Contents.{from_retract}
-use Rattle.ir_event.proofs.of_tree_laws.Formed.{ids_below}
+use Rattle.ir_event.proofs.of_tree_laws.Wellformed.{ids_below}
 use Rattle.ir_event.proofs.of_tree_laws.Shift.{is_put, shift_distinct, shift_found, shift_rest}
 use Rattle.ir_event.proofs.of_tree_laws.Without.{same_head}
 use Rattle.ir_event.specs.store.Shifting.{CanRelink}
@@ -39,7 +39,7 @@ use Rattle.ir_event.proofs.Sounds.{found_sound}
 use Rattle.ir_event.proofs.Undone.{relink_undone}
 use Rattle.ir_event.specs.Undoing.{CameFrom, Keeps, undone}
 use Rattle.ir_event.proofs.Taking.{held_now}
-use Rattle.ir_event.proofs.Undoing.{led_back, undone_formed, undone_held, undone_sound}
+use Rattle.ir_event.proofs.Undoing.{led_back, undone_wellformed, undone_held, undone_sound}
 use Rattle.rewriter_machine.specs.Journals.{IsForward, IsStoreOf}
 use Rattle.rewriter_machine.proofs.Maps.{cut_other, hold_other}
 use Rattle.rewriter_machine.proofs.Trees.{absent_too, found_op, found_present, moved_head}
@@ -55,7 +55,7 @@ pub store_undone : (c : ContextModel) (e : Event) (p : Module) (s : Stored) → 
 store_undone c e p s w f = record {
   context = w.context;
   sound = undone_sound c s e p f w.sound w.held;
-  formed = undone_formed c s e p f;
+  wellformed = undone_wellformed c s e p f;
   held = undone_held c s e p f w.sound w.held;
 }
 
@@ -83,7 +83,7 @@ taken_from x fresh s u d r left held gone =
     }
 
 pub put_taken : (c : ContextModel) (x : ℕ) (place : Place) (fresh : Bool) (p : Module) (s : Stored) → IsStoreOf c s → CameFrom c (Put x place fresh) p s → IsTaken x s (undone c (Put x place fresh) s)
-put_taken c x place fresh p s w f = taken_from x fresh s (undone c (Put x place fresh) s) w.formed.distinct (retract_of c x place fresh s.module_of p f.step.changes) refl refl refl
+put_taken c x place fresh p s w f = taken_from x fresh s (undone c (Put x place fresh) s) w.wellformed.distinct (retract_of c x place fresh s.module_of p f.step.changes) refl refl refl
 
 -- inserting it again
 module _ (c : ContextModel) (x : ℕ) (place : Place) (fresh : Bool) (s : Stored) (w : IsStoreOf c s) (f : CameFrom c (Take x place fresh) (module_meaning c (undone c (Take x place fresh) s).module_of) s) where
@@ -110,7 +110,7 @@ module _ (c : ContextModel) (x : ℕ) (place : Place) (fresh : Bool) (s : Stored
 
   pub take_taken : IsTaken x (undone c (Take x place fresh) s) s
   take_taken = record {
-    distinct = v.formed.distinct;
+    distinct = v.wellformed.distinct;
     root = r.inner;
     here = f.keeps.0;
     found = found;
@@ -166,12 +166,12 @@ module _ (c : ContextModel) (n : ℕ) (s u : Stored) (w : IsStoreOf c s) (v : Is
   keeps (Take x place false) forward f =
       let t = take_taken c x place false s w f in
       let z = store_undone c (Take x place false) (module_meaning c (undone c (Take x place false) s).module_of) s w f in
-      let lt = present_below s.module_of.next (undone c (Take x place false) s).module_of.tree z.formed.below x (taken_there x (undone c (Take x place false) s) s t) in
+      let lt = present_below s.module_of.next (undone c (Take x place false) s).module_of.tree z.wellformed.below x (taken_there x (undone c (Take x place false) s) s t) in
       (f.keeps.0, r.held x (omega (arith, lt, most)) (taken_gone x (undone c (Take x place false) s) s t) f.keeps.0 f.keeps.1, f.keeps.2)
   keeps (SetOperand x k old new) forward f = tt
   keeps (SetEntry x part k old new) forward f =
       let o = entry_there c x part (name_term c k) s.module_of.tree _ f.step.changes.is in
-      let lt = present_below s.module_of.next s.module_of.tree w.formed.below x (found_present x s.module_of.tree o.0 o.1) in
+      let lt = present_below s.module_of.next s.module_of.tree w.wellformed.below x (found_present x s.module_of.tree o.0 o.1) in
       (r.slots x part k (omega (arith, lt, most)) f.keeps.0, f.keeps.1)
   keeps (Shift x old new) forward f = tt
 
@@ -209,4 +209,4 @@ module _ (c : ContextModel) (n : ℕ) (s u : Stored) (w : IsStoreOf c s) (v : Is
       (λ y part. dictionary_seen part y (after_shift x old u) u (seen_same y (after_shift x old u) u (heads u v (came_too (Shift x old new) forward f) y) refl)) refl refl refl refl (one (Shift x old new) forward f) r
     where
       heads : (t : Stored) → IsStoreOf c t → CameFrom c (Shift x old new) (module_meaning c (after_shift x old t).module_of) t → (y : ℕ) → option_map (λ (o : Op). head o) (find y (shifted x old t.module_of.tree)) ≡ option_map (λ (o : Op). head o) (find y t.module_of.tree)
-      heads t g f y = shifted_heads x old t.module_of.tree g.formed.distinct (relink_undone c x old new (module_meaning c (after_shift x old t).module_of) t.module_of f.step) y
+      heads t g f y = shifted_heads x old t.module_of.tree g.wellformed.distinct (relink_undone c x old new (module_meaning c (after_shift x old t).module_of) t.module_of f.step) y

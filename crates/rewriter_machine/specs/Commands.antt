@@ -55,10 +55,10 @@ pub data Command : Type 0 where
   Print : Command
 
 -- the meaning of a command in a module: a call, a refused place, or a refused text, with an offset or without
-pub data Asked : Type 0 where
-  Ask : Call → Asked
-  Misplaced : Refusal → Asked
-  Unparsed : Refusal → Option ℕ → Asked
+pub data Requested : Type 0 where
+  Ask : Call → Requested
+  Misplaced : Refusal → Requested
+  Unparsed : Refusal → Option ℕ → Requested
 
 -- the text of an attribute is refused with the offset of the fault, or without an offset because memory ran out
 abbrev pub IsAttrRefusal : Refusal → Option ℕ → Type 0
@@ -77,14 +77,14 @@ CanFill bytes = most_things ≤ length words + bytes
 
 -- a text of an input of so many bytes was refused: it has no meaning, the context is full, or memory ran out
 abbrev pub TextRefused : {X : Type 0} → ℕ → (Refusal → Option ℕ → Type 0) → (X → Type 0) → Refusal → Option ℕ → Type 0
-TextRefused bytes IsRefusal Spelled refusal offset =
+TextRefused bytes IsRefusal Rendered refusal offset =
     IsRefusal refusal offset
-    × (((x : _) → Spelled x → ⊥) ⊎ (((refusal ≡ TooMany) × CanFill bytes) ⊎ (refusal ≡ Memory)))
+    × (((x : _) → Rendered x → ⊥) ⊎ (((refusal ≡ TooMany) × CanFill bytes) ⊎ (refusal ≡ Memory)))
 
 -- the named rule is applied if it exists; otherwise the command is refused with `NoSuchKey`
-abbrev pub AppliesRule : Option Transformation → Asked → Type 0
-AppliesRule None asked = asked ≡ Misplaced NoSuchKey
-AppliesRule (Some f) asked = asked ≡ Ask (call.Change f)
+abbrev pub AppliesRule : Option Transformation → Requested → Type 0
+AppliesRule None requested = requested ≡ Misplaced NoSuchKey
+AppliesRule (Some f) requested = requested ≡ Ask (call.Change f)
 
 -- `bytes` is the length of the input; `SpellsOp` relates a module, a text in bytes and an operation, `SpellsAttr` a
 -- text and an attribute; `canonicalization`, `conversion` and `sweeping` are the transformations; `application` applies
@@ -93,47 +93,47 @@ module _ (bytes : ℕ) (SpellsOp : Module → List ℕ → Operation → Type 0)
     (canonicalization : Option ℕ → Transformation) (conversion : Target → Transformation)
     (sweeping : Transformation) (application : RuleName → ℕ → Option Transformation) where
   -- an operation that was read is inserted at its insertion point
-  abbrev pub Inserts : Point → Operation → Module → Asked → Type 0
+  abbrev pub Inserts : Point → Operation → Module → Requested → Type 0
   Inserts point o m (Ask c) = (place : Place) × (point_place None point m.tree ≡ Ok place) × (c ≡ Do (edit.Insert place o))
   Inserts point o m (Misplaced refusal) = point_place None point m.tree ≡ Err refusal
   Inserts point o m (Unparsed refusal offset) = ⊥
 
   -- an operation of the module is moved to its insertion point
-  abbrev pub Moves : ℕ → Point → Module → Asked → Type 0
+  abbrev pub Moves : ℕ → Point → Module → Requested → Type 0
   Moves x point m (Ask c) = (place : Place) × (point_place (Some x) point m.tree ≡ Ok place) × (c ≡ Do (edit.Move x place))
   Moves x point m (Misplaced refusal) = point_place (Some x) point m.tree ≡ Err refusal
   Moves x point m (Unparsed refusal offset) = ⊥
 
   -- the text of an operation is read before the insertion point is resolved
-  abbrev pub InsertsText : Point → List ℕ → Module → Asked → Type 0
+  abbrev pub InsertsText : Point → List ℕ → Module → Requested → Type 0
   InsertsText point text m (Unparsed refusal offset) = TextRefused bytes IsOpRefusal (SpellsOp m text) refusal offset
-  InsertsText point text m asked = (o : Operation) × SpellsOp m text o × Inserts point o m asked
+  InsertsText point text m requested = (o : Operation) × SpellsOp m text o × Inserts point o m requested
 
-  abbrev pub SetsText : ℕ → List ℕ → List ℕ → Asked → Type 0
+  abbrev pub SetsText : ℕ → List ℕ → List ℕ → Requested → Type 0
   SetsText x key text (Ask c) = (a : AttrTerm) × SpellsAttr text a × (c ≡ Do (edit.SetAttr x key a))
   SetsText x key text (Misplaced refusal) = ⊥
   SetsText x key text (Unparsed refusal offset) = TextRefused bytes IsAttrRefusal (SpellsAttr text) refusal offset
 
   -- the meaning of a command in a module
-  abbrev pub Asks : Command → Module → Asked → Type 0
-  Asks (Erase x) m asked = asked ≡ Ask (Do (edit.Erase x))
-  Asks (Move x point) m asked = Moves x point m asked
-  Asks (Insert point text) m asked = InsertsText point text m asked
-  Asks (SetOperand x k v) m asked = asked ≡ Ask (Do (edit.SetOperand x k v))
-  Asks (Replace old new) m asked = asked ≡ Ask (Do (edit.Replace old new))
-  Asks (SetAttr x key text) m asked = SetsText x key text asked
-  Asks (DropAttr x key) m asked = asked ≡ Ask (Do (edit.DropAttr x key))
-  Asks (Canon limit) m asked = asked ≡ Ask (call.Change (canonicalization limit))
-  Asks (Convert target) m asked = asked ≡ Ask (call.Change (conversion target))
-  Asks Sweep m asked = asked ≡ Ask (call.Change sweeping)
-  Asks (Apply name x) m asked = AppliesRule (application name x) asked
-  Asks Begin m asked = asked ≡ Ask call.Mark
-  Asks Commit m asked = asked ≡ Ask call.Commit
-  Asks Rollback m asked = asked ≡ Ask call.Rollback
-  Asks (Detach kind) m asked = asked ≡ Ask (call.Detach kind)
-  Asks (Resync kind) m asked = asked ≡ Ask (call.Resync kind)
-  Asks (Report kind) m asked = asked ≡ Ask (call.Report kind)
-  Asks Print m asked = asked ≡ Ask call.Print
+  abbrev pub Asks : Command → Module → Requested → Type 0
+  Asks (Erase x) m requested = requested ≡ Ask (Do (edit.Erase x))
+  Asks (Move x point) m requested = Moves x point m requested
+  Asks (Insert point text) m requested = InsertsText point text m requested
+  Asks (SetOperand x k v) m requested = requested ≡ Ask (Do (edit.SetOperand x k v))
+  Asks (Replace old new) m requested = requested ≡ Ask (Do (edit.Replace old new))
+  Asks (SetAttr x key text) m requested = SetsText x key text requested
+  Asks (DropAttr x key) m requested = requested ≡ Ask (Do (edit.DropAttr x key))
+  Asks (Canon limit) m requested = requested ≡ Ask (call.Change (canonicalization limit))
+  Asks (Convert target) m requested = requested ≡ Ask (call.Change (conversion target))
+  Asks Sweep m requested = requested ≡ Ask (call.Change sweeping)
+  Asks (Apply name x) m requested = AppliesRule (application name x) requested
+  Asks Begin m requested = requested ≡ Ask call.Mark
+  Asks Commit m requested = requested ≡ Ask call.Commit
+  Asks Rollback m requested = requested ≡ Ask call.Rollback
+  Asks (Detach kind) m requested = requested ≡ Ask (call.Detach kind)
+  Asks (Resync kind) m requested = requested ≡ Ask (call.Resync kind)
+  Asks (Report kind) m requested = requested ≡ Ask (call.Report kind)
+  Asks Print m requested = requested ≡ Ask call.Print
 
 -- the response to a line: the reply of a call, or a refused text with its offset
 pub data Response : Type 0 where
@@ -147,7 +147,7 @@ text_response refusal (Some offset) = TextRefusedAt refusal offset
 
 -- the machine may respond to a command with this meaning in this way, and get from s to t; a refused place or text
 -- changes nothing
-abbrev pub Follows : State → Asked → Response → Shows → State → Type 0
+abbrev pub Follows : State → Requested → Response → Shows → State → Type 0
 Follows s (Ask c) (Replied reply) shows t = Goes s c reply shows t
 Follows s (Ask c) (TextRefusedAt refusal offset) shows t = ⊥
 Follows s (Misplaced refusal) response shows t =

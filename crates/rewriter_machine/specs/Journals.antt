@@ -52,7 +52,7 @@ inverses (e ∷ es) = inverses es ++ inverse_of e ∷ []
 pub record IsStoreOf (c : ContextModel) (s : Stored) : Type 0 where
   pub context : IsSound c
   pub sound : IsSoundIn c s.module_of.tree
-  pub formed : IsWellFormed (isolated_in c) s.module_of
+  pub wellformed : IsWellFormed (isolated_in c) s.module_of
   pub held : HeldIsSound c s.held
 
 -- the event is the last of the journal, and the modules before older events are unchanged

@@ -31,10 +31,10 @@ abbrev pub trailing : {N T A : Type 0} → Option ℕ → OpOf N T A → Place �
 trailing moved t p = coming (passing moved p.before t) p
 
 -- a place next to an operation; refused if the operation is missing, or has no place because it is the root
-abbrev pub beside : Bool → Option Place → Result Place Refusal
-beside false place = Err NoSuchOp
-beside true None = Err IsRoot
-beside true (Some place) = Ok place
+abbrev pub next_to : Bool → Option Place → Result Place Refusal
+next_to false place = Err NoSuchOp
+next_to true None = Err IsRoot
+next_to true (Some place) = Ok place
 
 -- a place in a block; refused if the operation is missing, or has no such region, or the region has no block
 abbrev pub in_block : Bool → Bool → Place → Result Place Refusal
@@ -44,8 +44,8 @@ in_block true true place = Ok place
 
 -- the place of an insertion point in a tree, for a moved operation or a new one, or the first reason against it
 abbrev pub point_place : {N T A : Type 0} → Option ℕ → Point → OpOf N T A → Result Place Refusal
-point_place moved (Before x) t = beside (has_id x t) (option_map (coming (Some x)) (place_of x t))
-point_place moved (After x) t = beside (has_id x t) (option_map (trailing moved t) (place_of x t))
+point_place moved (Before x) t = next_to (has_id x t) (option_map (coming (Some x)) (place_of x t))
+point_place moved (After x) t = next_to (has_id x t) (option_map (trailing moved t) (place_of x t))
 point_place moved (Start x r) t =
     in_block (has_id x t) (is_some (ops_at x r t))
     (record { parent = x; region = r; before = passing moved (first_at x r t) t })

@@ -29,7 +29,7 @@ pub fn replacing_is_setting<N, T, A>()
         → record m { tree = all_set new (uses_of old m.tree) m.tree } ≡ edited_by w (Replace old new) m }
     ensures left { (old new : TreeValue) (us vs : List (ℕ × ℕ)) (t : OpOf N T A) → HasDistinctIds t
         → same_value old new ≡ false → us ++ vs ≡ uses_of old t → uses_of old (all_set new us t) ≡ vs }
-    ensures formed { (w : TestsOf N T) (old new : TreeValue) (us vs : List (ℕ × ℕ)) (m : ModuleOf N T A)
+    ensures wellformed { (w : TestsOf N T) (old new : TreeValue) (us vs : List (ℕ × ℕ)) (m : ModuleOf N T A)
         → IsWellFormed w.isolated m → reason_by w (Replace old new) m ≡ None → us ++ vs ≡ uses_of old m.tree
         → IsWellFormed w.isolated (record m { tree = all_set new us m.tree }) }
     ensures reason { (w : TestsOf N T) (old new : TreeValue) (us vs : List (ℕ × ℕ)) (u : ℕ × ℕ) (m : ModuleOf N T A)
@@ -46,7 +46,7 @@ pub fn erasing_is_taking<N, T, A>()
         ≡ None → record m { tree = all_taken (erase_order x m.tree) m.tree } ≡ edited_by w (Erase x) m }
     ensures left { (w : TestsOf N T) (x : ℕ) (ys zs : List ℕ) (m : ModuleOf N T A) → IsWellFormed w.isolated m
         → reason_by w (Erase x) m ≡ None → ys ++ zs ≡ erase_order x m.tree → erase_order x (all_taken ys m.tree) ≡ zs }
-    ensures formed { (w : TestsOf N T) (x : ℕ) (ys zs : List ℕ) (m : ModuleOf N T A) → IsWellFormed w.isolated m
+    ensures wellformed { (w : TestsOf N T) (x : ℕ) (ys zs : List ℕ) (m : ModuleOf N T A) → IsWellFormed w.isolated m
         → reason_by w (Erase x) m ≡ None → ys ++ zs ≡ erase_order x m.tree
         → IsWellFormed w.isolated (record m { tree = all_taken ys m.tree }) }
     ensures reason { (w : TestsOf N T) (x : ℕ) (ys zs : List ℕ) (y : ℕ) (m : ModuleOf N T A) → IsWellFormed w.isolated m
@@ -63,7 +63,7 @@ pub fn inserting_is_making<N, T, A>()
     ensures whole { (w : TestsOf N T) (place : Point) (o : OpOf N T A) (m : ModuleOf N T A) → IsWellFormed w.isolated m
         → IsNumberedFrom m.next o → reason_by w (Insert place o) m ≡ None
         → all_made w (headers place o) m ≡ edited_by w (Insert place o) m }
-    ensures formed { (w : TestsOf N T) (place : Point) (o : OpOf N T A) (us vs : List (Point × OpOf N T A))
+    ensures wellformed { (w : TestsOf N T) (place : Point) (o : OpOf N T A) (us vs : List (Point × OpOf N T A))
         (m : ModuleOf N T A) → IsWellFormed w.isolated m → IsNumberedFrom m.next o
         → reason_by w (Insert place o) m ≡ None → us ++ vs ≡ headers place o
         → IsWellFormed w.isolated (all_made w us m) }

@@ -38,7 +38,7 @@ pub fn replacing_by_uses<N, T, A>()
     ensures fewer { (w : TestsOf N T) (old new : TreeValue) (x k : ℕ) (m : ModuleOf N T A) → IsWellFormed w.isolated m
         → same_value old new ≡ false → is_use x k (uses_of old m.tree) ≡ true
         → suc (length (uses_of old (with_operand x k new m.tree))) ≡ length (uses_of old m.tree) }
-    ensures formed { (w : TestsOf N T) (old new : TreeValue) (x k : ℕ) (m : ModuleOf N T A) → IsWellFormed w.isolated m
+    ensures wellformed { (w : TestsOf N T) (old new : TreeValue) (x k : ℕ) (m : ModuleOf N T A) → IsWellFormed w.isolated m
         → reason_by w (Replace old new) m ≡ None → is_use x k (uses_of old m.tree) ≡ true
         → IsWellFormed w.isolated (record m { tree = with_operand x k new m.tree }) }
     ensures done { (w : TestsOf N T) (old new : TreeValue) (m : ModuleOf N T A) → uses_of old m.tree ≡ []
@@ -73,7 +73,7 @@ pub fn erasing_by_last<N, T, A>()
     ensures fewer { (w : TestsOf N T) (x y : ℕ) (ys : List ℕ) (m : ModuleOf N T A) → IsWellFormed w.isolated m
         → reason_by w (Erase x) m ≡ None → ids_in (find x m.tree) ≡ ys ++ y ∷ []
         → ids_in (find x (without y m.tree)) ≡ ys }
-    ensures formed { (w : TestsOf N T) (x y : ℕ) (ys : List ℕ) (m : ModuleOf N T A) → IsWellFormed w.isolated m
+    ensures wellformed { (w : TestsOf N T) (x y : ℕ) (ys : List ℕ) (m : ModuleOf N T A) → IsWellFormed w.isolated m
         → reason_by w (Erase x) m ≡ None → ids_in (find x m.tree) ≡ ys ++ y ∷ []
         → IsWellFormed w.isolated (record m { tree = without y m.tree }) }
 {}

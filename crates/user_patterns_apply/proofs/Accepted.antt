@@ -28,7 +28,7 @@ use Rattle.patterns_base.specs.Lists.{Free}
 use Rattle.patterns_base.proofs.Headed.{found_there}
 use Rattle.patterns_base.proofs.Plans.{StandsAt, dominated_by}
 use Rattle.patterns_base.specs.Keeps.{given as given_base}
-use Rattle.patterns_base.specs.Looks.{front_of, is_verified}
+use Rattle.patterns_base.specs.Looks.{insertion_of, is_verified}
 use Rattle.patterns_base.specs.Looks as looks
 use Rattle.patterns_base.specs.Made.{Entries, flags, made, value_entry}
 use Rattle.patterns_base.specs.Makes.{give, made_by}
@@ -36,7 +36,7 @@ use Rattle.patterns_base.specs.Words.{among, flagged}
 use Rattle.patterns_base.specs.Rewrites.{becomes, carried_out, refused}
 use Rattle.patterns_soundness.proofs.Fit as fit
 use Rattle.patterns_soundness.proofs.Fit.{Fit}
-use Rattle.patterns_soundness.proofs.Given.{HasRoom}
+use Rattle.patterns_soundness.proofs.Given.{HasHeadroom}
 use Rattle.patterns_soundness.proofs.Shapes as shapes
 use Rattle.user_patterns_check.specs.Contents.{Content}
 use Rattle.user_patterns_check.specs.Outcomes.{Outcome, given, run}
@@ -55,7 +55,7 @@ use Rattle.user_patterns_build.specs.CanBuild.{given_type, can_build, is_named, 
 use Rattle.user_patterns_apply.proofs.FoundBuilt.{bound_at, bound_from, given_is, made_many, standing_is, stands_there, types_hold, types_keep, values_many, values_pass, when_is}
 use Rattle.user_patterns_apply.proofs.Ordered.{planned_is}
 use Rattle.user_patterns_apply.specs.Own.{OwnAreAccepted, edits_for, is_one, own_edits}
-use Rattle.user_patterns_apply.proofs.Seen.{DominatedBy, begins, pieces_see, stands}
+use Rattle.user_patterns_apply.proofs.Seen.{DominatedBy, begins, pattern_ops_see, stands}
 use Rattle.patterns_soundness.proofs.New.{few_flags}
 use Rattle.ir_event.proofs.of_types.Truths.{if_is}
 use Rattle.patterns_base.proofs.Facts.{when_some}
@@ -119,7 +119,7 @@ module _ (f : Value → Bool) (r : ℕ) (ts : Standing TypeTerm) (env : List Out
 
 -- ---- all new operations, and the value that replaces the result
 
-module _ (x : ℕ) (front : Place) (ty : TypeTerm) (root : ℕ) (ts : Standing TypeTerm) (env : List Outcome) where
+module _ (x : ℕ) (insertion : Place) (ty : TypeTerm) (root : ℕ) (ts : Standing TypeTerm) (env : List Outcome) where
   abbrev DominatedByAll : Standing Value → Module → Type 0
   DominatedByAll b m = (j : ℕ) (u : Value) → (j ≡ root → ⊥) → slice_get b j ≡ Some (Some u) → dominated_by x u m ≡ true
 
@@ -161,8 +161,8 @@ module _ (x : ℕ) (front : Place) (ty : TypeTerm) (root : ℕ) (ts : Standing T
             rest = is ∙ ap (λ z. Some (r.0, z)) (ap (λ (z : List Operation × Standing Value). z.1) two);
           }
 
-  ends : (w : NewValue) (k : ℕ) (m : Module) → Fit x front ty 1 m → (b : Standing Value) (os : List Operation) (c : Standing Value) → Step w [] k m b os c → (t : ℕ) → last_type (w ∷ []) ≡ Some t → standing t ts ≡ Some ty
-      → (v : Value) → slice_get c k ≡ Some (Some v) → Free (map (λ o. Make front o) os ++ give x v) m
+  ends : (w : NewValue) (k : ℕ) (m : Module) → Fit x insertion ty 1 m → (b : Standing Value) (os : List Operation) (c : Standing Value) → Step w [] k m b os c → (t : ℕ) → last_type (w ∷ []) ≡ Some t → standing t ts ≡ Some ty
+      → (v : Value) → slice_get c k ≡ Some (Some v) → Free (map (λ o. Make insertion o) os ++ give x v) m
   ends w k m f b os c s t last typed v at =
       let l = s.leaf_here in
       let two : Some ([], s.after) ≡ Some (s.others, c) = s.rest in
@@ -170,37 +170,37 @@ module _ (x : ℕ) (front : Place) (ty : TypeTerm) (root : ℕ) (ts : Standing T
       let same : s.after ≡ c = ap (λ (z : List Operation × Standing Value). z.1) (same_Some ([], s.after) (s.others, c) two) in
       let value : Result m.next 0 ≡ v = given_here (sym (bound_at same_value same_value_true k (Result m.next 0) b s.after s.bind) ∙ ap (λ z. slice_get z k) same ∙ at) in
       let term : l.term ≡ ty = same_Some l.term ty (sym l.typed ∙ ap (λ z. standing z ts) (same_Some (new_type w) t last) ∙ typed) in
-      let these : Make front (made l.name l.operands l.term l.properties) ∷ give x (Result m.next 0) ≡ map (λ o. Make front o) os ++ give x v =
-      (λ i. Make front (sym l.is i) ∷ give x (value i)) ∙ ap (λ z. map (λ o. Make front o) z ++ give x v) (sym (s.all ∙ ap (λ z. s.made_here ∷ z) none)) in
-      subst (λ es. Free es m) these (fit.new_given x front ty 0 m f l.name l.operands l.term l.properties l.small l.short l.pass m.next refl (ap (same_type ty) term ∙ type_refl ty))
+      let these : Make insertion (made l.name l.operands l.term l.properties) ∷ give x (Result m.next 0) ≡ map (λ o. Make insertion o) os ++ give x v =
+      (λ i. Make insertion (sym l.is i) ∷ give x (value i)) ∙ ap (λ z. map (λ o. Make insertion o) z ++ give x v) (sym (s.all ∙ ap (λ z. s.made_here ∷ z) none)) in
+      subst (λ es. Free es m) these (fit.new_given x insertion ty 0 m f l.name l.operands l.term l.properties l.small l.short l.pass m.next refl (ap (same_type ty) term ∙ type_refl ty))
     where
       given_here : {u w : Value} → Some (Some u) ≡ Some (Some w) → u ≡ w
       given_here e = cc
 
-  module _ (w : NewValue) (ws : List NewValue) (k : ℕ) (m : Module) (f : Fit x front ty (suc (suc (length ws))) m) (b : Standing Value) (all : DominatedByAll b m) (u : NewValue) (os : List Operation) (c : Standing Value) (s : Step w (u ∷ ws) k m b os c) where
+  module _ (w : NewValue) (ws : List NewValue) (k : ℕ) (m : Module) (f : Fit x insertion ty (suc (suc (length ws))) m) (b : Standing Value) (all : DominatedByAll b m) (u : NewValue) (os : List Operation) (c : Standing Value) (s : Step w (u ∷ ws) k m b os c) where
     abbrev l : IsLeaf (λ u. visible is_isolated m.tree x u) ts w s.made_here
     l = s.leaf_here
 
     abbrev next_module : Module
-    next_module = edited (Make front (made l.name l.operands l.term l.properties)) m
+    next_module = edited (Make insertion (made l.name l.operands l.term l.properties)) m
 
-    next_fit : Fit x front ty (suc (length ws)) next_module
-    next_fit = fit.made_fit x front ty (suc (length ws)) m f l.name l.operands l.term l.properties l.small l.short l.pass
+    next_fit : Fit x insertion ty (suc (length ws)) next_module
+    next_fit = fit.made_fit x insertion ty (suc (length ws)) m f l.name l.operands l.term l.properties l.small l.short l.pass
 
     next_dominated_by : DominatedByAll s.after next_module
     next_dominated_by =
-        still_dominated_by k m next_module b s.after s.bind all (fit.dominated_by_still x front ty (suc (length ws)) m f l.name l.operands l.term l.properties l.small l.short l.pass)
-        (fit.dominated_by_new x front ty (suc (length ws)) m f l.name l.operands l.term l.properties l.small l.short l.pass m.next refl)
+        still_dominated_by k m next_module b s.after s.bind all (fit.dominated_by_still x insertion ty (suc (length ws)) m f l.name l.operands l.term l.properties l.small l.short l.pass)
+        (fit.dominated_by_new x insertion ty (suc (length ws)) m f l.name l.operands l.term l.properties l.small l.short l.pass m.next refl)
 
-    with_rest : (v : Value) → Free (map (λ o. Make front o) s.others ++ give x v) next_module → Free (map (λ o. Make front o) os ++ give x v) m
+    with_rest : (v : Value) → Free (map (λ o. Make insertion o) s.others ++ give x v) next_module → Free (map (λ o. Make insertion o) os ++ give x v) m
     with_rest v rest =
-        let these : Make front (made l.name l.operands l.term l.properties) ∷ (map (λ o. Make front o) s.others ++ give x v) ≡ map (λ o. Make front o) os ++ give x v =
-        (λ i. Make front (sym l.is i) ∷ (map (λ o. Make front o) s.others ++ give x v)) ∙ ap (λ z. map (λ o. Make front o) z ++ give x v) (sym s.all) in
-        subst (λ es. Free es m) these (fit.make_first x front ty (suc (length ws)) m f l.name l.operands l.term l.properties l.small l.short l.pass (map (λ o. Make front o) s.others ++ give x v) rest)
+        let these : Make insertion (made l.name l.operands l.term l.properties) ∷ (map (λ o. Make insertion o) s.others ++ give x v) ≡ map (λ o. Make insertion o) os ++ give x v =
+        (λ i. Make insertion (sym l.is i) ∷ (map (λ o. Make insertion o) s.others ++ give x v)) ∙ ap (λ z. map (λ o. Make insertion o) z ++ give x v) (sym s.all) in
+        subst (λ es. Free es m) these (fit.make_first x insertion ty (suc (length ws)) m f l.name l.operands l.term l.properties l.small l.short l.pass (map (λ o. Make insertion o) s.others ++ give x v) rest)
 
-  all_free : (w : NewValue) (ws : List NewValue) (k : ℕ) (m : Module) → Fit x front ty (suc (length ws)) m → (b : Standing Value) → DominatedByAll b m → list_all (spares root) (w ∷ ws) ≡ true
+  all_free : (w : NewValue) (ws : List NewValue) (k : ℕ) (m : Module) → Fit x insertion ty (suc (length ws)) m → (b : Standing Value) → DominatedByAll b m → list_all (spares root) (w ∷ ws) ≡ true
       → (os : List Operation) (c : Standing Value) → all_made ts env m.next k (w ∷ ws) b ≡ Some (os, c) → (t : ℕ) → last_type (w ∷ ws) ≡ Some t → standing t ts ≡ Some ty
-      → (v : Value) → slice_get c (k + length ws) ≡ Some (Some v) → Free (map (λ o. Make front o) os ++ give x v) m
+      → (v : Value) → slice_get c (k + length ws) ≡ Some (Some v) → Free (map (λ o. Make insertion o) os ++ give x v) m
   all_free w [] k m f b all spared os c e t last typed v at =
       let place : k ≡ k + length {A = NewValue} [] = omega arith in
       ends w k m f b os c (step w [] k m b all (both (spares root w) true spared).0 os c e) t last typed v (ap (slice_get c) place ∙ at)
@@ -214,17 +214,17 @@ module _ (x : ℕ) (front : Place) (ty : TypeTerm) (root : ℕ) (ts : Standing T
 -- ---- a pattern
 
 -- new operations are within the limits if the edits were carried out
-has_room : (es : List Edit) (m n : Module) → carried_out es m ≡ becomes n → HasRoom m es
-has_room es m n e = go (nat_le (op_count m.tree + made_by es) most_ops) refl (nat_le (m.next + made_by es) most_next) refl e
+has_headroom : (es : List Edit) (m n : Module) → carried_out es m ≡ becomes n → HasHeadroom m es
+has_headroom es m n e = go (nat_le (op_count m.tree + made_by es) most_ops) refl (nat_le (m.next + made_by es) most_next) refl e
   where
-    go : (a : Bool) → nat_le (op_count m.tree + made_by es) most_ops ≡ a → (b : Bool) → nat_le (m.next + made_by es) most_next ≡ b → (if a then (if b then becomes (all_edited es m) else refused IdsExhausted) else refused Full) ≡ becomes n → HasRoom m es
+    go : (a : Bool) → nat_le (op_count m.tree + made_by es) most_ops ≡ a → (b : Bool) → nat_le (m.next + made_by es) most_next ≡ b → (if a then (if b then becomes (all_edited es m) else refused IdsExhausted) else refused Full) ≡ becomes n → HasHeadroom m es
     go true p true q e = (leb-true (op_count m.tree + made_by es) most_ops p, leb-true (m.next + made_by es) most_next q)
     go true p false q e = absurd cc
     go false p b q e = absurd cc
 
-pub many_made : (front : Place) (os : List Operation) (x : ℕ) (v : Value) → made_by (map (λ o. Make front o) os ++ give x v) ≡ length os
-many_made front [] x v = refl
-many_made front (o ∷ os) x v = (let e = many_made front os x v in omega (arith, e))
+pub many_made : (insertion : Place) (os : List Operation) (x : ℕ) (v : Value) → made_by (map (λ o. Make insertion o) os ++ give x v) ≡ length os
+many_made insertion [] x v = refl
+many_made insertion (o ∷ os) x v = (let e = many_made insertion os x v in omega (arith, e))
 
 one_is : {X : Type 0} (xs : List X) → is_one xs ≡ true → (y : X) × (xs ≡ y ∷ [])
 one_is [] e = absurd cc
@@ -286,21 +286,21 @@ parts t verified n p x r e =
       plan = sym (same_Some (made.0.0, v.0) r v.2);
     }
 
-module _ (p : PatternModel) (m : Module) (x : ℕ) (formed : IsWellFormed is_isolated m) (front : Place) (at : front_of x m.tree ≡ Some front) (o : Operation) (found : find x m.tree ≡ Some o) (ty : TypeTerm) (one : (head o).results ≡ ty ∷ []) where
+module _ (p : PatternModel) (m : Module) (x : ℕ) (wellformed : IsWellFormed is_isolated m) (insertion : Place) (at : insertion_of x m.tree ≡ Some insertion) (o : Operation) (found : find x m.tree ≡ Some o) (ty : TypeTerm) (one : (head o).results ≡ ty ∷ []) where
   abbrev t : Operation
   t = m.tree
 
   abbrev verified : Header → Bool
   verified = is_verified m.tree
 
-  there : StandsAt x front m
-  there = stands m x formed front at
+  there : StandsAt x insertion m
+  there = stands m x wellformed insertion at
 
-  fits_here : (k : ℕ) → op_count m.tree + k ≤ most_ops → m.next + k ≤ most_next → Fit x front ty k m
+  fits_here : (k : ℕ) → op_count m.tree + k ≤ most_ops → m.next + k ≤ most_next → Fit x insertion ty k m
   fits_here k ops ids =
       record {
-        stood = there;
-        one = (let two : Some there.at.here ≡ Some o = sym (found_there is_isolated x front m there) ∙ found in ap (λ z. (head z).results) (same_Some there.at.here o two)) ∙ one;
+        located = there;
+        one = (let two : Some there.at.here ≡ Some o = sym (found_there is_isolated x insertion m there) ∙ found in ap (λ z. (head z).results) (same_Some there.at.here o two)) ∙ one;
         ops = ops;
         ids = ids;
       }
@@ -309,8 +309,8 @@ module _ (p : PatternModel) (m : Module) (x : ℕ) (formed : IsWellFormed is_iso
   own_type = ap (option_and_then (λ o. slice_get (head o).results 0)) found ∙ ap (λ (l : List TypeTerm). slice_get l 0) one
 
   module _ (r : Plan) (q : Parts m.tree (is_verified m.tree) m.next p x r) (spared : list_all (spares p.root) p.new ≡ true) (number : ℕ) (gives : result_type p ≡ Some number) (is_root : root_type p ≡ Some number) where
-    seen : DominatedBy m x formed p.root verified q.values
-    seen = pieces_see m x formed p.root verified (placed (old_place p) p.old) q.first q.values q.matched (begins m x formed p.root verified (places p) q.first q.begun (λ j u e. nothing_there 0 (places p) j u e))
+    seen : DominatedBy m x wellformed p.root verified q.values
+    seen = pattern_ops_see m x wellformed p.root verified (placed (old_place p) p.old) q.first q.values q.matched (begins m x wellformed p.root verified (places p) q.first q.begun (λ j u e. nothing_there 0 (places p) j u e))
 
     abbrev root_at : (nat_le (old_place p) p.root ≡ true) × (option_map PatternOp.ty (slice_get p.old (p.root - old_place p)) ≡ Some number)
     root_at = if_is (nat_le (old_place p) p.root) (option_map PatternOp.ty (slice_get p.old (p.root - old_place p))) number is_root
@@ -327,12 +327,12 @@ module _ (p : PatternModel) (m : Module) (x : ℕ) (formed : IsWellFormed is_iso
         let term : h.1 ≡ ty = same_Some h.1 ty (sym h.3 ∙ ap (λ z. type_of_value z m.tree) value ∙ own_type) in
         h.4 ∙ ap (λ z. Some (Some z)) term
 
-    abbrev HasRoomFor : ℕ → Type 0
-    HasRoomFor k = (op_count m.tree + k ≤ most_ops) × (m.next + k ≤ most_next)
+    abbrev HasHeadroomFor : ℕ → Type 0
+    HasHeadroomFor k = (op_count m.tree + k ≤ most_ops) × (m.next + k ≤ most_next)
 
     -- without new operations, a variable replaces the result
-    variable : p.new ≡ [] → HasRoomFor 0 → Free (map (λ o. Make front o) r.0 ++ give x r.1) m
-    variable empty room =
+    variable : p.new ≡ [] → HasHeadroomFor 0 → Free (map (λ o. Make insertion o) r.0 ++ give x r.1) m
+    variable empty headroom =
         let number_at : slice_get p.values p.result ≡ Some number = ap (given_type p) (sym empty) ∙ gives in
         let made_is : ([], q.values) ≡ q.made = same_Some ([], q.values) q.made (ap (λ z. all_made q.types q.env m.next (new_place p) z q.values) (sym empty) ∙ q.all) in
         let value : standing p.result q.values ≡ Some q.result = ap (λ (z : List Operation × Standing Value). standing p.result z.1) made_is ∙ q.gives in
@@ -344,49 +344,49 @@ module _ (p : PatternModel) (m : Module) (x : ℕ) (formed : IsWellFormed is_iso
         let within : p.result < length p.values = slice_get_within p.values p.result number number_at in
         let apart : p.result ≡ p.root → ⊥ = λ e. absurd (omega (arith, e, within, above)) in
         let dominated_by_it = seen.other p.result q.result apart (standing_is p.result q.values q.result value) in
-        let these : give x q.result ≡ map (λ o. Make front o) r.0 ++ give x r.1 = (λ i. map (λ o. Make front o) (ap (λ (z : List Operation × Standing Value). z.0) made_is i) ++ give x q.result) ∙ ap (λ (z : Plan). map (λ o. Make front o) z.0 ++ give x z.1) (sym q.plan) in
-        subst (λ es. Free es m) these (fit.given x front ty 0 m (fits_here 0 room.0 room.1) q.result dominated_by_it h.1 (ap (λ z. type_of_value z m.tree) (sym same) ∙ h.3) (ap (same_type ty) (sym term) ∙ type_refl ty))
+        let these : give x q.result ≡ map (λ o. Make insertion o) r.0 ++ give x r.1 = (λ i. map (λ o. Make insertion o) (ap (λ (z : List Operation × Standing Value). z.0) made_is i) ++ give x q.result) ∙ ap (λ (z : Plan). map (λ o. Make insertion o) z.0 ++ give x z.1) (sym q.plan) in
+        subst (λ es. Free es m) these (fit.given x insertion ty 0 m (fits_here 0 headroom.0 headroom.1) q.result dominated_by_it h.1 (ap (λ z. type_of_value z m.tree) (sym same) ∙ h.3) (ap (same_type ty) (sym term) ∙ type_refl ty))
 
     -- otherwise the last new operation replaces the result
-    made_last : (w : NewValue) (ws : List NewValue) → p.new ≡ w ∷ ws → HasRoomFor (suc (length ws)) → Free (map (λ o. Make front o) r.0 ++ give x r.1) m
-    made_last w ws is room =
+    made_last : (w : NewValue) (ws : List NewValue) → p.new ≡ w ∷ ws → HasHeadroomFor (suc (length ws)) → Free (map (λ o. Make insertion o) r.0 ++ give x r.1) m
+    made_last w ws is headroom =
         let last = if_is (eqb (p.result + 1) (places p)) (last_type (w ∷ ws)) number (ap (given_type p) (sym is) ∙ gives) in
         let place : p.result ≡ new_place p + length ws = (let e = eqb-true (p.result + 1) (places p) last.0 in let l : length p.new ≡ suc (length ws) = ap length is in omega (arith, e, l)) in
-        let these : map (λ o. Make front o) q.made.0 ++ give x q.result ≡ map (λ o. Make front o) r.0 ++ give x r.1 = ap (λ (z : Plan). map (λ o. Make front o) z.0 ++ give x z.1) (sym q.plan) in
+        let these : map (λ o. Make insertion o) q.made.0 ++ give x q.result ≡ map (λ o. Make insertion o) r.0 ++ give x r.1 = ap (λ (z : Plan). map (λ o. Make insertion o) z.0 ++ give x z.1) (sym q.plan) in
         subst (λ es. Free es m) these
-        (all_free x front ty p.root q.types q.env w ws (new_place p) m (fits_here (suc (length ws)) room.0 room.1) q.values seen.other (ap (list_all (spares p.root)) (sym is) ∙ spared) q.made.0 q.made.1
+        (all_free x insertion ty p.root q.types q.env w ws (new_place p) m (fits_here (suc (length ws)) headroom.0 headroom.1) q.values seen.other (ap (list_all (spares p.root)) (sym is) ∙ spared) q.made.0 q.made.1
         (ap (λ z. all_made q.types q.env m.next (new_place p) z q.values) (sym is) ∙ q.all) number last.1 (stands_there number q.types ty root_typed) q.result
         (ap (slice_get q.made.1) (sym place) ∙ standing_is p.result q.made.1 q.result q.gives))
 
-    accepted : (ws : List NewValue) → p.new ≡ ws → HasRoom m (map (λ o. Make front o) r.0 ++ give x r.1) → Free (map (λ o. Make front o) r.0 ++ give x r.1) m
-    accepted ws is room = go ws is (made_many q.types q.env m.next (new_place p) p.new q.values q.made.1 q.made.0 q.all) (many_made front r.0 x r.1)
+    accepted : (ws : List NewValue) → p.new ≡ ws → HasHeadroom m (map (λ o. Make insertion o) r.0 ++ give x r.1) → Free (map (λ o. Make insertion o) r.0 ++ give x r.1) m
+    accepted ws is headroom = go ws is (made_many q.types q.env m.next (new_place p) p.new q.values q.made.1 q.made.0 q.all) (many_made insertion r.0 x r.1)
       where
-        go : (ws : List NewValue) → p.new ≡ ws → length q.made.0 ≡ length p.new → made_by (map (λ o. Make front o) r.0 ++ give x r.1) ≡ length r.0 → Free (map (λ o. Make front o) r.0 ++ give x r.1) m
+        go : (ws : List NewValue) → p.new ≡ ws → length q.made.0 ≡ length p.new → made_by (map (λ o. Make insertion o) r.0 ++ give x r.1) ≡ length r.0 → Free (map (λ o. Make insertion o) r.0 ++ give x r.1) m
         go [] is many count =
             let l : length r.0 ≡ 0 = ap (λ (z : Plan). length z.0) q.plan ∙ many ∙ ap length is in
-            variable is (let a = room.0 in let b = room.1 in (omega (arith, a, count, l), omega (arith, b, count, l)))
+            variable is (let a = headroom.0 in let b = headroom.1 in (omega (arith, a, count, l), omega (arith, b, count, l)))
         go (w ∷ ws) is many count =
             let l : length r.0 ≡ suc (length ws) = ap (λ (z : Plan). length z.0) q.plan ∙ many ∙ ap length is in
-            made_last w ws is (let a = room.0 in let b = room.1 in (omega (arith, a, count, l), omega (arith, b, count, l)))
+            made_last w ws is (let a = headroom.0 in let b = headroom.1 in (omega (arith, a, count, l), omega (arith, b, count, l)))
 
-own_is : (p : PatternModel) (m : Module) (x : ℕ) → own_edits p m x ≡ given_base (find x m.tree) (λ o. given_base (front_of x m.tree) (λ front. looks.when (is_one (head o).results) (edits_for front x (plan_of m.tree (is_verified m.tree) m.next p x))))
+own_is : (p : PatternModel) (m : Module) (x : ℕ) → own_edits p m x ≡ given_base (find x m.tree) (λ o. given_base (insertion_of x m.tree) (λ insertion. looks.when (is_one (head o).results) (edits_for insertion x (plan_of m.tree (is_verified m.tree) m.next p x))))
 unfolding own_edits
 own_is p m x = refl
 
 pub own_are_accepted : OwnAreAccepted
-own_are_accepted p m x formed es n e carried =
+own_are_accepted p m x wellformed es n e carried =
     let o = given_some (find x m.tree) _ es (sym (own_is p m x) ∙ e) in
-    let front = given_some (front_of x m.tree) _ es o.2 in
-    let w = when_some (is_one (head o.0).results) _ es front.2 in
-    go o.0 o.1 front.0 front.1 (one_is (head o.0).results w.0) (plan_of m.tree (is_verified m.tree) m.next p x) refl w.1
+    let insertion = given_some (insertion_of x m.tree) _ es o.2 in
+    let w = when_some (is_one (head o.0).results) _ es insertion.2 in
+    go o.0 o.1 insertion.0 insertion.1 (one_is (head o.0).results w.0) (plan_of m.tree (is_verified m.tree) m.next p x) refl w.1
   where
-    go : (o : Operation) → find x m.tree ≡ Some o → (front : Place) → front_of x m.tree ≡ Some front → (one : (ty : TypeTerm) × ((head o).results ≡ ty ∷ [])) → (r : Option Plan) → plan_of m.tree (is_verified m.tree) m.next p x ≡ r → edits_for front x r ≡ Some es → Free es m
-    go o found front at one None is e = absurd cc
-    go o found front at one (Some r) is e =
+    go : (o : Operation) → find x m.tree ≡ Some o → (insertion : Place) → insertion_of x m.tree ≡ Some insertion → (one : (ty : TypeTerm) × ((head o).results ≡ ty ∷ [])) → (r : Option Plan) → plan_of m.tree (is_verified m.tree) m.next p x ≡ r → edits_for insertion x r ≡ Some es → Free es m
+    go o found insertion at one None is e = absurd cc
+    go o found insertion at one (Some r) is e =
         let w = when_is (can_build p) (planned m.tree (is_verified m.tree) m.next p x) r is in
         let some = both (list_all is_named p.new) _ w.0 in
         let rest = both (list_all (spares p.root) p.new) _ some.1 in
         let number = same_is (result_type p) (root_type p) rest.1 in
-        let these : map (λ o. Make front o) r.0 ++ give x r.1 ≡ es = same_Some _ es e in
+        let these : map (λ o. Make insertion o) r.0 ++ give x r.1 ≡ es = same_Some _ es e in
         subst (λ z. Free z m) these
-        (accepted p m x formed front at o found one.0 one.1 r (parts m.tree (is_verified m.tree) m.next p x r w.1) rest.0 number.0 number.1 number.2 p.new refl (subst (HasRoom m) (sym these) (has_room es m n carried)))
+        (accepted p m x wellformed insertion at o found one.0 one.1 r (parts m.tree (is_verified m.tree) m.next p x r w.1) rest.0 number.0 number.1 number.2 p.new refl (subst (HasHeadroom m) (sym these) (has_headroom es m n carried)))

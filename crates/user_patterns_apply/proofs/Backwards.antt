@@ -13,8 +13,8 @@ use Rattle.user_patterns_apply.proofs.Binding.{stands_no, stands_yes}
 use Rattle.user_patterns_apply.proofs.Placed.{placed_last}
 
 -- the default for an index past the end of a list
-pub some_piece : PatternOp
-some_piece = record { form = form.IntegerCast Truncate 0; bare = false; ty = 0 }
+pub some_pattern_op : PatternOp
+some_pattern_op = record { form = form.IntegerCast Truncate 0; bare = false; ty = 0 }
 
 module _ (t : Operation) (k : ℕ) (ps : List PatternOp) (left : ℕ) (some : 0 < left) (few : left ≤ length ps) where
   last : (d : PatternOp) → placed k (take left ps) ≡ (k + (left - 1), get_or ps (left - 1) d) ∷ placed k (take (left - 1) ps)
@@ -36,10 +36,10 @@ module _ (t : Operation) (k : ℕ) (ps : List PatternOp) (left : ℕ) (some : 0 
     split : given (op_matches t any (k + (left - 1), get_or ps (left - 1) d) b) (ops_match t any (placed k (take (left - 1) ps))) ≡ total
     split = sym (ap (λ z. ops_match t any z b) (last d)) ∙ same
 
-    pub pieces_stop : r ≡ false → Stands total new false
-    pieces_stop e =
+    pub pattern_ops_stop : r ≡ false → Stands total new false
+    pattern_ops_stop e =
         let none : None ≡ total = ap (λ o. given o (ops_match t any (placed k (take (left - 1) ps)))) (sym (stands_no (op_matches t any (k + (left - 1), get_or ps (left - 1) d) b) new r stands e)) ∙ split in
         subst (λ z. Stands z new false) none refl
 
-    pub pieces_go : r ≡ true → ops_match t any (placed k (take (left - 1) ps)) new ≡ total
-    pieces_go e = ap (λ o. given o (ops_match t any (placed k (take (left - 1) ps)))) (sym (stands_yes (op_matches t any (k + (left - 1), get_or ps (left - 1) d) b) new r stands e)) ∙ split
+    pub pattern_ops_go : r ≡ true → ops_match t any (placed k (take (left - 1) ps)) new ≡ total
+    pattern_ops_go e = ap (λ o. given o (ops_match t any (placed k (take (left - 1) ps)))) (sym (stands_yes (op_matches t any (k + (left - 1), get_or ps (left - 1) d) b) new r stands e)) ∙ split

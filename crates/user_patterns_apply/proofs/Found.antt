@@ -9,7 +9,7 @@ use Rattle.ir_event.specs.Modules.{Module, module_in}
 use Rattle.ir_event.specs.declared.world.World.{World}
 use Rattle.patterns_lowering.specs.Held.{TransactionModel, module_held}
 use Rattle.patterns_base.specs.Keeps.{given}
-use Rattle.patterns_base.specs.Looks.{Header, front_of, is_verified, when}
+use Rattle.patterns_base.specs.Looks.{Header, insertion_of, is_verified, when}
 use Rattle.patterns_base.specs.Rewrites.{carried_out, rewrite_by}
 use Rattle.patterns_matchers.specs.Reads.{head_at}
 use Rattle.patterns.specs.Applied.{RewriteOutcome}
@@ -26,46 +26,46 @@ module _ (p : PatternModel) (m : Module) (x : ℕ) where
   abbrev plan : Option Plan
   plan = plan_of m.tree (is_verified m.tree) m.next p x
 
-  edits_are : own_edits p m x ≡ given (find x m.tree) (λ o. given (front_of x m.tree) (λ front. when (is_one (head o).results) (edits_for front x (plan_of m.tree (is_verified m.tree) m.next p x))))
+  edits_are : own_edits p m x ≡ given (find x m.tree) (λ o. given (insertion_of x m.tree) (λ insertion. when (is_one (head o).results) (edits_for insertion x (plan_of m.tree (is_verified m.tree) m.next p x))))
   unfolding own_edits
   edits_are = refl
 
   pub none_there : None ≡ head_at x m.tree → None ≡ own_edits p m x
   none_there e = go (find x m.tree) e ∙ sym edits_are
     where
-      go : (o : Option Operation) → None ≡ option_map (λ o. head o) o → None ≡ given o (λ o. given (front_of x m.tree) (λ front. when (is_one (head o).results) (edits_for front x plan)))
+      go : (o : Option Operation) → None ≡ option_map (λ o. head o) o → None ≡ given o (λ o. given (insertion_of x m.tree) (λ insertion. when (is_one (head o).results) (edits_for insertion x plan)))
       go None e = refl
       go (Some o) e = absurd cc
 
-  pub none_front : None ≡ front_of x m.tree → None ≡ own_edits p m x
-  none_front e = go (find x m.tree) ∙ sym edits_are
+  pub none_insertion : None ≡ insertion_of x m.tree → None ≡ own_edits p m x
+  none_insertion e = go (find x m.tree) ∙ sym edits_are
     where
-      go : (o : Option Operation) → None ≡ given o (λ o. given (front_of x m.tree) (λ front. when (is_one (head o).results) (edits_for front x plan)))
+      go : (o : Option Operation) → None ≡ given o (λ o. given (insertion_of x m.tree) (λ insertion. when (is_one (head o).results) (edits_for insertion x plan)))
       go None = refl
-      go (Some o) = ap (λ f. given f (λ front. when (is_one (head o).results) (edits_for front x plan))) e
+      go (Some o) = ap (λ f. given f (λ insertion. when (is_one (head o).results) (edits_for insertion x plan))) e
 
   module _ (h : Header) (shown : Some h ≡ head_at x m.tree) where
     pub not_single : (b : Bool) → b ≡ is_one h.results → b ≡ false → None ≡ own_edits p m x
-    not_single b e n = go (find x m.tree) shown (front_of x m.tree) ∙ sym edits_are
+    not_single b e n = go (find x m.tree) shown (insertion_of x m.tree) ∙ sym edits_are
       where
-        in_front : (o : Operation) → is_one (head o).results ≡ false → (f : Option Place) → None ≡ given f (λ front. when (is_one (head o).results) (edits_for front x plan))
-        in_front o e None = refl
-        in_front o e (Some f) = sym (ap (λ z. when z (edits_for f x plan)) e)
+        in_insertion : (o : Operation) → is_one (head o).results ≡ false → (f : Option Place) → None ≡ given f (λ insertion. when (is_one (head o).results) (edits_for insertion x plan))
+        in_insertion o e None = refl
+        in_insertion o e (Some f) = sym (ap (λ z. when z (edits_for f x plan)) e)
 
-        go : (o : Option Operation) → Some h ≡ option_map (λ o. head o) o → (f : Option Place) → None ≡ given o (λ o. given f (λ front. when (is_one (head o).results) (edits_for front x plan)))
+        go : (o : Option Operation) → Some h ≡ option_map (λ o. head o) o → (f : Option Place) → None ≡ given o (λ o. given f (λ insertion. when (is_one (head o).results) (edits_for insertion x plan)))
         go None e f = refl
-        go (Some o) i f = (let one : h ≡ head o = cc in in_front o (ap (λ (z : Header). is_one z.results) (sym one) ∙ sym e ∙ n) f)
+        go (Some o) i f = (let one : h ≡ head o = cc in in_insertion o (ap (λ (z : Header). is_one z.results) (sym one) ∙ sym e ∙ n) f)
 
-    module _ (f : Place) (at : Some f ≡ front_of x m.tree) (b : Bool) (e : b ≡ is_one h.results) (single : b ≡ true) where
+    module _ (f : Place) (at : Some f ≡ insertion_of x m.tree) (b : Bool) (e : b ≡ is_one h.results) (single : b ≡ true) where
       by_plan : edits_for f x (plan_of m.tree (is_verified m.tree) m.next p x) ≡ own_edits p m x
       by_plan = go (find x m.tree) shown ∙ sym edits_are
         where
-          go : (o : Option Operation) → Some h ≡ option_map (λ o. head o) o → edits_for f x plan ≡ given o (λ o. given (front_of x m.tree) (λ front. when (is_one (head o).results) (edits_for front x plan)))
+          go : (o : Option Operation) → Some h ≡ option_map (λ o. head o) o → edits_for f x plan ≡ given o (λ o. given (insertion_of x m.tree) (λ insertion. when (is_one (head o).results) (edits_for insertion x plan)))
           go None i = absurd cc
           go (Some o) i =
               let one : h ≡ head o = cc in
               let true_is : is_one (head o).results ≡ true = ap (λ (z : Header). is_one z.results) (sym one) ∙ sym e ∙ single in
-              sym (ap (λ z. given z (λ front. when (is_one (head o).results) (edits_for front x plan))) (sym at) ∙ ap (λ z. when z (edits_for f x plan)) true_is)
+              sym (ap (λ z. given z (λ insertion. when (is_one (head o).results) (edits_for insertion x plan))) (sym at) ∙ ap (λ z. when z (edits_for f x plan)) true_is)
 
       pub no_plan : (c : ContextModel) (r : Option BuildPlan) → option_map (plan_in c m.next) r ≡ plan_of m.tree (is_verified m.tree) m.next p x → r ≡ None → None ≡ own_edits p m x
       no_plan c r is none = ap (λ z. edits_for f x (option_map (plan_in c m.next) z)) (sym none) ∙ ap (edits_for f x) is ∙ by_plan

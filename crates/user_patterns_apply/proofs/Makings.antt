@@ -61,9 +61,9 @@ module _ (c d : ContextModel) (g : IsExtendedBy c d) where
   pub rest_made : (m : NewOp) (ms : List NewOp) → AreMadeOf c (m ∷ ms) → AreMadeOf c ms
   rest_made m ms h = λ k e l. h (suc k) e (omega (arith, l))
 
-  pub makings_stay : (n : ℕ) (front : Place) (ms : List NewOp) → AreMadeOf c ms → makings d n front ms ≡ makings c n front ms
-  makings_stay n front [] h = refl
-  makings_stay n front (m ∷ ms) h = λ i. edit.Make front (made_stays n m (h 0 m (omega arith)) i) ∷ makings_stay n front ms (rest_made m ms h) i
+  pub makings_stay : (n : ℕ) (insertion : Place) (ms : List NewOp) → AreMadeOf c ms → makings d n insertion ms ≡ makings c n insertion ms
+  makings_stay n insertion [] h = refl
+  makings_stay n insertion (m ∷ ms) h = λ i. edit.Make insertion (made_stays n m (h 0 m (omega arith)) i) ∷ makings_stay n insertion ms (rest_made m ms h) i
 
   module _ (holds : Holds c) where
     edit_stays : (e : Coded) → Fits c e → Fits d e × (edit_meaning d (numbered e) ≡ edit_meaning c (numbered e))
@@ -130,22 +130,22 @@ entries_are b c m ty e property.Flags = refl
 entries_are b c m ty e (property.Predicate p) = refl
 entries_are b c m ty e (property.Bits bits) = ap (λ z. value_entry z bits) e
 
-pub making_stands : (a b c : ContextModel) (m : NewOp) (front : Place) (n ty name : ℕ) (entry : Option (ℕ × ℕ)) → IsTypeOf b ty (type_in a m.ty) → IsTypeOf c ty (type_in a m.ty) → IsNameOf c name (word_bytes m.word) → EntryStands c entry (entries_of b m.word ty m.property)
-    → (o : Op) → o ≡ new_op name (map (operand_in n) m.operands.items) ty entry → EditStands c (coded.Make front o) (edit.Make front (made_in a n m))
-making_stands a b c m front n ty name entry before t named e o is =
+pub making_stands : (a b c : ContextModel) (m : NewOp) (insertion : Place) (n ty name : ℕ) (entry : Option (ℕ × ℕ)) → IsTypeOf b ty (type_in a m.ty) → IsTypeOf c ty (type_in a m.ty) → IsNameOf c name (word_bytes m.word) → EntryStands c entry (entries_of b m.word ty m.property)
+    → (o : Op) → o ≡ new_op name (map (operand_in n) m.operands.items) ty entry → EditStands c (coded.Make insertion o) (edit.Make insertion (made_in a n m))
+making_stands a b c m insertion n ty name entry before t named e o is =
     let s = op_stands c name (word_bytes m.word) ty (type_in a m.ty) (map (operand_in n) m.operands.items) named t entry (entries_in a m m.property) (subst (EntryStands c entry) (entries_are a b m ty before.1 m.property) e) in
-    subst (λ z. EditStands c (coded.Make front z) (edit.Make front (made_in a n m))) (sym is) (record { meaning = ap (edit.Make front) s.means; fits = (s.sound, s.bare) })
+    subst (λ z. EditStands c (coded.Make insertion z) (edit.Make insertion (made_in a n m))) (sym is) (record { meaning = ap (edit.Make insertion) s.means; fits = (s.sound, s.bare) })
 
 -- ---- in sequence
 
-module _ {B : Type 0} (means : B → Listener) (next : ℕ) (front : Place) (all : List NewOp) (old : Benched B) where
+module _ {B : Type 0} (means : B → Listener) (next : ℕ) (insertion : Place) (all : List NewOp) (old : Benched B) where
   -- some operations are made, and the rest are left
   pub record Making (rest : List NewOp) (now : Benched B) (edits : List Coded) : Type 0 where
     pub added : Added means old now
     pub holds : Holds now.transaction.ctx
     pub of : AreMadeOf now.transaction.ctx rest
     pub fit : AllFit now.transaction.ctx edits
-    pub left : edits_meaning now.transaction.ctx edits ++ makings now.transaction.ctx next front rest ≡ makings old.transaction.ctx next front all
+    pub left : edits_meaning now.transaction.ctx edits ++ makings now.transaction.ctx next insertion rest ≡ makings old.transaction.ctx next insertion all
 
   pub making_none : Holds old.transaction.ctx → AreMadeOf old.transaction.ctx all → (es : List Coded) → es ≡ [] → Making all old es
   making_none holds of es none =
@@ -154,11 +154,11 @@ module _ {B : Type 0} (means : B → Listener) (next : ℕ) (front : Place) (all
         holds = holds;
         of = of;
         fit = subst (AllFit old.transaction.ctx) (sym none) tt;
-        left = ap (λ z. edits_meaning old.transaction.ctx z ++ makings old.transaction.ctx next front all) none;
+        left = ap (λ z. edits_meaning old.transaction.ctx z ++ makings old.transaction.ctx next insertion all) none;
       }
 
   pub making_more : (m : NewOp) (rest : List NewOp) (now after : Benched B) (edits more : List Coded) → Making (m ∷ rest) now edits → Holds after.transaction.ctx → Added means now after → AllFit after.transaction.ctx more
-      → edits_meaning after.transaction.ctx more ≡ edits_meaning now.transaction.ctx edits ++ edit.Make front (made_in now.transaction.ctx next m) ∷ [] → Making rest after more
+      → edits_meaning after.transaction.ctx more ≡ edits_meaning now.transaction.ctx edits ++ edit.Make insertion (made_in now.transaction.ctx next m) ∷ [] → Making rest after more
   making_more m rest now after edits more s holds added fit is =
       let g = added.grown.grows in
       let of = rest_made now.transaction.ctx after.transaction.ctx g m rest s.of in
@@ -168,11 +168,11 @@ module _ {B : Type 0} (means : B → Listener) (next : ℕ) (front : Place) (all
         of = grown_made now.transaction.ctx after.transaction.ctx g rest of;
         fit = fit;
         left =
-            (λ i. is i ++ makings_stay now.transaction.ctx after.transaction.ctx g next front rest of i)
-            ∙ append_assoc (edits_meaning now.transaction.ctx edits) (edit.Make front (made_in now.transaction.ctx next m) ∷ []) (makings now.transaction.ctx next front rest) ∙ s.left;
+            (λ i. is i ++ makings_stay now.transaction.ctx after.transaction.ctx g next insertion rest of i)
+            ∙ append_assoc (edits_meaning now.transaction.ctx edits) (edit.Make insertion (made_in now.transaction.ctx next m) ∷ []) (makings now.transaction.ctx next insertion rest) ∙ s.left;
       }
 
-  pub making_done : (rest : List NewOp) (now : Benched B) (edits : List Coded) → length rest < 1 → Making rest now edits → edits_meaning now.transaction.ctx edits ≡ makings old.transaction.ctx next front all
+  pub making_done : (rest : List NewOp) (now : Benched B) (edits : List Coded) → length rest < 1 → Making rest now edits → edits_meaning now.transaction.ctx edits ≡ makings old.transaction.ctx next insertion all
   making_done [] now edits l s = sym (append-nil (edits_meaning now.transaction.ctx edits)) ∙ s.left
   making_done (m ∷ rest) now edits l s = absurd (omega (arith, l))
 

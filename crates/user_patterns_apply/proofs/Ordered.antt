@@ -23,7 +23,7 @@ use Rattle.user_patterns_data.specs.Fitting.{content_with, fits}
 use Rattle.user_patterns_data.specs.Matching.{Header, Standing, bound, defining_op_head, header_matched, known, nothing, ops_match, placed, standing, value_matched, when}
 use Rattle.user_patterns_data.specs.Planning.{Plan, kind_standing, old_place, outcomes, places, planned, planned_by, planned_from, typed}
 use Rattle.user_patterns_data.specs.Shapes.{PatternModel}
-use Rattle.user_patterns_data.proofs.Standing.{pieces_stand}
+use Rattle.user_patterns_data.proofs.Standing.{pattern_ops_stand}
 use Rattle.user_patterns_apply.specs.Built.{plan_of}
 use Rattle.user_patterns_build.specs.CanBuild.{can_build}
 use Rattle.user_patterns_apply.specs.Matched.{all_verified, any, is_verified_value, is_constant_value, is_first, matched}
@@ -65,7 +65,7 @@ module _ (t : Operation) (verified : Header → Bool) where
 
       own : (d : Standing Value) → ops_match t any ps c ≡ Some d → is_verified_value t verified (standing p.0 d) ≡ verified h
       own d e =
-          ap (λ s. is_verified_value t verified (given s (λ x. x))) (pieces_stand t any (p ∷ ps) b d (whole ∙ e) p.0 v there)
+          ap (λ s. is_verified_value t verified (given s (λ x. x))) (pattern_ops_stand t any (p ∷ ps) b d (whole ∙ e) p.0 v there)
           ∙ ap is_some (defining_op_split v ∙ ap (λ g. given g (λ h. when (verified h) (Some h))) defining) ∙ test (verified h)
         where
           test : (z : Bool) → is_some (when z (Some h)) ≡ z
@@ -112,9 +112,9 @@ module _ (t : Operation) (verified : Header → Bool) where
     one_more : Cleaned (p ∷ ps) b
     one_more = by_value (slice_get b p.0) refl
 
-  pieces_verified : (ps : List (ℕ × PatternOp)) (b : Standing Value) → Cleaned ps b
-  pieces_verified [] b = refl
-  pieces_verified (p ∷ ps) b = one_more p ps (pieces_verified ps) b
+  pattern_ops_verified : (ps : List (ℕ × PatternOp)) (b : Standing Value) → Cleaned ps b
+  pattern_ops_verified [] b = refl
+  pattern_ops_verified (p ∷ ps) b = one_more p ps (pattern_ops_verified ps) b
 
   -- ---- a plan
 
@@ -143,7 +143,7 @@ module _ (t : Operation) (verified : Header → Bool) where
 
         go : (b : Option (Standing Value)) → given b (λ b. given (ops_match t verified ps b) after_types) ≡ given (given b (λ b. ops_match t any ps b)) (λ c. when (all_verified t verified c ps) (after_types c))
         go None = refl
-        go (Some b) = ap (λ r. given r after_types) (sym (pieces_verified ps b)) ∙ moved (ops_match t any ps b)
+        go (Some b) = ap (λ r. given r after_types) (sym (pattern_ops_verified ps b)) ∙ moved (ops_match t any ps b)
 
     abbrev Of : Option Plan → Type 0
     Of r = r ≡ plan_of t verified n p x

@@ -28,11 +28,11 @@ use Rattle.user_patterns_apply.proofs.Binding.{stands_no, stands_yes}
 
 -- a fully borrowed slice is the whole list after the call
 pub whole_again : {X : Type 0} (len : ℕ) (new old : List X) → length new ≡ len → take len (new ++ drop (length new) old) ≡ new
-whole_again len new old is = ap (λ n. take n (new ++ drop (length new) old)) (sym is) ∙ front new (drop (length new) old)
+whole_again len new old is = ap (λ n. take n (new ++ drop (length new) old)) (sym is) ∙ preceding new (drop (length new) old)
   where
-    front : {X : Type 0} (xs ys : List X) → take (length xs) (xs ++ ys) ≡ xs
-    front [] ys = refl
-    front (x ∷ xs) ys = ap (λ z. x ∷ z) (front xs ys)
+    preceding : {X : Type 0} (xs ys : List X) → take (length xs) (xs ++ ys) ≡ xs
+    preceding [] ys = refl
+    preceding (x ∷ xs) ys = ap (λ z. x ∷ z) (preceding xs ys)
 
 -- ---- kinds of types
 

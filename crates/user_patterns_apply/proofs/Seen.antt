@@ -17,11 +17,11 @@ use Rattle.ir_event.specs.tree_laws.Stands.{dominated_by as dominated_by_from}
 use Rattle.ir_event.proofs.of_tree_laws.Members.{found_stands}
 use Rattle.ir_event.proofs.of_tree_laws.DominatedBy.{visible_there}
 use Rattle.ir_event.specs.Modules.{Module}
-use Rattle.patterns_base.proofs.Front.{after_dominated_by}
+use Rattle.patterns_base.proofs.Preceding.{after_dominated_by}
 use Rattle.patterns_base.proofs.Given.{seer}
-use Rattle.patterns_base.proofs.Made.{stood}
+use Rattle.patterns_base.proofs.Made.{located}
 use Rattle.patterns_base.proofs.Plans.{StandsAt, dominated_by}
-use Rattle.patterns_base.specs.Looks.{front_of, defining_op, insertion_point}
+use Rattle.patterns_base.specs.Looks.{insertion_of, defining_op, insertion_point}
 use Rattle.patterns_soundness.proofs.Points.{DefiningOp, defining_op_is, own_operand}
 use Rattle.user_patterns_data.specs.Matching.{Header, Standing, all_bound, asks_alike, bound, defining_op_head, header_matched, nothing, op_matches, ops_match, standing, value_matched, when}
 use Rattle.user_patterns_data.specs.Names.{name_of, operands_of}
@@ -32,28 +32,28 @@ use Rattle.user_patterns_apply.proofs.FoundBuilt.{all_from, bound_at, bound_from
 use Rattle.std.proofs.lemmas.Bool.{cases_eq}
 use Rattle.std.proofs.lemmas.Option.{same_Some}
 
-module _ (m : Module) (x : ℕ) (formed : IsWellFormed is_isolated m) where
+module _ (m : Module) (x : ℕ) (wellformed : IsWellFormed is_isolated m) where
   -- the operation is directly after the insertion point `front`
-  pub stands : (front : Place) → front_of x m.tree ≡ Some front → StandsAt x front m
-  stands front e = go (place_of x m.tree) refl e
+  pub stands : (insertion : Place) → insertion_of x m.tree ≡ Some insertion → StandsAt x insertion m
+  stands insertion e = go (place_of x m.tree) refl e
     where
-      go : (p : Option Place) → place_of x m.tree ≡ p → option_map (insertion_point x) p ≡ Some front → StandsAt x front m
+      go : (p : Option Place) → place_of x m.tree ≡ p → option_map (insertion_point x) p ≡ Some insertion → StandsAt x insertion m
       go None is e = absurd cc
-      go (Some p) is e = (let one : insertion_point x p ≡ front = cc in subst (λ z. StandsAt x z m) one (stood is_isolated x p m formed is))
+      go (Some p) is e = (let one : insertion_point x p ≡ insertion = cc in subst (λ z. StandsAt x z m) one (located is_isolated x p m wellformed is))
 
   -- its operands dominate the operation, and so do the operands of an operation whose result dominates it
   pub dominated_by_own : (o : Operation) → find x m.tree ≡ Some o → (v : Value) → In v (head o).operands → dominated_by x v m ≡ true
   dominated_by_own o e v i =
       let w = found_stands x m.tree o e in
       ap (λ z. dominated_by z v m) (sym w.2)
-      ∙ visible_there is_isolated m.tree formed.distinct w.0 w.1 v
-      ∙ own_operand m.tree formed.distinct formed.formed.visible w.0 w.1 v (subst (λ (z : Operation). In v (head z).operands) (sym w.3) i)
+      ∙ visible_there is_isolated m.tree wellformed.distinct w.0 w.1 v
+      ∙ own_operand m.tree wellformed.distinct wellformed.wellformed.visible w.0 w.1 v (subst (λ (z : Operation). In v (head z).operands) (sym w.3) i)
 
   pub dominated_by_far : (v : Value) → dominated_by x v m ≡ true → (h : Header) → DefiningOp m.tree v h → (w : Value) → In w h.operands → dominated_by x w m ≡ true
   dominated_by_far v seen h g w i =
-      let d = formed.distinct in
+      let d = wellformed.distinct in
       let far = found_stands g.id m.tree g.there g.found in
-      let inner = own_operand m.tree d formed.formed.visible far.0 far.1 w (subst (λ (z : Operation). In w (head z).operands) (sym far.3) (subst (λ (z : Header). In w z.operands) (sym g.header) i)) in
+      let inner = own_operand m.tree d wellformed.wellformed.visible far.0 far.1 w (subst (λ (z : Operation). In w (head z).operands) (sym far.3) (subst (λ (z : Header). In w z.operands) (sym g.header) i)) in
       let own = seer is_isolated m.tree d x v seen in
       ap (λ z. dominated_by z w m) (sym own.2)
       ∙ visible_there is_isolated m.tree d own.0 own.1 w
@@ -106,6 +106,6 @@ module _ (m : Module) (x : ℕ) (formed : IsWellFormed is_isolated m) where
           | inr n ↦ dominated_by_far v (s.other p.0 v n at) h g u i
         ]
 
-    pub pieces_see : (ps : List (ℕ × PatternOp)) (b c : Standing Value) → ops_match m.tree verified ps b ≡ Some c → DominatedBy b → DominatedBy c
-    pieces_see [] b c e s = subst DominatedBy (same_Some b c e) s
-    pieces_see (p ∷ ps) b c e s = (let g = given_is (op_matches m.tree verified p b) (ops_match m.tree verified ps) c e in pieces_see ps g.0 c g.2 (goes_on p b g.0 g.1 s))
+    pub pattern_ops_see : (ps : List (ℕ × PatternOp)) (b c : Standing Value) → ops_match m.tree verified ps b ≡ Some c → DominatedBy b → DominatedBy c
+    pattern_ops_see [] b c e s = subst DominatedBy (same_Some b c e) s
+    pattern_ops_see (p ∷ ps) b c e s = (let g = given_is (op_matches m.tree verified p b) (ops_match m.tree verified ps) c e in pattern_ops_see ps g.0 c g.2 (goes_on p b g.0 g.1 s))

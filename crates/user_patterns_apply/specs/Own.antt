@@ -10,7 +10,7 @@ use Rattle.patterns_lowering.specs.Contents.{Edit}
 use Rattle.patterns_lowering.specs.Lists.{Free}
 use Rattle.rewriter_machine.specs.Edits.{Make}
 use Rattle.patterns_base.specs.Keeps.{given}
-use Rattle.patterns_base.specs.Looks.{front_of, is_verified, when}
+use Rattle.patterns_base.specs.Looks.{insertion_of, is_verified, when}
 use Rattle.patterns_base.specs.Makes.{give}
 use Rattle.patterns_base.specs.Rewrites.{Rewrite, becomes, carried_out, rewrite_by}
 use Rattle.user_patterns_data.specs.Planning.{Plan}
@@ -31,7 +31,7 @@ edits_for point x (Some p) = Some (map (λ o. Make point o) p.0 ++ give x p.1)
 -- the edits of a pattern at operation x, which has one result and isn't the module's root
 unfoldable pub own_edits : PatternModel → Module → ℕ → Option (List Edit)
 own_edits p m x = given (find x m.tree)
-    (λ o. given (front_of x m.tree) (λ point. when (is_one (head o).results)
+    (λ o. given (insertion_of x m.tree) (λ point. when (is_one (head o).results)
     (edits_for point x (plan_of m.tree (is_verified m.tree) m.next p x))))
 
 -- the rewrite of a pattern at operation x

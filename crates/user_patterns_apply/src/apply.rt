@@ -39,7 +39,7 @@ pub fn apply_pattern<L: Analysis>(
     ensures journal { JournalAfter L.meaning result bench.old bench.new }
 {
     pattern_edits_are_accepted();
-    bench.is_formed();
+    bench.is_wellformed();
     let world = bench.world();
     if !world.store.in_tree(op) {
         return Err(Refusal::NoSuchOp);

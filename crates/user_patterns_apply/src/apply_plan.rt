@@ -45,7 +45,7 @@ pub(crate) fn apply_plan<L: Analysis>(
         Ok(edits) => edits,
         Err(refusal) => return Err(refusal),
     };
-    bench.is_formed();
+    bench.is_wellformed();
     match apply_edits(bench, &edits) {
         Ok(()) => Ok(()),
         Err(refusal) => Err(refusal),

@@ -44,12 +44,12 @@ fn making<L: Analysis>(
         Ok(ty) => ty,
         Err(refusal) => return Err(refusal),
     };
-    bench.is_formed();
+    bench.is_wellformed();
     let entry = match entry(bench, made.word, ty, made.property) {
         Ok(entry) => entry,
         Err(refusal) => return Err(refusal),
     };
-    bench.is_formed();
+    bench.is_wellformed();
     let name = word_name(&bench.world().ctx, made.word);
     match new_op(alloc, next, name, &made.operands, ty, &entry) {
         Ok(op) => Ok(Edit::Make { place: *point, op }),
@@ -85,12 +85,12 @@ fn push_making<L: Analysis>(
     ensures refused { IfErr result (λ e. IsCapacityRefusal bench.new.transaction.ctx e) }
     ensures added { Added L.meaning bench.old bench.new }
 {
-    bench.is_formed();
+    bench.is_wellformed();
     let edit = match making(alloc, bench, point, next, made) {
         Ok(edit) => edit,
         Err(refusal) => return Err(refusal),
     };
-    bench.is_formed();
+    bench.is_wellformed();
     match push(edits, edit) {
         Ok(()) => Ok(()),
         Err(_) => Err(Refusal::Memory),
@@ -114,14 +114,14 @@ fn all_makings<L: Analysis>(
     ensures refused { IfErr result (λ e. IsCapacityRefusal bench.new.transaction.ctx e) }
     ensures added { Added L.meaning bench.old bench.new }
 {
-    bench.is_formed();
+    bench.is_wellformed();
     let mut edits = Vec::new(alloc);
     let mut rest = made;
     'made: while let [first, tail @ ..] = rest {
         if let Err(refusal) = push_making(alloc, bench, point, next, first, &mut edits) {
             return Err(refusal);
         }
-        bench.is_formed();
+        bench.is_wellformed();
         rest = tail;
     }
     Ok(edits)

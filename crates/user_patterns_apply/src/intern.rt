@@ -29,9 +29,9 @@ fn attr<L: Analysis>(bench: &mut Bench<L>, node: AttrNode) -> Result<AttrId, Ref
     ensures refused { IfErr result (λ e. IsCapacityRefusal bench.new.transaction.ctx e) }
     ensures added { Added L.meaning bench.old bench.new }
 {
-    bench.is_formed();
+    bench.is_wellformed();
     let made = bench.attr(node);
-    bench.is_formed();
+    bench.is_wellformed();
     match made {
         Ok(attr) => Ok(attr),
         Err(Refusal::TooMany) => Err(Refusal::Full),
@@ -46,9 +46,9 @@ fn ty<L: Analysis>(bench: &mut Bench<L>, node: TypeNode) -> Result<TypeId, Refus
     ensures refused { IfErr result (λ e. IsCapacityRefusal bench.new.transaction.ctx e) }
     ensures added { Added L.meaning bench.old bench.new }
 {
-    bench.is_formed();
+    bench.is_wellformed();
     let made = bench.ty(node);
-    bench.is_formed();
+    bench.is_wellformed();
     match made {
         Ok(ty) => Ok(ty),
         Err(Refusal::TooMany) => Err(Refusal::Full),
@@ -104,7 +104,7 @@ fn flags<L: Analysis>(bench: &mut Bench<L>, word: Word) -> Result<Option<(NameId
         nuw: false,
     };
     let made = attr(bench, node);
-    bench.is_formed();
+    bench.is_wellformed();
     match made {
         Ok(flags) => Ok(Some((Word::OverflowFlags.id(), flags))),
         Err(refusal) => Err(refusal),
@@ -125,7 +125,7 @@ fn integer<L: Analysis>(
     ensures added { Added L.meaning bench.old bench.new }
 {
     let made = attr(bench, AttrNode::Int { ty, value });
-    bench.is_formed();
+    bench.is_wellformed();
     match made {
         Ok(attr) => Ok(Some((key.id(), attr))),
         Err(refusal) => Err(refusal),
@@ -145,7 +145,7 @@ fn predicate<L: Analysis>(
         Ok(ty) => ty,
         Err(refusal) => return Err(refusal),
     };
-    bench.is_formed();
+    bench.is_wellformed();
     integer(bench, Word::Predicate, ty, number)
 }
 

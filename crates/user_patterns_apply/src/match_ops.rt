@@ -4,7 +4,7 @@ ghost use Rattle.ir_event.specs.types.Things.{IsAttr};
 ghost use Rattle.ir_event.specs.types.Terms.{attr_term};
 ghost use Rattle.ir_event.specs.trees.Uses.{same_value};
 ghost use Rattle.ir_event.specs.Modules.{NodeIsOf, module_in};
-ghost use Rattle.op_registry.specs.Registry.{beside};
+ghost use Rattle.op_registry.specs.Registry.{next_to};
 ghost use Rattle.dialects_int.specs.Folds.{property_of};
 ghost use Rattle.patterns_matchers.specs.Reads.{header_of_node};
 ghost use Rattle.user_patterns_data.specs.Matching.{all_bound, asks_alike, defining_op_head, op_matches};
@@ -60,7 +60,7 @@ fn are_none(ctx: &Context, flags: AttrId) -> bool
 /// Returns whether the operation has no overflow flags.
 fn is_bare(ctx: &Context, node: &Node<'_>) -> bool
     requires { NodeIsOf ctx.now node.now }
-    ensures { result ≡ are_none (beside (codes "overflowFlags") (header_of_node ctx.now node.now).properties) }
+    ensures { result ≡ are_none (next_to (codes "overflowFlags") (header_of_node ctx.now node.now).properties) }
 {
     match property(ctx, node, Word::OverflowFlags) {
         Some(flags) => are_none(ctx, flags),
@@ -106,7 +106,7 @@ fn bind_operands(form: &Expression, operands: &[Value], values: &mut [Option<Val
 }
 
 /// Matches a pattern op at the value bound at `place`, verified or not. Returns whether it matches.
-fn match_piece(
+fn match_pattern_op(
     world: &World,
     place: u128,
     pattern_op: &PatternOp,
@@ -138,7 +138,7 @@ fn match_all(world: &World, begins: u128, old: &[PatternOp], values: &mut [Optio
     let mut left = old.len();
     'old: while left > 0 {
         left -= 1;
-        if !match_piece(world, begins + left as u128, &old[left], values) {
+        if !match_pattern_op(world, begins + left as u128, &old[left], values) {
             return false;
         }
     }

@@ -22,11 +22,11 @@ use Rattle.user_patterns_data.specs.declared.pattern.NewValue.{NewValue}
 use Rattle.user_patterns_data.specs.declared.pattern.NewValue.TheVariants as new
 use Rattle.user_patterns_data.specs.declared.pattern.TypeConstraint.{TypeConstraint}
 use Rattle.user_patterns_data.specs.declared.pattern.TypeConstraint.TheVariants as type_constraints
-use Rattle.user_patterns_data.specs.Fitting.{bits_with, content_at, content_with, fits, form_step, extra_fits, extra_step, is_asked, is_integer, is_literal_of, kind_at, kind_with, kinds_with, new_step, number_fits, number_step, piece_step, width_step, written_step}
+use Rattle.user_patterns_data.specs.Fitting.{bits_with, content_at, content_with, fits, form_step, extra_fits, extra_step, is_requested, is_integer, is_literal_of, kind_at, kind_with, kinds_with, new_step, number_fits, number_step, pattern_op_step, width_step, written_step}
 use Rattle.user_patterns_data.specs.Shapes.{PatternModel}
 use Rattle.user_patterns_data.specs.WellFormed.{is_well_formed}
 use Rattle.user_patterns_build.specs.CanBuild.{can_build}
-use Rattle.user_patterns_build.specs.Unified.{HaveOneNumber, IsReady, NumbersTheSame, StaysAtWidths, asked_in, first_same, extra_in, given_in, if_ready, is_same, kind_in, literal_in, new_in, number_in, piece_in, ready, united}
+use Rattle.user_patterns_build.specs.Unified.{HaveOneNumber, IsReady, NumbersTheSame, StaysAtWidths, requested_in, first_same, extra_in, given_in, if_ready, is_same, kind_in, literal_in, new_in, number_in, pattern_op_in, ready, united}
 
 -- ---- equal types
 
@@ -121,15 +121,15 @@ module _ (ws : List ℕ) (ks : List PatternType) where
   given_fits_stays (number.Log2 i) = refl
   given_fits_stays (number.Require i) = refl
 
-  asked_stays : (a : TypeConstraint) → is_asked (kinds_with ws ks) (asked_in ks a) ≡ is_asked (kinds_with ws ks) a
-  asked_stays (type_constraints.Narrower s t) = rw (kind_stays s, kind_stays t) refl
-  asked_stays (type_constraints.Integer t) = ap is_integer (kind_stays t)
+  requested_stays : (a : TypeConstraint) → is_requested (kinds_with ws ks) (requested_in ks a) ≡ is_requested (kinds_with ws ks) a
+  requested_stays (type_constraints.Narrower s t) = rw (kind_stays s, kind_stays t) refl
+  requested_stays (type_constraints.Integer t) = ap is_integer (kind_stays t)
 
-  piece_stays : (p : PatternOp) → piece_step (kinds_with ws ks) (piece_in ks p) ≡ piece_step (kinds_with ws ks) p
-  piece_stays p = ap (λ (k : BitsKind). form_step k p.form) (kind_stays p.ty)
+  pattern_op_stays : (p : PatternOp) → pattern_op_step (kinds_with ws ks) (pattern_op_in ks p) ≡ pattern_op_step (kinds_with ws ks) p
+  pattern_op_stays p = ap (λ (k : BitsKind). form_step k p.form) (kind_stays p.ty)
 
   new_stays : (w : NewValue) → new_step (kinds_with ws ks) (new_in ks w) ≡ new_step (kinds_with ws ks) w
-  new_stays (new.Operation p) = piece_stays p
+  new_stays (new.Operation p) = pattern_op_stays p
   new_stays (new.Constant i t) = refl
 
 -- ---- lists
@@ -156,12 +156,12 @@ module _ (p : PatternModel) (ws : List ℕ) where
 
   fits_stays : fits (kinds_with ws p.value_types) (united p) ≡ fits (kinds_with ws p.value_types) p
   fits_stays = (λ i.
-      all_alike (is_asked (kinds_with ws p.value_types)) (asked_in p.value_types) (asked_stays ws p.value_types) p.type_constraints i
+      all_alike (is_requested (kinds_with ws p.value_types)) (requested_in p.value_types) (requested_stays ws p.value_types) p.type_constraints i
       && (all_alike (extra_fits (kinds_with ws p.value_types)) (extra_in p.value_types) (extra_fits_stays ws p.value_types) p.extra i
       && all_alike (number_fits (kinds_with ws p.value_types)) (given_in p.value_types) (given_fits_stays ws p.value_types) p.given i))
 
-  old_stays : map (piece_step (kinds_with ws p.value_types)) (map (piece_in p.value_types) p.old) ≡ map (piece_step (kinds_with ws p.value_types)) p.old
-  old_stays = maps_alike (piece_step (kinds_with ws p.value_types)) (piece_in p.value_types) (piece_stays ws p.value_types) p.old
+  old_stays : map (pattern_op_step (kinds_with ws p.value_types)) (map (pattern_op_in p.value_types) p.old) ≡ map (pattern_op_step (kinds_with ws p.value_types)) p.old
+  old_stays = maps_alike (pattern_op_step (kinds_with ws p.value_types)) (pattern_op_in p.value_types) (pattern_op_stays ws p.value_types) p.old
 
   new_steps_stay : map (new_step (kinds_with ws p.value_types)) (map (new_in p.value_types) p.new) ≡ map (new_step (kinds_with ws p.value_types)) p.new
   new_steps_stay = maps_alike (new_step (kinds_with ws p.value_types)) (new_in p.value_types) (new_stays ws p.value_types) p.new

@@ -44,9 +44,9 @@ abbrev pub extra_in : List PatternType → ExtraConstant → ExtraConstant
 extra_in ks (extra.Literal l) = extra.Literal (literal_in ks l)
 extra_in ks (extra.SameAs i) = extra.SameAs i
 
-abbrev pub asked_in : List PatternType → TypeConstraint → TypeConstraint
-asked_in ks (type_constraints.Narrower s t) = type_constraints.Narrower (number_in ks s) (number_in ks t)
-asked_in ks (type_constraints.Integer t) = type_constraints.Integer (number_in ks t)
+abbrev pub requested_in : List PatternType → TypeConstraint → TypeConstraint
+requested_in ks (type_constraints.Narrower s t) = type_constraints.Narrower (number_in ks s) (number_in ks t)
+requested_in ks (type_constraints.Integer t) = type_constraints.Integer (number_in ks t)
 
 abbrev pub given_in : List PatternType → ConstantExpression → ConstantExpression
 given_in ks (number.Literal l) = number.Literal (literal_in ks l)
@@ -56,11 +56,11 @@ given_in ks (number.Compare p i j) = number.Compare p i j
 given_in ks (number.Log2 i) = number.Log2 i
 given_in ks (number.Require i) = number.Require i
 
-abbrev pub piece_in : List PatternType → PatternOp → PatternOp
-piece_in ks p = record { form = p.form; bare = p.bare; ty = number_in ks p.ty }
+abbrev pub pattern_op_in : List PatternType → PatternOp → PatternOp
+pattern_op_in ks p = record { form = p.form; bare = p.bare; ty = number_in ks p.ty }
 
 abbrev pub new_in : List PatternType → NewValue → NewValue
-new_in ks (new.Operation p) = new.Operation (piece_in ks p)
+new_in ks (new.Operation p) = new.Operation (pattern_op_in ks p)
 new_in ks (new.Constant i t) = new.Constant i (number_in ks t)
 
 -- the pattern with these numbers
@@ -72,9 +72,9 @@ united p =
       values = map (number_in p.value_types) p.values;
       constants = p.constants;
       extra = map (extra_in p.value_types) p.extra;
-      type_constraints = map (asked_in p.value_types) p.type_constraints;
+      type_constraints = map (requested_in p.value_types) p.type_constraints;
       given = map (given_in p.value_types) p.given;
-      old = map (piece_in p.value_types) p.old;
+      old = map (pattern_op_in p.value_types) p.old;
       root = p.root;
       new = map (new_in p.value_types) p.new;
       result = p.result;

@@ -69,8 +69,8 @@ fn extra_in(value_types: &[PatternType], extra: &ExtraConstant) -> ExtraConstant
     }
 }
 
-fn asked_in(value_types: &[PatternType], type_constraints: &TypeConstraint) -> TypeConstraint
-    ensures { result ≡ united.asked_in value_types.now type_constraints.now }
+fn requested_in(value_types: &[PatternType], type_constraints: &TypeConstraint) -> TypeConstraint
+    ensures { result ≡ united.requested_in value_types.now type_constraints.now }
 {
     match type_constraints {
         TypeConstraint::Narrower(narrow, wide) => {
@@ -103,8 +103,8 @@ fn given_in(value_types: &[PatternType], number: &ConstantExpression) -> Constan
     }
 }
 
-fn piece_in(value_types: &[PatternType], pattern_op: &PatternOp) -> PatternOp
-    ensures { result ≡ united.piece_in value_types.now pattern_op.now }
+fn pattern_op_in(value_types: &[PatternType], pattern_op: &PatternOp) -> PatternOp
+    ensures { result ≡ united.pattern_op_in value_types.now pattern_op.now }
 {
     PatternOp {
         form: pattern_op.form,
@@ -117,7 +117,10 @@ fn new_in(value_types: &[PatternType], new: &NewValue) -> NewValue
     ensures { result ≡ united.new_in value_types.now new.now }
 {
     match new {
-        NewValue::Operation(pattern_op) => NewValue::Operation(piece_in(value_types, pattern_op)),
+        NewValue::Operation(pattern_op) => NewValue::Operation(pattern_op_in(
+            value_types,
+            pattern_op,
+        )),
         NewValue::Constant(place, ty) => NewValue::Constant(*place, number_in(value_types, *ty)),
     }
 }
@@ -154,17 +157,17 @@ fn all_extra(
     Ok(found)
 }
 
-fn all_asked(
+fn all_requested(
     alloc: Global,
     value_types: &[PatternType],
     type_constraints: &[TypeConstraint],
 ) -> Result<Vec<TypeConstraint>, AllocError>
-    ensures { IfOk result (λ v. v.items ≡ map (united.asked_in value_types.now) type_constraints.now) }
+    ensures { IfOk result (λ v. v.items ≡ map (united.requested_in value_types.now) type_constraints.now) }
 {
     let mut found = Vec::with_capacity(alloc, type_constraints.len())?;
     let mut rest = type_constraints;
     'type_constraints: while let [first, tail @ ..] = rest {
-        found.push(asked_in(value_types, first))?;
+        found.push(requested_in(value_types, first))?;
         rest = tail;
     }
     Ok(found)
@@ -191,12 +194,12 @@ fn all_old(
     value_types: &[PatternType],
     old: &[PatternOp],
 ) -> Result<Vec<PatternOp>, AllocError>
-    ensures { IfOk result (λ v. v.items ≡ map (united.piece_in value_types.now) old.now) }
+    ensures { IfOk result (λ v. v.items ≡ map (united.pattern_op_in value_types.now) old.now) }
 {
     let mut found = Vec::with_capacity(alloc, old.len())?;
     let mut rest = old;
     'old: while let [first, tail @ ..] = rest {
-        found.push(piece_in(value_types, first))?;
+        found.push(pattern_op_in(value_types, first))?;
         rest = tail;
     }
     Ok(found)
@@ -224,7 +227,7 @@ pub fn unify_types(alloc: Global, pattern: Pattern) -> Result<Pattern, AllocErro
 {
     let values = all_values(alloc, &pattern.value_types, &pattern.values)?;
     let extra = all_extra(alloc, &pattern.value_types, &pattern.extra)?;
-    let type_constraints = all_asked(alloc, &pattern.value_types, &pattern.type_constraints)?;
+    let type_constraints = all_requested(alloc, &pattern.value_types, &pattern.type_constraints)?;
     let given = all_given(alloc, &pattern.value_types, &pattern.given)?;
     let old = all_old(alloc, &pattern.value_types, &pattern.old)?;
     let new = all_new(alloc, &pattern.value_types, &pattern.new)?;

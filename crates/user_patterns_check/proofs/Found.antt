@@ -200,8 +200,8 @@ none_yet f = refl
 pub popped : (old prev new : List ℕ) (v n : ℕ) → prev ≡ old ++ (v ∷ []) → n ≡ length prev → new ≡ take (n - 1) prev → new ≡ old
 popped old prev new v n is long rest =
     let l : n - 1 ≡ length old = omega (arith, long, ap length is, length-append old (v ∷ [])) in
-    rest ∙ (λ i. take (l i) (is i)) ∙ take_front old (v ∷ [])
+    rest ∙ (λ i. take (l i) (is i)) ∙ take_preceding old (v ∷ [])
   where
-    take_front : (xs ys : List ℕ) → take (length xs) (xs ++ ys) ≡ xs
-    take_front [] ys = refl
-    take_front (x ∷ xs) ys = ap (λ us. x ∷ us) (take_front xs ys)
+    take_preceding : (xs ys : List ℕ) → take (length xs) (xs ++ ys) ≡ xs
+    take_preceding [] ys = refl
+    take_preceding (x ∷ xs) ys = ap (λ us. x ∷ us) (take_preceding xs ys)

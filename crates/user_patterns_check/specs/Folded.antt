@@ -10,7 +10,7 @@ use Rattle.dialects_int.specs.declared.operations.Cast.{Cast}
 use Rattle.dialects_int.specs.declared.operations.Rule.TheVariants as rule
 use Rattle.dialects_int.specs.Arithmetic.{value_of}
 use Rattle.dialects_int.specs.FoldLaws.{Folds}
-use Rattle.dialects_int.specs.Folds.{Known, asked, fold_of, property_of}
+use Rattle.dialects_int.specs.Folds.{Known, requested, fold_of, property_of}
 use Rattle.user_patterns_check.specs.Outcomes.{compare_outcome, is_signed_remainder, pair_outcome, resize_outcome, select_outcome}
 
 -- a remainder whose quotient overflows, which is 0 and folds to nothing
@@ -28,7 +28,7 @@ FoldsGive =
 abbrev pub ComparisonsGive : Type 0
 ComparisonsGive =
     (name : List ℕ) (p : Predicate) (props : List (List ℕ × AttrTerm)) (ty : TypeTerm) → Folds name rule.Compare props ty (kind.Int 1)
-    → asked (property_of (codes "predicate") props) ≡ Some p
+    → requested (property_of (codes "predicate") props) ≡ Some p
     → (k : BitsKind) (a b : ℕ) (v : Known) → compare_outcome p (Some (k, a)) (Some (k, b)) ≡ Some (Some v)
     → fold_of name props (Some (k, a) ∷ Some (k, b) ∷ []) (ty ∷ []) ≡ Some v
 

@@ -10,15 +10,16 @@ use Rattle.user_patterns_check.specs.Outcomes.{Outcome}
 use Rattle.user_patterns_data.specs.Fitting.{kind_at}
 use Rattle.width_claims.specs.declared.form.Form.TheVariants as form
 use Rattle.width_claims.specs.declared.form.Expr.{Expr}
-use Rattle.width_claims.specs.PieceValues.{at}
-use Rattle.user_patterns_claims.specs.declared.operand.Operand.{Operand}
-use Rattle.user_patterns_claims.specs.declared.operand.Poison.{Poison}
-use Rattle.user_patterns_claims.specs.declared.operand.Poison.TheVariants as poison
-use Rattle.user_patterns_claims.specs.Translation.{Made, Sides, both_true, is_one, known_and, poison_or, put, refined, sides, sides_by}
-use Rattle.user_patterns_claims.proofs.Pieces.{Base, Grown, Is, Makes, base_on, makes_next, makes_same, same, values}
-use Rattle.user_patterns_claims.proofs.Forms.{not_truth, put_and, put_or, put_same, put_xor}
-use Rattle.user_patterns_claims.proofs.Flags.{PoisonIs, or_truth}
-use Rattle.user_patterns_claims.proofs.Operands.{Stands, outcome_by, widths}
+use Rattle.width_claims.specs.PatternOpValues.{at}
+use Rattle.user_patterns_instructions.specs.declared.operand.Operand.{Operand}
+use Rattle.user_patterns_instructions.specs.declared.operand.Poison.{Poison}
+use Rattle.user_patterns_instructions.specs.declared.operand.Poison.TheVariants as poison
+use Rattle.user_patterns_instructions.specs.Expressions.{Made, put}
+use Rattle.user_patterns_claims.specs.Translation.{Sides, both_true, is_one, known_and, poison_or, refined, sides, sides_by}
+use Rattle.user_patterns_instructions.proofs.PatternOps.{Base, Grown, Is, Makes, base_on, makes_next, makes_same, same, values}
+use Rattle.user_patterns_instructions.proofs.Forms.{not_truth, put_and, put_or, put_same, put_xor}
+use Rattle.user_patterns_instructions.proofs.Flags.{PoisonIs, or_truth}
+use Rattle.user_patterns_instructions.proofs.Operands.{Stands, outcome_by, widths}
 
 -- the old outcome is poison, or the new outcome is known and equal
 refines_by : (k : BitsKind) (u v : ℕ) (b c : Bool) → refines (outcome_by k u b) (outcome_by k v c) ≡ (b || (not c && (u == v)))
@@ -32,7 +33,7 @@ and_truth true false = refl
 and_truth false true = refl
 and_truth false false = refl
 
-truth_one : (b : Bool) → truth b ≡ 1 → b ≡ true
+pub truth_one : (b : Bool) → truth b ≡ 1 → b ≡ true
 truth_one true e = refl
 truth_one false e = absurd (omega (arith, e))
 

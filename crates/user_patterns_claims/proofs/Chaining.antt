@@ -9,8 +9,8 @@ use Rattle.user_patterns_data.specs.declared.pattern.PatternType.{PatternType}
 use Rattle.user_patterns_data.specs.declared.pattern.ConstantExpression.{ConstantExpression}
 use Rattle.width_claims.specs.declared.form.Expr.{Expr}
 use Rattle.width_claims.specs.declared.width.Narrower.{Narrower}
-use Rattle.user_patterns_claims.specs.declared.instruction.Instruction.{Instruction}
-use Rattle.user_patterns_claims.specs.declared.operand.Operand.{Operand}
+use Rattle.user_patterns_instructions.specs.declared.instruction.Instruction.{Instruction}
+use Rattle.user_patterns_instructions.specs.declared.operand.Operand.{Operand}
 use Rattle.user_patterns_claims.specs.Code.{IsReachedState, state}
 use Rattle.user_patterns_claims.specs.Translation.{State, all_translated, extra_instruction, number_instruction, translated}
 

@@ -25,20 +25,25 @@ use Rattle.user_patterns_data.specs.declared.pattern.ConstantExpression.{Constan
 use Rattle.user_patterns_data.specs.declared.pattern.ConstantExpression.TheVariants as number
 use Rattle.user_patterns_data.specs.declared.pattern.NewValue.{NewValue}
 use Rattle.user_patterns_data.specs.declared.pattern.NewValue.TheVariants as new
-use Rattle.user_patterns_data.specs.Fitting.{content_with, fits, form_step, extra_fits, extra_step, is_asked, kind_at, new_step, number_fits, number_step, piece_step}
+use Rattle.user_patterns_data.specs.Fitting.{content_with, fits, form_step, extra_fits, extra_step, is_requested, kind_at, new_step, number_fits, number_step, pattern_op_step}
 use Rattle.user_patterns_data.specs.Shapes.{PatternModel}
 use Rattle.width_claims.specs.declared.width.Narrower.{Narrower}
 use Rattle.width_claims.specs.Right.{AreNarrower, FitWidths}
-use Rattle.user_patterns_claims.specs.declared.instruction.Instruction.{Instruction}
-use Rattle.user_patterns_claims.specs.declared.operand.Operand.{Operand}
-use Rattle.user_patterns_claims.specs.Outcomes.{AreKindsOf, AreOutcomes, IsNumberIf, OutcomesDecide, are_kinds, keeps_outcomes}
-use Rattle.user_patterns_claims.specs.Settled.{AreClaimsTrue, ClaimsDecide, IsReached}
-use Rattle.user_patterns_claims.specs.Translation.{Goal, Sides, State, all_translated, claim_from, claim_types, extra_instruction, first_state, form_instruction, given_instructions, goal_from, goal_of, narrower_types, new_instruction, new_instructions, number_instruction, old_form, old_instruction, old_instructions, operand_at, sides, variables}
-use Rattle.user_patterns_claims.proofs.Pieces.{many}
-use Rattle.user_patterns_claims.proofs.Operands.{Stands, stands_still}
+use Rattle.user_patterns_instructions.specs.declared.instruction.Instruction.{Instruction}
+use Rattle.user_patterns_instructions.specs.declared.operand.Operand.{Operand}
+use Rattle.user_patterns_instructions.specs.declared.operand.Poison.{Poison}
+use Rattle.user_patterns_instructions.specs.declared.operand.Poison.TheVariants as poison
+use Rattle.user_patterns_instructions.proofs.Flags.{PoisonIs}
+use Rattle.dialects_int.specs.Arithmetic.{truth}
+use Rattle.user_patterns_claims.specs.Outcomes.{AreKindsOf, AreOutcomes, IsNumberIf, OutcomesDecide, are_kinds, is_number_at, keeps_outcomes, old_result}
+use Rattle.user_patterns_claims.specs.Settled.{AreClaimsTrue, AreEmptyClaimsTrue, ClaimsDecide, EmptyClaimsDecide, IsReached}
+use Rattle.user_patterns_instructions.specs.Expressions.{claim_types, narrower_types, operand_at}
+use Rattle.user_patterns_claims.specs.Translation.{Goal, Sides, State, all_translated, claim_from, empty_goal_from, empty_goal_of, empty_sides, extra_instruction, first_state, form_instruction, given_instructions, goal_from, goal_of, new_instruction, new_instructions, number_instruction, old_form, old_instruction, old_instructions, sides, variables}
+use Rattle.user_patterns_instructions.proofs.PatternOps.{Is, many}
+use Rattle.user_patterns_instructions.proofs.Operands.{Stands, outcome_by, stands_still}
 use Rattle.user_patterns_claims.proofs.Typing.{claim_kinds}
 use Rattle.user_patterns_claims.proofs.Instructions.{AllGo, Holds, Reached, all_go, found, instruction_fits, instruction_step, is_partial, ones_still}
-use Rattle.user_patterns_claims.proofs.BothSides.{ClaimsSome, sides_claim}
+use Rattle.user_patterns_claims.proofs.BothSides.{ClaimsSome, sides_claim, truth_one}
 use Rattle.user_patterns_claims.proofs.VariableOutcomes.{are_narrower, conditions_hold, VariablesHold, first_holds, fit, masks_of, number_of, set_low, set_of, variables_hold}
 
 -- ---- a pattern's steps are those of its instructions
@@ -74,8 +79,8 @@ module _ (ks : List BitsKind) where
   old_form_alike t (op_form.IntegerCast c i) = refl
   old_form_alike t (op_form.IndexCast c i) = refl
 
-  piece_alike : (o : matched.PatternOp) → piece_step ks o ≡ instruction_step ks (old_instruction o)
-  piece_alike o = old_form_alike o.ty o.form
+  pattern_op_alike : (o : matched.PatternOp) → pattern_op_step ks o ≡ instruction_step ks (old_instruction o)
+  pattern_op_alike o = old_form_alike o.ty o.form
 
   new_alike : (n : NewValue) → new_step ks n ≡ instruction_step ks (new_instruction n)
   new_alike (new.Operation o) = form_alike o.ty o.form
@@ -91,7 +96,7 @@ module _ (ks : List BitsKind) where
       ∙ sym (map-append (instruction_step ks) (map extra_instruction p.extra) (map number_instruction p.given))
 
   old_alike : (p : PatternModel) → Content.old (content_with ks p) ≡ map (instruction_step ks) (old_instructions p)
-  old_alike p = all_alike (piece_step ks) old_instruction piece_alike p.old
+  old_alike p = all_alike (pattern_op_step ks) old_instruction pattern_op_alike p.old
 
   new_same : (p : PatternModel) → Content.new (content_with ks p) ≡ map (instruction_step ks) (new_instructions p)
   new_same p = all_alike (new_step ks) new_instruction new_alike p.new
@@ -186,7 +191,7 @@ module _ (p : PatternModel) (ks : List BitsKind) (aligned : AreKindsOf p.value_t
   many_values i (t ∷ tys) [] a = absurd a
   many_values i (t ∷ tys) (x ∷ xs) a = let h = many_values (i + 1) tys xs a.2 in omega (arith, h)
 
-  module _ (type_constraints : list_all (is_asked ks) p.type_constraints ≡ true) where
+  module _ (type_constraints : list_all (is_requested ks) p.type_constraints ≡ true) where
     narrow : AreNarrower ws ns
     narrow = are_narrower W most p.value_types ks aligned wide p.type_constraints type_constraints
 
@@ -198,7 +203,7 @@ module _ (p : PatternModel) (ks : List BitsKind) (aligned : AreKindsOf p.value_t
         on : (alike : (x.ty == y.ty) ≡ true) (o : Option Sides) → ClaimsSome W vs js refl d.exprs o (refines q r ≡ true) → IsReached (Some (claim_from p d.conditions o)) → refines q r ≡ true
         on alike None c g = c
         on alike (Some m) c g =
-            let in_pieces = many W vs ws m.0 in
+            let in_pattern_ops = many W vs ws m.0 in
             let left_in = c.left_in in
             let right_in = c.right_in in
             let long : length (map number_of os) ≡ length p.values = length-map os number_of ∙ sym (many_values 0 p.values os are) in
@@ -206,7 +211,7 @@ module _ (p : PatternModel) (ks : List BitsKind) (aligned : AreKindsOf p.value_t
             let ones = ones_still W most vs p.value_types ks aligned wide d.exprs m.0 d.conditions c.grown h.ones in
             c.follows
             (g W vs ws (omega arith) fits_here narrow c.grown.right (conditions_hold W most vs p ks aligned wide m.0 d.conditions ones)
-            (omega (arith, left_in, in_pieces)) (omega (arith, right_in, in_pieces)))
+            (omega (arith, left_in, in_pattern_ops)) (omega (arith, right_in, in_pattern_ops)))
 
         go : (b : Bool) → (x.ty == y.ty) ≡ b → IsReached (if b then Some (claim_from p d.conditions (sides x y d.exprs)) else None) → refines q r ≡ true
         go false e g = absurd g
@@ -272,18 +277,95 @@ module _ (p : PatternModel) (ks : List BitsKind) (aligned : AreKindsOf p.value_t
         ∙ given_ran (list_any is_partial (given_instructions p)) a.0 (all_translated p.value_types ns (given_instructions p) a.0) (run (map (instruction_step ks) (given_instructions p)) os)
         (all_go W most vs p.value_types ks aligned wide ns narrow (given_instructions p) a.0 os holds fit_given) a.2
 
+    -- the old result is poison
+    poison_is : (c : State) (env : List Outcome) (x : Operand) (q : Outcome) → Holds W most vs p.value_types ks aligned wide c env → Stands W vs js refl c.exprs x q
+        → IsReached (empty_goal_from p c x) → is_number_at (Some q) ≡ false
+    poison_is c env x q h s reach = go x.poison s.poison_is reach
+      where
+        none : s.poisoned ≡ true → is_number_at (Some q) ≡ false
+        none e = ap (λ r. is_number_at (Some r)) (s.is ∙ ap (outcome_by (kind_at js x.ty) s.number) e)
+
+        claimed : (i a : ℕ) → Is W vs ws c.exprs i 0 a → IsReached (Some (claim_from p c.conditions (Some (c.exprs, i, 1)))) → a ≡ 1
+        claimed i a is g =
+            let in_pattern_ops = many W vs ws c.exprs in
+            let left_in = is.below in
+            let right_in = h.base.one_is.below in
+            let long : length (map number_of os) ≡ length p.values = length-map os number_of ∙ sym (many_values 0 p.values os are) in
+            let fits_here = subst (λ (n : ℕ). FitWidths W vs n (claim_types p.value_types) ws) long (fit W most p.value_types ks (map number_of os) aligned wide) in
+            sym is.value
+            ∙ g W vs ws (omega arith) fits_here narrow h.base.right (conditions_hold W most vs p ks aligned wide c.exprs c.conditions h.ones)
+            (omega (arith, left_in, in_pattern_ops)) (omega (arith, right_in, in_pattern_ops))
+            ∙ h.base.one_is.value
+
+        go : (f : Poison) → PoisonIs W vs ws c.exprs f s.poisoned → IsReached (Some (claim_from p c.conditions (empty_sides f c.exprs))) → is_number_at (Some q) ≡ false
+        go poison.Always i g = none i
+        go (poison.When f) i g = none (truth_one s.poisoned (claimed f (truth s.poisoned) i g))
+        go poison.Never i g = let same = claimed 0 0 h.base.zero_is g in absurd (omega (arith, same))
+
+    abbrev empty_after : State → Option Goal
+    empty_after c = given (operand_at (State.operands c) p.root) (λ x. empty_goal_from p c x)
+
+    empty_root : (b c : State) (env : List Outcome) → Reached W most vs p.value_types ks aligned wide b c env → IsReached (empty_after c) → is_number_at (slice_get env p.root) ≡ false
+    empty_root b c env go reach =
+        let x = peel (operand_at (State.operands c) p.root) (λ x. empty_goal_from p c x) reach in
+        let f = found W most vs p.value_types ks aligned wide c.exprs c.operands env p.root x.0 go.holds.all x.1 in
+        ap is_number_at f.is ∙ poison_is c env x.0 f.outcome go.holds f.stands x.2
+
+    empty_old : (may : Bool) (b : State) (o : Option State) (r : Option (List Outcome)) → Go may b r o → IsReached (given o empty_after) → is_number_at (given r (λ env. slice_get env p.root)) ≡ false
+    empty_old may b None r g reach = absurd reach
+    empty_old may b (Some c) None g reach = refl
+    empty_old may b (Some c) (Some env) g reach = empty_root b c env g reach
+
+    abbrev empty_after_given : State → Option Goal
+    empty_after_given b = given (all_translated p.value_types ns (old_instructions p) b) empty_after
+
+    empty_given : (may : Bool) (a : State) (o : Option State) (r : Option (List Outcome)) → Go may a r o → IsReached (given o empty_after_given)
+        → is_number_at (given (given r (run content.old)) (λ env. slice_get env p.root)) ≡ false
+    empty_given may a None r g reach = absurd reach
+    empty_given may a (Some b) None g reach = refl
+    empty_given may a (Some b) (Some env) g reach =
+        ap (λ ss. is_number_at (given (run ss env) (λ env. slice_get env p.root))) (old_alike ks p)
+        ∙ empty_old (list_any is_partial (old_instructions p)) b (all_translated p.value_types ns (old_instructions p) b) (run (map (instruction_step ks) (old_instructions p)) env)
+        (all_go W most vs p.value_types ks aligned wide ns narrow (old_instructions p) b env g.holds (old_fit ks p.old)) reach
+
+    abbrev empty_after_variables : State → Option Goal
+    empty_after_variables a = given (all_translated p.value_types ns (given_instructions p) a) empty_after_given
+
+    empty_decided : list_all (instruction_fits ks) (given_instructions p) ≡ true → IsReached (empty_goal_of p (set_of p 0 p.values os))
+        → is_number_at (given (given (run content.given os) (run content.old)) (λ env. slice_get env p.root)) ≡ false
+    empty_decided fit_given reach =
+        let a = peel (variables p 0 p.values (set_of p 0 p.values os) first_state) empty_after_variables reach in
+        let start = variables_hold W most vs p ks aligned wide p.values os [] 0 (masks_of js) first_state (first_holds W most vs p ks aligned wide) refl are refl in
+        let holds : Holds W most vs p.value_types ks aligned wide a.0 os = subst (λ (o : Option State). VariablesHold W most vs p ks aligned wide o os) a.1 start in
+        ap (λ ss. is_number_at (given (given (run ss os) (run content.old)) (λ env. slice_get env p.root))) (given_alike ks p)
+        ∙ empty_given (list_any is_partial (given_instructions p)) a.0 (all_translated p.value_types ns (given_instructions p) a.0) (run (map (instruction_step ks) (given_instructions p)) os)
+        (all_go W most vs p.value_types ks aligned wide ns narrow (given_instructions p) a.0 os holds fit_given) a.2
+
+  pub empty_all : AreEmptyClaimsTrue p → is_number_at (old_result content os) ≡ false
+  empty_all all = go (fits ks p) refl
+    where
+      go : (b : Bool) → fits ks p ≡ b → is_number_at (given (if b then given (run content.given os) (run content.old) else None) (λ env. slice_get env p.root)) ≡ false
+      go false e = refl
+      go true e =
+          let h = and_parts (list_all (is_requested ks) p.type_constraints) _ e in
+          let f = and_parts (list_all (extra_fits ks) p.extra) (list_all (number_fits ks) p.given) h.1 in
+          empty_decided h.0 (given_fit ks p.extra p.given f.0 f.1) (all (set_of p 0 p.values os) (set_low p ks 0 p.values os are))
+
   pub keeps_all : AreClaimsTrue p → keeps_outcomes content os ≡ true
   keeps_all all = go (fits ks p) refl
     where
       go : (b : Bool) → fits ks p ≡ b → old_ran content (if b then given (run content.given os) (run content.old) else None) ≡ true
       go false e = refl
       go true e =
-          let h = and_parts (list_all (is_asked ks) p.type_constraints) _ e in
+          let h = and_parts (list_all (is_requested ks) p.type_constraints) _ e in
           let f = and_parts (list_all (extra_fits ks) p.extra) (list_all (number_fits ks) p.given) h.1 in
           decided h.0 (given_fit ks p.extra p.given f.0 f.1) (all (set_of p 0 p.values os) (set_low p ks 0 p.values os are))
 
 pub claims_decide : ClaimsDecide
 claims_decide p all ks wide aligned os are = keeps_all p ks aligned wide os are all
+
+pub empty_claims_decide : EmptyClaimsDecide
+empty_claims_decide p all ks wide aligned os are = empty_all p ks aligned wide os are all
 
 -- ---- values are outcomes
 

@@ -28,19 +28,20 @@ use Rattle.user_patterns_data.specs.Fitting.{again_step, is_literal_of, kind_at,
 use Rattle.width_claims.specs.declared.form.Form.TheVariants as form
 use Rattle.width_claims.specs.declared.form.Expr.{Expr}
 use Rattle.width_claims.specs.declared.width.Narrower.{Narrower}
-use Rattle.width_claims.specs.PieceValues.{at, piece_value}
+use Rattle.width_claims.specs.PatternOpValues.{at, pattern_op_value}
 use Rattle.width_claims.specs.Right.{AreNarrower, IsRight}
-use Rattle.user_patterns_claims.specs.declared.instruction.Instruction.{Instruction}
-use Rattle.user_patterns_claims.specs.declared.instruction.Instruction.TheVariants as instruction
-use Rattle.user_patterns_claims.specs.declared.operand.Operand.{Operand}
-use Rattle.user_patterns_claims.specs.declared.operand.Poison.{Poison}
-use Rattle.user_patterns_claims.specs.declared.operand.Poison.TheVariants as poison
+use Rattle.user_patterns_instructions.specs.declared.instruction.Instruction.{Instruction}
+use Rattle.user_patterns_instructions.specs.declared.instruction.Instruction.TheVariants as instruction
+use Rattle.user_patterns_instructions.specs.declared.operand.Operand.{Operand}
+use Rattle.user_patterns_instructions.specs.declared.operand.Poison.{Poison}
+use Rattle.user_patterns_instructions.specs.declared.operand.Poison.TheVariants as poison
 use Rattle.user_patterns_claims.specs.Outcomes.{AreKindsOf, are_kinds}
-use Rattle.user_patterns_claims.specs.Translation.{Result, State, all_translated, compare_result, divide_result, literal_form, literal_result, log_state, number_state, operand_at, pair_result, power_made, power_there, put, required, resize_result, result_of, select_result, top_power, translated, type_at, unchanged, unknown, with_condition, with_fitting, with_number, with_result, with_some}
-use Rattle.user_patterns_claims.proofs.Pieces.{Base, Grown, Is, base_on, grown_next, made, makes_next, makes_same, piece_types, same, values}
-use Rattle.user_patterns_claims.proofs.Forms.{put_less, put_number, put_subtract, put_xor}
-use Rattle.user_patterns_claims.proofs.Flags.{PoisonIs}
-use Rattle.user_patterns_claims.proofs.Operands.{Divides, Gives, GivesSome, Stands, again, compare_gives, divide_gives, outcome_by, pair_gives, resize_gives, select_gives, stands_still, width_is}
+use Rattle.user_patterns_instructions.specs.Expressions.{Result, compare_result, divide_result, literal_form, operand_at, pair_result, put, resize_result, select_result, type_at, unknown}
+use Rattle.user_patterns_claims.specs.Translation.{State, all_translated, literal_result, log_state, number_state, power_made, power_there, required, result_of, top_power, translated, unchanged, with_condition, with_fitting, with_number, with_result, with_some}
+use Rattle.user_patterns_instructions.proofs.PatternOps.{Base, Grown, Is, base_on, grown_next, made, makes_next, makes_same, pattern_op_types, same, values}
+use Rattle.user_patterns_instructions.proofs.Forms.{put_less, put_number, put_subtract, put_xor}
+use Rattle.user_patterns_instructions.proofs.Flags.{PoisonIs}
+use Rattle.user_patterns_instructions.proofs.Operands.{Divides, Gives, GivesSome, Stands, again, compare_gives, divide_gives, outcome_by, pair_gives, resize_gives, select_gives, stands_still, width_is}
 use Rattle.user_patterns_claims.proofs.Typing.{top_low, top_some, TypeIs, claim_kinds, literal_is, type_is}
 
 -- the step of an instruction
@@ -239,11 +240,11 @@ module _ (W : ℕ) (most : most_width ≤ W) (vs : List ℕ) (value_types : List
           stands = record { number = x; poisoned = false; number_is = a.is; poison_is = refl; is = refl; written_is = (refl, low, refl) };
         }
       where
-        right : (b : Bool) (w : ℕ) → l.magnitude < 2 ^ w → IsRight W ws (piece_types s.exprs) w (if b then form.Negative l.magnitude else form.Literal l.magnitude)
+        right : (b : Bool) (w : ℕ) → l.magnitude < 2 ^ w → IsRight W ws (pattern_op_types s.exprs) w (if b then form.Negative l.magnitude else form.Literal l.magnitude)
         right true w g = g
         right false w g = tt
 
-        value : (b : Bool) (w : ℕ) → piece_value ws vs w (if b then form.Negative l.magnitude else form.Literal l.magnitude) (values W vs ws s.exprs) ≡ wrapped w (literal_number b l.magnitude)
+        value : (b : Bool) (w : ℕ) → pattern_op_value ws vs w (if b then form.Negative l.magnitude else form.Literal l.magnitude) (values W vs ws s.exprs) ≡ wrapped w (literal_number b l.magnitude)
         value true w = refl
         value false w = refl
 

@@ -1,10 +1,3 @@
-pub mod Pieces
-pub mod Forms
-pub mod Ranges
-pub mod Multiples
-pub mod Shifting
-pub mod Flags
-pub mod Operands
 pub mod Typing
 pub mod Instructions
 pub mod BothSides
@@ -13,3 +6,4 @@ pub mod Plain
 pub mod Deciding
 pub mod Chaining
 pub mod Answering
+pub mod Decoded

@@ -4,11 +4,11 @@ use Rattle.std.specs.Prelude.{IfOk, Result, Ok, Err}
 use Rattle.user_patterns_data.specs.declared.pattern.PatternType.{PatternType}
 use Rattle.width_claims.specs.declared.form.Expr.{Expr}
 use Rattle.width_claims.specs.declared.width.Narrower.{Narrower}
-use Rattle.user_patterns_claims.specs.declared.instruction.Instruction.{Instruction}
-use Rattle.user_patterns_claims.specs.declared.instruction.Instruction.TheVariants as instruction
-use Rattle.user_patterns_claims.specs.declared.operand.Operand.{Operand}
+use Rattle.user_patterns_instructions.specs.declared.instruction.Instruction.{Instruction}
+use Rattle.user_patterns_instructions.specs.declared.instruction.Instruction.TheVariants as instruction
+use Rattle.user_patterns_instructions.specs.declared.operand.Operand.{Operand}
 use Rattle.user_patterns_claims.specs.Code.{IsPlain, IsStateIf}
-use Rattle.user_patterns_claims.specs.Translation as translation
+use Rattle.user_patterns_instructions.specs.Expressions as expressions
 use Rattle.user_patterns_claims.specs.Translation.{State, result_of, translated, with_some}
 
 abbrev pub is_plain : Instruction → Bool
@@ -18,7 +18,7 @@ is_plain (instruction.Log i) = false
 is_plain _ = true
 
 module _ (ks : List PatternType) (ns : List Narrower) (s : State) (ps : List Expr) (os : List Operand) where
-  some_state : (done : Bool) (r : Option translation.Result) → IsPlain r s.operands ps os done → IsStateIf (with_some s r) ps os s.conditions done
+  some_state : (done : Bool) (r : Option expressions.Result) → IsPlain r s.operands ps os done → IsStateIf (with_some s r) ps os s.conditions done
   some_state done None h = h
   some_state done (Some r) h = (h.0, h.1, h.2, refl)
 

@@ -17,11 +17,12 @@ use Rattle.user_patterns_data.specs.declared.pattern.PatternType.{PatternType}
 use Rattle.user_patterns_data.specs.declared.pattern.PatternType.TheVariants as ty
 use Rattle.user_patterns_data.specs.declared.pattern.Literal.{Literal}
 use Rattle.user_patterns_data.specs.Fitting.{bits_with, is_literal_of, kind_at, or_zero}
-use Rattle.width_claims.specs.PieceValues.{at}
+use Rattle.width_claims.specs.PatternOpValues.{at}
 use Rattle.width_claims.specs.Right.{IsBelow}
 use Rattle.user_patterns_claims.specs.Outcomes.{AreKindsOf, are_kinds}
-use Rattle.user_patterns_claims.specs.Translation.{is_one_bit, is_repeated, top_power, type_at, type_if, type_number}
-use Rattle.user_patterns_claims.proofs.Operands.{width_is}
+use Rattle.user_patterns_instructions.specs.Expressions.{is_one_bit, is_repeated, type_at, type_if, type_number}
+use Rattle.user_patterns_claims.specs.Translation.{top_power}
+use Rattle.user_patterns_instructions.proofs.Operands.{width_is}
 
 pub width_low : (W w : ℕ) → most_width ≤ W → is_width w ≡ true → IsBelow W w
 width_low W w most e =

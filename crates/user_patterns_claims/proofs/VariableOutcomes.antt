@@ -17,7 +17,7 @@ use Rattle.user_patterns_data.specs.declared.pattern.PatternType.{PatternType}
 use Rattle.user_patterns_data.specs.declared.pattern.PatternType.TheVariants as ty
 use Rattle.user_patterns_data.specs.declared.pattern.TypeConstraint.{TypeConstraint}
 use Rattle.user_patterns_data.specs.declared.pattern.TypeConstraint.TheVariants as type_constraints
-use Rattle.user_patterns_data.specs.Fitting.{is_asked, is_integer, kind_at}
+use Rattle.user_patterns_data.specs.Fitting.{is_requested, is_integer, kind_at}
 use Rattle.user_patterns_data.specs.Shapes.{PatternModel}
 use Rattle.width_claims.specs.Masks.{mask}
 use Rattle.width_claims.specs.declared.form.Form.TheVariants as form
@@ -25,15 +25,16 @@ use Rattle.width_claims.specs.declared.form.Expr.{Expr}
 use Rattle.width_claims.specs.declared.width.Narrower.{Narrower}
 use Rattle.width_claims.specs.declared.width.Width.{Width}
 use Rattle.width_claims.specs.declared.width.Width.TheVariants as width
-use Rattle.width_claims.specs.PieceValues.{at}
+use Rattle.width_claims.specs.PatternOpValues.{at}
 use Rattle.width_claims.specs.Right.{AreNarrower, ConditionsHold, FitWidths, IsBelow}
-use Rattle.user_patterns_claims.specs.declared.operand.Poison.{Poison}
-use Rattle.user_patterns_claims.specs.declared.operand.Poison.TheVariants as poison
+use Rattle.user_patterns_instructions.specs.declared.operand.Poison.{Poison}
+use Rattle.user_patterns_instructions.specs.declared.operand.Poison.TheVariants as poison
 use Rattle.user_patterns_claims.specs.Outcomes.{AreKindsOf, AreOutcomes, IsNumberIf, IsOutcome, are_kinds}
-use Rattle.user_patterns_claims.specs.Translation.{State, bit_flag, claim_types, first_state, is_constant, narrower_types, put, set_count, is_repeated, type_at, types_from, variable_result, variables, width_if, with_narrower, with_variable}
-use Rattle.user_patterns_claims.proofs.Pieces.{made, many, values}
-use Rattle.user_patterns_claims.proofs.Flags.{PoisonIs}
-use Rattle.user_patterns_claims.proofs.Operands.{outcome_by, width_is}
+use Rattle.user_patterns_instructions.specs.Expressions.{claim_types, narrower_types, put, is_repeated, type_at, types_from, width_if, with_narrower}
+use Rattle.user_patterns_claims.specs.Translation.{State, bit_flag, first_state, is_constant, set_count, variable_result, variables, with_variable}
+use Rattle.user_patterns_instructions.proofs.PatternOps.{made, many, values}
+use Rattle.user_patterns_instructions.proofs.Flags.{PoisonIs}
+use Rattle.user_patterns_instructions.proofs.Operands.{outcome_by, width_is}
 use Rattle.user_patterns_claims.proofs.Typing.{TypeIs, claim_kinds, kind_if, kinds_from, type_is, width_low}
 use Rattle.user_patterns_claims.proofs.Instructions.{AllOnes, Holds, reached}
 
@@ -114,11 +115,11 @@ module _ (W : ℕ) (most : most_width ≤ W) (value_types : List PatternType) (k
       let second = width_is (claim_kinds value_types ks) v ∙ ap width_of (type_is W most value_types ks t v aligned wide f).same in
       (subst (λ (n : ℕ). n < at ws v) (sym first) (subst (λ (n : ℕ). width_of (kind_at ks s) < n) (sym second) l), a)
 
-  pub are_narrower : (l : List TypeConstraint) → list_all (is_asked ks) l ≡ true → AreNarrower ws (narrower_types value_types l)
+  pub are_narrower : (l : List TypeConstraint) → list_all (is_requested ks) l ≡ true → AreNarrower ws (narrower_types value_types l)
   are_narrower [] e = tt
-  are_narrower (type_constraints.Integer t ∷ more) e = are_narrower more (and_parts (is_integer (kind_at ks t)) (list_all (is_asked ks) more) e).1
+  are_narrower (type_constraints.Integer t ∷ more) e = are_narrower more (and_parts (is_integer (kind_at ks t)) (list_all (is_requested ks) more) e).1
   are_narrower (type_constraints.Narrower s t ∷ more) e =
-      let h = and_parts (is_asked ks (type_constraints.Narrower s t)) (list_all (is_asked ks) more) e in
+      let h = and_parts (is_requested ks (type_constraints.Narrower s t)) (list_all (is_requested ks) more) e in
       let less = (and_parts (is_integer (kind_at ks t)) (nat_lt (width_of (kind_at ks s)) (width_of (kind_at ks t))) (and_parts (is_integer (kind_at ks s)) (is_integer (kind_at ks t) && nat_lt (width_of (kind_at ks s)) (width_of (kind_at ks t))) h.0).1).1 in
       narrower_more s t (narrower_types value_types more) (less_from (width_of (kind_at ks s)) (width_of (kind_at ks t)) less) (are_narrower more h.1) (type_at value_types s) (type_at value_types t) refl refl
 

@@ -2,3 +2,5 @@ pub mod Outcomes
 pub mod Translation
 pub mod Settled
 pub mod Code
+pub mod Decoding
+pub mod Answered

@@ -1,12 +1,12 @@
 -- The meaning of a pattern at all widths. An outcome of a variable is poison or a number of its kind. An outcome of a
 -- constant is a number. If the old steps are defined, the new steps are defined, and if the old result is a number,
 -- the new result is the same number.
-use Rattle.std.specs.Prelude.{◌≡◌, ◌^◌, ◌<◌, ◌+◌, ℕ, List, [], ◌∷◌, Bool, true, Option, Some, None, eqb, if◌then◌else◌}
+use Rattle.std.specs.Prelude.{◌≡◌, ◌^◌, ◌<◌, ◌+◌, ℕ, List, [], ◌∷◌, Bool, true, false, Option, Some, None, eqb, slice_get, if◌then◌else◌}
 use Rattle.std.specs.List.{list_all, list_any}
 use Rattle.ir_types.specs.declared.bits.BitsKind.{BitsKind}
 use Rattle.ir_types.specs.Bits.{width_of}
 use Rattle.ir_types.specs.Reasons.{is_width}
-use Rattle.user_patterns_check.specs.Checks.{AlwaysKeeps, old_ran}
+use Rattle.user_patterns_check.specs.Checks.{AlwaysKeeps, old_ran, shown}
 use Rattle.user_patterns_check.specs.Contents.{Content}
 use Rattle.user_patterns_check.specs.Outcomes.{Outcome, given, run}
 use Rattle.user_patterns_data.specs.declared.pattern.PatternType.{PatternType}
@@ -17,6 +17,13 @@ use Rattle.user_patterns_data.specs.Shapes.{PatternModel}
 -- the outcomes after the old steps, for outcomes of the variables
 abbrev pub old_outcomes : Content → List Outcome → Option (List Outcome)
 old_outcomes s os = if s.applies then given (run s.given os) (run s.old) else None
+
+-- the results of the old and the new side, or none if a step is undefined or the pattern doesn't apply
+abbrev pub old_result : Content → List Outcome → Option Outcome
+old_result s os = given (old_outcomes s os) (λ env. slice_get env s.old_result)
+
+abbrev pub new_result : Content → List Outcome → Option Outcome
+new_result s os = given (old_outcomes s os) (λ env. shown s.new_result (run s.new env))
 
 -- whether the new side refines the old side, for these outcomes of the variables
 abbrev pub keeps_outcomes : Content → List Outcome → Bool
@@ -61,3 +68,17 @@ HoldsAtAllWidths p =
 -- values are outcomes that are numbers, so a pattern that holds at all widths refines for all values
 abbrev pub OutcomesDecide : Type 0
 OutcomesDecide = (p : PatternModel) → HoldsAtAllWidths p → (ks : List BitsKind) → are_kinds ks ≡ true → AreKindsOf p.value_types ks → AlwaysKeeps (content_with ks p)
+
+-- ---- patterns whose old side is never a number
+
+-- whether a result is a number
+abbrev pub is_number_at : Option Outcome → Bool
+is_number_at (Some (Some x)) = true
+is_number_at _ = false
+
+-- the old side is never a number, at all widths and for all outcomes: the pattern doesn't apply, or the old side is
+-- undefined or poison
+abbrev pub IsNeverNumber : PatternModel → Type 0
+IsNeverNumber p =
+    (ks : List BitsKind) → are_kinds ks ≡ true → AreKindsOf p.value_types ks
+    → (os : List Outcome) → AreOutcomes p ks 0 p.values os → is_number_at (old_result (content_with ks p) os) ≡ false

@@ -1,18 +1,20 @@
 //! Whether a pattern holds at every width.
-ghost use Rattle.std.specs.Prelude.{◌≡◌, [], IfOk};
+ghost use Rattle.std.specs.Prelude.{◌≡◌, [], IfOk, Some};
 ghost use Rattle.user_patterns_data.specs.Shapes.{pattern_model};
 ghost use Rattle.user_patterns_claims.specs.Code.{state};
-ghost use Rattle.user_patterns_claims.specs.Settled.{AreGoalsDecided, IsGoalDecided, IsPatternDecided, decision_by};
-ghost use Rattle.user_patterns_claims.specs.Translation.{goal_from, goal_of};
+ghost use Rattle.user_patterns_claims.specs.Settled.{AreGoalsDecided, IsAimDecided, IsEmptyDecided, IsGoalDecided, IsPatternDecided, decision_by};
+ghost use Rattle.user_patterns_claims.specs.Translation.{claim_from, empty_goal_of, empty_sides, goal_for, goal_from, goal_of};
 
+use crate::aim::Aim;
 use crate::decision::Decision;
-use crate::goal::{Results, translate_pattern};
+use crate::goal::{Results, translate_old, translate_pattern};
 use crate::question::Question;
 use crate::refining::sides;
-use crate::types::{push_narrower, push_widths};
 use crate::variables::set_count;
 use std::alloc::{AllocError, Global};
 use user_patterns_data::pattern::Pattern;
+use user_patterns_instructions::operand::{Operand, Poison};
+use user_patterns_instructions::types::{push_narrower, push_widths};
 use width_claims::claim::decide_equal;
 use width_claims::form::Expr;
 use width_claims::verdict::Verdict;
@@ -53,8 +55,8 @@ fn decide_results(
     )
 }
 
-/// Whether the goal for a set of poison variables is reached.
-fn decide_set(alloc: Global, question: &Question, set: usize) -> Result<Verdict, AllocError>
+/// Whether the new side refines the old side for a set of poison variables.
+fn decide_refines(alloc: Global, question: &Question, set: usize) -> Result<Verdict, AllocError>
     ensures { IfOk result (IsGoalDecided (goal_of (pattern_model question.now.pattern.now) set)) }
 {
     let mut exprs = Vec::new(alloc);
@@ -74,6 +76,83 @@ fn decide_set(alloc: Global, question: &Question, set: usize) -> Result<Verdict,
     decide_results(alloc, question, &results, &mut exprs, &conditions)
 }
 
+/// Whether the value at a place is 1.
+fn decide_one(
+    alloc: Global,
+    question: &Question,
+    exprs: &[Expr],
+    conditions: &[usize],
+    place: usize,
+) -> Result<Verdict, AllocError>
+    ensures { IfOk result (IsGoalDecided (Some (claim_from (pattern_model question.now.pattern.now) conditions.now (Some (exprs.now, place, 1))))) }
+{
+    decide_equal(
+        alloc,
+        question.pattern.values.len(),
+        question.types,
+        question.narrower,
+        exprs,
+        conditions,
+        place,
+        1,
+        question.most,
+    )
+}
+
+/// Whether the old result is poison.
+fn decide_poison(
+    alloc: Global,
+    question: &Question,
+    old: &Operand,
+    exprs: &[Expr],
+    conditions: &[usize],
+) -> Result<Verdict, AllocError>
+    ensures { IfOk result (IsGoalDecided (Some (claim_from (pattern_model question.now.pattern.now) conditions.now (empty_sides old.now.poison exprs.now)))) }
+{
+    match old.poison {
+        Poison::Always => Ok(Verdict::Always),
+        Poison::When(place) => decide_one(alloc, question, exprs, conditions, place),
+        Poison::Never => decide_one(alloc, question, exprs, conditions, 0),
+    }
+}
+
+/// Whether the old side is never a number for a set of poison variables.
+fn decide_empty_set(alloc: Global, question: &Question, set: usize) -> Result<Verdict, AllocError>
+    ensures { IfOk result (IsGoalDecided (empty_goal_of (pattern_model question.now.pattern.now) set)) }
+{
+    let mut exprs = Vec::new(alloc);
+    let mut operands = Vec::new(alloc);
+    let mut conditions = Vec::new(alloc);
+    let old = translate_old(
+        question.pattern,
+        question.narrower,
+        set,
+        &mut exprs,
+        &mut operands,
+        &mut conditions,
+    )?;
+    let Some(old) = old else {
+        return Ok(Verdict::TooMany);
+    };
+    decide_poison(
+        alloc,
+        question,
+        &old,
+        exprs.as_slice(),
+        conditions.as_slice(),
+    )
+}
+
+/// Whether the goal for a set of poison variables is reached.
+fn decide_set(alloc: Global, question: &Question, set: usize) -> Result<Verdict, AllocError>
+    ensures { IfOk result (IsGoalDecided (goal_for question.now.aim (pattern_model question.now.pattern.now) set)) }
+{
+    match question.aim {
+        Aim::Refines => decide_refines(alloc, question, set),
+        Aim::IsEmpty => decide_empty_set(alloc, question, set),
+    }
+}
+
 /// What a verdict on the goal for a set says of the pattern.
 fn decision_of(set: usize, verdict: Verdict) -> Decision
     ensures { result ≡ decision_by set verdict }
@@ -87,7 +166,7 @@ fn decision_of(set: usize, verdict: Verdict) -> Decision
 
 /// Whether the goals for the sets below a number are reached.
 fn decide_sets(alloc: Global, question: &Question, count: usize) -> Result<Decision, AllocError>
-    ensures { IfOk result (AreGoalsDecided (pattern_model question.now.pattern.now) count) }
+    ensures { IfOk result (AreGoalsDecided question.now.aim (pattern_model question.now.pattern.now) count) }
 {
     if count == 0 {
         return Ok(Decision::Always);
@@ -100,10 +179,14 @@ fn decide_sets(alloc: Global, question: &Question, count: usize) -> Result<Decis
     Ok(decision_of(count - 1, verdict))
 }
 
-/// Whether a pattern holds at every width, for all outcomes of its variables. Looks at no more than `most` transitions of
-/// each claim.
-pub fn decide_pattern(alloc: Global, pattern: &Pattern, most: usize) -> Result<Decision, AllocError>
-    ensures { IfOk result (IsPatternDecided (pattern_model pattern.now)) }
+/// Whether the goals for all sets of poison variables are reached.
+fn decide_aim(
+    alloc: Global,
+    pattern: &Pattern,
+    aim: Aim,
+    most: usize,
+) -> Result<Decision, AllocError>
+    ensures { IfOk result (IsAimDecided aim (pattern_model pattern.now)) }
 {
     if pattern.values.len() > MOST_VARIABLES || pattern.value_types.len() > MOST_VARIABLES {
         return Ok(Decision::Undecided);
@@ -127,9 +210,26 @@ pub fn decide_pattern(alloc: Global, pattern: &Pattern, most: usize) -> Result<D
     )?;
     let question = Question {
         pattern,
+        aim,
         types: types.as_slice(),
         narrower: narrower.as_slice(),
         most,
     };
     decide_sets(alloc, &question, count)
+}
+
+/// Whether a pattern holds at every width, for all outcomes of its variables. Looks at no more than `most` transitions of
+/// each claim.
+pub fn decide_pattern(alloc: Global, pattern: &Pattern, most: usize) -> Result<Decision, AllocError>
+    ensures { IfOk result (IsPatternDecided (pattern_model pattern.now)) }
+{
+    decide_aim(alloc, pattern, Aim::Refines, most)
+}
+
+/// Whether the old side of a pattern is never a number, at every width and for all outcomes of its variables. Looks at no
+/// more than `most` transitions of each claim.
+pub fn decide_empty(alloc: Global, pattern: &Pattern, most: usize) -> Result<Decision, AllocError>
+    ensures { IfOk result (IsEmptyDecided (pattern_model pattern.now)) }
+{
+    decide_aim(alloc, pattern, Aim::IsEmpty, most)
 }

@@ -2,14 +2,15 @@
 ghost use Rattle.std.specs.Prelude.{◌≡◌, ◌≤◌, [], IfOk, IfSome, length};
 ghost use Rattle.user_patterns_data.specs.Shapes.{pattern_model};
 ghost use Rattle.user_patterns_claims.specs.Code.{IsReachedState, state};
-ghost use Rattle.user_patterns_claims.specs.Translation.{all_translated, first_state, given_instructions, goal_from, goal_of, narrower_types, variables};
+ghost use Rattle.user_patterns_instructions.specs.Expressions.{narrower_types};
+ghost use Rattle.user_patterns_claims.specs.Translation.{all_translated, empty_goal_from, empty_goal_of, first_state, given_instructions, goal_from, goal_of, variables};
 
-use crate::operand::Operand;
 use crate::translate::operand_at;
 use crate::variables::variables;
 use crate::walk::{all_extra, all_new, all_numbers, all_old};
 use std::alloc::AllocError;
 use user_patterns_data::pattern::Pattern;
+use user_patterns_instructions::operand::Operand;
 use width_claims::form::{Expr, Form};
 use width_claims::width::Narrower;
 
@@ -104,4 +105,35 @@ pub fn translate_pattern(
         return Ok(None);
     };
     Ok(Some(Results { old, new }))
+}
+
+/// Translates the old side of a pattern for a set of poison variables. Returns its result, or `None` if claims can't
+/// express it.
+pub fn translate_old(
+    pattern: &Pattern,
+    narrower: &[Narrower],
+    set: usize,
+    exprs: &mut Vec<Expr>,
+    operands: &mut Vec<Operand>,
+    conditions: &mut Vec<usize>,
+) -> Result<Option<Operand>, AllocError>
+    requires few { length pattern.now.values.items ≤ 1000 }
+    requires types { narrower.now ≡ narrower_types pattern.now.value_types.items pattern.now.type_constraints.items }
+    requires none { exprs.old.items ≡ [] }
+    requires empty { operands.old.items ≡ [] }
+    requires free { conditions.old.items ≡ [] }
+    ensures { IfOk result (λ r. IfSome r (λ x. empty_goal_of (pattern_model pattern.now) set ≡ empty_goal_from (pattern_model pattern.now) (state exprs.new.items operands.new.items conditions.new.items) x)) }
+{
+    let value_types = pattern.value_types.as_slice();
+    if !first_variables(pattern, set, exprs, operands)? {
+        return Ok(None);
+    }
+    if !all_given(pattern, narrower, exprs, operands, conditions)? {
+        return Ok(None);
+    }
+    let matched = pattern.old.as_slice();
+    if !all_old(matched, value_types, narrower, exprs, operands, conditions)? {
+        return Ok(None);
+    }
+    Ok(operand_at(operands.as_slice(), pattern.root))
 }

@@ -1,23 +1,22 @@
 //! Decides whether a user pattern holds at all widths, also if its variables are poison.
 //!
 //! `translate` turns a pattern into claims of `width_claims`, one for each set of poison variables. `decide` decides.
+//! `decode` and `refuting` turn a claim that fails into a counterexample. `answer` asks all of them.
 #![tactic(auto)]
 
+pub mod aim;
+pub mod answer;
+pub mod assignment;
 pub mod decide;
 pub mod decision;
+pub mod decode;
 pub mod goal;
-pub mod instruction;
 pub mod laws;
-pub mod operand;
-pub mod operations;
-pub mod poison;
-pub mod products;
+mod letters;
+pub mod pattern_word;
 pub mod question;
-pub mod quotients;
 pub mod refining;
-pub mod shifts;
+pub mod refuting;
 pub mod translate;
-pub mod types;
-pub mod values;
 pub mod variables;
 pub mod walk;

@@ -1,14 +1,16 @@
 //! What is asked of a pattern.
 ghost use Rattle.std.specs.Prelude.{◌≡◌, ◌≤◌, length};
-ghost use Rattle.user_patterns_claims.specs.Translation.{claim_types, narrower_types};
+ghost use Rattle.user_patterns_instructions.specs.Expressions.{claim_types, narrower_types};
 
+use crate::aim::Aim;
 use user_patterns_data::pattern::Pattern;
 use width_claims::width::{Narrower, Width};
 
-/// A pattern, the types of its claims, and the most transitions of each claim.
+/// A pattern, what is decided of it, the types of its claims, and the most transitions of each claim.
 #[derive(Clone, Copy)]
 pub struct Question<'a> {
     pub pattern: &'a Pattern,
+    pub aim: Aim,
     pub types: &'a [Width],
     pub narrower: &'a [Narrower],
     pub most: usize,

@@ -1,13 +1,15 @@
 //! The claim about both sides: the old value is poison, or the new value is known and equal.
 ghost use Rattle.std.specs.Prelude.{◌≡◌, IfOk};
-ghost use Rattle.user_patterns_claims.specs.Code.{AreSidesIf, IsMade};
-ghost use Rattle.user_patterns_claims.specs.Translation.{both_true, known_and, put, refined, sides, sides_by};
-ghost use Rattle.user_patterns_claims.specs.declared.operand.Poison.TheVariants.{Never};
+ghost use Rattle.user_patterns_instructions.specs.Code.{IsMade};
+ghost use Rattle.user_patterns_claims.specs.Code.{AreSidesIf};
+ghost use Rattle.user_patterns_instructions.specs.Expressions.{put};
+ghost use Rattle.user_patterns_claims.specs.Translation.{both_true, known_and, refined, sides, sides_by};
+ghost use Rattle.user_patterns_instructions.specs.declared.operand.Poison.TheVariants.{Never};
 ghost use Rattle.width_claims.specs.declared.form.Form.TheVariants as form;
 
-use crate::operand::{Operand, Poison};
-use crate::values::push_expr;
 use std::alloc::AllocError;
+use user_patterns_instructions::operand::{Operand, Poison};
+use user_patterns_instructions::values::push_expr;
 use width_claims::form::{Expr, Form};
 
 /// The places of two values that are claimed to be equal.

@@ -1,18 +1,22 @@
 //! Translates instructions to expressions.
 ghost use Rattle.std.specs.Prelude.{◌≡◌, ◌≤◌, IfOk, Some};
 ghost use Rattle.user_patterns_check.specs.Outcomes.{given};
-ghost use Rattle.user_patterns_claims.specs.Code.{IsCondition, IsPlain, IsResult, IsResultIf, IsStateIf, state};
+ghost use Rattle.user_patterns_instructions.specs.Code.{IsResult, IsResultIf};
+ghost use Rattle.user_patterns_claims.specs.Code.{IsCondition, IsPlain, IsStateIf, state};
 ghost use Rattle.width_claims.specs.declared.form.Form.TheVariants as form;
-ghost use Rattle.user_patterns_claims.specs.Translation.{compare_result, divide_result, if_known, literal_result, log_state, number_state, operand_at, pair_result, power_made, power_there, put, required, resize_result, result_of, select_result, top_power, translated, type_at};
+ghost use Rattle.user_patterns_instructions.specs.Expressions.{compare_result, divide_result, if_known, operand_at, pair_result, put, resize_result, select_result, type_at};
+ghost use Rattle.user_patterns_claims.specs.Translation.{literal_result, log_state, number_state, power_made, power_there, required, result_of, top_power, translated};
 
-use crate::instruction::Instruction;
-use crate::operand::{Operand, Poison};
-use crate::operations::{compare_result, divide_result, pair_result, resize_result, select_result};
-use crate::types::type_at;
-use crate::values::{literal_form, push_expr};
 use dialects_int::operations::{Arithmetic, Cast, Predicate};
 use std::alloc::AllocError;
 use user_patterns_data::pattern::{Literal, PatternType};
+use user_patterns_instructions::instruction::Instruction;
+use user_patterns_instructions::operand::{Operand, Poison};
+use user_patterns_instructions::operations::{
+    compare_result, divide_result, pair_result, resize_result, select_result,
+};
+use user_patterns_instructions::types::type_at;
+use user_patterns_instructions::values::{literal_form, push_expr};
 use width_claims::form::{Expr, Form};
 use width_claims::width::Narrower;
 

@@ -5,11 +5,11 @@ ghost use Rattle.user_patterns_data.specs.Shapes.{pattern_model};
 ghost use Rattle.user_patterns_claims.specs.Code.{IsReachedState, IsVariable, state};
 ghost use Rattle.user_patterns_claims.specs.Translation.{bit_flag, is_constant, set_count, variables, with_variable};
 
-use crate::operand::{Operand, Poison};
-use crate::types::type_at;
-use crate::values::push_expr;
 use std::alloc::AllocError;
 use user_patterns_data::pattern::Pattern;
+use user_patterns_instructions::operand::{Operand, Poison};
+use user_patterns_instructions::types::type_at;
+use user_patterns_instructions::values::push_expr;
 use width_claims::form::{Expr, Form};
 
 /// Returns the flag of a variable, given its bit in a set.
@@ -24,7 +24,7 @@ fn bit_flag(bit: usize) -> Poison
 }
 
 /// Returns whether a variable is a constant.
-fn is_constant(pattern: &Pattern, i: usize) -> bool
+pub(crate) fn is_constant(pattern: &Pattern, i: usize) -> bool
     ensures { result ≡ is_constant (pattern_model pattern.now) i }
 {
     pattern.constants.iter().any(|constant| i == *constant)

@@ -3,14 +3,14 @@ ghost use Rattle.std.specs.Prelude.{◌≡◌, IfOk, map};
 ghost use Rattle.user_patterns_claims.specs.Code.{IsReachedState, state};
 ghost use Rattle.user_patterns_claims.specs.Translation.{all_translated, form_instruction, extra_instruction, new_instruction, number_instruction, old_instruction};
 
-use crate::instruction::Instruction;
-use crate::operand::Operand;
 use crate::translate::translate;
 use dialects_int::operations::Arithmetic;
 use std::alloc::AllocError;
 use user_patterns_data::pattern::{
     ConstantExpression, Expression, ExtraConstant, NewValue, PatternOp, PatternType,
 };
+use user_patterns_instructions::instruction::Instruction;
+use user_patterns_instructions::operand::Operand;
 use width_claims::form::Expr as Emitted;
 use width_claims::width::Narrower;
 

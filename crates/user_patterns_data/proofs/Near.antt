@@ -84,8 +84,8 @@ module _ (t u : Operation) (verified cleans : Header → Bool) (x : ℕ) (s : Sh
   -- one more pattern op is matched
   module _ (at : ℕ) (p : PatternOp) (b : Standing Value) (below : takes_below count p ≡ true)
       (alike : (v : Value) → Stands at v b → GivesAlike t u verified cleans v × ((w : Value) → Under t verified v w → TypesAlike t u verified cleans w)) where
-    pub piece_alike : op_matches t verified (at, p) b ≡ op_matches u cleans (at, p) b
-    piece_alike = go (standing at b) refl
+    pub pattern_op_alike : op_matches t verified (at, p) b ≡ op_matches u cleans (at, p) b
+    pattern_op_alike = go (standing at b) refl
       where
         go : (o : Option Value) → standing at b ≡ o → given (standing at b) (λ v. value_matched t verified p v b) ≡ given (standing at b) (λ v. value_matched u cleans p v b)
         go None e = ap (λ o. given o (λ v. value_matched t verified p v b)) e ∙ sym (ap (λ o. given o (λ v. value_matched u cleans p v b)) e)
@@ -184,16 +184,16 @@ module _ (t u : Operation) (verified cleans : Header → Bool) (x : ℕ) (s : Sh
       keeps = kept at p b below other_alike c k
 
       -- bound values stay bound, to the same values
-      stood : (j : ℕ) (w z : Value) → Stands j w b → Stands j z c → w ≡ z
-      stood j w z h i = one_stands j w z c (keeps j w h) i
+      located : (j : ℕ) (w z : Value) → Stands j w b → Stands j z c → w ≡ z
+      located j w z h i = one_stands j w z c (keeps j w h) i
 
       pub other_found : Found at (p ∷ ps) c
       other_found = record {
         begins = keeps place X f.begins;
-        first = λ j v h i. let w = f.first_stands j h in subst (λ z. Under t verified X z) (stood j w.0 v w.1 i) (f.first j w.0 h w.1);
+        first = λ j v h i. let w = f.first_stands j h in subst (λ z. Under t verified X z) (located j w.0 v w.1 i) (f.first j w.0 h w.1);
         second = λ j v h i. elim (or_cases (takes at root && takes j p) (is_inner root j (at + 1) ps) h) [
           | inl e ↦ let parts = and_parts (takes at root) (takes j p) e in (k.value, f.first at k.value parts.0 k.there, under at p b below other_alike c k j v parts.1 i)
-          | inr e ↦ let w = f.second_stands j e in subst (λ z. (y : Value) × Under t verified X y × Under t verified y z) (stood j w.0 v w.1 i) (f.second j w.0 e w.1)
+          | inr e ↦ let w = f.second_stands j e in subst (λ z. (y : Value) × Under t verified X y × Under t verified y z) (located j w.0 v w.1 i) (f.second j w.0 e w.1)
         ];
         types = typed at p b below other_alike c k f.types;
         first_stands = λ j h. let w = f.first_stands j h in (w.0, keeps j w.0 w.1);
@@ -214,7 +214,7 @@ module _ (t u : Operation) (verified cleans : Header → Bool) (x : ℕ) (s : Sh
         let own : takes_below count root ≡ true = subst (λ z. takes_below count z ≡ true) (sym last) (and_parts (takes_below count p) true below).0 in
         let l : place < count = omega (arith, is, few) in
         let both : (ops_match t verified (placed place (root ∷ [])) b ≡ ops_match u cleans (placed place (root ∷ [])) b) × ((c : Standing Value) → ops_match t verified (placed place (root ∷ [])) b ≡ Some c → Found place (root ∷ []) c) = (
-          some_given (op_matches t verified (place, root) b) ∙ piece_alike place root b own (root_alike b binds) ∙ sym (some_given (op_matches u cleans (place, root) b)),
+          some_given (op_matches t verified (place, root) b) ∙ pattern_op_alike place root b own (root_alike b binds) ∙ sym (some_given (op_matches u cleans (place, root) b)),
           λ c e. root_found b binds own l c (taken place root b own (root_alike b binds) c (sym (some_given (op_matches t verified (place, root) b)) ∙ e)),
         ) in
         subst (λ z. (ops_match t verified (placed z (p ∷ [])) b ≡ ops_match u cleans (placed z (p ∷ [])) b) × ((c : Standing Value) → ops_match t verified (placed z (p ∷ [])) b ≡ Some c → Found z (p ∷ []) c)) is
@@ -240,5 +240,5 @@ module _ (t u : Operation) (verified cleans : Header → Bool) (x : ℕ) (s : Sh
             go None e = ap (λ o. given o (λ c. op_matches t verified (at, p) c)) e ∙ sym (ap (λ o. given o (λ c. op_matches u cleans (at, p) c)) (sym r.0 ∙ e))
             go (Some c) e =
                 ap (λ o. given o (λ c. op_matches t verified (at, p) c)) e
-                ∙ piece_alike at p c below (other_alike at p (q ∷ ps) c (r.1 c e) near below)
+                ∙ pattern_op_alike at p c below (other_alike at p (q ∷ ps) c (r.1 c e) near below)
                 ∙ sym (ap (λ o. given o (λ c. op_matches u cleans (at, p) c)) (sym r.0 ∙ e))

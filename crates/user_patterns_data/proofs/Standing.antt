@@ -8,7 +8,7 @@ use Rattle.patterns_laws.specs.Words.{named}
 use Rattle.ir_tree.specs.Uses.{same_value}
 use Rattle.user_patterns_check.specs.Outcomes.{given}
 use Rattle.user_patterns_data.specs.Names.{name_of, operands_of}
-use Rattle.user_patterns_data.specs.Matching.{Standing, when, bound, bound_over, all_bound, standing, asks_alike, defining_op_head, header_matched, value_matched, op_matches, ops_match, PiecesStand}
+use Rattle.user_patterns_data.specs.Matching.{Standing, when, bound, bound_over, all_bound, standing, asks_alike, defining_op_head, header_matched, value_matched, op_matches, ops_match, PatternOpsStand}
 use Rattle.patterns_laws.proofs.KnownFolds.{given_some}
 use Rattle.std.proofs.lemmas.Bool.{cases_eq}
 
@@ -45,12 +45,12 @@ module _ {V : Type 0} (same : V → V → Bool) where
       let g = given_some (bound same k v b) (all_bound same ks vs) c e in
       λ j z h. all_keep ks vs g.0 c g.2 j z (bound_keeps (slice_get b k) k v b g.0 refl g.1 j z h)
 
-pub pieces_stand : PiecesStand
-pieces_stand t verified [] b c e k v h = subst (λ (d : Standing Value). slice_get d k ≡ Some (Some v)) (same_Some _ _ e) h
-pieces_stand t verified (p ∷ ps) b c e k v h =
+pub pattern_ops_stand : PatternOpsStand
+pattern_ops_stand t verified [] b c e k v h = subst (λ (d : Standing Value). slice_get d k ≡ Some (Some v)) (same_Some _ _ e) h
+pattern_ops_stand t verified (p ∷ ps) b c e k v h =
     let g = given_some (op_matches t verified p b) (ops_match t verified ps) c e in
     let u = given_some (standing p.0 b) (λ v. value_matched t verified p.1 v b) g.0 g.1 in
     let s = given_some (defining_op_head t verified u.0) (λ h. header_matched t verified p.1 h b) g.0 u.2 in
     let ks = operands_of p.1.form in
     let w = when_some (named (name_of p.1.form) s.0.name && asks_alike t verified p.1 s.0) (all_bound same_value ks s.0.operands b) g.0 s.2 in
-    pieces_stand t verified ps g.0 c g.2 k v (all_keep same_value ks s.0.operands b g.0 w k v h)
+    pattern_ops_stand t verified ps g.0 c g.2 k v (all_keep same_value ks s.0.operands b g.0 w k v h)

@@ -76,11 +76,11 @@ form_step k (form.Select c i j) = step.Select c i j
 form_step k (form.IntegerCast c i) = step.IntegerCast c k i
 form_step k (form.IndexCast c i) = step.IntegerCast c k i
 
-abbrev pub piece_step : List BitsKind → PatternOp → Step
-piece_step ks p = form_step (kind_at ks p.ty) p.form
+abbrev pub pattern_op_step : List BitsKind → PatternOp → Step
+pattern_op_step ks p = form_step (kind_at ks p.ty) p.form
 
 abbrev pub new_step : List BitsKind → NewValue → Step
-new_step ks (new.Operation p) = piece_step ks p
+new_step ks (new.Operation p) = pattern_op_step ks p
 new_step ks (new.Constant i t) = again_step i
 
 -- ---- the condition under which a pattern may be applied
@@ -89,9 +89,9 @@ abbrev pub is_integer : BitsKind → Bool
 is_integer (kind.Int w) = true
 is_integer kind.Index = false
 
-abbrev pub is_asked : List BitsKind → TypeConstraint → Bool
-is_asked ks (type_constraints.Narrower s t) = is_integer (kind_at ks s) && (is_integer (kind_at ks t) && nat_lt (width_of (kind_at ks s)) (width_of (kind_at ks t)))
-is_asked ks (type_constraints.Integer t) = is_integer (kind_at ks t)
+abbrev pub is_requested : List BitsKind → TypeConstraint → Bool
+is_requested ks (type_constraints.Narrower s t) = is_integer (kind_at ks s) && (is_integer (kind_at ks t) && nat_lt (width_of (kind_at ks s)) (width_of (kind_at ks t)))
+is_requested ks (type_constraints.Integer t) = is_integer (kind_at ks t)
 
 abbrev pub is_literal_of : List BitsKind → Literal → Bool
 is_literal_of ks l = is_some (bits_with ks l)
@@ -106,7 +106,7 @@ number_fits ks _ = true
 
 -- the widths satisfy the constraints, and each literal is in the range of its type
 abbrev pub fits : List BitsKind → PatternModel → Bool
-fits ks p = list_all (is_asked ks) p.type_constraints && (list_all (extra_fits ks) p.extra && list_all (number_fits ks) p.given)
+fits ks p = list_all (is_requested ks) p.type_constraints && (list_all (extra_fits ks) p.extra && list_all (number_fits ks) p.given)
 
 abbrev pub content_with : List BitsKind → PatternModel → Content
 content_with ks p =
@@ -114,7 +114,7 @@ content_with ks p =
       applies = fits ks p;
       value_types = map (kind_at ks) p.values;
       given = map (extra_step ks) p.extra ++ map (number_step ks) p.given;
-      old = map (piece_step ks) p.old;
+      old = map (pattern_op_step ks) p.old;
       old_result = p.root;
       new = map (new_step ks) p.new;
       new_result = p.result;

@@ -11,7 +11,7 @@ use Rattle.ir_tree.specs.Ids.{find}
 use Rattle.ir_tree.specs.Uses.{same_value}
 use Rattle.ir_tree.specs.Meaning.{Operation}
 use Rattle.ir_tree_laws.specs.Values.{type_of_value}
-use Rattle.op_registry.specs.Registry.{beside}
+use Rattle.op_registry.specs.Registry.{next_to}
 use Rattle.dialects_int.specs.Folds.{Known, fold_of, property_of}
 use Rattle.patterns_laws.specs.Words.{named}
 use Rattle.user_patterns_check.specs.Outcomes.{given}
@@ -77,7 +77,7 @@ module _ (t : Operation) (verified : Header → Bool) where
   abbrev pub asks_alike : PatternOp → Header → Bool
   asks_alike p h =
       predicate_is (predicate_of p.form) (property_of (codes "predicate") h.properties)
-      && (not p.bare || are_none (beside (codes "overflowFlags") h.properties))
+      && (not p.bare || are_none (next_to (codes "overflowFlags") h.properties))
 
   -- the operands of the operation are bound at the places of the pattern op
   abbrev pub header_matched : PatternOp → Header → Standing Value → Option (Standing Value)
@@ -112,7 +112,7 @@ written (ty.Concrete k) = Some (type_of k)
 written (ty.Variable v) = None
 
 -- a match keeps the values that were bound before
-abbrev pub PiecesStand : Type 0
-PiecesStand =
+abbrev pub PatternOpsStand : Type 0
+PatternOpsStand =
     (t : Operation) (verified : Header → Bool) (ps : List (ℕ × PatternOp)) (b c : Standing Value) → ops_match t verified ps b ≡ Some c
     → (k : ℕ) (v : Value) → slice_get b k ≡ Some (Some v) → slice_get c k ≡ Some (Some v)

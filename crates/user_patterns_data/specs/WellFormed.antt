@@ -49,9 +49,9 @@ module _ (p : PatternModel) where
   extra_stands (extra.Literal l) = is_type l.ty
   extra_stands (extra.SameAs i) = is_constant i
 
-  abbrev pub asked_stands : TypeConstraint → Bool
-  asked_stands (type_constraints.Narrower s t) = is_type s && is_type t
-  asked_stands (type_constraints.Integer t) = is_type t
+  abbrev pub requested_stands : TypeConstraint → Bool
+  requested_stands (type_constraints.Narrower s t) = is_type s && is_type t
+  requested_stands (type_constraints.Integer t) = is_type t
 
   -- a computed number refers to constants and to earlier computed numbers
   abbrev pub is_number : ℕ → ℕ → Bool
@@ -101,11 +101,11 @@ module _ (p : PatternModel) where
   news_stand end (n ∷ ns) = new_stands (end - length (n ∷ ns)) n && news_stand end ns
 
   -- the types, variables, constants and constraints are well-formed
-  abbrev pub front_stands : Bool
-  front_stands =
+  abbrev pub preceding_stands : Bool
+  preceding_stands =
       list_all kind_stands p.value_types
       && (list_all is_type p.values && (list_all is_variable p.constants && (list_all extra_stands p.extra
-      && (list_all asked_stands p.type_constraints && numbers_stand (old_begins p) p.given))))
+      && (list_all requested_stands p.type_constraints && numbers_stand (old_begins p) p.given))))
 
   -- the operations of both sides are well-formed
   abbrev pub sides_stand : Bool
@@ -114,4 +114,4 @@ module _ (p : PatternModel) where
       && (olds_stand (new_begins p) p.old && (news_stand (new_ends p) p.new && is_new (new_ends p) p.result))
 
   abbrev pub is_well_formed : Bool
-  is_well_formed = front_stands && sides_stand
+  is_well_formed = preceding_stands && sides_stand

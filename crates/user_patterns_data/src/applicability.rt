@@ -24,8 +24,8 @@ fn is_integer(kind: BitsKind) -> bool
 }
 
 /// Returns whether the widths satisfy the constraint.
-fn is_asked(value_types: &[BitsKind], type_constraints: &TypeConstraint) -> bool
-    ensures { result ≡ fitting.is_asked value_types.now type_constraints.now }
+fn is_requested(value_types: &[BitsKind], type_constraints: &TypeConstraint) -> bool
+    ensures { result ≡ fitting.is_requested value_types.now type_constraints.now }
 {
     match type_constraints {
         TypeConstraint::Narrower(narrow, wide) => {
@@ -37,12 +37,12 @@ fn is_asked(value_types: &[BitsKind], type_constraints: &TypeConstraint) -> bool
     }
 }
 
-fn all_asked(value_types: &[BitsKind], type_constraints: &[TypeConstraint]) -> bool
-    ensures { result ≡ list_all (fitting.is_asked value_types.now) type_constraints.now }
+fn all_requested(value_types: &[BitsKind], type_constraints: &[TypeConstraint]) -> bool
+    ensures { result ≡ list_all (fitting.is_requested value_types.now) type_constraints.now }
 {
     let mut rest = type_constraints;
     'type_constraints: while let [first, tail @ ..] = rest {
-        if !is_asked(value_types, first) {
+        if !is_requested(value_types, first) {
             return false;
         }
         rest = tail;
@@ -102,7 +102,7 @@ fn all_numbers(value_types: &[BitsKind], numbers: &[ConstantExpression]) -> bool
 pub fn is_applicable(value_types: &[BitsKind], pattern: &Pattern) -> bool
     ensures { result ≡ fitting.fits value_types.now (pattern_model pattern.now) }
 {
-    all_asked(value_types, &pattern.type_constraints)
+    all_requested(value_types, &pattern.type_constraints)
         && all_extra(value_types, &pattern.extra)
         && all_numbers(value_types, &pattern.given)
 }
@@ -153,8 +153,8 @@ pub(crate) fn number_step(value_types: &[BitsKind], number: &ConstantExpression)
     }
 }
 
-pub(crate) fn piece_step(value_types: &[BitsKind], pattern_op: &PatternOp) -> Step
-    ensures { result ≡ fitting.piece_step value_types.now pattern_op.now }
+pub(crate) fn pattern_op_step(value_types: &[BitsKind], pattern_op: &PatternOp) -> Step
+    ensures { result ≡ fitting.pattern_op_step value_types.now pattern_op.now }
 {
     match pattern_op.form {
         Expression::Binary(operation, i, j) => Step::Binary(operation, i, j),
@@ -177,7 +177,7 @@ pub(crate) fn new_step(value_types: &[BitsKind], new: &NewValue) -> Step
     ensures { result ≡ fitting.new_step value_types.now new.now }
 {
     match new {
-        NewValue::Operation(pattern_op) => piece_step(value_types, pattern_op),
+        NewValue::Operation(pattern_op) => pattern_op_step(value_types, pattern_op),
         NewValue::Constant(place, _) => again_step(*place),
     }
 }

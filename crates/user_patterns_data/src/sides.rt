@@ -4,7 +4,7 @@ ghost use Rattle.user_patterns_check.specs.Contents.{Content, content};
 ghost use Rattle.user_patterns_data.specs.Fitting as fitting;
 ghost use Rattle.user_patterns_data.specs.Shapes.{pattern_model};
 
-use crate::applicability::{extra_step, is_applicable, new_step, number_step, piece_step};
+use crate::applicability::{extra_step, is_applicable, new_step, number_step, pattern_op_step};
 use crate::literals::{kind_at, kind_with};
 use crate::pattern::{
     ConstantExpression, ExtraConstant, NewValue, Pattern, PatternOp, PatternType,
@@ -88,12 +88,12 @@ fn old_steps(
     value_types: &[BitsKind],
     old: &[PatternOp],
 ) -> Result<Vec<Step>, AllocError>
-    ensures { IfOk result (λ steps. steps.items ≡ map (fitting.piece_step value_types.now) old.now) }
+    ensures { IfOk result (λ steps. steps.items ≡ map (fitting.pattern_op_step value_types.now) old.now) }
 {
     let mut steps = Vec::new(alloc);
     let mut rest = old;
     'old: while let [first, tail @ ..] = rest {
-        steps.push(piece_step(value_types, first))?;
+        steps.push(pattern_op_step(value_types, first))?;
         rest = tail;
     }
     Ok(steps)

@@ -91,8 +91,8 @@ fn extra_stands(pattern: &Pattern, extra: ExtraConstant) -> bool
     }
 }
 
-fn asked_stands(pattern: &Pattern, type_constraints: TypeConstraint) -> bool
-    ensures { result ≡ well.asked_stands (pattern_model pattern.now) type_constraints }
+fn requested_stands(pattern: &Pattern, type_constraints: TypeConstraint) -> bool
+    ensures { result ≡ well.requested_stands (pattern_model pattern.now) type_constraints }
 {
     match type_constraints {
         TypeConstraint::Narrower(narrow, wide) => is_type(pattern, narrow)
@@ -127,8 +127,8 @@ fn number_stands(pattern: &Pattern, at: u128, number: ConstantExpression) -> boo
 fn is_old(pattern: &Pattern, end: u128, place: usize) -> bool
     ensures { result ≡ well.is_old (pattern_model pattern.now) end place }
 {
-    let front = pattern.values.len() as u128 + pattern.extra.len() as u128;
-    (place as u128) < front || is_within(old_begins(pattern), end, place)
+    let preceding = pattern.values.len() as u128 + pattern.extra.len() as u128;
+    (place as u128) < preceding || is_within(old_begins(pattern), end, place)
 }
 
 /// Returns whether `place` may be an operand of the new value at place `end`.
@@ -235,12 +235,12 @@ fn all_extra_stand(pattern: &Pattern, extra: &[ExtraConstant]) -> bool
 }
 
 /// Returns whether the constraints are on types of the pattern.
-fn all_asked_stand(pattern: &Pattern, type_constraints: &[TypeConstraint]) -> bool
-    ensures { result ≡ list_all (well.asked_stands (pattern_model pattern.now)) type_constraints.now }
+fn all_requested_stand(pattern: &Pattern, type_constraints: &[TypeConstraint]) -> bool
+    ensures { result ≡ list_all (well.requested_stands (pattern_model pattern.now)) type_constraints.now }
 {
     let mut rest = type_constraints;
     'type_constraints: while let [first, tail @ ..] = rest {
-        if !asked_stands(pattern, *first) {
+        if !requested_stands(pattern, *first) {
             return false;
         }
         rest = tail;
@@ -294,14 +294,14 @@ fn news_stand(pattern: &Pattern, new: &[NewValue], end: u128) -> bool
 }
 
 /// Returns whether the types, variables, constants and constraints are well-formed.
-fn front_stands(pattern: &Pattern) -> bool
-    ensures { result ≡ well.front_stands (pattern_model pattern.now) }
+fn preceding_stands(pattern: &Pattern) -> bool
+    ensures { result ≡ well.preceding_stands (pattern_model pattern.now) }
 {
     kinds_stand(pattern, &pattern.value_types)
         && are_types(pattern, &pattern.values)
         && are_variables(pattern, &pattern.constants)
         && all_extra_stand(pattern, &pattern.extra)
-        && all_asked_stand(pattern, &pattern.type_constraints)
+        && all_requested_stand(pattern, &pattern.type_constraints)
         && numbers_stand(pattern, &pattern.given, old_begins(pattern))
 }
 
@@ -321,5 +321,5 @@ fn sides_stand(pattern: &Pattern) -> bool
 pub fn is_well_formed(pattern: &Pattern) -> bool
     ensures { result ≡ well.is_well_formed (pattern_model pattern.now) }
 {
-    front_stands(pattern) && sides_stand(pattern)
+    preceding_stands(pattern) && sides_stand(pattern)
 }

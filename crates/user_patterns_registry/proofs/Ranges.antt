@@ -12,7 +12,7 @@ use Rattle.ir_types.specs.Reasons.{is_width}
 use Rattle.ir_types.proofs.Widths.{halves}
 use Rattle.user_patterns_check.specs.Cases.{AreBelow}
 use Rattle.user_patterns_widths.specs.Lasting.{are_kinds}
-use Rattle.user_patterns_registry.specs.Values.{SampledValues, chance, edge, edge_cases, edge_number, edges, mixed, value_tried, values_from}
+use Rattle.user_patterns_registry.specs.Values.{SampledValues, chance, edge, edge_cases, edge_number, edges, rule_list, value_tried, values_from}
 use Rattle.user_patterns_registry.proofs.Wide.{has_two, tried_at}
 
 -- all numbers are below a bound
@@ -45,7 +45,7 @@ top_below w z l h =
     (div-lt_iff_lt-mul (pow_pos (128 - w))).1 (subst (λ (m : ℕ). z < m) whole h)
 
 chance_below : (w n : ℕ) → w ≤ 128 → chance w n < 2 ^ w
-chance_below w n l = top_below w (mixed n) l (mod-lt _ (pow_pos 128))
+chance_below w n l = top_below w (rule_list n) l (mod-lt _ (pow_pos 128))
 
 either : (b : Bool) (x y m : ℕ) → x < m → y < m → (if b then x else y) < m
 either true x y m h k = h

@@ -9,7 +9,6 @@ use Rattle.std.proofs.lemmas.Option.{none-some}
 use Rattle.ir_types.proofs.Growth.{name_refl}
 use Rattle.ir_types.proofs.Truths.{turned}
 use Rattle.ir_text_tokens.specs.declared.refusal.TextRefusal.TheVariants.{Redefined, TooMany}
-use Rattle.ir_text_types.specs.Typed.{Text}
 use Rattle.user_patterns_text.specs.Syntax as syntax
 use Rattle.user_patterns_text.specs.Grammar.{IsPattern}
 use Rattle.user_patterns_text.specs.Parts as parts
@@ -18,8 +17,8 @@ use Rattle.user_patterns_text.specs.Printed.{pattern_text}
 use Rattle.user_patterns_text.proofs.Texts.{spells_again}
 use Rattle.user_patterns_text.specs.Refusing.{Returns, Outcome, ◌>>=◌, begins, refused}
 use Rattle.user_patterns_text.specs.declared.error.PatternError.{PatternError}
-use Rattle.user_patterns_text.specs.Spelled.{Spells, whole_at}
-use Rattle.user_patterns_sema.specs.Sema.{formed}
+use Rattle.user_patterns_text.specs.Rendered.{Spells, whole_at}
+use Rattle.user_patterns_sema.specs.Sema.{wellformed}
 use Rattle.user_patterns_sema_base.specs.Names.{Names, names_of}
 use Rattle.user_patterns_build.specs.CanBuild.{can_build}
 use Rattle.user_patterns_build.specs.Unified.{ready}
@@ -28,7 +27,7 @@ use Rattle.user_patterns_data.specs.Shapes.{PatternModel}
 use Rattle.user_patterns_data.specs.WellFormed.{is_well_formed}
 use Rattle.user_patterns_registry.specs.declared.check_result.CheckSummary.{CheckSummary}
 use Rattle.user_patterns_registry.specs.Rows.{Variable}
-use Rattle.user_patterns_registry.specs.Registry.{AddsOne, AreApart, RegistryModel, IsAdded, IsRegistry, IsReady, Kept, LastSpells, NotingKeepsARegistry, StaysARegistry, added, and_kept, defined, found, is_named, kept_as, kept_of, made_ready, most_patterns, noted, noted_one, room_for, shape_of, variables_of, with_said}
+use Rattle.user_patterns_registry.specs.Registry.{AddsOne, AreApart, RegistryModel, IsAdded, IsRegistry, IsReady, Kept, LastSpells, NotingKeepsARegistry, StaysARegistry, added, and_kept, defined, found, is_named, kept_as, kept_of, made_ready, most_patterns, noted, noted_one, headroom_for, shape_of, variables_of, with_said, Text}
 
 -- ---- outcomes
 
@@ -105,7 +104,7 @@ ready_made s t None e h = absurd cc
 shape_ready : (p : parts.Pattern) (t : PatternModel) → shape_of p ≡ Ok t → (is_well_formed t ≡ true) × (can_build t ≡ true)
 unfolding shape_of
 shape_ready p t h =
-    let s = bound_ok (formed p) (λ s. made_ready (ready s)) t h in
+    let s = bound_ok (wellformed p) (λ s. made_ready (ready s)) t h in
     ready_made s.0 t (ready s.0) refl s.2
 
 -- the entry has the name and the text of the parsed pattern, and can be applied
@@ -131,25 +130,25 @@ pub last_spells : (text : Text) (p : parts.Pattern) (registry new : RegistryMode
 last_spells text p registry new k s h e =
     (s.0, s.1, registry, k, e, subst (λ (t : Text). IsPattern s.0 t []) (sym (kept_is p k h).text) (spells_again text p s.0 s.1 s.2))
 
-pub spelled_on : {X : Type 0} (r : Result X PatternError) (text : Text) (p : parts.Pattern) (registry new : RegistryModel) (k : Kept) → (q : syntax.Pattern) × Spells text q × AreParts p q
+pub rendered_on : {X : Type 0} (r : Result X PatternError) (text : Text) (p : parts.Pattern) (registry new : RegistryModel) (k : Kept) → (q : syntax.Pattern) × Spells text q × AreParts p q
     → kept_of p ≡ Ok k → Returns (λ x. new) r (Ok (and_kept registry k)) → OnOk r (LastSpells text new)
-spelled_on (Ok x) text p registry new k s h g =
+rendered_on (Ok x) text p registry new k s h g =
     last_spells text p registry new k s h (okay_same new (and_kept registry k) (Ok new) (Ok (and_kept registry k)) refl refl (sym g))
-spelled_on (Err e) text p registry new k s h g = tt
+rendered_on (Err e) text p registry new k s h g = tt
 
 -- ---- definitions
 
-abbrev Room : List ℕ → RegistryModel → Type 0
-Room name registry = (found name registry ≡ None) × (length registry < most_patterns)
+abbrev Headroom : List ℕ → RegistryModel → Type 0
+Headroom name registry = (found name registry ≡ None) × (length registry < most_patterns)
 
-room_by : (name : List ℕ) (at : ℕ) (registry : RegistryModel) (u : Unit {0}) (o : Option Kept) → found name registry ≡ o → (b : Bool) → nat_lt (length registry) most_patterns ≡ b
-    → (if is_some o then refused Redefined at else if b then Ok tt else refused TooMany at) ≡ Ok u → Room name registry
-room_by name at registry u (Some k) e b f g = absurd cc
-room_by name at registry u None e true f g = (e, ltb-true (length registry) most_patterns f)
-room_by name at registry u None e false f g = absurd cc
+headroom_by : (name : List ℕ) (at : ℕ) (registry : RegistryModel) (u : Unit {0}) (o : Option Kept) → found name registry ≡ o → (b : Bool) → nat_lt (length registry) most_patterns ≡ b
+    → (if is_some o then refused Redefined at else if b then Ok tt else refused TooMany at) ≡ Ok u → Headroom name registry
+headroom_by name at registry u (Some k) e b f g = absurd cc
+headroom_by name at registry u None e true f g = (e, ltb-true (length registry) most_patterns f)
+headroom_by name at registry u None e false f g = absurd cc
 
-room_made : (name : List ℕ) (at : ℕ) (registry : RegistryModel) (u : Unit {0}) → room_for name at registry ≡ Ok u → Room name registry
-room_made name at registry u h = room_by name at registry u (found name registry) refl (nat_lt (length registry) most_patterns) refl h
+headroom_made : (name : List ℕ) (at : ℕ) (registry : RegistryModel) (u : Unit {0}) → headroom_for name at registry ≡ Ok u → Headroom name registry
+headroom_made name at registry u h = headroom_by name at registry u (found name registry) refl (nat_lt (length registry) most_patterns) refl h
 
 record Defined (registry new : RegistryModel) : Type 0 where
   last : Kept
@@ -161,18 +160,18 @@ record Defined (registry new : RegistryModel) : Type 0 where
 defined_one : (registry new : RegistryModel) (text : Text) → defined registry text ≡ Ok new → Defined registry new
 unfolding defined
 defined_one registry new text h =
-    let p = bound_ok (whole_at text) (λ p. room_for p.name (begins text) registry >>= λ _. added registry p) new h in
-    let r = bound_ok (room_for p.0.name (begins text) registry) (λ _. added registry p.0) new p.2 in
+    let p = bound_ok (whole_at text) (λ p. headroom_for p.name (begins text) registry >>= λ _. added registry p) new h in
+    let r = bound_ok (headroom_for p.0.name (begins text) registry) (λ _. added registry p.0) new p.2 in
     let k = bound_ok (kept_of p.0) (λ k. Ok (and_kept registry k)) new r.2 in
     let same : and_kept registry k.0 ≡ new = okay_same (and_kept registry k.0) new (Ok (and_kept registry k.0)) (Ok new) refl refl k.2 in
-    let room = room_made p.0.name (begins text) registry r.0 r.1 in
+    let headroom = headroom_made p.0.name (begins text) registry r.0 r.1 in
     let kept = kept_is p.0 k.0 k.1 in
     record {
       last = k.0;
       is = sym same;
       ready = kept.ready;
-      fresh = ap (λ (n : List ℕ). found n registry) kept.name ∙ room.0;
-      few = room.1;
+      fresh = ap (λ (n : List ℕ). found n registry) kept.name ∙ headroom.0;
+      few = headroom.1;
     }
 
 pub stays_a_registry : StaysARegistry

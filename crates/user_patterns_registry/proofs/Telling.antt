@@ -1,5 +1,5 @@
 -- The check result of a verdict.
-use Rattle.std.proofs.Common.{◌≡◌, ◌∙◌, ◌≤◌, ℕ, List, Option, Some, None, true, false, ap, inl, inr, refl, subst}
+use Rattle.std.proofs.Common.{◌≡◌, ◌∙◌, ◌≤◌, ℕ, List, Option, Some, None, true, false, Bool, if◌then◌else◌, ap, inl, inr, refl, subst, sym}
 use Rattle.user_patterns_check.specs.declared.verdict.Verdict.{Verdict}
 use Rattle.user_patterns_check.specs.declared.verdict.Verdict.TheVariants as verdict
 use Rattle.user_patterns_check.specs.Contents.{Content}
@@ -9,10 +9,15 @@ use Rattle.user_patterns_data.specs.Shapes.{PatternModel}
 use Rattle.user_patterns_widths.specs.AllWidths.{holds_at_all_widths}
 use Rattle.user_patterns_widths.specs.Lasting.{HoldsAtAllWidths}
 use Rattle.user_patterns_registry.specs.declared.check_result.Counterexample.{Counterexample}
+use Rattle.user_patterns_registry.specs.declared.check_result.CheckResult.{CheckResult}
 use Rattle.user_patterns_registry.specs.declared.check_result.CheckResult.TheVariants as judgement
-use Rattle.user_patterns_claims.specs.Outcomes.{OutcomesDecide}
+use Rattle.user_patterns_claims.specs.declared.assignment.Refutation.{Refutation}
+use Rattle.user_patterns_claims.specs.Answered.{IsRefuted}
+use Rattle.user_patterns_claims.specs.Outcomes.{IsNeverNumber, OutcomesDecide}
 use Rattle.user_patterns_claims.specs.Outcomes.{HoldsAtAllWidths as HoldsForOutcomes}
-use Rattle.user_patterns_registry.specs.CheckResult.{IsCheckResult, IsShown, asked_width, reports_all_widths, told_width, width_told}
+use Rattle.user_patterns_registry.specs.CheckResult.{IsCheckResult, IsFirstFound, IsKept, IsSampledIf, IsWrong, requested_width, reports_all_widths}
+use Rattle.user_patterns_registry.specs.Sampled.{IsWideSampled, wide_widths}
+use Rattle.user_patterns_registry.specs.Shown.{IsShown, told_width, width_told}
 
 pub alike : {X : Type 0} (f : Content → List ℕ → X) (s t : Content) (us vs : List ℕ) → s ≡ t → us ≡ vs → f s us ≡ f t vs
 alike f s t us vs e g = (λ i. f (e i) (g i))
@@ -21,36 +26,73 @@ false_true : false ≡ true → ⊥
 false_true e = cc
 
 -- a form speaks only if no width was asked
-form_speaks : (p : PatternModel) (asked : Option ℕ) → reports_all_widths p asked ≡ true → (asked ≡ None) × (holds_at_all_widths p ≡ true)
+form_speaks : (p : PatternModel) (requested : Option ℕ) → reports_all_widths p requested ≡ true → (requested ≡ None) × (holds_at_all_widths p ≡ true)
 form_speaks p None e = (refl, e)
 form_speaks p (Some w) e = absurd (false_true e)
 
--- results of a check up to the asked width
-module _ (p : PatternModel) (asked : Option ℕ) (most : ℕ) (is : most ≡ asked_width p asked) where
-  pub holds_told : (v : ℕ) → v ≡ told_width p most → IsVerdict (content_at p) p.types most verdict.Holds → reports_all_widths p asked ≡ false
-      → IsCheckResult p asked (judgement.Holds v)
-  holds_told v width right told = (width ∙ ap (told_width p) is, subst (λ (m : ℕ). IsVerdict (content_at p) p.types m verdict.Holds) is right, told)
+-- what is true of the width that was tried is true of the one that was asked
+module _ (p : PatternModel) (requested : Option ℕ) (most : ℕ) (is : most ≡ requested_width p requested) where
+  to_asked : (v : Verdict) → IsVerdict (content_at p) p.types most v → IsVerdict (content_at p) p.types (requested_width p requested) v
+  to_asked v right = subst (λ (m : ℕ). IsVerdict (content_at p) p.types m v) is right
 
-  pub form_told : HoldsAtAllWidths → 1 ≤ most → IsVerdict (content_at p) p.types most verdict.Holds → reports_all_widths p asked ≡ true
-      → IsCheckResult p asked judgement.AllWidths
+  width_is : (v : ℕ) → v ≡ told_width p most → v ≡ told_width p (requested_width p requested)
+  width_is v width = width ∙ ap (told_width p) is
+
+  -- a check up to a width that was asked
+  pub asked_told : (w v : ℕ) → requested ≡ Some w → v ≡ told_width p most → IsVerdict (content_at p) p.types most verdict.Holds → reports_all_widths p requested ≡ false
+      → IsCheckResult p requested (judgement.Holds v)
+  asked_told w v e width right told = (width_is v width, to_asked verdict.Holds right, told, subst (IsSampledIf p) (sym e) tt)
+
+  pub samples_told : (v : ℕ) → requested ≡ None → v ≡ told_width p most → IsVerdict (content_at p) p.types most verdict.Holds → reports_all_widths p requested ≡ false
+      → IsWideSampled p wide_widths None → IsCheckResult p requested (judgement.Holds v)
+  samples_told v e width right told kept = (width_is v width, to_asked verdict.Holds right, told, subst (IsSampledIf p) (sym e) kept)
+
+  pub sampled_told : (c : Counterexample) → requested ≡ None → IsVerdict (content_at p) p.types most verdict.Holds → IsWideSampled p wide_widths (Some c)
+      → IsCheckResult p requested (judgement.Fails c)
+  sampled_told c e right found = inr (e, to_asked verdict.Holds right, found)
+
+  pub form_told : HoldsAtAllWidths → 1 ≤ most → IsVerdict (content_at p) p.types most verdict.Holds → reports_all_widths p requested ≡ true
+      → IsCheckResult p requested judgement.AllWidths
   form_told law some right told =
-      let form = form_speaks p asked told in
+      let form = form_speaks p requested told in
       let refines = law p form.1 most some right in
-      (form.0, subst (λ (m : ℕ). IsVerdict (content_at p) p.types m verdict.Holds) is right, (λ ks widths kinds. refines ks widths), inl (form.1, refines))
+      (form.0, inl (to_asked verdict.Holds right), (λ ks widths kinds. refines ks widths), inl (form.1, refines))
 
-  pub claims_told : OutcomesDecide → IsVerdict (content_at p) p.types most verdict.Holds → (asked ≡ None) × HoldsForOutcomes p
-      → IsCheckResult p asked judgement.AllWidths
-  claims_told law right claimed =
-      (claimed.0, subst (λ (m : ℕ). IsVerdict (content_at p) p.types m verdict.Holds) is right, law p claimed.1, inr claimed.1)
+  pub claims_told : OutcomesDecide → requested ≡ None → IsVerdict (content_at p) p.types most verdict.Holds → HoldsForOutcomes p
+      → IsCheckResult p requested judgement.AllWidths
+  claims_told law e right claimed = (e, inl (to_asked verdict.Holds right), law p claimed, inr claimed)
 
-  pub empty_told : (v : ℕ) → v ≡ told_width p most → IsVerdict (content_at p) p.types most verdict.Vacuous → IsCheckResult p asked (judgement.Vacuous v)
-  empty_told v width right = (width ∙ ap (told_width p) is, subst (λ (m : ℕ). IsVerdict (content_at p) p.types m verdict.Vacuous) is right)
+  pub wide_told : OutcomesDecide → requested ≡ None → IsVerdict (content_at p) p.types most verdict.Vacuous → HoldsForOutcomes p → (IsNeverNumber p → ⊥)
+      → IsCheckResult p requested judgement.AllWidths
+  wide_told law e right claimed somewhere = (e, inr (to_asked verdict.Vacuous right, somewhere), law p claimed, inr claimed)
+
+  pub never_told : (v : ℕ) → requested ≡ None → v ≡ told_width p most → IsVerdict (content_at p) p.types most verdict.Holds → IsNeverNumber p
+      → IsCheckResult p requested (judgement.Vacuous v)
+  never_told v e width right never = (width_is v width, inr (e, to_asked verdict.Holds right, never))
+
+  pub empty_told : (v : ℕ) → v ≡ told_width p most → IsVerdict (content_at p) p.types most verdict.Vacuous → IsCheckResult p requested (judgement.Vacuous v)
+  empty_told v width right = (width_is v width, inl (to_asked verdict.Vacuous right))
+
+  -- a pattern that holds, and whether its old side is a number somewhere
+  pub right_told : OutcomesDecide → requested ≡ None → IsVerdict (content_at p) p.types most verdict.Vacuous → (b : Bool) → HoldsForOutcomes p × (b ≡ true → IsNeverNumber p → ⊥)
+      → (j : CheckResult) → j ≡ (if b then judgement.AllWidths else judgement.Vacuous (told_width p most)) → IsCheckResult p requested j
+  right_told law e right true claimed j told = subst (IsCheckResult p requested) (sym told) (wide_told law e right claimed.0 (claimed.1 refl))
+  right_told law e right false claimed j told = subst (IsCheckResult p requested) (sym told) (empty_told (told_width p most) refl right)
+
+  wrong_told : (r : Refutation) (j : CheckResult) → requested ≡ None → IsKept p most → IsRefuted p r → IsWrong p r j → IsCheckResult p requested j
+  wrong_told r j e kept is_wrong told =
+      subst (IsCheckResult p requested) (sym told) (e, refl, subst (IsKept p) is kept, is_wrong)
+
+  pub wrong_holds : (r : Refutation) (j : CheckResult) → requested ≡ None → IsVerdict (content_at p) p.types most verdict.Holds → IsRefuted p r → IsWrong p r j → IsCheckResult p requested j
+  wrong_holds r j e right is_wrong told = wrong_told r j e (inl right) is_wrong told
+
+  pub wrong_empty : (r : Refutation) (j : CheckResult) → requested ≡ None → IsVerdict (content_at p) p.types most verdict.Vacuous → IsRefuted p r → IsWrong p r j → IsCheckResult p requested j
+  wrong_empty r j e right is_wrong told = wrong_told r j e (inr right) is_wrong told
 
   pub fails_told : (v : Verdict) (c : Counterexample) → v ≡ verdict.Fails c.widths c.values
       → IsVerdict (content_at p) p.types most v → IsFirst (content_at p) p.types most v
-      → c.width ≡ width_told p c.widths.items → IsShown (content_at p c.widths.items) c → IsCheckResult p asked (judgement.Fails c)
+      → c.width ≡ width_told p c.widths.items → IsShown (content_at p c.widths.items) c → IsCheckResult p requested (judgement.Fails c)
   fails_told v c same right first width shown =
-      subst
-      (λ (m : ℕ). (c.width ≡ width_told p c.widths.items) × IsVerdict (content_at p) p.types m (verdict.Fails c.widths c.values) × IsFirst (content_at p) p.types m (verdict.Fails c.widths c.values) × IsShown (content_at p c.widths.items) c)
-      is
-      (width, subst (IsVerdict (content_at p) p.types most) same right, subst (IsFirst (content_at p) p.types most) same first, shown)
+      inl
+      (subst (λ (m : ℕ). IsFirstFound p m c) is
+      (record { width = width; broken = subst (IsVerdict (content_at p) p.types most) same right; first = subst (IsFirst (content_at p) p.types most) same first; shown = shown }))

@@ -10,7 +10,7 @@ use Rattle.user_patterns_check.specs.Checks.{keeps}
 use Rattle.user_patterns_data.specs.Fitting.{content_at}
 use Rattle.user_patterns_data.specs.Shapes.{PatternModel}
 use Rattle.user_patterns_registry.specs.declared.check_result.Counterexample.{Counterexample}
-use Rattle.user_patterns_registry.specs.CheckResult.{IsShown, width_told}
+use Rattle.user_patterns_registry.specs.Shown.{IsShown, width_told}
 use Rattle.user_patterns_registry.specs.Sampled.{IsRefuted, case_tried, first_refuting, keeps_tried, tried_bounds, values_tried, widths_tried}
 use Rattle.user_patterns_registry.specs.Values.{values_of}
 

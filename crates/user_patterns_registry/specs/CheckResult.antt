@@ -1,34 +1,31 @@
 -- The result of a check command: the greatest width, and the report.
-use Rattle.std.specs.Prelude.{◌≡◌, ℕ, zero, suc, ◌<◌, ◌⊎◌, Bool, true, false, nat_le, ◌==◌, if◌then◌else◌, List, [], ◌∷◌, map, max, replicate, slice_get, Option, Some, None, option_map}
-use Rattle.ir_types.specs.declared.bits.Bits.{Bits}
+use Rattle.std.specs.Prelude.{◌≡◌, ℕ, zero, suc, ◌<◌, ◌≤◌, ◌⊎◌, Bool, true, false, nat_le, if◌then◌else◌, List, replicate, Option, Some, None}
 use Rattle.ir_types.specs.declared.bits.BitsKind.{BitsKind}
-use Rattle.ir_types.specs.Bits.{width_of}
 use Rattle.ir_types.specs.declared.refusal.Refusal.{Refusal}
 use Rattle.ir_types.specs.declared.refusal.Refusal.TheVariants.{BadLimit, Memory}
-use Rattle.dialects_int.specs.Folds.{known_of}
 use Rattle.user_patterns_check.specs.declared.verdict.Verdict.TheVariants as verdict
-use Rattle.user_patterns_check.specs.Contents.{Content}
-use Rattle.user_patterns_check.specs.Checks.{AlwaysKeeps, bits, bound, old_steps, shown}
+use Rattle.user_patterns_check.specs.Checks.{AlwaysKeeps, bits}
 use Rattle.user_patterns_check.specs.Families.{IsFirst, IsVerdict, TooMany}
-use Rattle.user_patterns_check.specs.Outcomes.{Outcome, given, run}
-use Rattle.user_patterns_data.specs.declared.pattern.PatternType.{PatternType}
-use Rattle.user_patterns_data.specs.declared.pattern.PatternType.TheVariants as ty
 use Rattle.user_patterns_data.specs.Fitting.{content_at, content_with}
 use Rattle.user_patterns_data.specs.Shapes.{PatternModel}
 use Rattle.user_patterns_widths.specs.AllWidths.{holds_at_all_widths}
 use Rattle.user_patterns_widths.specs.Lasting.{RefinesAtAllWidths}
-use Rattle.user_patterns_claims.specs.Outcomes.{AreKindsOf, HoldsAtAllWidths, are_kinds}
+use Rattle.user_patterns_claims.specs.declared.assignment.Refutation.{Refutation}
+use Rattle.user_patterns_claims.specs.Answered.{IsRefuted}
+use Rattle.user_patterns_claims.specs.Outcomes.{AreKindsOf, HoldsAtAllWidths, IsNeverNumber, are_kinds}
 use Rattle.user_patterns_registry.specs.declared.check_result.Counterexample.{Counterexample}
 use Rattle.user_patterns_registry.specs.declared.check_result.CheckResult.{CheckResult}
 use Rattle.user_patterns_registry.specs.declared.check_result.CheckResult.TheVariants as judgement
 use Rattle.user_patterns_registry.specs.declared.check_result.CheckSummary.{CheckSummary}
 use Rattle.user_patterns_registry.specs.declared.check_result.CheckSummary.TheVariants as said
+use Rattle.user_patterns_registry.specs.Sampled.{IsWideRefuted, NoneRefutes, most_types, wide_widths}
+use Rattle.user_patterns_registry.specs.Shown.{IsShown, told_width, width_told}
 
 -- ---- the width
 
 -- the greatest width that a check accepts, the greatest default width, and the limit of bits at the default width
-abbrev pub most_asked : ℕ
-most_asked = 64
+abbrev pub most_requested : ℕ
+most_requested = 64
 
 abbrev pub default_most : ℕ
 default_most = 8
@@ -48,59 +45,11 @@ widest p (suc w) = if is_small p (suc w) then suc w else widest p w
 abbrev pub default_width : PatternModel → ℕ
 default_width p = widest p default_most
 
-abbrev pub asked_width : PatternModel → Option ℕ → ℕ
-asked_width p None = default_width p
-asked_width p (Some w) = w
-
--- ---- computed values
-
-abbrev pub or_nothing : {X : Type 0} → Option (List X) → List X
-or_nothing None = []
-or_nothing (Some xs) = xs
-
--- the values, each with its kind
-abbrev pub values_shown : Content → List ℕ → List Outcome
-values_shown s values = or_nothing (bound s.value_types values [])
-
--- the results of the old and the new side, or none if a step is undefined
-abbrev pub old_shown : Content → List ℕ → Option Outcome
-old_shown s values = given (old_steps s values []) (λ env. slice_get env s.old_result)
-
-abbrev pub new_shown : Content → List ℕ → Option Outcome
-new_shown s values = given (old_steps s values []) (λ env. shown s.new_result (run s.new env))
-
-abbrev pub outcomes : List (Option Bits) → List Outcome
-outcomes vs = map known_of vs
-
--- the reported values of a counterexample are computed from its values at its widths
-pub record IsShown (s : Content) (c : Counterexample) : Type 0 where
-  pub values : outcomes c.shown.items ≡ values_shown s c.values.items
-  pub old : option_map known_of c.old ≡ old_shown s c.values.items
-  pub new : option_map known_of c.new ≡ new_shown s c.values.items
+abbrev pub requested_width : PatternModel → Option ℕ → ℕ
+requested_width p None = default_width p
+requested_width p (Some w) = w
 
 -- ---- the report
-
-abbrev pub greatest : List ℕ → ℕ
-greatest [] = 0
-greatest (w ∷ ws) = max w (greatest ws)
-
--- the width of the widest type of a pattern without type variables
-abbrev pub type_width : PatternType → ℕ
-type_width (ty.Concrete k) = width_of k
-type_width (ty.Variable v) = 0
-
-unfoldable pub widest_type : List PatternType → ℕ
-widest_type ks = greatest (map type_width ks)
-
--- the width of a check without counterexample: the greatest width of type variables, or the width of the widest type
--- if there is no type variable
-abbrev pub told_width : PatternModel → ℕ → ℕ
-told_width p most = if p.types == 0 then widest_type p.value_types else most
-
--- the width of a counterexample: the greatest of its widths, or the width of the widest type
-abbrev pub width_told : PatternModel → List ℕ → ℕ
-width_told p [] = widest_type p.value_types
-width_told p (w ∷ ws) = greatest (w ∷ ws)
 
 -- if no width is asked, a pattern whose form says so is reported to be right at every width
 abbrev pub reports_all_widths : PatternModel → Option ℕ → Bool
@@ -116,31 +65,63 @@ KeepsAtAllWidths p = (ks : List BitsKind) → are_kinds ks ≡ true → AreKinds
 abbrev pub IsProvedAtAllWidths : PatternModel → Type 0
 IsProvedAtAllWidths p = ((holds_at_all_widths p ≡ true) × RefinesAtAllWidths p) ⊎ HoldsAtAllWidths p
 
--- A result of a check is true, and a counterexample is the first one. All values were tried at the widths up to the one
--- that was asked. The number is that width, or the width of the widest type if no type is variable. A result without a
--- number says that the pattern is right at every width; it is given only if no width was asked.
+-- no value up to a width refutes the pattern: it holds there, or its old side is defined nowhere there
+abbrev pub IsKept : PatternModel → ℕ → Type 0
+IsKept p w = IsVerdict (content_at p) p.types w verdict.Holds ⊎ IsVerdict (content_at p) p.types w verdict.Vacuous
+
+-- the old side is a number somewhere, or at least defined at a width up to this one
+abbrev pub IsDefinedSomewhere : PatternModel → ℕ → Type 0
+IsDefinedSomewhere p w = IsVerdict (content_at p) p.types w verdict.Holds ⊎ (IsVerdict (content_at p) p.types w verdict.Vacuous × (IsNeverNumber p → ⊥))
+
+-- no sample of wide types refutes the pattern, if no width was asked
+abbrev pub IsSampledIf : PatternModel → Option ℕ → Type 0
+IsSampledIf p None = p.types ≤ most_types → NoneRefutes p wide_widths
+IsSampledIf p (Some w) = Unit {0}
+
+-- the first counterexample among the values up to the width
+pub record IsFirstFound (p : PatternModel) (w : ℕ) (c : Counterexample) : Type 0 where
+  pub width : c.width ≡ width_told p c.widths.items
+  pub broken : IsVerdict (content_at p) p.types w (verdict.Fails c.widths c.values)
+  pub first : IsFirst (content_at p) p.types w (verdict.Fails c.widths c.values)
+  pub shown : IsShown (content_at p c.widths.items) c
+
+-- a result that tells the counterexample of a claim
+abbrev pub IsWrong : PatternModel → Refutation → CheckResult → Type 0
+IsWrong p r j = j ≡ judgement.Refuted (width_told p r.assignment.widths.items) r
+
+-- The meaning of each answer of a check. All values are tried at the widths up to the one that was asked, or up to the
+-- default width. The number of an answer is that width, or the width of the widest type if no type is variable.
+-- - `Holds`: no value up to the width refutes the pattern, and no sample of wide types if no width was asked.
+-- - `AllWidths`: the pattern is right at every width. This is given only if no width was asked.
+-- - `Vacuous`: the old side is never a number at any width, or it isn't defined for any value up to the width.
+-- - `Fails`: the first counterexample among the values up to the width; or, if there is none and no width was asked,
+--   the first among the samples of wide types.
+-- - `Refuted`: a counterexample at wider types or with poison, by a claim that fails. Both sides were run.
 abbrev pub IsCheckResult : PatternModel → Option ℕ → CheckResult → Type 0
-IsCheckResult p asked (judgement.Holds v) =
-    (v ≡ told_width p (asked_width p asked))
-    × IsVerdict (content_at p) p.types (asked_width p asked) verdict.Holds
-    × (reports_all_widths p asked ≡ false)
-IsCheckResult p asked judgement.AllWidths =
-    (asked ≡ None)
-    × IsVerdict (content_at p) p.types (asked_width p asked) verdict.Holds
+IsCheckResult p requested (judgement.Holds v) =
+    (v ≡ told_width p (requested_width p requested))
+    × IsVerdict (content_at p) p.types (requested_width p requested) verdict.Holds
+    × (reports_all_widths p requested ≡ false)
+    × IsSampledIf p requested
+IsCheckResult p requested judgement.AllWidths =
+    (requested ≡ None)
+    × IsDefinedSomewhere p (requested_width p requested)
     × KeepsAtAllWidths p
     × IsProvedAtAllWidths p
-IsCheckResult p asked (judgement.Vacuous v) =
-    (v ≡ told_width p (asked_width p asked)) × IsVerdict (content_at p) p.types (asked_width p asked) verdict.Vacuous
-IsCheckResult p asked (judgement.Fails c) =
-    (c.width ≡ width_told p c.widths.items)
-    × IsVerdict (content_at p) p.types (asked_width p asked) (verdict.Fails c.widths c.values)
-    × IsFirst (content_at p) p.types (asked_width p asked) (verdict.Fails c.widths c.values)
-    × IsShown (content_at p c.widths.items) c
-IsCheckResult p asked (judgement.Sampled v) = ⊥
+IsCheckResult p requested (judgement.Vacuous v) =
+    (v ≡ told_width p (requested_width p requested))
+    × (IsVerdict (content_at p) p.types (requested_width p requested) verdict.Vacuous
+    ⊎ ((requested ≡ None) × IsVerdict (content_at p) p.types (requested_width p requested) verdict.Holds × IsNeverNumber p))
+IsCheckResult p requested (judgement.Fails c) =
+    IsFirstFound p (requested_width p requested) c
+    ⊎ ((requested ≡ None) × IsVerdict (content_at p) p.types (requested_width p requested) verdict.Holds × IsWideRefuted p c)
+IsCheckResult p requested (judgement.Refuted w r) =
+    (requested ≡ None) × (w ≡ width_told p r.assignment.widths.items) × IsKept p (requested_width p requested) × IsRefuted p r
+IsCheckResult p requested (judgement.Sampled v) = ⊥
 
 -- a width that the check refuses: 0, above the limit, or with too many values
 abbrev pub IsUntried : PatternModel → ℕ → Type 0
-IsUntried p w = (w < 1) ⊎ ((most_asked < w) ⊎ TooMany (content_at p) p.types w)
+IsUntried p w = (w < 1) ⊎ ((most_requested < w) ⊎ TooMany (content_at p) p.types w)
 
 -- the reason why a check is refused
 abbrev pub IsRefused : PatternModel → ℕ → Refusal → Type 0
@@ -154,4 +135,5 @@ said_of (judgement.Holds w) = said.Holds w
 said_of judgement.AllWidths = said.AllWidths
 said_of (judgement.Vacuous w) = said.Vacuous w
 said_of (judgement.Fails c) = said.Fails c.width
+said_of (judgement.Refuted w r) = said.Fails w
 said_of (judgement.Sampled w) = said.Sampled w

@@ -1,4 +1,5 @@
 pub mod Registry
+pub mod Shown
 pub mod CheckResult
 pub mod Rows
 pub mod Values

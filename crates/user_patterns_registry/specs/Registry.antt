@@ -3,14 +3,13 @@ use Rattle.std.specs.Prelude.{◌≡◌, ℕ, ◌≤◌, Bool, true, false, not,
 use Rattle.std.specs.Str.{bytes_eq}
 use Rattle.std.specs.List.{All}
 use Rattle.ir_text_tokens.specs.declared.refusal.TextRefusal.TheVariants.{Redefined, TooMany, TypeMismatch}
-use Rattle.ir_text_types.specs.Typed.{Text}
 use Rattle.user_patterns_text.specs.Parts as parts
 use Rattle.user_patterns_text.specs.Refusing.{Outcome, ◌>>=◌, begins, refused}
 use Rattle.user_patterns_text.specs.Syntax as syntax
 use Rattle.user_patterns_text.specs.Grammar.{IsPattern}
-use Rattle.user_patterns_text.specs.Spelled.{Spells, whole_at}
+use Rattle.user_patterns_text.specs.Rendered.{Spells, whole_at}
 use Rattle.user_patterns_text.specs.Printed.{pattern_text}
-use Rattle.user_patterns_sema.specs.Sema.{formed}
+use Rattle.user_patterns_sema.specs.Sema.{wellformed}
 use Rattle.user_patterns_sema_base.specs.Names.{names_of}
 use Rattle.user_patterns_build.specs.CanBuild.{can_build}
 use Rattle.user_patterns_build.specs.Unified.{ready}
@@ -20,6 +19,10 @@ use Rattle.user_patterns_registry.specs.declared.check_result.CheckSummary.{Chec
 use Rattle.user_patterns_registry.specs.Rows.{Variable, named_views, said_text}
 use Rattle.user_patterns_registry.specs.declared.registry.RegisteredPattern.{RegisteredPattern}
 use Rattle.user_patterns_registry.specs.declared.registry.PatternRegistry.{PatternRegistry as RegistryCode}
+
+-- bytes
+abbrev pub Text : Type 0
+Text = List ℕ
 
 -- a registered pattern: its name, its printed text, the variables of its left side in their order, and the summary of
 -- its last check
@@ -58,8 +61,8 @@ found name (k ∷ ks) = if is_named name k then Some k else found name ks
 -- ---- definitions
 
 -- the name is new, and the registry isn't full
-abbrev pub room_for : List ℕ → ℕ → RegistryModel → Outcome (Unit {0})
-room_for name at registry =
+abbrev pub headroom_for : List ℕ → ℕ → RegistryModel → Outcome (Unit {0})
+headroom_for name at registry =
     if is_some (found name registry) then refused Redefined at
     else if nat_lt (length registry) most_patterns then Ok tt
     else refused TooMany at
@@ -76,7 +79,7 @@ unfoldable pub variables_of : parts.Pattern → Outcome (List Variable)
 variables_of p = names_of p >>= λ n. Ok n.variables
 
 unfoldable pub shape_of : parts.Pattern → Outcome PatternModel
-shape_of p = formed p >>= λ s. made_ready (ready s)
+shape_of p = wellformed p >>= λ s. made_ready (ready s)
 
 -- the registry entry of a parsed pattern
 unfoldable pub kept_of : parts.Pattern → Outcome Kept
@@ -91,7 +94,7 @@ added registry p = kept_of p >>= λ k. Ok (and_kept registry k)
 
 -- the registry with the pattern of a text appended
 unfoldable pub defined : RegistryModel → Text → Outcome RegistryModel
-defined registry text = whole_at text >>= λ p. room_for p.name (begins text) registry >>= λ _. added registry p
+defined registry text = whole_at text >>= λ p. headroom_for p.name (begins text) registry >>= λ _. added registry p
 
 -- ---- removed patterns
 
@@ -174,7 +177,7 @@ pub record IsAdded (registry new : RegistryModel) : Type 0 where
 -- the printed text of the last pattern spells the pattern that `text` spells
 abbrev pub LastSpells : Text → RegistryModel → Type 0
 LastSpells text new =
-    (q : syntax.Pattern) × Spells text q × (front : RegistryModel) × (last : Kept) × (new ≡ front ++ last ∷ []) × IsPattern q last.text []
+    (q : syntax.Pattern) × Spells text q × (preceding : RegistryModel) × (last : Kept) × (new ≡ preceding ++ last ∷ []) × IsPattern q last.text []
 
 abbrev pub AddsOne : Type 0
 AddsOne = (registry new : RegistryModel) (text : Text) → defined registry text ≡ Ok new → IsAdded registry new

@@ -8,6 +8,7 @@ use Rattle.ir_types.specs.Bits.{width_of}
 use Rattle.ir_types.specs.Readings.{signed_of}
 use Rattle.dialects_int.specs.Folds.{known_of}
 use Rattle.user_patterns_check.specs.Outcomes.{Outcome}
+use Rattle.user_patterns_claims.specs.declared.assignment.Refutation.{Refutation}
 use Rattle.user_patterns_registry.specs.declared.check_result.Counterexample.{Counterexample}
 use Rattle.user_patterns_registry.specs.declared.check_result.CheckSummary.{CheckSummary}
 use Rattle.user_patterns_registry.specs.declared.check_result.CheckSummary.TheVariants as said
@@ -62,6 +63,27 @@ seen o = option_map known_of o
 -- the report rows of a counterexample: the variables, and the results of both sides
 abbrev pub rows_text : List Variable → Counterexample → List ℕ
 rows_text vs c = values_text vs (map known_of c.shown.items) ++ (row_text (codes "old") (seen c.old) ++ row_text (codes "new") (seen c.new))
+
+-- an outcome of a variable: a value, or poison with its type
+abbrev pub input_text : BitsKind → Outcome → List ℕ
+input_text k None = codes "poison : " ++ kind_text k
+input_text k (Some v) = value_text v.0 v.1
+
+abbrev pub input_row : Variable → BitsKind → Outcome → List ℕ
+input_row v k o = name_text v ++ (32 ∷ (input_text k o ++ 10 ∷ []))
+
+-- a row for each variable that has a kind and an outcome
+abbrev pub inputs_text : List Variable → List BitsKind → List Outcome → List ℕ
+inputs_text [] ks os = []
+inputs_text (v ∷ vs) [] os = []
+inputs_text (v ∷ vs) (k ∷ ks) [] = []
+inputs_text (v ∷ vs) (k ∷ ks) (o ∷ os) = input_row v k o ++ inputs_text vs ks os
+
+-- the report rows of a counterexample that may have poison
+abbrev pub refutation_text : List Variable → Refutation → List ℕ
+refutation_text vs r =
+    inputs_text vs r.assignment.value_types.items (map known_of r.assignment.outcomes.items)
+    ++ (row_text (codes "old") (seen r.old) ++ row_text (codes "new") (seen r.new))
 
 -- the printed summary of a check
 abbrev pub said_text : CheckSummary → List ℕ

@@ -12,7 +12,7 @@ use Rattle.user_patterns_data.specs.Shapes.{PatternModel}
 use Rattle.user_patterns_registry.specs.declared.check_result.Counterexample.{Counterexample}
 use Rattle.user_patterns_registry.specs.declared.check_result.CheckResult.{CheckResult}
 use Rattle.user_patterns_registry.specs.declared.check_result.CheckResult.TheVariants as judgement
-use Rattle.user_patterns_registry.specs.CheckResult.{IsShown, told_width, width_told}
+use Rattle.user_patterns_registry.specs.Shown.{IsShown, told_width, width_told}
 use Rattle.user_patterns_registry.specs.Values.{values_of}
 
 -- ---- the samples
@@ -80,10 +80,37 @@ pub record IsRefuted (p : PatternModel) (w : ℕ) (c : Counterexample) : Type 0 
   pub broken : keeps (content_at p c.widths.items) c.values.items ≡ false
   pub shown : IsShown (content_at p c.widths.items) c
 
+-- a counterexample, or none of the samples of a width is one
+abbrev pub IsFoundAt : PatternModel → ℕ → Option Counterexample → Type 0
+IsFoundAt p w None = first_refuting p w ≡ None
+IsFoundAt p w (Some c) = IsRefuted p w c
+
 abbrev pub IsSampled : PatternModel → ℕ → CheckResult → Type 0
 IsSampled p w (judgement.Sampled v) = IsTried p w × (v ≡ told_width p w) × (first_refuting p w ≡ None)
 IsSampled p w (judgement.Fails c) = IsTried p w × IsRefuted p w c
 IsSampled p w _ = ⊥
+
+-- the widths that are sampled if no width is asked
+abbrev pub wide_widths : List ℕ
+wide_widths = 16 ∷ 32 ∷ 64 ∷ 128 ∷ []
+
+-- none of the samples at these widths is a counterexample
+abbrev pub NoneRefutes : PatternModel → List ℕ → Type 0
+NoneRefutes p [] = Unit {0}
+NoneRefutes p (w ∷ ws) = (first_refuting p w ≡ None) × NoneRefutes p ws
+
+-- each of these widths is accepted
+abbrev pub AreTried : PatternModel → List ℕ → Type 0
+AreTried p [] = Unit {0}
+AreTried p (w ∷ ws) = IsTried p w × AreTried p ws
+
+-- a counterexample among the samples of some width
+abbrev pub IsWideRefuted : PatternModel → Counterexample → Type 0
+IsWideRefuted p c = (w : ℕ) × IsTried p w × IsRefuted p w c
+
+abbrev pub IsWideSampled : PatternModel → List ℕ → Option Counterexample → Type 0
+IsWideSampled p ws None = p.types ≤ most_types → NoneRefutes p ws
+IsWideSampled p ws (Some c) = IsWideRefuted p c
 
 -- the reason why a check is refused
 abbrev pub IsNotSampled : PatternModel → ℕ → Refusal → Type 0

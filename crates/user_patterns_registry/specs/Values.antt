@@ -41,12 +41,12 @@ spread n = ((n + 1) * 210306068529402873165736369884012333109) % 2 ^ 128
 abbrev pub folded : ℕ → ℕ
 folded x = bit_xor x (x / 2 ^ 64)
 
-abbrev pub mixed : ℕ → ℕ
-mixed n = (folded (spread n) * 285664570310849569842209678980328941915) % 2 ^ 128
+abbrev pub rule_list : ℕ → ℕ
+rule_list n = (folded (spread n) * 285664570310849569842209678980328941915) % 2 ^ 128
 
 -- the upper w bits of these
 abbrev pub chance : ℕ → ℕ → ℕ
-chance w n = mixed n / 2 ^ (128 - w)
+chance w n = rule_list n / 2 ^ (128 - w)
 
 -- ---- the values of a test case
 

@@ -3,6 +3,7 @@ ghost use Rattle.std.specs.Prelude.{◌≡◌};
 ghost use Rattle.user_patterns_registry.specs.CheckResult.{said_of};
 
 use ir_types::bits::Bits;
+use user_patterns_claims::assignment::Refutation;
 
 /// The first values at which the pattern isn't a refinement, and the values that both sides compute.
 #[derive(Drop)]
@@ -19,7 +20,7 @@ pub struct Counterexample {
     pub new: Option<Option<Bits>>,
 }
 
-/// The result of a check.
+/// The result of a check, whose exact meaning is `IsCheckResult` in `specs/CheckResult.antt`.
 ///
 /// The number is a width: the greatest width of the type variables, or the width of the widest type if there is no type
 /// variable.
@@ -29,10 +30,12 @@ pub enum CheckResult {
     Holds(u32),
     /// The new side refines the old side, for all values at all widths.
     AllWidths,
-    /// The pattern applies at no values, or the old side is always undefined.
+    /// The old side is never a number, or undefined for all values up to this width.
     Vacuous(u32),
     /// The new side doesn't refine the old side at these values.
     Fails(Counterexample),
+    /// The new side doesn't refine the old side for these outcomes, at types up to this width.
+    Refuted(u32, Refutation),
     /// None of the sampled values up to this width is a counterexample.
     Sampled(u32),
 }
@@ -57,6 +60,7 @@ impl CheckResult {
             CheckResult::AllWidths => CheckSummary::AllWidths,
             CheckResult::Vacuous(width) => CheckSummary::Vacuous(*width),
             CheckResult::Fails(counterexample) => CheckSummary::Fails(counterexample.width),
+            CheckResult::Refuted(width, _) => CheckSummary::Fails(*width),
             CheckResult::Sampled(width) => CheckSummary::Sampled(*width),
         }
     }

@@ -3,12 +3,12 @@ ghost use Rattle.std.specs.Prelude.{◌≡◌, Ok, IfOk, OnErr, OnOk, option_map
 ghost use Rattle.ir_text_tokens.specs.Tokens.{skip};
 ghost use Rattle.user_patterns_text.specs.Parts.{pattern_view};
 ghost use Rattle.user_patterns_text.specs.Refusing.{Returns, begins};
-ghost use Rattle.user_patterns_text.specs.Spelled.{IsSpelled};
+ghost use Rattle.user_patterns_text.specs.Rendered.{IsRendered};
 ghost use Rattle.user_patterns_sema_base.specs.Views.{variable_view, variable_views};
 ghost use Rattle.user_patterns_data.specs.Shapes.{pattern_model};
 ghost use Rattle.user_patterns_registry.specs.Rows.{named_view, named_views};
 ghost use Rattle.user_patterns_build.specs.Unified.{ready};
-ghost use Rattle.user_patterns_registry.specs.Registry.{LastSpells, added, and_kept, registry_model, defined, kept_of, kept_view, made_ready, room_for, shape_of, variables_of};
+ghost use Rattle.user_patterns_registry.specs.Registry.{LastSpells, added, and_kept, registry_model, defined, kept_of, kept_view, made_ready, headroom_for, shape_of, variables_of};
 
 use crate::registry::{PatternRegistry, RegisteredPattern, find};
 use crate::rows::NamedVariable;
@@ -36,8 +36,8 @@ fn begins(bytes: &[u8]) -> usize
 }
 
 /// Returns an error if the name is already defined (`Redefined`) or the registry is full (`TooMany`).
-fn room_for(registry: &PatternRegistry, name: &[u8], at: usize) -> Result<(), PatternError>
-    ensures { Returns (λ _. tt) result (room_for name.now at (registry_model registry.now)) }
+fn headroom_for(registry: &PatternRegistry, name: &[u8], at: usize) -> Result<(), PatternError>
+    ensures { Returns (λ _. tt) result (headroom_for name.now at (registry_model registry.now)) }
 {
     if find(registry, name).is_some() {
         return Err(refused(TextRefusal::Redefined, at));
@@ -156,10 +156,10 @@ fn add_read(
     text: &[u8],
     parts: &parts::Pattern<'_>,
 ) -> Result<(), PatternError>
-    requires { IsSpelled text.now parts.now }
+    requires { IsRendered text.now parts.now }
     ensures gives { Returns (λ _. registry_model registry.new) result (added (registry_model registry.old) (pattern_view parts.now)) }
     ensures stays { OnErr result (registry_model registry.new ≡ registry_model registry.old) }
-    ensures spelled { OnOk result (LastSpells text.now (registry_model registry.new)) }
+    ensures rendered { OnOk result (LastSpells text.now (registry_model registry.new)) }
 {
     match kept_of(alloc, parts) {
         Ok(held) => add(registry, held),
@@ -180,13 +180,13 @@ pub fn define(
 ) -> Result<(), PatternError>
     ensures gives { Returns (λ _. registry_model registry.new) result (defined (registry_model registry.old) text.now) }
     ensures stays { OnErr result (registry_model registry.new ≡ registry_model registry.old) }
-    ensures spelled { OnOk result (LastSpells text.now (registry_model registry.new)) }
+    ensures rendered { OnOk result (LastSpells text.now (registry_model registry.new)) }
 {
     let parts = match read(alloc, text) {
         Ok(parts) => parts,
         Err(e) => return Err(e),
     };
-    match room_for(registry, parts.name, begins(text)) {
+    match headroom_for(registry, parts.name, begins(text)) {
         Ok(()) => {}
         Err(e) => return Err(e),
     }

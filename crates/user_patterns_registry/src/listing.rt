@@ -1,12 +1,13 @@
 //! Prints a registry, and the report rows of a check.
 ghost use Rattle.std.specs.Prelude.{◌≡◌, ◌++◌, IfOk, OnOk};
-ghost use Rattle.user_patterns_registry.specs.Rows.{named_views, rows_text};
+ghost use Rattle.user_patterns_registry.specs.Rows.{named_views, refutation_text, rows_text};
 ghost use Rattle.user_patterns_registry.specs.Registry.{registry_model, kept_view, kept_views, line_text, listing_text, note_text};
 
 use crate::check_result::{CheckSummary, Counterexample};
 use crate::registry::{PatternRegistry, RegisteredPattern};
-use crate::rows::{write_rows, write_summary};
+use crate::rows::{write_refutation, write_rows, write_summary};
 use std::alloc::{AllocError, Global};
+use user_patterns_claims::assignment::Refutation;
 
 fn write_note(out: &mut Vec<u8>, said: &Option<CheckSummary>) -> Result<(), AllocError>
     ensures { OnOk result (out.new.items ≡ out.old.items ++ note_text said.now) }
@@ -59,5 +60,19 @@ pub fn rows(
 {
     let mut out = Vec::new(alloc);
     write_rows(&mut out, &held.variables, counterexample)?;
+    Ok(out)
+}
+
+/// Returns the report rows of a counterexample that may have poison: one row for each variable, then the results of the
+/// old and the new side.
+pub fn refutation_rows(
+    alloc: Global,
+    held: &RegisteredPattern,
+    refutation: &Refutation,
+) -> Result<Vec<u8>, AllocError>
+    ensures { IfOk result (λ v. v.items ≡ refutation_text (named_views held.now.variables.items) refutation.now) }
+{
+    let mut out = Vec::new(alloc);
+    write_refutation(&mut out, &held.variables, refutation)?;
     Ok(out)
 }

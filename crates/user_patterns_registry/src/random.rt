@@ -1,7 +1,7 @@
 //! Pseudorandom values, the same in every run.
 ghost use Rattle.std.specs.Prelude.{◌≡◌, ◌+◌, ◌*◌, ◌≤◌};
 ghost use Rattle.ir_types.specs.Limits.{most_width};
-ghost use Rattle.user_patterns_registry.specs.Values.{chance, folded, mixed, spread};
+ghost use Rattle.user_patterns_registry.specs.Values.{chance, folded, rule_list, spread};
 
 /// Returns a number of 128 bits. Close arguments have results that are far apart.
 fn spread(number: u128) -> u128
@@ -21,7 +21,7 @@ fn folded(number: u128) -> u128
 
 /// Returns 128 pseudorandom bits for a number.
 fn mix_bits(number: u128) -> u128
-    ensures { result ≡ mixed number }
+    ensures { result ≡ rule_list number }
 {
     folded(spread(number)).wrapping_mul(0xD6E8_FEB8_6659_FD93_A5A3_F1C2_B4E7_695B)
 }

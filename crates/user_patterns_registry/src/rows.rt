@@ -4,12 +4,13 @@ ghost use Rattle.std.specs.Fmt.{decimal, signed_decimal};
 ghost use Rattle.ir_types.specs.Bits.{width_of};
 ghost use Rattle.ir_types.specs.Readings.{signed_of};
 ghost use Rattle.dialects_int.specs.Folds.{known_of};
-ghost use Rattle.user_patterns_registry.specs.Rows.{is_truth, kind_text, name_text, named_view, named_views, outcome_text, row_text, rows_text, said_text, truth_text, value_text, values_text};
+ghost use Rattle.user_patterns_registry.specs.Rows.{input_row, input_text, inputs_text, is_truth, kind_text, name_text, named_view, named_views, outcome_text, refutation_text, row_text, rows_text, said_text, truth_text, value_text, values_text};
 
 use crate::check_result::{CheckSummary, Counterexample};
 use ir_types::bits::{Bits, BitsKind};
 use itoa::Buffer;
 use std::alloc::AllocError;
+use user_patterns_claims::assignment::Refutation;
 
 /// A variable of a pattern: a value, printed with `%`, or a number.
 #[derive(Drop)]
@@ -149,6 +150,79 @@ pub fn write_rows(
     end_row(out, &counterexample.old)?;
     out.extend_from_slice(b"new")?;
     end_row(out, &counterexample.new)
+}
+
+/// Prints an outcome of a variable: a value, or poison with its type.
+fn write_input(out: &mut Vec<u8>, kind: BitsKind, outcome: &Option<Bits>) -> Result<(), AllocError>
+    ensures { OnOk result (out.new.items ≡ out.old.items ++ input_text kind (known_of outcome.now)) }
+{
+    match outcome {
+        Some(bits) => write_value(out, bits),
+        None => {
+            out.extend_from_slice(b"poison : ")?;
+            write_kind(out, kind)
+        }
+    }
+}
+
+/// Prints the row of a variable.
+fn write_input_row(
+    out: &mut Vec<u8>,
+    named: &NamedVariable,
+    kind: BitsKind,
+    outcome: &Option<Bits>,
+) -> Result<(), AllocError>
+    ensures { OnOk result (out.new.items ≡ out.old.items ++ input_row (named_view named.now) kind (known_of outcome.now)) }
+{
+    write_name(out, named)?;
+    out.push(b' ')?;
+    write_input(out, kind, outcome)?;
+    out.push(b'\n')?;
+    Ok(())
+}
+
+/// Prints a row for each variable that has a kind and an outcome.
+fn write_inputs(
+    out: &mut Vec<u8>,
+    variables: &[NamedVariable],
+    kinds: &[BitsKind],
+    outcomes: &[Option<Bits>],
+) -> Result<(), AllocError>
+    ensures { OnOk result (out.new.items ≡ out.old.items ++ inputs_text (named_views variables.now) kinds.now (map known_of outcomes.now)) }
+{
+    let [named, variables @ ..] = variables else {
+        return Ok(());
+    };
+    let [kind, kinds @ ..] = kinds else {
+        return Ok(());
+    };
+    let [outcome, outcomes @ ..] = outcomes else {
+        return Ok(());
+    };
+    write_input_row(out, named, *kind, outcome)?;
+    write_inputs(out, variables, kinds, outcomes)
+}
+
+/// Prints the report rows of a counterexample that may have poison: one for each variable, then the results of the old
+/// and the new side.
+pub fn write_refutation(
+    out: &mut Vec<u8>,
+    variables: &[NamedVariable],
+    refutation: &Refutation,
+) -> Result<(), AllocError>
+    ensures { OnOk result (out.new.items ≡ out.old.items ++ refutation_text (named_views variables.now) refutation.now) }
+{
+    let assignment = &refutation.assignment;
+    write_inputs(
+        out,
+        variables,
+        &assignment.value_types,
+        &assignment.outcomes,
+    )?;
+    out.extend_from_slice(b"old")?;
+    end_row(out, &refutation.old)?;
+    out.extend_from_slice(b"new")?;
+    end_row(out, &refutation.new)
 }
 
 /// Prints the summary of a check.

@@ -1,7 +1,7 @@
 //! Checks sampled values of a pattern at wide types.
 ghost use Rattle.std.specs.Prelude.{◌≡◌, ◌∷◌, ◌++◌, [], IfErr, IfOk, Some, map, option_map, replicate, take};
 ghost use Rattle.user_patterns_data.specs.Shapes.{pattern_model};
-ghost use Rattle.user_patterns_registry.specs.Sampled.{IsNotSampled, IsRefuted, IsSampled, IsTried, case_tried, cases, first_refuting, level_width, levels, tried_bounds, widths_tried};
+ghost use Rattle.user_patterns_registry.specs.Sampled.{AreTried, IsFoundAt, IsNotSampled, IsRefuted, IsSampled, IsTried, IsWideSampled, case_tried, cases, first_refuting, level_width, levels, tried_bounds, wide_widths, widths_tried};
 
 use crate::check_command::counterexample;
 use crate::check_result::{CheckResult, Counterexample};
@@ -143,18 +143,64 @@ fn refuted(
     counterexample(alloc, pattern, widths, values)
 }
 
+/// Returns the first counterexample among the samples of a width.
+fn found_at(
+    alloc: Global,
+    pattern: &Pattern,
+    width: u32,
+) -> Result<Option<Counterexample>, AllocError>
+    ensures { IfOk result (IsFoundAt (pattern_model pattern.now) width) }
+{
+    match first_refuting(alloc, pattern, width)? {
+        None => Ok(None),
+        Some(numbers) => {
+            let found = refuted(alloc, pattern, width, &numbers)?;
+            Ok(Some(found))
+        }
+    }
+}
+
 /// Returns the result of a sampled check.
 fn tried(alloc: Global, pattern: &Pattern, width: u32) -> Result<CheckResult, AllocError>
     requires { IsTried (pattern_model pattern.now) width }
     ensures { IfOk result (IsSampled (pattern_model pattern.now) width) }
 {
-    match first_refuting(alloc, pattern, width)? {
+    match found_at(alloc, pattern, width)? {
         None => Ok(CheckResult::Sampled(told_width(pattern, width))),
-        Some(numbers) => {
-            let found = refuted(alloc, pattern, width, &numbers)?;
-            Ok(CheckResult::Fails(found))
-        }
+        Some(found) => Ok(CheckResult::Fails(found)),
     }
+}
+
+/// Returns the first counterexample among the samples of these widths.
+fn found_among(
+    alloc: Global,
+    pattern: &Pattern,
+    widths: &[u32],
+) -> Result<Option<Counterexample>, AllocError>
+    requires tried { AreTried (pattern_model pattern.now) widths.now }
+    ensures { IfOk result (IsWideSampled (pattern_model pattern.now) widths.now) }
+{
+    let [width, tail @ ..] = widths else {
+        return Ok(None);
+    };
+    if let Some(found) = found_at(alloc, pattern, *width)? {
+        return Ok(Some(found));
+    }
+    found_among(alloc, pattern, tail)
+}
+
+/// Returns the first counterexample among the samples at 16, 32, 64 and 128 bits. Returns `None` if there are more than
+/// 4 type variables.
+pub fn wide_counterexample(
+    alloc: Global,
+    pattern: &Pattern,
+) -> Result<Option<Counterexample>, AllocError>
+    ensures { IfOk result (IsWideSampled (pattern_model pattern.now) wide_widths) }
+{
+    if pattern.types > MOST_TYPES {
+        return Ok(None);
+    }
+    found_among(alloc, pattern, &[16, 32, 64, 128])
 }
 
 /// Checks edge values and pseudorandom values of a pattern whose type variables have the given width, half of it or a

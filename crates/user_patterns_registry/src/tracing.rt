@@ -4,7 +4,7 @@ ghost use Rattle.dialects_int.specs.Folds.{known_of};
 ghost use Rattle.user_patterns_check.specs.Contents.{content};
 ghost use Rattle.user_patterns_check.specs.Checks.{bound, old_steps};
 ghost use Rattle.user_patterns_check.specs.Outcomes.{given, run};
-ghost use Rattle.user_patterns_registry.specs.CheckResult.{new_shown, old_shown, outcomes, values_shown};
+ghost use Rattle.user_patterns_registry.specs.Shown.{new_shown, old_shown, outcomes, values_shown};
 
 use ir_types::bits::{Bits, BitsKind};
 use std::alloc::{AllocError, Global};

@@ -2,7 +2,8 @@
 ghost use Rattle.std.specs.Prelude.{◌≡◌, IfOk, map, nat_le, replicate, sum};
 ghost use Rattle.ir_types.specs.Bits.{width_of};
 ghost use Rattle.user_patterns_data.specs.Shapes.{pattern_model};
-ghost use Rattle.user_patterns_registry.specs.CheckResult.{asked_width, default_width, greatest, is_small, told_width, type_width, widest_type, width_told};
+ghost use Rattle.user_patterns_registry.specs.CheckResult.{requested_width, default_width, is_small};
+ghost use Rattle.user_patterns_registry.specs.Shown.{greatest, told_width, type_width, widest_type, width_told};
 
 use ir_types::bits::{BitsKind, width};
 use std::alloc::{AllocError, Global};
@@ -70,14 +71,14 @@ pub(crate) fn default_width(alloc: Global, pattern: &Pattern) -> Result<u32, All
 }
 
 /// Returns the width `asked`, or the default width.
-pub(crate) fn asked_width(
+pub(crate) fn requested_width(
     alloc: Global,
     pattern: &Pattern,
-    asked: Option<u64>,
+    requested: Option<u64>,
 ) -> Result<u64, AllocError>
-    ensures { IfOk result (λ w. w ≡ asked_width (pattern_model pattern.now) asked) }
+    ensures { IfOk result (λ w. w ≡ requested_width (pattern_model pattern.now) requested) }
 {
-    match asked {
+    match requested {
         Some(width) => Ok(width),
         None => {
             let width = default_width(alloc, pattern)?;
@@ -110,7 +111,7 @@ fn type_width(kind: PatternType) -> u32
 }
 
 /// Returns the width of the widest concrete type.
-#[tactic(auto, unfolding(crate::specs::CheckResult::widest_type))]
+#[tactic(auto, unfolding(crate::specs::Shown::widest_type))]
 fn widest_type(value_types: &[PatternType]) -> u32
     ensures { result ≡ widest_type value_types.now }
 {

@@ -7,8 +7,8 @@ use Rattle.user_patterns_text.specs.Refusing.{Returns, Fails, Outcome, ◌>>=◌
 use Rattle.user_patterns_data.specs.declared.pattern.Pattern.{Pattern as PatternCode}
 use Rattle.user_patterns_data.specs.Shapes.{PatternModel, pattern_model}
 use Rattle.user_patterns_sema.specs.declared.state.TermRef.{TermRef}
-use Rattle.user_patterns_sema.specs.Ending.{Ends, ended, ends_formed, pattern_of, roots_formed}
-use Rattle.user_patterns_sema.specs.Sema.{Sema, Places, State, begins_with, checked, conditions_at, finished, old_depth, settled, sides_formed, term_at, unite}
+use Rattle.user_patterns_sema.specs.Ending.{Ends, ended, ends_wellformed, pattern_of, roots_wellformed}
+use Rattle.user_patterns_sema.specs.Sema.{Sema, Places, State, begins_with, checked, conditions_at, finished, old_depth, settled, sides_wellformed, term_at, unite}
 
 abbrev Found : Type 0
 Found = TermRef × State
@@ -24,15 +24,15 @@ module _ (b : Places) where
   is_settled r (Ok g) = refl
   is_settled r (Err e) = refl
 
-  is_asked : (r : ℕ × ℕ) (o : Outcome Sema) → (o >>= finished b r.0 r.1) ≡ (((o >>= λ h. Ok (r, h)) >>= close) >>= last)
+  is_requested : (r : ℕ × ℕ) (o : Outcome Sema) → (o >>= finished b r.0 r.1) ≡ (((o >>= λ h. Ok (r, h)) >>= close) >>= last)
   unfolding finished
-  is_asked r (Ok g) = is_settled r (settled g)
-  is_asked r (Err e) = refl
+  is_requested r (Ok g) = is_settled r (settled g)
+  is_requested r (Err e) = refl
 
   module _ (C : Sema → Outcome Sema) where
     is_united : (r : ℕ × ℕ) (o : Outcome Sema)
         → (o >>= λ g. C g >>= finished b r.0 r.1) ≡ (((o >>= λ g. C g >>= λ h. Ok (r, h)) >>= close) >>= last)
-    is_united r (Ok g) = is_asked r (C g)
+    is_united r (Ok g) = is_requested r (C g)
     is_united r (Err e) = refl
 
     module _ (old : Found) where
@@ -48,18 +48,18 @@ module _ (b : Places) where
     has_old N (Ok old) = has_new old (N old)
     has_old N (Err e) = refl
 
-  pub same_sides : (p : Pattern) → sides_formed b p ≡ (ends_formed b p (begins_with (length b.variables)) >>= last)
-  unfolding sides_formed ends_formed roots_formed
+  pub same_sides : (p : Pattern) → sides_wellformed b p ≡ (ends_wellformed b p (begins_with (length b.variables)) >>= last)
+  unfolding sides_wellformed ends_wellformed roots_wellformed
   same_sides p =
       has_old (λ f. conditions_at b 17 (p.conditions, f)) (λ old. term_at b false 17 (p.new, old.1.1)) (term_at b true old_depth (p.old, begins_with (length b.variables)))
 
   module _ (p : Pattern) (n : ℕ) (f : Sema) where
     pub gives_last : (x : Ends × Sema) (r : Result PatternCode PatternError)
-        → n ≡ length b.variables → f ≡ begins_with n → ends_formed b p f ≡ Ok x → Returns pattern_model r (last x) → Returns pattern_model r (sides_formed b p)
+        → n ≡ length b.variables → f ≡ begins_with n → ends_wellformed b p f ≡ Ok x → Returns pattern_model r (last x) → Returns pattern_model r (sides_wellformed b p)
     gives_last x r count begun ends h = rw (same_sides p, ← count, ← begun, ends) h
 
     pub gives_error : (e : PatternError)
-        → n ≡ length b.variables → f ≡ begins_with n → Fails e (ends_formed b p f) → Fails e (sides_formed b p)
+        → n ≡ length b.variables → f ≡ begins_with n → Fails e (ends_wellformed b p f) → Fails e (sides_wellformed b p)
     gives_error errors.Memory count begun h = tt
     gives_error (errors.Refused f) count begun h = rw (same_sides p, ← count, ← begun, h) refl
 

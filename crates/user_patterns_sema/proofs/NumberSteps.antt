@@ -11,7 +11,7 @@ use Rattle.user_patterns_text.specs.declared.parts.PartKind.TheVariants as kind
 use Rattle.user_patterns_text.specs.declared.parts.Part.{Part as PartCode}
 use Rattle.user_patterns_text.specs.Parts.{Placed, kind_view, part_view, views}
 use Rattle.user_patterns_text.specs.Refusing.{Fails, Outcome, ◌>>=◌}
-use Rattle.user_patterns_sema.specs.Sema.{Sema, Places, State, applied, trailing, function_at, gathered, number_at, room, word_from, written_number}
+use Rattle.user_patterns_sema.specs.Sema.{Sema, Places, State, applied, trailing, function_at, gathered, number_at, headroom, word_from, written_number}
 use Rattle.user_patterns_sema.proofs.Steps.{rest, some_more, views_split}
 
 abbrev pub okay : {A : Type 0} → A → Outcome A
@@ -23,12 +23,12 @@ kept qs o = o >>= λ y. Ok (trailing qs y)
 -- ---- a function of numbers
 
 module _ (b : Places) (N : State → Outcome (ℕ × State)) (name : List ℕ) (slot at : ℕ) (s : State) (xs : List ℕ) (none : xs ≡ []) where
-  pub function_fails : (e : PatternError) → Fails e (gathered N room xs s) → Fails e (function_at b N name slot at s)
+  pub function_fails : (e : PatternError) → Fails e (gathered N headroom xs s) → Fails e (function_at b N name slot at s)
   unfolding function_at
   function_fails errors.Memory h = tt
   function_fails (errors.Refused g) h = rw (← none, h) refl
 
-  module _ (ys zs : List ℕ) (t : State) (o : Option Function) (found : gathered N room xs s ≡ Ok (ys, t)) (same : zs ≡ ys) (named : o ≡ function_named name) where
+  module _ (ys zs : List ℕ) (t : State) (o : Option Function) (found : gathered N headroom xs s ≡ Ok (ys, t)) (same : zs ≡ ys) (named : o ≡ function_named name) where
     pub function_applied : (y : ℕ × Sema) → applied b o zs slot at t.1 ≡ Ok y → function_at b N name slot at s ≡ Ok (trailing t.0 y)
     unfolding function_at
     function_applied y h = rw (← none, found, ← named, ← same, h) refl

@@ -26,28 +26,28 @@ gives_same view r o q same h = rw same h
 
 -- ---- lists up to an end
 
-module _ {X : Type 0} (T : State → Outcome (X × State)) (room : ℕ) (xs : List X) (s : State) (more : room ≡ 0 → ⊥) where
-  pub gathered_ends : (ps : List Placed) → after_end s.0 ≡ Some ps → gathered T room xs s ≡ Ok (xs, (ps, s.1))
+module _ {X : Type 0} (T : State → Outcome (X × State)) (headroom : ℕ) (xs : List X) (s : State) (more : headroom ≡ 0 → ⊥) where
+  pub gathered_ends : (ps : List Placed) → after_end s.0 ≡ Some ps → gathered T headroom xs s ≡ Ok (xs, (ps, s.1))
   unfolding gathered
-  gathered_ends ps closed = rw (some_more room more, closed) refl
+  gathered_ends ps closed = rw (some_more headroom more, closed) refl
 
-  pub gathered_fails : (e : PatternError) → after_end s.0 ≡ None → Fails e (T s) → Fails e (gathered T room xs s)
+  pub gathered_fails : (e : PatternError) → after_end s.0 ≡ None → Fails e (T s) → Fails e (gathered T headroom xs s)
   unfolding gathered
   gathered_fails errors.Memory going h = tt
-  gathered_fails (errors.Refused f) going h = rw (some_more room more, going, h) refl
+  gathered_fails (errors.Refused f) going h = rw (some_more headroom more, going, h) refl
 
   one_more : (n : ℕ) (x : X × State) → after_end s.0 ≡ None → T s ≡ Ok x → gathered T (suc n) xs s ≡ gathered T n (xs ++ x.0 ∷ []) x.1
   unfolding gathered
   one_more n x going found = rw (going, found) refl
 
   pub gathered_more : (x : X × State) (ys : List X) → after_end s.0 ≡ None → T s ≡ Ok x → ys ≡ xs ++ x.0 ∷ []
-      → gathered T room xs s ≡ gathered T (room - 1) ys x.1
+      → gathered T headroom xs s ≡ gathered T (headroom - 1) ys x.1
   gathered_more x ys going found pushed =
-      ap (λ n. gathered T n xs s) (some_more room more) ∙ one_more (room - 1) x going found ∙ ap (λ (zs : List X). gathered T (room - 1) zs x.1) (sym pushed)
+      ap (λ n. gathered T n xs s) (some_more headroom more) ∙ one_more (headroom - 1) x going found ∙ ap (λ (zs : List X). gathered T (headroom - 1) zs x.1) (sym pushed)
 
 -- ---- conditions
 
-module _ (b : Places) (room : ℕ) (ps : List PartCode) (f : Sema) (d : PartCode) (more : room ≡ 0 → ⊥) (le : 1 ≤ length ps) where
+module _ (b : Places) (headroom : ℕ) (ps : List PartCode) (f : Sema) (d : PartCode) (more : headroom ≡ 0 → ⊥) (le : 1 ≤ length ps) where
   module _ (n left : ℕ) (k : PartKind) (qs : List Placed) where
     is_condition : (w : Bor (List ℕ)) (s : State) → k ≡ kind.Condition w → condition_at b left w.now (qs, f) ≡ Ok s
         → conditions_at b (suc n) ((left, kind_view k) ∷ qs, f) ≡ conditions_at b n s
@@ -60,13 +60,13 @@ module _ (b : Places) (room : ℕ) (ps : List PartCode) (f : Sema) (d : PartCode
     is_wrong errors.Memory w is h = tt
     is_wrong (errors.Refused g) w is h = rw (is, h) refl
 
-  whole : conditions_at b room (views ps, f) ≡ conditions_at b (suc (room - 1)) (part_view (get_or ps 0 d) ∷ views (rest ps), f)
-  whole = ap (λ n. conditions_at b n (views ps, f)) (some_more room more) ∙ ap (λ (qs : List Placed). conditions_at b (suc (room - 1)) (qs, f)) (views_split d ps le)
+  whole : conditions_at b headroom (views ps, f) ≡ conditions_at b (suc (headroom - 1)) (part_view (get_or ps 0 d) ∷ views (rest ps), f)
+  whole = ap (λ n. conditions_at b n (views ps, f)) (some_more headroom more) ∙ ap (λ (qs : List Placed). conditions_at b (suc (headroom - 1)) (qs, f)) (views_split d ps le)
 
   pub conditions_more : (w : Bor (List ℕ)) (s : State) → (get_or ps 0 d).kind ≡ kind.Condition w → condition_at b (get_or ps 0 d).left w.now (views (rest ps), f) ≡ Ok s
-      → conditions_at b room (views ps, f) ≡ conditions_at b (room - 1) s
-  conditions_more w s is found = whole ∙ is_condition (room - 1) (get_or ps 0 d).left (get_or ps 0 d).kind (views (rest ps)) w s is found
+      → conditions_at b headroom (views ps, f) ≡ conditions_at b (headroom - 1) s
+  conditions_more w s is found = whole ∙ is_condition (headroom - 1) (get_or ps 0 d).left (get_or ps 0 d).kind (views (rest ps)) w s is found
 
   pub conditions_fail : (e : PatternError) (w : Bor (List ℕ)) → (get_or ps 0 d).kind ≡ kind.Condition w → Fails e (condition_at b (get_or ps 0 d).left w.now (views (rest ps), f))
-      → Fails e (conditions_at b room (views ps, f))
-  conditions_fail e w is h = rw whole (is_wrong (room - 1) (get_or ps 0 d).left (get_or ps 0 d).kind (views (rest ps)) e w is h)
+      → Fails e (conditions_at b headroom (views ps, f))
+  conditions_fail e w is h = rw whole (is_wrong (headroom - 1) (get_or ps 0 d).left (get_or ps 0 d).kind (views (rest ps)) e w is h)

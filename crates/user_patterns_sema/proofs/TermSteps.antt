@@ -10,19 +10,19 @@ use Rattle.user_patterns_text.specs.declared.parts.Part.{Part as PartCode}
 use Rattle.user_patterns_text.specs.Parts.{Placed, bytes_of, kind_view, part_view, views}
 use Rattle.user_patterns_text.specs.Refusing.{Fails, Outcome}
 use Rattle.user_patterns_sema.specs.declared.state.TermRef.{TermRef}
-use Rattle.user_patterns_sema.specs.Sema.{Sema, Places, State, begun, trailing, closed_at, gathered, next_type, operation_at, room, term_at, typed_entry, typed_operation, value_at, with_type}
+use Rattle.user_patterns_sema.specs.Sema.{Sema, Places, State, begun, trailing, closed_at, gathered, next_type, operation_at, headroom, term_at, typed_entry, typed_operation, value_at, with_type}
 use Rattle.user_patterns_sema.proofs.Steps.{rest, some_more, views_split}
 
 module _ (b : Places) (T : State → Outcome (TermRef × State)) (left : Bool) (at : ℕ) (name : List ℕ) (asks : Option (List ℕ)) (s : State) where
   -- ---- an operation, after its name
 
   module _ (slot : ℕ) (g : Sema) (xs : List TermRef) (none : xs ≡ []) (first : slot ≡ next_type s.1) (begins : g ≡ begun left (next_type s.1) at (with_type s.1)) where
-    pub operation_fails : (e : PatternError) → Fails e (gathered T room xs (s.0, g)) → Fails e (operation_at b T left at name asks s)
+    pub operation_fails : (e : PatternError) → Fails e (gathered T headroom xs (s.0, g)) → Fails e (operation_at b T left at name asks s)
     unfolding operation_at
     operation_fails errors.Memory h = tt
     operation_fails (errors.Refused r) h = rw (← none, ← begins, h) refl
 
-    module _ (ys zs : List TermRef) (t : State) (found : gathered T room xs (s.0, g) ≡ Ok (ys, t)) (same : zs ≡ ys) where
+    module _ (ys zs : List TermRef) (t : State) (found : gathered T headroom xs (s.0, g) ≡ Ok (ys, t)) (same : zs ≡ ys) where
       pub operation_closed : (y : TermRef × Sema) → closed_at b left name asks zs slot at t.1 ≡ Ok y → operation_at b T left at name asks s ≡ Ok (trailing t.0 y)
       unfolding operation_at
       operation_closed y h = rw (← none, ← begins, found, ← same, ← first, h) refl

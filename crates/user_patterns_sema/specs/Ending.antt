@@ -43,13 +43,13 @@ pattern_of e f =
     }
 
 -- both sides and the conditions, with the places of both results
-unfoldable pub roots_formed : Places → Pattern → Sema → Outcome ((ℕ × ℕ) × Sema)
-roots_formed b p f = do
+unfoldable pub roots_wellformed : Places → Pattern → Sema → Outcome ((ℕ × ℕ) × Sema)
+roots_wellformed b p f = do
   old ← term_at b true old_depth (p.old, f)
   new ← term_at b false 17 (p.new, old.1.1)
   g ← unite old.0.slot new.0.slot new.0.left new.1.1
   h ← conditions_at b 17 (p.conditions, g)
   Ok ((old.0.place, new.0.place), h)
 
-unfoldable pub ends_formed : Places → Pattern → Sema → Outcome (Ends × Sema)
-ends_formed b p f = roots_formed b p f >>= λ x. settled x.1 >>= λ g. Ok (ended b x.0 g, g)
+unfoldable pub ends_wellformed : Places → Pattern → Sema → Outcome (Ends × Sema)
+ends_wellformed b p f = roots_wellformed b p f >>= λ x. settled x.1 >>= λ g. Ok (ended b x.0 g, g)

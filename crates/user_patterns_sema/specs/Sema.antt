@@ -160,8 +160,8 @@ abbrev pub name_from : ℕ → ℕ → Option ℕ → Sema → Outcome (ℕ × S
 name_from slot at (Some i) f = unite slot i at f >>= λ g. Ok (i, g)
 name_from slot at None f = refused UnknownValue at
 
-abbrev pub room : ℕ
-room = 17
+abbrev pub headroom : ℕ
+headroom = 17
 
 abbrev pub trailing : {X : Type 0} → List Placed → X × Sema → X × State
 trailing ps x = (x.0, (ps, x.1))
@@ -187,9 +187,9 @@ and_visited i f = record f { visited = f.visited ++ i ∷ [] }
 abbrev pub and_new : NewValue → Sema → Sema
 and_new k f = record f { new = f.new ++ k ∷ [] }
 
-abbrev pub asked_predicate : Option (List ℕ) → Option Predicate
-asked_predicate (Some w) = predicate_named w
-asked_predicate None = None
+abbrev pub requested_predicate : Option (List ℕ) → Option Predicate
+requested_predicate (Some w) = predicate_named w
+requested_predicate None = None
 
 abbrev pub compared : Option Predicate → TermRef → TermRef → ℕ → ℕ → Sema → Outcome (Expression × Sema)
 compared (Some p) i j slot at f = do
@@ -203,8 +203,8 @@ resized cast.Truncate from to = type_constraints.Narrower to from
 resized cast.ExtendSigned from to = type_constraints.Narrower from to
 resized cast.ExtendUnsigned from to = type_constraints.Narrower from to
 
-abbrev pub and_asked : TypeConstraint → Sema → Sema
-and_asked k f = record f { type_constraints = f.type_constraints ++ k ∷ [] }
+abbrev pub and_requested : TypeConstraint → Sema → Sema
+and_requested k f = record f { type_constraints = f.type_constraints ++ k ∷ [] }
 
 abbrev pub and_cast : ℕ → ℕ → ℕ → Sema → Sema
 and_cast from to at f = record f { casts = f.casts ++ record { from = from; to = to; left = at } ∷ [] }
@@ -216,7 +216,7 @@ abbrev pub chosen : TermRef → TermRef → TermRef → ℕ → ℕ → Sema →
 chosen c i j slot at f = unite_with c.slot (bits.Int 1) c.left f >>= paired i j slot at
 
 abbrev pub shaped_by_one : Option Operation → TermRef → ℕ → ℕ → Sema → Outcome (Expression × Sema)
-shaped_by_one (Some (operation.IntegerCast c)) i slot at f = Ok (form.IntegerCast c i.place, and_asked (resized c i.slot slot) f)
+shaped_by_one (Some (operation.IntegerCast c)) i slot at f = Ok (form.IntegerCast c i.place, and_requested (resized c i.slot slot) f)
 shaped_by_one (Some (operation.IndexCast c)) i slot at f = Ok (form.IndexCast c i.place, and_cast i.slot slot at f)
 shaped_by_one _ i slot at f = refused TypeMismatch at
 
@@ -251,7 +251,7 @@ type_at ((at, type_part w) ∷ ps, f) = Ok ((written_at w f).0, (ps, begun false
 type_at s = refused Unexpected 0
 
 abbrev pub narrowed : List ℕ → ℕ → Sema → Outcome Sema
-narrowed (i ∷ j ∷ []) at f = Ok (and_asked (type_constraints.Narrower i j) f)
+narrowed (i ∷ j ∷ []) at f = Ok (and_requested (type_constraints.Narrower i j) f)
 narrowed _ at f = refused TypeMismatch at
 
 abbrev pub is_free : ℕ → Sema → Bool
@@ -264,8 +264,8 @@ abbrev pub number_depth : ℕ
 number_depth = 17
 
 -- a condition on types, after its word
-unfoldable pub types_asked : ℕ → State → Outcome State
-types_asked at s = gathered type_at room [] s >>= λ x. narrowed x.0 at x.1.1 >>= λ f. Ok (x.1.0, f)
+unfoldable pub types_requested : ℕ → State → Outcome State
+types_requested at s = gathered type_at headroom [] s >>= λ x. narrowed x.0 at x.1.1 >>= λ f. Ok (x.1.0, f)
 
 module _ (b : Places) where
   abbrev pub next_number : Sema → ℕ
@@ -293,7 +293,7 @@ module _ (b : Places) where
 
   -- a function of numbers, after its name
   unfoldable pub function_at : (State → Outcome (ℕ × State)) → List ℕ → ℕ → ℕ → State → Outcome (ℕ × State)
-  function_at N name slot at s = gathered N room [] s >>= λ x. applied (function_named name) x.0 slot at x.1.1 >>= λ y. Ok (trailing x.1.0 y)
+  function_at N name slot at s = gathered N headroom [] s >>= λ x. applied (function_named name) x.0 slot at x.1.1 >>= λ y. Ok (trailing x.1.0 y)
 
   -- a literal
   abbrev pub written_number : Bool → ℕ → ℕ → ℕ → Sema → ℕ × Sema
@@ -356,20 +356,20 @@ module _ (b : Places) where
       number_at depth (next_type s.1) (s.0, begun false (next_type s.1) at (with_type s.1)) >>= λ x.
       Ok (entry (next_new x.1.1) (next_type s.1) at, (x.1.0, and_new (new.Constant x.0 (next_type s.1)) x.1.1))
 
-  abbrev pub with_piece : Bool → PatternOp → ℕ → ℕ → Sema → TermRef × Sema
-  with_piece true p slot at f = (entry (b.old + length f.old) slot at, record f { old = f.old ++ p ∷ [] })
-  with_piece false p slot at f = (entry (next_new f) slot at, and_new (new.Operation p) f)
+  abbrev pub with_pattern_op : Bool → PatternOp → ℕ → ℕ → Sema → TermRef × Sema
+  with_pattern_op true p slot at f = (entry (b.old + length f.old) slot at, record f { old = f.old ++ p ∷ [] })
+  with_pattern_op false p slot at f = (entry (next_new f) slot at, and_new (new.Operation p) f)
 
   -- an operation with its operands
   abbrev pub closed_at : Bool → List ℕ → Option (List ℕ) → List TermRef → ℕ → ℕ → Sema → Outcome (TermRef × Sema)
   closed_at left name asks entries slot at f =
-      shaped (operation_named name) (asked_predicate asks) entries slot at f >>= λ y.
-      Ok (with_piece left (record { form = y.0; bare = is_bare (operation_named name) asks; ty = slot }) slot at y.1)
+      shaped (operation_named name) (requested_predicate asks) entries slot at f >>= λ y.
+      Ok (with_pattern_op left (record { form = y.0; bare = is_bare (operation_named name) asks; ty = slot }) slot at y.1)
 
   -- an operation, after its name
   unfoldable pub operation_at : (State → Outcome (TermRef × State)) → Bool → ℕ → List ℕ → Option (List ℕ) → State → Outcome (TermRef × State)
   operation_at T left at name asks s = do
-    x ← gathered T room [] (s.0, begun left (next_type s.1) at (with_type s.1))
+    x ← gathered T headroom [] (s.0, begun left (next_type s.1) at (with_type s.1))
     e ← closed_at left name asks x.0 (next_type s.1) at x.1.1
     Ok (trailing x.1.0 e)
 
@@ -425,13 +425,13 @@ module _ (b : Places) where
   visited_by w places at f = if is_power w then a_power places at f else comparing (predicate_named w) places at f
 
   -- a condition on numbers; a name, `true` or `false` among its operands must determine their type
-  unfoldable pub numbers_asked : ℕ → List ℕ → State → Outcome State
-  numbers_asked at w s =
-      gathered (number_at number_depth (next_type s.1)) room [] (s.0, with_type s.1) >>= λ x.
+  unfoldable pub numbers_requested : ℕ → List ℕ → State → Outcome State
+  numbers_requested at w s =
+      gathered (number_at number_depth (next_type s.1)) headroom [] (s.0, with_type s.1) >>= λ x.
       visited_by w x.0 at x.1.1 >>= λ f. named_at (next_type s.1) at f >>= λ g. Ok (x.1.0, g)
 
   abbrev pub condition_at : ℕ → List ℕ → State → Outcome State
-  condition_at at w s = if is_narrower w then types_asked at s else numbers_asked at w s
+  condition_at at w s = if is_narrower w then types_requested at s else numbers_requested at w s
 
   unfoldable pub conditions_at : ℕ → State → Outcome Sema
   conditions_at zero s = refused TooMany 0
@@ -463,14 +463,14 @@ abbrev pub is_index : PatternType → Bool
 is_index k = same_kind k (ty.Concrete bits.Index)
 
 -- an index cast has `index` at one end and an integer type at the other
-abbrev pub cast_asked : List PatternType → CastConstraint → Outcome TypeConstraint
-cast_asked ks c =
+abbrev pub cast_requested : List PatternType → CastConstraint → Outcome TypeConstraint
+cast_requested ks c =
     if is_index (kind_of c.from ks) then (if is_index (kind_of c.to ks) then refused TypeMismatch c.left else Ok (type_constraints.Integer c.to))
     else (if is_index (kind_of c.to ks) then Ok (type_constraints.Integer c.from) else refused TypeMismatch c.left)
 
 unfoldable pub all_cast : List PatternType → List TypeConstraint → List CastConstraint → Outcome (List TypeConstraint)
 all_cast ks found [] = Ok found
-all_cast ks found (c ∷ cs) = cast_asked ks c >>= λ k. all_cast ks (found ++ k ∷ []) cs
+all_cast ks found (c ∷ cs) = cast_requested ks c >>= λ k. all_cast ks (found ++ k ∷ []) cs
 
 -- the type variables among the types, in the order of terms
 abbrev pub with_kind : List ℕ → PatternType → List ℕ
@@ -564,8 +564,8 @@ kinds_found found ks = (length found, all_numbered found ks)
 unfoldable pub finished : Places → ℕ → ℕ → Sema → Outcome PatternModel
 finished b root result f = settled f >>= λ g. finished_with b root result g (kinds_found (variables_found g) g.value_types)
 
-unfoldable pub sides_formed : Places → Pattern → Outcome PatternModel
-sides_formed b p = do
+unfoldable pub sides_wellformed : Places → Pattern → Outcome PatternModel
+sides_wellformed b p = do
   old ← term_at b true old_depth (p.old, begins_with (length b.variables))
   new ← term_at b false 17 (p.new, old.1.1)
   f ← unite old.0.slot new.0.slot new.0.left new.1.1
@@ -573,5 +573,5 @@ sides_formed b p = do
   finished b old.0.place new.0.place g
 
 -- the pattern of these parts
-unfoldable pub formed : Pattern → Outcome PatternModel
-formed p = names_of p >>= λ n. sides_formed (places_of n) p
+unfoldable pub wellformed : Pattern → Outcome PatternModel
+wellformed p = names_of p >>= λ n. sides_wellformed (places_of n) p

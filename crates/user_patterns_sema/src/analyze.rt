@@ -9,12 +9,12 @@ ghost use Rattle.user_patterns_text.specs.Refusing.{Returns};
 ghost use Rattle.user_patterns_sema_base.specs.Views.{variable_views};
 ghost use Rattle.user_patterns_sema_base.specs.NameViews.{names_view};
 ghost use Rattle.user_patterns_sema.specs.SemaViews.{sema_view, places_view};
-ghost use Rattle.user_patterns_sema.specs.Ending.{ends_formed, roots_formed};
+ghost use Rattle.user_patterns_sema.specs.Ending.{ends_wellformed, roots_wellformed};
 ghost use Rattle.user_patterns_sema.specs.EndViews.{ends_view};
-ghost use Rattle.user_patterns_sema.specs.Sema.{begins_with, count_constants, formed, places_of, sides_formed};
+ghost use Rattle.user_patterns_sema.specs.Sema.{begins_with, count_constants, wellformed, places_of, sides_wellformed};
 
 use crate::conditions::conditions;
-use crate::numbers::ROOM;
+use crate::numbers::HEADROOM;
 use crate::sema_result::{SemaResult, ended, finished, settled, variable_types};
 use crate::state::{Sema, ValueLayout, unite};
 use crate::terms::term;
@@ -115,14 +115,14 @@ fn begins_with<'a>(alloc: Global, count: usize) -> Result<Sema<'a>, AllocError>
 }
 
 /// Analyzes both sides and the conditions. Returns the places of the two results.
-#[tactic(auto, unfolding(crate::specs::Ending::roots_formed))]
+#[tactic(auto, unfolding(crate::specs::Ending::roots_wellformed))]
 fn roots<'a>(
     alloc: Global,
     places: &ValueLayout<'_>,
     sema: &mut Sema<'a>,
     pattern: &parts::Pattern<'a>,
 ) -> Result<(usize, usize), PatternError>
-    ensures { Returns (λ x. (x, sema_view sema.new)) result (roots_formed (places_view places.now) (pattern_view pattern.now) (sema_view sema.old)) }
+    ensures { Returns (λ x. (x, sema_view sema.new)) result (roots_wellformed (places_view places.now) (pattern_view pattern.now) (sema_view sema.old)) }
 {
     let (old, _) = match term(alloc, places, sema, &pattern.old, true, OLD_DEPTH) {
         Ok(found) => found,
@@ -136,21 +136,21 @@ fn roots<'a>(
         Ok(()) => {}
         Err(e) => return Err(e),
     }
-    match conditions(alloc, places, sema, &pattern.conditions, ROOM) {
+    match conditions(alloc, places, sema, &pattern.conditions, HEADROOM) {
         Ok(()) => Ok((old.place, new.place)),
         Err(e) => Err(e),
     }
 }
 
 /// Analyzes the pattern, and returns its types and the places of its results once all types are known.
-#[tactic(auto, unfolding(crate::specs::Ending::ends_formed))]
+#[tactic(auto, unfolding(crate::specs::Ending::ends_wellformed))]
 fn ends<'a>(
     alloc: Global,
     places: &ValueLayout<'_>,
     sema: &mut Sema<'a>,
     pattern: &parts::Pattern<'a>,
 ) -> Result<SemaResult, PatternError>
-    ensures { Returns (λ e. (ends_view e, sema_view sema.new)) result (ends_formed (places_view places.now) (pattern_view pattern.now) (sema_view sema.old)) }
+    ensures { Returns (λ e. (ends_view e, sema_view sema.new)) result (ends_wellformed (places_view places.now) (pattern_view pattern.now) (sema_view sema.old)) }
 {
     let (root, made) = match roots(alloc, places, sema, pattern) {
         Ok(found) => found,
@@ -167,7 +167,7 @@ fn sides<'a>(
     places: &ValueLayout<'_>,
     pattern: &parts::Pattern<'a>,
 ) -> Result<Pattern, PatternError>
-    ensures gives { Returns pattern_model result (sides_formed (places_view places.now) (pattern_view pattern.now)) }
+    ensures gives { Returns pattern_model result (sides_wellformed (places_view places.now) (pattern_view pattern.now)) }
     ensures stands { IfOk result (λ p. is_well_formed (pattern_model p) ≡ true) }
 {
     let mut sema = match begins_with(alloc, places.variables.len()) {
@@ -193,9 +193,9 @@ fn sides<'a>(
 /// - `TypeMismatch`: a type on the right isn't known in the end.
 /// - `BadValue`: a literal is out of range of its inferred type.
 /// - `TypeMismatch`: not exactly one end of an index cast is `index`.
-#[tactic(auto, unfolding(crate::specs::Sema::formed))]
+#[tactic(auto, unfolding(crate::specs::Sema::wellformed))]
 pub fn analyze(alloc: Global, pattern: &parts::Pattern<'_>) -> Result<Pattern, PatternError>
-    ensures gives { Returns pattern_model result (formed (pattern_view pattern.now)) }
+    ensures gives { Returns pattern_model result (wellformed (pattern_view pattern.now)) }
     ensures stands { IfOk result (λ p. is_well_formed (pattern_model p) ≡ true) }
 {
     let names = match names_of(alloc, pattern) {

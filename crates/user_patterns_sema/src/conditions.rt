@@ -4,9 +4,9 @@ ghost use Rattle.user_patterns_text.specs.Parts.{part_view};
 ghost use Rattle.user_patterns_text.specs.Refusing.{Returns};
 ghost use Rattle.user_patterns_data.specs.declared.pattern.ConstantExpression.TheVariants as number;
 ghost use Rattle.user_patterns_sema.specs.SemaViews.{sema_view, places_view};
-ghost use Rattle.user_patterns_sema.specs.Sema.{a_power, and_number, comparing, condition_at, conditions_at, gathered, is_free, visited_by, named_at, narrowed, numbers_asked, type_at, types_asked};
+ghost use Rattle.user_patterns_sema.specs.Sema.{a_power, and_number, comparing, condition_at, conditions_at, gathered, is_free, visited_by, named_at, narrowed, numbers_requested, type_at, types_requested};
 
-use crate::numbers::{ROOM, and_number, arguments};
+use crate::numbers::{HEADROOM, and_number, arguments};
 use crate::state::{Sema, ValueLayout, after_end, begin, with_type, written_at};
 use dialects_int::operations::Predicate;
 use ir_text_tokens::refusal::TextRefusal;
@@ -23,7 +23,7 @@ const NUMBER_DEPTH: u32 = 17;
 
 /// Analyzes a type that is an operand of a condition. Returns its number and the parts after it.
 #[tactic(auto, unfolding(crate::specs::Sema::type_at))]
-fn type_asked<'a, 'p>(
+fn type_requested<'a, 'p>(
     sema: &mut Sema<'a>,
     parts: &'p [Part<'a>],
 ) -> Result<(usize, &'p [Part<'a>]), PatternError>
@@ -53,22 +53,22 @@ fn types<'a, 'p>(
     sema: &mut Sema<'a>,
     found: &mut Vec<usize>,
     parts: &'p [Part<'a>],
-    room: u32,
+    headroom: u32,
 ) -> Result<&'p [Part<'a>], PatternError>
-    ensures { Returns (λ rest. (found.new.items, (map part_view rest.now, sema_view sema.new))) result (gathered type_at room found.old.items (map part_view parts.now, sema_view sema.old)) }
+    ensures { Returns (λ rest. (found.new.items, (map part_view rest.now, sema_view sema.new))) result (gathered type_at headroom found.old.items (map part_view parts.now, sema_view sema.old)) }
 {
-    if room == 0 {
+    if headroom == 0 {
         return Err(refused(TextRefusal::TooMany, 0));
     }
     if let Some(rest) = after_end(parts) {
         return Ok(rest);
     }
-    let (slot, rest) = match type_asked(sema, parts) {
+    let (slot, rest) = match type_requested(sema, parts) {
         Ok(item) => item,
         Err(e) => return Err(e),
     };
     match found.push(slot) {
-        Ok(()) => types(sema, found, rest, room - 1),
+        Ok(()) => types(sema, found, rest, headroom - 1),
         Err(_) => Err(PatternError::Memory),
     }
 }
@@ -89,17 +89,17 @@ fn narrowed<'a>(sema: &mut Sema<'a>, slots: &[usize], at: usize) -> Result<(), P
 }
 
 /// Analyzes a condition on types, given the parts after its word. Returns the parts after the condition.
-#[tactic(auto, unfolding(crate::specs::Sema::types_asked))]
-fn types_asked<'a, 'p>(
+#[tactic(auto, unfolding(crate::specs::Sema::types_requested))]
+fn types_requested<'a, 'p>(
     alloc: Global,
     sema: &mut Sema<'a>,
     at: usize,
     parts: &'p [Part<'a>],
 ) -> Result<&'p [Part<'a>], PatternError>
-    ensures { Returns (λ rest. (map part_view rest.now, sema_view sema.new)) result (types_asked at (map part_view parts.now, sema_view sema.old)) }
+    ensures { Returns (λ rest. (map part_view rest.now, sema_view sema.new)) result (types_requested at (map part_view parts.now, sema_view sema.old)) }
 {
     let mut slots = Vec::new(alloc);
-    let rest = match types(sema, &mut slots, parts, ROOM) {
+    let rest = match types(sema, &mut slots, parts, HEADROOM) {
         Ok(rest) => rest,
         Err(e) => return Err(e),
     };
@@ -185,8 +185,8 @@ fn is_free(sema: &Sema<'_>, slot: usize) -> bool
 }
 
 /// Analyzes a condition on numbers, given the parts after its word. Returns the parts after the condition.
-#[tactic(auto, unfolding(crate::specs::Sema::numbers_asked))]
-fn numbers_asked<'a, 'p>(
+#[tactic(auto, unfolding(crate::specs::Sema::numbers_requested))]
+fn numbers_requested<'a, 'p>(
     alloc: Global,
     places: &ValueLayout<'_>,
     sema: &mut Sema<'a>,
@@ -194,7 +194,7 @@ fn numbers_asked<'a, 'p>(
     word: &[u8],
     parts: &'p [Part<'a>],
 ) -> Result<&'p [Part<'a>], PatternError>
-    ensures { Returns (λ rest. (map part_view rest.now, sema_view sema.new)) result (numbers_asked (places_view places.now) at word.now (map part_view parts.now, sema_view sema.old)) }
+    ensures { Returns (λ rest. (map part_view rest.now, sema_view sema.new)) result (numbers_requested (places_view places.now) at word.now (map part_view parts.now, sema_view sema.old)) }
 {
     let slot = match with_type(sema) {
         Ok(slot) => slot,
@@ -209,7 +209,7 @@ fn numbers_asked<'a, 'p>(
         parts,
         slot,
         NUMBER_DEPTH,
-        ROOM,
+        HEADROOM,
     ) {
         Ok(rest) => rest,
         Err(e) => return Err(e),
@@ -237,9 +237,9 @@ fn condition<'a, 'p>(
     ensures { Returns (λ rest. (map part_view rest.now, sema_view sema.new)) result (condition_at (places_view places.now) at word.now (map part_view parts.now, sema_view sema.old)) }
 {
     if is_narrower(word) {
-        types_asked(alloc, sema, at, parts)
+        types_requested(alloc, sema, at, parts)
     } else {
-        numbers_asked(alloc, places, sema, at, word, parts)
+        numbers_requested(alloc, places, sema, at, word, parts)
     }
 }
 
@@ -250,11 +250,11 @@ pub(crate) fn conditions<'a>(
     places: &ValueLayout<'_>,
     sema: &mut Sema<'a>,
     parts: &[Part<'a>],
-    room: u32,
+    headroom: u32,
 ) -> Result<(), PatternError>
-    ensures { Returns (λ _. sema_view sema.new) result (conditions_at (places_view places.now) room (map part_view parts.now, sema_view sema.old)) }
+    ensures { Returns (λ _. sema_view sema.new) result (conditions_at (places_view places.now) headroom (map part_view parts.now, sema_view sema.old)) }
 {
-    if room == 0 {
+    if headroom == 0 {
         return Err(refused(TextRefusal::TooMany, 0));
     }
     let [part, rest @ ..] = parts else {
@@ -263,7 +263,7 @@ pub(crate) fn conditions<'a>(
     match part.kind {
         PartKind::Condition(word) => {
             match condition(alloc, places, sema, part.left, word, rest) {
-                Ok(trailing) => conditions(alloc, places, sema, trailing, room - 1),
+                Ok(trailing) => conditions(alloc, places, sema, trailing, headroom - 1),
                 Err(e) => Err(e),
             }
         }

@@ -4,7 +4,7 @@ ghost use Rattle.user_patterns_text.specs.Parts.{part_view};
 ghost use Rattle.user_patterns_text.specs.Refusing.{Returns};
 ghost use Rattle.user_patterns_sema_base.specs.Words.{truth_named};
 ghost use Rattle.user_patterns_sema.specs.SemaViews.{sema_view, places_view};
-ghost use Rattle.user_patterns_sema.specs.Sema.{and_number, applied, function_at, gathered, inverted, literal_number, literal_with, name_from, negated, next_number, number_at, room, word_from, written_number};
+ghost use Rattle.user_patterns_sema.specs.Sema.{and_number, applied, function_at, gathered, inverted, literal_number, literal_with, name_from, negated, next_number, number_at, headroom, word_from, written_number};
 
 use crate::state::{Sema, ValueLayout, after_end, and_literal, unite, unite_with};
 use dialects_int::operations::Arithmetic;
@@ -19,7 +19,7 @@ use user_patterns_text::parts::{Part, PartKind};
 use user_patterns_text::steps::refused;
 
 /// The number of steps that reach the end of every list.
-pub(crate) const ROOM: u32 = 17;
+pub(crate) const HEADROOM: u32 = 17;
 
 fn next_number(places: &ValueLayout<'_>, sema: &Sema<'_>) -> usize
     ensures { result ≡ next_number (places_view places.now) (sema_view sema.now) }
@@ -216,11 +216,11 @@ pub(crate) fn arguments<'a, 'p>(
     parts: &'p [Part<'a>],
     slot: usize,
     depth: u32,
-    room: u32,
+    headroom: u32,
 ) -> Result<&'p [Part<'a>], PatternError>
-    ensures { Returns (λ rest. (found.new.items, (map part_view rest.now, sema_view sema.new))) result (gathered (number_at (places_view places.now) depth slot) room found.old.items (map part_view parts.now, sema_view sema.old)) }
+    ensures { Returns (λ rest. (found.new.items, (map part_view rest.now, sema_view sema.new))) result (gathered (number_at (places_view places.now) depth slot) headroom found.old.items (map part_view parts.now, sema_view sema.old)) }
 {
-    if room == 0 {
+    if headroom == 0 {
         return Err(refused(TextRefusal::TooMany, 0));
     }
     if let Some(rest) = after_end(parts) {
@@ -231,7 +231,7 @@ pub(crate) fn arguments<'a, 'p>(
         Err(e) => return Err(e),
     };
     match found.push(place) {
-        Ok(()) => arguments(alloc, places, sema, found, rest, slot, depth, room - 1),
+        Ok(()) => arguments(alloc, places, sema, found, rest, slot, depth, headroom - 1),
         Err(_) => Err(PatternError::Memory),
     }
 }
@@ -252,7 +252,9 @@ fn function<'a, 'p>(
     ensures { Returns (λ x. (x.0, (map part_view x.1.now, sema_view sema.new))) result (function_at (places_view places.now) (number_at (places_view places.now) depth slot) name.now slot at (map part_view parts.now, sema_view sema.old)) }
 {
     let mut found = Vec::new(alloc);
-    let rest = match arguments(alloc, places, sema, &mut found, parts, slot, depth, ROOM) {
+    let rest = match arguments(
+        alloc, places, sema, &mut found, parts, slot, depth, HEADROOM,
+    ) {
         Ok(rest) => rest,
         Err(e) => return Err(e),
     };

@@ -9,7 +9,7 @@ ghost use Rattle.user_patterns_sema.specs.SemaViews.{sema_view, places_view};
 ghost use Rattle.user_patterns_sema_base.specs.Types.{kind_of};
 ghost use Rattle.user_patterns_sema.specs.Ending.{ended, pattern_of};
 ghost use Rattle.user_patterns_sema.specs.EndViews.{ends_view};
-ghost use Rattle.user_patterns_sema.specs.Sema.{all_cast, all_fit, all_numbered, all_told, cast_asked, checked, constants_of, fits, found_in, is_index, is_told, kinds_found, numbered, place_in, settled, told_slots, variables_found, with_casts, with_kind};
+ghost use Rattle.user_patterns_sema.specs.Sema.{all_cast, all_fit, all_numbered, all_told, cast_requested, checked, constants_of, fits, found_in, is_index, is_told, kinds_found, numbered, place_in, settled, told_slots, variables_found, with_casts, with_kind};
 
 use crate::state::{CastConstraint, LiteralAt, RequiredType, Sema, ValueLayout};
 use ir_text_tokens::refusal::TextRefusal;
@@ -110,11 +110,11 @@ fn is_index(kind: PatternType) -> bool
 }
 
 /// Returns the width constraint of an index cast. Refuses a cast without exactly one `index` with `TypeMismatch`.
-fn cast_asked(
+fn cast_requested(
     value_types: &[PatternType],
     cast: &CastConstraint,
 ) -> Result<TypeConstraint, PatternError>
-    ensures { Returns (λ a. a) result (cast_asked value_types.now cast.now) }
+    ensures { Returns (λ a. a) result (cast_requested value_types.now cast.now) }
 {
     let from_index = is_index(kind_of(cast.from, value_types));
     let to_index = is_index(kind_of(cast.to, value_types));
@@ -144,7 +144,7 @@ fn all_cast(
 {
     let mut rest = casts;
     'casts: while let [cast, tail @ ..] = rest {
-        let one = match cast_asked(value_types, cast) {
+        let one = match cast_requested(value_types, cast) {
             Ok(one) => one,
             Err(e) => return Err(e),
         };

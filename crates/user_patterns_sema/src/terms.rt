@@ -5,9 +5,9 @@ ghost use Rattle.user_patterns_text.specs.Parts.{bytes_of, part_view};
 ghost use Rattle.user_patterns_text.specs.Refusing.{Returns};
 ghost use Rattle.user_patterns_sema_base.specs.Words.{truth_named};
 ghost use Rattle.user_patterns_sema.specs.SemaViews.{sema_view, places_view};
-ghost use Rattle.user_patterns_sema.specs.Sema.{asked_predicate, chosen, closed_at, compared, constant_at, gathered, is_bare, literal_of, made_at, visited_from, new_constant, old_constant, old_constant_of, old_literal, old_name_from, old_truth, old_word_from, operation_at, paired, resized, shaped, shaped_by_one, shaped_by_three, shaped_by_two, term_at, typed_constant, typed_entry, typed_operation, value_at, value_from, with_piece};
+ghost use Rattle.user_patterns_sema.specs.Sema.{requested_predicate, chosen, closed_at, compared, constant_at, gathered, is_bare, literal_of, made_at, visited_from, new_constant, old_constant, old_constant_of, old_literal, old_name_from, old_truth, old_word_from, operation_at, paired, resized, shaped, shaped_by_one, shaped_by_three, shaped_by_two, term_at, typed_constant, typed_entry, typed_operation, value_at, value_from, with_pattern_op};
 
-use crate::numbers::{ROOM, analyze_number, literal_with};
+use crate::numbers::{HEADROOM, analyze_number, literal_with};
 use crate::state::{
     CastConstraint, Magnitude, Sema, TermRef, ValueLayout, after_end, and_literal, begin,
     begin_new, typed, unite, unite_with,
@@ -268,8 +268,8 @@ fn made<'a, 'p>(
     }
 }
 
-fn asked_predicate(asks: Option<&[u8]>) -> Option<Predicate>
-    ensures { result ≡ asked_predicate (option_map bytes_of asks.entry) }
+fn requested_predicate(asks: Option<&[u8]>) -> Option<Predicate>
+    ensures { result ≡ requested_predicate (option_map bytes_of asks.entry) }
 {
     match asks {
         Some(word) => predicate_named(word),
@@ -453,7 +453,7 @@ fn is_bare(operation: Option<Operation>, asks: Option<&[u8]>) -> bool
 }
 
 /// Adds an operation on that side.
-fn with_piece<'a>(
+fn with_pattern_op<'a>(
     places: &ValueLayout<'_>,
     sema: &mut Sema<'a>,
     left: bool,
@@ -461,7 +461,7 @@ fn with_piece<'a>(
     slot: usize,
     at: usize,
 ) -> Result<TermRef, PatternError>
-    ensures { Returns (λ e. (e, sema_view sema.new)) result (Ok (with_piece (places_view places.now) left pattern_op slot at (sema_view sema.old))) }
+    ensures { Returns (λ e. (e, sema_view sema.new)) result (Ok (with_pattern_op (places_view places.now) left pattern_op slot at (sema_view sema.old))) }
 {
     if left {
         let place = places.old_begin as usize + sema.pattern_ops.len();
@@ -505,7 +505,7 @@ fn closed<'a>(
         alloc,
         sema,
         operation,
-        asked_predicate(asks),
+        requested_predicate(asks),
         entries,
         slot,
         at,
@@ -518,7 +518,7 @@ fn closed<'a>(
         bare: is_bare(operation, asks),
         ty: slot,
     };
-    with_piece(places, sema, left, pattern_op, slot, at)
+    with_pattern_op(places, sema, left, pattern_op, slot, at)
 }
 
 /// Appends the terms up to an end. Refuses `room` terms or more. Returns the parts after the end.
@@ -532,11 +532,11 @@ fn operands<'a, 'p>(
     parts: &'p [Part<'a>],
     left: bool,
     depth: u32,
-    room: u32,
+    headroom: u32,
 ) -> Result<&'p [Part<'a>], PatternError>
-    ensures { Returns (λ rest. (found.new.items, (map part_view rest.now, sema_view sema.new))) result (gathered (term_at (places_view places.now) left depth) room found.old.items (map part_view parts.now, sema_view sema.old)) }
+    ensures { Returns (λ rest. (found.new.items, (map part_view rest.now, sema_view sema.new))) result (gathered (term_at (places_view places.now) left depth) headroom found.old.items (map part_view parts.now, sema_view sema.old)) }
 {
-    if room == 0 {
+    if headroom == 0 {
         return Err(refused(TextRefusal::TooMany, 0));
     }
     if let Some(rest) = after_end(parts) {
@@ -547,7 +547,7 @@ fn operands<'a, 'p>(
         Err(e) => return Err(e),
     };
     match found.push(entry) {
-        Ok(()) => operands(alloc, places, sema, found, rest, left, depth, room - 1),
+        Ok(()) => operands(alloc, places, sema, found, rest, left, depth, headroom - 1),
         Err(_) => Err(PatternError::Memory),
     }
 }
@@ -573,7 +573,16 @@ fn operation<'a, 'p>(
         Err(_) => return Err(PatternError::Memory),
     };
     let mut entries = Vec::new(alloc);
-    let rest = match operands(alloc, places, sema, &mut entries, parts, left, depth, ROOM) {
+    let rest = match operands(
+        alloc,
+        places,
+        sema,
+        &mut entries,
+        parts,
+        left,
+        depth,
+        HEADROOM,
+    ) {
         Ok(rest) => rest,
         Err(e) => return Err(e),
     };

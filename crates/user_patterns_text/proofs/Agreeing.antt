@@ -11,7 +11,7 @@ use Rattle.ir_text_types.specs.Typed.{Text}
 use Rattle.user_patterns_text.specs.Syntax.{Number, Numbers, literal, named, called, numbers_of, Term, operation, value_of, constant_of, terms_of, Condition, narrower, asking, is_operation}
 use Rattle.user_patterns_text.specs.Syntax as syntax
 use Rattle.user_patterns_text.specs.Grammar.{most, old_depth, new_depth}
-use Rattle.user_patterns_text.specs.Heads.{Head, of_value, of_operation, of_word, of_digits, of_minus, of_other, head_of, magnitude_of, is_type_word, is_one_of, folding, may_ask, may_be_asked, must_be_asked}
+use Rattle.user_patterns_text.specs.Heads.{Head, of_value, of_operation, of_word, of_digits, of_minus, of_other, head_of, magnitude_of, is_type_word, is_one_of, folding, may_ask, may_be_requested, must_be_requested}
 use Rattle.user_patterns_text.specs.Recognizing as plain
 use Rattle.user_patterns_text.specs.Recognizing.{given}
 use Rattle.user_patterns_text.specs.Parts.{Part, operation_part, value_part, literal_part, name_part, function_part, condition_part, type_part, end_part, Placed, Pattern, unplaced, type_parts, closed, number_parts, numbers_parts, term_parts, terms_parts, condition_parts, conditions_parts, AreParts}
@@ -84,19 +84,19 @@ numbers_flat [] = refl
 numbers_flat (n ∷ ns) = ap (λ (ps : List Part). number_parts n ++ ps) (numbers_flat ns)
 
 -- the parts of an opening part, its items, and an end
-closed_parts : (front items : List Part) (p : Part) (xs : List Placed) (at : ℕ) → unplaced xs ≡ (front ++ p ∷ []) ++ items → unplaced (reading.and xs at end_part) ≡ front ++ (p ∷ closed items)
-closed_parts front items p xs at e =
-    unplaced_and xs at end_part ∙ ap (λ (ps : List Part). ps ++ end_part ∷ []) (e ∙ append_assoc front (p ∷ []) items) ∙ append_assoc front (p ∷ items) (end_part ∷ [])
+closed_parts : (preceding items : List Part) (p : Part) (xs : List Placed) (at : ℕ) → unplaced xs ≡ (preceding ++ p ∷ []) ++ items → unplaced (reading.and xs at end_part) ≡ preceding ++ (p ∷ closed items)
+closed_parts preceding items p xs at e =
+    unplaced_and xs at end_part ∙ ap (λ (ps : List Part). ps ++ end_part ∷ []) (e ∙ append_assoc preceding (p ∷ []) items) ∙ append_assoc preceding (p ∷ items) (end_part ∷ [])
 
 name_matches : (at : ℕ) (w : List ℕ) (s : State) → Matches number_parts (unplaced s.0) (Ok (reading.put at (name_part w) s)) (Some (named w, s.1))
 unfolding number_parts
 name_matches at w s = (unplaced_and s.0 at (name_part w), refl)
 
-called_parts : (front : List Part) (w : List ℕ) (ns : List Number) (x : State) → unplaced x.0 ≡ (front ++ function_part w ∷ []) ++ flats number_parts ns
-    → unplaced (ended x).0 ≡ front ++ number_parts (called w (numbers_of ns))
+called_parts : (preceding : List Part) (w : List ℕ) (ns : List Number) (x : State) → unplaced x.0 ≡ (preceding ++ function_part w ∷ []) ++ flats number_parts ns
+    → unplaced (ended x).0 ≡ preceding ++ number_parts (called w (numbers_of ns))
 unfolding number_parts
-called_parts front w ns x e =
-    closed_parts front (flats number_parts ns) (function_part w) x.0 (length x.1) e ∙ ap (λ (ps : List Part). front ++ (function_part w ∷ closed ps)) (sym (numbers_flat ns))
+called_parts preceding w ns x e =
+    closed_parts preceding (flats number_parts ns) (function_part w) x.0 (length x.1) e ∙ ap (λ (ps : List Part). preceding ++ (function_part w ∷ closed ps)) (sym (numbers_flat ns))
 
 module _ (N : Step) (n : Text → Option (Number × Text)) (k : (s : State) → Matches number_parts (unplaced s.0) (N s) (n s.1)) where
   call_from_matches : (at : ℕ) (w : List ℕ) (s : State) (o : Option Text)
@@ -144,20 +144,20 @@ allowed_if : (b : Bool) (at : ℕ) (w : List ℕ) (rest : Text)
 allowed_if true at w rest = same_then (trailing Greater rest) (after Greater rest) _ _ (after_same Greater rest) (λ r. refl)
 allowed_if false at w rest = subst (Same (refused Unexpected at)) (sym (given_none (after Greater rest) (plain.done_if false (Some w)) (λ r. refl))) tt
 
-asked_same : (name : List ℕ) (s : Text) → Same (reading.asked_at name s) (plain.asked name s)
-unfolding reading.asked_at
-asked_same name s = same_then (reading.word_at s) (plain.word s) _ _ (word_same s) (λ w. allowed_if (may_ask name w.0) (begins s) w.0 w.1)
+requested_same : (name : List ℕ) (s : Text) → Same (reading.requested_at name s) (plain.requested name s)
+unfolding reading.requested_at
+requested_same name s = same_then (reading.word_at s) (plain.word s) _ _ (word_same s) (λ w. allowed_if (may_ask name w.0) (begins s) w.0 w.1)
 
-asked_from_same : (may must : Bool) (name : List ℕ) (s : Text) (o : Option Text)
-    → Same (reading.asked_from may must name s o) (plain.either_from (plain.when may (plain.asked name)) (plain.done_if (not must) None) s o)
-asked_from_same true must name s (Some rest) = asked_same name rest
-asked_from_same false must name s (Some rest) = tt
-asked_from_same may true name s None = tt
-asked_from_same may false name s None = refl
+requested_from_same : (may must : Bool) (name : List ℕ) (s : Text) (o : Option Text)
+    → Same (reading.requested_from may must name s o) (plain.either_from (plain.when may (plain.requested name)) (plain.done_if (not must) None) s o)
+requested_from_same true must name s (Some rest) = requested_same name rest
+requested_from_same false must name s (Some rest) = tt
+requested_from_same may true name s None = tt
+requested_from_same may false name s None = refl
 
-asked_by_same : (may must : Bool) (name : List ℕ) (s : Text) → Same (reading.asked_by may must name s) (plain.asked_by may must name s)
-unfolding reading.asked_by
-asked_by_same may must name s = asked_from_same may must name s (after Less s)
+requested_by_same : (may must : Bool) (name : List ℕ) (s : Text) → Same (reading.requested_by may must name s) (plain.requested_by may must name s)
+unfolding reading.requested_by
+requested_by_same may must name s = requested_from_same may must name s (after Less s)
 
 value_matches : (at : ℕ) (n : List ℕ) (s : State) → Matches term_parts (unplaced s.0) (reading.value_from at n s) (plain.value_from n s.1)
 unfolding term_parts
@@ -170,19 +170,19 @@ unfolding term_parts
 terms_flat [] = refl
 terms_flat (t ∷ ts) = ap (λ (ps : List Part). term_parts t ++ ps) (terms_flat ts)
 
-operation_parts : (front : List Part) (name : List ℕ) (a : Option (List ℕ)) (ts : List Term) (ty : Option (List ℕ)) (xs : List Placed) (at : ℕ) (ys : List Placed)
-    → unplaced xs ≡ (front ++ operation_part name a ∷ []) ++ flats term_parts ts → unplaced ys ≡ unplaced (reading.and xs at end_part) ++ type_parts ty
-    → unplaced ys ≡ front ++ term_parts (operation name a (terms_of ts) ty)
+operation_parts : (preceding : List Part) (name : List ℕ) (a : Option (List ℕ)) (ts : List Term) (ty : Option (List ℕ)) (xs : List Placed) (at : ℕ) (ys : List Placed)
+    → unplaced xs ≡ (preceding ++ operation_part name a ∷ []) ++ flats term_parts ts → unplaced ys ≡ unplaced (reading.and xs at end_part) ++ type_parts ty
+    → unplaced ys ≡ preceding ++ term_parts (operation name a (terms_of ts) ty)
 unfolding term_parts
-operation_parts front name a ts ty xs at ys e f =
-    f ∙ ap (λ (ps : List Part). ps ++ type_parts ty) (closed_parts front (flats term_parts ts) (operation_part name a) xs at e)
-    ∙ append_assoc front (operation_part name a ∷ closed (flats term_parts ts)) (type_parts ty)
-    ∙ ap (λ (ps : List Part). front ++ (operation_part name a ∷ (closed ps ++ type_parts ty))) (sym (terms_flat ts))
+operation_parts preceding name a ts ty xs at ys e f =
+    f ∙ ap (λ (ps : List Part). ps ++ type_parts ty) (closed_parts preceding (flats term_parts ts) (operation_part name a) xs at e)
+    ∙ append_assoc preceding (operation_part name a ∷ closed (flats term_parts ts)) (type_parts ty)
+    ∙ ap (λ (ps : List Part). preceding ++ (operation_part name a ∷ (closed ps ++ type_parts ty))) (sym (terms_flat ts))
 
-constant_parts : (front : List Part) (n : Number) (ty : Option (List ℕ)) (xs ys : List Placed) → unplaced xs ≡ front ++ number_parts n → unplaced ys ≡ unplaced xs ++ type_parts ty
-    → unplaced ys ≡ front ++ term_parts (constant_of n ty)
+constant_parts : (preceding : List Part) (n : Number) (ty : Option (List ℕ)) (xs ys : List Placed) → unplaced xs ≡ preceding ++ number_parts n → unplaced ys ≡ unplaced xs ++ type_parts ty
+    → unplaced ys ≡ preceding ++ term_parts (constant_of n ty)
 unfolding term_parts
-constant_parts front n ty xs ys e f = f ∙ ap (λ (ps : List Part). ps ++ type_parts ty) e ∙ append_assoc front (number_parts n) (type_parts ty)
+constant_parts preceding n ty xs ys e f = f ∙ ap (λ (ps : List Part). ps ++ type_parts ty) e ∙ append_assoc preceding (number_parts n) (type_parts ty)
 
 module _ (left : Bool) (N : ℕ → Head → Step) (n : Head → Text → Option (Number × Text)) (j : (at : ℕ) (h : Head) (s : State) → Matches number_parts (unplaced s.0) (N at h s) (n h s.1))
     (T : Step) (t : Text → Option (Term × Text)) (k : (s : State) → Matches term_parts (unplaced s.0) (T s) (t s.1)) where
@@ -208,8 +208,8 @@ module _ (left : Bool) (N : ℕ → Head → Step) (n : Head → Text → Option
       (operation_parts (unplaced s.0) name a ts ty x.0 (length x.1) y.0 (e ∙ ap (λ (ps : List Part). ps ++ flats term_parts ts) (unplaced_and s.0 at (operation_part name a))) f, refl)))
 
   -- the rest of an operation after its name: its constraint and its operands
-  abbrev Asked : Bool → List ℕ → Text → Option (Term × Text)
-  Asked b name rest = given (plain.asked_by (may_be_asked left name) (must_be_asked name) name rest) (λ a. given (after OpenRound a.1) (Operands name a.0 b))
+  abbrev Requested : Bool → List ℕ → Text → Option (Term × Text)
+  Requested b name rest = given (plain.requested_by (may_be_requested left name) (must_be_requested name) name rest) (λ a. given (after OpenRound a.1) (Operands name a.0 b))
 
   opened_matches : (at : ℕ) (name : List ℕ) (a : Option (List ℕ) × Text) (s : State)
       → Matches term_parts (unplaced s.0) ((trailing OpenRound a.1 >>= λ rest. Ok (reading.and s.0 at (operation_part name a.0), rest)) >>= reading.operands_at T)
@@ -219,16 +219,16 @@ module _ (left : Bool) (N : ℕ → Head → Step) (n : Head → Text → Option
       (same_matches term_parts (unplaced s.0) (trailing OpenRound a.1) (after OpenRound a.1) _ (Operands name a.0 true) (after_same OpenRound a.1) (λ rest. operands_matches at name a.0 s rest))
 
   operation_if : (b : Bool) (at : ℕ) (name : List ℕ) (s : State)
-      → Matches term_parts (unplaced s.0) (if b then reading.opened_at left at name s >>= reading.operands_at T else refused LeftOut at) (Asked b name s.1)
+      → Matches term_parts (unplaced s.0) (if b then reading.opened_at left at name s >>= reading.operands_at T else refused LeftOut at) (Requested b name s.1)
   unfolding reading.opened_at
   operation_if true at name s =
-      let o = reading.asked_by (may_be_asked left name) (must_be_asked name) name s.1 in
+      let o = reading.requested_by (may_be_requested left name) (must_be_requested name) name s.1 in
       rw (bound_again o (λ a. trailing OpenRound a.1 >>= λ rest. Ok (reading.and s.0 at (operation_part name a.0), rest)) (reading.operands_at T))
-      (same_matches term_parts (unplaced s.0) o (plain.asked_by (may_be_asked left name) (must_be_asked name) name s.1) _ _ (asked_by_same (may_be_asked left name) (must_be_asked name) name s.1)
+      (same_matches term_parts (unplaced s.0) o (plain.requested_by (may_be_requested left name) (must_be_requested name) name s.1) _ _ (requested_by_same (may_be_requested left name) (must_be_requested name) name s.1)
       (λ a. opened_matches at name a s))
   operation_if false at name s =
       subst (Matches term_parts (unplaced s.0) (refused LeftOut at))
-      (sym (given_none (plain.asked_by (may_be_asked left name) (must_be_asked name) name s.1) _ (λ a.
+      (sym (given_none (plain.requested_by (may_be_requested left name) (must_be_requested name) name s.1) _ (λ a.
       given_none (after OpenRound a.1) (Operands name a.0 false) (λ rest.
       given_none (plain.listed CloseRound t most rest) _ (λ ts. given_none (plain.typed ts.1) _ (λ ty. refl)))))) tt
 
@@ -288,19 +288,19 @@ types_flat (w ∷ ws) = ap (λ (ps : List Part). type_part w ∷ ps) (types_flat
 only_word : (v w : List ℕ) → is_one_of (v ∷ []) w ≡ true → w ≡ v
 only_word v w e = (bytes_eq-Decides w v).0 (sym (or_false (bytes_eq w v)) ∙ e)
 
-narrower_parts : (front : List Part) (w : List ℕ) (tys : List (List ℕ)) (x : State) → w ≡ codes "narrower" → unplaced x.0 ≡ (front ++ condition_part w ∷ []) ++ flats one_type tys
-    → unplaced (ended x).0 ≡ front ++ condition_parts (narrower tys)
+narrower_parts : (preceding : List Part) (w : List ℕ) (tys : List (List ℕ)) (x : State) → w ≡ codes "narrower" → unplaced x.0 ≡ (preceding ++ condition_part w ∷ []) ++ flats one_type tys
+    → unplaced (ended x).0 ≡ preceding ++ condition_parts (narrower tys)
 unfolding condition_parts
-narrower_parts front w tys x is e =
-    closed_parts front (flats one_type tys) (condition_part w) x.0 (length x.1) e
-    ∙ ap (λ (ps : List Part). front ++ (condition_part w ∷ closed ps)) (sym (types_flat tys))
-    ∙ ap (λ (v : List ℕ). front ++ (condition_part v ∷ closed (map type_part tys))) is
+narrower_parts preceding w tys x is e =
+    closed_parts preceding (flats one_type tys) (condition_part w) x.0 (length x.1) e
+    ∙ ap (λ (ps : List Part). preceding ++ (condition_part w ∷ closed ps)) (sym (types_flat tys))
+    ∙ ap (λ (v : List ℕ). preceding ++ (condition_part v ∷ closed (map type_part tys))) is
 
-asking_parts : (front : List Part) (w : List ℕ) (ns : List Number) (x : State) → unplaced x.0 ≡ (front ++ condition_part w ∷ []) ++ flats number_parts ns
-    → unplaced (ended x).0 ≡ front ++ condition_parts (asking w ns)
+asking_parts : (preceding : List Part) (w : List ℕ) (ns : List Number) (x : State) → unplaced x.0 ≡ (preceding ++ condition_part w ∷ []) ++ flats number_parts ns
+    → unplaced (ended x).0 ≡ preceding ++ condition_parts (asking w ns)
 unfolding condition_parts
-asking_parts front w ns x e =
-    closed_parts front (flats number_parts ns) (condition_part w) x.0 (length x.1) e ∙ ap (λ (ps : List Part). front ++ (condition_part w ∷ closed ps)) (sym (numbers_flat ns))
+asking_parts preceding w ns x e =
+    closed_parts preceding (flats number_parts ns) (condition_part w) x.0 (length x.1) e ∙ ap (λ (ps : List Part). preceding ++ (condition_part w ∷ closed ps)) (sym (numbers_flat ns))
 
 parts_matches : (b : Bool) (at : ℕ) (w : List ℕ) (s : State) (rest : Text) → is_one_of (codes "narrower" ∷ []) w ≡ b
     → Matches condition_parts (unplaced s.0) (reading.parts_of b (reading.and s.0 at (condition_part w), rest) >>= λ x. Ok (ended x)) (plain.condition_from b w rest)

@@ -104,47 +104,47 @@ trailing_exact {f = f} k = record {
 
 module _ {A : Type 0} (close : Mark) {p : Reader A} {P : Grammar Text A} (k : Exact p P) where
   abbrev Rest : ℕ → List A → Grammar Text (List A)
-  Rest room items ys mid new =
-      (IsMark close mid new × (ys ≡ items)) ⊎ (Not IsMark close mid × (next : Text) × IsMark Comma mid next × IsMore IsMark close (λ before. P) room items ys next new)
+  Rest headroom items ys mid new =
+      (IsMark close mid new × (ys ≡ items)) ⊎ (Not IsMark close mid × (next : Text) × IsMark Comma mid next × IsMore IsMark close (λ before. P) headroom items ys next new)
 
-  module _ (room : ℕ) (go : (items : List A) → Exact (more close p room items) (IsMore IsMark close (λ before. P) room items)) where
-    rest_found : (items : List A) (s r : Text) (ys : List A) (o : Option Text) → after close s ≡ o → more_from close p (more close p room) items s o ≡ Some (ys, r) → Rest room items ys s r
+  module _ (headroom : ℕ) (go : (items : List A) → Exact (more close p headroom items) (IsMore IsMark close (λ before. P) headroom items)) where
+    rest_found : (items : List A) (s r : Text) (ys : List A) (o : Option Text) → after close s ≡ o → more_from close p (more close p headroom) items s o ≡ Some (ys, r) → Rest headroom items ys s r
     rest_found items s r ys None a e =
-        let g = given_some (after Comma s) (more close p room items) (ys, r) e in
+        let g = given_some (after Comma s) (more close p headroom items) (ys, r) e in
         inr (after_none close s a, g.0, after_found Comma s g.0 g.1, (go items).found g.0 r ys g.2)
     rest_found items s r ys (Some t) a e =
         let h = same_pair e in
         inl (subst (λ (u : Text). IsMark close s u) (sym h.1) (after_found close s t a), h.0)
 
-    rest_only : (items : List A) (s r : Text) (ys : List A) → Rest room items ys s r → more_from close p (more close p room) items s (after close s) ≡ Some (ys, r)
+    rest_only : (items : List A) (s r : Text) (ys : List A) → Rest headroom items ys s r → more_from close p (more close p headroom) items s (after close s) ≡ Some (ys, r)
     rest_only items s r ys h = elim h [
       | inl a ↦ rw (after_only close s r a.0) (pair_same a.1 refl)
       | inr a ↦ rw (none_after close s a.0, after_only Comma s a.1 a.2) ((go items).only a.1 r ys a.3)
     ]
 
-  pub more_exact : (room : ℕ) (items : List A) → Exact (more close p room items) (IsMore IsMark close (λ before. P) room items)
+  pub more_exact : (headroom : ℕ) (items : List A) → Exact (more close p headroom items) (IsMore IsMark close (λ before. P) headroom items)
   unfolding more IsMore
   more_exact zero items = record { found = λ s r x e. none-some (x, r) e; only = λ s r x h. absurd h }
-  more_exact (suc room) items = record {
+  more_exact (suc headroom) items = record {
     found = λ s r ys e.
-        let g = given_some (p s) (λ x. more_from close p (more close p room) (items ++ x.0 ∷ []) x.1 (after close x.1)) (ys, r) e in
-        (g.0.0, g.0.1, k.found s g.0.1 g.0.0 g.1, rest_found room (more_exact room) (items ++ g.0.0 ∷ []) g.0.1 r ys (after close g.0.1) refl g.2);
-    only = λ s r ys h. rw (k.only s h.1 h.0 h.2) (rest_only room (more_exact room) (items ++ h.0 ∷ []) h.1 r ys h.3);
+        let g = given_some (p s) (λ x. more_from close p (more close p headroom) (items ++ x.0 ∷ []) x.1 (after close x.1)) (ys, r) e in
+        (g.0.0, g.0.1, k.found s g.0.1 g.0.0 g.1, rest_found headroom (more_exact headroom) (items ++ g.0.0 ∷ []) g.0.1 r ys (after close g.0.1) refl g.2);
+    only = λ s r ys h. rw (k.only s h.1 h.0 h.2) (rest_only headroom (more_exact headroom) (items ++ h.0 ∷ []) h.1 r ys h.3);
   }
 
-  pub listed_exact : (room : ℕ) → Exact (listed close p room) (IsList IsMark close (λ before. P) room)
+  pub listed_exact : (headroom : ℕ) → Exact (listed close p headroom) (IsList IsMark close (λ before. P) headroom)
   unfolding IsList
-  listed_exact room = record {
+  listed_exact headroom = record {
     found = λ s r ys e. by s r ys (after close s) refl e;
     only = λ s r ys h. (elim h [
       | inl a ↦ rw (after_only close s r a.0) (pair_same a.1 refl)
-      | inr a ↦ rw (none_after close s a.0) ((more_exact room []).only s r ys a.1)
+      | inr a ↦ rw (none_after close s a.0) ((more_exact headroom []).only s r ys a.1)
     ]);
   }
     where
-      by : (s r : Text) (ys : List A) (o : Option Text) → after close s ≡ o → either_from (done []) (more close p room []) s o ≡ Some (ys, r)
-          → (IsMark close s r × (ys ≡ [])) ⊎ (Not IsMark close s × IsMore IsMark close (λ before. P) room [] ys s r)
-      by s r ys None a e = inr (after_none close s a, (more_exact room []).found s r ys e)
+      by : (s r : Text) (ys : List A) (o : Option Text) → after close s ≡ o → either_from (done []) (more close p headroom []) s o ≡ Some (ys, r)
+          → (IsMark close s r × (ys ≡ [])) ⊎ (Not IsMark close s × IsMore IsMark close (λ before. P) headroom [] ys s r)
+      by s r ys None a e = inr (after_none close s a, (more_exact headroom []).found s r ys e)
       by s r ys (Some t) a e =
           let h = same_pair e in
           inl (subst (λ (u : Text). IsMark close s u) (sym h.1) (after_found close s t a), h.0)

@@ -6,7 +6,7 @@ pub mod Patterns
 pub mod Items
 pub mod Texts
 pub mod Exact
-pub mod Spelled
+pub mod Rendered
 pub mod Shown
 pub mod TermLaws
 pub mod Whole

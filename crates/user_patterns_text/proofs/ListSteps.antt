@@ -17,16 +17,16 @@ fails_with errors.Memory o q f h = tt
 fails_with (errors.Refused r) o q f h = f r h
 
 module _ (close : Mark) (item : Step) where
-  pub starts : (room : ℕ) (s : State) → after close s.1 ≡ None → more_at close item room s ≡ listed_at close item room s
+  pub starts : (headroom : ℕ) (s : State) → after close s.1 ≡ None → more_at close item headroom s ≡ listed_at close item headroom s
   unfolding listed_at
-  starts room s e = rw e refl
+  starts headroom s e = rw e refl
 
-  module _ (room i : ℕ) (s : State) (total : Outcome State) (so_far : more_at close item (room - i) s ≡ total) where
-    module _ (lt : i < room) where
-      one : room - i ≡ suc (room - (i + 1))
+  module _ (headroom i : ℕ) (s : State) (total : Outcome State) (so_far : more_at close item (headroom - i) s ≡ total) where
+    module _ (lt : i < headroom) where
+      one : headroom - i ≡ suc (headroom - (i + 1))
       one = omega arith
 
-      pub goes_on : (x : State) (rest : Text) → item s ≡ Ok x → after close x.1 ≡ None → trailing Comma x.1 ≡ Ok rest → more_at close item (room - (i + 1)) (x.0, rest) ≡ total
+      pub goes_on : (x : State) (rest : Text) → item s ≡ Ok x → after close x.1 ≡ None → trailing Comma x.1 ≡ Ok rest → more_at close item (headroom - (i + 1)) (x.0, rest) ≡ total
       unfolding more_at
       goes_on x rest found going comma = sym (rw (one, found, going, comma) refl) ∙ so_far
 
@@ -42,8 +42,8 @@ module _ (close : Mark) (item : Step) where
       unfolding more_at
       no_comma e x found going fails = fails_with e (trailing Comma x.1) total (λ f is. sym so_far ∙ rw (one, found, going, is) refl) fails
 
-    module _ (le : room ≤ i) where
-      none : room - i ≡ 0
+    module _ (le : headroom ≤ i) where
+      none : headroom - i ≡ 0
       none = omega arith
 
       pub too_many : (x : State) → item s ≡ Ok x → total ≡ refused TooMany (begins s.1)

@@ -13,7 +13,7 @@ use Rattle.user_patterns_text.specs.Grammar.{IsPattern, old_depth, new_depth}
 use Rattle.user_patterns_text.specs.Grammar as grammar
 use Rattle.user_patterns_text.specs.Recognizing as plain
 use Rattle.user_patterns_text.specs.Recognizing.{given}
-use Rattle.user_patterns_text.proofs.Spelled.{pattern_exact}
+use Rattle.user_patterns_text.proofs.Rendered.{pattern_exact}
 use Rattle.user_patterns_text.specs.declared.error.PatternError.{PatternError}
 use Rattle.user_patterns_text.specs.declared.error.PatternError.TheVariants as errors
 use Rattle.user_patterns_text.specs.declared.parts.Pattern.{Pattern as PatternCode}
@@ -21,7 +21,7 @@ use Rattle.user_patterns_text.specs.Parts.{Part, operation_part, value_part, lit
 use Rattle.user_patterns_text.specs.Refusing.{Outcome, ◌>>=◌, Returns, refused, begins, trailing}
 use Rattle.user_patterns_text.specs.Reading as reading
 use Rattle.user_patterns_text.specs.Reading.{State}
-use Rattle.user_patterns_text.specs.Spelled.{whole_at, whole_from, Spells, IsSpelled, IsReadAs}
+use Rattle.user_patterns_text.specs.Rendered.{whole_at, whole_from, Spells, IsRendered, IsReadAs}
 use Rattle.user_patterns_text.proofs.Matching.{Same, Matches, bound_again, after_same, flats}
 use Rattle.user_patterns_text.proofs.Agreeing.{word_same, old_matches, new_matches, conditions_matches, conditions_flat}
 
@@ -38,12 +38,12 @@ same_agrees (Ok x) None f g h k = absurd h
 same_agrees (Err e) (Some y) f g h k = absurd h
 same_agrees (Err e) None f g h k = tt
 
-matches_agrees : {A : Type 0} (flat : A → List Part) (front : List Part) (o : Outcome State) (q : Option (A × Text)) (f : State → Outcome Pattern) (g : A × Text → Option (syntax.Pattern × Text))
-    → Matches flat front o q → ((x : State) (y : A) → unplaced x.0 ≡ front ++ flat y → Agrees (f x) (g (y, x.1))) → Agrees (o >>= f) (given q g)
-matches_agrees flat front (Ok x) (Some y) f g h k = subst (λ (r : Text). Agrees (f x) (g (y.0, r))) h.1 (k x y.0 h.0)
-matches_agrees flat front (Ok x) None f g h k = absurd h
-matches_agrees flat front (Err e) (Some y) f g h k = absurd h
-matches_agrees flat front (Err e) None f g h k = tt
+matches_agrees : {A : Type 0} (flat : A → List Part) (preceding : List Part) (o : Outcome State) (q : Option (A × Text)) (f : State → Outcome Pattern) (g : A × Text → Option (syntax.Pattern × Text))
+    → Matches flat preceding o q → ((x : State) (y : A) → unplaced x.0 ≡ preceding ++ flat y → Agrees (f x) (g (y, x.1))) → Agrees (o >>= f) (given q g)
+matches_agrees flat preceding (Ok x) (Some y) f g h k = subst (λ (r : Text). Agrees (f x) (g (y.0, r))) h.1 (k x y.0 h.0)
+matches_agrees flat preceding (Ok x) None f g h k = absurd h
+matches_agrees flat preceding (Err e) (Some y) f g h k = absurd h
+matches_agrees flat preceding (Err e) None f g h k = tt
 
 -- ---- which parts begin an operation
 
@@ -136,10 +136,10 @@ whole_found text None p is e =
     let a = agrees_found (reading.pattern_at text) (plain.read text) p (pattern_agrees text) e in
     (a.0.0, (is, (a.0.1, pattern_exact.found text a.0.1 a.0.0 a.1)), a.2)
 
-pub is_spelled : (text : Text) (r : Result PatternCode PatternError) → Returns pattern_view r (whole_at text) → IfOk r (IsSpelled text)
+pub is_rendered : (text : Text) (r : Result PatternCode PatternError) → Returns pattern_view r (whole_at text) → IfOk r (IsRendered text)
 unfolding whole_at
-is_spelled text (Ok p) h = whole_found text (text_reason text) (pattern_view p) refl h
-is_spelled text (Err e) h = tt
+is_rendered text (Ok p) h = whole_found text (text_reason text) (pattern_view p) refl h
+is_rendered text (Err e) h = tt
 
 whole_only : (text : Text) (q : syntax.Pattern) → Spells text q → (p : Pattern) × (whole_at text ≡ Ok p) × AreParts p q
 unfolding whole_at

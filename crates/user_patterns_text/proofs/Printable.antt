@@ -12,9 +12,9 @@ use Rattle.ir_text_types.specs.Grammars.{Grammar, IsMark, IsMore, IsList}
 use Rattle.ir_text_types.specs.Marks.{mark_code}
 use Rattle.ir_text_types.specs.Typed.{Text}
 use Rattle.user_patterns_text.specs.Syntax.{Number, literal, numbers_of, number_list, Term, terms_of, term_list, Condition, narrower, Pattern}
-use Rattle.user_patterns_text.specs.Heads.{Head, of_value, of_operation, of_word, of_digits, of_minus, of_other, head_of, has_dot, is_type_word, is_one_of, may_be_asked, must_be_asked}
-use Rattle.user_patterns_text.specs.Grammar.{most, old_depth, new_depth, IsWordOf, IsWord, IsType, IsTyped, IsDigits, IsMagnitudeOf, IsMagnitude, IsNumberOf, IsNumber, IsAskedBy, IsOldNumberOf, IsConstant, IsTermOf, IsValueOf, IsOld, IsNew, IsConditionOf, IsCondition, IsAskedAtEnd, IsPattern}
-use Rattle.user_patterns_text.specs.Printing.{IsName, FitsNumber, FitsList, FitsRest, FitsType, FitsAsked, FitsOldNumber, FitsOld, FitsOlds, FitsNew, FitsNews, AreTypes, FitsCondition, FitConditions, IsPrintable}
+use Rattle.user_patterns_text.specs.Heads.{Head, of_value, of_operation, of_word, of_digits, of_minus, of_other, head_of, has_dot, is_type_word, is_one_of, may_be_requested, must_be_requested}
+use Rattle.user_patterns_text.specs.Grammar.{most, old_depth, new_depth, IsWordOf, IsWord, IsType, IsTyped, IsDigits, IsMagnitudeOf, IsMagnitude, IsNumberOf, IsNumber, IsRequestedBy, IsOldNumberOf, IsConstant, IsTermOf, IsValueOf, IsOld, IsNew, IsConditionOf, IsCondition, IsRequestedAtEnd, IsPattern}
+use Rattle.user_patterns_text.specs.Printing.{IsName, FitsNumber, FitsList, FitsRest, FitsType, FitsRequested, FitsOldNumber, FitsOld, FitsOlds, FitsNew, FitsNews, AreTypes, FitsCondition, FitConditions, IsPrintable}
 
 -- ---- heads
 
@@ -82,15 +82,15 @@ module _ {A : Type 0} (Q : A → Type 0) where
 
   -- `ys` is `items` followed by at least one more item
   abbrev pub Listed : ℕ → List A → List A → Type 0
-  Listed room items ys = (x : A) × (xs : List A) × (ys ≡ items ++ (x ∷ xs)) × Q x × AllFit xs × (length (x ∷ xs) ≤ room)
+  Listed headroom items ys = (x : A) × (xs : List A) × (ys ≡ items ++ (x ∷ xs)) × Q x × AllFit xs × (length (x ∷ xs) ≤ headroom)
 
 module _ {A : Type 0} (P : Grammar Text A) (Q : A → Type 0) (fits : (x : A) (s m : Text) → P x s m → Q x) where
-  pub more_fits : (close : Mark) (room : ℕ) (items ys : List A) (s m : Text) → IsMore IsMark close (λ before. P) room items ys s m → Listed Q room items ys
+  pub more_fits : (close : Mark) (headroom : ℕ) (items ys : List A) (s m : Text) → IsMore IsMark close (λ before. P) headroom items ys s m → Listed Q headroom items ys
   unfolding IsMore
   more_fits close zero items ys s m d = absurd d
-  more_fits close (suc room) items ys s m d = elim d.3 [
+  more_fits close (suc headroom) items ys s m d = elim d.3 [
     | inl a ↦ (d.0, [], a.1, fits d.0 s d.1 d.2, tt, omega arith)
-    | inr a ↦ (let r = more_fits close room (items ++ d.0 ∷ []) ys a.1 m a.3 in
+    | inr a ↦ (let r = more_fits close headroom (items ++ d.0 ∷ []) ys a.1 m a.3 in
         (d.0, r.0 ∷ r.1, r.2 ∙ append_assoc items (d.0 ∷ []) (r.0 ∷ r.1), fits d.0 s d.1 d.2, (r.3, r.4), omega (arith, r.5)))
   ]
 
@@ -165,10 +165,10 @@ old_number_fits of_other y r mid f d = absurd d
 
 -- ---- terms
 
-asked_fits : (left : Bool) (name : List ℕ) (a : Option (List ℕ)) (start mid : Text) → IsAskedBy (may_be_asked left name) (must_be_asked name) name a start mid → FitsAsked left name a
-asked_fits left name a start mid d = elim d [
-  | inl b ↦ subst (FitsAsked left name) (sym b.2.1.3.2.1) (word_fits b.2.1.0 b.0 b.2.1.1 b.2.1.2, b.2.0, b.2.1.3.2.0)
-  | inr b ↦ subst (FitsAsked left name) (sym b.1.1) b.1.0
+requested_fits : (left : Bool) (name : List ℕ) (a : Option (List ℕ)) (start mid : Text) → IsRequestedBy (may_be_requested left name) (must_be_requested name) name a start mid → FitsRequested left name a
+requested_fits left name a start mid d = elim d [
+  | inl b ↦ subst (FitsRequested left name) (sym b.2.1.3.2.1) (word_fits b.2.1.0 b.0 b.2.1.1 b.2.1.2, b.2.0, b.2.1.3.2.0)
+  | inr b ↦ subst (FitsRequested left name) (sym b.1.1) b.1.0
 ]
 
 terms_once : (ts : List Term) → term_list (terms_of ts) ≡ ts
@@ -198,7 +198,7 @@ module _ (depth : ℕ) (inner : (t : Term) (s m : Text) → IsOld depth t s m �
   unfolding FitsOld
   old_term_fits (of_value n) t r mid f d = subst (FitsOld (suc depth)) (sym d.3.0) (f, typed_fits d.0 r d.1 d.2)
   old_term_fits (of_operation w) t r mid f d =
-      let a = asked_fits true w d.0 r d.1 d.2 in
+      let a = requested_fits true w d.0 r d.1 d.2 in
       let ts = old_list_fits d.3.2.0 d.3.0 d.3.2.1 d.3.2.2 in
       let ty = typed_fits d.3.2.3.0 d.3.2.1 d.3.2.3.1 d.3.2.3.2 in
       subst (FitsOld (suc depth)) (sym d.3.2.3.3.1) ((f.0, f.1, d.3.2.3.3.0), a, ts.0, ts.1, ty)
@@ -244,7 +244,7 @@ module _ (depth : ℕ) (inner : (t : Term) (s m : Text) → IsNew depth t s m �
   unfolding FitsNew
   new_term_fits (of_value n) t r mid f d = subst (FitsNew (suc depth)) (sym d.3.0) (f, typed_fits d.0 r d.1 d.2)
   new_term_fits (of_operation w) t r mid f d =
-      let a = asked_fits false w d.0 r d.1 d.2 in
+      let a = requested_fits false w d.0 r d.1 d.2 in
       let ts = new_list_fits d.3.2.0 d.3.0 d.3.2.1 d.3.2.2 in
       let ty = typed_fits d.3.2.3.0 d.3.2.1 d.3.2.3.1 d.3.2.3.2 in
       subst (FitsNew (suc depth)) (sym d.3.2.3.3.1) ((f.0, f.1, d.3.2.3.3.0), a, ts.0, ts.1, ty)
@@ -281,7 +281,7 @@ conditions_fit : (cs : List Condition) → AllFit FitsCondition cs → FitCondit
 conditions_fit [] f = tt
 conditions_fit (c ∷ cs) f = (f.0, conditions_fit cs f.1)
 
-where_fits : (cs : List Condition) (start mid : Text) → IsAskedAtEnd cs start mid → FitConditions cs × (length cs ≤ most)
+where_fits : (cs : List Condition) (start mid : Text) → IsRequestedAtEnd cs start mid → FitConditions cs × (length cs ≤ most)
 where_fits cs start mid d = elim d [
   | inl a ↦ subst (λ (ds : List Condition). FitConditions ds × (length ds ≤ most)) (sym a.2.0) (tt, omega arith)
   | inr a ↦ (let r = more_fits IsCondition FitsCondition condition_fits End most [] cs a.1.1 mid a.1.3.1 in

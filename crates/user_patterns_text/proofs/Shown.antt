@@ -63,8 +63,8 @@ comma_ends rest = record { stops = refl; round = not_mark Comma OpenRound (44 �
 pub word_head : (w : List ℕ) (P : Head → Type 0) → has_dot w ≡ false → P (of_word w) → P (head_of (bare w))
 word_head w P dot h = subst (λ (b : Bool). P (if b then of_operation w else of_word w)) (sym dot) h
 
-pub word_spelled : (w start rest : Text) → IsName w → next start ≡ next (w ++ rest) → Stops is_suffix rest → IsWord w start rest
-word_spelled w start rest name same s =
+pub word_rendered : (w start rest : Text) → IsName w → next start ≡ next (w ++ rest) → Stops is_suffix rest → IsWord w start rest
+word_rendered w start rest name same s =
     (bare w, rest, same ∙ bare_token w rest name.0 (stops_word rest s), word_head w (λ h. IsWordOf h w rest rest) name.1 (refl, refl))
 
 pub magnitude_again : (n : ℕ) → n < 2 ^ 128 → magnitude_of (decimal n) ≡ Some n
@@ -90,31 +90,31 @@ more_ends (next_number n ns) rest = comma_ends (32 ∷ show_number n (show_more 
 
 -- the text after an item of a list: the closing mark, or a comma and more items
 abbrev pub Tail : {A : Type 0} → Grammar Text A → ℕ → List A → Grammar Text (List A)
-Tail P room items ys mid new =
+Tail P headroom items ys mid new =
     (IsMark CloseRound mid new × (ys ≡ items))
-    ⊎ (Not IsMark CloseRound mid × (next : Text) × IsMark Comma mid next × IsMore IsMark CloseRound (λ before. P) room items ys next new)
+    ⊎ (Not IsMark CloseRound mid × (next : Text) × IsMark Comma mid next × IsMore IsMark CloseRound (λ before. P) headroom items ys next new)
 
 mutual
   unfolding IsNumber IsMore show_number show_numbers show_more FitsNumber FitsList FitsRest
 
-  pub number_spelled : (n : Number) (depth : ℕ) → FitsNumber depth n → (start rest : Text) → next start ≡ next (show_number n rest) → Ends rest → IsNumber depth n start rest
-  number_spelled n zero f start rest same e = absurd f
-  number_spelled (literal false n) (suc depth) f start rest same e =
+  pub number_rendered : (n : Number) (depth : ℕ) → FitsNumber depth n → (start rest : Text) → next start ≡ next (show_number n rest) → Ends rest → IsNumber depth n start rest
+  number_rendered n zero f start rest same e = absurd f
+  number_rendered (literal false n) (suc depth) f start rest same e =
       (integer (decimal n), rest, same ∙ decimal_token n rest f (stops_integer rest e.stops), (n, magnitude_again n f, refl, refl))
-  number_spelled (literal true n) (suc depth) f start rest same e =
+  number_rendered (literal true n) (suc depth) f start rest same e =
       let d = decimal_number n f in (
         mark Minus,
         decimal n ++ rest,
         same ∙ mark_token Minus (decimal n ++ rest) (no_arrow (decimal n) rest d.some d.digits),
         (integer (decimal n), rest, decimal_token n rest f (stops_integer rest e.stops), (n, magnitude_again n f, refl, refl)),
       )
-  number_spelled (named w) (suc depth) f start rest same e = (
+  number_rendered (named w) (suc depth) f start rest same e = (
     bare w,
     rest,
     same ∙ bare_token w rest f.0 (stops_word rest e.stops),
     word_head w (λ h. IsNumberOf (IsNumber depth) h (named w) rest rest) f.1 (inr (e.round, (refl, refl))),
   )
-  number_spelled (called w ns) (suc depth) f start rest same e =
+  number_rendered (called w ns) (suc depth) f start rest same e =
       let inside = show_numbers ns rest in (
         bare w,
         40 ∷ inside,
@@ -123,22 +123,22 @@ mutual
             (inl (
               inside,
               mark_token OpenRound inside tt,
-              (number_list ns, rest, list_spelled ns depth most f.1 f.2 inside rest refl, (ap (called w) (sym (list_again ns)), refl)),
+              (number_list ns, rest, list_rendered ns depth most f.1 f.2 inside rest refl, (ap (called w) (sym (list_again ns)), refl)),
             )),
       )
 
-  pub list_spelled : (ns : Numbers) (depth room : ℕ) → FitsList depth ns → length (number_list ns) ≤ room → (start rest : Text) → next start ≡ next (show_numbers ns rest)
-      → IsMore IsMark CloseRound (λ before. IsNumber depth) room [] (number_list ns) start rest
-  list_spelled no_numbers depth room f le start rest same = absurd f
-  list_spelled (next_number n ns) depth zero f le start rest same = absurd (omega (arith, le))
-  list_spelled (next_number n ns) depth (suc room) f le start rest same =
-      (n, show_more ns rest, number_spelled n depth f.0 start (show_more ns rest) same (more_ends ns rest), tail_spelled ns depth room (n ∷ []) f.1 (omega (arith, le)) rest)
+  pub list_rendered : (ns : Numbers) (depth headroom : ℕ) → FitsList depth ns → length (number_list ns) ≤ headroom → (start rest : Text) → next start ≡ next (show_numbers ns rest)
+      → IsMore IsMark CloseRound (λ before. IsNumber depth) headroom [] (number_list ns) start rest
+  list_rendered no_numbers depth headroom f le start rest same = absurd f
+  list_rendered (next_number n ns) depth zero f le start rest same = absurd (omega (arith, le))
+  list_rendered (next_number n ns) depth (suc headroom) f le start rest same =
+      (n, show_more ns rest, number_rendered n depth f.0 start (show_more ns rest) same (more_ends ns rest), tail_rendered ns depth headroom (n ∷ []) f.1 (omega (arith, le)) rest)
 
-  tail_spelled : (ns : Numbers) (depth room : ℕ) (items : List Number) → FitsRest depth ns → length (number_list ns) ≤ room → (rest : Text)
-      → Tail (IsNumber depth) room items (items ++ number_list ns) (show_more ns rest) rest
-  tail_spelled no_numbers depth room items f le rest = inl (mark_token CloseRound rest tt, append-nil items)
-  tail_spelled (next_number m ms) depth zero items f le rest = absurd (omega (arith, le))
-  tail_spelled (next_number m ms) depth (suc room) items f le rest =
+  tail_rendered : (ns : Numbers) (depth headroom : ℕ) (items : List Number) → FitsRest depth ns → length (number_list ns) ≤ headroom → (rest : Text)
+      → Tail (IsNumber depth) headroom items (items ++ number_list ns) (show_more ns rest) rest
+  tail_rendered no_numbers depth headroom items f le rest = inl (mark_token CloseRound rest tt, append-nil items)
+  tail_rendered (next_number m ms) depth zero items f le rest = absurd (omega (arith, le))
+  tail_rendered (next_number m ms) depth (suc headroom) items f le rest =
       let inside = show_number m (show_more ms rest) in
       inr (
         not_mark Comma CloseRound (44 ∷ 32 ∷ inside) (32 ∷ inside) (mark_token Comma (32 ∷ inside) tt) (λ q. absurd (omega (arith, q))),
@@ -147,8 +147,8 @@ mutual
         (
           m,
           show_more ms rest,
-          number_spelled m depth f.0 (32 ∷ inside) (show_more ms rest) (blank_passed 32 inside refl) (more_ends ms rest),
-          subst (λ (ys : List Number). Tail (IsNumber depth) room (items ++ m ∷ []) ys (show_more ms rest) rest) (append_assoc items (m ∷ []) (number_list ms))
-              (tail_spelled ms depth room (items ++ m ∷ []) f.1 (omega (arith, le)) rest),
+          number_rendered m depth f.0 (32 ∷ inside) (show_more ms rest) (blank_passed 32 inside refl) (more_ends ms rest),
+          subst (λ (ys : List Number). Tail (IsNumber depth) headroom (items ++ m ∷ []) ys (show_more ms rest) rest) (append_assoc items (m ∷ []) (number_list ms))
+              (tail_rendered ms depth headroom (items ++ m ∷ []) f.1 (omega (arith, le)) rest),
         ),
       )

@@ -6,18 +6,18 @@ use Rattle.ir_text_tokens.specs.Printing.{signed_text}
 use Rattle.ir_text_types.specs.Typed.{Text}
 use Rattle.user_patterns_text.specs.Syntax.{Number, Numbers, literal, named, called, no_numbers, next_number, numbers_of, Term, Terms, operation, value_of, constant_of, no_terms, next_term, Condition, narrower, asking}
 use Rattle.user_patterns_text.specs.Syntax as syntax
-use Rattle.user_patterns_text.specs.Printing.{show_asked, show_condition, show_conditions, show_more, show_next, show_number, show_numbers, show_some_words, show_term, show_terms, show_type, show_where, show_words, signed, text_of}
+use Rattle.user_patterns_text.specs.Printing.{show_requested, show_condition, show_conditions, show_more, show_next, show_number, show_numbers, show_some_words, show_term, show_terms, show_type, show_where, show_words, signed, text_of}
 use Rattle.user_patterns_text.specs.Recognizing.{read}
 use Rattle.user_patterns_text.proofs.Printable.{pattern_fits}
-use Rattle.user_patterns_text.proofs.Spelled.{pattern_exact}
+use Rattle.user_patterns_text.proofs.Rendered.{pattern_exact}
 use Rattle.user_patterns_text.proofs.Whole.{read_again}
 use Rattle.user_patterns_text.specs.Parts.{AreParts, Part, Pattern, operation_part, value_part, literal_part, name_part, function_part, condition_part, type_part, end_part, closed, condition_parts, conditions_parts, number_parts, numbers_parts, term_parts, terms_parts, type_parts, unplaced}
 use Rattle.user_patterns_text.specs.Printed.{IsTextOf, SpellsAgain, item, opens, part_text, parts_text, pattern_text, type_text, where_text}
 use Rattle.user_patterns_text.proofs.Items.{item_then}
 
-asked_then : (a : Option (List ℕ)) (x y : Text) → show_asked a (x ++ y) ≡ show_asked a x ++ y
-asked_then None x y = refl
-asked_then (Some w) x y = ap (λ (t : Text). 60 ∷ t) (sym (append_assoc w (62 ∷ x) y))
+requested_then : (a : Option (List ℕ)) (x y : Text) → show_requested a (x ++ y) ≡ show_requested a x ++ y
+requested_then None x y = refl
+requested_then (Some w) x y = ap (λ (t : Text). 60 ∷ t) (sym (append_assoc w (62 ∷ x) y))
 
 signed_then : (negative : Bool) (n : ℕ) (rest : Text) → signed negative (decimal n ++ rest) ≡ signed_text negative n ++ rest
 signed_then true n rest = refl
@@ -91,9 +91,9 @@ module _ (end : Text) where
         ap (along false true) (append_assoc (closed (terms_parts ts)) (type_parts ty) ps ∙ closed_then (terms_parts ts) (type_parts ty ++ ps))
         ∙ terms_are ts (type_parts ty ++ ps) ∙ ap (show_terms ts) (type_is ty ps) in
         one_more false first trailing (operation_part name a)
-        ∙ sym (item_then first (name ++ show_asked a (40 ∷ [])) (along false true trailing))
-        ∙ ap (item first) (append_assoc name (show_asked a (40 ∷ [])) (along false true trailing)
-        ∙ ap (λ (t : Text). name ++ t) (sym (asked_then a (40 ∷ []) (along false true trailing)) ∙ ap (λ (t : Text). show_asked a (40 ∷ t)) e))
+        ∙ sym (item_then first (name ++ show_requested a (40 ∷ [])) (along false true trailing))
+        ∙ ap (item first) (append_assoc name (show_requested a (40 ∷ [])) (along false true trailing)
+        ∙ ap (λ (t : Text). name ++ t) (sym (requested_then a (40 ∷ []) (along false true trailing)) ∙ ap (λ (t : Text). show_requested a (40 ∷ t)) e))
     term_is (value_of name ty) first ps =
         one_more false first (type_parts ty ++ ps) (value_part name)
         ∙ sym (item_then first (37 ∷ name) (along false false (type_parts ty ++ ps)))

@@ -5,7 +5,7 @@ use Rattle.ir_text_tokens.specs.Tokens.{Lexeme}
 use Rattle.ir_text_types.specs.Grammars.{Grammar, Then, Done, DoneIf, When, After, Either, IsList, IsMore, Token, IsMark}
 use Rattle.ir_text_types.specs.Typed.{Text}
 use Rattle.user_patterns_text.specs.Syntax.{Number, literal, named, called, numbers_of, Term, operation, value_of, constant_of, terms_of, Condition, narrower, asking, Pattern, is_operation}
-use Rattle.user_patterns_text.specs.Heads.{Head, of_value, of_operation, of_word, of_digits, of_minus, of_other, head_of, magnitude_of, is_type_word, is_one_of, folding, may_ask, may_be_asked, must_be_asked}
+use Rattle.user_patterns_text.specs.Heads.{Head, of_value, of_operation, of_word, of_digits, of_minus, of_other, head_of, magnitude_of, is_type_word, is_one_of, folding, may_ask, may_be_requested, must_be_requested}
 
 -- the greatest number of items in a list, and the greatest depth of terms on the left and on the right
 abbrev pub most : ℕ
@@ -83,11 +83,11 @@ IsNumber (suc depth) = Following (λ l. IsNumberOf (IsNumber depth) (head_of l))
 -- ---- terms
 
 -- the constraint of an operation, in angle brackets
-abbrev pub IsAsked : List ℕ → Grammar Text (Option (List ℕ))
-IsAsked name = Then IsWord (λ w. After IsMark Greater (DoneIf (may_ask name w ≡ true) (Some w)))
+abbrev pub IsRequested : List ℕ → Grammar Text (Option (List ℕ))
+IsRequested name = Then IsWord (λ w. After IsMark Greater (DoneIf (may_ask name w ≡ true) (Some w)))
 
-abbrev pub IsAskedBy : Bool → Bool → List ℕ → Grammar Text (Option (List ℕ))
-IsAskedBy may must name = Either IsMark Less (When (may ≡ true) (IsAsked name)) (DoneIf (must ≡ false) None)
+abbrev pub IsRequestedBy : Bool → Bool → List ℕ → Grammar Text (Option (List ℕ))
+IsRequestedBy may must name = Either IsMark Less (When (may ≡ true) (IsRequested name)) (DoneIf (must ≡ false) None)
 
 -- a constant on the left is a literal or a name
 abbrev pub IsOldNumberOf : Head → Grammar Text Number
@@ -106,7 +106,7 @@ module _ (left : Bool) (N : Head → Grammar Text Number) (P : Grammar Text Term
   -- the rest of an operation after its name
   abbrev pub IsOperation : List ℕ → Grammar Text Term
   IsOperation name =
-      Then (IsAskedBy (may_be_asked left name) (must_be_asked name) name) (λ a. After IsMark OpenRound
+      Then (IsRequestedBy (may_be_requested left name) (must_be_requested name) name) (λ a. After IsMark OpenRound
       (Then (IsList IsMark CloseRound (λ before. P) most) (λ ts. Then IsTyped (λ ty. DoneIf (is_one_of folding name ≡ true) (operation name a (terms_of ts) ty)))))
 
   -- a constant, given its first token
@@ -151,13 +151,13 @@ abbrev pub IsWhere : Grammar Text (List Condition)
 IsWhere = Then IsWord (λ w. When (is_one_of (codes "where" ∷ []) w ≡ true) (IsMore IsMark End (λ before. IsCondition) most []))
 
 -- `where` with its conditions, or nothing, up to the end of the text
-abbrev pub IsAskedAtEnd : Grammar Text (List Condition)
-IsAskedAtEnd = Either IsMark End (Done []) IsWhere
+abbrev pub IsRequestedAtEnd : Grammar Text (List Condition)
+IsRequestedAtEnd = Either IsMark End (Done []) IsWhere
 
 abbrev pub IsPattern : Grammar Text Pattern
 IsPattern =
     Then IsWord (λ name. Then (IsOld old_depth) (λ old. When (is_operation old ≡ true) (After IsMark Equal (After IsMark Greater
-    (Then (IsNew new_depth) (λ new. Then IsAskedAtEnd (λ cs. Done (record { name = name; old = old; new = new; conditions = cs }))))))))
+    (Then (IsNew new_depth) (λ new. Then IsRequestedAtEnd (λ cs. Done (record { name = name; old = old; new = new; conditions = cs }))))))))
 
 -- a text spells a pattern
 abbrev pub Spells : Text → Pattern → Type 0

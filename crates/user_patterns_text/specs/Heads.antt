@@ -91,8 +91,8 @@ abbrev pub may_ask : List ℕ → List ℕ → Bool
 may_ask name w = if is_comparison name then is_one_of predicates w else bytes_eq w (codes "none")
 
 -- whether an operation needs a constraint, and whether it may have one on that side
-abbrev pub must_be_asked : List ℕ → Bool
-must_be_asked name = is_comparison name
+abbrev pub must_be_requested : List ℕ → Bool
+must_be_requested name = is_comparison name
 
-abbrev pub may_be_asked : Bool → List ℕ → Bool
-may_be_asked left name = is_comparison name || (left && is_one_of flagged name)
+abbrev pub may_be_requested : Bool → List ℕ → Bool
+may_be_requested left name = is_comparison name || (left && is_one_of flagged name)

@@ -6,8 +6,8 @@ use Rattle.user_patterns_text.specs.Grammar.{IsPattern, Spells}
 use Rattle.user_patterns_text.specs.Recognizing.{read}
 
 -- what is read is spelled
-abbrev pub IsSpelled : Type 0
-IsSpelled = (text rest : Text) (p : Pattern) → read text ≡ Some (p, rest) → IsPattern p text rest
+abbrev pub IsRendered : Type 0
+IsRendered = (text rest : Text) (p : Pattern) → read text ≡ Some (p, rest) → IsPattern p text rest
 
 -- what is spelled is read
 abbrev pub IsRead : Type 0

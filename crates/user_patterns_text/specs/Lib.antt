@@ -2,7 +2,7 @@ pub mod Parts
 pub mod Views
 pub mod Refusing
 pub mod Reading
-pub mod Spelled
+pub mod Rendered
 pub mod Printed
 pub mod Syntax
 pub mod Heads

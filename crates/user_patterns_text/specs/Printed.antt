@@ -4,9 +4,9 @@ use Rattle.ir_text_tokens.specs.Printing.{signed_text}
 use Rattle.ir_text_types.specs.Typed.{Text}
 use Rattle.user_patterns_text.specs.Syntax as syntax
 use Rattle.user_patterns_text.specs.Grammar as grammar
-use Rattle.user_patterns_text.specs.Printing.{show_asked, text_of}
+use Rattle.user_patterns_text.specs.Printing.{show_requested, text_of}
 use Rattle.user_patterns_text.specs.Parts.{AreParts, Part, Pattern, operation_part, value_part, literal_part, name_part, function_part, condition_part, type_part, end_part, unplaced}
-use Rattle.user_patterns_text.specs.Spelled.{Spells}
+use Rattle.user_patterns_text.specs.Rendered.{Spells}
 
 -- an item of a list, after a comma if it isn't the first item
 abbrev pub item : Bool → Text → Text
@@ -20,7 +20,7 @@ type_text false first w = 32 ∷ 58 ∷ 32 ∷ w
 
 -- a part: `items` says whether types are items of a list, `first` whether the part is the first item of its list
 abbrev pub part_text : Bool → Bool → Part → Text
-part_text items first (operation_part name asks) = item first (name ++ show_asked asks (40 ∷ []))
+part_text items first (operation_part name asks) = item first (name ++ show_requested asks (40 ∷ []))
 part_text items first (value_part name) = item first (37 ∷ name)
 part_text items first (literal_part negative n) = item first (signed_text negative n)
 part_text items first (name_part w) = item first w

@@ -4,7 +4,7 @@ use Rattle.std.specs.Fmt.{decimal}
 use Rattle.ir_text_tokens.specs.Printing.{is_bare_id, is_suffix_id}
 use Rattle.ir_text_types.specs.Typed.{Text}
 use Rattle.user_patterns_text.specs.Syntax.{Number, Numbers, literal, named, called, no_numbers, next_number, number_list, numbers_of, Term, Terms, operation, value_of, constant_of, no_terms, next_term, term_list, Condition, narrower, asking, Pattern, is_operation}
-use Rattle.user_patterns_text.specs.Heads.{has_dot, is_type_word, is_one_of, folding, may_ask, may_be_asked, must_be_asked}
+use Rattle.user_patterns_text.specs.Heads.{has_dot, is_type_word, is_one_of, folding, may_ask, may_be_requested, must_be_requested}
 use Rattle.user_patterns_text.specs.Grammar.{most, old_depth, new_depth}
 use Rattle.user_patterns_text.specs.Recognizing.{read}
 
@@ -55,13 +55,13 @@ show_type None rest = rest
 show_type (Some w) rest = 32 ∷ 58 ∷ 32 ∷ (w ++ rest)
 
 -- the constraint of an operation in angle brackets, if there is one
-abbrev pub show_asked : Option (List ℕ) → Text → Text
-show_asked None rest = rest
-show_asked (Some w) rest = 60 ∷ (w ++ (62 ∷ rest))
+abbrev pub show_requested : Option (List ℕ) → Text → Text
+show_requested None rest = rest
+show_requested (Some w) rest = 60 ∷ (w ++ (62 ∷ rest))
 
 unfoldable mutual
   pub show_term : Term → Text → Text
-  show_term (operation name a ts ty) rest = name ++ show_asked a (40 ∷ show_terms ts (show_type ty rest))
+  show_term (operation name a ts ty) rest = name ++ show_requested a (40 ∷ show_terms ts (show_type ty rest))
   show_term (value_of n ty) rest = 37 ∷ (n ++ show_type ty rest)
   show_term (constant_of k ty) rest = show_number k (show_type ty rest)
 
@@ -77,9 +77,9 @@ abbrev pub FitsType : Option (List ℕ) → Type 0
 FitsType None = Unit {0}
 FitsType (Some w) = IsName w × (is_type_word w ≡ true)
 
-abbrev pub FitsAsked : Bool → List ℕ → Option (List ℕ) → Type 0
-FitsAsked left name None = must_be_asked name ≡ false
-FitsAsked left name (Some w) = IsName w × (may_be_asked left name ≡ true) × (may_ask name w ≡ true)
+abbrev pub FitsRequested : Bool → List ℕ → Option (List ℕ) → Type 0
+FitsRequested left name None = must_be_requested name ≡ false
+FitsRequested left name (Some w) = IsName w × (may_be_requested left name ≡ true) × (may_ask name w ≡ true)
 
 abbrev pub IsOperationName : List ℕ → Type 0
 IsOperationName name = (is_bare_id name ≡ true) × (has_dot name ≡ true) × (is_one_of folding name ≡ true)
@@ -96,7 +96,7 @@ unfoldable mutual
   FitsOld zero (operation name a ts ty) = ⊥
   FitsOld (suc depth) (constant_of k ty) = FitsOldNumber k × FitsType ty
   FitsOld (suc depth) (operation name a ts ty) =
-      IsOperationName name × FitsAsked true name a × FitsOlds depth ts × (length (term_list ts) ≤ most) × FitsType ty
+      IsOperationName name × FitsRequested true name a × FitsOlds depth ts × (length (term_list ts) ≤ most) × FitsType ty
 
   pub FitsOlds : ℕ → Terms → Type 0
   FitsOlds depth no_terms = Unit {0}
@@ -108,7 +108,7 @@ unfoldable mutual
   FitsNew (suc depth) (value_of n ty) = (is_suffix_id n ≡ true) × FitsType ty
   FitsNew (suc depth) (constant_of k ty) = FitsNumber (suc depth) k × FitsType ty
   FitsNew (suc depth) (operation name a ts ty) =
-      IsOperationName name × FitsAsked false name a × FitsNews depth ts × (length (term_list ts) ≤ most) × FitsType ty
+      IsOperationName name × FitsRequested false name a × FitsNews depth ts × (length (term_list ts) ≤ most) × FitsType ty
 
   pub FitsNews : ℕ → Terms → Type 0
   FitsNews depth no_terms = Unit {0}

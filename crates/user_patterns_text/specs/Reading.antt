@@ -7,7 +7,7 @@ use Rattle.ir_text_tokens.specs.declared.token.Mark.TheVariants.{OpenRound, Clos
 use Rattle.ir_text_types.specs.Marks.{after}
 use Rattle.ir_text_types.specs.Typed.{Text}
 use Rattle.user_patterns_text.specs.Grammar.{most, old_depth, new_depth}
-use Rattle.user_patterns_text.specs.Heads.{Head, of_value, of_operation, of_word, of_digits, of_minus, of_other, head_of, magnitude_of, is_type_word, is_one_of, folding, may_ask, may_be_asked, must_be_asked}
+use Rattle.user_patterns_text.specs.Heads.{Head, of_value, of_operation, of_word, of_digits, of_minus, of_other, head_of, magnitude_of, is_type_word, is_one_of, folding, may_ask, may_be_requested, must_be_requested}
 use Rattle.user_patterns_text.specs.Parts.{Part, operation_part, value_part, literal_part, name_part, function_part, condition_part, type_part, end_part, Placed, Pattern}
 use Rattle.user_patterns_text.specs.Refusing.{Outcome, ◌>>=◌, refused, begins, token_at, wrong, trailing}
 
@@ -41,15 +41,15 @@ module _ (close : Mark) (item : Step) where
   -- at least one item and at most `n`, separated by commas, up to the closing mark
   unfoldable pub more_at : ℕ → Step
   more_at zero s = item s >>= λ x. refused TooMany (begins s.1)
-  more_at (suc room) s = item s >>= λ x. more_from (more_at room) x (after close x.1)
+  more_at (suc headroom) s = item s >>= λ x. more_from (more_at headroom) x (after close x.1)
 
   abbrev pub listed_from : ℕ → State → Option Text → Outcome State
-  listed_from room s (Some end) = Ok (s.0, end)
-  listed_from room s None = more_at room s
+  listed_from headroom s (Some end) = Ok (s.0, end)
+  listed_from headroom s None = more_at headroom s
 
   -- no items, or at most `n`, up to the closing mark
   unfoldable pub listed_at : ℕ → Step
-  listed_at room s = listed_from room s (after close s.1)
+  listed_at headroom s = listed_from headroom s (after close s.1)
 
 -- ---- words and types
 
@@ -142,16 +142,16 @@ abbrev pub allowed : List ℕ → ℕ → List ℕ × Text → Outcome (Option (
 allowed name at w = if may_ask name w.0 then (trailing Greater w.1 >>= λ rest. Ok (Some w.0, rest)) else refused Unexpected at
 
 -- the constraint after the opening angle bracket
-unfoldable pub asked_at : List ℕ → Text → Outcome (Option (List ℕ) × Text)
-asked_at name s = word_at s >>= allowed name (begins s)
+unfoldable pub requested_at : List ℕ → Text → Outcome (Option (List ℕ) × Text)
+requested_at name s = word_at s >>= allowed name (begins s)
 
-abbrev pub asked_from : Bool → Bool → List ℕ → Text → Option Text → Outcome (Option (List ℕ) × Text)
-asked_from may must name s (Some rest) = if may then asked_at name rest else Err (wrong Unexpected s)
-asked_from may must name s None = if must then Err (wrong Unexpected s) else Ok (None, s)
+abbrev pub requested_from : Bool → Bool → List ℕ → Text → Option Text → Outcome (Option (List ℕ) × Text)
+requested_from may must name s (Some rest) = if may then requested_at name rest else Err (wrong Unexpected s)
+requested_from may must name s None = if must then Err (wrong Unexpected s) else Ok (None, s)
 
 -- the constraint of an operation, if it has one
-unfoldable pub asked_by : Bool → Bool → List ℕ → Text → Outcome (Option (List ℕ) × Text)
-asked_by may must name s = asked_from may must name s (after Less s)
+unfoldable pub requested_by : Bool → Bool → List ℕ → Text → Outcome (Option (List ℕ) × Text)
+requested_by may must name s = requested_from may must name s (after Less s)
 
 -- the rest of a value after its name
 abbrev pub value_from : ℕ → List ℕ → Step
@@ -160,7 +160,7 @@ value_from at n s = typed_at (put at (value_part n) s)
 -- the constraint and the opening parenthesis after the name of an operation
 unfoldable pub opened_at : Bool → ℕ → List ℕ → Step
 opened_at left at name s = do
-  a ← asked_by (may_be_asked left name) (must_be_asked name) name s.1
+  a ← requested_by (may_be_requested left name) (must_be_requested name) name s.1
   rest ← trailing OpenRound a.1
   Ok (and s.0 at (operation_part name a.0), rest)
 

@@ -6,7 +6,7 @@ use Rattle.ir_text_tokens.specs.Tokens.{Lexeme, next}
 use Rattle.ir_text_types.specs.Marks.{after}
 use Rattle.ir_text_types.specs.Typed.{Text}
 use Rattle.user_patterns_text.specs.Syntax.{Number, literal, named, called, numbers_of, Term, operation, value_of, constant_of, terms_of, Condition, narrower, asking, Pattern, is_operation}
-use Rattle.user_patterns_text.specs.Heads.{Head, of_value, of_operation, of_word, of_digits, of_minus, of_other, head_of, magnitude_of, is_type_word, is_one_of, folding, may_ask, may_be_asked, must_be_asked}
+use Rattle.user_patterns_text.specs.Heads.{Head, of_value, of_operation, of_word, of_digits, of_minus, of_other, head_of, magnitude_of, is_type_word, is_one_of, folding, may_ask, may_be_requested, must_be_requested}
 use Rattle.user_patterns_text.specs.Grammar.{most, old_depth, new_depth}
 
 -- what is read, and the rest of the text
@@ -52,10 +52,10 @@ module _ {A : Type 0} (close : Mark) (p : Reader A) where
 
   unfoldable pub more : ℕ → List A → Reader (List A)
   more zero items s = None
-  more (suc room) items s = given (p s) (λ x. more_from (more room) (items ++ x.0 ∷ []) x.1 (after close x.1))
+  more (suc headroom) items s = given (p s) (λ x. more_from (more headroom) (items ++ x.0 ∷ []) x.1 (after close x.1))
 
   abbrev pub listed : ℕ → Reader (List A)
-  listed room s = either_from (done []) (more room []) s (after close s)
+  listed headroom s = either_from (done []) (more headroom []) s (after close s)
 
 -- ---- words and types
 
@@ -110,11 +110,11 @@ number (suc depth) = trailing (λ l. number_from (number depth) (head_of l))
 
 -- ---- terms
 
-abbrev pub asked : List ℕ → Reader (Option (List ℕ))
-asked name = and_then word (λ w. after_mark Greater (done_if (may_ask name w) (Some w)))
+abbrev pub requested : List ℕ → Reader (Option (List ℕ))
+requested name = and_then word (λ w. after_mark Greater (done_if (may_ask name w) (Some w)))
 
-abbrev pub asked_by : Bool → Bool → List ℕ → Reader (Option (List ℕ))
-asked_by may must name = either Less (when may (asked name)) (done_if (not must) None)
+abbrev pub requested_by : Bool → Bool → List ℕ → Reader (Option (List ℕ))
+requested_by may must name = either Less (when may (requested name)) (done_if (not must) None)
 
 abbrev pub old_number_from : Head → Reader Number
 old_number_from (of_digits ds) = digits false ds
@@ -130,7 +130,7 @@ value_from n = and_then typed (λ ty. done (value_of n ty))
 module _ (left : Bool) (n : Head → Reader Number) (p : Reader Term) where
   abbrev pub operation_from : List ℕ → Reader Term
   operation_from name =
-      and_then (asked_by (may_be_asked left name) (must_be_asked name) name) (λ a. after_mark OpenRound
+      and_then (requested_by (may_be_requested left name) (must_be_requested name) name) (λ a. after_mark OpenRound
       (and_then (listed CloseRound p most) (λ ts. and_then typed (λ ty. done_if (is_one_of folding name) (operation name a (terms_of ts) ty)))))
 
   abbrev pub constant_from : Head → Reader Term

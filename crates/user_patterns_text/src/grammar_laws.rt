@@ -1,11 +1,11 @@
 //! Laws of the reader and the printer of the grammar.
-ghost use Rattle.user_patterns_text.specs.Laws.{IsRead, IsSpelled, SpellsNothing, SpellsOne};
+ghost use Rattle.user_patterns_text.specs.Laws.{IsRead, IsRendered, SpellsNothing, SpellsOne};
 ghost use Rattle.user_patterns_text.specs.Printing.{IsReadAgain, WhatIsReadIsReadAgain};
 ghost use Rattle.user_patterns_text.specs.Samples.{IsTimesPower};
 
 /// The reader finds the pattern that the text spells, and fails only on a text that spells no pattern.
-pub fn patterns_are_read_as_spelled()
-    ensures found { IsSpelled }
+pub fn patterns_are_read_as_rendered()
+    ensures found { IsRendered }
     ensures only { IsRead }
     ensures nothing { SpellsNothing }
 {}

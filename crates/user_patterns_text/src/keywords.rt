@@ -1,6 +1,6 @@
 //! The words of the pattern language.
 ghost use Rattle.std.specs.Prelude.{◌≡◌, ◌∷◌, [], codes, drop, take};
-ghost use Rattle.user_patterns_text.specs.Heads.{flagged, folding, is_comparison, is_integer_word, is_one_of, is_type_word, may_ask, may_be_asked, must_be_asked, predicates};
+ghost use Rattle.user_patterns_text.specs.Heads.{flagged, folding, is_comparison, is_integer_word, is_one_of, is_type_word, may_ask, may_be_requested, must_be_requested, predicates};
 
 use ir_text_tokens::numbers::are_digits;
 use ir_text_types::scalars::scalar_of;
@@ -105,15 +105,15 @@ pub(crate) fn may_ask(name: &[u8], word: &[u8]) -> bool
 }
 
 /// Returns whether operation `name` needs a constraint in angle brackets.
-pub(crate) fn must_be_asked(name: &[u8]) -> bool
-    ensures { result ≡ must_be_asked name.now }
+pub(crate) fn must_be_requested(name: &[u8]) -> bool
+    ensures { result ≡ must_be_requested name.now }
 {
     is_comparison(name)
 }
 
 /// Returns whether operation `name` may have a constraint in angle brackets on that side.
-pub(crate) fn may_be_asked(left: bool, name: &[u8]) -> bool
-    ensures { result ≡ may_be_asked left name.now }
+pub(crate) fn may_be_requested(left: bool, name: &[u8]) -> bool
+    ensures { result ≡ may_be_requested left name.now }
 {
     is_comparison(name) || (left && is_flagged(name))
 }

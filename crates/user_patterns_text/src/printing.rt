@@ -1,7 +1,7 @@
 //! Prints the parts of a pattern.
 ghost use Rattle.std.specs.Prelude.{◌≡◌, ◌∷◌, ◌++◌, [], IfOk, OnOk, map, option_map, true};
 ghost use Rattle.ir_text_tokens.specs.Printing.{signed_text};
-ghost use Rattle.user_patterns_text.specs.Printing.{show_asked};
+ghost use Rattle.user_patterns_text.specs.Printing.{show_requested};
 ghost use Rattle.user_patterns_text.specs.Parts.{bytes_of, kind_view, pattern_view, unplaced, views};
 ghost use Rattle.user_patterns_text.specs.Printed.{item, opens, part_text, parts_text, pattern_text, type_text, where_text};
 
@@ -36,8 +36,8 @@ fn write_item(
 }
 
 /// Prints the constraint in angle brackets, if there is one, and the opening parenthesis.
-fn write_asked(out: &mut Vec<u8>, asks: &Option<&[u8]>) -> Result<(), AllocError>
-    ensures { OnOk result (out.new.items ≡ out.old.items ++ show_asked (option_map bytes_of asks.now) (40 ∷ [])) }
+fn write_requested(out: &mut Vec<u8>, asks: &Option<&[u8]>) -> Result<(), AllocError>
+    ensures { OnOk result (out.new.items ≡ out.old.items ++ show_requested (option_map bytes_of asks.now) (40 ∷ [])) }
 {
     if let Some(word) = asks {
         out.push(b'<')?;
@@ -54,11 +54,11 @@ fn write_operation(
     name: &[u8],
     asks: &Option<&[u8]>,
 ) -> Result<(), AllocError>
-    ensures { OnOk result (out.new.items ≡ out.old.items ++ item first (name.now ++ show_asked (option_map bytes_of asks.now) (40 ∷ []))) }
+    ensures { OnOk result (out.new.items ≡ out.old.items ++ item first (name.now ++ show_requested (option_map bytes_of asks.now) (40 ∷ []))) }
 {
     write_comma(out, first)?;
     out.extend_from_slice(name)?;
-    write_asked(out, asks)
+    write_requested(out, asks)
 }
 
 fn write_literal(

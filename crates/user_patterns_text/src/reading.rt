@@ -1,7 +1,7 @@
 //! Reads a whole pattern.
 ghost use Rattle.std.specs.Prelude.{◌≡◌, [], map, IfOk};
-ghost use Rattle.user_patterns_text.specs.Syntax.{Pattern as Spelled};
-ghost use Rattle.user_patterns_text.specs.Spelled.{IsReadAs, IsSpelled, Spells, whole_at};
+ghost use Rattle.user_patterns_text.specs.Syntax.{Pattern as Rendered};
+ghost use Rattle.user_patterns_text.specs.Rendered.{IsReadAs, IsRendered, Spells, whole_at};
 ghost use Rattle.user_patterns_text.specs.Parts.{part_view, pattern_view, views};
 ghost use Rattle.user_patterns_text.specs.Refusing.{Returns};
 ghost use Rattle.user_patterns_text.specs.Reading.{begins_operation, after_arrow, pattern_at, root_at, sides_at};
@@ -67,13 +67,13 @@ fn sides<'a>(alloc: Global, name: &'a [u8], bytes: &'a [u8]) -> Result<Pattern<'
     let rest = after_arrow(rest)?;
     let mut new = Vec::new(alloc);
     let rest = term(&mut new, rest, false, NEW_DEPTH)?;
-    let mut asked = Vec::new(alloc);
-    conditions(&mut asked, rest)?;
+    let mut requested = Vec::new(alloc);
+    conditions(&mut requested, rest)?;
     Ok(Pattern {
         name,
         old,
         new,
-        conditions: asked,
+        conditions: requested,
     })
 }
 
@@ -87,7 +87,7 @@ fn pattern(alloc: Global, bytes: &[u8]) -> Result<Pattern<'_>, PatternError>
 }
 
 /// Reads a pattern. Refuses a text that isn't UTF-8 or has too many bytes.
-#[tactic(auto, unfolding(crate::specs::Spelled::whole_at))]
+#[tactic(auto, unfolding(crate::specs::Rendered::whole_at))]
 fn whole(alloc: Global, bytes: &[u8]) -> Result<Pattern<'_>, PatternError>
     ensures { Returns pattern_view result (whole_at bytes.now) }
 {
@@ -110,9 +110,9 @@ fn whole(alloc: Global, bytes: &[u8]) -> Result<Pattern<'_>, PatternError>
 /// - `LeftOut`: the operation doesn't fold.
 pub fn read(alloc: Global, bytes: &[u8]) -> Result<Pattern<'_>, PatternError>
     // The text spells the pattern that is returned.
-    ensures found { IfOk result (IsSpelled bytes.now) }
+    ensures found { IfOk result (IsRendered bytes.now) }
     // A text that spells a pattern is refused only if memory runs out.
-    ensures only { (q : Spelled) → Spells bytes.now q → IsReadAs result q }
+    ensures only { (q : Rendered) → Spells bytes.now q → IsReadAs result q }
     // The parts and the refusal are those of `whole_at`.
     ensures exact { Returns pattern_view result (whole_at bytes.now) }
 {

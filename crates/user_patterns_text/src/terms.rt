@@ -5,11 +5,11 @@ ghost use Rattle.user_patterns_text.specs.Grammar.{most};
 ghost use Rattle.user_patterns_text.specs.Parts.{bytes_of, views};
 ghost use Rattle.user_patterns_text.specs.Refusing.{Returns};
 ghost use Rattle.user_patterns_text.specs.Views.{head_view};
-ghost use Rattle.user_patterns_text.specs.Reading.{asked_at, asked_by, constant_from, constant_number, deep_operation, deep_term, listed_at, old_number_from, opened_at, operands_at, operation_at, term_at, term_from, value_from};
+ghost use Rattle.user_patterns_text.specs.Reading.{requested_at, requested_by, constant_from, constant_number, deep_operation, deep_term, listed_at, old_number_from, opened_at, operands_at, operation_at, term_at, term_from, value_from};
 
 use crate::error::PatternError;
 use crate::heads::{TokenKind, head_of};
-use crate::keywords::{is_folding, may_ask, may_be_asked, must_be_asked};
+use crate::keywords::{is_folding, may_ask, may_be_requested, must_be_requested};
 use crate::numbers::{MOST, literal, magnitude, number_after, typed, word};
 use crate::parts::{Part, PartKind, push_part};
 use crate::steps::{begins, expect, refused, token, wrong};
@@ -18,12 +18,12 @@ use ir_text_tokens::token::Mark;
 use ir_text_types::steps::after;
 
 /// Returns the constraint of operation `name` and the rest of the text, given the text after the opening angle bracket.
-#[tactic(auto, unfolding(crate::specs::Reading::asked_at))]
+#[tactic(auto, unfolding(crate::specs::Reading::requested_at))]
 fn angle_arguments<'a>(
     name: &[u8],
     bytes: &'a [u8],
 ) -> Result<(Option<&'a [u8]>, &'a [u8]), PatternError>
-    ensures { Returns (λ x. (option_map bytes_of x.0, x.1.now)) result (asked_at name.now bytes.now) }
+    ensures { Returns (λ x. (option_map bytes_of x.0, x.1.now)) result (requested_at name.now bytes.now) }
 {
     let (found, rest) = word(bytes)?;
     if !may_ask(name, found) {
@@ -34,14 +34,14 @@ fn angle_arguments<'a>(
 }
 
 /// Returns the constraint of operation `name`, if it has one, and the rest of the text, given the text after the name.
-#[tactic(auto, unfolding(crate::specs::Reading::asked_by))]
-fn asked_by<'a>(
+#[tactic(auto, unfolding(crate::specs::Reading::requested_by))]
+fn requested_by<'a>(
     may: bool,
     must: bool,
     name: &[u8],
     bytes: &'a [u8],
 ) -> Result<(Option<&'a [u8]>, &'a [u8]), PatternError>
-    ensures { Returns (λ x. (option_map bytes_of x.0, x.1.now)) result (asked_by may must name.now bytes.now) }
+    ensures { Returns (λ x. (option_map bytes_of x.0, x.1.now)) result (requested_by may must name.now bytes.now) }
 {
     match after(bytes, Mark::Less) {
         Some(rest) => {
@@ -192,7 +192,12 @@ fn opened<'a>(
 ) -> Result<&'a [u8], PatternError>
     ensures { Returns (λ rest. (views parts.new.items, rest.now)) result (opened_at left at name.now (views parts.old.items, bytes.now)) }
 {
-    let (asks, rest) = asked_by(may_be_asked(left, name), must_be_asked(name), name, bytes)?;
+    let (asks, rest) = requested_by(
+        may_be_requested(left, name),
+        must_be_requested(name),
+        name,
+        bytes,
+    )?;
     let rest = expect(rest, Mark::OpenRound)?;
     push_part(parts, at, PartKind::Operation(name, asks))?;
     Ok(rest)

@@ -19,11 +19,11 @@ use Rattle.user_patterns_data.specs.declared.pattern.PatternType.TheVariants as 
 use Rattle.user_patterns_data.specs.declared.pattern.PatternOp.{PatternOp}
 use Rattle.user_patterns_data.specs.Fitting.{content_with, kind_at, kind_with, kinds_with}
 use Rattle.user_patterns_data.specs.Shapes.{PatternModel}
-use Rattle.user_patterns_widths.specs.AllWidths.{first_type, extra_has, extra_is_bitwise, has_one_type, has_type, is_bit_by_bit, is_none_asked, is_some_type, is_variable, new_has, new_is_bitwise, number_has, number_is_bitwise, piece_has, piece_is_bitwise}
+use Rattle.user_patterns_widths.specs.AllWidths.{first_type, extra_has, extra_is_bitwise, has_one_type, has_type, is_bit_by_bit, is_none_requested, is_some_type, is_variable, new_has, new_is_bitwise, number_has, number_is_bitwise, pattern_op_has, pattern_op_is_bitwise}
 use Rattle.user_patterns_widths.specs.Lasting.{BitsDecide}
 use Rattle.user_patterns_widths.proofs.BitValues.{width_some}
 use Rattle.user_patterns_widths.proofs.BitRuns.{AllBelow, bit, bits, one_below, values_below, values_bit, values_made}
-use Rattle.user_patterns_widths.proofs.BitSides.{AreUnder, IsBitwise, Keeps, given_bits, keeps_from, keeps_to, new_bits, olds_made, piece_bits, shown_made}
+use Rattle.user_patterns_widths.proofs.BitSides.{AreUnder, IsBitwise, Keeps, given_bits, keeps_from, keeps_to, new_bits, olds_made, pattern_op_bits, shown_made}
 use Rattle.user_patterns_widths.proofs.BitNarrow.{nothing_said}
 
 -- ---- of numbers
@@ -31,12 +31,12 @@ module _ (p : PatternModel) (w : ℕ) where
   module _ (i : ℕ) (below : i < w) where
     olds_bit : (values : List ℕ) → olds_made p 1 (bits i values) ≡ option_map (bits i) (olds_made p w values)
     olds_bit values =
-        ap (λ r. given r (values_made 1 (map piece_bits p.old))) (values_bit w i below (given_bits p) values)
+        ap (λ r. given r (values_made 1 (map pattern_op_bits p.old))) (values_bit w i below (given_bits p) values)
         ∙ trailing (values_made w (given_bits p) values)
       where
-        trailing : (r : Option (List ℕ)) → given (option_map (bits i) r) (values_made 1 (map piece_bits p.old)) ≡ option_map (bits i) (given r (values_made w (map piece_bits p.old)))
+        trailing : (r : Option (List ℕ)) → given (option_map (bits i) r) (values_made 1 (map pattern_op_bits p.old)) ≡ option_map (bits i) (given r (values_made w (map pattern_op_bits p.old)))
         trailing None = refl
-        trailing (Some vs) = values_bit w i below (map piece_bits p.old) vs
+        trailing (Some vs) = values_bit w i below (map pattern_op_bits p.old) vs
 
     shown_bit : (vs : List ℕ) → shown_made p 1 (bits i vs) ≡ option_map (bit i) (shown_made p w vs)
     shown_bit vs =
@@ -50,9 +50,9 @@ module _ (p : PatternModel) (w : ℕ) where
   olds_below : (values vs : List ℕ) → AllBelow w values → olds_made p w values ≡ Some vs → AllBelow w vs
   olds_below values vs h e = on (values_made w (given_bits p) values) (λ us i. values_below w (given_bits p) values us h i) e
     where
-      on : (r : Option (List ℕ)) → ((us : List ℕ) → r ≡ Some us → AllBelow w us) → given r (values_made w (map piece_bits p.old)) ≡ Some vs → AllBelow w vs
+      on : (r : Option (List ℕ)) → ((us : List ℕ) → r ≡ Some us → AllBelow w us) → given r (values_made w (map pattern_op_bits p.old)) ≡ Some vs → AllBelow w vs
       on None f e = absurd (none-some vs e)
-      on (Some us) f e = values_below w (map piece_bits p.old) us vs (f us refl) e
+      on (Some us) f e = values_below w (map pattern_op_bits p.old) us vs (f us refl) e
 
   shown_below : (vs : List ℕ) (y : ℕ) → AllBelow w vs → shown_made p w vs ≡ Some y → y < 2 ^ w
   shown_below vs y h e = on (values_made w (map new_bits p.new) vs) (λ us i. values_below w (map new_bits p.new) vs us h i) e
@@ -134,16 +134,16 @@ has_parts p e = on p.old refl e
 bitwise_parts : (p : PatternModel) → is_bit_by_bit p ≡ true → (h : HasType p) × IsBitwise h.type p
 bitwise_parts p e =
     let a = and_parts (has_one_type p) _ e in
-    let b = and_parts (is_none_asked p.type_constraints) _ a.1 in
+    let b = and_parts (is_none_requested p.type_constraints) _ a.1 in
     let c = and_parts (list_all extra_is_bitwise p.extra) _ b.1 in
     let d = and_parts (list_all number_is_bitwise p.given) _ c.1 in
-    let f = and_parts (list_all piece_is_bitwise p.old) (list_all new_is_bitwise p.new) d.1 in
+    let f = and_parts (list_all pattern_op_is_bitwise p.old) (list_all new_is_bitwise p.new) d.1 in
     let h = has_parts p a.0 in
     let t = h.type in
     let u = and_parts (list_all (λ v. v == t) p.values) _ h.has in
     let v = and_parts (list_all (extra_has t) p.extra) _ u.1 in
     let w = and_parts (list_all (number_has t) p.given) _ v.1 in
-    let x = and_parts (list_all (piece_has t) p.old) (list_all (new_has t) p.new) w.1 in (
+    let x = and_parts (list_all (pattern_op_has t) p.old) (list_all (new_has t) p.new) w.1 in (
       h,
       record {
         values = u.0;
@@ -151,7 +151,7 @@ bitwise_parts p e =
         given_of = w.0;
         old_of = x.0;
         new_of = x.1;
-        none_asked = b.0;
+        none_requested = b.0;
         extra_are = c.0;
         given_are = d.0;
         old_are = f.0;

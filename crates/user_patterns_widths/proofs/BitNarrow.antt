@@ -16,9 +16,9 @@ use Rattle.user_patterns_data.specs.declared.pattern.ExtraConstant.{ExtraConstan
 use Rattle.user_patterns_data.specs.declared.pattern.ExtraConstant.TheVariants as extra
 use Rattle.user_patterns_data.specs.declared.pattern.ConstantExpression.{ConstantExpression}
 use Rattle.user_patterns_data.specs.declared.pattern.ConstantExpression.TheVariants as number
-use Rattle.user_patterns_data.specs.Fitting.{bits_with, content_with, fits, form_step, extra_step, kind_at, number_step, or_zero, piece_step, written_step}
+use Rattle.user_patterns_data.specs.Fitting.{bits_with, content_with, fits, form_step, extra_step, kind_at, number_step, or_zero, pattern_op_step, written_step}
 use Rattle.user_patterns_data.specs.Shapes.{PatternModel}
-use Rattle.user_patterns_widths.specs.AllWidths.{form_is_bitwise, extra_has, number_has, number_is_bitwise, piece_is_bitwise}
+use Rattle.user_patterns_widths.specs.AllWidths.{form_is_bitwise, extra_has, number_has, number_is_bitwise, pattern_op_is_bitwise}
 use Rattle.user_patterns_widths.proofs.BitSides.{IsBitwise}
 
 module _ (ks : List BitsKind) (t : ℕ) (narrow : is_width (width_of (kind_at ks t)) ≡ false) where
@@ -45,15 +45,15 @@ module _ (ks : List BitsKind) (t : ℕ) (narrow : is_width (width_of (kind_at ks
   form_first k _ is = absurd (true≢false (sym is))
 
   -- nothing is computed
-  undefined : (fs : List ExtraConstant) (ns : List ConstantExpression) (o : PatternOp) (os : List PatternOp) → list_all (extra_has t) fs ≡ true → list_all (number_has t) ns ≡ true → list_all number_is_bitwise ns ≡ true → piece_is_bitwise o ≡ true
-      → given (run (map (extra_step ks) fs ++ map (number_step ks) ns) []) (run (map (piece_step ks) (o ∷ os))) ≡ None
+  undefined : (fs : List ExtraConstant) (ns : List ConstantExpression) (o : PatternOp) (os : List PatternOp) → list_all (extra_has t) fs ≡ true → list_all (number_has t) ns ≡ true → list_all number_is_bitwise ns ≡ true → pattern_op_is_bitwise o ≡ true
+      → given (run (map (extra_step ks) fs ++ map (number_step ks) ns) []) (run (map (pattern_op_step ks) (o ∷ os))) ≡ None
   undefined (f ∷ fs) ns o os hf hn en eo =
-      ap (λ x. given (given x (λ v. run (map (extra_step ks) fs ++ map (number_step ks) ns) ([] ++ (v ∷ [])))) (run (map (piece_step ks) (o ∷ os))))
+      ap (λ x. given (given x (λ v. run (map (extra_step ks) fs ++ map (number_step ks) ns) ([] ++ (v ∷ [])))) (run (map (pattern_op_step ks) (o ∷ os))))
       (extra_first f (and_parts (extra_has t f) (list_all (extra_has t) fs) hf).0)
   undefined [] (n ∷ ns) o os hf hn en eo =
-      ap (λ x. given (given x (λ v. run (map (number_step ks) ns) ([] ++ (v ∷ [])))) (run (map (piece_step ks) (o ∷ os))))
+      ap (λ x. given (given x (λ v. run (map (number_step ks) ns) ([] ++ (v ∷ [])))) (run (map (pattern_op_step ks) (o ∷ os))))
       (number_first n (and_parts (number_has t n) (list_all (number_has t) ns) hn).0 (and_parts (number_is_bitwise n) (list_all number_is_bitwise ns) en).0)
-  undefined [] [] o os hf hn en eo = ap (λ x. given x (λ v. run (map (piece_step ks) os) ([] ++ (v ∷ [])))) (form_first (kind_at ks o.ty) o.form eo)
+  undefined [] [] o os hf hn en eo = ap (λ x. given x (λ v. run (map (pattern_op_step ks) os) ([] ++ (v ∷ [])))) (form_first (kind_at ks o.ty) o.form eo)
 
   unbound : (tys values : List ℕ) (g h : List Outcome → Option (List Outcome)) → list_all (λ v. v == t) tys ≡ true → given (g []) h ≡ None → given (given (bound (map (kind_at ks) tys) values []) g) h ≡ None
   unbound [] [] g h has e = e
@@ -72,6 +72,6 @@ module _ (ks : List BitsKind) (t : ℕ) (narrow : is_width (width_of (kind_at ks
   nothing_said p is o os e values =
       ap (old_ran (content_with ks p)) (either (fits ks p) (given (given (bound (map (kind_at ks) p.values) values []) (run (content_with ks p).given)) (run (content_with ks p).old))
       (unbound p.values values (run (content_with ks p).given) (run (content_with ks p).old) is.values
-      (ap (λ ps. given (run (content_with ks p).given []) (run (map (piece_step ks) ps))) e
+      (ap (λ ps. given (run (content_with ks p).given []) (run (map (pattern_op_step ks) ps))) e
       ∙ undefined p.extra p.given o os is.extra_of is.given_of is.given_are
-      (and_parts (piece_is_bitwise o) (list_all piece_is_bitwise os) (rw e at is.old_are)).0)))
+      (and_parts (pattern_op_is_bitwise o) (list_all pattern_op_is_bitwise os) (rw e at is.old_are)).0)))

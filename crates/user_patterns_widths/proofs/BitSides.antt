@@ -28,9 +28,9 @@ use Rattle.user_patterns_data.specs.declared.pattern.ConstantExpression.TheVaria
 use Rattle.user_patterns_data.specs.declared.pattern.NewValue.{NewValue}
 use Rattle.user_patterns_data.specs.declared.pattern.NewValue.TheVariants as new
 use Rattle.user_patterns_data.specs.declared.pattern.TypeConstraint.{TypeConstraint}
-use Rattle.user_patterns_data.specs.Fitting.{bits_with, content_with, fits, form_step, extra_fits, extra_step, is_asked, is_literal_of, kind_at, new_step, number_fits, number_step, or_zero, piece_step, written_step}
+use Rattle.user_patterns_data.specs.Fitting.{bits_with, content_with, fits, form_step, extra_fits, extra_step, is_requested, is_literal_of, kind_at, new_step, number_fits, number_step, or_zero, pattern_op_step, written_step}
 use Rattle.user_patterns_data.specs.Shapes.{PatternModel}
-use Rattle.user_patterns_widths.specs.AllWidths.{form_is_bitwise, extra_has, extra_is_bitwise, is_none_asked, is_uniform, new_has, new_is_bitwise, number_has, number_is_bitwise, piece_has, piece_is_bitwise}
+use Rattle.user_patterns_widths.specs.AllWidths.{form_is_bitwise, extra_has, extra_is_bitwise, is_none_requested, is_uniform, new_has, new_is_bitwise, number_has, number_is_bitwise, pattern_op_has, pattern_op_is_bitwise}
 use Rattle.user_patterns_widths.proofs.BitValues.{by_and, uniform, uniform_literal, way_back, way_of, width_some}
 use Rattle.user_patterns_widths.proofs.BitRuns.{BitStep, are_bits, as_known, constant, known, known_more, pair, run_made, step_at, values_made}
 
@@ -45,12 +45,12 @@ pub record IsBitwise (t : ℕ) (p : PatternModel) : Type 0 where
   pub values : list_all (λ v. v == t) p.values ≡ true
   pub extra_of : list_all (extra_has t) p.extra ≡ true
   pub given_of : list_all (number_has t) p.given ≡ true
-  pub old_of : list_all (piece_has t) p.old ≡ true
+  pub old_of : list_all (pattern_op_has t) p.old ≡ true
   pub new_of : list_all (new_has t) p.new ≡ true
-  pub none_asked : is_none_asked p.type_constraints ≡ true
+  pub none_requested : is_none_requested p.type_constraints ≡ true
   pub extra_are : list_all extra_is_bitwise p.extra ≡ true
   pub given_are : list_all number_is_bitwise p.given ≡ true
-  pub old_are : list_all piece_is_bitwise p.old ≡ true
+  pub old_are : list_all pattern_op_is_bitwise p.old ≡ true
   pub new_are : list_all new_is_bitwise p.new ≡ true
 
 -- ---- its steps
@@ -67,11 +67,11 @@ abbrev pub form_bits : Expression → BitStep
 form_bits (form.Binary o i j) = pair (way_of o) i j
 form_bits _ = constant false
 
-abbrev pub piece_bits : PatternOp → BitStep
-piece_bits o = form_bits o.form
+abbrev pub pattern_op_bits : PatternOp → BitStep
+pattern_op_bits o = form_bits o.form
 
 abbrev pub new_bits : NewValue → BitStep
-new_bits (new.Operation o) = piece_bits o
+new_bits (new.Operation o) = pattern_op_bits o
 new_bits (new.Constant i t) = pair by_and i i
 
 abbrev pub given_bits : PatternModel → List BitStep
@@ -79,7 +79,7 @@ given_bits p = map extra_bits p.extra ++ map number_bits p.given
 
 -- the environment after the old steps at these values, and the result of the new side
 abbrev pub olds_made : PatternModel → ℕ → List ℕ → Option (List ℕ)
-olds_made p w values = given (values_made w (given_bits p) values) (values_made w (map piece_bits p.old))
+olds_made p w values = given (values_made w (given_bits p) values) (values_made w (map pattern_op_bits p.old))
 
 abbrev pub shown_made : PatternModel → ℕ → List ℕ → Option ℕ
 shown_made p w vs = given (values_made w (map new_bits p.new) vs) (λ us. slice_get us p.result)
@@ -131,11 +131,11 @@ module _ (ks : List BitsKind) (t : ℕ) (wide : is_width (width_of (kind_at ks t
   form_alike j (form.Binary o i l) is = ap (λ o. step.Binary o i l) (sym (way_back o is))
   form_alike j _ is = absurd (true≢false (sym is))
 
-  piece_alike : (o : PatternOp) → piece_has t o ≡ true → piece_is_bitwise o ≡ true → piece_step ks o ≡ step_at k (piece_bits o)
-  piece_alike o has is = form_alike (kind_at ks o.ty) o.form is
+  pattern_op_alike : (o : PatternOp) → pattern_op_has t o ≡ true → pattern_op_is_bitwise o ≡ true → pattern_op_step ks o ≡ step_at k (pattern_op_bits o)
+  pattern_op_alike o has is = form_alike (kind_at ks o.ty) o.form is
 
   new_alike : (n : NewValue) → new_has t n ≡ true → new_is_bitwise n ≡ true → new_step ks n ≡ step_at k (new_bits n)
-  new_alike (new.Operation o) has is = piece_alike o has is
+  new_alike (new.Operation o) has is = pattern_op_alike o has is
   new_alike (new.Constant i u) has is = refl
 
   all_alike : {X : Type 0} (f : X → Step) (g : X → BitStep) (has is : X → Bool) → ((x : X) → has x ≡ true → is x ≡ true → f x ≡ step_at k (g x))
@@ -173,13 +173,13 @@ module _ (ks : List BitsKind) (t : ℕ) (wide : is_width (width_of (kind_at ks t
     abbrev content : Content
     content = content_with ks p
 
-    none_there : (l : List TypeConstraint) → is_none_asked l ≡ true → list_all (is_asked ks) l ≡ true
+    none_there : (l : List TypeConstraint) → is_none_requested l ≡ true → list_all (is_requested ks) l ≡ true
     none_there [] e = refl
     none_there (a ∷ l) e = absurd (true≢false (sym e))
 
     pub applied : fits ks p ≡ true
     applied =
-        and_from (list_all (is_asked ks) p.type_constraints) _ (none_there p.type_constraints is.none_asked)
+        and_from (list_all (is_requested ks) p.type_constraints) _ (none_there p.type_constraints is.none_requested)
         (and_from (list_all (extra_fits ks) p.extra) _ (all_fit (extra_fits ks) (extra_has t) extra_is_bitwise extra_fitting p.extra is.extra_of is.extra_are)
         (all_fit (number_fits ks) (number_has t) number_is_bitwise number_fitting p.given is.given_of is.given_are))
 
@@ -189,8 +189,8 @@ module _ (ks : List BitsKind) (t : ℕ) (wide : is_width (width_of (kind_at ks t
         (all_alike (number_step ks) number_bits (number_has t) number_is_bitwise number_alike p.given is.given_of is.given_are)
         ∙ sym (map-append (step_at k) (map extra_bits p.extra) (map number_bits p.given))
 
-    old_alike : content.old ≡ map (step_at k) (map piece_bits p.old)
-    old_alike = all_alike (piece_step ks) piece_bits (piece_has t) piece_is_bitwise piece_alike p.old is.old_of is.old_are
+    old_alike : content.old ≡ map (step_at k) (map pattern_op_bits p.old)
+    old_alike = all_alike (pattern_op_step ks) pattern_op_bits (pattern_op_has t) pattern_op_is_bitwise pattern_op_alike p.old is.old_of is.old_are
 
     new_same : content.new ≡ map (step_at k) (map new_bits p.new)
     new_same = all_alike (new_step ks) new_bits (new_has t) new_is_bitwise new_alike p.new is.new_of is.new_are
@@ -207,7 +207,7 @@ module _ (ks : List BitsKind) (t : ℕ) (wide : is_width (width_of (kind_at ks t
         ∙ ap (λ ss. given (run ss (known k values)) (run content.old)) given_alike
         ∙ ap (λ r. given r (run content.old)) (run_made k wide (given_bits p) values)
         ∙ ap (λ ss. given (option_map (known k) (values_made w (given_bits p) values)) (run ss)) old_alike
-        ∙ trailing (map piece_bits p.old) (values_made w (given_bits p) values)
+        ∙ trailing (map pattern_op_bits p.old) (values_made w (given_bits p) values)
 
     -- the result of the new side
     shown_at : (r : Option (List ℕ)) → shown p.result (option_map (known k) r) ≡ option_map (as_known k) (given r (λ us. slice_get us p.result))

@@ -11,6 +11,6 @@ pub mod PolyPlaces
 pub mod PolySteps
 pub mod PolyRuns
 pub mod PolyLaw
-pub mod PolyEverywhere
+pub mod PolyForAllWidths
 pub mod Inserting
 pub mod Counting

@@ -10,14 +10,14 @@ use Rattle.dialects_int.proofs.KnownOperands.{same_itself}
 use Rattle.user_patterns_check.specs.Checks.{bound, keeps, new_refines, old_ran, old_refined, old_steps, refines, shown}
 use Rattle.user_patterns_check.proofs.Following.{run_after}
 use Rattle.user_patterns_check.specs.Outcomes.{Outcome, given, run}
-use Rattle.user_patterns_data.specs.Fitting.{content_with, fits, extra_fits, extra_step, is_asked, kind_at, new_step, number_fits, number_step, piece_step}
+use Rattle.user_patterns_data.specs.Fitting.{content_with, fits, extra_fits, extra_step, is_requested, kind_at, new_step, number_fits, number_step, pattern_op_step}
 use Rattle.user_patterns_data.specs.Shapes.{PatternModel}
 use Rattle.user_patterns_widths.specs.Polynomials.{Polynomial, are_one}
-use Rattle.user_patterns_widths.specs.AllWidths.{Formal, first_type, formal, formal_at, formal_extras, formal_news, formal_numbers, formal_olds, formal_values, extra_has, has_one_type, has_type, is_some_type, is_variable, new_has, number_has, piece_has, results_are_one, sides_are_one}
+use Rattle.user_patterns_widths.specs.AllWidths.{Formal, first_type, formal, formal_at, formal_extras, formal_news, formal_numbers, formal_olds, formal_values, extra_has, has_one_type, has_type, is_some_type, is_variable, new_has, number_has, pattern_op_has, results_are_one, sides_are_one}
 use Rattle.user_patterns_widths.specs.Lasting.{PolynomialsKeep}
 use Rattle.user_patterns_widths.proofs.PolyZero.{ones_same}
 use Rattle.user_patterns_widths.proofs.PolyOutcomes.{Stands, is_below, is_wide}
-use Rattle.user_patterns_widths.proofs.PolyPlaces.{AllStand, IsFront, found_at, front_at, front_of_steps, fronts, given_some, number_at}
+use Rattle.user_patterns_widths.proofs.PolyPlaces.{AllStand, IsPreceding, found_at, preceding_at, preceding_of_steps, precedings, given_some, number_at}
 use Rattle.user_patterns_widths.proofs.PolyRuns.{extras_stand, news_run, numbers_stand, olds_stand, values_stand}
 
 -- ---- the pattern
@@ -35,9 +35,9 @@ one_type p e = go (first_type p.old) e
     go None e = absurd (true≢false (sym e))
     go (Some t) e =
         let h = and_parts (is_variable p (slice_get p.value_types t)) (has_type t p) e in
-        let v = and_parts (list_all (λ v. v == t) p.values) (list_all (extra_has t) p.extra && (list_all (number_has t) p.given && (list_all (piece_has t) p.old && list_all (new_has t) p.new))) h.1 in
-        let f = and_parts (list_all (extra_has t) p.extra) (list_all (number_has t) p.given && (list_all (piece_has t) p.old && list_all (new_has t) p.new)) v.1 in
-        let n = and_parts (list_all (number_has t) p.given) (list_all (piece_has t) p.old && list_all (new_has t) p.new) f.1 in
+        let v = and_parts (list_all (λ v. v == t) p.values) (list_all (extra_has t) p.extra && (list_all (number_has t) p.given && (list_all (pattern_op_has t) p.old && list_all (new_has t) p.new))) h.1 in
+        let f = and_parts (list_all (extra_has t) p.extra) (list_all (number_has t) p.given && (list_all (pattern_op_has t) p.old && list_all (new_has t) p.new)) v.1 in
+        let n = and_parts (list_all (number_has t) p.given) (list_all (pattern_op_has t) p.old && list_all (new_has t) p.new) f.1 in
         record { t = t; values = v.0; extra = f.0; numbers = n.0 }
 
 -- the entries of the places before both sides
@@ -79,17 +79,17 @@ record Steps (ks : List BitsKind) (p : PatternModel) (values : List ℕ) (env : 
   bounds_are : bound (map (kind_at ks) p.values) values [] ≡ Some bounds
   extra_are : run (map (extra_step ks) p.extra) bounds ≡ Some extra
   numbers_are : run (map (number_step ks) p.given) extra ≡ Some numbers
-  old_are : run (map (piece_step ks) p.old) numbers ≡ Some env
+  old_are : run (map (pattern_op_step ks) p.old) numbers ≡ Some env
 
 steps : (ks : List BitsKind) (p : PatternModel) (values : List ℕ) (env : List Outcome) → old_steps (content_with ks p) values [] ≡ Some env → Steps ks p values env
 steps ks p values env e = go (fits ks p) refl e
   where
     go : (b : Bool) → fits ks p ≡ b
-        → (if b then given (given (bound (map (kind_at ks) p.values) values []) (run (map (extra_step ks) p.extra ++ map (number_step ks) p.given))) (run (map (piece_step ks) p.old)) else None) ≡ Some env → Steps ks p values env
+        → (if b then given (given (bound (map (kind_at ks) p.values) values []) (run (map (extra_step ks) p.extra ++ map (number_step ks) p.given))) (run (map (pattern_op_step ks) p.old)) else None) ≡ Some env → Steps ks p values env
     go false is e = absurd (none-some env e)
     go true is e =
         let before = given (bound (map (kind_at ks) p.values) values []) (run (map (extra_step ks) p.extra ++ map (number_step ks) p.given)) in
-        let o = given_some before (run (map (piece_step ks) p.old)) env e in
+        let o = given_some before (run (map (pattern_op_step ks) p.old)) env e in
         let b = given_some (bound (map (kind_at ks) p.values) values []) (run (map (extra_step ks) p.extra ++ map (number_step ks) p.given)) o.0 o.1 in
         let f = given_some (run (map (extra_step ks) p.extra) b.0) (run (map (number_step ks) p.given)) o.0 (sym (run_after (map (extra_step ks) p.extra) (map (number_step ks) p.given) b.0) ∙ b.2) in
         record { fitting = is; bounds = b.0; extra = f.0; numbers = o.0; bounds_are = b.1; extra_are = f.1; numbers_are = f.2; old_are = o.2 }
@@ -110,12 +110,12 @@ module _ (ks : List BitsKind) (p : PatternModel) (one : OneType p) (side : Sides
   old_stands values env s =
       let fin = s.numbers in
       let V = number_at fin in
-      let f = and_parts (list_all (is_asked ks) p.type_constraints) (list_all (extra_fits ks) p.extra && list_all (number_fits ks) p.given) s.fitting in
+      let f = and_parts (list_all (is_requested ks) p.type_constraints) (list_all (extra_fits ks) p.extra && list_all (number_fits ks) p.given) s.fitting in
       let g = and_parts (list_all (extra_fits ks) p.extra) (list_all (number_fits ks) p.given) f.1 in
-      let front : (zs : List Outcome) → IsFront zs s.bounds → IsFront zs fin = λ zs z. fronts zs s.bounds fin z (fronts s.bounds s.extra fin
-      (front_of_steps (map (extra_step ks) p.extra) s.bounds s.extra s.extra_are)
-      (front_of_steps (map (number_step ks) p.given) s.extra fin s.numbers_are)) in
-      let a = values_stand ks one.t fin p.values values [] [] s.bounds one.values s.bounds_are front tt in
+      let preceding : (zs : List Outcome) → IsPreceding zs s.bounds → IsPreceding zs fin = λ zs z. precedings zs s.bounds fin z (precedings s.bounds s.extra fin
+      (preceding_of_steps (map (extra_step ks) p.extra) s.bounds s.extra s.extra_are)
+      (preceding_of_steps (map (number_step ks) p.given) s.extra fin s.numbers_are)) in
+      let a = values_stand ks one.t fin p.values values [] [] s.bounds one.values s.bounds_are preceding tt in
       let b = extras_stand ks one.t fin p.extra (formal_values p.values []) s.bounds s.extra one.extra g.0 s.extra_are a in
       let c = numbers_stand ks one.t fin p.given (formal_extras p.extra (formal_values p.values [])) s.extra one.numbers g.1 s.numbers_are b in
       olds_stand ks one.t V p.old (formal_given p) side.old fin env side.old_is s.old_are c
@@ -125,10 +125,10 @@ module _ (ks : List BitsKind) (p : PatternModel) (one : OneType p) (side : Sides
   refined values env s old is =
       let V = number_at s.numbers in
       let r = news_run ks one.t V p.new side.old side.new env side.new_is (old_stands values env s) in
-      let front = front_of_steps (map (new_step ks) p.new) env r.env r.is in
+      let preceding = preceding_of_steps (map (new_step ks) p.new) env r.env r.is in
       let x = found_at k V side.new r.env p.root side.root r.stand side.root_is in
       let y = found_at k V side.new r.env p.result side.result r.stand side.result_is in
-      let first : old ≡ x.outcome = same_Some old x.outcome (sym (front_at env r.env front p.root old is) ∙ x.is) in
+      let first : old ≡ x.outcome = same_Some old x.outcome (sym (preceding_at env r.env preceding p.root old is) ∙ x.is) in
       ap (λ d. new_refines old (shown p.result d)) r.is ∙ ap (new_refines old) y.is
       ∙ ap (λ o. refines o y.outcome) first ∙ same_stand k V side.root side.result x.outcome y.outcome x.stands y.stands side.one
 

@@ -17,27 +17,27 @@ given_some (Some y) f v e = (y, refl, e)
 
 -- ---- prefixes of an environment
 
-pub record IsFront (env fin : List Outcome) : Type 0 where
+pub record IsPreceding (env fin : List Outcome) : Type 0 where
   pub more : List Outcome
   pub is : fin ≡ env ++ more
 
-pub front_itself : (env : List Outcome) → IsFront env env
-front_itself env = record { more = []; is = sym (append-nil env) }
+pub preceding_itself : (env : List Outcome) → IsPreceding env env
+preceding_itself env = record { more = []; is = sym (append-nil env) }
 
-pub front_shorter : (env fin : List Outcome) (x : Outcome) → IsFront (env ++ (x ∷ [])) fin → IsFront env fin
-front_shorter env fin x f = record { more = x ∷ f.more; is = f.is ∙ append_assoc env (x ∷ []) f.more }
+pub preceding_shorter : (env fin : List Outcome) (x : Outcome) → IsPreceding (env ++ (x ∷ [])) fin → IsPreceding env fin
+preceding_shorter env fin x f = record { more = x ∷ f.more; is = f.is ∙ append_assoc env (x ∷ []) f.more }
 
-pub front_of_steps : (ss : List Step) (env fin : List Outcome) → run ss env ≡ Some fin → IsFront env fin
-front_of_steps [] env fin e = record { more = []; is = sym (same_Some env fin e) ∙ sym (append-nil env) }
-front_of_steps (s ∷ ss) env fin e =
+pub preceding_of_steps : (ss : List Step) (env fin : List Outcome) → run ss env ≡ Some fin → IsPreceding env fin
+preceding_of_steps [] env fin e = record { more = []; is = sym (same_Some env fin e) ∙ sym (append-nil env) }
+preceding_of_steps (s ∷ ss) env fin e =
     let g = given_some (step_of s env) (λ v. run ss (env ++ (v ∷ []))) fin e in
-    front_shorter env fin g.0 (front_of_steps ss (env ++ (g.0 ∷ [])) fin g.2)
+    preceding_shorter env fin g.0 (preceding_of_steps ss (env ++ (g.0 ∷ [])) fin g.2)
 
-pub fronts : (a b c : List Outcome) → IsFront a b → IsFront b c → IsFront a c
-fronts a b c f g = record { more = f.more ++ g.more; is = g.is ∙ ap (λ xs. xs ++ g.more) f.is ∙ append_assoc a f.more g.more }
+pub precedings : (a b c : List Outcome) → IsPreceding a b → IsPreceding b c → IsPreceding a c
+precedings a b c f g = record { more = f.more ++ g.more; is = g.is ∙ ap (λ xs. xs ++ g.more) f.is ∙ append_assoc a f.more g.more }
 
-pub front_at : (env fin : List Outcome) → IsFront env fin → (i : ℕ) (x : Outcome) → slice_get env i ≡ Some x → slice_get fin i ≡ Some x
-front_at env fin f i x e = ap (λ xs. slice_get xs i) f.is ∙ place_stays env f.more i x e
+pub preceding_at : (env fin : List Outcome) → IsPreceding env fin → (i : ℕ) (x : Outcome) → slice_get env i ≡ Some x → slice_get fin i ≡ Some x
+preceding_at env fin f i x e = ap (λ xs. slice_get xs i) f.is ∙ place_stays env f.more i x e
 
 -- ---- the value at a place
 
@@ -48,8 +48,8 @@ number_of _ = 0
 abbrev pub number_at : List Outcome → ℕ → ℕ
 number_at fin i = number_of (slice_get fin i)
 
-pub last_number : (env fin : List Outcome) (k : BitsKind) (v : ℕ) → IsFront (env ++ (Some (k, v) ∷ [])) fin → number_at fin (length env) ≡ v
-last_number env fin k v f = ap number_of (front_at (env ++ (Some (k, v) ∷ [])) fin f (length env) (Some (k, v)) (last_place env (Some (k, v))))
+pub last_number : (env fin : List Outcome) (k : BitsKind) (v : ℕ) → IsPreceding (env ++ (Some (k, v) ∷ [])) fin → number_at fin (length env) ≡ v
+last_number env fin k v f = ap number_of (preceding_at (env ++ (Some (k, v) ∷ [])) fin f (length env) (Some (k, v)) (last_place env (Some (k, v))))
 
 -- ---- values and polynomials
 

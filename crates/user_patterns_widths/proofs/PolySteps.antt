@@ -31,7 +31,7 @@ use Rattle.user_patterns_widths.specs.Polynomials as polynomials
 use Rattle.user_patterns_widths.specs.AllWidths.{Formal, formal_at, formal_form, formal_extra, formal_literal, formal_new, formal_next, formal_number, formal_of, formal_pair, extra_has, is_bitwise, literal_has, number_has}
 use Rattle.user_patterns_widths.proofs.PolyValues.{number_low, number_value, place_value, value_low}
 use Rattle.user_patterns_widths.proofs.PolyOutcomes.{Gives, Stands, is_below, is_wide, literal_same, other_bits, pair_gives, pair_known}
-use Rattle.user_patterns_widths.proofs.PolyPlaces.{AllStand, IsFront, StandsAt, found_at, given_some, last_number, number_at, stand_long}
+use Rattle.user_patterns_widths.proofs.PolyPlaces.{AllStand, IsPreceding, StandsAt, found_at, given_some, last_number, number_at, stand_long}
 
 -- ---- both sides
 
@@ -170,11 +170,11 @@ module _ (k : BitsKind) where
     V = number_at fin
 
     -- one more place, with a fresh variable
-    pub next_stands : (fs : Formal) (xs : List Outcome) (x : Outcome) → AllStand k V fs xs → IsFront (xs ++ (x ∷ [])) fin → IsKnown k x → Stands k V (value_at (length fs)) x
-    next_stands fs xs x stand front known =
+    pub next_stands : (fs : Formal) (xs : List Outcome) (x : Outcome) → AllStand k V fs xs → IsPreceding (xs ++ (x ∷ [])) fin → IsKnown k x → Stands k V (value_at (length fs)) x
+    next_stands fs xs x stand preceding known =
         let v = known.value in
-        let front : IsFront (xs ++ (Some (k, v) ∷ [])) fin = subst (λ x. IsFront (xs ++ (x ∷ [])) fin) known.is front in
-        let place : V (length fs) ≡ v = ap V (stand_long k V fs xs stand) ∙ last_number xs fin k v front in
+        let preceding : IsPreceding (xs ++ (Some (k, v) ∷ [])) fin = subst (λ x. IsPreceding (xs ++ (x ∷ [])) fin) known.is preceding in
+        let place : V (length fs) ≡ v = ap V (stand_long k V fs xs stand) ∙ last_number xs fin k v preceding in
         record {
           value = v;
           is = known.is;
@@ -183,11 +183,11 @@ module _ (k : BitsKind) where
           same = ap (λ n. n % 2 ^ width_of k) (sym place ∙ sym (place_value V (length fs)));
         }
 
-    module _ (fs : Formal) (xs : List Outcome) (x : Outcome) (stand : AllStand k V fs xs) (front : IsFront (xs ++ (x ∷ [])) fin) where
+    module _ (fs : Formal) (xs : List Outcome) (x : Outcome) (stand : AllStand k V fs xs) (preceding : IsPreceding (xs ++ (x ∷ [])) fin) where
       next_at : (a b : Option Polynomial) → ((p q : Polynomial) → a ≡ Some p → b ≡ Some q → IsKnown k x) → StandsAt k V (formal_next a b fs) x
       next_at None b known = tt
       next_at (Some p) None known = tt
-      next_at (Some p) (Some q) known = next_stands fs xs x stand front (known p q refl refl)
+      next_at (Some p) (Some q) known = next_stands fs xs x stand preceding (known p q refl refl)
 
       bitwise_at : (o : Arithmetic) (i j : ℕ) → is_bitwise o ≡ true → given (slice_get xs i) (λ x. given (slice_get xs j) (λ y. pair_outcome o x y)) ≡ Some x
           → (p q : Polynomial) → formal_at i fs ≡ Some p → formal_at j fs ≡ Some q → IsKnown k x
@@ -208,13 +208,13 @@ module _ (k : BitsKind) where
       pair_at o i j false bit e = gave_at k V fs xs stand (formal_of o i j fs) (given (slice_get xs i) (λ x. given (slice_get xs j) (λ y. pair_outcome o x y))) x e (of_gives k V fs xs stand o i j)
 
 pub number_stands : (ks : List BitsKind) (t : ℕ) (fin : List Outcome) (n : ConstantExpression) (fs : Formal) (xs : List Outcome) (x : Outcome) → AllStand (kind_at ks t) (number_at fin) fs xs
-    → IsFront (xs ++ (x ∷ [])) fin → number_has t n ≡ true → number_fits ks n ≡ true → step_of (number_step ks n) xs ≡ Some x → StandsAt (kind_at ks t) (number_at fin) (formal_number n fs) x
-number_stands ks t fin (number.Literal l) fs xs x stand front has there e = written_stands (number_at fin) ks t l xs x has there e
-number_stands ks t fin (number.Width u) fs xs x stand front has there e =
+    → IsPreceding (xs ++ (x ∷ [])) fin → number_has t n ≡ true → number_fits ks n ≡ true → step_of (number_step ks n) xs ≡ Some x → StandsAt (kind_at ks t) (number_at fin) (formal_number n fs) x
+number_stands ks t fin (number.Literal l) fs xs x stand preceding has there e = written_stands (number_at fin) ks t l xs x has there e
+number_stands ks t fin (number.Width u) fs xs x stand preceding has there e =
     let known = constant_known (kind_at ks u) (width_of (kind_at ks u) % 2 ^ width_of (kind_at ks u)) x e in
     let is : IsKnown (kind_at ks u) x = record { value = width_of (kind_at ks u) % 2 ^ width_of (kind_at ks u); is = known.0; fits = known.1 } in
-    next_stands (kind_at ks t) fin fs xs x stand front (subst (λ u. IsKnown (kind_at ks u) x) (eqb-true u t has) is)
-number_stands ks t fin (number.Binary o i j) fs xs x stand front has there e = pair_at (kind_at ks t) fin fs xs x stand front o i j (is_bitwise o) refl e
-number_stands ks t fin (number.Compare q i j) fs xs x stand front has there e = tt
-number_stands ks t fin (number.Log2 i) fs xs x stand front has there e = next_at (kind_at ks t) fin fs xs x stand front (formal_at i fs) (formal_at i fs) (log_at (kind_at ks t) fin fs xs x stand front i e)
-number_stands ks t fin (number.Require i) fs xs x stand front has there e = tt
+    next_stands (kind_at ks t) fin fs xs x stand preceding (subst (λ u. IsKnown (kind_at ks u) x) (eqb-true u t has) is)
+number_stands ks t fin (number.Binary o i j) fs xs x stand preceding has there e = pair_at (kind_at ks t) fin fs xs x stand preceding o i j (is_bitwise o) refl e
+number_stands ks t fin (number.Compare q i j) fs xs x stand preceding has there e = tt
+number_stands ks t fin (number.Log2 i) fs xs x stand preceding has there e = next_at (kind_at ks t) fin fs xs x stand preceding (formal_at i fs) (formal_at i fs) (log_at (kind_at ks t) fin fs xs x stand preceding i e)
+number_stands ks t fin (number.Require i) fs xs x stand preceding has there e = tt

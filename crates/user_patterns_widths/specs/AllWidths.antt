@@ -40,17 +40,17 @@ module _ (t : ℕ) where
   number_has (number.Log2 i) = true
   number_has (number.Require i) = true
 
-  abbrev pub piece_has : PatternOp → Bool
-  piece_has o = o.ty == t
+  abbrev pub pattern_op_has : PatternOp → Bool
+  pattern_op_has o = o.ty == t
 
   abbrev pub new_has : NewValue → Bool
-  new_has (new.Operation o) = piece_has o
+  new_has (new.Operation o) = pattern_op_has o
   new_has (new.Constant i u) = u == t
 
   abbrev pub has_type : PatternModel → Bool
   has_type p =
       list_all (λ v. v == t) p.values
-      && (list_all extra_has p.extra && (list_all number_has p.given && (list_all piece_has p.old && list_all new_has p.new)))
+      && (list_all extra_has p.extra && (list_all number_has p.given && (list_all pattern_op_has p.old && list_all new_has p.new)))
 
 -- the type of the first matched operation
 abbrev pub first_type : List PatternOp → Option ℕ
@@ -181,24 +181,24 @@ abbrev pub form_is_bitwise : Expression → Bool
 form_is_bitwise (form.Binary o i j) = is_bitwise o
 form_is_bitwise _ = false
 
-abbrev pub piece_is_bitwise : PatternOp → Bool
-piece_is_bitwise o = form_is_bitwise o.form
+abbrev pub pattern_op_is_bitwise : PatternOp → Bool
+pattern_op_is_bitwise o = form_is_bitwise o.form
 
 abbrev pub new_is_bitwise : NewValue → Bool
-new_is_bitwise (new.Operation o) = piece_is_bitwise o
+new_is_bitwise (new.Operation o) = pattern_op_is_bitwise o
 new_is_bitwise (new.Constant i t) = true
 
 -- the pattern has no constraint on widths
-abbrev pub is_none_asked : List TypeConstraint → Bool
-is_none_asked [] = true
-is_none_asked (a ∷ more) = false
+abbrev pub is_none_requested : List TypeConstraint → Bool
+is_none_requested [] = true
+is_none_requested (a ∷ more) = false
 
 -- each bit of both results depends only on the same bit of the variables
 abbrev pub is_bit_by_bit : PatternModel → Bool
 is_bit_by_bit p =
-    has_one_type p && (is_none_asked p.type_constraints
+    has_one_type p && (is_none_requested p.type_constraints
     && (list_all extra_is_bitwise p.extra && (list_all number_is_bitwise p.given
-    && (list_all piece_is_bitwise p.old && list_all new_is_bitwise p.new))))
+    && (list_all pattern_op_is_bitwise p.old && list_all new_is_bitwise p.new))))
 
 -- ---- either form
 

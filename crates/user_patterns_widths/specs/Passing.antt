@@ -20,8 +20,8 @@ passes_poison (form.Select c i j) = false
 passes_poison (form.IntegerCast c i) = true
 passes_poison (form.IndexCast c i) = true
 
-abbrev pub piece_passes : PatternOp → Bool
-piece_passes o = passes_poison o.form
+abbrev pub pattern_op_passes : PatternOp → Bool
+pattern_op_passes o = passes_poison o.form
 
 -- the operation is defined for all operands; this is false for a division or a remainder
 abbrev pub is_always_defined : Expression → Bool
@@ -37,4 +37,4 @@ new_is_defined (new.Constant i t) = true
 
 -- matched operations propagate poison, and new values are always defined
 abbrev pub is_passing : PatternModel → Bool
-is_passing p = list_all piece_passes p.old && list_all new_is_defined p.new
+is_passing p = list_all pattern_op_passes p.old && list_all new_is_defined p.new

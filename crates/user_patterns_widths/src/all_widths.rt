@@ -1,7 +1,7 @@
 //! Decides which patterns hold at all widths.
 ghost use Rattle.std.specs.Prelude.{◌≡◌, IfOk};
 ghost use Rattle.user_patterns_data.specs.Shapes.{pattern_model};
-ghost use Rattle.user_patterns_widths.specs.AllWidths as everywhere;
+ghost use Rattle.user_patterns_widths.specs.AllWidths as for_all_widths;
 ghost use Rattle.user_patterns_widths.specs.Views.{formal_view};
 
 use crate::bits::is_bit_by_bit;
@@ -18,7 +18,7 @@ fn places_are_one(
     new: usize,
     env: &[Option<Vec<Term>>],
 ) -> Result<bool, AllocError>
-    ensures { IfOk result (λ one. one ≡ everywhere.results_are_one (everywhere.formal_at old (formal_view env.now)) (everywhere.formal_at new (formal_view env.now))) }
+    ensures { IfOk result (λ one. one ≡ for_all_widths.results_are_one (for_all_widths.formal_at old (formal_view env.now)) (for_all_widths.formal_at new (formal_view env.now))) }
 {
     let Some(old) = formal_at(env, old) else {
         return Ok(false);
@@ -31,7 +31,7 @@ fn places_are_one(
 
 /// Returns whether both sides of the pattern are the same polynomial.
 fn sides_are_one(alloc: Global, pattern: &Pattern) -> Result<bool, AllocError>
-    ensures { IfOk result (λ one. one ≡ everywhere.sides_are_one (pattern_model pattern.now) (everywhere.formal (pattern_model pattern.now))) }
+    ensures { IfOk result (λ one. one ≡ for_all_widths.sides_are_one (pattern_model pattern.now) (for_all_widths.formal (pattern_model pattern.now))) }
 {
     let Some(env) = formal(alloc, pattern)? else {
         return Ok(false);
@@ -41,7 +41,7 @@ fn sides_are_one(alloc: Global, pattern: &Pattern) -> Result<bool, AllocError>
 
 /// Returns whether both sides are sums, differences and products of values and numbers, and are the same polynomial.
 pub fn is_one_polynomial(alloc: Global, pattern: &Pattern) -> Result<bool, AllocError>
-    ensures { IfOk result (λ one. one ≡ everywhere.is_one_polynomial (pattern_model pattern.now)) }
+    ensures { IfOk result (λ one. one ≡ for_all_widths.is_one_polynomial (pattern_model pattern.now)) }
 {
     if !has_one_type(pattern) {
         return Ok(false);
@@ -51,7 +51,7 @@ pub fn is_one_polynomial(alloc: Global, pattern: &Pattern) -> Result<bool, Alloc
 
 /// Returns whether the pattern holds at all widths if a check found no counterexample. The answer `false` says nothing.
 pub fn holds_at_all_widths(alloc: Global, pattern: &Pattern) -> Result<bool, AllocError>
-    ensures { IfOk result (λ b. b ≡ everywhere.holds_at_all_widths (pattern_model pattern.now)) }
+    ensures { IfOk result (λ b. b ≡ for_all_widths.holds_at_all_widths (pattern_model pattern.now)) }
 {
     let one = is_one_polynomial(alloc, pattern)?;
     Ok(one || is_bit_by_bit(pattern))

@@ -22,8 +22,8 @@ fn divides(operation: Arithmetic) -> bool
 }
 
 /// Returns whether a poison operand makes the result of the matched operation poison.
-fn piece_passes(pattern_op: &PatternOp) -> bool
-    ensures { result ≡ passing.piece_passes pattern_op.now }
+fn pattern_op_passes(pattern_op: &PatternOp) -> bool
+    ensures { result ≡ passing.pattern_op_passes pattern_op.now }
 {
     match pattern_op.form {
         Expression::Binary(_, _, _) => true,
@@ -59,9 +59,9 @@ fn new_is_defined(new: &NewValue) -> bool
 
 /// Returns whether a poison operand makes the result of each matched operation poison.
 fn all_pass(old: &[PatternOp]) -> bool
-    ensures { result ≡ list_all passing.piece_passes old.now }
+    ensures { result ≡ list_all passing.pattern_op_passes old.now }
 {
-    old.iter().all(|pattern_op| piece_passes(pattern_op))
+    old.iter().all(|pattern_op| pattern_op_passes(pattern_op))
 }
 
 /// Returns whether all new values are defined for all operands.

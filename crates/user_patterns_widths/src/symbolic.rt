@@ -3,7 +3,7 @@ ghost use Rattle.std.specs.Prelude.{◌≡◌, ◌∷◌, ◌++◌, [], Some, le
 ghost use Rattle.user_patterns_data.specs.declared.pattern.ConstantExpression.TheVariants as numbers;
 ghost use Rattle.user_patterns_check.specs.Outcomes.{given};
 ghost use Rattle.user_patterns_data.specs.Shapes.{pattern_model};
-ghost use Rattle.user_patterns_widths.specs.AllWidths as everywhere;
+ghost use Rattle.user_patterns_widths.specs.AllWidths as for_all_widths;
 ghost use Rattle.user_patterns_widths.specs.Polynomials as polynomials;
 ghost use Rattle.user_patterns_widths.specs.Views.{Stands, formal_view, some_view, view};
 
@@ -20,7 +20,7 @@ use user_patterns_data::pattern::{
 
 /// Returns the polynomial at `place`, if there is one.
 pub(crate) fn formal_at(env: &[Option<Vec<Term>>], place: usize) -> Option<&[Term]>
-    ensures { option_map (λ p. view p.now) result ≡ everywhere.formal_at place (formal_view env.now) }
+    ensures { option_map (λ p. view p.now) result ≡ for_all_widths.formal_at place (formal_view env.now) }
 {
     if place >= env.len() {
         return None;
@@ -37,7 +37,7 @@ fn copy_at(
     env: &[Option<Vec<Term>>],
     place: usize,
 ) -> Result<Option<Vec<Term>>, AllocError>
-    ensures { IfOk result (λ p. some_view p ≡ everywhere.formal_at place (formal_view env.now)) }
+    ensures { IfOk result (λ p. some_view p ≡ for_all_widths.formal_at place (formal_view env.now)) }
 {
     let Some(terms) = formal_at(env, place) else {
         return Ok(None);
@@ -52,7 +52,7 @@ fn formal_pair(
     first: &[Term],
     second: &[Term],
 ) -> Result<Option<Vec<Term>>, AllocError>
-    ensures { IfOk result (λ p. some_view p ≡ everywhere.formal_pair operation (view first.now) (view second.now)) }
+    ensures { IfOk result (λ p. some_view p ≡ for_all_widths.formal_pair operation (view first.now) (view second.now)) }
 {
     match operation {
         Arithmetic::Add => Ok(if_small(sum(alloc, first, second)?)),
@@ -70,7 +70,7 @@ fn formal_of(
     j: usize,
     env: &[Option<Vec<Term>>],
 ) -> Result<Option<Vec<Term>>, AllocError>
-    ensures { IfOk result (λ p. some_view p ≡ everywhere.formal_of operation i j (formal_view env.now)) }
+    ensures { IfOk result (λ p. some_view p ≡ for_all_widths.formal_of operation i j (formal_view env.now)) }
 {
     let Some(first) = formal_at(env, i) else {
         return Ok(None);
@@ -83,7 +83,7 @@ fn formal_of(
 
 /// Returns the number of a literal.
 fn formal_literal(alloc: Global, literal: &Literal) -> Result<Vec<Term>, AllocError>
-    ensures { IfOk result (λ p. view p.items ≡ everywhere.formal_literal literal.now) }
+    ensures { IfOk result (λ p. view p.items ≡ for_all_widths.formal_literal literal.now) }
 {
     constant_polynomial(
         alloc,
@@ -98,7 +98,7 @@ fn formal_next(
     j: usize,
     env: &[Option<Vec<Term>>],
 ) -> Result<Option<Vec<Term>>, AllocError>
-    ensures { IfOk result (λ p. some_view p ≡ everywhere.formal_next (everywhere.formal_at i (formal_view env.now)) (everywhere.formal_at j (formal_view env.now)) (formal_view env.now)) }
+    ensures { IfOk result (λ p. some_view p ≡ for_all_widths.formal_next (for_all_widths.formal_at i (formal_view env.now)) (for_all_widths.formal_at j (formal_view env.now)) (formal_view env.now)) }
 {
     let Some(_) = formal_at(env, i) else {
         return Ok(None);
@@ -115,7 +115,7 @@ fn formal_extra(
     extra: &ExtraConstant,
     env: &[Option<Vec<Term>>],
 ) -> Result<Option<Vec<Term>>, AllocError>
-    ensures { IfOk result (λ p. some_view p ≡ everywhere.formal_extra extra.now (formal_view env.now)) }
+    ensures { IfOk result (λ p. some_view p ≡ for_all_widths.formal_extra extra.now (formal_view env.now)) }
 {
     match extra {
         ExtraConstant::Literal(literal) => Ok(Some(formal_literal(alloc, literal)?)),
@@ -131,7 +131,7 @@ fn formal_numbers_pair(
     j: usize,
     env: &[Option<Vec<Term>>],
 ) -> Result<Option<Vec<Term>>, AllocError>
-    ensures { IfOk result (λ p. some_view p ≡ everywhere.formal_number (numbers.Binary operation i j) (formal_view env.now)) }
+    ensures { IfOk result (λ p. some_view p ≡ for_all_widths.formal_number (numbers.Binary operation i j) (formal_view env.now)) }
 {
     if is_bitwise(operation) {
         return formal_next(alloc, i, j, env);
@@ -145,7 +145,7 @@ fn formal_number(
     number: &ConstantExpression,
     env: &[Option<Vec<Term>>],
 ) -> Result<Option<Vec<Term>>, AllocError>
-    ensures { IfOk result (λ p. some_view p ≡ everywhere.formal_number number.now (formal_view env.now)) }
+    ensures { IfOk result (λ p. some_view p ≡ for_all_widths.formal_number number.now (formal_view env.now)) }
 {
     match number {
         ConstantExpression::Literal(literal) => Ok(Some(formal_literal(alloc, literal)?)),
@@ -165,7 +165,7 @@ fn formal_form(
     form: &Expression,
     env: &[Option<Vec<Term>>],
 ) -> Result<Option<Vec<Term>>, AllocError>
-    ensures { IfOk result (λ p. some_view p ≡ everywhere.formal_form form.now (formal_view env.now)) }
+    ensures { IfOk result (λ p. some_view p ≡ for_all_widths.formal_form form.now (formal_view env.now)) }
 {
     match form {
         Expression::Binary(operation, i, j) => formal_of(alloc, *operation, *i, *j, env),
@@ -182,7 +182,7 @@ fn formal_new(
     new: &NewValue,
     env: &[Option<Vec<Term>>],
 ) -> Result<Option<Vec<Term>>, AllocError>
-    ensures { IfOk result (λ p. some_view p ≡ everywhere.formal_new new.now (formal_view env.now)) }
+    ensures { IfOk result (λ p. some_view p ≡ for_all_widths.formal_new new.now (formal_view env.now)) }
 {
     match new {
         NewValue::Operation(pattern_op) => formal_form(alloc, &pattern_op.form, env),
@@ -223,7 +223,7 @@ fn push_values(
     values: &[usize],
     env: &mut Vec<Option<Vec<Term>>>,
 ) -> Result<(), AllocError>
-    ensures { OnOk result (formal_view env.new.items ≡ everywhere.formal_values values.now (formal_view env.old.items)) }
+    ensures { OnOk result (formal_view env.new.items ≡ for_all_widths.formal_values values.now (formal_view env.old.items)) }
 {
     let mut rest = values;
     'values: while let [_, tail @ ..] = rest {
@@ -239,7 +239,7 @@ fn push_extras(
     extra: &[ExtraConstant],
     env: &mut Vec<Option<Vec<Term>>>,
 ) -> Result<(), AllocError>
-    ensures { OnOk result (formal_view env.new.items ≡ everywhere.formal_extras extra.now (formal_view env.old.items)) }
+    ensures { OnOk result (formal_view env.new.items ≡ for_all_widths.formal_extras extra.now (formal_view env.old.items)) }
 {
     let mut rest = extra;
     'extra: while let [first, tail @ ..] = rest {
@@ -256,7 +256,7 @@ fn push_numbers(
     numbers: &[ConstantExpression],
     env: &mut Vec<Option<Vec<Term>>>,
 ) -> Result<(), AllocError>
-    ensures { OnOk result (formal_view env.new.items ≡ everywhere.formal_numbers numbers.now (formal_view env.old.items)) }
+    ensures { OnOk result (formal_view env.new.items ≡ for_all_widths.formal_numbers numbers.now (formal_view env.old.items)) }
 {
     let mut rest = numbers;
     'numbers: while let [first, tail @ ..] = rest {
@@ -273,7 +273,7 @@ fn push_old(
     pattern_op: &PatternOp,
     env: &mut Vec<Option<Vec<Term>>>,
 ) -> Result<bool, AllocError>
-    ensures { IfOk result (Stands (given (everywhere.formal_form pattern_op.now.form (formal_view env.old.items)) (λ p. Some (formal_view env.old.items ++ Some p ∷ []))) env.new.items) }
+    ensures { IfOk result (Stands (given (for_all_widths.formal_form pattern_op.now.form (formal_view env.old.items)) (λ p. Some (formal_view env.old.items ++ Some p ∷ []))) env.new.items) }
 {
     let terms = formal_form(alloc, &pattern_op.form, env)?;
     push_some(terms, env)
@@ -285,7 +285,7 @@ fn push_olds(
     old: &[PatternOp],
     env: &mut Vec<Option<Vec<Term>>>,
 ) -> Result<bool, AllocError>
-    ensures { IfOk result (Stands (everywhere.formal_olds old.now (formal_view env.old.items)) env.new.items) }
+    ensures { IfOk result (Stands (for_all_widths.formal_olds old.now (formal_view env.old.items)) env.new.items) }
 {
     let mut rest = old;
     'old: while let [first, tail @ ..] = rest {
@@ -303,7 +303,7 @@ fn push_new(
     new: &NewValue,
     env: &mut Vec<Option<Vec<Term>>>,
 ) -> Result<bool, AllocError>
-    ensures { IfOk result (Stands (given (everywhere.formal_new new.now (formal_view env.old.items)) (λ p. Some (formal_view env.old.items ++ Some p ∷ []))) env.new.items) }
+    ensures { IfOk result (Stands (given (for_all_widths.formal_new new.now (formal_view env.old.items)) (λ p. Some (formal_view env.old.items ++ Some p ∷ []))) env.new.items) }
 {
     let terms = formal_new(alloc, new, env)?;
     push_some(terms, env)
@@ -315,7 +315,7 @@ fn push_news(
     new: &[NewValue],
     env: &mut Vec<Option<Vec<Term>>>,
 ) -> Result<bool, AllocError>
-    ensures { IfOk result (Stands (everywhere.formal_news new.now (formal_view env.old.items)) env.new.items) }
+    ensures { IfOk result (Stands (for_all_widths.formal_news new.now (formal_view env.old.items)) env.new.items) }
 {
     let mut rest = new;
     'new: while let [first, tail @ ..] = rest {
@@ -333,7 +333,7 @@ fn push_front(
     pattern: &Pattern,
     env: &mut Vec<Option<Vec<Term>>>,
 ) -> Result<(), AllocError>
-    ensures { OnOk result (formal_view env.new.items ≡ everywhere.formal_numbers pattern.now.given.items (everywhere.formal_extras pattern.now.extra.items (everywhere.formal_values pattern.now.values.items (formal_view env.old.items)))) }
+    ensures { OnOk result (formal_view env.new.items ≡ for_all_widths.formal_numbers pattern.now.given.items (for_all_widths.formal_extras pattern.now.extra.items (for_all_widths.formal_values pattern.now.values.items (formal_view env.old.items)))) }
 {
     push_values(alloc, &pattern.values, env)?;
     push_extras(alloc, &pattern.extra, env)?;
@@ -345,7 +345,7 @@ pub(crate) fn formal(
     alloc: Global,
     pattern: &Pattern,
 ) -> Result<Option<Vec<Option<Vec<Term>>>>, AllocError>
-    ensures { IfOk result (λ found. option_map (λ env. formal_view env.items) found ≡ everywhere.formal (pattern_model pattern.now)) }
+    ensures { IfOk result (λ found. option_map (λ env. formal_view env.items) found ≡ for_all_widths.formal (pattern_model pattern.now)) }
 {
     let mut env = Vec::new(alloc);
     push_front(alloc, pattern, &mut env)?;

@@ -2,7 +2,7 @@
 ghost use Rattle.std.specs.Prelude.{◌≡◌, ◌==◌, slice_get};
 ghost use Rattle.std.specs.List.{list_all};
 ghost use Rattle.user_patterns_data.specs.Shapes.{pattern_model};
-ghost use Rattle.user_patterns_widths.specs.AllWidths as everywhere;
+ghost use Rattle.user_patterns_widths.specs.AllWidths as for_all_widths;
 
 use user_patterns_data::pattern::{
     ConstantExpression, ExtraConstant, Literal, NewValue, Pattern, PatternOp, PatternType,
@@ -10,14 +10,14 @@ use user_patterns_data::pattern::{
 
 /// Returns whether the literal has the type.
 fn literal_has(ty: usize, literal: &Literal) -> bool
-    ensures { result ≡ everywhere.literal_has ty literal.now }
+    ensures { result ≡ for_all_widths.literal_has ty literal.now }
 {
     literal.ty == ty
 }
 
 /// Returns whether the extra constant has the type. A second use of a constant has the type of its first.
 fn extra_has(ty: usize, extra: &ExtraConstant) -> bool
-    ensures { result ≡ everywhere.extra_has ty extra.now }
+    ensures { result ≡ for_all_widths.extra_has ty extra.now }
 {
     match extra {
         ExtraConstant::Literal(literal) => literal_has(ty, literal),
@@ -27,7 +27,7 @@ fn extra_has(ty: usize, extra: &ExtraConstant) -> bool
 
 /// Returns whether the number has the type. A number without a type counts as having it.
 fn number_has(ty: usize, number: &ConstantExpression) -> bool
-    ensures { result ≡ everywhere.number_has ty number.now }
+    ensures { result ≡ for_all_widths.number_has ty number.now }
 {
     match number {
         ConstantExpression::Literal(literal) => literal_has(ty, literal),
@@ -40,18 +40,18 @@ fn number_has(ty: usize, number: &ConstantExpression) -> bool
 }
 
 /// Returns whether the operation's result has the type.
-fn piece_has(ty: usize, pattern_op: &PatternOp) -> bool
-    ensures { result ≡ everywhere.piece_has ty pattern_op.now }
+fn pattern_op_has(ty: usize, pattern_op: &PatternOp) -> bool
+    ensures { result ≡ for_all_widths.pattern_op_has ty pattern_op.now }
 {
     pattern_op.ty == ty
 }
 
 /// Returns whether the new value has the type.
 fn new_has(ty: usize, new: &NewValue) -> bool
-    ensures { result ≡ everywhere.new_has ty new.now }
+    ensures { result ≡ for_all_widths.new_has ty new.now }
 {
     match new {
-        NewValue::Operation(pattern_op) => piece_has(ty, pattern_op),
+        NewValue::Operation(pattern_op) => pattern_op_has(ty, pattern_op),
         NewValue::Constant(_, of) => *of == ty,
     }
 }
@@ -65,35 +65,35 @@ fn all_values(ty: usize, values: &[usize]) -> bool
 
 /// Returns whether all extra constants have the type.
 fn all_extra(ty: usize, extra: &[ExtraConstant]) -> bool
-    ensures { result ≡ list_all (everywhere.extra_has ty) extra.now }
+    ensures { result ≡ list_all (for_all_widths.extra_has ty) extra.now }
 {
     extra.iter().all(|extra| extra_has(ty, extra))
 }
 
 /// Returns whether all computed numbers have the type.
 fn all_numbers(ty: usize, numbers: &[ConstantExpression]) -> bool
-    ensures { result ≡ list_all (everywhere.number_has ty) numbers.now }
+    ensures { result ≡ list_all (for_all_widths.number_has ty) numbers.now }
 {
     numbers.iter().all(|number| number_has(ty, number))
 }
 
 /// Returns whether all matched operations have the type.
 fn all_old(ty: usize, old: &[PatternOp]) -> bool
-    ensures { result ≡ list_all (everywhere.piece_has ty) old.now }
+    ensures { result ≡ list_all (for_all_widths.pattern_op_has ty) old.now }
 {
-    old.iter().all(|pattern_op| piece_has(ty, pattern_op))
+    old.iter().all(|pattern_op| pattern_op_has(ty, pattern_op))
 }
 
 /// Returns whether all new values have the type.
 fn all_new(ty: usize, new: &[NewValue]) -> bool
-    ensures { result ≡ list_all (everywhere.new_has ty) new.now }
+    ensures { result ≡ list_all (for_all_widths.new_has ty) new.now }
 {
     new.iter().all(|new| new_has(ty, new))
 }
 
 /// Returns whether all values of the pattern have the type.
 fn has_type(ty: usize, pattern: &Pattern) -> bool
-    ensures { result ≡ everywhere.has_type ty (pattern_model pattern.now) }
+    ensures { result ≡ for_all_widths.has_type ty (pattern_model pattern.now) }
 {
     all_values(ty, &pattern.values)
         && all_extra(ty, &pattern.extra)
@@ -104,7 +104,7 @@ fn has_type(ty: usize, pattern: &Pattern) -> bool
 
 /// Returns whether the type number is that of a type variable.
 fn is_variable(pattern: &Pattern, ty: usize) -> bool
-    ensures { result ≡ everywhere.is_variable (pattern_model pattern.now) (slice_get pattern.now.value_types.items ty) }
+    ensures { result ≡ for_all_widths.is_variable (pattern_model pattern.now) (slice_get pattern.now.value_types.items ty) }
 {
     if ty >= pattern.value_types.len() {
         return false;
@@ -117,7 +117,7 @@ fn is_variable(pattern: &Pattern, ty: usize) -> bool
 
 /// Returns whether all values of the pattern have one type, which is a type variable.
 pub(crate) fn has_one_type(pattern: &Pattern) -> bool
-    ensures { result ≡ everywhere.has_one_type (pattern_model pattern.now) }
+    ensures { result ≡ for_all_widths.has_one_type (pattern_model pattern.now) }
 {
     let [first, ..] = pattern.old.as_slice() else {
         return false;

@@ -20,7 +20,7 @@ use Rattle.width_claims.specs.declared.form.Expr.{Expr}
 use Rattle.width_claims.specs.declared.width.Narrower.{Narrower}
 use Rattle.width_claims.specs.declared.width.Width.{Width}
 use Rattle.width_claims.specs.declared.width.Width.TheVariants as width
-use Rattle.width_claims.specs.PieceValues.{at, piece_values}
+use Rattle.width_claims.specs.PatternOpValues.{at, pattern_op_values}
 use Rattle.width_claims.specs.Emission.{Claim, condition_steps, block_of, claim_masks, claim_numbers, claim_place, claim_places, claim_steps, claim_truths, emitted, mask_places, narrow_numbers, narrow_steps, narrow_truths, type_numbers, type_steps, type_truths}
 use Rattle.width_claims.specs.Right.{ConditionsHold, AreNarrower, Claims, FitWidths, IsBelow, Represents, numbers}
 use Rattle.width_claims.proofs.Emitting.{emits, last, last_truth, longer, old, truths_after}
@@ -283,7 +283,7 @@ claims c all W vs ws h fit narrow right conditions left_in right_in =
     let s = emits W vs ws ms c.exprs [] [] [] nsN tsN n1 t1 first.0 right in
     let nsE = numbers W vs E nsN tsN in
     let tsE = truths W vs E nsN tsN in
-    let env = piece_values ws vs c.exprs [] in
+    let env = pattern_op_values ws vs c.exprs [] in
     let values : (i : ℕ) → i < length env → at nsE (at pl i) ≡ at env i = λ i l. (s.values i l).1 in
     let a = conditions_hold W vs env pl nsE c.conditions tsE s.one_there values conditions in
     let nsA = numbers W vs A nsE tsE in

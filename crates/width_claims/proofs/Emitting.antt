@@ -16,7 +16,7 @@ use Rattle.width_claims.specs.Steps.{numbers_then, truth_at, truths, truths_then
 use Rattle.width_claims.specs.declared.form.Form.{Form}
 use Rattle.width_claims.specs.declared.form.Form.TheVariants as form
 use Rattle.width_claims.specs.declared.form.Expr.{Expr}
-use Rattle.width_claims.specs.PieceValues.{at, piece_values, piece_value}
+use Rattle.width_claims.specs.PatternOpValues.{at, pattern_op_values, pattern_op_value}
 use Rattle.width_claims.specs.Emission.{block_of, emitted, numbers_end, places, truths_end}
 use Rattle.width_claims.specs.Right.{AreRight, Emits, Has, IsBelow, IsRight, Represents, numbers, types}
 
@@ -175,7 +175,7 @@ module _ (W : ℕ) (vs ws ms : List ℕ) where
 
     abbrev DoesForm : ℕ → ℕ → Form → Type 0
     DoesForm w m f =
-        Does ns n (numbers W vs (block_of m ms pl n t f).steps ns ts) (truths W vs (block_of m ms pl n t f).steps ns ts) (block_of m ms pl n t f).result (block_of m ms pl n t f).numbers (block_of m ms pl n t f).truths (piece_value ws vs w f env)
+        Does ns n (numbers W vs (block_of m ms pl n t f).steps ns ts) (truths W vs (block_of m ms pl n t f).steps ns ts) (block_of m ms pl n t f).result (block_of m ms pl n t f).numbers (block_of m ms pl n t f).truths (pattern_op_value ws vs w f env)
 
     module _ (w m : ℕ) (below : IsBelow W w) (inside : m < n) (there : at ns m ≡ mask w) where
       narrow : w ≤ W
@@ -447,7 +447,7 @@ module _ (W : ℕ) (vs ws ms : List ℕ) where
           small false h = pow_pos w
 
       -- and its value is in range of its type
-      low_of : (f : Form) → IsRight W ws tys w f → piece_value ws vs w f env < 2 ^ w
+      low_of : (f : Form) → IsRight W ws tys w f → pattern_op_value ws vs w f env < 2 ^ w
       low_of (form.Value i) r = mod-lt (at vs i) (pow_pos w)
       low_of (form.Literal k) r = bits_below w (literal_number false k)
       low_of (form.Negative k) r = bits_below w (literal_number true k)
@@ -481,7 +481,7 @@ module _ (W : ℕ) (vs ws ms : List ℕ) where
   truths_after (s ∷ ss) rs ns ts = truths_after ss rs (numbers_then W vs s ns ts) (truths_then s ns ts)
 
   emits_all : (ps : List Expr) (env tys pl ns : List ℕ) (ts : List Bool) (n t : ℕ) → Represents W ws ms env tys pl ns ts n t → AreRight W ws ps tys
-      → Represents W ws ms (piece_values ws vs ps env) (types ps tys) (places ms ps pl n t) (numbers W vs (emitted ms ps pl n t) ns ts) (truths W vs (emitted ms ps pl n t) ns ts) (numbers_end ms ps pl n t) (truths_end ms ps pl n t)
+      → Represents W ws ms (pattern_op_values ws vs ps env) (types ps tys) (places ms ps pl n t) (numbers W vs (emitted ms ps pl n t) ns ts) (truths W vs (emitted ms ps pl n t) ns ts) (numbers_end ms ps pl n t) (truths_end ms ps pl n t)
   emits_all [] env tys pl ns ts n t s r = s
   emits_all (p ∷ ps) env tys pl ns ts n t s r =
       let w = at ws p.ty in
@@ -489,15 +489,15 @@ module _ (W : ℕ) (vs ws ms : List ℕ) where
       let mask_there = s.masks p.ty in
       let d = does env tys pl ns ts n t s w (at ms p.ty) r.0 mask_there.0 mask_there.1 p.form r.1 in
       let low = low_of env tys pl ns ts n t s w (at ms p.ty) r.0 mask_there.0 mask_there.1 p.form r.1 in
-      let v = piece_value ws vs w p.form env in
+      let v = pattern_op_value ws vs w p.form env in
       let next = more env tys pl ns (numbers W vs b.steps ns ts) ts (truths W vs b.steps ns ts) n t b.result b.numbers b.truths v p.ty s d low in
       let rest = emits_all ps (env ++ v ∷ []) (tys ++ p.ty ∷ []) (pl ++ b.result ∷ []) (numbers W vs b.steps ns ts) (truths W vs b.steps ns ts) b.numbers b.truths next r.2 in
       let after = emitted ms ps (pl ++ b.result ∷ []) b.numbers b.truths in
       let m = numbers_end ms (p ∷ ps) pl n t in
       let u = truths_end ms (p ∷ ps) pl n t in
-      subst (λ (us : List Bool). Represents W ws ms (piece_values ws vs (p ∷ ps) env) (types (p ∷ ps) tys) (places ms (p ∷ ps) pl n t) (numbers W vs (b.steps ++ after) ns ts) us m u)
+      subst (λ (us : List Bool). Represents W ws ms (pattern_op_values ws vs (p ∷ ps) env) (types (p ∷ ps) tys) (places ms (p ∷ ps) pl n t) (numbers W vs (b.steps ++ after) ns ts) us m u)
       (sym (truths_after b.steps after ns ts))
-      (subst (λ (ks : List ℕ). Represents W ws ms (piece_values ws vs (p ∷ ps) env) (types (p ∷ ps) tys) (places ms (p ∷ ps) pl n t) ks (truths W vs after (numbers W vs b.steps ns ts) (truths W vs b.steps ns ts)) m u)
+      (subst (λ (ks : List ℕ). Represents W ws ms (pattern_op_values ws vs (p ∷ ps) env) (types (p ∷ ps) tys) (places ms (p ∷ ps) pl n t) ks (truths W vs after (numbers W vs b.steps ns ts) (truths W vs b.steps ns ts)) m u)
       (sym (numbers_after b.steps after ns ts)) rest)
 
 pub emits : Emits

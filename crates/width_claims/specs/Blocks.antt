@@ -18,6 +18,6 @@ AreTypes v ks n t old masks new more c =
 abbrev pub AreNarrow : List ℕ → List Narrower → ℕ → ℕ → List Step → List Step → Counts → Type 0
 AreNarrow ms ps n t old new c = (new ≡ old ++ narrow_steps ms ps n t) × (c.numbers ≡ narrow_numbers ps n) × (c.truths ≡ narrow_truths ps t)
 
-abbrev pub ArePieces : List ℕ → List Expr → ℕ → ℕ → List ℕ → List Step → List ℕ → List Step → Counts → Type 0
-ArePieces ms ps n t pl old more new c =
+abbrev pub ArePatternOps : List ℕ → List Expr → ℕ → ℕ → List ℕ → List Step → List ℕ → List Step → Counts → Type 0
+ArePatternOps ms ps n t pl old more new c =
     (new ≡ old ++ emitted ms ps pl n t) × (more ≡ places ms ps pl n t) × (c.numbers ≡ numbers_end ms ps pl n t) × (c.truths ≡ truths_end ms ps pl n t)

@@ -8,7 +8,7 @@ use Rattle.width_claims.specs.declared.form.Expr.{Expr}
 use Rattle.width_claims.specs.declared.width.Narrower.{Narrower}
 use Rattle.width_claims.specs.declared.width.Width.{Width}
 use Rattle.width_claims.specs.declared.width.Width.TheVariants as width
-use Rattle.width_claims.specs.PieceValues.{at}
+use Rattle.width_claims.specs.PatternOpValues.{at}
 
 -- steps, the place of their result, and the counts of numbers and truths after them
 pub record Block : Type 0 where

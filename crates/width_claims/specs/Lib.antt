@@ -1,5 +1,5 @@
 pub mod Masks
-pub mod PieceValues
+pub mod PatternOpValues
 pub mod Emission
 pub mod Right
 pub mod Blocks

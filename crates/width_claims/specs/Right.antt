@@ -6,7 +6,7 @@ use Rattle.width_claims.specs.Masks.{mask}
 use Rattle.width_claims.specs.declared.form.Form.{Form}
 use Rattle.width_claims.specs.declared.form.Form.TheVariants as form
 use Rattle.width_claims.specs.declared.form.Expr.{Expr}
-use Rattle.width_claims.specs.PieceValues.{at, piece_values}
+use Rattle.width_claims.specs.PatternOpValues.{at, pattern_op_values}
 use Rattle.width_claims.specs.Emission.{Claim, claim_place, claim_steps, emitted, numbers_end, places, truths_end}
 use Rattle.width_claims.specs.AllWidths.{IsTrueAtAllWidths}
 use Rattle.width_claims.specs.declared.width.Narrower.{Narrower}
@@ -72,7 +72,7 @@ abbrev pub Emits : Type 0
 Emits =
     (W : ℕ) (vs ws ms : List ℕ) (ps : List Expr) (env tys pl ns : List ℕ) (ts : List Bool) (n t : ℕ)
     → Represents W ws ms env tys pl ns ts n t → AreRight W ws ps tys
-    → Represents W ws ms (piece_values ws vs ps env) (types ps tys) (places ms ps pl n t) (numbers W vs (emitted ms ps pl n t) ns ts) (truths W vs (emitted ms ps pl n t) ns ts)
+    → Represents W ws ms (pattern_op_values ws vs ps env) (types ps tys) (places ms ps pl n t) (numbers W vs (emitted ms ps pl n t) ns ts) (truths W vs (emitted ms ps pl n t) ns ts)
     (numbers_end ms ps pl n t) (truths_end ms ps pl n t)
 
 -- ---- a whole claim
@@ -97,9 +97,9 @@ ConditionsHold env (h ∷ hs) = (h < length env) × (at env h ≡ 1) × Conditio
 -- the two values are equal at all widths that the types may have, for all variables that satisfy the conditions
 abbrev pub IsEqualAtAllWidths : Claim → Type 0
 IsEqualAtAllWidths c =
-    (W : ℕ) (vs ws : List ℕ) → 1 ≤ W → FitWidths W vs c.first_mask c.types ws → AreNarrower ws c.narrower → AreRight W ws c.exprs [] → ConditionsHold (piece_values ws vs c.exprs []) c.conditions
-    → c.left < length (piece_values ws vs c.exprs []) → c.right < length (piece_values ws vs c.exprs [])
-    → at (piece_values ws vs c.exprs []) c.left ≡ at (piece_values ws vs c.exprs []) c.right
+    (W : ℕ) (vs ws : List ℕ) → 1 ≤ W → FitWidths W vs c.first_mask c.types ws → AreNarrower ws c.narrower → AreRight W ws c.exprs [] → ConditionsHold (pattern_op_values ws vs c.exprs []) c.conditions
+    → c.left < length (pattern_op_values ws vs c.exprs []) → c.right < length (pattern_op_values ws vs c.exprs [])
+    → at (pattern_op_values ws vs c.exprs []) c.left ≡ at (pattern_op_values ws vs c.exprs []) c.right
 
 -- a decision about the steps holds of the values
 abbrev pub Claims : Type 0

@@ -1,6 +1,6 @@
 //! The steps of one form.
 ghost use Rattle.std.specs.Prelude.{◌≡◌, ◌≤◌, IfOk};
-ghost use Rattle.width_claims.specs.PieceValues.{at};
+ghost use Rattle.width_claims.specs.PatternOpValues.{at};
 ghost use Rattle.width_claims.specs.Emission.{block, block_of};
 ghost use Rattle.width_claims.specs.Blocks.{IsBlock};
 

@@ -5,7 +5,7 @@ ghost use Rattle.width_claims.specs.Claimed.{IsClaim, IsEqualDecided};
 
 use crate::all_widths::decide_all_widths;
 use crate::block::at;
-use crate::emit::{emit_conditions, emit_narrower, emit_pieces, emit_types};
+use crate::emit::{emit_conditions, emit_narrower, emit_pattern_ops, emit_types};
 use crate::form::Expr;
 use crate::step::Step;
 use crate::verdict::Verdict;
@@ -44,7 +44,7 @@ fn emit_claim(
         return Ok(None);
     };
     let mut places = Vec::new(alloc);
-    let piece_values = emit_pieces(
+    let pattern_op_values = emit_pattern_ops(
         masks.as_slice(),
         exprs,
         &mut places,
@@ -52,13 +52,13 @@ fn emit_claim(
         ordered.numbers,
         ordered.truths,
     )?;
-    let Some(piece_values) = piece_values else {
+    let Some(pattern_op_values) = pattern_op_values else {
         return Ok(None);
     };
     emit_conditions(places.as_slice(), conditions, steps)?;
     let last = Step::Equal(at(places.as_slice(), left), at(places.as_slice(), right));
     steps.push(last)?;
-    Ok(piece_values.truths.checked_add(conditions.len()))
+    Ok(pattern_op_values.truths.checked_add(conditions.len()))
 }
 
 /// Decides whether two values are equal at all widths that the types may have, for all variables for which the

@@ -1,7 +1,7 @@
 //! The steps of a claim.
 ghost use Rattle.std.specs.Prelude.{◌≡◌, ◌++◌, IfOk, IfSome, OnOk};
 ghost use Rattle.width_claims.specs.Emission.{condition_steps};
-ghost use Rattle.width_claims.specs.Blocks.{AreNarrow, ArePieces, AreTypes};
+ghost use Rattle.width_claims.specs.Blocks.{AreNarrow, ArePatternOps, AreTypes};
 
 use crate::block::{at, block};
 use crate::form::Expr;
@@ -87,7 +87,7 @@ pub fn emit_narrower(
 }
 
 /// Appends the steps of expressions, and the places of their numbers.
-pub fn emit_pieces(
+pub fn emit_pattern_ops(
     masks: &[usize],
     exprs: &[Expr],
     places: &mut Vec<usize>,
@@ -95,7 +95,7 @@ pub fn emit_pieces(
     n: usize,
     t: usize,
 ) -> Result<Option<Counts>, AllocError>
-    ensures { IfOk result (λ c. IfSome c (ArePieces masks.now exprs.now n t places.old.items steps.old.items places.new.items steps.new.items)) }
+    ensures { IfOk result (λ c. IfSome c (ArePatternOps masks.now exprs.now n t places.old.items steps.old.items places.new.items steps.new.items)) }
 {
     if n > MOST || t > MOST {
         return Ok(None);
@@ -116,7 +116,7 @@ pub fn emit_pieces(
         steps,
     )?;
     places.push(ends.result)?;
-    emit_pieces(masks, tail, places, steps, ends.numbers, ends.truths)
+    emit_pattern_ops(masks, tail, places, steps, ends.numbers, ends.truths)
 }
 
 /// Appends the assumptions that values are 1.

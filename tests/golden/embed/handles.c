@@ -305,7 +305,7 @@ static int patterns(void) {
   WANT(answer.outcome == MLIR_WORK_FAILS && answer.number == 32 && answer.shown);
   answer = said(&session, "check half width 0");
   WANT(answer.outcome == MLIR_WORK_REFUSED && answer.refusal == MLIR_WORK_BAD_LIMIT);
-  WANT(said(&session, "pattern never arith.addi(%a, 300) => %a").outcome == MLIR_WORK_OK);
+  WANT(said(&session, "pattern never arith.addi(%a, c) => %a where ult(c, 5), ugt(c, 9)").outcome == MLIR_WORK_OK);
   answer = said(&session, "check never");
   WANT(answer.outcome == MLIR_WORK_EMPTY && answer.number == 8);
   WANT(said(&session, "patterns").shown > 0 && said(&other, "patterns").shown == 0);

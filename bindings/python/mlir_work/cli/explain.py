@@ -8,7 +8,7 @@ import re
 import sys
 
 from ..script import BLANKS, DIVIDER, counted, joined
-from . import generic, messages, mistakes, program
+from . import messages, mistakes, nesting, program
 from .forms import looks
 from .listing import MADE, listed
 
@@ -31,7 +31,8 @@ def like_dividers(name, module):
 
 
 def module_refused(name, module, refused):
-    """Returns the lines that say why a module is refused."""
+    """Returns the lines that say why a module is refused. Places in a nested module are those in its source."""
+    module, refused = nesting.in_source(module, refused)
     return text_refused(name, module, refused) + like_dividers(name, module)
 
 
@@ -83,16 +84,23 @@ def commands_refused(name, parts, first, replies, kept=()):
     return out
 
 
+def said_on_the_side(lines):
+    """Prints messages to standard error."""
+    print(*lines, sep="\n", end="\n" * bool(lines), file=sys.stderr)
+
+
 def explained(names):
     """Runs the files. Returns the status, and the lines that explain what was refused. If the module has an unsupported
     construct, such as a custom form, mlir-opt converts it first."""
     module, script, first = program.inputs(names)
-    done = program.ran(joined(module, script), *program.explaining())
-    if done.refused and done.refused.number == LEFT_OUT:
-        made, said = generic.tried(names[0], module)
-        print(*said, sep="\n", end="\n" * bool(said), file=sys.stderr)
-        if made is not None:
-            module, done = made, program.ran(joined(made, script), *program.explaining())
+    runs = []
+
+    def attempt(text):
+        runs.append(program.ran(joined(text, script), *program.explaining()))
+        return runs[-1].refused
+
+    module = nesting.read(names[0], module, attempt, said_on_the_side, lambda refused: refused.number == LEFT_OUT)
+    done = runs[-1]
     if done.refused:
         return done.status, module_refused(names[0], module, done.refused)
     return done.status, commands_refused(names[-1], (module, script), first, done.replies())
@@ -105,6 +113,7 @@ def arguments(parser):
     parser.add_argument("script", metavar="SCRIPT", nargs="?",
                         help="a file with a script; without it, the script is in MODULE, after a line `// -----`")
     program.arguments(parser)
+    program.blocks_argument(parser)
 
 
 def run(given):

@@ -20,10 +20,11 @@ COMMANDS = {
 }
 STATUS = """exit status: 0 if nothing was refused, 1 if a command was refused, 2 if the command line or a file of
 patterns is wrong, 3 if the module was refused, 4 if a read or a write failed, 130 after Ctrl-C. `mlir-work FILE` is
-short for `mlir-work open FILE`. --opaque, --patterns FILE and --split-input-file may also be before the command.
+short for `mlir-work open FILE`. --opaque, --blocks, --patterns FILE and --split-input-file may also be before the
+command.
 mlir-opt, if it is installed, converts each module that isn't in generic form."""
 # Options that may be before a command, and whether they take a word.
-GLOBAL = {program.OPAQUE: False, program.PATTERNS: True, program.SPLIT: False}
+GLOBAL = {program.OPAQUE: False, program.BLOCKS: False, program.PATTERNS: True, program.SPLIT: False}
 
 
 class Version(argparse.Action):
@@ -45,7 +46,8 @@ def parser():
                                epilog=getattr(part, "EPILOG", None))
         part.arguments(own)
         own.set_defaults(run=part.run)
-    parts.add_parser(RUN, help="run a script over a module, as `mlir_work` does (`mlir-work run --help`)",
+    parts.add_parser(RUN, help="run a script over a module, as `mlir_work` does (`mlir-work run --help`), also "
+                                "with --blocks",
                      add_help=False)
     return whole
 
@@ -125,7 +127,8 @@ def main(words):
         if words[0] == RUN:
             return run.main(words[1:])
         given = parser().parse_args(words)
-        program.ask(getattr(given, "opaque", False), getattr(given, "patterns", ()))
+        program.ask(getattr(given, "opaque", False), getattr(given, "patterns", ()),
+                    getattr(given, "reads_blocks", False))
         return over_parts(given) if getattr(given, "is_split", False) else given.run(given)
     except BrokenPipeError:
         os.dup2(os.open(os.devnull, os.O_WRONLY), sys.stdout.fileno())

@@ -1,7 +1,7 @@
 """Says of a refusal what was found, what was expected, and what to do.
 
-The sentences on texts are those of the program (docs/commands.json has them from its code), and those on commands are
-below. docs/REFUSALS.md has the rest."""
+The sentences on texts are those of the program: docs/commands.json has those on modules from its code, and a reply has
+the one on a pattern. Those on commands are below. docs/REFUSALS.md has the rest."""
 import functools
 import re
 
@@ -16,6 +16,8 @@ FLOATS = re.compile(r"f32|f64|f16|bf16|tf32|f80|f128|(?:f8E|f6E|f4E).*")
 CAUSES = {"loc": "location", "tensor": "tensor-type", "vector": "vector-type", "complex": "other-type",
           "tuple": "other-type", "none": "other-type", "dense": "dense", "dense_resource": "dense", "sparse": "dense",
           "affine_map": "affine", "affine_set": "affine", "module": "pretty-form"}
+# A byte of a string, in two hexadecimal digits.
+ESCAPE = re.compile(r"\\([0-9A-Fa-f]{2})")
 # A link of a page.
 LINK = re.compile(r" *\(?\[[^]]*\]\([^)]*\)\)?")
 # The largest number of a refusal of a text.
@@ -43,7 +45,7 @@ def general(number):
 
 @functools.lru_cache(maxsize=None)
 def sentences(of):
-    """Returns the sentences of the program on modules, constructs or patterns, by their words."""
+    """Returns the sentences of the program on modules or constructs, by their words."""
     return {row["word"]: row["about"] for row in table.rows("messages") if row["of"] == of}
 
 
@@ -90,11 +92,11 @@ def of_module(text, at, number, word):
     return f"{found(text, at)}, {those.get(word, those[''])}"
 
 
-def of_pattern(text, at, word):
-    """Returns why a pattern is refused at a byte."""
-    those = sentences("pattern")
-    says = those["->"] if token_at(text, at) == "->" else those.get(word, those[""])
-    return f"{found(text, at)}, {says}"
+def of_pattern(number, about):
+    """Returns why a pattern is refused: the sentence of the reply, or what is said of the number if there is none."""
+    if not about or not about[0].startswith('"'):
+        return general(number)
+    return ESCAPE.sub(lambda it: chr(int(it[1], 16)), about[0][1:-1])
 
 
 def named(those):

@@ -49,12 +49,11 @@ def hint(number, line, column):
     return ""
 
 
-def of_text(it, line, column):
-    """Returns why the text of a command is refused at a byte of its line. A pattern has sentences of its own."""
-    text = line.encode("latin-1").rstrip(b" \t\r")
+def of_text(it, about, line, column):
+    """Returns why the text of a command is refused at a byte of its line. The reply says it of a pattern."""
     if first_word(line)[0] == "pattern":
-        return messages.of_pattern(text, column, it.word)
-    return messages.of_module(text, column, it.number, it.word)
+        return messages.of_pattern(it.number, about)
+    return messages.of_module(line.encode("latin-1").rstrip(b" \t\r"), column, it.number, it.word)
 
 
 def unfit(line, title):
@@ -75,7 +74,7 @@ def explained(reply, line, own=()):
         return unfit(line, title)
     column = None if it.at is None else text_begins(line) + it.at
     if column is not None and it.number <= messages.LAST_OF_TEXT:
-        why = of_text(it, line, column)
+        why = of_text(it, reply.about, line, column)
     else:
         why = messages.of_command(it.number, line.split(), reply.about)
     if it.number == 26:

@@ -10,7 +10,7 @@ import pathlib
 import re
 import sys
 
-from . import explain, generic, pages, program, replay
+from . import explain, nesting, pages, program, replay
 from .changes import in_order
 from .data import WEB
 from .forms import kinds
@@ -160,14 +160,16 @@ def written(data):
 
 def made(names, most):
     """Returns the page of a module and a script, and no lines; or None, and the lines that say why the module is
-    refused. A refused module is first converted to generic form, if mlir-opt reads it."""
+    refused. A refused module is first converted to generic form, if mlir-opt reads it, or nested."""
     module, script, _ = program.inputs(names)
-    steps, refused = replay.read(module, script, most)
-    if refused:
-        other, said = generic.tried(names[0], module)
-        print(*said, sep="\n", end="\n" * bool(said), file=sys.stderr)
-        module = module if other is None else other
-        steps, refused = replay.read(module, script, most)
+    reads = []
+
+    def attempt(text):
+        reads.append(replay.read(text, script, most))
+        return reads[-1][1]
+
+    module = nesting.read(names[0], module, attempt, explain.said_on_the_side)
+    steps, refused = reads[-1]
     if refused:
         return None, explain.module_refused(names[0], module, refused)
     replay.fill(module, steps)

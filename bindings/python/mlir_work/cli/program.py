@@ -11,8 +11,12 @@ from ..reply import Transcript, decoded
 from ..script import has_divider, joined, parted, patterns_in
 
 OPAQUE, PATTERNS, EXPLAIN, SPLIT = "--opaque", "--patterns", "--explain", "--split-input-file"
+# An option of the command line alone: the program gets modules with several blocks in a region in nested form.
+BLOCKS = "--blocks"
 # Options from the command line, which each run of the program gets.
 ASKED = []
+# Whether --blocks is on the command line: it has one member, or none.
+READS_BLOCKS = []
 # With --split-input-file, the module that a command reads in place of the file of this name.
 PART = {}
 # The status of a command that Ctrl-C ended, as in shells.
@@ -71,15 +75,23 @@ def arguments(parser):
     split_argument(parser)
 
 
+def blocks_argument(parser):
+    """Adds the option that reads regions with several blocks."""
+    parser.add_argument(BLOCKS, dest="reads_blocks", action="store_true",
+                        help="read regions with several blocks, as nested scopes, and print them as blocks (tested, "
+                             "not proved)")
+
+
 def split_argument(parser):
     """Adds the option that runs a command over each module of a file."""
     parser.add_argument(SPLIT, dest="is_split", action="store_true",
                         help="run the command over each module of the file between lines `// -----`")
 
 
-def ask(is_opaque, files=()):
-    """Sets the options of all further runs: opaque terms, and files of patterns. Raises `Fault` if the program lacks an
-    option, and `Wrong` if it refuses a pattern."""
+def ask(is_opaque, files=(), reads_blocks=False):
+    """Sets the options of all further runs: opaque terms, files of patterns, and several blocks. Raises `Fault` if the
+    program lacks an option, and `Wrong` if it refuses a pattern."""
+    READS_BLOCKS[:] = [BLOCKS] * reads_blocks
     ASKED[:] = [OPAQUE] * is_opaque + [word for file in files for word in (PATTERNS, file)]
     for option, is_asked in ((OPAQUE, is_opaque), (PATTERNS, files)):
         if is_asked and not has_option(option):

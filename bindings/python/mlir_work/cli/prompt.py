@@ -5,7 +5,7 @@ import re
 import sys
 import time
 
-from . import explain, generic, kept, program
+from . import explain, kept, nesting, program
 from .completion import Completion
 from .screen import Screen
 from .session import Session
@@ -163,17 +163,17 @@ class Prompt(cmd.Cmd):
 
 
 def begun(name, module, script, screen):
-    """Returns a session on a module, and the output of its script. A refused module is converted to generic form and
-    tried again. If that is refused too, the session's `seen` is None."""
-    session = Session(module)
-    run = session.begin(script)
-    if session.seen is None:
-        made, said = generic.tried(name, module)
-        screen.say(said)
-        if made is not None:
-            session = Session(made)
-            run = session.begin(script)
-    return session, run
+    """Returns a session on a module, and the output of its script. A refused module is converted to generic form, or
+    nested, and tried again. If that is refused too, the session's `seen` is None."""
+    tried = []
+
+    def attempt(text):
+        session = Session(text)
+        tried[:] = [session, session.begin(script)]
+        return tried[1].refused if session.seen is None else None
+
+    nesting.read(name, module, attempt, screen.say)
+    return tuple(tried)
 
 
 def left_script(script):
@@ -204,7 +204,7 @@ def opened(given, screen):
     if session.seen is None:
         print(*explain.module_refused(given.module, session.module, done.refused), sep="\n", file=sys.stderr)
         return done.status, script
-    screen.say(done.lines)
+    screen.say(session.shown(done.lines))
     screen.say(explain.commands_refused(names[-1], (session.module, typed), first, done.replies()))
     if taken:
         session.start = []
@@ -222,6 +222,7 @@ def arguments(parser):
     parser.add_argument("--color", choices=["auto", "always", "never"], default="auto",
                         help="whether to colour the output [default: auto, on a terminal without NO_COLOR]")
     program.arguments(parser)
+    program.blocks_argument(parser)
 
 
 def run(given):

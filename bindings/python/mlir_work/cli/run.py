@@ -1,5 +1,6 @@
 """Runs the program for scripts, `mlir_work`, with its own options: `mlir-work run --help` lists them. If the module
-isn't in generic form, mlir-opt converts it first."""
+isn't in generic form, mlir-opt converts it first. With `--blocks`, modules whose regions have several blocks are nested
+first, and printed with blocks (run_blocks.py)."""
 import os
 import re
 import subprocess
@@ -7,7 +8,7 @@ import sys
 import tempfile
 
 from ..script import DIVIDER
-from . import generic, program, table
+from . import generic, program, run_blocks, table
 
 # Options with which the program doesn't read standard input as a whole.
 NO_INPUT = {"-h", "--help", "-V", "--version", "--interactive"}
@@ -77,8 +78,23 @@ def standard_input(words):
     return text if made is None else made
 
 
+def with_blocks(words):
+    """Runs the program with `--blocks`, and returns the status."""
+    words = [word for word in words if word != program.BLOCKS]
+    place = place_of_module(words)
+    name = "-" if place is None else words[place]
+    text = program.read(name)
+    made = converted(name, text, program.SPLIT in words)
+    rest = words if place is None else [*words[:place], *words[place + 1:]]
+    return run_blocks.main(name, text if made is None else made, rest)
+
+
 def main(words):
     """Runs the program with some arguments, and returns its status. Its messages name the module's own file."""
+    if program.BLOCKS in words:
+        if not NO_INPUT & set(words) - {"--interactive"}:
+            return with_blocks(words)
+        words = [word for word in words if word != program.BLOCKS]
     command, place = program.started(), place_of_module(words)
     if place is None or words[place] == "-":
         it = subprocess.run([*command.words, *words], env=command.environment, check=False,

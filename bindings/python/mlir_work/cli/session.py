@@ -6,12 +6,14 @@ import itertools
 import re
 import textwrap
 
-from ..reply import Transcript
+from ..blocks import Nested, flatten, is_nested
+from ..errors import FormBroken
+from ..reply import Transcript, lines_of
 from ..script import is_counted, joined
-from . import explain, forms, generic, mistakes, pages, program, ways, words
+from . import explain, forms, generic, mistakes, nesting, pages, program, ways, words
 from .changes import Changes
 from .kept import put
-from .listing import MADE
+from .listing import COMMAND, MADE
 
 WIDTH = 100
 # Commands that edit operations which they don't name. Their answer ends with the difference, up to MOST_DIFF lines. A
@@ -176,8 +178,29 @@ class Session:
         reply, below = self.rewritten(line) if has_diff else self.run(line)
         if reply.is_refused:
             return [*self.refused(reply, line.encode("utf-8", "surrogateescape")), *below]
+        try:
+            below = self.printed() if line == "print" and isinstance(self.module, Nested) else below
+        except FormBroken as fault:
+            return self.no(str(fault))
         self.add(Entry(line, word not in forms.looks()))
         return [reply.text, *below]
+
+    # Modules that were nested.
+
+    def shown(self, lines):
+        """Returns the lines of an output, with blocks in modules that `print` shows, if the module was nested."""
+        if not isinstance(self.module, Nested):
+            return lines
+        found, faults = nesting.flattened(lines)
+        return [*found, *(line for fault in faults for line in self.no(str(fault)))]
+
+    def printed(self):
+        """Returns the lines of the module, with blocks if it was nested. Raises FormBroken if it can't be printed."""
+        if isinstance(self.module, Nested):
+            text = self.way.answer(self.kept(), COMMAND).shown
+            if is_nested(text):
+                return lines_of(flatten(text, True))
+        return self.way.answer(self.kept(), "print").lines
 
     def refused(self, reply, line):
         """Returns why a line is refused, and the line of the operation that its reply names."""
@@ -305,11 +328,16 @@ class Session:
         self.undone = []
         self.take(script, replies)
         self.refusals += bool(told)
-        return [*(line for number, it in enumerate(replies, 1) for line in (f"{number} {it.brief}", *it.lines)), *told]
+        said = [line for number, it in enumerate(replies, 1) for line in (f"{number} {it.brief}", *it.lines)]
+        return [*self.shown(said), *told]
 
     def write(self, name, pretty):
         """Writes the module into a file."""
-        text = self.way.answer(self.kept(), "print").shown.encode("utf-8", "surrogateescape")
+        try:
+            lines = self.printed()
+        except FormBroken as fault:
+            return self.no(str(fault))
+        text = "".join(line + "\n" for line in lines).encode("utf-8", "surrogateescape")
         if pretty:
             try:
                 text = generic.pretty(text)

@@ -19,4 +19,4 @@ returns-clause-answers g c =
     answered (rewrite_of c.args.rule (module_held c.args.bench.now.transaction) c.args.op) c.args.op c.args.bench.now c.apply-applied.new.bench c.apply-applied.result here c.apply-applied.ensures.ok c.apply-applied.ensures.err c.apply-applied.ensures.refused
 
 pub returns-clause-leads : goal.returns-clause-leads
-returns-clause-leads g c = leads_applied g.L.Analysis.meaning c.apply-applied.result c.args.bench.now c.apply-applied.new.bench c.is_formed.ensures.context.holds c.apply-applied.ensures.stays c.apply-applied.ensures.journal
+returns-clause-leads g c = leads_applied g.L.Analysis.meaning c.apply-applied.result c.args.bench.now c.apply-applied.new.bench c.is_wellformed.ensures.context.holds c.apply-applied.ensures.stays c.apply-applied.ensures.journal

@@ -21,10 +21,10 @@ returns-in-Ok-clause-answers g c =
     made_so (carried_out (edits_meaning c.args.bench.now.transaction.ctx c.args.edits.now) (module_held c.args.bench.now.transaction)) c.args.bench.now c.apply_edits-carried.new.bench (unlimited (edits_meaning c.args.bench.now.transaction.ctx c.args.edits.now) (module_held c.args.bench.now.transaction) 1 c.requires.one due) c.in-Ok.ensures.ok
 
 pub returns-in-Ok-clause-leads : goal.returns-in-Ok-clause-leads
-returns-in-Ok-clause-leads g c = leads_along g.L.Analysis.meaning c.apply_edits-carried.result c.args.bench.now c.apply_edits-carried.new.bench c.is_formed.ensures.context.holds c.apply_edits-carried.ensures.along c.apply_edits-carried.ensures.journal
+returns-in-Ok-clause-leads g c = leads_along g.L.Analysis.meaning c.apply_edits-carried.result c.args.bench.now c.apply_edits-carried.new.bench c.is_wellformed.ensures.context.holds c.apply_edits-carried.ensures.along c.apply_edits-carried.ensures.journal
 
 pub returns-in-Err-clause-answers : goal.returns-in-Err-clause-answers
 returns-in-Err-clause-answers g c = (wanted (carried_out (edits_meaning c.args.bench.now.transaction.ctx c.args.edits.now) (module_held c.args.bench.now.transaction)) c.apply_edits-carried.new.bench.transaction.ctx _ (inl refl), c.in-Err.ensures.err)
 
 pub returns-in-Err-clause-leads : goal.returns-in-Err-clause-leads
-returns-in-Err-clause-leads g c = leads_along g.L.Analysis.meaning c.apply_edits-carried.result c.args.bench.now c.apply_edits-carried.new.bench c.is_formed.ensures.context.holds c.apply_edits-carried.ensures.along c.apply_edits-carried.ensures.journal
+returns-in-Err-clause-leads g c = leads_along g.L.Analysis.meaning c.apply_edits-carried.result c.args.bench.now c.apply_edits-carried.new.bench c.is_wellformed.ensures.context.holds c.apply_edits-carried.ensures.along c.apply_edits-carried.ensures.journal

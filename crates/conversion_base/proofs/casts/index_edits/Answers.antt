@@ -27,9 +27,9 @@ returns-clause-edits c =
     let ctx = c.args.world.now.ctx in
     let m = c.args.world.now.store.module_of in
     let ends = c.in-Some-ends_of.ends in
-    let front = insertion_point c.args.op c.in-Some-place.place in
+    let insertion = insertion_point c.args.op c.in-Some-place.place in
     let next : c.new-next.result ≡ m.next = c.new-next.ensures ∙ c.next_id.ensures in
-    ap Some (ap (edits_meaning ctx) (c.in_ok-edits.ensures ∙ ap (λ (k : ℕ). cast_edits front k c.args.op ends.operand ends.ty) next) ∙ cast_meant ctx c.sound.ensures front m.next c.args.op ends.operand ends.ty)
+    ap Some (ap (edits_meaning ctx) (c.in_ok-edits.ensures ∙ ap (λ (k : ℕ). cast_edits insertion k c.args.op ends.operand ends.ty) next) ∙ cast_meant ctx c.sound.ensures insertion m.next c.args.op ends.operand ends.ty)
     ∙ some_taken ctx m.tree m.next c.args.op c.in-Some.node c.in-Some.ensures.node c.in-Some-place.place c.in-Some-place.ensures ends c.in-Some-ends_of.ensures.ends
     c.takes_index.result c.takes_index.ensures c.if-not-takes_index.false
 
@@ -37,5 +37,5 @@ pub returns-clause-fit : goal.returns-clause-fit
 returns-clause-fit c =
     let ctx = c.args.world.now.ctx in
     let ends = c.in-Some-ends_of.ends in
-    let front = insertion_point c.args.op c.in-Some-place.place in
-    subst (AllFit ctx) (sym c.in_ok-edits.ensures) (cast_fits ctx c.sound.ensures front c.new-next.result c.args.op ends.operand ends.ty (c.in-Some-ends_of.ensures.of ctx c.in-Some.ensures.of))
+    let insertion = insertion_point c.args.op c.in-Some-place.place in
+    subst (AllFit ctx) (sym c.in_ok-edits.ensures) (cast_fits ctx c.sound.ensures insertion c.new-next.result c.args.op ends.operand ends.ty (c.in-Some-ends_of.ensures.of ctx c.in-Some.ensures.of))

@@ -15,4 +15,4 @@ returns c =
     let t = w.store.module_of.tree in
     let past = c.results-test.false in
     sym (unused_meant w.ctx c.args.op t
-    ∙ none_used (isolated_in w.ctx) c.args.op t w.formed.distinct w.formed.formed.visible (λ k h. let few = c.result_count-count.ensures k h in c.results.invariant k (omega (arith, few, past))))
+    ∙ none_used (isolated_in w.ctx) c.args.op t w.wellformed.distinct w.wellformed.wellformed.visible (λ k h. let few = c.result_count-count.ensures k h in c.results.invariant k (omega (arith, few, past))))

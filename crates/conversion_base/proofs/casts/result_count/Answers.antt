@@ -5,6 +5,6 @@ use Rattle.conversion_base.proofs.casts.result_count.Goals as goal
 
 pub overflow_cast-result : goal.overflow_cast-result
 overflow_cast-result c =
-    let few = (few_shown (isolated_in c.args.world.now.ctx) c.args.op c.args.world.now.store.module_of.tree c.args.world.now.formed.formed c.in-Some.node c.in-Some.ensures.node).1 in
+    let few = (few_shown (isolated_in c.args.world.now.ctx) c.args.op c.args.world.now.store.module_of.tree c.args.world.now.wellformed.wellformed c.in-Some.node c.in-Some.ensures.node).1 in
     let same = ap length c.results.ensures in
     omega (arith, few, same)

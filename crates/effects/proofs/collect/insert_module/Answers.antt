@@ -10,5 +10,5 @@ pub returns : goal.returns
 returns c =
     let w = c.args.world.now in
     on_true_more c.insert_all.result _ _
-    (λ p. subst (λ l. PutAll l (row_at c.args.rows.now) (row_at c.insert_all.new.rows)) (points_found (own_by w.ctx) w.store c.deref.result.now w.formed.distinct (c.deref.ensures.value ∙ c.in-Ok.ensures.listed)) p)
+    (λ p. subst (λ l. PutAll l (row_at c.args.rows.now) (row_at c.insert_all.new.rows)) (points_found (own_by w.ctx) w.store c.deref.result.now w.wellformed.distinct (c.deref.ensures.value ∙ c.in-Ok.ensures.listed)) p)
     c.insert_all.ensures

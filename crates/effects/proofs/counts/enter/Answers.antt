@@ -4,7 +4,7 @@ use Rattle.listeners_support.specs.Map as idmap
 use Rattle.effects.specs.Counts.{counts_in}
 use Rattle.effects.specs.Marks.{is_zero}
 use Rattle.effects.proofs.Changes.{on_true_is}
-use Rattle.effects.proofs.Marked.{marked, roomy, same_marks, more_room}
+use Rattle.effects.proofs.Marked.{marked, roomy, same_marks, more_headroom}
 use Rattle.effects.proofs.counts.enter.Goals as goal
 
 pub invariant_of-counts-2 : goal.invariant_of-counts-2
@@ -17,9 +17,9 @@ invariant_of-counts-2 c =
     let set = c.args.counts.now.unused in
     let mid = c.reserve.new.self in
     let new = c.mark.new.unused in
-    let wide : length mid ≤ length new = omega (arith, c.mark.ensures.room) in
+    let wide : length mid ≤ length new = omega (arith, c.mark.ensures.headroom) in
     let here : c.args.op < 64 * length mid = search rules in
     record {
       marked = marked f g mid new c.args.op n is is_zero (same_marks is_zero f set mid c.args.counts.now.marked c.reserve.ensures.same) c.mark.ensures.has;
-      room = roomy f g mid new c.args.op n is (more_room f set mid c.args.counts.now.room c.reserve.ensures.grows) wide (λ h. omega (arith, here, wide));
+      headroom = roomy f g mid new c.args.op n is (more_headroom f set mid c.args.counts.now.headroom c.reserve.ensures.grows) wide (λ h. omega (arith, here, wide));
     }

@@ -15,7 +15,7 @@ mark-requires c =
     let done : c.write.result ≡ true = search rules in
     let some : IsSome (counts_in c.args.counts.now c.args.op) =
     subst (λ x. is_some (counts_in c.args.counts.now x) ≡ true) c.number.ensures (sym c.write.ensures.had ∙ done) in
-    ltb-true _ _ (c.args.counts.now.room c.args.op some)
+    ltb-true _ _ (c.args.counts.now.headroom c.args.op some)
 
 pub invariant_of-counts : goal.invariant_of-counts
 invariant_of-counts c =
@@ -25,11 +25,11 @@ invariant_of-counts c =
     let some : IsSome (f c.args.op) = subst (λ x. is_some (f x) ≡ true) c.number.ensures (sym c.write.ensures.had ∙ done) in
     let is : (y : ℕ) → g y ≡ with_count c.args.op (Some c.args.count) f y =
     λ y. on_true_is c.write.result _ done c.write.ensures.updates y ∙ ap (λ x. cond (is_at (nat_cmp x) y) (Some c.args.count) (f y)) c.number.ensures ∙ ap (λ b. cond b (Some c.args.count) (f y)) (same_test c.args.op y) in
-    let room = ltb-true _ _ (c.args.counts.now.room c.args.op some) in
+    let headroom = ltb-true _ _ (c.args.counts.now.headroom c.args.op some) in
     let set = c.args.counts.now.unused in
     let new = c.mark.new.unused in
-    let wide : length set ≤ length new = omega (arith, c.mark.ensures.room) in
+    let wide : length set ≤ length new = omega (arith, c.mark.ensures.headroom) in
     record {
       marked = marked f g set new c.args.op (Some c.args.count) is is_zero c.args.counts.now.marked c.mark.ensures.has;
-      room = roomy f g set new c.args.op (Some c.args.count) is c.args.counts.now.room wide (λ h. omega (arith, room, wide));
+      headroom = roomy f g set new c.args.op (Some c.args.count) is c.args.counts.now.headroom wide (λ h. omega (arith, headroom, wide));
     }

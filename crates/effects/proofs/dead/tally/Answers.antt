@@ -13,9 +13,9 @@ returns c vacant =
     let a = counts_in c.args.counts.now in
     let m = counts_in c.enter_all.new.counts in
     let yes : c.enter_all.result ≡ true = search rules in
-    let first = heads_found w.store c.deref.result.now w.formed.distinct (c.deref.ensures.value ∙ c.in-Ok.ensures.listed) in
-    let then = heads_found w.store c.deref-2.result.now w.formed.distinct (c.deref-2.ensures.value ∙ c.in-Ok.ensures.listed) in
+    let first = heads_found w.store c.deref.result.now w.wellformed.distinct (c.deref.ensures.value ∙ c.in-Ok.ensures.listed) in
+    let then = heads_found w.store c.deref-2.result.now w.wellformed.distinct (c.deref-2.ensures.value ∙ c.in-Ok.ensures.listed) in
     let entered = subst (λ z. AllEntered (kept_by w.ctx) z a m) first (on_true_is c.enter_all.result _ yes c.enter_all.ensures) in
     on_true_more c.raise_each.result _ _
-    (λ raised. begun_counts w.ctx t a m (counts_in c.raise_each.new.counts) w.formed.distinct vacant entered (subst (λ z. Raised (all_operands z) m (counts_in c.raise_each.new.counts)) then raised))
+    (λ raised. begun_counts w.ctx t a m (counts_in c.raise_each.new.counts) w.wellformed.distinct vacant entered (subst (λ z. Raised (all_operands z) m (counts_in c.raise_each.new.counts)) then raised))
     c.raise_each.ensures

@@ -12,7 +12,7 @@ is_idle-regions-init t c =
 
 pub is_idle-is_list_idle-requires : goal.is_idle-is_list_idle-requires
 is_idle-is_list_idle-requires t c =
-    let less = list_falls (own_by c.args.world.now.ctx) c.args.op c.args.world.now.store.module_of.tree c.args.world.now.formed.distinct (λ o. own_by c.args.world.now.ctx (head o).name) c.in-Some.own c.regions.region c.in-Some.ensures.own in
+    let less = list_falls (own_by c.args.world.now.ctx) c.args.op c.args.world.now.store.module_of.tree c.args.world.now.wellformed.distinct (λ o. own_by c.args.world.now.ctx (head o).name) c.in-Some.own c.regions.region c.in-Some.ensures.own in
     (omega (arith, c.decreases, less), tt)
 
 pub is_idle-returns-then-not-is_list_idle : goal.is_idle-returns-then-not-is_list_idle
@@ -30,21 +30,21 @@ is_idle-returns t c =
     sym (regions_end (own_by c.args.world.now.ctx) c.regions.region (regions_of (find c.args.op c.args.world.now.store.module_of.tree)) (omega (arith, count, past))) ∙ c.regions.invariant.0
 
 pub is_list_idle-ops-init : goal.is_list_idle-ops-init
-is_list_idle-ops-init t c = walk_start (own_by c.args.world.now.ctx) c.args.world.now.store.module_of.tree c.args.world.now.formed.distinct c.args.op c.args.region c.first-at.result c.first-at.ensures
+is_list_idle-ops-init t c = walk_start (own_by c.args.world.now.ctx) c.args.world.now.store.module_of.tree c.args.world.now.wellformed.distinct c.args.op c.args.region c.first-at.result c.first-at.ensures
 
 pub is_list_idle-is_idle-requires : goal.is_list_idle-is_idle-requires
 is_list_idle-is_idle-requires t c =
-    let less = inner_falls (own_by c.args.world.now.ctx) c.args.world.now.store.module_of.tree c.args.world.now.formed.distinct c.args.op c.args.region c.in-Some.inner c.ops.at c.in-Some.is c.ops.invariant in
+    let less = inner_falls (own_by c.args.world.now.ctx) c.args.world.now.store.module_of.tree c.args.world.now.wellformed.distinct c.args.op c.args.region c.in-Some.inner c.ops.at c.in-Some.is c.ops.invariant in
     (omega (arith, c.decreases, less), tt)
 
 pub is_list_idle-returns-then-not-is_idle : goal.is_list_idle-returns-then-not-is_idle
 is_list_idle-returns-then-not-is_idle t c =
-    walk_stop (own_by c.args.world.now.ctx) c.args.world.now.store.module_of.tree c.args.world.now.formed.distinct c.args.op c.args.region c.in-Some.inner c.ops.at c.in-Some.is c.ops.invariant c.is_idle.result c.is_idle.ensures c.if-not-is_idle.true
+    walk_stop (own_by c.args.world.now.ctx) c.args.world.now.store.module_of.tree c.args.world.now.wellformed.distinct c.args.op c.args.region c.in-Some.inner c.ops.at c.in-Some.is c.ops.invariant c.is_idle.result c.is_idle.ensures c.if-not-is_idle.true
 
 pub is_list_idle-ops-smaller : goal.is_list_idle-ops-smaller
 is_list_idle-ops-smaller t c =
-    walk_smaller (own_by c.args.world.now.ctx) c.args.world.now.store.module_of.tree c.args.world.now.formed.distinct c.args.op c.args.region c.in-Some.inner c.ops.at c.in-Some.is c.ops.invariant c.next-at.result c.next-at.ensures
+    walk_smaller (own_by c.args.world.now.ctx) c.args.world.now.store.module_of.tree c.args.world.now.wellformed.distinct c.args.op c.args.region c.in-Some.inner c.ops.at c.in-Some.is c.ops.invariant c.next-at.result c.next-at.ensures
 
 pub is_list_idle-ops-preserved : goal.is_list_idle-ops-preserved
 is_list_idle-ops-preserved t c =
-    walk_on (own_by c.args.world.now.ctx) c.args.world.now.store.module_of.tree c.args.world.now.formed.distinct c.args.op c.args.region c.in-Some.inner c.ops.at c.in-Some.is c.ops.invariant c.is_idle.result c.next-at.result c.is_idle.ensures c.if-not-is_idle.false c.next-at.ensures
+    walk_on (own_by c.args.world.now.ctx) c.args.world.now.store.module_of.tree c.args.world.now.wellformed.distinct c.args.op c.args.region c.in-Some.inner c.ops.at c.in-Some.is c.ops.invariant c.is_idle.result c.next-at.result c.is_idle.ensures c.if-not-is_idle.false c.next-at.ensures

@@ -13,11 +13,11 @@ pub returns : goal.returns
 returns c ordered =
     let set = c.args.counts.now.unused in
     let m = c.args.rows.now.rows in
-    let front : List (List Cell) = map (λ (r : Row). r.cells.items) c.args.out.now.items in
+    let preceding : List (List Cell) = map (λ (r : Row). r.cells.items) c.args.out.now.items in
     let whole : c.ops.from + 0 ≡ c.ops.from = omega arith in
     sym (append-nil _) ∙ c.ops.invariant 0
-    ∙ ap (λ k. front ++ map (cell_of Op) (idle_numbers set (rows_at m) 0 k)) whole
-    ∙ ap (λ xs. front ++ map (cell_of Op) xs) (dead_numbers set (counts_in c.args.counts.now) m c.args.counts.now.marked ordered c.ops.from c.in_default.ensures)
+    ∙ ap (λ k. preceding ++ map (cell_of Op) (idle_numbers set (rows_at m) 0 k)) whole
+    ∙ ap (λ xs. preceding ++ map (cell_of Op) xs) (dead_numbers set (counts_in c.args.counts.now) m c.args.counts.now.marked ordered c.ops.from c.in_default.ensures)
 
 pub ops-preserved : goal.ops-preserved
 ops-preserved c n =

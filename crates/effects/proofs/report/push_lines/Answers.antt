@@ -12,11 +12,11 @@ pub returns : goal.returns
 returns c ordered =
     let set = c.args.rows.now.acting in
     let m = c.args.rows.now.rows in
-    let front : List (List Cell) = map (λ (r : Row). r.cells.items) c.args.out.now.items in
+    let preceding : List (List Cell) = map (λ (r : Row). r.cells.items) c.args.out.now.items in
     let whole : c.ops.from + 0 ≡ c.ops.from = omega arith in
     sym (append-nil _) ∙ c.ops.invariant 0
-    ∙ ap (λ k. front ++ map (cells_of Op Tag) (acting_numbers set (rows_at m) 0 k)) whole
-    ∙ ap (λ xs. front ++ map (cells_of Op Tag) xs) (acting_rows set m c.args.rows.now.marked ordered c.ops.from c.in_default.ensures)
+    ∙ ap (λ k. preceding ++ map (cells_of Op Tag) (acting_numbers set (rows_at m) 0 k)) whole
+    ∙ ap (λ xs. preceding ++ map (cells_of Op Tag) xs) (acting_rows set m c.args.rows.now.marked ordered c.ops.from c.in_default.ensures)
 
 pub ops-preserved : goal.ops-preserved
 ops-preserved c n =

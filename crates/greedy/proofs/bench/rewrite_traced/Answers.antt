@@ -7,7 +7,7 @@ use Rattle.greedy.proofs.bench.rewrite_traced.Goals as goal
 pub returns-clause-does : goal.returns-clause-does
 returns-clause-does g c =
     changes_by g.L.Analysis.meaning (by_rules c.args.rules.now) c.args.limit c.args.bench.now c.run_list_traced.new.bench c.run_list_traced.result (IsFull c.run_list_traced.new.bench.transaction.ctx) c.run_list_traced.ensures.ok c.run_list_traced.ensures.err c.run_list_traced.ensures.refused c.run_list_traced.ensures.marks
-    (c.led_benches_are_kept.ensures.ages c.args.bench.now c.run_list_traced.new.bench (c.run_list_traced.ensures.onward.led c.is_formed.ensures.context.holds).1)
+    (c.led_benches_are_kept.ensures.ages c.args.bench.now c.run_list_traced.new.bench (c.run_list_traced.ensures.onward.led c.is_wellformed.ensures.context.holds).1)
 
-pub returns-clause-room : goal.returns-clause-room
-returns-clause-room g c = full_by (by_rules c.args.rules.now) c.args.limit (state_of g.L.Analysis.meaning c.args.bench.now) c.run_list_traced.result (IsFull c.run_list_traced.new.bench.transaction.ctx) c.run_list_traced.ensures.refused
+pub returns-clause-headroom : goal.returns-clause-headroom
+returns-clause-headroom g c = full_by (by_rules c.args.rules.now) c.args.limit (state_of g.L.Analysis.meaning c.args.bench.now) c.run_list_traced.result (IsFull c.run_list_traced.new.bench.transaction.ctx) c.run_list_traced.ensures.refused

@@ -8,7 +8,7 @@ use Rattle.greedy.proofs.block.push_lasts.Goals as goal
 pub returns-in_default : goal.returns-in_default
 returns-in_default c =
     let t = c.args.world.now.store.module_of.tree in
-    adds_nothing (λ x. ends c.args.op x t ≡ true) c.args.ops.now.items (lasts_absent t c.args.world.now.formed.distinct c.args.op (sym c.in_default.is ∙ c.shown.ensures.node))
+    adds_nothing (λ x. ends c.args.op x t ≡ true) c.args.ops.now.items (lasts_absent t c.args.world.now.wellformed.distinct c.args.op (sym c.in_default.is ∙ c.shown.ensures.node))
 
 pub overflow_cast-count : goal.overflow_cast-count
 overflow_cast-count c =
@@ -24,7 +24,7 @@ overflow_add-region c =
     omega (arith, few, count, low)
 
 pub regions-init : goal.regions-init
-regions-init c = lasts_begin c.args.world.now.store.module_of.tree c.args.world.now.formed.distinct c.args.op _ c.in-Some.node (sym c.in-Some.is ∙ c.shown.ensures.node) c.region_count-count.ensures c.args.ops.now.items
+regions-init c = lasts_begin c.args.world.now.store.module_of.tree c.args.world.now.wellformed.distinct c.args.op _ c.in-Some.node (sym c.in-Some.is ∙ c.shown.ensures.node) c.region_count-count.ensures c.args.ops.now.items
 
 pub regions-preserved : goal.regions-preserved
 regions-preserved c =

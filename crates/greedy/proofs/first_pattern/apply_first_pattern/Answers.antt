@@ -10,7 +10,7 @@ use Rattle.greedy.proofs.Attempting.{applied_more, comes_here, fires_here, gave_
 use Rattle.greedy.proofs.first_pattern.apply_first_pattern.Goals as goal
 
 pub candidates-init : goal.candidates-init
-candidates-init g c = (refl, (refl, (c.is_formed.ensures.context.holds, (journaled_none g.L.Analysis.meaning c.args.bench.now, (refl, (refl, omega arith))))))
+candidates-init g c = (refl, (refl, (c.is_wellformed.ensures.context.holds, (journaled_none g.L.Analysis.meaning c.args.bench.now, (refl, (refl, omega arith))))))
 
 pub returns-in-Ok-true-clause-ok : goal.returns-in-Ok-true-clause-ok
 returns-in-Ok-true-clause-ok g c =
@@ -66,7 +66,7 @@ candidates-preserved g c =
       (
         c.in-Ok-false.ensures.stays.opens ∙ v.1.0,
         (
-          c.is_formed-in-len1-up.ensures.context.holds,
+          c.is_wellformed-in-len1-up.ensures.context.holds,
           (
             journaled_more g.L.Analysis.meaning _ _ _ v.1.1.0 v.1.1.1.0 c.in-Ok-false.ensures.journal,
             (

@@ -14,4 +14,4 @@ returns-clause-ok g c =
     let w = c.world.result.now in
     let h = c.args.bench.now.transaction in
     if_ok (λ (v : Vec OpId Global). (m : Module) → Leads (shown_operands w.store) w.ctx c.events_from.result.now m (module_in w) → TouchedUpTo c.args.passed m (module_in w) v.items) (λ (v : Vec OpId Global). TouchedUpTo c.args.passed (module_at c.args.from h) (module_held h) v.items) c.touched_by.result
-    (λ v f. journal_touched w h c.args.from c.args.passed c.events_from.result.now v.items c.world.ensures.ctx c.world.ensures.store (c.events_from.ensures ∙ ap (drop c.args.from) c.journal.ensures) c.is_formed.ensures.leads f) c.touched_by.ensures.ok
+    (λ v f. journal_touched w h c.args.from c.args.passed c.events_from.result.now v.items c.world.ensures.ctx c.world.ensures.store (c.events_from.ensures ∙ ap (drop c.args.from) c.journal.ensures) c.is_wellformed.ensures.leads f) c.touched_by.ensures.ok

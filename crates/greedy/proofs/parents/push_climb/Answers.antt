@@ -11,7 +11,7 @@ returns-in_default c =
     climb_top c.args.world.now (IsClimbed c.args.world.now c.args.op) c.around.at c.args.ops.now.items c.around.ops.items _ (sym c.place.ensures ∙ c.in_default.is) c.around.invariant c.in_ok-push.ensures
 
 pub around-smaller : goal.around-smaller
-around-smaller c = higher c.args.world.now.store.module_of.tree c.args.world.now.formed.distinct c.around.at c.in-Some.place (sym c.place.ensures ∙ c.in-Some.is)
+around-smaller c = higher c.args.world.now.store.module_of.tree c.args.world.now.wellformed.distinct c.around.at c.in-Some.place (sym c.place.ensures ∙ c.in-Some.is)
 
 pub around-preserved : goal.around-preserved
 around-preserved c =

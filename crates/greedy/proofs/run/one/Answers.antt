@@ -24,8 +24,8 @@ renew-requires-clause-rewritten g c =
     let was : g.R.GreedyRewriter.before c.apply_first.new.bench c.journal_len-from.result ≡ m = ap (g.R.GreedyRewriter.before c.apply_first.new.bench) c.journal_len-from.ensures ∙ noted.1 in
     let became = rewrote pattern_set m x true n refl (subst (λ f. Applied (pattern_set.comes m x) (is_some f) m n) c.in-Ok-Some.field-0-is c.in-Ok-Some.ensures.ok) in
     let at : Rewritten x c.in-Some-preceding_of.before m n = record {
-      distinct = g.R.GreedyRewriter.distinct m c.is_formed.ensures;
-      orderly = (pattern_set_lawful c.args.pattern_set.now c.requires.ruled).orderly m (g.R.GreedyRewriter.distinct m c.is_formed.ensures) (g.R.GreedyRewriter.below m c.is_formed.ensures) x n became;
+      distinct = g.R.GreedyRewriter.distinct m c.is_wellformed.ensures;
+      orderly = (pattern_set_lawful c.args.pattern_set.now c.requires.ruled).orderly m (g.R.GreedyRewriter.distinct m c.is_wellformed.ensures) (g.R.GreedyRewriter.below m c.is_wellformed.ensures) x n became;
       nearby = c.in-Some-preceding_of.ensures.some;
     } in
     subst (λ p. Rewritten x c.in-Some-preceding_of.before p n) (sym was) at
@@ -142,7 +142,7 @@ waiting-preserved g c =
     let v = c.pop.new.work in
     let h = c.waiting.invariant.0 in
     let r : Right pattern_set w.passed w.again.items m = subst (λ p. Right pattern_set w.passed w.again.items p) (sym h) c.waiting.invariant.1.1.0 in
-    let none_there : pattern_set.comes m c.in-Some.op ≡ none = subst (λ y. pattern_set.comes m y ≡ none) (sym c.in_default-preceding_of.ensures.none) ((pattern_set_lawful c.args.pattern_set.now c.requires.ruled).root m (g.R.GreedyRewriter.distinct m c.is_formed.ensures)) in (
+    let none_there : pattern_set.comes m c.in-Some.op ≡ none = subst (λ y. pattern_set.comes m y ≡ none) (sym c.in_default-preceding_of.ensures.none) ((pattern_set_lawful c.args.pattern_set.now c.requires.ruled).root m (g.R.GreedyRewriter.distinct m c.is_wellformed.ensures)) in (
       h,
       (
         c.waiting.invariant.1.0,

@@ -9,4 +9,4 @@ use Rattle.greedy.proofs.run.rewritten.Goals as goal
 pub rewrites-requires-clause-right : goal.rewrites-requires-clause-right
 rewrites-requires-clause-right g c =
     let m = g.R.GreedyRewriter.held c.args.bench.now in
-    subst (λ (p : ℕ). Right (pattern_set_of c.args.pattern_set.now) p c.new.result.items m) (sym c.root.ensures) (subst (λ (l : List ℕ). Right (pattern_set_of c.args.pattern_set.now) (head m.tree).id l m) (sym c.new.ensures.items) (begun (pattern_set_of c.args.pattern_set.now) m (g.R.GreedyRewriter.distinct m c.is_formed.ensures) ((pattern_set_lawful c.args.pattern_set.now c.requires.ruled).root m (g.R.GreedyRewriter.distinct m c.is_formed.ensures))))
+    subst (λ (p : ℕ). Right (pattern_set_of c.args.pattern_set.now) p c.new.result.items m) (sym c.root.ensures) (subst (λ (l : List ℕ). Right (pattern_set_of c.args.pattern_set.now) (head m.tree).id l m) (sym c.new.ensures.items) (begun (pattern_set_of c.args.pattern_set.now) m (g.R.GreedyRewriter.distinct m c.is_wellformed.ensures) ((pattern_set_lawful c.args.pattern_set.now c.requires.ruled).root m (g.R.GreedyRewriter.distinct m c.is_wellformed.ensures))))

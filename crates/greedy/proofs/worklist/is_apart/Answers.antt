@@ -6,7 +6,7 @@ use Rattle.greedy.proofs.worklist.is_apart.Goals as goal
 pub returns-in-Some : goal.returns-in-Some
 returns-in-Some g c = λ e.
     let t = (g.R.GreedyRewriter.held c.args.bench.now).tree in
-    let d = g.R.GreedyRewriter.distinct _ c.is_formed.ensures in
+    let d = g.R.GreedyRewriter.distinct _ c.is_wellformed.ensures in
     let x = c.in-Some.first.now in
     let w = last_split c.deref.result.now x (sym c.in-Some.ensures.value) in
     let falls : Falls t (w.0 ++ x ∷ []) = subst (Falls t) (sym c.deref.ensures.value ∙ w.1) c.requires in

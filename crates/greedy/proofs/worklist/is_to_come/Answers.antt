@@ -7,6 +7,6 @@ use Rattle.std.proofs.lemmas.Bool.{false_from_ne_true}
 pub returns-then-eq : goal.returns-then-eq
 returns-then-eq g c =
     let t = (g.R.GreedyRewriter.held c.args.bench.now).tree in
-    let d = g.R.GreedyRewriter.distinct _ c.is_formed.ensures in
+    let d = g.R.GreedyRewriter.distinct _ c.is_wellformed.ensures in
     let same = eqb-true c.args.work.now.passed c.args.op (sym c.if-eq.ensures) in
     sym (false_from_ne_true (precedes c.args.work.now.passed c.args.op t) (λ h. not_itself t d c.args.op (subst (λ z. precedes z c.args.op t ≡ true) same h)))

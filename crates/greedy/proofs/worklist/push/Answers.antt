@@ -10,7 +10,7 @@ use Rattle.std.proofs.lemmas.Bool.{or_cases, or_left, or_right}
 pub returns-then-is_at-clause-added : goal.returns-then-is_at-clause-added
 returns-then-is_at-clause-added g c =
     let t = (g.R.GreedyRewriter.held c.args.bench.now).tree in
-    let d = g.R.GreedyRewriter.distinct _ c.is_formed.ensures in
+    let d = g.R.GreedyRewriter.distinct _ c.is_wellformed.ensures in
     let xs = c.args.work.now.again.items in
     let i = c.trailing-place.result in
     let b : begins_with c.args.op (drop i xs) ≡ true = ap (λ ys. begins_with c.args.op (drop i ys)) (sym c.deref-2.ensures.value) ∙ sym c.if-is_at.ensures in
@@ -19,7 +19,7 @@ returns-then-is_at-clause-added g c =
 pub returns-in-Ok-clause-work : goal.returns-in-Ok-clause-work
 returns-in-Ok-clause-work g c =
     let t = (g.R.GreedyRewriter.held c.args.bench.now).tree in
-    let d = g.R.GreedyRewriter.distinct _ c.is_formed.ensures in
+    let d = g.R.GreedyRewriter.distinct _ c.is_wellformed.ensures in
     let xs = c.args.work.now.again.items in
     let i = c.trailing-place.result in
     let op = c.args.op in
@@ -32,7 +32,7 @@ returns-in-Ok-clause-work g c =
 pub returns-in-Ok-clause-others : goal.returns-in-Ok-clause-others
 returns-in-Ok-clause-others g c =
     let t = (g.R.GreedyRewriter.held c.args.bench.now).tree in
-    let d = g.R.GreedyRewriter.distinct _ c.is_formed.ensures in
+    let d = g.R.GreedyRewriter.distinct _ c.is_wellformed.ensures in
     let xs = c.args.work.now.again.items in
     let i = c.trailing-place.result in
     let op = c.args.op in

@@ -1,4 +1,4 @@
-use Rattle.ir_event.proofs.Steps.{formed_numbers}
+use Rattle.ir_event.proofs.Steps.{wellformed_numbers}
 use Rattle.ir_event.proofs.Undone.{put_undone, take_undone, operand_undone, entry_undone, shift_undone, relink_undone}
 use Rattle.ir_event.proofs.step_laws.undoing_leads_back.Goals as goal
 
@@ -20,5 +20,5 @@ returns-clause-shift _ c x old new p m s = shift_undone c x old new p m s
 pub returns-clause-relink : goal.returns-clause-relink
 returns-clause-relink _ c x old new p m s = relink_undone c x old new p m s
 
-pub returns-clause-formed : goal.returns-clause-formed
-returns-clause-formed _ c m w = formed_numbers c m w
+pub returns-clause-wellformed : goal.returns-clause-wellformed
+returns-clause-wellformed _ c m w = wellformed_numbers c m w

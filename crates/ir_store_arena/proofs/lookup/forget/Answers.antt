@@ -20,5 +20,5 @@ returns-clause-present c = ap (take c.args.len) c.remove-slot.ensures.items ∙ 
 pub returns-clause-kept : goal.returns-clause-kept
 returns-clause-kept c = inr (omega (arith, c.remove-slot.ensures.len, c.remove-slot.ensures.capacity, c.args.items.now.ok))
 
-pub returns-clause-room : goal.returns-clause-room
-returns-clause-room c = λ _. omega (arith, c.remove-slot.ensures.len, c.remove-slot.ensures.capacity, c.args.items.now.ok)
+pub returns-clause-headroom : goal.returns-clause-headroom
+returns-clause-headroom c = λ _. omega (arith, c.remove-slot.ensures.len, c.remove-slot.ensures.capacity, c.args.items.now.ok)

@@ -1,4 +1,4 @@
-use Rattle.ir_text.proofs.WholeRoom.{text_fits}
+use Rattle.ir_text.proofs.WholeHeadroom.{text_fits}
 use Rattle.ir_text.proofs.capacity_laws.texts_fit.Goals as goal
 
 pub returns : goal.returns

@@ -5,7 +5,7 @@ use Rattle.ir_text_aliases.proofs.values.group_step.Goals as goal
 
 pub returns-in-Ok-clause-ok : goal.returns-in-Ok-clause-ok
 returns-in-Ok-clause-ok c =
-    goes_on c.args.byte c.args.coming.now.items (reverse c.value_piece.new.coming.items) c.args.all.now c.args.tail.now c.in-Ok.rest.now
+    goes_on c.args.byte c.args.coming.now.items (reverse c.value_lexeme.new.coming.items) c.args.all.now c.args.tail.now c.in-Ok.rest.now
     c.requires.some c.requires.all c.in-Ok.ensures.ok.0 c.in-Ok.ensures.ok.1 c.in-Ok.ensures.ok.2
 
 pub returns-in-Err-clause-err : goal.returns-in-Err-clause-err

@@ -1,23 +1,23 @@
 use Rattle.std.proofs.Common.{length, sym, subst, ◌∙◌}
 use Rattle.std.specs.Prelude.{reverse}
 use Rattle.ir_text_aliases.specs.Steps.{Moved, Stuck}
-use Rattle.ir_text_aliases.proofs.Moving.{as_alias, as_piece}
+use Rattle.ir_text_aliases.proofs.Moving.{as_alias, as_lexeme}
 use Rattle.ir_text_aliases.proofs.walk.step.Goals as goal
 
 pub returns-in_default-clause-moved : goal.returns-in_default-clause-moved
 returns-in_default-clause-moved c =
-    subst (λ m. Moved m c.put_piece.new.at.front (reverse c.put_piece.new.at.outer.items) c.args.tail.now c.in_ok-put_piece.field-0.now c.args.out.now.text.items c.put_piece.new.out.text.items c.args.out.now.marks.items c.put_piece.new.out.marks.items)
-    (sym (as_piece c.args.part.now c.args.values.now c.args.names.now.here c.args.at.now.front (reverse c.args.at.now.outer.items) (length c.args.out.now.text.items) c.args.byte c.args.tail.now c.alias_in.result (sym c.goes.ensures ∙ c.if-goes.false) c.alias_in.ensures c.in_default.is))
-    c.in_ok-put_piece.ensures.moved
+    subst (λ m. Moved m c.put_lexeme.new.at.scanned (reverse c.put_lexeme.new.at.outer.items) c.args.tail.now c.in_ok-put_lexeme.field-0.now c.args.out.now.text.items c.put_lexeme.new.out.text.items c.args.out.now.marks.items c.put_lexeme.new.out.marks.items)
+    (sym (as_lexeme c.args.part.now c.args.values.now c.args.names.now.here c.args.at.now.scanned (reverse c.args.at.now.outer.items) (length c.args.out.now.text.items) c.args.byte c.args.tail.now c.alias_in.result (sym c.goes.ensures ∙ c.if-goes.false) c.alias_in.ensures c.in_default.is))
+    c.in_ok-put_lexeme.ensures.moved
 
 pub returns-in-None-clause-moved : goal.returns-in-None-clause-moved
 returns-in-None-clause-moved c =
-    subst (λ m. Moved m c.write_alias.new.at.front (reverse c.write_alias.new.at.outer.items) c.args.tail.now c.in-Some.rest.now c.args.out.now.text.items c.write_alias.new.out.text.items c.args.out.now.marks.items c.write_alias.new.out.marks.items)
-    (sym (as_alias c.args.part.now c.args.values.now c.args.names.now.here c.args.at.now.front (reverse c.args.at.now.outer.items) (length c.args.out.now.text.items) c.args.byte c.args.tail.now c.alias_in.result c.in-Some.rest (sym c.goes.ensures ∙ c.if-goes.false) c.alias_in.ensures c.in-Some.is))
+    subst (λ m. Moved m c.write_alias.new.at.scanned (reverse c.write_alias.new.at.outer.items) c.args.tail.now c.in-Some.rest.now c.args.out.now.text.items c.write_alias.new.out.text.items c.args.out.now.marks.items c.write_alias.new.out.marks.items)
+    (sym (as_alias c.args.part.now c.args.values.now c.args.names.now.here c.args.at.now.scanned (reverse c.args.at.now.outer.items) (length c.args.out.now.text.items) c.args.byte c.args.tail.now c.alias_in.result c.in-Some.rest (sym c.goes.ensures ∙ c.if-goes.false) c.alias_in.ensures c.in-Some.is))
     (c.in_ok-write_alias.ensures.moved c.in-None.is)
 
 pub returns-in-Some-2-clause-stuck : goal.returns-in-Some-2-clause-stuck
 returns-in-Some-2-clause-stuck c =
     subst (λ m. Stuck m c.in-Some-2.fault c.args.out.now.text.items c.write_alias.new.out.text.items c.args.out.now.marks.items c.write_alias.new.out.marks.items)
-    (sym (as_alias c.args.part.now c.args.values.now c.args.names.now.here c.args.at.now.front (reverse c.args.at.now.outer.items) (length c.args.out.now.text.items) c.args.byte c.args.tail.now c.alias_in.result c.in-Some.rest (sym c.goes.ensures ∙ c.if-goes.false) c.alias_in.ensures c.in-Some.is))
+    (sym (as_alias c.args.part.now c.args.values.now c.args.names.now.here c.args.at.now.scanned (reverse c.args.at.now.outer.items) (length c.args.out.now.text.items) c.args.byte c.args.tail.now c.alias_in.result c.in-Some.rest (sym c.goes.ensures ∙ c.if-goes.false) c.alias_in.ensures c.in-Some.is))
     (c.in_ok-write_alias.ensures.stuck c.in-Some-2.fault c.in-Some-2.is)

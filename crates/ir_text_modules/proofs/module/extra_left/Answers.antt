@@ -1,5 +1,5 @@
 use Rattle.std.proofs.Common.{length}
-use Rattle.ir_text_expansion.specs.Expansions.{expansion_of}
+use Rattle.ir_text_modules.specs.Expansions.{expansion_of}
 use Rattle.ir_text_modules.proofs.Within.{place_within}
 use Rattle.ir_text_modules.proofs.module.extra_left.Goals as goal
 

@@ -4,7 +4,7 @@ use Rattle.ir_text_tokens.specs.declared.token.Mark.TheVariants.{CloseRound}
 use Rattle.ir_text_types.specs.Marks.{after}
 use Rattle.ir_text_types.proofs.ListSteps.{goes_on, closes, no_item, no_comma, is_full}
 use Rattle.ir_text_operations.specs.Free.{free_bound}
-use Rattle.ir_text_operations.specs.FrontReading.{use_at}
+use Rattle.ir_text_operations.specs.PrecedingReading.{use_at}
 use Rattle.ir_text_operations.proofs.op_header.operands.Goals as goal
 
 pub returns-in-Err : goal.returns-in-Err

@@ -3,7 +3,7 @@ use Rattle.ir_text_tokens.specs.declared.token.Mark.TheVariants.{CloseRound}
 use Rattle.ir_text_types.specs.Marks.{after}
 use Rattle.ir_text_types.specs.Lists.{more_at}
 use Rattle.ir_text_operations.specs.Free.{free_bound}
-use Rattle.ir_text_operations.specs.FrontReading.{use_at, uses_at}
+use Rattle.ir_text_operations.specs.PrecedingReading.{use_at, uses_at}
 use Rattle.ir_text_operations.proofs.op_header.operands.Given as goal
 
 abbrev pub invariant-items : goal.invariant-items

@@ -4,7 +4,7 @@ use Rattle.ir_text_operations.specs.Free.{free_bound, free_term}
 use Rattle.ir_text_operations.specs.Spelling.{IsSingleOp}
 use Rattle.ir_text_operations.specs.Claims.{IsOnly, IsNone}
 use Rattle.ir_types.proofs.Growth.{grows_trans}
-use Rattle.ir_text_operations.proofs.Singles.{text_is, frees_stand, alone_read, alone_wrong, part_spelled, no_part, single_none}
+use Rattle.ir_text_operations.proofs.Singles.{text_is, frees_stand, alone_read, alone_wrong, part_rendered, no_part, single_none}
 use Rattle.ir_text_operations.proofs.single.op_of_text.Goals as goal
 
 pub returns-in-Ok-before_ids-clause-refused : goal.returns-in-Ok-before_ids-clause-refused
@@ -38,7 +38,7 @@ returns-in-Ok-looked_at-clause-read g c =
     let frees = frees_stand types c.args.ctx.now c.requires in
     let alone = alone_read (free_bound types) (free_term types c.args.ctx.now) c.last_from-last.result next c.args.bytes.now c.args.ctx.now c.sound.ensures frees c.in-Ok-single.tree c.single.new.ctx c.in-Ok-single.ensures.reads in
     let single = subst (λ l. IsOnly (IsSingleOp c.args.ctx.now.opaque (free_term types c.args.ctx.now) l next c.args.bytes.now) c.single.new.ctx c.in-Ok-single.tree) c.last_from-last.ensures alone in
-    rw (← c.next_id-next.ensures) (part_spelled c.args.ctx.now.opaque (free_term types c.args.ctx.now) next c.args.bytes.now c.single.new.ctx c.in-Ok-single.tree c.in-Ok.ensures.ok single c.in-Ok-looked_at.ensures.ok)
+    rw (← c.next_id-next.ensures) (part_rendered c.args.ctx.now.opaque (free_term types c.args.ctx.now) next c.args.bytes.now c.single.new.ctx c.in-Ok-single.tree c.in-Ok.ensures.ok single c.in-Ok-looked_at.ensures.ok)
 
 pub returns-in-Err-looked_at-clause-refused : goal.returns-in-Err-looked_at-clause-refused
 returns-in-Err-looked_at-clause-refused g c =

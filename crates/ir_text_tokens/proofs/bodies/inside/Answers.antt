@@ -15,5 +15,5 @@ returns-in_default-rest c =
 pub bytes-preserved : goal.bytes-preserved
 bytes-preserved c = record {
   same = sym (ap (λ l. scan l 0 c.bytes.rest.now) (popped c.bytes.coming.items c.pop.new.self.items c.in-Some.nearest c.in-Some.ensures.items) ∙ c.in-Ok.ensures.ok) ∙ c.bytes.invariant.same;
-  room = c.step.ensures.room;
+  headroom = c.step.ensures.headroom;
 }

@@ -6,7 +6,7 @@ use Rattle.ir_text_tokens.proofs.bodies.inside.Given as goal
 abbrev pub invariant-bytes : goal.invariant-bytes
 invariant-bytes l = record {
   same : scan (reverse l.coming.items) 0 l.rest ≡ scan (l.close ∷ []) 0 l.bytes;
-  room : length l.coming.items ≤ 32;
+  headroom : length l.coming.items ≤ 32;
 }
 
 abbrev pub decreases-bytes : goal.decreases-bytes

@@ -26,7 +26,7 @@ decreases-function l = 6 * l.depth + 5
 
 abbrev pub invariant-types-items : goal.invariant-types-items
 invariant-types-items l = record {
-  reads : more_at after_typed CloseRound (λ before. type_at l.opaque l.depth) (l.room - l.counter) l.items.items (l.rest, l.ctx) ≡ types_at (type_at l.opaque l.depth) l.room (l.bytes, l.initial.ctx);
+  reads : more_at after_typed CloseRound (λ before. type_at l.opaque l.depth) (l.headroom - l.counter) l.items.items (l.rest, l.ctx) ≡ types_at (type_at l.opaque l.depth) l.headroom (l.bytes, l.initial.ctx);
   grows : IsExtendedBy l.initial.ctx l.ctx;
   count : length l.items.items ≡ l.counter;
 }

@@ -9,4 +9,4 @@ returns c =
     let w = c.args.world.now in
     c.in_ok-push_all.ensures
     ∙ ap (λ z. z ++ uses_by (operands_in w.store) c.deref-2.result.now) c.in_ok-out.ensures
-    ∙ uses_listed w.store c.deref-2.result.now w.formed.distinct (c.deref-2.ensures.value ∙ c.in-Ok.ensures.listed)
+    ∙ uses_listed w.store c.deref-2.result.now w.wellformed.distinct (c.deref-2.ensures.value ∙ c.in-Ok.ensures.listed)

@@ -16,13 +16,13 @@ loop-user-preserved c =
     let others = drop (n + 1) users in
     let rest = c.loop-user.rest.now in
     let all : drop n users ≡ user ∷ others = drop_more users n user (omega arith) ∙ λ i. sym c.user-item.is i ∷ others in
-    let front : c.split_at.result.0.now ≡ take user.count rest = search rules in
+    let preceding : c.split_at.result.0.now ≡ take user.count rest = search rules in
     let back : c.split_at.result.1.now ≡ drop user.count rest = search rules in
     let new : c.push_user.new.keys.items ≡ c.loop-user.keys.items ++ keys_of (only p (user_uses user c.split_at.result.0.now)) = search rules in
     let sum : user.count + operand_count others ≡ length rest = ap operand_count (sym all) ∙ c.loop-user.invariant.count in
     let left = length-drop user.count rest in
     record {
       count = (let fewer : operand_count others ≡ length (drop user.count rest) = omega (arith, sum, left) in fewer ∙ sym (ap length back));
-      keys = next_user p user others rest c.split_at.result.0.now c.split_at.result.1.now c.loop-user.keys.items c.push_user.new.keys.items (c.args.keys.now.items ++ keys_of (only p (listed_uses users c.args.operands.now))) front back
+      keys = next_user p user others rest c.split_at.result.0.now c.split_at.result.1.now c.loop-user.keys.items c.push_user.new.keys.items (c.args.keys.now.items ++ keys_of (only p (listed_uses users c.args.operands.now))) preceding back
           (ap (λ l. c.loop-user.keys.items ++ keys_of (only p (listed_uses l rest))) (sym all) ∙ c.loop-user.invariant.keys) new;
     }

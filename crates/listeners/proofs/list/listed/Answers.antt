@@ -15,4 +15,4 @@ returns c =
     let t = (module_in w).tree in
     let left = left_at c.in_ok-left.left in
     let ids_are = c.deref.ensures.value ∙ c.in-Ok.ensures.listed ∙ sym (map_ids (name_term w.ctx) (type_term w.ctx) (attr_term w.ctx) (tree_in w)) in
-    if_ok _ _ c.those_left.result (λ v e. e ∙ ap (filter (λ x. is_some (left x))) ids_are ∙ left_unreached w.ctx c.sound.ensures t (meaning_distinct w.ctx (tree_in w) w.formed.distinct) c.in_ok-roles.roles c.ordered.ensures.all c.in_ok-roles.ensures left c.in_ok-left.ensures) c.those_left.ensures
+    if_ok _ _ c.those_left.result (λ v e. e ∙ ap (filter (λ x. is_some (left x))) ids_are ∙ left_unreached w.ctx c.sound.ensures t (meaning_distinct w.ctx (tree_in w) w.wellformed.distinct) c.in_ok-roles.roles c.ordered.ensures.all c.in_ok-roles.ensures left c.in_ok-left.ensures) c.those_left.ensures

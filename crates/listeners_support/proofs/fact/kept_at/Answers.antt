@@ -16,7 +16,7 @@ use Rattle.listeners_support.proofs.fact.kept_at.Goals as goal
 pub returns-in_default-clause-kept : goal.returns-in_default-clause-kept
 returns-in_default-clause-kept g c =
     let w = c.args.view.now.world.now in
-    ap (λ r. option_and_then (if_kept g.F.LocalFact.kept) r) (fact_gathered g.F.LocalFact.fact w.ctx (tree_in w) c.args.op None (sym (nothing_around w.store w.formed.distinct c.args.op (c.in_default.ensures.none refl))))
+    ap (λ r. option_and_then (if_kept g.F.LocalFact.kept) r) (fact_gathered g.F.LocalFact.fact w.ctx (tree_in w) c.args.op None (sym (nothing_around w.store w.wellformed.distinct c.args.op (c.in_default.ensures.none refl))))
 
 pub returns-in_default-clause-looks : goal.returns-in_default-clause-looks
 returns-in_default-clause-looks g c =
@@ -28,15 +28,15 @@ pub returns-then-not-concerns-clause-kept : goal.returns-then-not-concerns-claus
 returns-then-not-concerns-clause-kept g c =
     let w = c.args.view.now.world.now in
     let at = c.context.ensures ∙ ap (λ (u : World). u.ctx) c.shown.ensures.world in
-    unkept g.F.LocalFact.fact g.F.LocalFact.kept w.ctx w.store w.formed.distinct c.args.op c.in-Some.node c.in-Some.ensures.there c.in-Some.ensures.shown
+    unkept g.F.LocalFact.fact g.F.LocalFact.kept w.ctx w.store w.wellformed.distinct c.args.op c.in-Some.node c.in-Some.ensures.there c.in-Some.ensures.shown
     (λ s h. c.concerns.ensures c.if-not-concerns.true s (h ∙ (λ i. name_term (sym at i) (sym c.name.ensures i))))
 
 pub returns-then-not-concerns-clause-looks : goal.returns-then-not-concerns-clause-looks
 returns-then-not-concerns-clause-looks g c =
     let w = c.args.view.now.world.now in
     let n = c.in-Some.node in
-    let p = present w.store w.formed.distinct c.args.op n c.in-Some.ensures.there c.in-Some.ensures.shown in
-    let most = looks_counted w.store w.formed.distinct c.args.op n p in
+    let p = present w.store w.wellformed.distinct c.args.op n c.in-Some.ensures.there c.in-Some.ensures.shown in
+    let most = looks_counted w.store w.wellformed.distinct c.args.op n p in
     let two = c.shown.ensures.looks in
     omega arith
 

@@ -14,16 +14,16 @@ pub types_of-requires : goal.types_of-requires
 types_of-requires c =
     let w = c.args.view.now.world.now in
     let n = c.args.node in
-    let p = present w.store w.formed.distinct c.args.op n c.requires.there c.requires.shown in
+    let p = present w.store w.wellformed.distinct c.args.op n c.requires.there c.requires.shown in
     subst (λ vs. All (λ v. has_value v (tree_in w) ≡ true) vs) (sym c.operands.ensures)
-    (operands_there w.store w.formed.distinct _ w.formed.formed c.args.op n p)
+    (operands_there w.store w.wellformed.distinct _ w.wellformed.wellformed c.args.op n p)
 
 pub lasts_of-requires : goal.lasts_of-requires
 lasts_of-requires c =
     let w = c.args.view.now.world.now in
     let n = c.args.node in
-    let p = present w.store w.formed.distinct c.args.op n c.requires.there c.requires.shown in
-    let few = few_regions w.store w.formed.distinct _ w.formed.formed c.args.op n p in
+    let p = present w.store w.wellformed.distinct c.args.op n c.requires.there c.requires.shown in
+    let few = few_regions w.store w.wellformed.distinct _ w.wellformed.wellformed c.args.op n p in
     let count = c.region_count.ensures in
     omega arith
 
@@ -31,8 +31,8 @@ pub returns-in_err-types-clause-looks : goal.returns-in_err-types-clause-looks
 returns-in_err-types-clause-looks c =
     let w = c.args.view.now.world.now in
     let n = c.args.node in
-    let p = present w.store w.formed.distinct c.args.op n c.requires.there c.requires.shown in
-    let most = looks_counted w.store w.formed.distinct c.args.op n p in
+    let p = present w.store w.wellformed.distinct c.args.op n c.requires.there c.requires.shown in
+    let most = looks_counted w.store w.wellformed.distinct c.args.op n p in
     let three = c.types_of.ensures.looks in
     let count = ap length c.operands.ensures in
     omega arith
@@ -41,8 +41,8 @@ pub returns-in_err-lasts-clause-looks : goal.returns-in_err-lasts-clause-looks
 returns-in_err-lasts-clause-looks c =
     let w = c.args.view.now.world.now in
     let n = c.args.node in
-    let p = present w.store w.formed.distinct c.args.op n c.requires.there c.requires.shown in
-    let most = looks_counted w.store w.formed.distinct c.args.op n p in
+    let p = present w.store w.wellformed.distinct c.args.op n c.requires.there c.requires.shown in
+    let most = looks_counted w.store w.wellformed.distinct c.args.op n p in
     let three = c.types_of.ensures.looks in
     let four = c.lasts_of.ensures.looks in
     let count = ap length c.operands.ensures in
@@ -56,11 +56,11 @@ returns-clause-around c =
     let x = c.args.op in
     let e3 = c.types_of.ensures.world in
     let e4 = c.lasts_of.ensures.world ∙ e3 in
-    let p = present w.store w.formed.distinct x n c.requires.there c.requires.shown in
+    let p = present w.store w.wellformed.distinct x n c.requires.there c.requires.shown in
     let types = c.in_ok-types.ensures.types ∙ (λ i. map (λ v. type_of_value v (tree_in w)) (c.operands.ensures i)) in
     let lasts = c.in_ok-lasts.ensures.lasts ∙ (λ i. from_on (last_name_at x (tree_in (e3 i))) 0 (c.region_count.ensures i)) in
     let outer = c.outer_of-outer.ensures.outer ∙ ap (λ u. outer_at x (tree_in u)) e4 in
-    all_gathered w.store w.formed.distinct x n p c.in_ok-types.types.items c.in_ok-lasts.lasts.items (option_map outer_in c.outer_of-outer.result) types lasts outer
+    all_gathered w.store w.wellformed.distinct x n p c.in_ok-types.types.items c.in_ok-lasts.lasts.items (option_map outer_in c.outer_of-outer.result) types lasts outer
 
 pub returns-clause-known : goal.returns-clause-known
 returns-clause-known c =
@@ -76,8 +76,8 @@ pub returns-clause-looks : goal.returns-clause-looks
 returns-clause-looks c =
     let w = c.args.view.now.world.now in
     let n = c.args.node in
-    let p = present w.store w.formed.distinct c.args.op n c.requires.there c.requires.shown in
-    let most = looks_counted w.store w.formed.distinct c.args.op n p in
+    let p = present w.store w.wellformed.distinct c.args.op n c.requires.there c.requires.shown in
+    let most = looks_counted w.store w.wellformed.distinct c.args.op n p in
     let three = c.types_of.ensures.looks in
     let four = c.lasts_of.ensures.looks in
     let five = c.outer_of-outer.ensures.looks in

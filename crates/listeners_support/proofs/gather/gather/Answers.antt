@@ -11,7 +11,7 @@ use Rattle.listeners_support.proofs.gather.gather.Goals as goal
 pub returns-in_default-clause-around : goal.returns-in_default-clause-around
 returns-in_default-clause-around c =
     let w = c.args.view.now.world.now in
-    sym (nothing_around w.store w.formed.distinct c.args.op (c.in_default.ensures.none refl))
+    sym (nothing_around w.store w.wellformed.distinct c.args.op (c.in_default.ensures.none refl))
 
 pub returns-in_default-clause-looks : goal.returns-in_default-clause-looks
 returns-in_default-clause-looks c =

@@ -1,4 +1,4 @@
-use Rattle.mlir_work_cli.proofs.Fronts.{has_wrong, wrong_is_told}
+use Rattle.mlir_work_cli.proofs.Precedings.{has_wrong, wrong_is_told}
 use Rattle.mlir_work_cli.proofs.pattern_file_laws.refused_lines_have_a_first_wrong_one.Goals as goal
 
 pub returns-clause-told : goal.returns-clause-told

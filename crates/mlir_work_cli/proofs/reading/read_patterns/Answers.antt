@@ -1,6 +1,6 @@
 use Rattle.std.proofs.Common.{◌<◌, length, arith}
 use Rattle.user_patterns_registry.specs.Registry.{registry_model}
-use Rattle.mlir_work_cli.proofs.Fronts.{one_more}
+use Rattle.mlir_work_cli.proofs.Precedings.{one_more}
 use Rattle.mlir_work_cli.proofs.reading.read_patterns.Goals as goal
 
 pub lines-preserved : goal.lines-preserved

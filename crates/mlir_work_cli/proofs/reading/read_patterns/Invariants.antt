@@ -1,7 +1,7 @@
 use Rattle.std.proofs.Common.{◌+◌, ◌≤◌, length}
 use Rattle.mlir_work_script_base.specs.Lines.{lines_of}
 use Rattle.user_patterns_registry.specs.Registry.{registry_model}
-use Rattle.mlir_work_cli.proofs.Fronts.{HasRead}
+use Rattle.mlir_work_cli.proofs.Precedings.{HasRead}
 use Rattle.mlir_work_cli.proofs.reading.read_patterns.Given as goal
 
 -- the lines before the rest are read, and each had at least one byte

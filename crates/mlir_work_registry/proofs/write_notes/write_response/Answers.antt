@@ -1,7 +1,7 @@
 use Rattle.std.proofs.Common.{◌≡◌, ◌==◌, ◌++◌, ℕ, List, [], ◌∷◌, length, Bool, true, false, true≢false, refl, sym, subst, ◌∙◌, Option, arith}
 use Rattle.ir_event.specs.types.declared.refusal.Refusal.{Refusal}
 use Rattle.mlir_work_script_base.specs.Writes.{Writes}
-use Rattle.mlir_work_script_base.proofs.Joins.{front_more, puts_join}
+use Rattle.mlir_work_script_base.proofs.Joins.{preceding_more, puts_join}
 use Rattle.mlir_work_registry.specs.Explained.{explained_line, told_text}
 use Rattle.mlir_work_registry.specs.Notices.{Notice, notice_of}
 use Rattle.mlir_work_registry.specs.Told.{reply_text, surprise_line}
@@ -29,4 +29,4 @@ returns-in-Ok g c =
 pub returns-in-Err : goal.returns-in-Err
 returns-in-Err g c =
     rw (← more c.args.n c.args.expected.now (notice_of c.args.notice.now) c.args.about.now (sym c.is_empty.ensures ∙ c.if-is_empty.false))
-    (front_more (g.W.Sink.stream c.args.writer.now) (g.W.Sink.stream c.write_explained.new.writer) (explained_line c.args.n (notice_of c.args.notice.now) c.args.about.now) (surprise_line c.args.n c.args.expected.now (notice_of c.args.notice.now)) c.in-Err.ensures)
+    (preceding_more (g.W.Sink.stream c.args.writer.now) (g.W.Sink.stream c.write_explained.new.writer) (explained_line c.args.n (notice_of c.args.notice.now) c.args.about.now) (surprise_line c.args.n c.args.expected.now (notice_of c.args.notice.now)) c.in-Err.ensures)

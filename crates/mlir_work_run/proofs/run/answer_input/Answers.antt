@@ -11,14 +11,14 @@ use Rattle.mlir_work_session.specs.Output.{IsSession}
 use Rattle.mlir_work_session.specs.declared.options.SessionOptions.{SessionOptions}
 use Rattle.mlir_work_run.specs.Whole.{IsOutput, IsRefusal, cause_if, setting_with, way_at}
 use Rattle.mlir_work_run.proofs.Ended.{ran_so}
-use Rattle.mlir_work_run.proofs.Numbered.{numbered_meaning, formed_meaning, world_is}
+use Rattle.mlir_work_run.proofs.Numbered.{numbered_meaning, wellformed_meaning, world_is}
 use Rattle.mlir_work_run.proofs.run.answer_input.Goals as goal
 
 pub hold-requires-clause-numbered : goal.hold-requires-clause-numbered
 hold-requires-clause-numbered g c = numbered_meaning c.in-Ok.parts.0.0 c.in-Ok.parts.0.1 c.in-Ok.ensures.read.holds.spells.numbered
 
-pub hold-requires-clause-formed : goal.hold-requires-clause-formed
-hold-requires-clause-formed g c = formed_meaning c.in-Ok.parts.0.0 c.in-Ok.parts.0.1 c.in-Ok.ensures.read.holds.spells.formed
+pub hold-requires-clause-wellformed : goal.hold-requires-clause-wellformed
+hold-requires-clause-wellformed g c = wellformed_meaning c.in-Ok.parts.0.0 c.in-Ok.parts.0.1 c.in-Ok.ensures.read.holds.spells.wellformed
 
 pub returns-in-Err : goal.returns-in-Err
 returns-in-Err g c = ran_so (IsRefusal c.in-Err.unparsed.refusal c.in-Err.unparsed.offset (cause_if c.args.options.explain c.in-Err.unparsed.unsupported)) (IsOutput (setting_with g.L.AnalysisSource.supply c.args.options (registry_model c.args.registry)) (all_shown g.L.Analysis.meaning c.args.boxes.items) c.args.input.items) (g.W.Sink.stream c.args.writer.now) (g.W.Sink.stream c.refuse.new.writer) (g.W.Sink.handed c.refuse.new.writer) c.refuse.result (λ st o h. inr (c.requires, inl (c.in-Err.unparsed.refusal, c.in-Err.unparsed.offset, c.in-Err.ensures.unparsed, rw c.in-Err.ensures.unsupported at h))) c.refuse.ensures

@@ -4,8 +4,8 @@ use Rattle.ir_event.specs.types.Refusals.{text_of}
 use Rattle.ir_event.specs.types.declared.refusal.Refusal.{Refusal}
 use Rattle.mlir_work_script_base.specs.Kinds.{kind_word}
 use Rattle.mlir_work_script.specs.Replies.{attach_refused_line}
-use Rattle.mlir_work_script_base.specs.Writes.{GrowsFront, Writes}
-use Rattle.mlir_work_script_base.proofs.Joins.{front_more, puts_join}
+use Rattle.mlir_work_script_base.specs.Writes.{GrowsPreceding, Writes}
+use Rattle.mlir_work_script_base.proofs.Joins.{preceding_more, puts_join}
 use Rattle.mlir_work_script.proofs.replies.write_attach_refused.Goals as goal
 
 -- the line, split into its beginning and its end
@@ -19,5 +19,5 @@ returns-in-Ok g c =
 
 pub returns-in-Err : goal.returns-in-Err
 returns-in-Err g c =
-    subst (GrowsFront (g.W.Sink.stream c.args.writer.now) (g.W.Sink.stream c.write_with_kind.new.writer)) (in_two c.args.kind c.args.refusal)
-    (front_more (g.W.Sink.stream c.args.writer.now) (g.W.Sink.stream c.write_with_kind.new.writer) (codes "attach " ++ (kind_word c.args.kind ++ codes " refused ")) (text_of c.args.refusal ++ codes "\n") c.in-Err.ensures)
+    subst (GrowsPreceding (g.W.Sink.stream c.args.writer.now) (g.W.Sink.stream c.write_with_kind.new.writer)) (in_two c.args.kind c.args.refusal)
+    (preceding_more (g.W.Sink.stream c.args.writer.now) (g.W.Sink.stream c.write_with_kind.new.writer) (codes "attach " ++ (kind_word c.args.kind ++ codes " refused ")) (text_of c.args.refusal ++ codes "\n") c.in-Err.ensures)

@@ -14,26 +14,26 @@ pub loop-made-preserved : goal.loop-made-preserved
 unfolding most_input_bytes
 loop-made-preserved g c =
     let before = c.loop-made.invariant in
-    let front = c.loop-made.invariant.front in
+    let preceding = c.loop-made.invariant.preceding in
     elim c.match-read_some.branch [
       | in-Ok+else-count-taken w ↦
           let bytes = take w.in-Ok.taken c.read_some.new.buffer in
-          let longer : length (front ++ bytes) ≡ length front + w.in-Ok.taken = length-append front bytes ∙ ap (λ n. length front + n) (sym w.in-Ok.ensures.bound.1) in
+          let longer : length (preceding ++ bytes) ≡ length preceding + w.in-Ok.taken = length-append preceding bytes ∙ ap (λ n. length preceding + n) (sym w.in-Ok.ensures.bound.1) in
           record {
-            front = front ++ bytes;
-            taken = consumes_join _ _ _ front bytes before.taken w.in-Ok.ensures.took.0.0;
+            preceding = preceding ++ bytes;
+            taken = consumes_join _ _ _ preceding bytes before.taken w.in-Ok.ensures.took.0.0;
             failed = w.in-Ok.ensures.took.1.1 ∙ before.failed;
             made = made_join _ _ _ c.loop-made._made 1 before.made w.in-Ok.ensures.took.1.0;
             counted = w.count-is ∙ (ap (λ n. n + w.in-Ok.taken) before.counted ∙ sym longer);
             gave = rw w.count-is (gave_more c.loop-made._made c.loop-made.count w.in-Ok.taken _ _ before.gave w.in-Ok.taken-test.1 w.in-Ok.ensures.took.1.2);
-            within = (let room = w.if-count-taken.false in let short = before.within in let same = before.counted in omega (arith, longer));
-            kept = rw w.kept-is (kept_more (λ all. all.items) _ _ front bytes w.keep.ensures.lost w.keep.ensures.kept before.kept);
+            within = (let headroom = w.if-count-taken.false in let short = before.within in let same = before.counted in omega (arith, longer));
+            kept = rw w.kept-is (kept_more (λ all. all.items) _ _ preceding bytes w.keep.ensures.lost w.keep.ensures.kept before.kept);
           }
       | in-Err-Interrupted w ↦
           let took = rw w.in-Err-Interrupted.field-0-is at w.in-Err-Interrupted.ensures.took in
           record {
-            front = front;
-            taken = consumes_kept _ _ _ front before.taken took.0;
+            preceding = preceding;
+            taken = consumes_kept _ _ _ preceding before.taken took.0;
             failed = took.1.1 ∙ before.failed;
             made = made_join _ _ _ c.loop-made._made 1 before.made took.1.0;
             counted = w.count-is ∙ before.counted;
@@ -53,7 +53,7 @@ returns-then-count-taken-clause-too_many g c many =
     let before = c.loop-made.invariant in
     let given = c.in-Ok.ensures.bound.1 in
     let more = c.if-count-taken.true in
-    too_long _ _ _ before.front (take c.in-Ok.taken c.read_some.new.buffer) _ before.taken c.in-Ok.ensures.took.0.0 (omega arith)
+    too_long _ _ _ before.preceding (take c.in-Ok.taken c.read_some.new.buffer) _ before.taken c.in-Ok.ensures.took.0.0 (omega arith)
 
 pub returns-then-count-taken-clause-read : goal.returns-then-count-taken-clause-read
 unfolding most_input_bytes
@@ -61,7 +61,7 @@ returns-then-count-taken-clause-read g c =
     let before = c.loop-made.invariant in
     let given = c.in-Ok.ensures.bound.1 in
     let more = c.if-count-taken.true in
-    (inr (too_long _ _ _ before.front (take c.in-Ok.taken c.read_some.new.buffer) _ before.taken c.in-Ok.ensures.took.0.0 (omega arith)), c.in-Ok.ensures.took.1.1 ∙ before.failed)
+    (inr (too_long _ _ _ before.preceding (take c.in-Ok.taken c.read_some.new.buffer) _ before.taken c.in-Ok.ensures.took.0.0 (omega arith)), c.in-Ok.ensures.took.1.1 ∙ before.failed)
 
 pub returns-then-count-taken-clause-made : goal.returns-then-count-taken-clause-made
 unfolding most_reads

@@ -9,12 +9,12 @@ use Rattle.mlir_work_script_base.proofs.input.read_all.Given as goal
 -- least one byte or was interrupted
 abbrev pub invariant-loop-made : goal.invariant-loop-made
 invariant-loop-made g l = record {
-  front : List ℕ;
-  taken : Consumes (g.R.Source.intake l.initial.reader).remaining (g.R.Source.intake l.reader).remaining front;
+  preceding : List ℕ;
+  taken : Consumes (g.R.Source.intake l.initial.reader).remaining (g.R.Source.intake l.reader).remaining preceding;
   failed : (g.R.Source.intake l.reader).failed ≡ (g.R.Source.intake l.initial.reader).failed;
   made : AreMade (g.R.Source.intake l.initial.reader).reads (g.R.Source.intake l.reader).reads l._made;
-  counted : l.count ≡ length front;
+  counted : l.count ≡ length preceding;
   gave : (l._made ≤ l.count) ⊎ ((g.R.Source.intake l.reader).interrupted ≡ true);
-  within : length front ≤ most_input_bytes;
-  kept : IfSome l.kept (λ all. all.items ≡ front);
+  within : length preceding ≤ most_input_bytes;
+  kept : IfSome l.kept (λ all. all.items ≡ preceding);
 }

@@ -12,7 +12,7 @@ invariant-loop-listener g l = let meaning = g.L.Analysis.meaning in record {
   kept : AgreesOrStale meaning l.bench;
   transaction : l.bench.transaction ≡ l.initial.bench.transaction;
   long : length (into_iter_items l.listener-iterator) ≡ into_iter_len l.listener-iterator;
-  front : List ℕ;
-  wrote : Grows (g.W.Sink.stream l.initial.writer) (g.W.Sink.stream l.writer) front;
-  whole : (new : List Shown) (there : Bool) (rest : List ℕ) → Attaches (all_shown meaning (into_iter_items l.listener-iterator)) (all_shown meaning l.bench.listeners) new there rest → Attaches (all_shown meaning l.fn.boxes.items) (all_shown meaning l.initial.bench.listeners) new (l.accepted && there) (front ++ rest);
+  preceding : List ℕ;
+  wrote : Grows (g.W.Sink.stream l.initial.writer) (g.W.Sink.stream l.writer) preceding;
+  whole : (new : List Shown) (there : Bool) (rest : List ℕ) → Attaches (all_shown meaning (into_iter_items l.listener-iterator)) (all_shown meaning l.bench.listeners) new there rest → Attaches (all_shown meaning l.fn.boxes.items) (all_shown meaning l.initial.bench.listeners) new (l.accepted && there) (preceding ++ rest);
 }

@@ -1,7 +1,7 @@
 use Rattle.std.proofs.Common.{◌++◌, [], refl, ap}
 use Rattle.mlir_work_transforms.specs.rewriter.Held.{TransactionModel, module_held}
 use Rattle.mlir_work_transforms.specs.rewriter.Panels.{all_shown}
-use Rattle.mlir_work_script_base.proofs.Joins.{front_join, front_more, grows_join}
+use Rattle.mlir_work_script_base.proofs.Joins.{preceding_join, preceding_more, grows_join}
 use Rattle.mlir_work_session.specs.Output.{end_of}
 use Rattle.mlir_work_session.proofs.Reading.{begun_state}
 use Rattle.mlir_work_session.proofs.opening.begin.Goals as goal
@@ -12,8 +12,8 @@ returns-in-Err-clause-begun g c =
       record { held = module_held c.args.bench.now.transaction; marks = []; panel = had.0 },
       had.1,
       had.2 ++ end_of c.args.ends,
-      record { panel = had.0; front = had.2; attached = had.3; state_is = refl; out_is = refl },
-      front_more (g.W.Sink.stream c.args.writer.now) (g.W.Sink.stream c.attach_all.new.writer) had.2 (end_of c.args.ends) had.4,
+      record { panel = had.0; preceding = had.2; attached = had.3; state_is = refl; out_is = refl },
+      preceding_more (g.W.Sink.stream c.args.writer.now) (g.W.Sink.stream c.attach_all.new.writer) had.2 (end_of c.args.ends) had.4,
     )
 
 pub returns-in-Ok-write_end-clause-begun : goal.returns-in-Ok-write_end-clause-begun
@@ -22,7 +22,7 @@ returns-in-Ok-write_end-clause-begun g c =
       had.0 ++ end_of c.args.ends,
       record {
         panel = all_shown g.L.Analysis.meaning c.attach_all.new.bench.listeners;
-        front = had.0;
+        preceding = had.0;
         attached = had.1;
         state_is = begun_state g.L.Analysis.meaning c.args.bench.now c.attach_all.new.bench c.attach_all.ensures.transaction c.requires.unmarked;
         out_is = refl;
@@ -36,8 +36,8 @@ returns-in-Err-write_end-clause-begun g c =
       record { held = module_held c.args.bench.now.transaction; marks = []; panel = all_shown g.L.Analysis.meaning c.attach_all.new.bench.listeners },
       c.in-Ok.accepted,
       had.0 ++ end_of c.args.ends,
-      record { panel = all_shown g.L.Analysis.meaning c.attach_all.new.bench.listeners; front = had.0; attached = had.1; state_is = refl; out_is = refl },
-      front_join (g.W.Sink.stream c.args.writer.now) (g.W.Sink.stream c.attach_all.new.writer) (g.W.Sink.stream c.write_end.new.writer) had.0 (end_of c.args.ends) had.2 c.in-Err-write_end.ensures,
+      record { panel = all_shown g.L.Analysis.meaning c.attach_all.new.bench.listeners; preceding = had.0; attached = had.1; state_is = refl; out_is = refl },
+      preceding_join (g.W.Sink.stream c.args.writer.now) (g.W.Sink.stream c.attach_all.new.writer) (g.W.Sink.stream c.write_end.new.writer) had.0 (end_of c.args.ends) had.2 c.in-Err-write_end.ensures,
     )
 
 pub returns-in-Err-clause-mode : goal.returns-in-Err-clause-mode

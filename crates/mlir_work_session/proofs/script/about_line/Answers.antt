@@ -1,6 +1,6 @@
 use Rattle.std.proofs.Common.{subst}
 use Rattle.mlir_work_script.specs.Commands.{spoken_of}
-use Rattle.mlir_work_registry.specs.Notices.{notice_of}
+use Rattle.mlir_work_transforms.specs.registry.Notices.{notice_of}
 use Rattle.mlir_work_session.specs.Explained.{IsAbout, about_bytes}
 use Rattle.mlir_work_session.proofs.Reading.{module_seen}
 use Rattle.mlir_work_session.proofs.script.about_line.Goals as goal

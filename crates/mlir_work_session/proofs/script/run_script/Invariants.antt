@@ -12,9 +12,9 @@ invariant-loop-text g l = let meaning = g.L.Analysis.meaning in record {
   kept : AgreesOrStale meaning l.bench;
   mode : l.bench.transaction.ctx.opaque ≡ l.session_options.opaque;
   count : l.n + length l.text ≤ 1 + length l.script;
-  front : List ℕ;
-  wrote : Grows (g.W.Sink.stream l.initial.writer) (g.W.Sink.stream l.writer) front;
-  whole : (later : ℕ) (rest : List ℕ) → Runs (session_setting g.L.AnalysisSource.supply l.session_options) l.n (sitting_of meaning l.bench l.registry) (lines_of l.text) later rest → Runs (session_setting g.L.AnalysisSource.supply l.session_options) 1 (sitting_of meaning l.initial.bench l.initial.registry) (lines_of l.script) (worse l.accepted later) (front ++ rest);
+  preceding : List ℕ;
+  wrote : Grows (g.W.Sink.stream l.initial.writer) (g.W.Sink.stream l.writer) preceding;
+  whole : (later : ℕ) (rest : List ℕ) → Runs (session_setting g.L.AnalysisSource.supply l.session_options) l.n (sitting_of meaning l.bench l.registry) (lines_of l.text) later rest → Runs (session_setting g.L.AnalysisSource.supply l.session_options) 1 (sitting_of meaning l.initial.bench l.initial.registry) (lines_of l.script) (worse l.accepted later) (preceding ++ rest);
 }
 
 abbrev pub decreases-loop-text : goal.decreases-loop-text

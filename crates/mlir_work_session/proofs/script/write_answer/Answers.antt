@@ -1,9 +1,9 @@
 use Rattle.std.proofs.Common.{◌++◌, ◌&&◌, not, [], refl, append-nil}
-use Rattle.mlir_work_script_base.proofs.Joins.{grows_join, puts_join, front_more, front_within}
+use Rattle.mlir_work_script_base.proofs.Joins.{grows_join, puts_join, preceding_more, preceding_within}
 use Rattle.mlir_work_script.specs.Commands.{spoken_of}
 use Rattle.mlir_work_transforms.specs.rewriter.RewriterCalls.{state_of}
-use Rattle.mlir_work_registry.specs.Explained.{told_text}
-use Rattle.mlir_work_registry.specs.Notices.{notice_of}
+use Rattle.mlir_work_transforms.specs.registry.Explained.{told_text}
+use Rattle.mlir_work_transforms.specs.registry.Notices.{notice_of}
 use Rattle.mlir_work_session.specs.Explained.{about_bytes}
 use Rattle.mlir_work_session.specs.Output.{asks}
 use Rattle.mlir_work_session.proofs.Listings.{some_listing_if}
@@ -14,14 +14,14 @@ returns-in-Err g c =
     let about = about_bytes c.about_line-about.result in
     let line = told_text c.args.n c.args.expected.now (notice_of c.args.answered.now.notice) about in
     let more = some_listing_if (not c.args.session_options.now.brief && not (asks (spoken_of c.args.line.now))) (state_of g.L.Analysis.meaning c.args.bench.now) in
-    (line ++ (c.args.answered.now.shows.items ++ more.0), (about, more.0, c.about_line-about.ensures, more.1, refl), front_more (g.W.Sink.stream c.args.writer.now) (g.W.Sink.stream c.write_response.new.writer) line (c.args.answered.now.shows.items ++ more.0) (rw c.bytes.ensures at c.in-Err.ensures))
+    (line ++ (c.args.answered.now.shows.items ++ more.0), (about, more.0, c.about_line-about.ensures, more.1, refl), preceding_more (g.W.Sink.stream c.args.writer.now) (g.W.Sink.stream c.write_response.new.writer) line (c.args.answered.now.shows.items ++ more.0) (rw c.bytes.ensures at c.in-Err.ensures))
 
 pub returns-in-Err-write : goal.returns-in-Err-write
 returns-in-Err-write g c =
     let about = about_bytes c.about_line-about.result in
     let line = told_text c.args.n c.args.expected.now (notice_of c.args.answered.now.notice) about in
     let more = some_listing_if (not c.args.session_options.now.brief && not (asks (spoken_of c.args.line.now))) (state_of g.L.Analysis.meaning c.args.bench.now) in
-    (line ++ (c.args.answered.now.shows.items ++ more.0), (about, more.0, c.about_line-about.ensures, more.1, refl), front_within _ _ _ _ line c.args.answered.now.shows.items more.0 refl (rw c.bytes.ensures at c.in-Ok.ensures) (rw c.deref.ensures.value at c.in-Err-write.ensures))
+    (line ++ (c.args.answered.now.shows.items ++ more.0), (about, more.0, c.about_line-about.ensures, more.1, refl), preceding_within _ _ _ _ line c.args.answered.now.shows.items more.0 refl (rw c.bytes.ensures at c.in-Ok.ensures) (rw c.deref.ensures.value at c.in-Err-write.ensures))
 
 pub returns-then-is_listed : goal.returns-then-is_listed
 returns-then-is_listed g c =

@@ -1,7 +1,7 @@
 use Rattle.std.proofs.Common.{◌∙◌}
 use Rattle.mlir_work_transforms.specs.rewriter.Held.{module_held}
 use Rattle.mlir_work_transforms.specs.rewriter.Panels.{all_shown}
-use Rattle.mlir_work_registry.specs.Registry.{registry_model}
+use Rattle.mlir_work_transforms.specs.registry.Registry.{registry_model}
 use Rattle.mlir_work_session.specs.Machine.{session_setting}
 use Rattle.mlir_work_session.proofs.Sessions.{session_ran, session_cut, session_begun}
 use Rattle.mlir_work_session.proofs.session.attach_and_run.Goals as goal

@@ -4,7 +4,7 @@ use Rattle.std.specs.Prelude.{length}
 use Rattle.ir_event.specs.types.Things.{ContextModel}
 use Rattle.ir_event.specs.Modules.{Module, module_in, module_meaning}
 use Rattle.mlir_work_transforms.specs.rewriter.Panels.{all_shown}
-use Rattle.mlir_work_registry.specs.Registry.{registry_model}
+use Rattle.mlir_work_transforms.specs.registry.Registry.{registry_model}
 use Rattle.mlir_work_session.specs.Machine.{session_setting}
 use Rattle.mlir_work_session.specs.Output.{IsSession, IsBadScript, Session}
 use Rattle.mlir_work_session.proofs.Sessions.{short, ran_weaker}

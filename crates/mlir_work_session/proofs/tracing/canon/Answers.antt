@@ -3,7 +3,7 @@ use Rattle.mlir_work_transforms.specs.greedy.Changes.{canonicalizing}
 use Rattle.mlir_work_transforms.specs.rewriter.RewriterCalls.{state_of}
 use Rattle.mlir_work_session.specs.Machine.{session_setting}
 use Rattle.mlir_work_session.proofs.Fulfilling.{fulfils_told, told_trace}
-use Rattle.mlir_work_session.proofs.Room.{traced_room}
+use Rattle.mlir_work_session.proofs.Headroom.{traced_headroom}
 use Rattle.mlir_work_session.proofs.tracing.canon.Goals as goal
 
 pub returns-clause-fulfils : goal.returns-clause-fulfils
@@ -11,9 +11,9 @@ returns-clause-fulfils g c supply =
     fulfils_told (session_setting supply c.args.session_options.now) None c.args.limit (canonicalizing c.limit_of.result) _ _ _ _ _ (ap (λ n. Some (canonicalizing n)) (sym c.limit_of.ensures)) c.trace_reply.ensures.reply c.canon_traced-called.ensures.does
     (told_trace _ _ _ _ _ _ _ _ _ c.limit_of.ensures c.new-lines.ensures.text (ap (λ (ns : List (Vec ℕ Global)). map (λ n. n.items) ns) c.new-lines.ensures.names) c.canon_traced-called.ensures.told c.trace_reply.ensures.shows)
 
-pub returns-clause-room : goal.returns-clause-room
-returns-clause-room g c f is =
-    traced_room (state_of g.L.Analysis.meaning c.args.bench.now) _ f (canonicalizing c.limit_of.result) _ _ _ _ (λ more. inr more) (ap (λ n. Some (canonicalizing n)) (sym c.limit_of.ensures)) is c.trace_reply.ensures.reply c.canon_traced-called.ensures.room
+pub returns-clause-headroom : goal.returns-clause-headroom
+returns-clause-headroom g c f is =
+    traced_headroom (state_of g.L.Analysis.meaning c.args.bench.now) _ f (canonicalizing c.limit_of.result) _ _ _ _ (λ more. inr more) (ap (λ n. Some (canonicalizing n)) (sym c.limit_of.ensures)) is c.trace_reply.ensures.reply c.canon_traced-called.ensures.headroom
 
 pub returns-clause-kept : goal.returns-clause-kept
 returns-clause-kept g c = c.led_benches_are_kept.ensures.kept _ _ c.canon_traced-called.ensures.led c.requires

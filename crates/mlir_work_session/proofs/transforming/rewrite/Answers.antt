@@ -3,25 +3,25 @@ use Rattle.std.specs.Prelude.{option_map}
 use Rattle.ir_event.specs.types.declared.refusal.Refusal.TheVariants.{Full, Memory}
 use Rattle.mlir_work_transforms.specs.greedy.Changes.{rewriting}
 use Rattle.mlir_work_transforms.specs.greedy.PatternSet.{by_rules}
-use Rattle.mlir_work_registry.specs.RuleLists.{names_of}
+use Rattle.mlir_work_transforms.specs.registry.RuleLists.{names_of}
 use Rattle.mlir_work_session.specs.Machine.{limit_or, session_setting}
 use Rattle.mlir_work_session.proofs.Fulfilling.{fulfils_ruled, fulfils_unlisted, fulfils_unruled}
-use Rattle.mlir_work_session.proofs.Room.{other_room, rules_rewrite, rules_room}
+use Rattle.mlir_work_session.proofs.Headroom.{other_headroom, rules_rewrite, rules_headroom}
 use Rattle.mlir_work_session.proofs.transforming.rewrite.Goals as goal
 
 pub returns-in-Ok-None-clause-fulfils : goal.returns-in-Ok-None-clause-fulfils
 returns-in-Ok-None-clause-fulfils g c supply =
     fulfils_unruled (session_setting supply c.args.session_options.now) (names_of c.args.rules.now) c.args.limit _ (sym (ap (option_map (λ rs. rewriting (by_rules rs) (limit_or c.args.session_options.now.limit c.args.limit))) (rw c.in-Ok-None.field-0-is at c.in-Ok-None.ensures.rules)))
 
-pub returns-in-Ok-None-clause-room : goal.returns-in-Ok-None-clause-room
-returns-in-Ok-None-clause-room g c f is = other_room _ _ f _ (λ e. cc)
+pub returns-in-Ok-None-clause-headroom : goal.returns-in-Ok-None-clause-headroom
+returns-in-Ok-None-clause-headroom g c f is = other_headroom _ _ f _ (λ e. cc)
 
 pub returns-in-Err-clause-fulfils : goal.returns-in-Err-clause-fulfils
 returns-in-Err-clause-fulfils g c supply =
     fulfils_unlisted (session_setting supply c.args.session_options.now) (names_of c.args.rules.now) c.args.limit _ c.in-Err.refusal c.in-Err.ensures.want.0 c.in-Err.ensures.want.1
 
-pub returns-in-Err-clause-room : goal.returns-in-Err-clause-room
-returns-in-Err-clause-room g c f is = other_room _ _ f c.in-Err.refusal (λ e. let z : Memory ≡ Full = sym c.in-Err.ensures.want.0 ∙ e in cc)
+pub returns-in-Err-clause-headroom : goal.returns-in-Err-clause-headroom
+returns-in-Err-clause-headroom g c f is = other_headroom _ _ f c.in-Err.refusal (λ e. let z : Memory ≡ Full = sym c.in-Err.ensures.want.0 ∙ e in cc)
 
 pub returns-clause-fulfils : goal.returns-clause-fulfils
 returns-clause-fulfils g c supply =
@@ -29,11 +29,11 @@ returns-clause-fulfils g c supply =
     let rules = rw c.in-Ok-Some.field-0-is at c.in-Ok-Some.ensures.rules in
     fulfils_ruled (session_setting supply c.args.session_options.now) names c.args.limit (rewriting (by_rules c.in-Ok-Some.rules.items) c.limit_of.result) _ _ _ _ (rules_rewrite names _ _ _ rules c.limit_of.ensures) c.reply_canonical.ensures (rw c.deref.ensures.value at c.rewrite.ensures.does)
 
-pub returns-clause-room : goal.returns-clause-room
-returns-clause-room g c f is =
+pub returns-clause-headroom : goal.returns-clause-headroom
+returns-clause-headroom g c f is =
     let names = names_of c.args.rules.now in
     let rules = rw c.in-Ok-Some.field-0-is at c.in-Ok-Some.ensures.rules in
-    rules_room _ names c.in-Ok-Some.rules.items _ _ f _ _ _ _ (λ more. inr more) rules c.limit_of.ensures is c.reply_canonical.ensures (rw c.deref.ensures.value at c.rewrite.ensures.room)
+    rules_headroom _ names c.in-Ok-Some.rules.items _ _ f _ _ _ _ (λ more. inr more) rules c.limit_of.ensures is c.reply_canonical.ensures (rw c.deref.ensures.value at c.rewrite.ensures.headroom)
 
 pub returns-clause-kept : goal.returns-clause-kept
 returns-clause-kept g c = c.led_benches_are_kept.ensures.kept _ _ c.rewrite.ensures.led c.requires

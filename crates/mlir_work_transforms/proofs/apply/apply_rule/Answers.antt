@@ -8,5 +8,5 @@ returns-clause-does g c =
     applied_does g.L.Analysis.meaning (λ (m : Module). rewrite_of c.args.rule m c.args.op) c.args.op c.args.bench.now c.apply.new.bench c.apply.result c.apply.ensures.there c.apply.ensures.ok c.apply.ensures.err c.apply.ensures.refused c.apply.ensures.stays.opens
     (c.led_benches_are_kept.ensures.ages c.args.bench.now c.apply.new.bench c.apply.ensures.stays.led)
 
-pub returns-clause-room : goal.returns-clause-room
-returns-clause-room g c = applied_full (λ (m : Module). rewrite_of c.args.rule m c.args.op) c.args.op _ c.apply.result c.apply.new.bench.transaction.ctx c.apply.ensures.there c.apply.ensures.refused
+pub returns-clause-headroom : goal.returns-clause-headroom
+returns-clause-headroom g c = applied_full (λ (m : Module). rewrite_of c.args.rule m c.args.op) c.args.op _ c.apply.result c.apply.new.bench.transaction.ctx c.apply.ensures.there c.apply.ensures.refused

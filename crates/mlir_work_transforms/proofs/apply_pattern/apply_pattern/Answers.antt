@@ -9,5 +9,5 @@ returns-clause-does g c =
     applied_does g.L.Analysis.meaning (λ (m : Module). own_rewrite (pattern_model c.args.pattern.now) m c.args.op) c.args.op c.args.bench.now c.apply_pattern.new.bench c.apply_pattern.result c.apply_pattern.ensures.there c.apply_pattern.ensures.ok c.apply_pattern.ensures.err c.apply_pattern.ensures.refused c.apply_pattern.ensures.stays.opens
     (c.led_benches_are_kept.ensures.ages c.args.bench.now c.apply_pattern.new.bench c.apply_pattern.ensures.stays.led)
 
-pub returns-clause-room : goal.returns-clause-room
-returns-clause-room g c = applied_full (λ (m : Module). own_rewrite (pattern_model c.args.pattern.now) m c.args.op) c.args.op _ c.apply_pattern.result c.apply_pattern.new.bench.transaction.ctx c.apply_pattern.ensures.there c.apply_pattern.ensures.refused
+pub returns-clause-headroom : goal.returns-clause-headroom
+returns-clause-headroom g c = applied_full (λ (m : Module). own_rewrite (pattern_model c.args.pattern.now) m c.args.op) c.args.op _ c.apply_pattern.result c.apply_pattern.new.bench.transaction.ctx c.apply_pattern.ensures.there c.apply_pattern.ensures.refused

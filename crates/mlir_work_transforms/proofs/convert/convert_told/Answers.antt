@@ -11,7 +11,7 @@ use Rattle.mlir_work_transforms.proofs.convert.convert_told.Goals as goal
 pub returns-in-Err-clause-does : goal.returns-in-Err-clause-does
 returns-in-Err-clause-does g c =
     refused_does g.L.Analysis.meaning (command_aim (said_target c.args.full (clauses_of c.args.clauses.now))) c.args.bench.now c.target_of.new.bench c.target_of.ensures.interned c.in-Err.refusal c.led_benches_are_kept.ensures.ages
-    c.in-Err.ensures.want (c.target_of.ensures.interned.led c.is_formed.ensures.context.holds).1
+    c.in-Err.ensures.want (c.target_of.ensures.interned.led c.is_wellformed.ensures.context.holds).1
 
 pub returns-in-Err-clause-converts : goal.returns-in-Err-clause-converts
 returns-in-Err-clause-converts g c =
@@ -21,12 +21,12 @@ pub returns-in-Err-clause-grows : goal.returns-in-Err-clause-grows
 returns-in-Err-clause-grows g c = c.target_of.ensures.interned.grows
 
 pub returns-in-Err-clause-led : goal.returns-in-Err-clause-led
-returns-in-Err-clause-led g c = (c.target_of.ensures.interned.led c.is_formed.ensures.context.holds).1
+returns-in-Err-clause-led g c = (c.target_of.ensures.interned.led c.is_wellformed.ensures.context.holds).1
 
 pub returns-in_default-clause-does : goal.returns-in_default-clause-does
 returns-in_default-clause-does g c =
     unaimed_does g.L.Analysis.meaning (command_aim (said_target c.args.full (clauses_of c.args.clauses.now))) c.args.bench.now c.target_of.new.bench c.target_of.ensures.interned c.led_benches_are_kept.ensures.ages
-    (ap (option_map (target_model c.target_of.new.bench.transaction.ctx)) (sym c.in_default.is) ∙ c.in-Ok.ensures.aim) (c.target_of.ensures.interned.led c.is_formed.ensures.context.holds).1
+    (ap (option_map (target_model c.target_of.new.bench.transaction.ctx)) (sym c.in_default.is) ∙ c.in-Ok.ensures.aim) (c.target_of.ensures.interned.led c.is_wellformed.ensures.context.holds).1
 
 pub returns-in_default-clause-converts : goal.returns-in_default-clause-converts
 returns-in_default-clause-converts g c =
@@ -37,7 +37,7 @@ pub returns-in_default-clause-grows : goal.returns-in_default-clause-grows
 returns-in_default-clause-grows g c = c.target_of.ensures.interned.grows
 
 pub returns-in_default-clause-led : goal.returns-in_default-clause-led
-returns-in_default-clause-led g c = (c.target_of.ensures.interned.led c.is_formed.ensures.context.holds).1
+returns-in_default-clause-led g c = (c.target_of.ensures.interned.led c.is_wellformed.ensures.context.holds).1
 
 pub returns-clause-does : goal.returns-clause-does
 returns-clause-does g c =
@@ -54,7 +54,7 @@ returns-clause-grows g c = grows_trans c.args.bench.now.transaction.ctx c.target
 
 pub returns-clause-led : goal.returns-clause-led
 returns-clause-led g c =
-    then_led g.L.Analysis.meaning (command_aim (said_target c.args.full (clauses_of c.args.clauses.now))) c.args.bench.now c.target_of.new.bench c.target_of.ensures.interned c.convert_traced.new.bench c.is_formed.ensures.context.holds c.convert_traced.ensures.led
+    then_led g.L.Analysis.meaning (command_aim (said_target c.args.full (clauses_of c.args.clauses.now))) c.args.bench.now c.target_of.new.bench c.target_of.ensures.interned c.convert_traced.new.bench c.is_wellformed.ensures.context.holds c.convert_traced.ensures.led
 
 pub returns-in-Err-clause-journal : goal.returns-in-Err-clause-journal
 returns-in-Err-clause-journal g c = c.target_of.ensures.interned.left

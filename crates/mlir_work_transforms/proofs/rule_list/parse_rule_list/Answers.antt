@@ -6,11 +6,11 @@ use Rattle.mlir_work_transforms.specs.Views.{listed_views}
 use Rattle.mlir_work_transforms.proofs.Joined.{all_may}
 use Rattle.mlir_work_transforms.proofs.rule_list.parse_rule_list.Goals as goal
 
-pub returns-in-Ok-None-clause-mixed : goal.returns-in-Ok-None-clause-mixed
-returns-in-Ok-None-clause-mixed c = sym (rw c.in-Ok-None.field-0-is at c.in-Ok-None.ensures.listed)
+pub returns-in-Ok-None-clause-rule_list : goal.returns-in-Ok-None-clause-rule_list
+returns-in-Ok-None-clause-rule_list c = sym (rw c.in-Ok-None.field-0-is at c.in-Ok-None.ensures.listed)
 
-pub returns-in-Ok-clause-mixed : goal.returns-in-Ok-clause-mixed
-returns-in-Ok-clause-mixed c =
+pub returns-in-Ok-clause-rule_list : goal.returns-in-Ok-clause-rule_list
+returns-in-Ok-clause-rule_list c =
     let registry = registry_model c.args.registry.now in
     let names = names_of c.args.list.now in
     let ls = listed_views c.in-Ok-Some.listed.items in

@@ -10,11 +10,11 @@ returns-in-Err-clause-erases g c =
 pub returns-in-Err-clause-led : goal.returns-in-Err-clause-led
 returns-in-Err-clause-led g c =
     let h = c.ops.invariant in
-    led_on g.L.Analysis.meaning c.led_benches_are_kept.ensures.more c.args.bench.now c.ops.bench c.erase.new.self c.is_formed.ensures.context.holds h.ctx (c.erase.ensures.ctx ∙ h.ctx) h.led c.erase.ensures.led
+    led_on g.L.Analysis.meaning c.led_benches_are_kept.ensures.more c.args.bench.now c.ops.bench c.erase.new.self c.is_wellformed.ensures.context.holds h.ctx (c.erase.ensures.ctx ∙ h.ctx) h.led c.erase.ensures.led
 
 pub ops-preserved : goal.ops-preserved
 ops-preserved g c =
-    erasing_more g.L.Analysis.meaning c.led_benches_are_kept.ensures.more c.args.ops.now.items c.ops.ops.items c.pop.new.self.items c.in-Some.op c.args.bench.now c.ops.bench c.erase.new.self c.is_formed.ensures.context.holds c.ops.invariant c.in-Some.ensures.items c.in_default-erase.ensures.does c.erase.ensures.led c.erase.ensures.ctx c.in_default-erase.ensures.journal
+    erasing_more g.L.Analysis.meaning c.led_benches_are_kept.ensures.more c.args.ops.now.items c.ops.ops.items c.pop.new.self.items c.in-Some.op c.args.bench.now c.ops.bench c.erase.new.self c.is_wellformed.ensures.context.holds c.ops.invariant c.in-Some.ensures.items c.in_default-erase.ensures.does c.erase.ensures.led c.erase.ensures.ctx c.in_default-erase.ensures.journal
 
 pub returns-in-Err-clause-noted : goal.returns-in-Err-clause-noted
 returns-in-Err-clause-noted g c =

@@ -50,7 +50,7 @@ returns-in_default-clause-journal g c = recorded_none c.args.bench.now.transacti
 
 pub apply_plan-requires-clause-free : goal.apply_plan-requires-clause-free
 apply_plan-requires-clause-free g c n e =
-    accepted_of c.no_edit_is_refused.ensures c.args.bench.now.transaction c.is_formed.ensures.sound c.is_formed.ensures.formed c.args.rule c.args.op
+    accepted_of c.no_edit_is_refused.ensures c.args.bench.now.transaction c.is_wellformed.ensures.sound c.is_wellformed.ensures.wellformed c.args.rule c.args.op
     (planned_edits c.args.bench.now.transaction.ctx (module_held c.args.bench.now.transaction).next c.args.op c.in-Some.planned) n
     (edits_due c.world-world.result.now c.args.bench.now.transaction c.world-world.ensures.ctx c.world-world.ensures.store c.args.op (λ d n p. planned_edits d n c.args.op p) c.args.rule c.in-Ok.found c.in-Ok.ensures.edits c.in-Some.planned c.in-Some.is) e
 

@@ -6,14 +6,14 @@ use Rattle.patterns_plans.specs.reads.Suited.{IsEligibilityOf}
 use Rattle.patterns.specs.Rows.{those_for}
 use Rattle.patterns.proofs.Firsts.{none_of}
 use Rattle.patterns.proofs.ByList.{list_suffices, none_of_list, some_of_list}
-use Rattle.patterns.proofs.Planned.{none_there, none_front, none_in_order}
+use Rattle.patterns.proofs.Planned.{none_there, none_insertion, none_in_order}
 use Rattle.patterns.proofs.apply_first.find_first.Goals as goal
 
 pub returns-in_default : goal.returns-in_default
 returns-in_default c = none_of c.args.rows.now.rules.now (module_in c.args.world.now) c.args.op (λ r. none_there r (module_in c.args.world.now) c.args.op c.in_default.ensures.node)
 
 pub returns-in_default-insertion_point_before : goal.returns-in_default-insertion_point_before
-returns-in_default-insertion_point_before c = none_of c.args.rows.now.rules.now (module_in c.args.world.now) c.args.op (λ r. none_front r (module_in c.args.world.now) c.args.op c.in_default-insertion_point_before.ensures)
+returns-in_default-insertion_point_before c = none_of c.args.rows.now.rules.now (module_in c.args.world.now) c.args.op (λ r. none_insertion r (module_in c.args.world.now) c.args.op c.in_default-insertion_point_before.ensures)
 
 pub returns-in-Ineligible : goal.returns-in-Ineligible
 returns-in-Ineligible c =

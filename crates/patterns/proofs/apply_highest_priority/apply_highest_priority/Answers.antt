@@ -59,7 +59,7 @@ returns-in_default-clause-journal g c = recorded_none c.args.bench.now.transacti
 pub apply_plan-requires-clause-free : goal.apply_plan-requires-clause-free
 apply_plan-requires-clause-free g c =
     free_held c.world-world.result.now c.args.bench.now.transaction c.world-world.ensures.ctx c.world-world.ensures.store c.args.op c.in-Some.found (subst (IsHighestPriority c.world-world.result.now c.args.op) c.in-Some.is c.in-Ok.ensures)
-    c.no_edit_is_refused.ensures c.is_formed.ensures.sound c.is_formed.ensures.formed
+    c.no_edit_is_refused.ensures c.is_wellformed.ensures.sound c.is_wellformed.ensures.wellformed
 
 pub returns-in_default-clause-there : goal.returns-in_default-clause-there
 returns-in_default-clause-there g c gone = absurd (is_there c.world-world.result.now c.args.bench.now.transaction c.world-world.ensures.ctx c.world-world.ensures.store c.args.op c.in_tree.result c.in_tree.ensures c.if-not-in_tree.false gone)

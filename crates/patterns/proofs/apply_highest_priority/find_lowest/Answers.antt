@@ -6,14 +6,14 @@ use Rattle.patterns_plans.specs.reads.Reads.{header_of_node}
 use Rattle.patterns_plans.specs.reads.Suited.{IsEligibilityOf}
 use Rattle.patterns.proofs.Firsts.{none_lowest}
 use Rattle.patterns.proofs.Lowering.{row_suffices, none_first_lowest, first_lowest}
-use Rattle.patterns.proofs.Planned.{none_there, none_front, none_in_order}
+use Rattle.patterns.proofs.Planned.{none_there, none_insertion, none_in_order}
 use Rattle.patterns.proofs.apply_highest_priority.find_lowest.Goals as goal
 
 pub returns-in_default : goal.returns-in_default
 returns-in_default c = none_lowest (module_in c.args.world.now) c.args.op (λ r. none_there r (module_in c.args.world.now) c.args.op c.in_default.ensures.node)
 
 pub returns-in_default-insertion_point_before : goal.returns-in_default-insertion_point_before
-returns-in_default-insertion_point_before c = none_lowest (module_in c.args.world.now) c.args.op (λ r. none_front r (module_in c.args.world.now) c.args.op c.in_default-insertion_point_before.ensures)
+returns-in_default-insertion_point_before c = none_lowest (module_in c.args.world.now) c.args.op (λ r. none_insertion r (module_in c.args.world.now) c.args.op c.in_default-insertion_point_before.ensures)
 
 pub returns-in-Ineligible : goal.returns-in-Ineligible
 returns-in-Ineligible c =

@@ -3,7 +3,7 @@ use Rattle.patterns_lowering.specs.Contents.{all_edited}
 use Rattle.patterns_lowering.specs.Held.{module_held}
 use Rattle.patterns_lowering.specs.Lists.{IsWhy, edits_meaning}
 use Rattle.patterns.specs.Planned.{planned_edits}
-use Rattle.patterns.proofs.Carrying.{applied_none, applied_added, applied_along, journaled_along, kept_added, kept_along, no_room, wanting, was_carried, was_limited}
+use Rattle.patterns.proofs.Carrying.{applied_none, applied_added, applied_along, journaled_along, kept_added, kept_along, no_headroom, wanting, was_carried, was_limited}
 use Rattle.patterns_lowering.proofs.Journals.{recorded_none}
 use Rattle.patterns.proofs.apply_plan.apply_plan.Goals as goal
 
@@ -15,7 +15,7 @@ pub returns-in-Some-clause-stays : goal.returns-in-Some-clause-stays
 returns-in-Some-clause-stays g c = applied_none g.L.Analysis.meaning c.args.bench.now
 
 pub returns-in-Err-clause-carried : goal.returns-in-Err-clause-carried
-returns-in-Err-clause-carried g c = (c.in-Err.ensures.added.grown.same, no_room (planned_edits c.args.bench.now.transaction.ctx (module_held c.args.bench.now.transaction).next c.args.op c.args.planned) (module_held c.args.bench.now.transaction) c.edits_for.new.bench.transaction.ctx c.in-Err.refusal c.in-Err.ensures.refused)
+returns-in-Err-clause-carried g c = (c.in-Err.ensures.added.grown.same, no_headroom (planned_edits c.args.bench.now.transaction.ctx (module_held c.args.bench.now.transaction).next c.args.op c.args.planned) (module_held c.args.bench.now.transaction) c.edits_for.new.bench.transaction.ctx c.in-Err.refusal c.in-Err.ensures.refused)
 
 pub returns-in-Err-clause-stays : goal.returns-in-Err-clause-stays
 returns-in-Err-clause-stays g c = applied_added g.L.Analysis.meaning c.args.bench.now c.edits_for.new.bench c.in-Err.ensures.added
@@ -28,10 +28,10 @@ returns-in-Ok-apply_edits-clause-carried g c =
     (c.in-Ok-apply_edits.ensures.ok ∙ ap (λ z. all_edited (edits_meaning c.edits_for.new.bench.transaction.ctx z) (module_held c.edits_for.new.bench.transaction)) c.deref.ensures.value)
 
 pub returns-in-Ok-apply_edits-clause-stays : goal.returns-in-Ok-apply_edits-clause-stays
-returns-in-Ok-apply_edits-clause-stays g c = applied_along g.L.Analysis.meaning c.args.bench.now c.edits_for.new.bench c.apply_edits.new.bench c.is_formed.ensures.context.holds c.in-Ok.ensures.added c.in-Ok-apply_edits.ensures.along
+returns-in-Ok-apply_edits-clause-stays g c = applied_along g.L.Analysis.meaning c.args.bench.now c.edits_for.new.bench c.apply_edits.new.bench c.is_wellformed.ensures.context.holds c.in-Ok.ensures.added c.in-Ok-apply_edits.ensures.along
 
 pub returns-clause-stays : goal.returns-clause-stays
-returns-clause-stays g c = applied_along g.L.Analysis.meaning c.args.bench.now c.edits_for.new.bench c.apply_edits.new.bench c.is_formed.ensures.context.holds c.in-Ok.ensures.added c.in-Err-apply_edits.ensures.along
+returns-clause-stays g c = applied_along g.L.Analysis.meaning c.args.bench.now c.edits_for.new.bench c.apply_edits.new.bench c.is_wellformed.ensures.context.holds c.in-Ok.ensures.added c.in-Err-apply_edits.ensures.along
 
 pub returns-clause-carried : goal.returns-clause-carried
 returns-clause-carried g c =
@@ -43,7 +43,7 @@ returns-clause-carried g c =
     )
 
 pub returns-in-Ok-apply_edits-clause-journal : goal.returns-in-Ok-apply_edits-clause-journal
-returns-in-Ok-apply_edits-clause-journal g c = journaled_along g.L.Analysis.meaning c.args.bench.now c.edits_for.new.bench c.apply_edits.new.bench c.is_formed.ensures.context.holds c.in-Ok.ensures.added c.in-Ok-apply_edits.ensures.journal
+returns-in-Ok-apply_edits-clause-journal g c = journaled_along g.L.Analysis.meaning c.args.bench.now c.edits_for.new.bench c.apply_edits.new.bench c.is_wellformed.ensures.context.holds c.in-Ok.ensures.added c.in-Ok-apply_edits.ensures.journal
 
 pub returns-in-Some-clause-journal : goal.returns-in-Some-clause-journal
 returns-in-Some-clause-journal g c = recorded_none c.args.bench.now.transaction

@@ -1,4 +1,4 @@
-use Rattle.patterns.proofs.Bounds.{too_full, too_long, has_room}
+use Rattle.patterns.proofs.Bounds.{too_full, too_long, has_headroom}
 use Rattle.patterns.proofs.limits.limit_reason.Goals as goal
 
 pub returns-then-saturating_add-gt-MOST_OPS : goal.returns-then-saturating_add-gt-MOST_OPS
@@ -11,5 +11,5 @@ returns-then-saturating_add-gt4294967295 c =
 
 pub returns : goal.returns
 returns c =
-    has_room c.args.world.now c.args.more c.op_count.result c.saturating_add.result c.op_count.ensures c.saturating_add.ensures c.if-saturating_add-gt-MOST_OPS.false
+    has_headroom c.args.world.now c.args.more c.op_count.result c.saturating_add.result c.op_count.ensures c.saturating_add.ensures c.if-saturating_add-gt-MOST_OPS.false
     c.next_id.result c.from.result c.saturating_add-2.result c.next_id.ensures c.from.ensures c.saturating_add-2.ensures c.if-saturating_add-gt4294967295.false

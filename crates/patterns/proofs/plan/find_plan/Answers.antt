@@ -2,7 +2,7 @@ use Rattle.std.proofs.Common.{option_map, ap, sym, ◌∙◌}
 use Rattle.ir_event.specs.Modules.{module_in}
 use Rattle.patterns_plans.specs.reads.Reads.{header_of_node}
 use Rattle.patterns.specs.Planned.{made_edits}
-use Rattle.patterns.proofs.Planned.{none_there, none_front, none_suited}
+use Rattle.patterns.proofs.Planned.{none_there, none_insertion, none_suited}
 use Rattle.patterns.proofs.plan.find_plan.Goals as goal
 
 pub made_at-requires-clause-eligible : goal.made_at-requires-clause-eligible
@@ -13,7 +13,7 @@ pub returns-in_default-clause-edits : goal.returns-in_default-clause-edits
 returns-in_default-clause-edits c = none_there c.args.rule (module_in c.args.world.now) c.args.op c.in_default.ensures.node
 
 pub returns-in_default-insertion_point_before-clause-edits : goal.returns-in_default-insertion_point_before-clause-edits
-returns-in_default-insertion_point_before-clause-edits c = none_front c.args.rule (module_in c.args.world.now) c.args.op c.in_default-insertion_point_before.ensures
+returns-in_default-insertion_point_before-clause-edits c = none_insertion c.args.rule (module_in c.args.world.now) c.args.op c.in_default-insertion_point_before.ensures
 
 pub returns-then-not-allows-clause-edits : goal.returns-then-not-allows-clause-edits
 returns-then-not-allows-clause-edits c =

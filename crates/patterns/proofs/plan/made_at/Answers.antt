@@ -1,7 +1,7 @@
 use Rattle.std.proofs.Common.{option_map, sym, ◌∙◌}
 use Rattle.std.proofs.lemmas.Result.{IfOk-weaker}
 use Rattle.ir_event.specs.Modules.{module_in}
-use Rattle.patterns_lowering.proofs.Asked.{verified_shown}
+use Rattle.patterns_lowering.proofs.Requested.{verified_shown}
 use Rattle.patterns.specs.Planned.{made_edits}
 use Rattle.patterns_plans.specs.reads.Reads.{header_of_node}
 use Rattle.patterns_soundness.proofs.of_base.Facts.{erases_not, others_suit}

@@ -6,6 +6,6 @@ use Rattle.patterns.proofs.plans.constant.Goals as goal
 
 pub returns-in-Ok-constant_edits-clause-stands : goal.returns-in-Ok-constant_edits-clause-stands
 returns-in-Ok-constant_edits-clause-stands g c =
-    constant_edits_stand c.value_attr.new.bench.transaction.ctx c.is_formed.ensures.context c.args.site.now c.args.ty (type_term c.args.bench.now.transaction.ctx c.args.ty)
+    constant_edits_stand c.value_attr.new.bench.transaction.ctx c.is_wellformed.ensures.context c.args.site.now c.args.ty (type_term c.args.bench.now.transaction.ctx c.args.ty)
     (type_keeps c.args.bench.now.transaction.ctx c.value_attr.new.bench.transaction.ctx c.args.ty _ c.in-Ok.ensures.added.grown.grows (c.requires.of, refl))
     c.in-Ok.value c.args.bits c.in-Ok.ensures.ok _ c.in-Ok-constant_edits.ensures

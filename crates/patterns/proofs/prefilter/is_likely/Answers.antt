@@ -38,18 +38,18 @@ pub returns-in-OpenBranch-clause-left_out : goal.returns-in-OpenBranch-clause-le
 returns-in-OpenBranch-clause-left_out c e =
     let t = (module_in c.args.world.now).tree in
     never c.args.world.now c.args.op c.args.rule (ap is_canonical c.in-OpenBranch.is)
-    (λ o f n front. never_open_branch t n front o c.args.rule c.in-OpenBranch.is (c.may_choose.ensures front o (head_is c.args.op t (header_of_node c.args.world.now.ctx c.args.node.now) o c.requires f) e))
+    (λ o f n insertion. never_open_branch t n insertion o c.args.rule c.in-OpenBranch.is (c.may_choose.ensures insertion o (head_is c.args.op t (header_of_node c.args.world.now.ctx c.args.node.now) o c.requires f) e))
 
 pub returns-in-OpenLoop-clause-left_out : goal.returns-in-OpenLoop-clause-left_out
 returns-in-OpenLoop-clause-left_out c e =
     let t = (module_in c.args.world.now).tree in
     never c.args.world.now c.args.op c.args.rule (ap is_canonical c.in-OpenLoop.is)
-    (λ o f n front. never_open_loop t n front o c.args.rule c.in-OpenLoop.is (c.may_go_once.ensures front o (head_is c.args.op t (header_of_node c.args.world.now.ctx c.args.node.now) o c.requires f) e))
+    (λ o f n insertion. never_open_loop t n insertion o c.args.rule c.in-OpenLoop.is (c.may_go_once.ensures insertion o (head_is c.args.op t (header_of_node c.args.world.now.ctx c.args.node.now) o c.requires f) e))
 
 pub returns-in-StopLoop-clause-left_out : goal.returns-in-StopLoop-clause-left_out
 returns-in-StopLoop-clause-left_out c e =
     never c.args.world.now c.args.op c.args.rule (ap is_canonical c.in-StopLoop.is)
-    (λ o f n front. when_stop_loop (module_in c.args.world.now).tree n front c.args.op o f None c.args.rule c.in-StopLoop.is (sym (c.may_stop.ensures front e)))
+    (λ o f n insertion. when_stop_loop (module_in c.args.world.now).tree n insertion c.args.op o f None c.args.rule c.in-StopLoop.is (sym (c.may_stop.ensures insertion e)))
 
 pub returns-then-is_canonical : goal.returns-then-is_canonical
 returns-then-is_canonical c =

@@ -4,21 +4,21 @@ use Rattle.patterns_lowering.proofs.apply_edits.apply_edits.Goals as goal
 
 pub returns-in-Ok-clause-along : goal.returns-in-Ok-clause-along
 returns-in-Ok-clause-along g c =
-    kept_along g.L.Analysis.meaning c.led_benches_are_kept.ensures.more c.args.bench.now c.step.new.self c.carry.new.bench c.commit.new.self c.is_formed.ensures.context.holds
+    kept_along g.L.Analysis.meaning c.led_benches_are_kept.ensures.more c.args.bench.now c.step.new.self c.carry.new.bench c.commit.new.self c.is_wellformed.ensures.context.holds
     (record { ctx = c.step.ensures.ctx; goes = c.in_default.ensures.does; led = c.step.ensures.led }) c.in-Ok.ensures.along (record { ctx = c.commit.ensures.ctx; led = c.commit.ensures.led }) _ c.commit.ensures.does
 
 pub returns-in-Ok-clause-journal : goal.returns-in-Ok-clause-journal
 returns-in-Ok-clause-journal g c =
     let begun : Begun g.L.Analysis.meaning c.args.bench.now c.step.new.self = record { ctx = c.step.ensures.ctx; goes = c.in_default.ensures.does; led = c.step.ensures.led } in
     let closed : Closed g.L.Analysis.meaning c.carry.new.bench c.commit.new.self = record { ctx = c.commit.ensures.ctx; led = c.commit.ensures.led } in
-    noted_whole g.L.Analysis.meaning c.led_benches_are_kept.ensures.more c.args.bench.now c.step.new.self c.carry.new.bench c.commit.new.self c.is_formed.ensures.context.holds begun c.in-Ok.ensures.along closed c.in_default.ensures.ok c.commit.result
+    noted_whole g.L.Analysis.meaning c.led_benches_are_kept.ensures.more c.args.bench.now c.step.new.self c.carry.new.bench c.commit.new.self c.is_wellformed.ensures.context.holds begun c.in-Ok.ensures.along closed c.in_default.ensures.ok c.commit.result
     c.commit.ensures.ok c.commit.ensures.none
-    (kept_along g.L.Analysis.meaning c.led_benches_are_kept.ensures.more c.args.bench.now c.step.new.self c.carry.new.bench c.commit.new.self c.is_formed.ensures.context.holds begun c.in-Ok.ensures.along closed _ c.commit.ensures.does)
-    c.step.ensures.untold c.in-Ok.ensures.journal c.commit.ensures.untold c.is_formed.ensures.none
+    (kept_along g.L.Analysis.meaning c.led_benches_are_kept.ensures.more c.args.bench.now c.step.new.self c.carry.new.bench c.commit.new.self c.is_wellformed.ensures.context.holds begun c.in-Ok.ensures.along closed _ c.commit.ensures.does)
+    c.step.ensures.untold c.in-Ok.ensures.journal c.commit.ensures.untold c.is_wellformed.ensures.none
 
 pub returns-in-Err-carry-clause-along : goal.returns-in-Err-carry-clause-along
 returns-in-Err-carry-clause-along g c =
-    undone_along g.L.Analysis.meaning c.led_benches_are_kept.ensures.more c.args.bench.now c.step.new.self c.carry.new.bench c.rollback.new.self c.is_formed.ensures.context.holds
+    undone_along g.L.Analysis.meaning c.led_benches_are_kept.ensures.more c.args.bench.now c.step.new.self c.carry.new.bench c.rollback.new.self c.is_wellformed.ensures.context.holds
     (record { ctx = c.step.ensures.ctx; goes = c.in_default.ensures.does; led = c.step.ensures.led }) c.in-Err-carry.ensures.along (record { ctx = c.rollback.ensures.ctx; led = c.rollback.ensures.led }) _ c.rollback.ensures.does
 
 pub returns-in-Err-clause-journal : goal.returns-in-Err-clause-journal
@@ -26,4 +26,4 @@ returns-in-Err-clause-journal g c = keeps_left g.L.Analysis.meaning c.args.bench
 
 pub returns-in-Err-carry-clause-journal : goal.returns-in-Err-carry-clause-journal
 returns-in-Err-carry-clause-journal g c =
-    recorded_back c.rollback.result c.args.bench.now.transaction c.step.new.self.transaction c.carry.new.bench.transaction c.rollback.new.self.transaction c.in_default.ensures.ok c.in-Err-carry.ensures.noted c.rollback.ensures.ok c.rollback.ensures.none c.is_formed.ensures.none
+    recorded_back c.rollback.result c.args.bench.now.transaction c.step.new.self.transaction c.carry.new.bench.transaction c.rollback.new.self.transaction c.in_default.ensures.ok c.in-Err-carry.ensures.noted c.rollback.ensures.ok c.rollback.ensures.none c.is_wellformed.ensures.none

@@ -9,12 +9,12 @@ edits-init g c = carrying_none g.L.Analysis.meaning c.led_benches_are_kept.ensur
 
 pub returns-in-Err-clause-along : goal.returns-in-Err-clause-along
 returns-in-Err-clause-along g c =
-    along_on g.L.Analysis.meaning c.led_benches_are_kept.ensures.more c.args.bench.now c.edits.bench c.carry_one.new.bench c.is_formed.ensures.context.holds c.edits.invariant.along c.in-Err.ensures.along
+    along_on g.L.Analysis.meaning c.led_benches_are_kept.ensures.more c.args.bench.now c.edits.bench c.carry_one.new.bench c.is_wellformed.ensures.context.holds c.edits.invariant.along c.in-Err.ensures.along
 
 pub edits-preserved : goal.edits-preserved
 edits-preserved g c =
     let u = uncons c.edits.rest.now c.edit-item.result _ c.in-len1-up.len_at_least c.edit-item.is in
-    carrying_more g.L.Analysis.meaning c.led_benches_are_kept.ensures.more c.args.edits.now _ c.edit-item.result c.args.bench.now c.edits.bench c.carry_one.new.bench c.is_formed.ensures.context.holds
+    carrying_more g.L.Analysis.meaning c.led_benches_are_kept.ensures.more c.args.edits.now _ c.edit-item.result c.args.bench.now c.edits.bench c.carry_one.new.bench c.is_wellformed.ensures.context.holds
     (subst (λ (z : List Coded). Carrying g.L.Analysis.meaning c.args.edits.now z c.args.bench.now c.edits.bench) u c.edits.invariant) c.in_default-carry_one.ensures.tried c.in_default-carry_one.ensures.along c.in_default-carry_one.ensures.journal
 
 pub returns-clause-ok : goal.returns-clause-ok

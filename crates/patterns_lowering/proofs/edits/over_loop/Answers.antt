@@ -8,23 +8,23 @@ use Rattle.patterns_lowering.proofs.edits.over_loop.Goals as goal
 pub loop_edits-requires-clause-of : goal.loop_edits-requires-clause-of
 loop_edits-requires-clause-of g c =
     subst (λ (d : ContextModel). IsIndexedLoop d c.args.of.now) (sym c.world-2.ensures.ctx)
-    (loop_stays c.args.bench.now.transaction.ctx c.interned.new.bench.transaction.ctx c.is_formed.ensures.context.holds c.in-Ok.ensures.interned.grown.grows c.args.of.now c.requires.of)
+    (loop_stays c.args.bench.now.transaction.ctx c.interned.new.bench.transaction.ctx c.is_wellformed.ensures.context.holds c.in-Ok.ensures.interned.grown.grows c.args.of.now c.requires.of)
 
-pub loop_edits-requires-clause-room : goal.loop_edits-requires-clause-room
-loop_edits-requires-clause-room g c =
+pub loop_edits-requires-clause-headroom : goal.loop_edits-requires-clause-headroom
+loop_edits-requires-clause-headroom g c =
     let next = c.next_id-next.ensures ∙ ap (λ (s : Stored). s.module_of.next) c.world.ensures.store in
-    omega (arith, next, c.requires.room)
+    omega (arith, next, c.requires.headroom)
 
 pub returns-in-Ok-loop_edits-clause-edits : goal.returns-in-Ok-loop_edits-clause-edits
 returns-in-Ok-loop_edits-clause-edits g c =
-    loop_stands c.args.bench.now.transaction.ctx c.interned.new.bench.transaction.ctx c.is_formed.ensures.context.holds c.is_formed-2.ensures.context c.in-Ok.ensures.interned.grown.grows
+    loop_stands c.args.bench.now.transaction.ctx c.interned.new.bench.transaction.ctx c.is_wellformed.ensures.context.holds c.is_wellformed-2.ensures.context c.in-Ok.ensures.interned.grown.grows
     c.in-Ok.numbers.wide c.in-Ok.numbers.index c.in-Ok.numbers.properties.items c.in-Ok.ensures.types c.args.bench.now.transaction.store.module_of.next c.args.point.now c.in-Ok-loop_edits.edits.items
     c.args.of.now c.requires.of c.in-Ok.ensures.properties
     c.world-2.result.now.ctx c.next_id-next.result c.world-2.ensures.ctx (c.next_id-next.ensures ∙ ap (λ (s : Stored). s.module_of.next) c.world.ensures.store) c.in-Ok-loop_edits.ensures
 
 pub returns-in-Ok-loop_edits-clause-fit : goal.returns-in-Ok-loop_edits-clause-fit
 returns-in-Ok-loop_edits-clause-fit g c =
-    loop_fitting c.args.bench.now.transaction.ctx c.interned.new.bench.transaction.ctx c.is_formed.ensures.context.holds c.is_formed-2.ensures.context c.in-Ok.ensures.interned.grown.grows
+    loop_fitting c.args.bench.now.transaction.ctx c.interned.new.bench.transaction.ctx c.is_wellformed.ensures.context.holds c.is_wellformed-2.ensures.context c.in-Ok.ensures.interned.grown.grows
     c.in-Ok.numbers.wide c.in-Ok.numbers.index c.in-Ok.numbers.properties.items c.in-Ok.ensures.types c.args.bench.now.transaction.store.module_of.next c.args.point.now c.in-Ok-loop_edits.edits.items
     c.args.of.now c.requires.of c.in-Ok.ensures.properties
     c.world-2.result.now.ctx c.next_id-next.result c.world-2.ensures.ctx (c.next_id-next.ensures ∙ ap (λ (s : Stored). s.module_of.next) c.world.ensures.store) c.in-Ok-loop_edits.ensures

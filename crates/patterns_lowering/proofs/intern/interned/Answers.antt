@@ -19,8 +19,8 @@ returns-in-Ok-lowered_entries-clause-types g c =
 
 pub returns-in-Ok-lowered_entries-clause-interned : goal.returns-in-Ok-lowered_entries-clause-interned
 returns-in-Ok-lowered_entries-clause-interned g c =
-    interned_on g.L.Analysis.meaning c.led_benches_are_kept.ensures.more c.args.bench.now c.interned_types.new.bench c.lowered_entries.new.bench c.is_formed-2.ensures.context.holds c.is_formed-in-Ok-lowered_entries.ensures.context.holds c.in-Ok.ensures.interned c.in-Ok-lowered_entries.ensures.interned
+    interned_on g.L.Analysis.meaning c.led_benches_are_kept.ensures.more c.args.bench.now c.interned_types.new.bench c.lowered_entries.new.bench c.is_wellformed-2.ensures.context.holds c.is_wellformed-in-Ok-lowered_entries.ensures.context.holds c.in-Ok.ensures.interned c.in-Ok-lowered_entries.ensures.interned
 
 pub returns-in-Err-lowered_entries-clause-interned : goal.returns-in-Err-lowered_entries-clause-interned
 returns-in-Err-lowered_entries-clause-interned g c =
-    interned_on g.L.Analysis.meaning c.led_benches_are_kept.ensures.more c.args.bench.now c.interned_types.new.bench c.lowered_entries.new.bench c.is_formed-2.ensures.context.holds c.is_formed-in-Err-lowered_entries.ensures.context.holds c.in-Ok.ensures.interned c.in-Err-lowered_entries.ensures.interned
+    interned_on g.L.Analysis.meaning c.led_benches_are_kept.ensures.more c.args.bench.now c.interned_types.new.bench c.lowered_entries.new.bench c.is_wellformed-2.ensures.context.holds c.is_wellformed-in-Err-lowered_entries.ensures.context.holds c.in-Ok.ensures.interned c.in-Err-lowered_entries.ensures.interned

@@ -7,16 +7,16 @@ use Rattle.patterns_lowering.proofs.Interning.{interned_one, type_interned, type
 use Rattle.patterns_lowering.proofs.intern.interned_type.Goals as goal
 
 pub returns-in-Ok-clause-known : goal.returns-in-Ok-clause-known
-returns-in-Ok-clause-known g c = (type_interned c.args.bench.now.transaction.ctx c.ty-made.new.self.transaction.ctx c.args.node c.in-Ok.id c.is_formed.ensures.context.holds c.in-Ok.ensures.ok).0
+returns-in-Ok-clause-known g c = (type_interned c.args.bench.now.transaction.ctx c.ty-made.new.self.transaction.ctx c.args.node c.in-Ok.id c.is_wellformed.ensures.context.holds c.in-Ok.ensures.ok).0
 
 pub returns-in-Ok-clause-is : goal.returns-in-Ok-clause-is
-returns-in-Ok-clause-is g c = (type_interned c.args.bench.now.transaction.ctx c.ty-made.new.self.transaction.ctx c.args.node c.in-Ok.id c.is_formed.ensures.context.holds c.in-Ok.ensures.ok).1
+returns-in-Ok-clause-is g c = (type_interned c.args.bench.now.transaction.ctx c.ty-made.new.self.transaction.ctx c.args.node c.in-Ok.id c.is_wellformed.ensures.context.holds c.in-Ok.ensures.ok).1
 
 pub returns-in-Ok-clause-interned : goal.returns-in-Ok-clause-interned
-returns-in-Ok-clause-interned g c = interned_one g.L.Analysis.meaning c.args.bench.now c.ty-made.new.self c.is_formed.ensures.context.holds c.is_formed-2.ensures.context.holds c.ty-made.ensures.grown c.ty-made.ensures.listeners
+returns-in-Ok-clause-interned g c = interned_one g.L.Analysis.meaning c.args.bench.now c.ty-made.new.self c.is_wellformed.ensures.context.holds c.is_wellformed-2.ensures.context.holds c.ty-made.ensures.grown c.ty-made.ensures.listeners
 
 pub returns-in-Err-clause-interned : goal.returns-in-Err-clause-interned
-returns-in-Err-clause-interned g c = interned_one g.L.Analysis.meaning c.args.bench.now c.ty-made.new.self c.is_formed.ensures.context.holds c.is_formed-2.ensures.context.holds c.ty-made.ensures.grown c.ty-made.ensures.listeners
+returns-in-Err-clause-interned g c = interned_one g.L.Analysis.meaning c.args.bench.now c.ty-made.new.self c.is_wellformed.ensures.context.holds c.is_wellformed-2.ensures.context.holds c.ty-made.ensures.grown c.ty-made.ensures.listeners
 
 pub returns-in-Err-clause-refused : goal.returns-in-Err-clause-refused
 returns-in-Err-clause-refused g c =

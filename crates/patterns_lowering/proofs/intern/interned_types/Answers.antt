@@ -17,8 +17,8 @@ returns-in-Ok-interned_type-clause-types g c =
 
 pub returns-in-Ok-interned_type-clause-interned : goal.returns-in-Ok-interned_type-clause-interned
 returns-in-Ok-interned_type-clause-interned g c =
-    interned_on g.L.Analysis.meaning c.led_benches_are_kept.ensures.more c.args.bench.now c.interned_type.new.bench c.interned_type-2.new.bench c.is_formed.ensures.context.holds c.is_formed-in-Ok-interned_type.ensures.context.holds c.in-Ok.ensures.interned c.in-Ok-interned_type.ensures.interned
+    interned_on g.L.Analysis.meaning c.led_benches_are_kept.ensures.more c.args.bench.now c.interned_type.new.bench c.interned_type-2.new.bench c.is_wellformed.ensures.context.holds c.is_wellformed-in-Ok-interned_type.ensures.context.holds c.in-Ok.ensures.interned c.in-Ok-interned_type.ensures.interned
 
 pub returns-in-Err-interned_type-clause-interned : goal.returns-in-Err-interned_type-clause-interned
 returns-in-Err-interned_type-clause-interned g c =
-    interned_on g.L.Analysis.meaning c.led_benches_are_kept.ensures.more c.args.bench.now c.interned_type.new.bench c.interned_type-2.new.bench c.is_formed.ensures.context.holds c.is_formed-in-Err-interned_type.ensures.context.holds c.in-Ok.ensures.interned c.in-Err-interned_type.ensures.interned
+    interned_on g.L.Analysis.meaning c.led_benches_are_kept.ensures.more c.args.bench.now c.interned_type.new.bench c.interned_type-2.new.bench c.is_wellformed.ensures.context.holds c.is_wellformed-in-Err-interned_type.ensures.context.holds c.in-Ok.ensures.interned c.in-Err-interned_type.ensures.interned

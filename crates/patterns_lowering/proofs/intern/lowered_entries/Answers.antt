@@ -9,14 +9,14 @@ pub entries-init : goal.entries-init
 entries-init g c = record {
   lowering = subst (λ (made : List (ℕ × ℕ)). IsLowering c.args.bench.now.transaction.ctx c.args.entries.now c.args.entries.now made) (sym c.new-lowered.ensures.items) (lowering_begun c.args.bench.now.transaction.ctx c.args.entries.now c.requires.known);
   interned = interned_none g.L.Analysis.meaning c.led_benches_are_kept.ensures.none c.args.bench.now;
-  holds = c.is_formed.ensures.context.holds;
+  holds = c.is_wellformed.ensures.context.holds;
   known = c.requires.wide_known;
   is = c.requires.wide_is;
 }
 
 pub returns-in-Err-clause-interned : goal.returns-in-Err-clause-interned
 returns-in-Err-clause-interned g c =
-    interned_on g.L.Analysis.meaning c.led_benches_are_kept.ensures.more c.args.bench.now c.entries.bench c.lowered_entry.new.bench c.entries.invariant.holds c.is_formed-in-Err.ensures.context.holds c.entries.invariant.interned c.in-Err.ensures.interned
+    interned_on g.L.Analysis.meaning c.led_benches_are_kept.ensures.more c.args.bench.now c.entries.bench c.lowered_entry.new.bench c.entries.invariant.holds c.is_wellformed-in-Err.ensures.context.holds c.entries.invariant.interned c.in-Err.ensures.interned
 
 pub entries-preserved : goal.entries-preserved
 entries-preserved g c =
@@ -26,8 +26,8 @@ entries-preserved g c =
     let u = uncons c.entries.rest.now c.entry-item.result _ c.in-len1-up.len_at_least c.entry-item.is in
     record {
       lowering = c.in_default-lowered_entry.ensures.lowered c.args.entries.now _ (subst (λ (z : List (ℕ × ℕ)). IsLowering b c.args.entries.now z c.entries.lowered.items) u c.entries.invariant.lowering);
-      interned = interned_on g.L.Analysis.meaning c.led_benches_are_kept.ensures.more c.args.bench.now c.entries.bench c.lowered_entry.new.bench c.entries.invariant.holds c.is_formed-in-len1-up.ensures.context.holds c.entries.invariant.interned c.in_default-lowered_entry.ensures.interned;
-      holds = c.is_formed-in-len1-up.ensures.context.holds;
+      interned = interned_on g.L.Analysis.meaning c.led_benches_are_kept.ensures.more c.args.bench.now c.entries.bench c.lowered_entry.new.bench c.entries.invariant.holds c.is_wellformed-in-len1-up.ensures.context.holds c.entries.invariant.interned c.in_default-lowered_entry.ensures.interned;
+      holds = c.is_wellformed-in-len1-up.ensures.context.holds;
       known = type_known b d c.args.wide grows c.entries.invariant.known;
       is = type_stays b d c.args.wide grows c.entries.invariant.known ∙ c.entries.invariant.is;
     }

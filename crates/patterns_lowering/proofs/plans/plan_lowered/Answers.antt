@@ -7,17 +7,17 @@ use Rattle.patterns_lowering.proofs.plans.plan_lowered.Goals as goal
 pub returns-in-LowerIndex-clause-edits : goal.returns-in-LowerIndex-clause-edits
 returns-in-LowerIndex-clause-edits c =
     IfOk-weaker c.plan_lower_index.result _ _
-    (λ p h o e n front. h o e n front ∙ at_lower_index c.args.rule c.in-LowerIndex.is (module_in c.args.world.now).tree n front o)
+    (λ p h o e n insertion. h o e n insertion ∙ at_lower_index c.args.rule c.in-LowerIndex.is (module_in c.args.world.now).tree n insertion o)
     c.plan_lower_index.ensures.edits
 
 pub returns-in-LowerLoop-clause-edits : goal.returns-in-LowerLoop-clause-edits
 returns-in-LowerLoop-clause-edits c =
     IfOk-weaker c.plan_lower_loop.result _ _
-    (λ p h o e n front. h o e n front ∙ at_lower_loop c.args.rule c.in-LowerLoop.is (module_in c.args.world.now).tree n front o)
+    (λ p h o e n insertion. h o e n insertion ∙ at_lower_loop c.args.rule c.in-LowerLoop.is (module_in c.args.world.now).tree n insertion o)
     c.plan_lower_loop.ensures.edits
 
 pub returns-in-LowerChoice-clause-edits : goal.returns-in-LowerChoice-clause-edits
 returns-in-LowerChoice-clause-edits c =
     IfOk-weaker c.plan_lower_choice.result _ _
-    (λ p h o e n front. h o e n front ∙ at_lower_choice c.args.rule c.in-LowerChoice.is (module_in c.args.world.now).tree n front o)
+    (λ p h o e n insertion. h o e n insertion ∙ at_lower_choice c.args.rule c.in-LowerChoice.is (module_in c.args.world.now).tree n insertion o)
     c.plan_lower_choice.ensures.edits

@@ -19,7 +19,7 @@ pub ops-preserved : goal.ops-preserved
 ops-preserved c =
     let t = c.args.world.now.store.module_of.tree in
     subst (Walked t c.args.op c.args.region c.in-Some-next.next) (sym c.in_ok-push.ensures.items)
-    (walk_goes t c.args.world.now.formed.distinct c.args.op c.args.region c.ops.at c.in-Some-next.next c.ops.ops.items c.ops.invariant c.in-Some-next.ensures)
+    (walk_goes t c.args.world.now.wellformed.distinct c.args.op c.args.region c.ops.at c.in-Some-next.next c.ops.ops.items c.ops.invariant c.in-Some-next.ensures)
 
 pub returns : goal.returns
-returns c = let t = c.args.world.now.store.module_of.tree in walk_ends t c.args.world.now.formed.distinct c.args.op c.args.region c.ops.at c.ops.ops.items c.ops.invariant c.in_default-next.ensures
+returns c = let t = c.args.world.now.store.module_of.tree in walk_ends t c.args.world.now.wellformed.distinct c.args.op c.args.region c.ops.at c.ops.ops.items c.ops.invariant c.in_default-next.ensures

@@ -7,4 +7,4 @@ pub returns-clause-dead : goal.returns-clause-dead
 returns-clause-dead c e = sym c.dead_op.ensures ∙ e
 
 pub returns-clause-left_out : goal.returns-clause-left_out
-returns-clause-left_out c e o f n front = none_dead c.args.op (module_in c.args.world.now).tree o c.dead_op.result c.dead_op.ensures e f n front
+returns-clause-left_out c e o f n insertion = none_dead c.args.op (module_in c.args.world.now).tree o c.dead_op.result c.dead_op.ensures e f n insertion

@@ -4,11 +4,11 @@ use Rattle.patterns_plans.proofs.Headed.{none_dead, one_dead}
 use Rattle.patterns_plans.proofs.dead.plan_erase_dead.Goals as goal
 
 pub returns-then-not-dead_op-clause-edits : goal.returns-then-not-dead_op-clause-edits
-returns-then-not-dead_op-clause-edits c o f n front = none_dead c.args.op (module_in c.args.world.now).tree o c.dead_op.result c.dead_op.ensures c.if-not-dead_op.true f n front
+returns-then-not-dead_op-clause-edits c o f n insertion = none_dead c.args.op (module_in c.args.world.now).tree o c.dead_op.result c.dead_op.ensures c.if-not-dead_op.true f n insertion
 
 pub returns-clause-edits : goal.returns-clause-edits
-returns-clause-edits c o f n front =
-    ap Some (c.in_ok-plan.ensures.edits c.args.world.now.ctx n front) ∙ one_dead c.args.op (module_in c.args.world.now).tree o c.dead_op.result c.dead_op.ensures c.if-not-dead_op.false f n front
+returns-clause-edits c o f n insertion =
+    ap Some (c.in_ok-plan.ensures.edits c.args.world.now.ctx n insertion) ∙ one_dead c.args.op (module_in c.args.world.now).tree o c.dead_op.result c.dead_op.ensures c.if-not-dead_op.false f n insertion
 
 pub returns-clause-fit : goal.returns-clause-fit
 returns-clause-fit c = c.in_ok-plan.ensures.fit c.args.world.now.ctx

@@ -7,17 +7,17 @@ use Rattle.patterns_plans.proofs.Slices.{two_items}
 use Rattle.patterns_plans.proofs.tests.may_go_once.Goals as goal
 
 pub returns-then-not-is_constant : goal.returns-then-not-is_constant
-returns-then-not-is_constant c front o e f =
+returns-then-not-is_constant c insertion o e f =
     let m = (module_in c.args.world.now).tree in
     let v = c.lower-item.result in
     let u = c.upper-item.result in
-    no_open_loop m front o v u (drop 2 c.operands.result.now) (ap (λ (h : Header). h.operands) e ∙ sym c.operands.ensures ∙ two_items c.operands.result.now v u _ _ c.in-len2-up.len_at_least c.lower-item.is c.upper-item.is)
+    no_open_loop m insertion o v u (drop 2 c.operands.result.now) (ap (λ (h : Header). h.operands) e ∙ sym c.operands.ensures ∙ two_items c.operands.result.now v u _ _ c.in-len2-up.len_at_least c.lower-item.is c.upper-item.is)
     (inl (known_not m v _ c.is_constant.ensures c.if-not-is_constant.true))
 
 pub returns : goal.returns
-returns c front o e f =
+returns c insertion o e f =
     let m = (module_in c.args.world.now).tree in
     let v = c.lower-item.result in
     let u = c.upper-item.result in
-    no_open_loop m front o v u (drop 2 c.operands.result.now) (ap (λ (h : Header). h.operands) e ∙ sym c.operands.ensures ∙ two_items c.operands.result.now v u _ _ c.in-len2-up.len_at_least c.lower-item.is c.upper-item.is)
+    no_open_loop m insertion o v u (drop 2 c.operands.result.now) (ap (λ (h : Header). h.operands) e ∙ sym c.operands.ensures ∙ two_items c.operands.result.now v u _ _ c.in-len2-up.len_at_least c.lower-item.is c.upper-item.is)
     (inr (known_not m u _ c.is_constant-2.ensures f))

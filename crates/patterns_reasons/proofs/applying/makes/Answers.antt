@@ -1,7 +1,7 @@
 use Rattle.std.proofs.Common.{◌∙◌, sym}
 use Rattle.ir_event.specs.Modules.{module_in}
 use Rattle.patterns_base.proofs.Facts.{erases_not, others_suit}
-use Rattle.patterns_lowering.proofs.Asked.{verified_shown}
+use Rattle.patterns_lowering.proofs.Requested.{verified_shown}
 use Rattle.patterns_matchers.specs.Reads.{header_of_node}
 use Rattle.patterns_reasons.proofs.applying.makes.Goals as goal
 

@@ -4,7 +4,7 @@ use Rattle.ir_event.specs.types.Terms.{name_term}
 use Rattle.ir_event.specs.Modules.{module_in}
 use Rattle.patterns_base.specs.Rules.{has_rule}
 use Rattle.patterns_matchers.specs.Reads.{header_of_node}
-use Rattle.patterns_reasons.proofs.Reasoned.{asked, at_root, nowhere, other, unfit}
+use Rattle.patterns_reasons.proofs.Reasoned.{requested, at_root, nowhere, other, unfit}
 use Rattle.patterns_reasons.proofs.match_failure.failing_reason.Goals as goal
 
 pub returns-in_default : goal.returns-in_default
@@ -38,6 +38,6 @@ returns c =
     let m = module_in c.args.world.now in
     let h = header_of_node c.args.world.now.ctx c.in-Some.node in
     IfOk-weaker c.tested.result _ _
-    (λ k t. asked c.args.rule m c.args.op h c.in-Some.ensures.node c.in-Some-insertion_point_before.point c.in-Some-insertion_point_before.ensures c.allows.result
+    (λ k t. requested c.args.rule m c.args.op h c.in-Some.ensures.node c.in-Some-insertion_point_before.point c.in-Some-insertion_point_before.ensures c.allows.result
     (c.allows.ensures m.tree (record h { id = c.args.op }) c.in_ok-eligibility.ensures) c.if-not-allows.false c.has_rule.result c.in_ok-applies.applies k (c.has_rule.ensures ∙ ap (λ (n : ℕ). has_rule c.args.rule (name_term c.args.world.now.ctx n)) c.name.ensures) c.if-not-has_rule.false c.in_ok-applies.ensures t)
     c.tested.ensures

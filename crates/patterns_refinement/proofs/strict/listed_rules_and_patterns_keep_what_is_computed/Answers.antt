@@ -1,4 +1,4 @@
-use Rattle.patterns_refinement.proofs.MixedRunning.{shown_are_kept}
+use Rattle.patterns_refinement.proofs.RuleListRunning.{shown_are_kept}
 use Rattle.patterns_refinement.proofs.strict.listed_rules_and_patterns_keep_what_is_computed.Goals as goal
 
 pub returns : goal.returns

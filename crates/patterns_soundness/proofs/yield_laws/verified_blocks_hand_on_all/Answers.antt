@@ -7,5 +7,5 @@ returns-clause-loops c = loops_hand_on_all
 pub returns-clause-choices : goal.returns-clause-choices
 returns-clause-choices c = choices_hand_on_all
 
-pub returns-clause-asked : goal.returns-clause-asked
-returns-clause-asked c = choices_ask_truth
+pub returns-clause-requested : goal.returns-clause-requested
+returns-clause-requested c = choices_ask_truth

@@ -17,6 +17,6 @@ returns-clause-answered g c = elim c.refused_whole.ensures [
   | inr seen ↦ elim c.in-Err-make_each.ensures.pattern_set [
     | inl memory ↦ absurd (seen.1 memory)
     | inr r ↦ inl (c.inserts_are_tried.ensures.failed (tests_in c.args.bench.now.transaction.ctx) c.args.place c.args.tree.now r.made r.rest r.refused c.in-Err-make_each.refusal c.args.bench.now.transaction.store.module_of
-        c.is_formed.ensures.formed c.requires.numbered c.requires.free (r.parts ∙ c.in-Ok.ensures) r.why ∙ ap Some (sym seen.0))
+        c.is_wellformed.ensures.wellformed c.requires.numbered c.requires.free (r.parts ∙ c.in-Ok.ensures) r.why ∙ ap Some (sym seen.0))
   ]
 ]

@@ -29,4 +29,4 @@ returns-in-Err-clause-pattern_set g c =
 pub loop-header-preserved : goal.loop-header-preserved
 loop-header-preserved g c =
     made_more g.L.Analysis.meaning c.inserting_is_making.ensures.parts c.led_benches_are_kept.ensures.more c.deref-header-items.result.now c.loop-header.header-index c.header-item.result c.args.bench.now c.loop-header.bench c.make.new.self
-    c.is_formed.ensures.context.holds c.loop-header-test.true c.header-item.is c.loop-header.invariant c.in_default.ensures.ok
+    c.is_wellformed.ensures.context.holds c.loop-header-test.true c.header-item.is c.loop-header.invariant c.in_default.ensures.ok

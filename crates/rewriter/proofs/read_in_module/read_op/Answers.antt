@@ -1,7 +1,7 @@
 use Rattle.std.proofs.Common.{refl}
 use Rattle.ir_event.proofs.of_trees.Meanings.{stays_sound}
-use Rattle.ir_event.proofs.Growing.{formed_stays, held_stays, module_stays}
-use Rattle.rewriter.proofs.Beside.{types_known, ok_so, ok_numbered, none_beside}
+use Rattle.ir_event.proofs.Growing.{wellformed_stays, held_stays, module_stays}
+use Rattle.rewriter.proofs.NextTo.{types_known, ok_so, ok_numbered, none_next_to}
 use Rattle.rewriter.proofs.read_in_module.read_op.Goals as goal
 
 pub invariant_of-world : goal.invariant_of-world
@@ -10,7 +10,7 @@ invariant_of-world c =
     let grows = c.read_op-read.ensures.grows in
     record {
       sound = stays_sound w.ctx c.read_op-read.new.ctx w.store.module_of.tree grows w.sound;
-      formed = formed_stays w.ctx c.read_op-read.new.ctx w.store.module_of c.sound.ensures.holds grows w.sound w.formed;
+      wellformed = wellformed_stays w.ctx c.read_op-read.new.ctx w.store.module_of c.sound.ensures.holds grows w.sound w.wellformed;
       held = held_stays w.ctx c.read_op-read.new.ctx w.store.held grows w.held;
     }
 
@@ -35,4 +35,4 @@ pub returns-clause-numbered : goal.returns-clause-numbered
 returns-clause-numbered c = ok_numbered c.args.world.now c.args.text.now c.read_op-read.new.ctx c.read_op-read.result c.read_op-read.ensures.read
 
 pub returns-clause-refused : goal.returns-clause-refused
-returns-clause-refused c r o e = none_beside c.args.world.now c.args.text.now (c.read_op-read.ensures.refused r o e)
+returns-clause-refused c r o e = none_next_to c.args.world.now c.args.text.now (c.read_op-read.ensures.refused r o e)

@@ -1,4 +1,4 @@
-use Rattle.rewriter.proofs.Released.{formed_released, held_released, sound_released}
+use Rattle.rewriter.proofs.Released.{wellformed_released, held_released, sound_released}
 use Rattle.rewriter.proofs.release.release.Goals as goal
 
 pub invariant_of-world : goal.invariant_of-world
@@ -6,6 +6,6 @@ invariant_of-world c =
     let w = c.args.world.now in
     record {
       sound = sound_released w.ctx c.args.from w.store c.release.new.self c.release.ensures w.sound;
-      formed = formed_released w.ctx c.args.from w.store c.release.new.self c.release.ensures w.formed;
+      wellformed = wellformed_released w.ctx c.args.from w.store c.release.new.self c.release.ensures w.wellformed;
       held = held_released w.ctx c.args.from w.store c.release.new.self c.release.ensures w.held;
     }

@@ -1,4 +1,4 @@
-use Rattle.rewriter_machine.proofs.Inserted.{made_more, all_made_whole, made_formed, header_allowed, header_next}
+use Rattle.rewriter_machine.proofs.Inserted.{made_more, all_made_whole, made_wellformed, header_allowed, header_next}
 use Rattle.rewriter_machine.proofs.edit_laws.inserting_is_making.Goals as goal
 
 pub returns-clause-parts : goal.returns-clause-parts
@@ -7,8 +7,8 @@ returns-clause-parts g _ w us vs m = made_more w us vs m
 pub returns-clause-whole : goal.returns-clause-whole
 returns-clause-whole g _ w place o m f numbered e = all_made_whole w place o m f numbered e
 
-pub returns-clause-formed : goal.returns-clause-formed
-returns-clause-formed g _ w place o us vs m f numbered e k = made_formed w place o m f numbered e us vs k
+pub returns-clause-wellformed : goal.returns-clause-wellformed
+returns-clause-wellformed g _ w place o us vs m f numbered e k = made_wellformed w place o m f numbered e us vs k
 
 pub returns-clause-reason : goal.returns-clause-reason
 returns-clause-reason g _ w place o us vs u m f numbered e k = header_allowed w place o m f numbered e us vs u k

@@ -4,7 +4,7 @@ use Rattle.rewriter_machine.proofs.Undoings.{store_undone}
 use Rattle.rewriter_machine.proofs.journal_laws.stores_are_of_contexts.Goals as goal
 
 pub returns-clause-world : goal.returns-clause-world
-returns-clause-world _ w sound = record { context = sound; sound = w.sound; formed = w.formed; held = w.held }
+returns-clause-world _ w sound = record { context = sound; sound = w.sound; wellformed = w.wellformed; held = w.held }
 
 pub returns-clause-undone : goal.returns-clause-undone
 returns-clause-undone _ c e p s w f = store_undone c e p s w f

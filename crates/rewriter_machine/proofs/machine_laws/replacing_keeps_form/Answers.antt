@@ -1,4 +1,4 @@
-use Rattle.rewriter_machine.proofs.Formed.{replace_keeps}
+use Rattle.rewriter_machine.proofs.Wellformed.{replace_keeps}
 use Rattle.rewriter_machine.proofs.machine_laws.replacing_keeps_form.Goals as goal
 
 pub returns : goal.returns

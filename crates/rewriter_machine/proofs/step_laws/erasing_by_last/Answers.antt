@@ -1,6 +1,6 @@
 use Rattle.std.proofs.Common.{ap, sym, eqb-true}
 use Rattle.ir_event.specs.trees.Places.{without}
-use Rattle.rewriter_machine.proofs.LastFirst.{last_allowed, last_formed, last_fewer, last_still, last_same}
+use Rattle.rewriter_machine.proofs.LastFirst.{last_allowed, last_wellformed, last_fewer, last_still, last_same}
 use Rattle.rewriter_machine.proofs.step_laws.erasing_by_last.Goals as goal
 
 pub returns-clause-reason : goal.returns-clause-reason
@@ -18,5 +18,5 @@ returns-clause-last g _ w x y m e = ap (λ z. record m { tree = without z m.tree
 pub returns-clause-fewer : goal.returns-clause-fewer
 returns-clause-fewer g _ w x y ys m f e is = last_fewer w x y ys m f e is
 
-pub returns-clause-formed : goal.returns-clause-formed
-returns-clause-formed g _ w x y ys m f e is = last_formed w x y ys m f e is
+pub returns-clause-wellformed : goal.returns-clause-wellformed
+returns-clause-wellformed g _ w x y ys m f e is = last_wellformed w x y ys m f e is

@@ -4,7 +4,7 @@ use Rattle.user_patterns_data.specs.Shapes.{pattern_model}
 use Rattle.user_patterns_apply.specs.Own.{own_rewrite}
 use Rattle.user_patterns_apply.specs.Planned.{planned_edits}
 use Rattle.user_patterns_apply.proofs.Found.{edits_due, rewrite_due, was_none}
-use Rattle.ir_event.proofs.Steps.{formed_meaning}
+use Rattle.ir_event.proofs.Steps.{wellformed_meaning}
 use Rattle.patterns.proofs.Applying.{gave, is_there, not_there, stopped}
 use Rattle.patterns.proofs.Carrying.{applied_none, journaled_none}
 use Rattle.patterns_lowering.proofs.Journals.{recorded_none}
@@ -53,7 +53,7 @@ returns-in_default-clause-journal g c = recorded_none c.args.bench.now.transacti
 pub apply_plan-requires-clause-free : goal.apply_plan-requires-clause-free
 apply_plan-requires-clause-free g c n e =
     c.pattern_edits_are_accepted.ensures (pattern_model c.args.pattern.now) (module_held c.args.bench.now.transaction) c.args.op
-    (formed_meaning c.args.bench.now.transaction.ctx c.args.bench.now.transaction.store.module_of c.is_formed.ensures.formed)
+    (wellformed_meaning c.args.bench.now.transaction.ctx c.args.bench.now.transaction.store.module_of c.is_wellformed.ensures.wellformed)
     (planned_edits c.args.bench.now.transaction.ctx (module_held c.args.bench.now.transaction).next c.args.op c.in-Some.planned) n
     (edits_due c.world-world.result.now c.args.bench.now.transaction c.world-world.ensures.ctx c.world-world.ensures.store c.args.op (pattern_model c.args.pattern.now) c.in-Ok.found c.in-Ok.ensures.edits c.in-Some.planned c.in-Some.is) e
 

@@ -9,13 +9,13 @@ use Rattle.user_patterns_apply.proofs.Makings.{making_stands}
 use Rattle.user_patterns_apply.proofs.edits.making.Goals as goal
 
 pub returns-in-Err-entry-clause-added : goal.returns-in-Err-entry-clause-added
-returns-in-Err-entry-clause-added g c = added_on g.L.Analysis.meaning c.args.bench.now c.type_number.new.bench c.entry.new.bench c.is_formed.ensures.context.holds c.in-Ok.ensures.added c.in-Err-entry.ensures.added
+returns-in-Err-entry-clause-added g c = added_on g.L.Analysis.meaning c.args.bench.now c.type_number.new.bench c.entry.new.bench c.is_wellformed.ensures.context.holds c.in-Ok.ensures.added c.in-Err-entry.ensures.added
 
 pub returns-in-Ok-new_op-clause-added : goal.returns-in-Ok-new_op-clause-added
-returns-in-Ok-new_op-clause-added g c = added_on g.L.Analysis.meaning c.args.bench.now c.type_number.new.bench c.entry.new.bench c.is_formed.ensures.context.holds c.in-Ok.ensures.added c.in-Ok-entry.ensures.added
+returns-in-Ok-new_op-clause-added g c = added_on g.L.Analysis.meaning c.args.bench.now c.type_number.new.bench c.entry.new.bench c.is_wellformed.ensures.context.holds c.in-Ok.ensures.added c.in-Ok-entry.ensures.added
 
 pub returns-in-Err-new_op-clause-added : goal.returns-in-Err-new_op-clause-added
-returns-in-Err-new_op-clause-added g c = added_on g.L.Analysis.meaning c.args.bench.now c.type_number.new.bench c.entry.new.bench c.is_formed.ensures.context.holds c.in-Ok.ensures.added c.in-Ok-entry.ensures.added
+returns-in-Err-new_op-clause-added g c = added_on g.L.Analysis.meaning c.args.bench.now c.type_number.new.bench c.entry.new.bench c.is_wellformed.ensures.context.holds c.in-Ok.ensures.added c.in-Ok-entry.ensures.added
 
 pub returns-in-Ok-new_op-clause-stands : goal.returns-in-Ok-new_op-clause-stands
 returns-in-Ok-new_op-clause-stands g c =

@@ -14,4 +14,4 @@ returns-then-not-is_flagged-clause-added g c = added_none g.L.Analysis.meaning c
 pub returns-in-Ok-clause-ok : goal.returns-in-Ok-clause-ok
 returns-in-Ok-clause-ok g c =
     let d = c.attr-made.new.bench.transaction.ctx in
-    (codes "overflowFlags", Overflow false false, subst (λ n. IsNameOf d n (word_bytes OverflowFlags)) (sym c.id.ensures) (word_there d OverflowFlags c.is_formed.ensures.context, word_named d OverflowFlags c.is_formed.ensures.context), c.in-Ok.ensures.ok, flags_set (word_bytes c.args.word) (sym c.is_flagged.ensures ∙ c.if-not-is_flagged.false))
+    (codes "overflowFlags", Overflow false false, subst (λ n. IsNameOf d n (word_bytes OverflowFlags)) (sym c.id.ensures) (word_there d OverflowFlags c.is_wellformed.ensures.context, word_named d OverflowFlags c.is_wellformed.ensures.context), c.in-Ok.ensures.ok, flags_set (word_bytes c.args.word) (sym c.is_flagged.ensures ∙ c.if-not-is_flagged.false))

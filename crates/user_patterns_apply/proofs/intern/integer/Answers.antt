@@ -8,4 +8,4 @@ use Rattle.user_patterns_apply.proofs.intern.integer.Goals as goal
 pub returns-in-Ok-clause-ok : goal.returns-in-Ok-clause-ok
 returns-in-Ok-clause-ok g c =
     let d = c.attr-made.new.bench.transaction.ctx in
-    (word_bytes c.args.key, IntegerOf (type_term c.args.bench.now.transaction.ctx c.args.ty) c.args.value, subst (λ n. IsNameOf d n (word_bytes c.args.key)) (sym c.id.ensures) (word_there d c.args.key c.is_formed.ensures.context, word_named d c.args.key c.is_formed.ensures.context), c.in-Ok.ensures.ok, refl)
+    (word_bytes c.args.key, IntegerOf (type_term c.args.bench.now.transaction.ctx c.args.ty) c.args.value, subst (λ n. IsNameOf d n (word_bytes c.args.key)) (sym c.id.ensures) (word_there d c.args.key c.is_wellformed.ensures.context, word_named d c.args.key c.is_wellformed.ensures.context), c.in-Ok.ensures.ok, refl)

@@ -1,7 +1,7 @@
 use Rattle.ir_event.specs.Modules.{module_in}
 use Rattle.patterns_matchers.specs.Reads.{header_of_node}
 use Rattle.user_patterns_data.specs.Shapes.{pattern_model}
-use Rattle.user_patterns_apply.proofs.Found.{no_plan, none_front, none_there, not_single, some_plan}
+use Rattle.user_patterns_apply.proofs.Found.{no_plan, none_insertion, none_there, not_single, some_plan}
 use Rattle.user_patterns_apply.proofs.match_pattern.find_plan.Goals as goal
 
 pub returns-in_default-clause-edits : goal.returns-in_default-clause-edits
@@ -11,7 +11,7 @@ pub returns-then-not-is_single-clause-edits : goal.returns-then-not-is_single-cl
 returns-then-not-is_single-clause-edits c = not_single (pattern_model c.args.pattern.now) (module_in c.args.world.now) c.args.op (header_of_node c.args.world.now.ctx c.in-Some.node) c.in-Some.ensures.node _ (c.is_single.ensures c.args.world.now.ctx) c.if-not-is_single.true
 
 pub returns-in_default-insertion_point_before-clause-edits : goal.returns-in_default-insertion_point_before-clause-edits
-returns-in_default-insertion_point_before-clause-edits c = none_front (pattern_model c.args.pattern.now) (module_in c.args.world.now) c.args.op c.in_default-insertion_point_before.ensures
+returns-in_default-insertion_point_before-clause-edits c = none_insertion (pattern_model c.args.pattern.now) (module_in c.args.world.now) c.args.op c.in_default-insertion_point_before.ensures
 
 pub returns-in-Some-2-clause-edits : goal.returns-in-Some-2-clause-edits
 returns-in-Some-2-clause-edits c =

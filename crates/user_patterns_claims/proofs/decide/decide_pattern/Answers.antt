@@ -3,4 +3,4 @@ use Rattle.user_patterns_claims.proofs.Answering.{pattern_decided}
 use Rattle.user_patterns_claims.proofs.decide.decide_pattern.Goals as goal
 
 pub returns : goal.returns
-returns c = pattern_decided (pattern_model c.args.pattern.now) c.in-Some.count _ _ c.in-Some.ensures c.deref.ensures.value c.decide_sets.ensures
+returns c = pattern_decided (pattern_model c.args.pattern.now) _ c.decide_aim.ensures

@@ -2,7 +2,7 @@ use Rattle.std.proofs.Common.{◌≡◌, ◌∙◌, ap}
 use Rattle.user_patterns_check.specs.Contents.{content}
 use Rattle.user_patterns_data.specs.Fitting.{content_at}
 use Rattle.user_patterns_data.specs.Shapes.{pattern_model}
-use Rattle.user_patterns_registry.specs.CheckResult.{new_shown, old_shown, values_shown}
+use Rattle.user_patterns_registry.specs.Shown.{new_shown, old_shown, values_shown}
 use Rattle.user_patterns_registry.proofs.Telling.{alike}
 use Rattle.user_patterns_registry.proofs.check_command.counterexample.Goals as goal
 

@@ -1,5 +1,5 @@
 use Rattle.std.proofs.Common.{◌≡◌, length, max}
-use Rattle.user_patterns_registry.specs.CheckResult.{greatest}
+use Rattle.user_patterns_registry.specs.Shown.{greatest}
 use Rattle.user_patterns_registry.proofs.widths.greatest.Given as goal
 
 abbrev pub invariant-widths : goal.invariant-widths

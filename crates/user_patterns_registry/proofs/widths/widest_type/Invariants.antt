@@ -1,5 +1,5 @@
 use Rattle.std.proofs.Common.{◌≡◌, length, map, max}
-use Rattle.user_patterns_registry.specs.CheckResult.{greatest, type_width}
+use Rattle.user_patterns_registry.specs.Shown.{greatest, type_width}
 use Rattle.user_patterns_registry.proofs.widths.widest_type.Given as goal
 
 abbrev pub invariant-value_types : goal.invariant-value_types

@@ -8,19 +8,19 @@ use Rattle.user_patterns_sema.proofs.numbers.+number.Goals as goal
 
 pub arguments-returns-in-Some : goal.arguments-returns-in-Some
 arguments-returns-in-Some t c =
-    gathered_ends (number_at (places_view c.args.places.now) c.args.depth c.args.slot) c.args.room c.args.found.now.items (map part_view c.args.parts.now, sema_view c.args.sema.now)
-    c.if-room-eq0.false _ (sym c.in-Some.ensures)
+    gathered_ends (number_at (places_view c.args.places.now) c.args.depth c.args.slot) c.args.headroom c.args.found.now.items (map part_view c.args.parts.now, sema_view c.args.sema.now)
+    c.if-headroom-eq0.false _ (sym c.in-Some.ensures)
 
 pub arguments-returns-in-Err : goal.arguments-returns-in-Err
 arguments-returns-in-Err t c =
-    gathered_fails (number_at (places_view c.args.places.now) c.args.depth c.args.slot) c.args.room c.args.found.now.items (map part_view c.args.parts.now, sema_view c.args.sema.now)
-    c.if-room-eq0.false c.in-Err.e (sym c.in_default.ensures) c.in-Err.ensures
+    gathered_fails (number_at (places_view c.args.places.now) c.args.depth c.args.slot) c.args.headroom c.args.found.now.items (map part_view c.args.parts.now, sema_view c.args.sema.now)
+    c.if-headroom-eq0.false c.in-Err.e (sym c.in_default.ensures) c.in-Err.ensures
 
 pub arguments-returns-in-Ok-push : goal.arguments-returns-in-Ok-push
 arguments-returns-in-Ok-push t c =
     gives_same _ c.arguments.result _ _
-    (gathered_more (number_at (places_view c.args.places.now) c.args.depth c.args.slot) c.args.room c.args.found.now.items (map part_view c.args.parts.now, sema_view c.args.sema.now)
-    c.if-room-eq0.false (_, _) _ (sym c.in_default.ensures) c.in-Ok.ensures c.in-Ok-push.ensures.items)
+    (gathered_more (number_at (places_view c.args.places.now) c.args.depth c.args.slot) c.args.headroom c.args.found.now.items (map part_view c.args.parts.now, sema_view c.args.sema.now)
+    c.if-headroom-eq0.false (_, _) _ (sym c.in_default.ensures) c.in-Ok.ensures c.in-Ok-push.ensures.items)
     c.arguments.ensures
 
 pub function-returns-in-Err : goal.function-returns-in-Err

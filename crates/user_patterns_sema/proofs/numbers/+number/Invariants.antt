@@ -5,7 +5,7 @@ abbrev pub decreases-analyze_number : goal.decreases-analyze_number
 decreases-analyze_number l = 100 * l.depth
 
 abbrev pub decreases-arguments : goal.decreases-arguments
-decreases-arguments l = 100 * l.depth + l.room + 1
+decreases-arguments l = 100 * l.depth + l.headroom + 1
 
 abbrev pub decreases-function : goal.decreases-function
 decreases-function l = 100 * l.depth + 30

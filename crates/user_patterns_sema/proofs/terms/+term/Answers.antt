@@ -8,19 +8,19 @@ use Rattle.user_patterns_sema.proofs.terms.+term.Goals as goal
 
 pub operands-returns-in-Some : goal.operands-returns-in-Some
 operands-returns-in-Some t c =
-    gathered_ends (term_at (places_view c.args.places.now) c.args.left c.args.depth) c.args.room c.args.found.now.items (map part_view c.args.parts.now, sema_view c.args.sema.now)
-    c.if-room-eq0.false _ (sym c.in-Some.ensures)
+    gathered_ends (term_at (places_view c.args.places.now) c.args.left c.args.depth) c.args.headroom c.args.found.now.items (map part_view c.args.parts.now, sema_view c.args.sema.now)
+    c.if-headroom-eq0.false _ (sym c.in-Some.ensures)
 
 pub operands-returns-in-Err : goal.operands-returns-in-Err
 operands-returns-in-Err t c =
-    gathered_fails (term_at (places_view c.args.places.now) c.args.left c.args.depth) c.args.room c.args.found.now.items (map part_view c.args.parts.now, sema_view c.args.sema.now)
-    c.if-room-eq0.false c.in-Err.e (sym c.in_default.ensures) c.in-Err.ensures
+    gathered_fails (term_at (places_view c.args.places.now) c.args.left c.args.depth) c.args.headroom c.args.found.now.items (map part_view c.args.parts.now, sema_view c.args.sema.now)
+    c.if-headroom-eq0.false c.in-Err.e (sym c.in_default.ensures) c.in-Err.ensures
 
 pub operands-returns-in-Ok-push : goal.operands-returns-in-Ok-push
 operands-returns-in-Ok-push t c =
     gives_same _ c.operands.result _ _
-    (gathered_more (term_at (places_view c.args.places.now) c.args.left c.args.depth) c.args.room c.args.found.now.items (map part_view c.args.parts.now, sema_view c.args.sema.now)
-    c.if-room-eq0.false (_, _) _ (sym c.in_default.ensures) c.in-Ok.ensures c.in-Ok-push.ensures.items)
+    (gathered_more (term_at (places_view c.args.places.now) c.args.left c.args.depth) c.args.headroom c.args.found.now.items (map part_view c.args.parts.now, sema_view c.args.sema.now)
+    c.if-headroom-eq0.false (_, _) _ (sym c.in_default.ensures) c.in-Ok.ensures c.in-Ok-push.ensures.items)
     c.operands.ensures
 
 pub operation-returns-in-Err-operands : goal.operation-returns-in-Err-operands

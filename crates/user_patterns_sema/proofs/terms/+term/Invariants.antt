@@ -5,7 +5,7 @@ abbrev pub decreases-term : goal.decreases-term
 decreases-term l = 100 * l.depth
 
 abbrev pub decreases-operands : goal.decreases-operands
-decreases-operands l = 100 * l.depth + l.room + 1
+decreases-operands l = 100 * l.depth + l.headroom + 1
 
 abbrev pub decreases-operation : goal.decreases-operation
 decreases-operation l = 100 * l.depth + 30

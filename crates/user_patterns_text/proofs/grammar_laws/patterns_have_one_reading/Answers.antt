@@ -1,6 +1,6 @@
 use Rattle.std.proofs.Common.{◌∙◌, sym}
 use Rattle.user_patterns_text.proofs.Exact.{same_pair}
-use Rattle.user_patterns_text.proofs.Spelled.{pattern_exact}
+use Rattle.user_patterns_text.proofs.Rendered.{pattern_exact}
 use Rattle.user_patterns_text.proofs.grammar_laws.patterns_have_one_reading.Goals as goal
 
 pub returns : goal.returns

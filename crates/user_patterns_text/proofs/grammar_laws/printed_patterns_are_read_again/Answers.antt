@@ -1,5 +1,5 @@
 use Rattle.user_patterns_text.proofs.Printable.{pattern_fits}
-use Rattle.user_patterns_text.proofs.Spelled.{pattern_exact}
+use Rattle.user_patterns_text.proofs.Rendered.{pattern_exact}
 use Rattle.user_patterns_text.proofs.Whole.{read_again}
 use Rattle.user_patterns_text.proofs.grammar_laws.printed_patterns_are_read_again.Goals as goal
 

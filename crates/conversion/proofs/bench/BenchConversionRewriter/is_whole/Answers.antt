@@ -1,5 +1,5 @@
-use Rattle.ir_event.proofs.Steps.{formed_meaning}
+use Rattle.ir_event.proofs.Steps.{wellformed_meaning}
 use Rattle.conversion.proofs.bench.BenchConversionRewriter.is_whole.Goals as goal
 
 pub returns : goal.returns
-returns g c = formed_meaning c.args.self.now.transaction.ctx c.args.self.now.transaction.store.module_of c.is_formed.ensures.formed
+returns g c = wellformed_meaning c.args.self.now.transaction.ctx c.args.self.now.transaction.store.module_of c.is_wellformed.ensures.wellformed

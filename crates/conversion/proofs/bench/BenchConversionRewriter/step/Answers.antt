@@ -11,4 +11,4 @@ pub returns-clause-refused : goal.returns-clause-refused
 returns-clause-refused g c = step_refused g.L.Analysis.meaning c.step-stepped.result c.args.self.now c.step-stepped.new.self c.step-stepped.ensures.does
 
 pub returns-clause-led : goal.returns-clause-led
-returns-clause-led g c = λ _. (c.is_formed-2.ensures.context.holds, c.step-stepped.ensures.led)
+returns-clause-led g c = λ _. (c.is_wellformed-2.ensures.context.holds, c.step-stepped.ensures.led)

@@ -12,7 +12,7 @@ returns-clause-ok c =
     let ctx = c.args.world.now.ctx in
     let t = c.args.world.now.store.module_of.tree in
     let yes : c.insert_module.result ≡ true = search rules in
-    let distinct = c.args.world.now.formed.distinct in (
+    let distinct = c.args.world.now.wellformed.distinct in (
       refl,
       (
         meaning_distinct ctx t distinct,

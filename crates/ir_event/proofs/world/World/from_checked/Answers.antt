@@ -7,6 +7,6 @@ use Rattle.ir_event.proofs.world.World.from_checked.Goals as goal
 pub invariant_of-result : goal.invariant_of-result
 invariant_of-result c = record {
   sound = subst (λ (m : Module). IsSoundIn c.args.ctx m.tree) (sym c.in_ok-store.ensures.ok.module_of) c.requires.sound;
-  formed = c.in_ok-store.ensures.formed;
+  wellformed = c.in_ok-store.ensures.wellformed;
   held = held_loaded c.args.ctx c.args.tree c.args.next c.in_ok-store.store c.in_ok-store.ensures.ok;
 }

@@ -6,11 +6,11 @@ invariant_of-self c =
     let w = c.args.self.now in
     record {
       sound = c.enter_in.ensures.sound;
-      formed = c.enter_in.ensures.formed w.formed;
+      wellformed = c.enter_in.ensures.wellformed w.wellformed;
       held = held_after w.ctx c.args.op c.args.part c.args.key c.args.value w.store c.enter_in.new.store c.enter_in.result c.enter_in.ensures.store c.enter_in.ensures.err w.held;
     }
 
 pub returns-clause-step : goal.returns-clause-step
 returns-clause-step c =
     let w = c.args.self.now in
-    entry_step w.ctx c.args.op c.args.part c.args.key c.args.value w.store c.enter_in.new.store c.enter_in.result c.enter_in.ensures.event c.enter_in.ensures.store c.enter_in.ensures.refused w.formed w.sound c.requires.key c.requires.value
+    entry_step w.ctx c.args.op c.args.part c.args.key c.args.value w.store c.enter_in.new.store c.enter_in.result c.enter_in.ensures.event c.enter_in.ensures.store c.enter_in.ensures.refused w.wellformed w.sound c.requires.key c.requires.value

@@ -6,7 +6,7 @@ use Rattle.ir_store.specs.Stored.{Stored, known}
 use Rattle.ir_event.specs.Listener.{ShowsTaken}
 use Rattle.ir_event.specs.Modules.{module_meaning}
 use Rattle.ir_event.specs.Step.{Step, inverse_of}
-use Rattle.ir_event.proofs.Undoing.{may_undo, led_back, undone_formed, undone_sound, undone_held, undone_shown, undone_step}
+use Rattle.ir_event.proofs.Undoing.{may_undo, led_back, undone_wellformed, undone_sound, undone_held, undone_shown, undone_step}
 use Rattle.ir_event.proofs.world.World.undo.Goals as goal
 
 pub undo_in-requires : goal.undo_in-requires
@@ -16,7 +16,7 @@ pub invariant_of-self : goal.invariant_of-self
 invariant_of-self c = rw c.undo_in.ensures (let w = c.args.self.now in
     record {
       sound = undone_sound w.ctx w.store c.args.event.now c.requires.0 c.requires.1 w.sound w.held;
-      formed = undone_formed w.ctx w.store c.args.event.now c.requires.0 c.requires.1;
+      wellformed = undone_wellformed w.ctx w.store c.args.event.now c.requires.0 c.requires.1;
       held = undone_held w.ctx w.store c.args.event.now c.requires.0 c.requires.1 w.sound w.held;
     })
 

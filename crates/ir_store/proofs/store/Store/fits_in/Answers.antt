@@ -7,7 +7,7 @@ use Rattle.ir_store_reads.specs.tree_laws.Reasons.{levels_in}
 use Rattle.ir_store_reads.proofs.SlotLaws.{found, found_op, in_tree_is}
 use Rattle.ir_store.proofs.Taking.{heads_of}
 use Rattle.ir_store.proofs.Called.{rows_in, keys_in}
-use Rattle.ir_store.proofs.Rising.{around_some, room_is}
+use Rattle.ir_store.proofs.Rising.{around_some, headroom_is}
 use Rattle.ir_store_reads.proofs.Walked.{fits_is}
 use Rattle.ir_store.proofs.store.Store.fits_in.Goals as goal
 
@@ -25,8 +25,8 @@ returns c =
     let t = c.args.self.now.module_of.tree in
     let fd = found (rows_in a) (keys_in a) a.sibs a.root a.represented.0 c.self.invariant.right a.represented.1 c.args.op c.in-Some.key (sym c.in-Some.ensures) in
     let o = found_op (rows_in a) (keys_in a) a.sibs a.root a.represented.0 c.self.invariant.right a.represented.1 c.args.op c.in-Some.key fd in
-    c.op_fits.ensures ∙ fits_is (rows_in a) a.sibs.lists c.room_in-room.result c.in-Some.key o.0 o.1.1
-    ∙ ap (λ z. nat_lt (levels_in z) c.room_in-room.result) (sym o.1.0)
-    ∙ ap (λ s. nat_lt (levels_in (find c.args.op s.module_of.tree)) c.room_in-room.result) c.self.view_is
-    ∙ ap (nat_lt (levels_in (find c.args.op t))) c.room_in-room.ensures
-    ∙ room_is (levels_in (find c.args.op t)) (around c.args.parent t) (around_some t c.distinct.ensures c.args.parent c.requires.parent)
+    c.op_fits.ensures ∙ fits_is (rows_in a) a.sibs.lists c.headroom_in-headroom.result c.in-Some.key o.0 o.1.1
+    ∙ ap (λ z. nat_lt (levels_in z) c.headroom_in-headroom.result) (sym o.1.0)
+    ∙ ap (λ s. nat_lt (levels_in (find c.args.op s.module_of.tree)) c.headroom_in-headroom.result) c.self.view_is
+    ∙ ap (nat_lt (levels_in (find c.args.op t))) c.headroom_in-headroom.ensures
+    ∙ headroom_is (levels_in (find c.args.op t)) (around c.args.parent t) (around_some t c.distinct.ensures c.args.parent c.requires.parent)

@@ -7,4 +7,4 @@ pub spread-requires-clause-below : goal.spread-requires-clause-below
 spread-requires-clause-below c = are_below c.args.next (ids c.args.tree) c.requires.below
 
 pub spread-requires-clause-root : goal.spread-requires-clause-root
-spread-requires-clause-root c = root_bare (isolated_in c.args.ctx.now) c.args.tree c.requires.formed.visible
+spread-requires-clause-root c = root_bare (isolated_in c.args.ctx.now) c.args.tree c.requires.wellformed.visible

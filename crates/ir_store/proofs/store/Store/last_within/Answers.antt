@@ -14,7 +14,7 @@ inside-init c = (sym c.in_tree.ensures ∙ c.if-not-in_tree.false, ([], refl))
 pub inside-smaller : goal.inside-smaller
 inside-smaller c =
     let t = c.args.self.now.module_of.tree in
-    step_less (ids_in (find c.inside.at t)) c.in-Some.ensures.before (ids_in (find c.in-Some.last t)) c.in-Some.ensures.front c.in-Some.ensures.is
+    step_less (ids_in (find c.inside.at t)) c.in-Some.ensures.before (ids_in (find c.in-Some.last t)) c.in-Some.ensures.preceding c.in-Some.ensures.is
 
 pub inside-preserved : goal.inside-preserved
 inside-preserved c =
@@ -22,7 +22,7 @@ inside-preserved c =
     let w = c.in-Some.ensures in
     let i = c.inside.invariant in (
       w.there,
-      (i.1.0 ++ (w.front ∷ w.before), i.1.1 ∙ ap (λ z. i.1.0 ++ z) w.is ∙ sym (append_assoc i.1.0 (w.front ∷ w.before) (ids_in (find c.in-Some.last t)))),
+      (i.1.0 ++ (w.preceding ∷ w.before), i.1.1 ∙ ap (λ z. i.1.0 ++ z) w.is ∙ sym (append_assoc i.1.0 (w.preceding ∷ w.before) (ids_in (find c.in-Some.last t)))),
     )
 
 pub returns : goal.returns

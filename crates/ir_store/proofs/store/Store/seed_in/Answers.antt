@@ -5,7 +5,7 @@ use Rattle.ir_store_reads.specs.trees.Tree.{head}
 use Rattle.ir_store_reads.specs.Stored.{none_gone}
 use Rattle.ir_store_reads.specs.Rows.{row_at, held_in, gone_in}
 use Rattle.ir_store_reads.specs.Index.{cells_of}
-use Rattle.ir_store_reads.specs.Spells.{spelled_is}
+use Rattle.ir_store_reads.specs.Spells.{rendered_is}
 use Rattle.ir_store.specs.Holds.{map_is}
 use Rattle.ir_store_reads.specs.Grows.{parts_of, Wider, Grown}
 use Rattle.ir_store.proofs.OneRow.{put_long, put_own, put_other}
@@ -63,7 +63,7 @@ invariant_of-result-2 c =
     let own : row_at rows' k ≡ record v { live = true } = put_own q.rows rows' k (record v { live = true }) er ready.inside in
     let id : x ≡ (head c.args.header.now).id = ap (λ z. (head z).id) c.header.view_is in
     let bare_head : v.head.operands ≡ [] = emptied_operands v x c.args.header.now grown.is c.requires.bare in
-    let w = spelled_is rows' q.sibs.lists k c.result-1.given.0 (seed q wide c.laws.ensures.few c.laws-2.ensures.few x c.args.header.now k v grown keys ek bare_head rows' long' same own) (seed_spells q wide c.laws.ensures.few c.laws-2.ensures.few x c.args.header.now k v grown keys ek bare_head rows' long' same own) in
+    let w = rendered_is rows' q.sibs.lists k c.result-1.given.0 (seed q wide c.laws.ensures.few c.laws-2.ensures.few x c.args.header.now k v grown keys ek bare_head rows' long' same own) (seed_spells q wide c.laws.ensures.few c.laws-2.ensures.few x c.args.header.now k v grown keys ek bare_head rows' long' same own) in
     seed_fits q wide c.laws.ensures.few c.laws-2.ensures.few x c.args.header.now k v grown keys ek bare_head rows' long' same own c.args.next (subst (λ z. z < c.args.next) (sym id) c.requires.below) c.result-1.given.0 w c.in-Ok-new_marks.marks.homes c.reach.new.marks.homes c.in-Ok-new_marks.ensures c.reach.ensures.nodes
     (grow_there k q.rows c.reach.new.marks.homes c.len.result ready.inside (omega (arith, c.len.ensures, long')) c.in-Ok-reach.ensures.there)
 
@@ -86,7 +86,7 @@ returns c =
     let own : row_at rows' k ≡ record v { live = true } = put_own q.rows rows' k (record v { live = true }) er ready.inside in
     let id : x ≡ (head c.args.header.now).id = ap (λ z. (head z).id) c.header.view_is in
     let bare_head : v.head.operands ≡ [] = emptied_operands v x c.args.header.now grown.is c.requires.bare in
-    let w = spelled_is rows' q.sibs.lists k c.result-1.given.0 (seed q wide c.laws.ensures.few c.laws-2.ensures.few x c.args.header.now k v grown keys ek bare_head rows' long' same own) (seed_spells q wide c.laws.ensures.few c.laws-2.ensures.few x c.args.header.now k v grown keys ek bare_head rows' long' same own) ∙ seed_is q wide c.laws.ensures.few c.laws-2.ensures.few x c.args.header.now k v grown keys ek bare_head rows' long' same own id in
+    let w = rendered_is rows' q.sibs.lists k c.result-1.given.0 (seed q wide c.laws.ensures.few c.laws-2.ensures.few x c.args.header.now k v grown keys ek bare_head rows' long' same own) (seed_spells q wide c.laws.ensures.few c.laws-2.ensures.few x c.args.header.now k v grown keys ek bare_head rows' long' same own) ∙ seed_is q wide c.laws.ensures.few c.laws-2.ensures.few x c.args.header.now k v grown keys ek bare_head rows' long' same own id in
     let h = map_is (λ y. held_in rows' (keys y)) c.result-1.given.1.0 finmap.empty (seed_holds q wide c.laws.ensures.few c.laws-2.ensures.few x c.args.header.now k v grown keys ek bare_head rows' long' same own) in
     let g = map_is (λ y. gone_in rows' (keys y)) c.result-1.given.1.1.0 (finmap.insert finmap.empty x none_gone) (seed_gone q wide c.laws.ensures.few c.laws-2.ensures.few x c.args.header.now k v grown keys ek bare_head rows' long' same own) ∙ ap (λ z. finmap.insert finmap.empty z none_gone) id in
     λ i. record { module_of = record { tree = w i; next = c.args.next }; held = h i; gone = g i }

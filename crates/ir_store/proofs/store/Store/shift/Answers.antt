@@ -36,8 +36,8 @@ returns-then-operands_dominate-clause-done c =
       c.move_unchecked.ensures,
     )
 
-pub returns-then-operands_dominate-clause-formed : goal.returns-then-operands_dominate-clause-formed
-returns-then-operands_dominate-clause-formed c =
+pub returns-then-operands_dominate-clause-wellformed : goal.returns-then-operands_dominate-clause-wellformed
+returns-then-operands_dominate-clause-wellformed c =
     let isolated = isolated_in c.args.ctx.now in
     subst (λ s. IsWellFormed isolated s.module_of) (sym c.move_unchecked.ensures)
     (shift_keeps isolated (λ n. is_table (name_term c.args.ctx.now n)) c.args.op c.args.place c.args.self.now.module_of c.requires
@@ -60,8 +60,8 @@ returns-clause-done c =
           ∙ gone_back c.args.op c.args.place c.in-Some-place.old c.args.self.now c.distinct.ensures can (sym c.in-Some-place.ensures),
     )
 
-pub returns-clause-formed : goal.returns-clause-formed
-returns-clause-formed c =
+pub returns-clause-wellformed : goal.returns-clause-wellformed
+returns-clause-wellformed c =
     let can = may_relink (isolated_in c.args.ctx.now) (λ n. is_table (name_term c.args.ctx.now n)) c.args.op c.args.place c.args.self.now.module_of c.requires (sym c.in-None.ensures) in
     subst (λ s. IsWellFormed (isolated_in c.args.ctx.now) s.module_of)
     (sym (c.move_unchecked-2.ensures ∙ ap (after_shift c.args.op c.in-Some-place.old) c.move_unchecked.ensures ∙ gone_back c.args.op c.args.place c.in-Some-place.old c.args.self.now c.distinct.ensures can (sym c.in-Some-place.ensures)))

@@ -16,5 +16,5 @@ returns c =
     let h = subst (λ v. IsHead v.homes c.args.head) (sym c.self.view_is) c.requires.head in
     let none = ap (λ v. list_at v.lists c.args.head) c.self.view_is ∙ c.requires.empty in
     let s = links_open l c.open.new.links.items _ c.args.head h none c.self.inside.linked.1 c.open.ensures.next c.open.ensures.prev c.open.ensures.home in
-    view_of c.open.new.links.items c.self.inside.room c.self-1.given.0 c.self.inside.linked.0 (set (homes l) c.args.head free) s c.open.ensures.home
+    view_of c.open.new.links.items c.self.inside.headroom c.self-1.given.0 c.self.inside.linked.0 (set (homes l) c.args.head free) s c.open.ensures.home
     ∙ ap {A = Lists} {B = Lists} (λ v. record v { homes = set v.homes c.args.head free }) c.self.view_is

@@ -14,5 +14,5 @@ returns c =
     let l = c.self.inside.links.items in
     let f = subst (λ v. IsFree v.homes c.args.node) (sym c.self.view_is) c.requires in
     let s = links_close l c.close.new.links.items _ c.args.node f c.self.inside.linked.1 c.close.ensures.next c.close.ensures.prev c.close.ensures.home in
-    view_of c.close.new.links.items c.self.inside.room c.self-1.given.0 c.self.inside.linked.0 (set (homes l) c.args.node c.args.node) s c.close.ensures.home
+    view_of c.close.new.links.items c.self.inside.headroom c.self-1.given.0 c.self.inside.linked.0 (set (homes l) c.args.node c.args.node) s c.close.ensures.home
     ∙ ap {A = Lists} {B = Lists} (λ v. record v { homes = set v.homes c.args.node c.args.node }) c.self.view_is

@@ -8,6 +8,6 @@ pub returns-in-Ok-clause-ok : goal.returns-in-Ok-clause-ok
 returns-in-Ok-clause-ok c =
     let w = c.args.world.now in (
       refl,
-      meaning_distinct w.ctx (tree_in w) w.formed.distinct,
+      meaning_distinct w.ctx (tree_in w) w.wellformed.distinct,
       record { from = w.ctx; sound = c.sound.ensures; grown = grows_refl w.ctx; keeps = c.in-Ok.ensures },
     )

@@ -10,4 +10,4 @@ pub returns-in-Ok-clause-does : goal.returns-in-Ok-clause-does
 returns-in-Ok-clause-does g c =
     let a = c.args.self.now in
     edit_goes g.L.Analysis.meaning (Erase c.args.op) Done (after_take c.args.op a.transaction.store) a c.take.new.self refl
-    (may_erase c.args.op a.transaction.store.module_of.tree c.is_formed.ensures.formed.distinct c.in-Ok.ensures.refused) refl c.in-Ok.ensures.ok
+    (may_erase c.args.op a.transaction.store.module_of.tree c.is_wellformed.ensures.wellformed.distinct c.in-Ok.ensures.refused) refl c.in-Ok.ensures.ok

@@ -36,24 +36,24 @@ pub returns-in-Ok-clause-does : goal.returns-in-Ok-clause-does
 returns-in-Ok-clause-does g c =
     let free : reason_by (tests_in c.args.self.now.transaction.ctx) (Erase c.args.op) c.args.self.now.transaction.store.module_of ≡ None = reason_in (Erase c.args.op) None c.world.result.now.ctx c.args.self.now.transaction.ctx c.world.result.now.store c.args.self.now.transaction.store c.world.ensures.ctx c.world.ensures.store (sym c.erase_fault.ensures ∙ c.in_default.is) in
     let begun : IsBegun g.L.Analysis.meaning c.args.self.now c.step.new.self = record { ctx = c.step.ensures.ctx; goes = c.in_default-step.ensures.does; led = c.step.ensures.led } in
-    goes_whole g.L.Analysis.meaning c.led_benches_are_kept.ensures.ages c.led_benches_are_kept.ensures.more (Erase c.args.op) c.args.self.now c.step.new.self c.take_all-2.new.bench c.close_mark.new.bench c.is_formed.ensures.context.holds free begun c.take_all-2.ensures.onward c.in-Ok.ensures.ok c.close_mark.ensures.finished
-    (led_whole g.L.Analysis.meaning c.led_benches_are_kept.ensures.more true c.args.self.now c.step.new.self c.take_all-2.new.bench c.close_mark.new.bench c.is_formed.ensures.context.holds begun c.take_all-2.ensures.onward c.close_mark.ensures.finished c.close_mark.ensures.led)
+    goes_whole g.L.Analysis.meaning c.led_benches_are_kept.ensures.ages c.led_benches_are_kept.ensures.more (Erase c.args.op) c.args.self.now c.step.new.self c.take_all-2.new.bench c.close_mark.new.bench c.is_wellformed.ensures.context.holds free begun c.take_all-2.ensures.onward c.in-Ok.ensures.ok c.close_mark.ensures.finished
+    (led_whole g.L.Analysis.meaning c.led_benches_are_kept.ensures.more true c.args.self.now c.step.new.self c.take_all-2.new.bench c.close_mark.new.bench c.is_wellformed.ensures.context.holds begun c.take_all-2.ensures.onward c.close_mark.ensures.finished c.close_mark.ensures.led)
 
 pub returns-in-Ok-clause-led : goal.returns-in-Ok-clause-led
 returns-in-Ok-clause-led g c =
     let begun : IsBegun g.L.Analysis.meaning c.args.self.now c.step.new.self = record { ctx = c.step.ensures.ctx; goes = c.in_default-step.ensures.does; led = c.step.ensures.led } in
-    led_whole g.L.Analysis.meaning c.led_benches_are_kept.ensures.more true c.args.self.now c.step.new.self c.take_all-2.new.bench c.close_mark.new.bench c.is_formed.ensures.context.holds begun c.take_all-2.ensures.onward c.close_mark.ensures.finished c.close_mark.ensures.led
+    led_whole g.L.Analysis.meaning c.led_benches_are_kept.ensures.more true c.args.self.now c.step.new.self c.take_all-2.new.bench c.close_mark.new.bench c.is_wellformed.ensures.context.holds begun c.take_all-2.ensures.onward c.close_mark.ensures.finished c.close_mark.ensures.led
 
 pub returns-in-Err-take_all-clause-does : goal.returns-in-Err-take_all-clause-does
 returns-in-Err-take_all-clause-does g c =
     let begun : IsBegun g.L.Analysis.meaning c.args.self.now c.step.new.self = record { ctx = c.step.ensures.ctx; goes = c.in_default-step.ensures.does; led = c.step.ensures.led } in
     goes_undone g.L.Analysis.meaning c.led_benches_are_kept.ensures.ages (Erase c.args.op) c.in-Err-take_all.refusal c.args.self.now c.step.new.self c.take_all-2.new.bench c.close_mark-in-Err-take_all.new.bench c.in-Err-take_all.ensures.refused.0 (c.is_marked.ensures.0 c.if-not-is_marked.false) begun c.take_all-2.ensures.onward c.close_mark-in-Err-take_all.ensures.finished
-    (led_whole g.L.Analysis.meaning c.led_benches_are_kept.ensures.more false c.args.self.now c.step.new.self c.take_all-2.new.bench c.close_mark-in-Err-take_all.new.bench c.is_formed.ensures.context.holds begun c.take_all-2.ensures.onward c.close_mark-in-Err-take_all.ensures.finished c.close_mark-in-Err-take_all.ensures.led)
+    (led_whole g.L.Analysis.meaning c.led_benches_are_kept.ensures.more false c.args.self.now c.step.new.self c.take_all-2.new.bench c.close_mark-in-Err-take_all.new.bench c.is_wellformed.ensures.context.holds begun c.take_all-2.ensures.onward c.close_mark-in-Err-take_all.ensures.finished c.close_mark-in-Err-take_all.ensures.led)
 
 pub returns-in-Err-take_all-clause-led : goal.returns-in-Err-take_all-clause-led
 returns-in-Err-take_all-clause-led g c =
     let begun : IsBegun g.L.Analysis.meaning c.args.self.now c.step.new.self = record { ctx = c.step.ensures.ctx; goes = c.in_default-step.ensures.does; led = c.step.ensures.led } in
-    led_whole g.L.Analysis.meaning c.led_benches_are_kept.ensures.more false c.args.self.now c.step.new.self c.take_all-2.new.bench c.close_mark-in-Err-take_all.new.bench c.is_formed.ensures.context.holds begun c.take_all-2.ensures.onward c.close_mark-in-Err-take_all.ensures.finished c.close_mark-in-Err-take_all.ensures.led
+    led_whole g.L.Analysis.meaning c.led_benches_are_kept.ensures.more false c.args.self.now c.step.new.self c.take_all-2.new.bench c.close_mark-in-Err-take_all.new.bench c.is_wellformed.ensures.context.holds begun c.take_all-2.ensures.onward c.close_mark-in-Err-take_all.ensures.finished c.close_mark-in-Err-take_all.ensures.led
 
 pub returns-in-Some-clause-journal : goal.returns-in-Some-clause-journal
 returns-in-Some-clause-journal g c = recorded_none c.args.self.now.transaction
@@ -63,11 +63,11 @@ returns-in-Err-clause-journal g c = keeps_left g.L.Analysis.meaning c.args.self.
 
 pub returns-in-Ok-clause-journal : goal.returns-in-Ok-clause-journal
 returns-in-Ok-clause-journal g c =
-    whole_journaled g.L.Analysis.meaning c.led_benches_are_kept.ensures.more c.args.self.now c.step.new.self c.take_all-2.new.bench c.close_mark.new.bench c.is_formed.ensures.context.holds c.is_formed.ensures.none c.in_default-step.ensures.ok c.step.ensures.untold c.take_all-2.ensures.onward
+    whole_journaled g.L.Analysis.meaning c.led_benches_are_kept.ensures.more c.args.self.now c.step.new.self c.take_all-2.new.bench c.close_mark.new.bench c.is_wellformed.ensures.context.holds c.is_wellformed.ensures.none c.in_default-step.ensures.ok c.step.ensures.untold c.take_all-2.ensures.onward
     c.close_mark.ensures.finished (c.close_mark.ensures.untold refl)
 
 pub returns-in-Err-take_all-clause-journal : goal.returns-in-Err-take_all-clause-journal
-returns-in-Err-take_all-clause-journal g c = undone_recorded g.L.Analysis.meaning c.args.self.now c.step.new.self c.take_all-2.new.bench c.close_mark-in-Err-take_all.new.bench c.is_formed.ensures.none c.in_default-step.ensures.ok c.take_all-2.ensures.onward c.close_mark-in-Err-take_all.ensures.finished
+returns-in-Err-take_all-clause-journal g c = undone_recorded g.L.Analysis.meaning c.args.self.now c.step.new.self c.take_all-2.new.bench c.close_mark-in-Err-take_all.new.bench c.is_wellformed.ensures.none c.in_default-step.ensures.ok c.take_all-2.ensures.onward c.close_mark-in-Err-take_all.ensures.finished
 
 pub returns-then-not-is_marked-clause-journal : goal.returns-then-not-is_marked-clause-journal
 returns-then-not-is_marked-clause-journal g c = plain_keeps g.L.Analysis.meaning c.args.self.now c.take_all.new.bench c.take_all.result c.is_marked.result c.is_marked.ensures c.if-not-is_marked.true c.take_all.ensures.onward c.take_all.ensures.refused

@@ -31,26 +31,26 @@ pub returns-in-Ok-clause-does : goal.returns-in-Ok-clause-does
 returns-in-Ok-clause-does g c =
     let meaning = g.L.Analysis.meaning in
     let begun : IsBegun meaning c.args.self.now c.step.new.self = record { ctx = c.step.ensures.ctx; goes = c.in_default-step.ensures.does; led = c.step.ensures.led } in
-    insert_done meaning c.led_benches_are_kept.ensures.ages c.led_benches_are_kept.ensures.more c.args.place c.args.tree.now c.tree.inside.id c.args.self.now c.step.new.self c.make_all.new.bench c.close_mark.new.bench c.is_formed.ensures.context.holds
+    insert_done meaning c.led_benches_are_kept.ensures.ages c.led_benches_are_kept.ensures.more c.args.place c.args.tree.now c.tree.inside.id c.args.self.now c.step.new.self c.make_all.new.bench c.close_mark.new.bench c.is_wellformed.ensures.context.holds
     (ap (λ o. (head o).id) (sym c.tree.view_is)) begun c.make_all.ensures.onward c.in-Ok.ensures.answered c.in-Ok.ensures.ok c.close_mark.ensures.finished
-    (led_whole meaning c.led_benches_are_kept.ensures.more true c.args.self.now c.step.new.self c.make_all.new.bench c.close_mark.new.bench c.is_formed.ensures.context.holds begun c.make_all.ensures.onward c.close_mark.ensures.finished c.close_mark.ensures.led)
+    (led_whole meaning c.led_benches_are_kept.ensures.more true c.args.self.now c.step.new.self c.make_all.new.bench c.close_mark.new.bench c.is_wellformed.ensures.context.holds begun c.make_all.ensures.onward c.close_mark.ensures.finished c.close_mark.ensures.led)
 
 pub returns-in-Ok-clause-led : goal.returns-in-Ok-clause-led
 returns-in-Ok-clause-led g c =
     let begun : IsBegun g.L.Analysis.meaning c.args.self.now c.step.new.self = record { ctx = c.step.ensures.ctx; goes = c.in_default-step.ensures.does; led = c.step.ensures.led } in
-    led_whole g.L.Analysis.meaning c.led_benches_are_kept.ensures.more true c.args.self.now c.step.new.self c.make_all.new.bench c.close_mark.new.bench c.is_formed.ensures.context.holds begun c.make_all.ensures.onward c.close_mark.ensures.finished c.close_mark.ensures.led
+    led_whole g.L.Analysis.meaning c.led_benches_are_kept.ensures.more true c.args.self.now c.step.new.self c.make_all.new.bench c.close_mark.new.bench c.is_wellformed.ensures.context.holds begun c.make_all.ensures.onward c.close_mark.ensures.finished c.close_mark.ensures.led
 
 pub returns-in-Err-make_all-clause-does : goal.returns-in-Err-make_all-clause-does
 returns-in-Err-make_all-clause-does g c =
     let meaning = g.L.Analysis.meaning in
     let begun : IsBegun meaning c.args.self.now c.step.new.self = record { ctx = c.step.ensures.ctx; goes = c.in_default-step.ensures.does; led = c.step.ensures.led } in
     insert_undone meaning c.led_benches_are_kept.ensures.ages c.args.place c.args.tree.now c.in-Err-make_all.refusal c.args.self.now c.step.new.self c.make_all.new.bench c.close_mark-in-Err-make_all.new.bench begun c.make_all.ensures.onward c.in-Err-make_all.ensures.answered c.close_mark-in-Err-make_all.ensures.finished
-    (led_whole meaning c.led_benches_are_kept.ensures.more false c.args.self.now c.step.new.self c.make_all.new.bench c.close_mark-in-Err-make_all.new.bench c.is_formed.ensures.context.holds begun c.make_all.ensures.onward c.close_mark-in-Err-make_all.ensures.finished c.close_mark-in-Err-make_all.ensures.led)
+    (led_whole meaning c.led_benches_are_kept.ensures.more false c.args.self.now c.step.new.self c.make_all.new.bench c.close_mark-in-Err-make_all.new.bench c.is_wellformed.ensures.context.holds begun c.make_all.ensures.onward c.close_mark-in-Err-make_all.ensures.finished c.close_mark-in-Err-make_all.ensures.led)
 
 pub returns-in-Err-make_all-clause-led : goal.returns-in-Err-make_all-clause-led
 returns-in-Err-make_all-clause-led g c =
     let begun : IsBegun g.L.Analysis.meaning c.args.self.now c.step.new.self = record { ctx = c.step.ensures.ctx; goes = c.in_default-step.ensures.does; led = c.step.ensures.led } in
-    led_whole g.L.Analysis.meaning c.led_benches_are_kept.ensures.more false c.args.self.now c.step.new.self c.make_all.new.bench c.close_mark-in-Err-make_all.new.bench c.is_formed.ensures.context.holds begun c.make_all.ensures.onward c.close_mark-in-Err-make_all.ensures.finished c.close_mark-in-Err-make_all.ensures.led
+    led_whole g.L.Analysis.meaning c.led_benches_are_kept.ensures.more false c.args.self.now c.step.new.self c.make_all.new.bench c.close_mark-in-Err-make_all.new.bench c.is_wellformed.ensures.context.holds begun c.make_all.ensures.onward c.close_mark-in-Err-make_all.ensures.finished c.close_mark-in-Err-make_all.ensures.led
 
 pub returns-in-Some-clause-journal : goal.returns-in-Some-clause-journal
 returns-in-Some-clause-journal g c = recorded_none c.args.self.now.transaction
@@ -60,8 +60,8 @@ returns-in-Err-clause-journal g c = keeps_left g.L.Analysis.meaning c.args.self.
 
 pub returns-in-Ok-clause-journal : goal.returns-in-Ok-clause-journal
 returns-in-Ok-clause-journal g c =
-    whole_journaled g.L.Analysis.meaning c.led_benches_are_kept.ensures.more c.args.self.now c.step.new.self c.make_all.new.bench c.close_mark.new.bench c.is_formed.ensures.context.holds c.is_formed.ensures.none c.in_default-step.ensures.ok c.step.ensures.untold c.make_all.ensures.onward
+    whole_journaled g.L.Analysis.meaning c.led_benches_are_kept.ensures.more c.args.self.now c.step.new.self c.make_all.new.bench c.close_mark.new.bench c.is_wellformed.ensures.context.holds c.is_wellformed.ensures.none c.in_default-step.ensures.ok c.step.ensures.untold c.make_all.ensures.onward
     c.close_mark.ensures.finished (c.close_mark.ensures.untold refl)
 
 pub returns-in-Err-make_all-clause-journal : goal.returns-in-Err-make_all-clause-journal
-returns-in-Err-make_all-clause-journal g c = undone_recorded g.L.Analysis.meaning c.args.self.now c.step.new.self c.make_all.new.bench c.close_mark-in-Err-make_all.new.bench c.is_formed.ensures.none c.in_default-step.ensures.ok c.make_all.ensures.onward c.close_mark-in-Err-make_all.ensures.finished
+returns-in-Err-make_all-clause-journal g c = undone_recorded g.L.Analysis.meaning c.args.self.now c.step.new.self c.make_all.new.bench c.close_mark-in-Err-make_all.new.bench c.is_wellformed.ensures.none c.in_default-step.ensures.ok c.make_all.ensures.onward c.close_mark-in-Err-make_all.ensures.finished

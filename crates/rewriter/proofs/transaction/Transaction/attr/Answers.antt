@@ -7,12 +7,12 @@ pub invariant_of-self : goal.invariant_of-self
 invariant_of-self c =
     let w = c.self.inside.world in
     let h : TransactionModel = record { ctx = w.ctx; store = w.store; journal = c.self.inside.journal.items; marks = c.self.inside.marks.items } in
-    let is : IsStoreOf w.ctx w.store = record { context = c.sound.ensures; sound = w.sound; formed = w.formed; held = w.held } in
+    let is : IsStoreOf w.ctx w.store = record { context = c.sound.ensures; sound = w.sound; wellformed = w.wellformed; held = w.held } in
     grow_good h c.self.invariant is c.attr-id.new.self.ctx c.attr-id.new.self.store c.sound-2.ensures c.attr-id.ensures.grows c.attr-id.ensures.store
 
 pub returns-clause-grows : goal.returns-clause-grows
 returns-clause-grows c =
     let w = c.self.inside.world in
     let h : TransactionModel = record { ctx = w.ctx; store = w.store; journal = c.self.inside.journal.items; marks = c.self.inside.marks.items } in
-    let is : IsStoreOf w.ctx w.store = record { context = c.sound.ensures; sound = w.sound; formed = w.formed; held = w.held } in
+    let is : IsStoreOf w.ctx w.store = record { context = c.sound.ensures; sound = w.sound; wellformed = w.wellformed; held = w.held } in
     rw (← c.self.view_is) (grow_done h c.self.invariant is c.attr-id.new.self.ctx c.attr-id.new.self.store c.sound-2.ensures c.attr-id.ensures.grows c.attr-id.ensures.store c.attr-id.ensures.module)

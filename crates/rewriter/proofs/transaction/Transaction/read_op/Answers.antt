@@ -7,14 +7,14 @@ pub invariant_of-self : goal.invariant_of-self
 invariant_of-self c =
     let w = c.self.inside.world in
     let h : TransactionModel = record { ctx = w.ctx; store = w.store; journal = c.self.inside.journal.items; marks = c.self.inside.marks.items } in
-    let is : IsStoreOf w.ctx w.store = record { context = c.sound.ensures; sound = w.sound; formed = w.formed; held = w.held } in
+    let is : IsStoreOf w.ctx w.store = record { context = c.sound.ensures; sound = w.sound; wellformed = w.wellformed; held = w.held } in
     grow_good h c.self.invariant is c.read_op-read.new.world.ctx c.read_op-read.new.world.store c.sound-2.ensures c.read_op-read.ensures.grown.grows c.read_op-read.ensures.grown.store
 
 pub returns-clause-grown : goal.returns-clause-grown
 returns-clause-grown c =
     let w = c.self.inside.world in
     let h : TransactionModel = record { ctx = w.ctx; store = w.store; journal = c.self.inside.journal.items; marks = c.self.inside.marks.items } in
-    let is : IsStoreOf w.ctx w.store = record { context = c.sound.ensures; sound = w.sound; formed = w.formed; held = w.held } in
+    let is : IsStoreOf w.ctx w.store = record { context = c.sound.ensures; sound = w.sound; wellformed = w.wellformed; held = w.held } in
     rw (← c.self.view_is) (grow_done h c.self.invariant is c.read_op-read.new.world.ctx c.read_op-read.new.world.store c.sound-2.ensures c.read_op-read.ensures.grown.grows c.read_op-read.ensures.grown.store c.read_op-read.ensures.grown.same)
 
 pub returns-clause-refused : goal.returns-clause-refused

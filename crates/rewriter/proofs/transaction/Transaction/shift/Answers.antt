@@ -10,7 +10,7 @@ pub invariant_of-self-2 : goal.invariant_of-self-2
 invariant_of-self-2 c =
     let w = c.self.inside.world in
     let h : TransactionModel = record { ctx = w.ctx; store = w.store; journal = c.self.inside.journal.items; marks = c.self.inside.marks.items } in
-    let is : IsStoreOf w.ctx w.store = record { context = c.sound.ensures; sound = w.sound; formed = w.formed; held = w.held } in
+    let is : IsStoreOf w.ctx w.store = record { context = c.sound.ensures; sound = w.sound; wellformed = w.wellformed; held = w.held } in
     let kept : c.note.new.journal.items ≡ noted_as h.marks h.journal c.shift-made.result = search rules in
     let made : Made h (after_shift c.args.op c.args.place w.store) c.shift-made.new.self.store c.shift-made.result = shift_made h c.self.invariant is c.shift-made.new.self.ctx c.shift-made.ensures.ctx c.shift-made.new.self.store c.args.op c.args.place c.shift-made.result c.shift-made.ensures.step c.shift-made.ensures.store c.shift-made.ensures.err in
     made_good h c.self.invariant (after_shift c.args.op c.args.place w.store) c.shift-made.new.self.store c.shift-made.result made c.shift-made.new.self.ctx c.note.new.journal.items c.shift-made.ensures.ctx kept
@@ -19,7 +19,7 @@ pub returns-clause-ok : goal.returns-clause-ok
 returns-clause-ok c =
     let w = c.self.inside.world in
     let h : TransactionModel = record { ctx = w.ctx; store = w.store; journal = c.self.inside.journal.items; marks = c.self.inside.marks.items } in
-    let is : IsStoreOf w.ctx w.store = record { context = c.sound.ensures; sound = w.sound; formed = w.formed; held = w.held } in
+    let is : IsStoreOf w.ctx w.store = record { context = c.sound.ensures; sound = w.sound; wellformed = w.wellformed; held = w.held } in
     let kept : c.note.new.journal.items ≡ noted_as h.marks h.journal c.shift-made.result = search rules in
     let made : Made h (after_shift c.args.op c.args.place w.store) c.shift-made.new.self.store c.shift-made.result = shift_made h c.self.invariant is c.shift-made.new.self.ctx c.shift-made.ensures.ctx c.shift-made.new.self.store c.args.op c.args.place c.shift-made.result c.shift-made.ensures.step c.shift-made.ensures.store c.shift-made.ensures.err in
     rw (← c.self.view_is) (made_edited h c.self.invariant (after_shift c.args.op c.args.place w.store) c.shift-made.new.self.store c.shift-made.result made c.shift-made.new.self.ctx c.note.new.journal.items c.shift-made.ensures.ctx kept)

@@ -11,7 +11,7 @@ pub invariant_of-self-2 : goal.invariant_of-self-2
 invariant_of-self-2 c =
     let w = c.self.inside.world in
     let h : TransactionModel = record { ctx = w.ctx; store = w.store; journal = c.self.inside.journal.items; marks = c.self.inside.marks.items } in
-    let is : IsStoreOf w.ctx w.store = record { context = c.sound.ensures; sound = w.sound; formed = w.formed; held = w.held } in
+    let is : IsStoreOf w.ctx w.store = record { context = c.sound.ensures; sound = w.sound; wellformed = w.wellformed; held = w.held } in
     let kept : c.note.new.journal.items ≡ noted_as h.marks h.journal c.take-made.result = search rules in
     let made : Made h (after_take c.args.op w.store) c.take-made.new.self.store c.take-made.result = take_made h c.self.invariant is c.take-made.new.self.ctx c.take-made.ensures.ctx c.take-made.new.self.store c.args.op c.take-made.result c.take-made.ensures.step c.take-made.ensures.shown c.take-made.ensures.store c.take-made.ensures.err in
     made_good h c.self.invariant (after_take c.args.op w.store) c.take-made.new.self.store c.take-made.result made c.take-made.new.self.ctx c.note.new.journal.items c.take-made.ensures.ctx kept
@@ -20,7 +20,7 @@ pub returns-clause-ok : goal.returns-clause-ok
 returns-clause-ok c =
     let w = c.self.inside.world in
     let h : TransactionModel = record { ctx = w.ctx; store = w.store; journal = c.self.inside.journal.items; marks = c.self.inside.marks.items } in
-    let is : IsStoreOf w.ctx w.store = record { context = c.sound.ensures; sound = w.sound; formed = w.formed; held = w.held } in
+    let is : IsStoreOf w.ctx w.store = record { context = c.sound.ensures; sound = w.sound; wellformed = w.wellformed; held = w.held } in
     let kept : c.note.new.journal.items ≡ noted_as h.marks h.journal c.take-made.result = search rules in
     let made : Made h (after_take c.args.op w.store) c.take-made.new.self.store c.take-made.result = take_made h c.self.invariant is c.take-made.new.self.ctx c.take-made.ensures.ctx c.take-made.new.self.store c.args.op c.take-made.result c.take-made.ensures.step c.take-made.ensures.shown c.take-made.ensures.store c.take-made.ensures.err in
     rw (← c.self.view_is) (made_edited h c.self.invariant (after_take c.args.op w.store) c.take-made.new.self.store c.take-made.result made c.take-made.new.self.ctx c.note.new.journal.items c.take-made.ensures.ctx kept)
@@ -31,5 +31,5 @@ returns-clause-refused c = rw (← c.self.view_is) (answered_exactly _ _ _ c.tak
 pub returns-clause-tidy : goal.returns-clause-tidy
 returns-clause-tidy c =
     let w = c.self.inside.world in
-    let is : IsStoreOf w.ctx w.store = record { context = c.sound.ensures; sound = w.sound; formed = w.formed; held = w.held } in
+    let is : IsStoreOf w.ctx w.store = record { context = c.sound.ensures; sound = w.sound; wellformed = w.wellformed; held = w.held } in
     rw (← c.self.view_is) (λ t. tidy_if w.store c.take-made.new.self.store (after_take c.args.op w.store) c.take-made.result c.take-made.ensures.store c.take-made.ensures.err t (tidy_take w.ctx c.args.op w.store is))

@@ -1,6 +1,0 @@
--- The model of the result.
-use Rattle.ir_text_expansion.specs.declared.expansion.Expansion.{Expansion}
-use Rattle.ir_text_expansion.specs.Expanded.{Expanded}
-
-abbrev pub expansion_of : Expansion → Expanded
-expansion_of e = record { text = e.text.items; marks = e.marks.items; fault = e.fault }

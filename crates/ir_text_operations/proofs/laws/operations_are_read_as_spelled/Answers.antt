@@ -1,8 +1,0 @@
-use Rattle.ir_text_operations.proofs.OpLaws.{op_read, op_spelled}
-use Rattle.ir_text_operations.proofs.laws.operations_are_read_as_spelled.Goals as goal
-
-pub returns-clause-found : goal.returns-clause-found
-returns-clause-found _ = op_read
-
-pub returns-clause-only : goal.returns-clause-only
-returns-clause-only _ = op_spelled

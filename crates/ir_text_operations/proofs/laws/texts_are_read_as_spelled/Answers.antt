@@ -1,8 +1,0 @@
-use Rattle.ir_text_operations.proofs.OpLaws.{ops_read, ops_spelled}
-use Rattle.ir_text_operations.proofs.laws.texts_are_read_as_spelled.Goals as goal
-
-pub returns-clause-found : goal.returns-clause-found
-returns-clause-found _ = ops_read
-
-pub returns-clause-only : goal.returns-clause-only
-returns-clause-only _ = ops_spelled

@@ -1,5 +1,0 @@
-use Rattle.ir_tree.proofs.Faults.{fault_none}
-use Rattle.ir_tree.proofs.laws.formed_has_no_fault.Goals as goal
-
-pub returns : goal.returns
-returns _ isolated t = fault_none isolated t

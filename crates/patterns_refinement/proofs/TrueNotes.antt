@@ -1,0 +1,199 @@
+-- The notes of a registry that changes of a session made are true, so the laws of proved patterns cover its patterns.
+use Rattle.std.proofs.Common.{◌≡◌, ◌∙◌, ℕ, zero, suc, ◌≤◌, Bool, true, true≢false, false, cond, not, if◌then◌else◌, List, [], ◌∷◌, ◌++◌, Option, Some, None, Ok, Err, refl, sym, ap, subst, arith, inl, inr, ◌⊎◌}
+use Rattle.std.specs.List.{AllByRecursion}
+use Rattle.std.proofs.lemmas.Bool.{or_cases}
+use Rattle.std.proofs.lemmas.List.Elements.{recursion_from_All}
+use Rattle.std.proofs.lemmas.Option.{none-some, same_Some}
+use Rattle.std.proofs.lemmas.Slice.Eq.{bytes_eq-Decides}
+use Rattle.user_patterns_data.specs.Shapes.{PatternModel}
+use Rattle.user_patterns_text.specs.Refusing.{Outcome, ◌>>=◌, begins}
+use Rattle.user_patterns_text.specs.Rendered.{whole_at}
+use Rattle.user_patterns_widths.specs.AllWidths.{holds_at_all_widths}
+use Rattle.user_patterns_widths.specs.Lasting.{PolynomialsKeep}
+use Rattle.user_patterns_claims.specs.Outcomes.{HoldsAtAllWidths}
+use Rattle.user_patterns_registry.specs.CheckResult.{default_most, is_small, requested_width, widest}
+use Rattle.user_patterns_registry.specs.declared.check_result.CheckSummary.{CheckSummary}
+use Rattle.user_patterns_registry.specs.declared.check_result.CheckSummary.TheVariants as summary
+use Rattle.user_patterns_registry.specs.Registry.{AreApart, ForgettingKeepsARegistry, IsReady, IsRegistry, Kept, NotingKeepsARegistry, RegistryModel, StaysARegistry, added, and_kept, defined, forgotten, found, headroom_for, is_named, kept_as, kept_of, noted, noted_one, shape_of, variables_of, with_said}
+use Rattle.greedy.specs.PatternSet.{RuleOrPatternModel, OfOwn, OfRule}
+use Rattle.patterns_refinement.specs.RuleListRuns.{HoldsForAllWidths}
+use Rattle.patterns_refinement.specs.ForOutcomes.{HoldsForOutcomes, ProvedApplyRefines, ProvedRewriteRefines, is_sound_form}
+use Rattle.patterns_refinement.specs.ForOutcomesSamples.{PoisonRefutes}
+use Rattle.patterns_refinement.specs.CanonLists.{CanonListsRefine, IsNotedOrCanonical, IsProvedOrCanonical, NotedCanonListsRefine}
+use Rattle.patterns_refinement.specs.Noted.{ChangesTo, Defines, IsChecked, IsReached, IsTrulyNoted, NotedApplyRefines, NotedAreProved, NotedRewriteRefines, NotesAreTrue, Records, Removes, WrongIsNeverNoted, IsTried, is_covered}
+use Rattle.patterns_refinement.proofs.StrictLaws.{registered_proper}
+
+-- ---- the patterns of a registry
+abbrev IsTrue : Kept → Type 0
+IsTrue k = k.said ≡ Some summary.AllWidths → IsChecked k
+
+abbrev AllTrue : RegistryModel → Type 0
+AllTrue ks = AllByRecursion IsTrue ks
+
+found_is : (P : Kept → Type 0) (ks : RegistryModel) → AllByRecursion P ks → (name : List ℕ) (k : Kept) → found name ks ≡ Some k → P k
+unfolding found
+found_is P [] all name k e = absurd (none-some k e)
+found_is P (j ∷ ks) all name k e = go (λ e. found_is P ks all.1 name k e) (is_named name j) e
+  where
+    go : (found name ks ≡ Some k → P k) → (b : Bool) → (if b then Some j else found name ks) ≡ Some k → P k
+    go more true e = subst P (same_Some _ _ e) all.0
+    go more false e = more e
+
+-- ---- a definition
+bound_ok : {A B : Type 0} (o : Outcome A) (f : A → Outcome B) (y : B) → (o >>= f) ≡ Ok y → (x : A) × (o ≡ Ok x) × (f x ≡ Ok y)
+bound_ok (Ok x) f y h = (x, refl, h)
+bound_ok (Err e) f y h = absurd cc
+
+ok_same : {X : Type 0} (x y : X) (o p : Outcome X) → o ≡ Ok x → p ≡ Ok y → o ≡ p → x ≡ y
+ok_same x y o p e f h = cc
+
+record Fresh (b new : RegistryModel) : Type 0 where
+  pub last : Kept
+  pub is : b ++ (last ∷ []) ≡ new
+  pub unsaid : last.said ≡ None
+
+defined_fresh : (b new : RegistryModel) (text : List ℕ) → defined b text ≡ Ok new → Fresh b new
+unfolding defined kept_of
+defined_fresh b new text h =
+    let p = bound_ok (whole_at text) (λ p. headroom_for p.name (begins text) b >>= λ _. added b p) new h in
+    let r = bound_ok (headroom_for p.0.name (begins text) b) (λ _. added b p.0) new p.2 in
+    let k = bound_ok (kept_of p.0) (λ k. Ok (and_kept b k)) new r.2 in
+    let vs = bound_ok (variables_of p.0) (λ vs. shape_of p.0 >>= λ t. Ok (kept_as p.0 vs t)) k.0 k.1 in
+    let t = bound_ok (shape_of p.0) (λ t. Ok (kept_as p.0 vs.0 t)) k.0 vs.2 in
+    record {
+      last = k.0;
+      is = ok_same (and_kept b k.0) new (Ok (and_kept b k.0)) (Ok new) refl refl k.2;
+      unsaid = sym (ap (λ (k : Kept). k.said) (ok_same (kept_as p.0 vs.0 t.0) k.0 (Ok (kept_as p.0 vs.0 t.0)) (Ok k.0) refl refl t.2));
+    }
+
+added_true : (ks : RegistryModel) (k : Kept) → AllTrue ks → k.said ≡ None → AllTrue (ks ++ (k ∷ []))
+added_true [] k all e = ((λ f. absurd (none-some summary.AllWidths (sym e ∙ f))), tt)
+added_true (j ∷ ks) k all e = (all.0, added_true ks k all.1 e)
+
+-- ---- a recorded check
+module _ (name : List ℕ) (said : CheckSummary) where
+  -- no pattern has the name
+  others_true : (ks : RegistryModel) → AllTrue ks → found name ks ≡ None → AllTrue (noted name said ks)
+  unfolding found
+  others_true [] all e = tt
+  others_true (j ∷ ks) all e = go (λ e. others_true ks all.1 e) (is_named name j) refl e
+    where
+      go : (found name ks ≡ None → AllTrue (noted name said ks)) → (b : Bool) → is_named name j ≡ b → (if b then Some j else found name ks) ≡ None
+          → IsTrue (noted_one name said j) × AllTrue (noted name said ks)
+      go more true i e = absurd (none-some j (sym e))
+      go more false i e = (subst IsTrue (ap (λ b. if b then with_said said j else j) (sym i)) all.0, more e)
+
+  -- one pattern has the name, and the summary is true of it
+  noted_true : (ks : RegistryModel) → AllTrue ks → AreApart ks → (k : Kept) → found name ks ≡ Some k → (said ≡ summary.AllWidths → IsChecked k) → AllTrue (noted name said ks)
+  unfolding found
+  noted_true [] all apart k e right = tt
+  noted_true (j ∷ ks) all apart k e right = go (λ e. others_true ks all.1 e) (λ e. noted_true ks all.1 apart.1 k e right) (is_named name j) refl e
+    where
+      go : (found name ks ≡ None → AllTrue (noted name said ks)) → (found name ks ≡ Some k → AllTrue (noted name said ks)) → (b : Bool) → is_named name j ≡ b
+          → (if b then Some j else found name ks) ≡ Some k → IsTrue (noted_one name said j) × AllTrue (noted name said ks)
+      go others more true i e =
+          let same : with_said said j ≡ noted_one name said j = ap (λ b. if b then with_said said j else j) (sym i) in
+          let is : j ≡ k = same_Some _ _ e in
+          let its : j.name ≡ name = (bytes_eq-Decides j.name name).0 i in
+          let one : IsTrue (with_said said j) = (λ f. subst IsChecked (sym is) (right (same_Some _ _ f))) in
+          (subst IsTrue same one, others (ap (λ n. found n ks) (sym its) ∙ apart.0))
+      go others more false i e = (subst IsTrue (ap (λ b. if b then with_said said j else j) (sym i)) all.0, more e)
+
+-- ---- a removed pattern
+forgotten_true : (name : List ℕ) (ks : RegistryModel) → AllTrue ks → AllTrue (forgotten name ks)
+forgotten_true name [] all = tt
+forgotten_true name (k ∷ ks) all = go (not (is_named name k)) (forgotten_true name ks all.1)
+  where
+    go : (b : Bool) → AllTrue (forgotten name ks) → AllTrue (cond b (k ∷ forgotten name ks) (forgotten name ks))
+    go true more = (all.0, more)
+    go false more = more
+
+-- ---- changes
+module _ (stays : StaysARegistry) (noting : NotingKeepsARegistry) (forgetting : ForgettingKeepsARegistry) where
+  abbrev Good : RegistryModel → Type 0
+  Good b = IsRegistry b × AllTrue b
+
+  defined_good : (b c : RegistryModel) → Good b → Defines b c → Good c
+  defined_good b c g d =
+      let f = defined_fresh b c d.0 d.1 in
+      (stays b c d.0 g.0 d.1, subst AllTrue f.is (added_true b f.last g.1 f.unsaid))
+
+  removed_good : (b c : RegistryModel) → Good b → Removes b c → Good c
+  removed_good b c g r = subst Good (sym r.1) (forgetting b r.0 g.0, forgotten_true r.0 b g.1)
+
+  recorded_good : (b c : RegistryModel) → Good b → Records b c → Good c
+  recorded_good b c g r = subst Good (sym r.5) (noting b r.0 r.2 g.0, noted_true r.0 r.2 b g.1 (IsRegistry.apart g.0) r.1 r.3 r.4)
+
+  one_good : (b c : RegistryModel) → Good b → Defines b c ⊎ (Removes b c ⊎ Records b c) → Good c
+  one_good b c g (inl d) = defined_good b c g d
+  one_good b c g (inr (inl r)) = removed_good b c g r
+  one_good b c g (inr (inr r)) = recorded_good b c g r
+
+  all_good : (k : ℕ) (b c : RegistryModel) → Good b → ChangesTo k b c → Good c
+  all_good zero b c g changes = subst Good changes g
+  all_good (suc k) b c g changes = all_good k changes.0 c (one_good b changes.0 g changes.1) changes.2
+
+  pub notes_are_true : IsRegistry [] → NotesAreTrue
+  notes_are_true empty b reached name k e f =
+      let g = all_good reached.0 [] b (empty, tt) reached.1 in
+      record { applies = found_is IsReady b (recursion_from_All IsReady b (IsRegistry.ready g.0)) name k e; checked = found_is IsTrue b g.1 name k e f }
+
+-- ---- the premises of the laws of proved patterns
+some_width : (p : PatternModel) (n : ℕ) → 1 ≤ widest p n
+unfolding widest
+some_width p zero = omega arith
+some_width p (suc w) = go (is_small p (suc w)) (some_width p w)
+  where
+    go : (b : Bool) → 1 ≤ widest p w → 1 ≤ (if b then suc w else widest p w)
+    go true h = omega arith
+    go false h = h
+
+-- a pattern that holds by its form
+by_form : PolynomialsKeep → (k : Kept) → IsTrulyNoted k → IsTried k.shape → holds_at_all_widths k.shape ≡ true → HoldsForAllWidths k.shape
+by_form polynomials k h v e = record {
+  proper = registered_proper polynomials k.shape (IsReady.stands h.applies) (IsReady.buildable h.applies) e;
+  for_all_widths = e;
+  most = requested_width k.shape None;
+  some = some_width k.shape default_most;
+  holds = v;
+}
+
+covered : PolynomialsKeep → (k : Kept) → IsTrulyNoted k → IsTried k.shape → is_covered k.shape ≡ true → HoldsForAllWidths k.shape ⊎ HoldsForOutcomes k.shape
+covered polynomials k h v e = elim (or_cases (holds_at_all_widths k.shape) (is_sound_form k.shape) e) [
+  | inl i ↦ inl (by_form polynomials k h v i)
+  | inr i ↦ elim h.checked.3 [
+    | inl f ↦ inl (by_form polynomials k h v f.0)
+    | inr o ↦ inr (record { wellformed = IsReady.stands h.applies; buildable = IsReady.buildable h.applies; form = i; holds = o })
+  ]
+]
+
+pub noted_are_proved : PolynomialsKeep → NotesAreTrue → NotedAreProved
+noted_are_proved polynomials notes b reached (OfRule r) is = is
+noted_are_proved polynomials notes b reached (OfOwn p) is =
+    let k = is.1 in
+    let same : k.shape ≡ p = is.4 in
+    let c = covered polynomials k (notes b reached is.0 k is.2 is.3) (subst IsTried (sym same) is.6) (ap is_covered same ∙ is.5) in
+    subst (λ (p : PatternModel). HoldsForAllWidths p ⊎ HoldsForOutcomes p) same c
+
+pub noted_apply_refines : NotedAreProved → ProvedApplyRefines → NotedApplyRefines
+noted_apply_refines proved refines b reached t is m n x ready range e = refines t (proved b reached t is) m n x ready range e
+
+pub noted_rewrite_refines : NotedAreProved → ProvedRewriteRefines → NotedRewriteRefines
+noted_rewrite_refines proved refines b reached ts are limit m n k e ready range i = refines ts (λ t j. proved b reached t (are t j)) limit m n k e ready range i
+
+noted_or_canonical : NotedAreProved → (b : RegistryModel) → IsReached b → (t : RuleOrPatternModel) → IsNotedOrCanonical b t → IsProvedOrCanonical t
+noted_or_canonical proved b reached (OfRule r) is = is
+noted_or_canonical proved b reached (OfOwn p) is = proved b reached (OfOwn p) is
+
+pub noted_canon_lists_refine : NotedAreProved → CanonListsRefine → NotedCanonListsRefine
+noted_canon_lists_refine proved refines b reached ts are limit m n k e ready plain range i =
+    refines ts (λ t j. noted_or_canonical proved b reached t (are t j)) limit m n k e ready plain range i
+
+-- a pattern that poison refutes doesn't hold by its form, since its matched operation is a `select`
+pub never_noted : NotesAreTrue → PoisonRefutes → WrongIsNeverNoted
+never_noted notes refutes b reached name k e same f =
+    let h = notes b reached name k e f in
+    elim h.checked.3 [
+      | inl g ↦ true≢false (sym (sym (ap holds_at_all_widths same) ∙ g.0))
+      | inr o ↦ refutes.3 (subst HoldsAtAllWidths same o)
+    ]

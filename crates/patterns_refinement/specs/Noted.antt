@@ -1,0 +1,103 @@
+-- The notes of a pattern registry, and the modules after `apply` and `rewrite` by patterns that it notes as `holds`.
+use Rattle.std.specs.Prelude.{◌≡◌, ◌⊎◌, ℕ, zero, suc, List, [], Bool, true, ◌||◌, Some, None, Ok}
+use Rattle.ir_event.specs.Modules.{Module}
+use Rattle.ir_tree_laws.specs.Members.{In}
+use Rattle.patterns_base.specs.Rewrites.{becomes}
+use Rattle.patterns_base.specs.Canonicalization.{End, ended}
+use Rattle.user_patterns_check.specs.declared.verdict.Verdict.TheVariants as verdict
+use Rattle.user_patterns_check.specs.Families.{IsVerdict}
+use Rattle.user_patterns_data.specs.Fitting.{content_at}
+use Rattle.user_patterns_data.specs.Shapes.{PatternModel}
+use Rattle.user_patterns_widths.specs.AllWidths.{holds_at_all_widths}
+use Rattle.user_patterns_registry.specs.CheckResult.{IsCheckResult, requested_width}
+use Rattle.user_patterns_registry.specs.declared.check_result.CheckResult.TheVariants as result
+use Rattle.user_patterns_registry.specs.declared.check_result.CheckSummary.{CheckSummary}
+use Rattle.user_patterns_registry.specs.declared.check_result.CheckSummary.TheVariants as summary
+use Rattle.user_patterns_registry.specs.Registry.{IsReady as CanBeApplied, Kept, RegistryModel, defined, forgotten, found, noted}
+use Rattle.greedy.specs.Rewriting.{rewriting_of}
+use Rattle.greedy.specs.PatternSet.{RuleOrPatternModel, OfOwn, OfRule, by_attempts}
+use Rattle.patterns_refinement.specs.Keeping.{IsReady}
+use Rattle.patterns_refinement.specs.Runs.{kept_rules}
+use Rattle.patterns_refinement.specs.Refining.{IsRefinedBy}
+use Rattle.patterns_refinement.specs.ForOutcomes.{IsInRange, IsProved, applied, is_sound_form}
+use Rattle.patterns_refinement.specs.ForOutcomesSamples.{choice_as_and}
+
+-- ---- registries
+
+-- what a check without a width says if its result is `holds` without a width
+abbrev pub IsChecked : Kept → Type 0
+IsChecked k = IsCheckResult k.shape None result.AllWidths
+
+-- a pattern is defined, by a command or in a pattern file
+abbrev pub Defines : RegistryModel → RegistryModel → Type 0
+Defines b c = (text : List ℕ) × (defined b text ≡ Ok c)
+
+-- a pattern is removed
+abbrev pub Removes : RegistryModel → RegistryModel → Type 0
+Removes b c = (name : List ℕ) × (c ≡ forgotten name b)
+
+-- The summary of a check of a named pattern is recorded. It is `holds` without a width only if a check said so.
+abbrev pub Records : RegistryModel → RegistryModel → Type 0
+Records b c =
+    (name : List ℕ) × (k : Kept) × (said : CheckSummary) × (found name b ≡ Some k) × (said ≡ summary.AllWidths → IsChecked k) × (c ≡ noted name said b)
+
+-- so many changes lead from one registry to another
+abbrev pub ChangesTo : ℕ → RegistryModel → RegistryModel → Type 0
+ChangesTo zero b c = b ≡ c
+ChangesTo (suc k) b c = (d : RegistryModel) × (Defines b d ⊎ (Removes b d ⊎ Records b d)) × ChangesTo k d c
+
+-- a registry of a session: such changes lead to it from the empty one
+abbrev pub IsReached : RegistryModel → Type 0
+IsReached c = (k : ℕ) × ChangesTo k [] c
+
+-- What the note `holds` without a width says. The pattern can be applied, and a check found that it holds at all
+-- widths: by its form, or by claims about the bits of all outcomes of its variables.
+pub record IsTrulyNoted (k : Kept) : Type 0 where
+  pub applies : CanBeApplied k
+  pub checked : IsChecked k
+
+-- the note is true of each pattern that has it
+abbrev pub NotesAreTrue : Type 0
+NotesAreTrue = (b : RegistryModel) → IsReached b → (name : List ℕ) (k : Kept) → found name b ≡ Some k → k.said ≡ Some summary.AllWidths → IsTrulyNoted k
+
+-- ---- rules and patterns of a command
+
+-- the laws cover a pattern that holds by its form, or whose form passes their tests
+abbrev pub is_covered : PatternModel → Bool
+is_covered p = holds_at_all_widths p || is_sound_form p
+
+-- no value up to the default width refutes the pattern, and its old side is defined for some value there
+abbrev pub IsTried : PatternModel → Type 0
+IsTried p = IsVerdict (content_at p) p.types (requested_width p None) verdict.Holds
+
+-- a listed rule, or such a pattern that the registry notes as `holds` without a width. The laws don't cover a pattern
+-- whose old side is defined at wider types alone.
+abbrev pub IsNotedIn : RegistryModel → RuleOrPatternModel → Type 0
+IsNotedIn b (OfRule r) = In r kept_rules
+IsNotedIn b (OfOwn p) =
+    (name : List ℕ) × (k : Kept) × (found name b ≡ Some k) × (k.said ≡ Some summary.AllWidths) × (k.shape ≡ p) × (is_covered p ≡ true) × IsTried p
+
+abbrev pub NotedAreProved : Type 0
+NotedAreProved = (b : RegistryModel) → IsReached b → (t : RuleOrPatternModel) → IsNotedIn b t → IsProved t
+
+-- ---- the laws
+
+-- after `apply` of one of them at an operation of a ready module in range, the module is ready and in range, and refines
+-- the module before, as an observer sees it
+abbrev pub NotedApplyRefines : Type 0
+NotedApplyRefines =
+    (b : RegistryModel) → IsReached b → (t : RuleOrPatternModel) → IsNotedIn b t → (m n : Module) (x : ℕ) → IsReady m → IsInRange m
+    → applied t m x ≡ becomes n → IsReady n × IsInRange n × IsRefinedBy m n
+
+-- so it is after `rewrite` by a list of them, up to a limit or to its end
+abbrev pub NotedRewriteRefines : Type 0
+NotedRewriteRefines =
+    (b : RegistryModel) → IsReached b → (ts : List RuleOrPatternModel) → ((t : RuleOrPatternModel) → In t ts → IsNotedIn b t)
+    → (limit : ℕ) (m n : Module) (k : ℕ) (e : End) → IsReady m → IsInRange m → rewriting_of (by_attempts ts) limit m ≡ ended n k e
+    → IsReady n × IsInRange n × IsRefinedBy m n
+
+-- `select(c, a, false) => andi(c, a)`, which is wrong if `a` is poison, is never noted as `holds` without a width
+abbrev pub WrongIsNeverNoted : Type 0
+WrongIsNeverNoted =
+    (b : RegistryModel) → IsReached b → (name : List ℕ) (k : Kept) → found name b ≡ Some k → k.shape ≡ choice_as_and
+    → k.said ≡ Some summary.AllWidths → ⊥
