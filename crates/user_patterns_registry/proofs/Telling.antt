@@ -16,7 +16,7 @@ use Rattle.user_patterns_claims.specs.Answered.{IsRefuted}
 use Rattle.user_patterns_claims.specs.Outcomes.{IsNeverNumber, OutcomesDecide}
 use Rattle.user_patterns_claims.specs.Outcomes.{HoldsAtAllWidths as HoldsForOutcomes}
 use Rattle.user_patterns_registry.specs.CheckResult.{IsCheckResult, IsFirstFound, IsKept, IsSampledIf, IsWrong, requested_width, reports_all_widths}
-use Rattle.user_patterns_registry.specs.Sampled.{IsWideSampled, wide_widths}
+use Rattle.user_patterns_registry.specs.Sampled.{IsWideSampled}
 use Rattle.user_patterns_registry.specs.Shown.{IsShown, told_width, width_told}
 
 pub alike : {X : Type 0} (f : Content → List ℕ → X) (s t : Content) (us vs : List ℕ) → s ≡ t → us ≡ vs → f s us ≡ f t vs
@@ -44,10 +44,10 @@ module _ (p : PatternModel) (requested : Option ℕ) (most : ℕ) (is : most ≡
   requested_result w v e width right told = (width_is v width, to_requested verdict.Holds right, told, subst (IsSampledIf p) (sym e) tt)
 
   pub samples_told : (v : ℕ) → requested ≡ None → v ≡ told_width p most → IsVerdict (content_at p) p.types most verdict.Holds → reports_all_widths p requested ≡ false
-      → IsWideSampled p wide_widths None → IsCheckResult p requested (judgement.Holds v)
+      → IsWideSampled p None → IsCheckResult p requested (judgement.Holds v)
   samples_told v e width right told kept = (width_is v width, to_requested verdict.Holds right, told, subst (IsSampledIf p) (sym e) kept)
 
-  pub sampled_told : (c : Counterexample) → requested ≡ None → IsVerdict (content_at p) p.types most verdict.Holds → IsWideSampled p wide_widths (Some c)
+  pub sampled_told : (c : Counterexample) → requested ≡ None → IsVerdict (content_at p) p.types most verdict.Holds → IsWideSampled p (Some c)
       → IsCheckResult p requested (judgement.Fails c)
   sampled_told c e right found = inr (e, to_requested verdict.Holds right, found)
 

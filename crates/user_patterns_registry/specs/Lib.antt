@@ -2,5 +2,4 @@ pub mod Registry
 pub mod Shown
 pub mod CheckResult
 pub mod Rows
-pub mod Values
 pub mod Sampled

@@ -5,22 +5,15 @@ ghost use Rattle.user_patterns_data.specs.Shapes.{pattern_model};
 ghost use Rattle.user_patterns_widths.specs.AllWidths as for_all_widths;
 
 use user_patterns_data::pattern::{
-    ConstantExpression, ExtraConstant, Literal, NewValue, Pattern, PatternOp, PatternType,
+    ConstantExpression, ExtraConstant, NewValue, Pattern, PatternOp, PatternType,
 };
-
-/// Returns whether the literal has the type.
-fn literal_has(ty: usize, literal: &Literal) -> bool
-    ensures { result ≡ for_all_widths.literal_has ty literal.now }
-{
-    literal.ty == ty
-}
 
 /// Returns whether the extra constant has the type. A second use of a constant has the type of its first.
 fn extra_has(ty: usize, extra: &ExtraConstant) -> bool
     ensures { result ≡ for_all_widths.extra_has ty extra.now }
 {
     match extra {
-        ExtraConstant::Literal(literal) => literal_has(ty, literal),
+        ExtraConstant::Literal(literal) => literal.ty == ty,
         ExtraConstant::SameAs(_) => true,
     }
 }
@@ -30,7 +23,7 @@ fn number_has(ty: usize, number: &ConstantExpression) -> bool
     ensures { result ≡ for_all_widths.number_has ty number.now }
 {
     match number {
-        ConstantExpression::Literal(literal) => literal_has(ty, literal),
+        ConstantExpression::Literal(literal) => literal.ty == ty,
         ConstantExpression::Width(of) => *of == ty,
         ConstantExpression::Binary(_, _, _) => true,
         ConstantExpression::Compare(_, _, _) => true,
@@ -56,50 +49,15 @@ fn new_has(ty: usize, new: &NewValue) -> bool
     }
 }
 
-/// Returns whether all variables have the type.
-fn all_values(ty: usize, values: &[usize]) -> bool
-    ensures { result ≡ list_all (λ v. v == ty) values.now }
-{
-    values.iter().all(|value| *value == ty)
-}
-
-/// Returns whether all extra constants have the type.
-fn all_extra(ty: usize, extra: &[ExtraConstant]) -> bool
-    ensures { result ≡ list_all (for_all_widths.extra_has ty) extra.now }
-{
-    extra.iter().all(|extra| extra_has(ty, extra))
-}
-
-/// Returns whether all computed numbers have the type.
-fn all_numbers(ty: usize, numbers: &[ConstantExpression]) -> bool
-    ensures { result ≡ list_all (for_all_widths.number_has ty) numbers.now }
-{
-    numbers.iter().all(|number| number_has(ty, number))
-}
-
-/// Returns whether all matched operations have the type.
-fn all_old(ty: usize, old: &[PatternOp]) -> bool
-    ensures { result ≡ list_all (for_all_widths.pattern_op_has ty) old.now }
-{
-    old.iter().all(|pattern_op| pattern_op_has(ty, pattern_op))
-}
-
-/// Returns whether all new values have the type.
-fn all_new(ty: usize, new: &[NewValue]) -> bool
-    ensures { result ≡ list_all (for_all_widths.new_has ty) new.now }
-{
-    new.iter().all(|new| new_has(ty, new))
-}
-
 /// Returns whether all values of the pattern have the type.
 fn has_type(ty: usize, pattern: &Pattern) -> bool
     ensures { result ≡ for_all_widths.has_type ty (pattern_model pattern.now) }
 {
-    all_values(ty, &pattern.values)
-        && all_extra(ty, &pattern.extra)
-        && all_numbers(ty, &pattern.given)
-        && all_old(ty, &pattern.old)
-        && all_new(ty, &pattern.new)
+    pattern.values.iter().all(|value| *value == ty)
+        && pattern.extra.iter().all(|extra| extra_has(ty, extra))
+        && pattern.given.iter().all(|number| number_has(ty, number))
+        && pattern.old.iter().all(|op| pattern_op_has(ty, op))
+        && pattern.new.iter().all(|new| new_has(ty, new))
 }
 
 /// Returns whether the type number is that of a type variable.
