@@ -1,4 +1,4 @@
-"""Samples a user pattern at wide types: edge values of the types, pseudo-random values that are always the same, and then
+"""Samples a user pattern at wide types: edge values of the types, pseudo-random values that are always the same, then
 values near the literals of the pattern. If none is a counterexample, that says nothing about other values."""
 import functools
 import itertools

@@ -1,5 +1,5 @@
 -- The sampled values in the code, and the counterexample that is found.
-use Rattle.std.proofs.Common.{◌≡◌, ◌∙◌, ℕ, List, Some, Ok, Err, Result, IfOk, false, sym, ap, subst}
+use Rattle.std.proofs.Common.{◌≡◌, ◌∙◌, ℕ, List, [], ◌∷◌, Option, Some, None, Ok, Err, Result, IfOk, false, inr, sym, ap, subst}
 use Rattle.std.specs.declared.alloc.AllocError.{AllocError}
 use Rattle.std.specs.declared.alloc.Global.{Global}
 use Rattle.std.specs.declared.vec.Vec.{Vec}
@@ -11,7 +11,8 @@ use Rattle.user_patterns_data.specs.Fitting.{content_at}
 use Rattle.user_patterns_data.specs.Shapes.{PatternModel}
 use Rattle.user_patterns_registry.specs.declared.check_result.Counterexample.{Counterexample}
 use Rattle.user_patterns_registry.specs.Shown.{IsShown, width_told}
-use Rattle.user_patterns_registry.specs.Sampled.{IsRefuted, case_tried, first_refuting, keeps_tried, tried_bounds, values_tried}
+use Rattle.user_patterns_registry.specs.Sampled.{IsFoundAmong, IsRefuted, IsSampledAt, IsWideSampled, NoneRefutes, case_tried, first_refuting, keeps_tried, tried_bounds, usual, values_tried, wide_widths}
+use Rattle.user_patterns_widths.specs.NearLiterals.{near_literals}
 use Rattle.user_patterns_widths.specs.SampledValues.{values_of}
 use Rattle.user_patterns_widths.specs.SampledWidths.{widths_tried}
 
@@ -49,3 +50,25 @@ module _ (p : PatternModel) (near : List ℕ) (w : ℕ) (numbers : List ℕ) (wi
         → IfOk r (λ c. c.width ≡ width_told p widths.items) → IfOk r (IsShown (content_at p widths.items)) → IfOk r (IsRefuted p near w)
     refuted (Ok c) us vs width shown = refutes c us vs width shown
     refuted (Err e) us vs width shown = tt
+
+-- the samples at widths, one after another, and those near literals after all others
+module _ (p : PatternModel) where
+  pub onward : (near : List ℕ) (w : ℕ) (ws : List ℕ) (r : Result (Option Counterexample) AllocError) → first_refuting p near w ≡ None
+      → IfOk r (IsFoundAmong p near ws) → IfOk r (IsFoundAmong p near (w ∷ ws))
+  onward near w ws (Ok None) e h = (e, h)
+  onward near w ws (Ok (Some c)) e h = inr (e, h)
+  onward near w ws (Err x) e h = tt
+
+  pub no_literals : (near ws : List ℕ) → near ≡ near_literals p → near ≡ [] → NoneRefutes p usual ws → NoneRefutes p (near_literals p) ws
+  no_literals near ws is e h = subst (λ (ns : List ℕ). NoneRefutes p ns ws) (sym e ∙ is) h
+
+  pub after_usual : (ws : List ℕ) (r : Result (Option Counterexample) AllocError) → NoneRefutes p usual ws
+      → IfOk r (IsFoundAmong p (near_literals p) ws) → IfOk r (IsSampledAt p ws)
+  after_usual ws (Ok None) none h = (none, h)
+  after_usual ws (Ok (Some c)) none h = inr (none, h)
+  after_usual ws (Err x) none h = tt
+
+  pub wide_sampled : (r : Result (Option Counterexample) AllocError) → IfOk r (IsSampledAt p wide_widths) → IfOk r (IsWideSampled p)
+  wide_sampled (Ok None) h = λ few. h
+  wide_sampled (Ok (Some c)) h = h
+  wide_sampled (Err x) h = tt
