@@ -1,2 +1,2 @@
 pub mod Bounds
-pub mod Changing
+pub mod Reaching

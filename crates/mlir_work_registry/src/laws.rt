@@ -1,5 +1,5 @@
 //! Laws of registry commands.
-ghost use Rattle.mlir_work_registry.specs.Changes.{CommandsChange, CommandsReach, NewIsReached};
+ghost use Rattle.mlir_work_registry.specs.Changing.{CommandsChange, CommandsReach, NewIsReached};
 
 /// Whatever the response to a registry command is, the registry that it leaves comes from the one that was there by
 /// definitions, removals and recorded checks (`changes`). So each registry of a session is reached from the empty one

@@ -1,4 +1,4 @@
-use Rattle.mlir_work_registry.proofs.Changing.{commands_change, commands_reach, new_is_reached}
+use Rattle.mlir_work_registry.proofs.Reaching.{commands_change, commands_reach, new_is_reached}
 use Rattle.mlir_work_registry.proofs.laws.commands_keep_registries_reached.Goals as goal
 
 pub returns-clause-changes : goal.returns-clause-changes

@@ -2,6 +2,7 @@
 use Rattle.std.proofs.Common.{◌≡◌, ◌∙◌, ℕ, zero, suc, Bool, true, false, if◌then◌else◌, List, [], Option, Some, None, Ok, Err, refl, sym, subst, inl, inr}
 use Rattle.user_patterns_text.specs.Refusing.{Outcome}
 use Rattle.user_patterns_widths.specs.Passing.{is_passing}
+use Rattle.user_patterns_registry.specs.Changes.{Changes, ChangesTo, IsFoundToHold}
 use Rattle.user_patterns_registry.specs.CheckResult.{IsCheckResult}
 use Rattle.user_patterns_registry.specs.Sampled.{IsSampled}
 use Rattle.user_patterns_registry.specs.declared.check_result.CheckResult.{CheckResult}
@@ -12,7 +13,7 @@ use Rattle.user_patterns_registry.specs.Registry.{Kept, RegistryModel, defined, 
 use Rattle.mlir_work_script.specs.RegistryCommands.{RegistryCommand, Define, Forget, Patterns, Check, Sample}
 use Rattle.mlir_work_registry.specs.Notices.{Notice}
 use Rattle.mlir_work_registry.specs.Registries.{Checks, Forgets, IsChecked, IsDefined, IsNoted, IsSampledAs, IsShelved, Registries, Samples, said_for}
-use Rattle.mlir_work_registry.specs.Changes.{Changes, ChangesTo, CommandsChange, CommandsReach, IsFoundToHold, NewIsReached}
+use Rattle.mlir_work_registry.specs.Changing.{CommandsChange, CommandsReach, NewIsReached}
 
 -- ---- summaries
 -- a check up to a width has no summary without a width
