@@ -3,7 +3,7 @@ use Rattle.std.specs.Prelude.{◌≡◌, ◌⊎◌, ℕ, zero, suc, List, [], So
 use Rattle.user_patterns_registry.specs.CheckResult.{IsCheckResult}
 use Rattle.user_patterns_registry.specs.declared.check_result.CheckResult.TheVariants as judgement
 use Rattle.user_patterns_registry.specs.declared.check_result.CheckSummary.{CheckSummary}
-use Rattle.user_patterns_registry.specs.declared.check_result.CheckSummary.TheVariants as said
+use Rattle.user_patterns_registry.specs.declared.check_result.CheckSummary.TheVariants as summary
 use Rattle.user_patterns_registry.specs.Registry.{Kept, RegistryModel, defined, forgotten, found, noted}
 
 -- what a check without a width says if its result is `holds` without a width
@@ -21,7 +21,7 @@ Removes b c = (name : List ℕ) × (c ≡ forgotten name b)
 -- The summary of a check of a named pattern is recorded. It is `holds` without a width only if a check said so.
 abbrev pub Records : RegistryModel → RegistryModel → Type 0
 Records b c =
-    (name : List ℕ) × (k : Kept) × (said : CheckSummary) × (found name b ≡ Some k) × (said ≡ said.AllWidths → IsFoundToHold k) × (c ≡ noted name said b)
+    (name : List ℕ) × (k : Kept) × (said : CheckSummary) × (found name b ≡ Some k) × (said ≡ summary.AllWidths → IsFoundToHold k) × (c ≡ noted name said b)
 
 -- one of these changes
 abbrev pub Changes : RegistryModel → RegistryModel → Type 0
