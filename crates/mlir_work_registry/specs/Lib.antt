@@ -3,6 +3,7 @@ pub mod Notices
 pub mod Told
 pub mod Explained
 pub mod Registries
+pub mod Changing
 pub use Rattle.user_patterns_registry.specs.Registry
 pub use Rattle.user_patterns_registry.specs.declared.registry.PatternRegistry
 pub use Rattle.user_patterns_registry.specs.declared.check_result.CheckSummary

@@ -11,6 +11,7 @@ use Rattle.user_patterns_text.specs.Rendered.{whole_at}
 use Rattle.user_patterns_widths.specs.AllWidths.{holds_at_all_widths}
 use Rattle.user_patterns_widths.specs.Lasting.{PolynomialsKeep}
 use Rattle.user_patterns_claims.specs.Outcomes.{HoldsAtAllWidths}
+use Rattle.user_patterns_registry.specs.Changes.{ChangesTo, Defines, IsFoundToHold, IsReached, Records, Removes}
 use Rattle.user_patterns_registry.specs.CheckResult.{default_most, is_small, requested_width, widest}
 use Rattle.user_patterns_registry.specs.declared.check_result.CheckSummary.{CheckSummary}
 use Rattle.user_patterns_registry.specs.declared.check_result.CheckSummary.TheVariants as summary
@@ -20,12 +21,12 @@ use Rattle.patterns_refinement.specs.RuleListRuns.{HoldsForAllWidths}
 use Rattle.patterns_refinement.specs.ForOutcomes.{HoldsForOutcomes, ProvedApplyRefines, ProvedRewriteRefines, is_sound_form}
 use Rattle.patterns_refinement.specs.ForOutcomesSamples.{PoisonRefutes}
 use Rattle.patterns_refinement.specs.CanonLists.{CanonListsRefine, IsNotedOrCanonical, IsProvedOrCanonical, NotedCanonListsRefine}
-use Rattle.patterns_refinement.specs.Noted.{ChangesTo, Defines, IsChecked, IsReached, IsTrulyNoted, NotedApplyRefines, NotedAreProved, NotedRewriteRefines, NotesAreTrue, Records, Removes, WrongIsNeverNoted, IsTried, is_covered}
+use Rattle.patterns_refinement.specs.Noted.{IsTrulyNoted, NotedApplyRefines, NotedAreProved, NotedRewriteRefines, NotesAreTrue, WrongIsNeverNoted, IsTried, is_covered}
 use Rattle.patterns_refinement.proofs.StrictLaws.{registered_proper}
 
 -- ---- the patterns of a registry
 abbrev IsTrue : Kept → Type 0
-IsTrue k = k.said ≡ Some summary.AllWidths → IsChecked k
+IsTrue k = k.said ≡ Some summary.AllWidths → IsFoundToHold k
 
 abbrev AllTrue : RegistryModel → Type 0
 AllTrue ks = AllByRecursion IsTrue ks
@@ -84,7 +85,7 @@ module _ (name : List ℕ) (said : CheckSummary) where
       go more false i e = (subst IsTrue (ap (λ b. if b then with_said said j else j) (sym i)) all.0, more e)
 
   -- one pattern has the name, and the summary is true of it
-  noted_true : (ks : RegistryModel) → AllTrue ks → AreApart ks → (k : Kept) → found name ks ≡ Some k → (said ≡ summary.AllWidths → IsChecked k) → AllTrue (noted name said ks)
+  noted_true : (ks : RegistryModel) → AllTrue ks → AreApart ks → (k : Kept) → found name ks ≡ Some k → (said ≡ summary.AllWidths → IsFoundToHold k) → AllTrue (noted name said ks)
   unfolding found
   noted_true [] all apart k e right = tt
   noted_true (j ∷ ks) all apart k e right = go (λ e. others_true ks all.1 e) (λ e. noted_true ks all.1 apart.1 k e right) (is_named name j) refl e
@@ -95,7 +96,7 @@ module _ (name : List ℕ) (said : CheckSummary) where
           let same : with_said said j ≡ noted_one name said j = ap (λ b. if b then with_said said j else j) (sym i) in
           let is : j ≡ k = same_Some _ _ e in
           let its : j.name ≡ name = (bytes_eq-Decides j.name name).0 i in
-          let one : IsTrue (with_said said j) = (λ f. subst IsChecked (sym is) (right (same_Some _ _ f))) in
+          let one : IsTrue (with_said said j) = (λ f. subst IsFoundToHold (sym is) (right (same_Some _ _ f))) in
           (subst IsTrue same one, others (ap (λ n. found n ks) (sym its) ∙ apart.0))
       go others more false i e = (subst IsTrue (ap (λ b. if b then with_said said j else j) (sym i)) all.0, more e)
 
