@@ -1,6 +1,5 @@
 -- A definition in place of another one.
-use Rattle.std.specs.Prelude.{ℕ, List, Option, Some, None, Ok, position}
-use Rattle.std.specs.List.{slice_set}
+use Rattle.std.specs.Prelude.{ℕ, List, Option, Some, None, Ok, position, slice_set}
 use Rattle.user_patterns_text.specs.Refusing.{Outcome, ◌>>=◌}
 use Rattle.user_patterns_text.specs.Rendered.{whole_at}
 use Rattle.user_patterns_registry.specs.Registry.{Kept, RegistryModel, Text, defined, is_named, kept_of}
