@@ -4,7 +4,8 @@ import re
 import threading
 from operator import index
 from types import TracebackType
-from typing import Dict, Iterable, Iterator, List, Literal, Optional, Sequence, SupportsIndex, Tuple, Type, Union, overload
+from typing import (Dict, Iterable, Iterator, List, Literal, Optional, Sequence, SupportsIndex, Tuple, Type, Union,
+                    overload)
 
 from .blocks import NESTABLE, flatten, is_nested, nest
 from .command import Program
