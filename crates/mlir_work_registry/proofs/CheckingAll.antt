@@ -1,9 +1,12 @@
 -- Checks of all patterns, recorded at the end, are checks that are recorded one after the other.
-use Rattle.std.proofs.Common.{◌≡◌, ◌∙◌, ℕ, Bool, true, false, cond, List, [], ◌∷◌, ◌++◌, append-nil, append-assoc, map, Option, Some, None, option_map, if◌then◌else◌, refl, sym, ap, subst, inl, inr}
+use Rattle.std.proofs.Common.{◌≡◌, ◌∙◌, ℕ, Bool, true, false, cond, List, [], ◌∷◌, ◌++◌, append-nil, append-assoc, map, Option, Some, None, option_map, is_some, if◌then◌else◌, true≢false, ◌⊎◌, refl, sym, ap, subst, inl, inr}
+use Rattle.std.specs.Prelude.{codes}
 use Rattle.std.specs.Str.{bytes_eq}
-use Rattle.ir_event.specs.types.declared.refusal.Refusal.TheVariants.{BadLimit}
-use Rattle.rewriter_machine.specs.Commands.{Replied}
+use Rattle.ir_event.specs.types.declared.refusal.Refusal.{Refusal}
+use Rattle.ir_event.specs.types.declared.refusal.Refusal.TheVariants.{BadLimit, Memory}
+use Rattle.rewriter_machine.specs.Commands.{Replied, TextRefusedAt}
 use Rattle.rewriter_machine.specs.Machine.{Refused}
+use Rattle.mlir_work_script.specs.RegistryCommands.{Check, CheckAll}
 use Rattle.user_patterns_widths.specs.Passing.{is_passing}
 use Rattle.user_patterns_registry.specs.CheckResult.{IsCheckResult}
 use Rattle.user_patterns_registry.specs.Registry.{Kept, RegistryModel, found, is_named, noted, noted_one, with_said}
@@ -12,8 +15,8 @@ use Rattle.user_patterns_registry.specs.declared.check_result.CheckResult.TheVar
 use Rattle.user_patterns_registry.specs.declared.check_result.CheckSummary.{CheckSummary}
 use Rattle.user_patterns_registry.specs.declared.check_result.CheckSummary.TheVariants as said
 use Rattle.mlir_work_registry.specs.CheckedRows.{first_failure}
-use Rattle.mlir_work_registry.specs.Notices.{Notice, Plain, Checked}
-use Rattle.mlir_work_registry.specs.Registries.{Checks, ChecksEach, ChecksFirst, IsChecked, judgement_rows, said_for}
+use Rattle.mlir_work_registry.specs.Notices.{IsWithin, Notice, Plain, Checked}
+use Rattle.mlir_work_registry.specs.Registries.{Checks, ChecksAll, ChecksEach, ChecksFirst, IsChecked, IsRefused, Registries, judgement_rows, said_for}
 use Rattle.mlir_work_registry.specs.Verdicts.{AreVerdicts, IsSaidOf, IsVerdict, Verdict, all_noted, failure_of, notice_or, verdict_view, verdicts_notice, verdicts_text}
 
 -- ---- a pattern with another note
@@ -131,3 +134,34 @@ module _ (b : RegistryModel) where
 
 pub checks_each : (b : RegistryModel) (vs : List Verdict) → AreVerdicts b b vs → ChecksEach b b (verdicts_notice vs) (verdicts_text vs) (all_noted vs b)
 checks_each b vs h = each b b vs h b (starts b)
+
+-- ---- the answer has no byte offset
+
+never_or : (o : Option CheckSummary) (others : Notice) (refusal : Refusal) (offset : ℕ) → (others ≡ Plain (TextRefusedAt refusal offset) → ⊥) → notice_or o others ≡ Plain (TextRefusedAt refusal offset) → ⊥
+never_or (Some told) others refusal offset h e = absurd cc
+never_or None others refusal offset h e = h e
+
+never_at : (vs : List Verdict) (refusal : Refusal) (offset : ℕ) → verdicts_notice vs ≡ Plain (TextRefusedAt refusal offset) → ⊥
+never_at [] refusal offset e = absurd cc
+never_at (v ∷ vs) refusal offset e = never_or (failure_of v.said) (verdicts_notice vs) refusal offset (never_at vs refusal offset) e
+
+pub within_all : (bytes : ℕ) (vs : List Verdict) (notice : Notice) → notice ≡ verdicts_notice vs → IsWithin bytes notice
+within_all bytes vs notice is refusal offset e = absurd (never_at vs refusal offset (sym is ∙ e))
+
+-- ---- `check all`
+
+alone_of : (o : Option Kept) (b c : RegistryModel) (notice : Notice) (bytes : List ℕ) → is_some o ≡ true → Checks o (codes "all") None b notice bytes c → ChecksAll o b notice bytes c
+alone_of None b c notice bytes e h = absurd (true≢false (sym e))
+alone_of (Some k) b c notice bytes e h = h
+
+pub all_alone : (b c : RegistryModel) (notice : Notice) (bytes : List ℕ) → is_some (found (codes "all") b) ≡ true → Registries (Check (codes "all") None) b notice bytes c → Registries CheckAll b notice bytes c
+all_alone b c notice bytes e (inl h) = inl h
+all_alone b c notice bytes e (inr h) = inr (alone_of (found (codes "all") b) b c notice bytes e h)
+
+each_of : (o : Option Kept) (b c : RegistryModel) (notice : Notice) (bytes : List ℕ) → is_some o ≡ false → ChecksEach b b notice bytes c → ChecksAll o b notice bytes c
+each_of None b c notice bytes e h = h
+each_of (Some k) b c notice bytes e h = absurd (true≢false e)
+
+pub all_each : (b c : RegistryModel) (notice : Notice) (bytes : List ℕ) → is_some (found (codes "all") b) ≡ false → IsRefused Memory b notice bytes c ⊎ ChecksEach b b notice bytes c → Registries CheckAll b notice bytes c
+all_each b c notice bytes e (inl h) = inl h
+all_each b c notice bytes e (inr h) = inr (each_of (found (codes "all") b) b c notice bytes e h)
