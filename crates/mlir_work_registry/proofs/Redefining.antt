@@ -20,7 +20,7 @@ places_by f p [] = refl
 places_by f p (x ∷ xs) = ap (λ n. cond (not (p (f x))) (1 + n) 0) (places_by f p xs)
 
 pub place_by : {X Y : Type 0} (f : X → Y) (p : Y → Bool) (xs : List X) → position (λ x. p (f x)) xs ≡ position p (map f xs)
-place_by f p xs = (λ i. cond (nat_lt (places_by f p xs i) (sym (length-map f xs) i)) (Some (places_by f p xs i)) None)
+place_by f p xs = (λ i. cond (nat_lt (places_by f p xs i) (sym (length-map xs f) i)) (Some (places_by f p xs i)) None)
 
 -- the index of a parsed text's name
 pub namesake_of : (registry : RegistryModel) (text : Text) (p : parts.Pattern) (place : Option ℕ) → whole_at text ≡ Ok p → place ≡ position (is_named p.name) registry → namesake registry text ≡ Ok place
@@ -38,7 +38,7 @@ alone_of (Err e) = refl
 
 -- the registry of one definition has its pattern alone
 defined_alone : (text : Text) → defined [] text ≡ ((whole_at text >>= kept_of) >>= λ k. Ok (k ∷ []))
-unfolding defined, found
+unfolding defined found
 defined_alone text = go (whole_at text)
   where
     go : (o : Outcome parts.Pattern) → (o >>= λ p. kept_of p >>= λ k. Ok ([] ++ k ∷ [])) ≡ ((o >>= kept_of) >>= λ k. Ok (k ∷ []))
