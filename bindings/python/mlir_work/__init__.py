@@ -6,13 +6,13 @@
         print(s.print())
 
 docs/EMBED.md has a tour."""
-from .errors import Error, FormBroken, ModuleRefused, ProcessLost, Refused, SessionClosed, Stays
+from .errors import Error, FormBroken, ModuleRefused, ProcessLost, Refused, SessionClosed, Stays, Unproved
 from .handles import BlockHandle, OperationHandle, RegionHandle, UseHandle, ValueHandle
 from .library import Library
 from .operations import Operation
 from .patterns import Checked, Pattern
 from .process import Process
-from .reply import Reply, Unproved
+from .reply import Reply
 from .rewrites import Canonicalized, Reason, Rewrite, Traced
 from .rows import KINDS, Constant, Dead, Diagnostic, Effect, Row, Symbol, Unreached, Use
 from .session import Session

@@ -127,6 +127,10 @@ said_members said =
 abbrev pub unproved_members : List ℕ → List Member
 unproved_members line = kind (codes "unproved") ∷ text (codes "name") (second line) ∷ said_members (after_second line)
 
+-- `checked mask holds 8`, `checked mask refused 50 BadLimit`
+abbrev pub checked_members : List ℕ → List Member
+checked_members line = kind (codes "checked") ∷ text (codes "name") (second line) ∷ said_members (after_second line)
+
 -- a pattern contains no slash, and a blank precedes the comment
 abbrev pub is_slash : ℕ → Bool
 is_slash b = b == 47

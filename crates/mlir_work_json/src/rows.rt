@@ -4,7 +4,7 @@ ghost use Rattle.mlir_work_json.specs.Rows.{use_members, constant_members, dead_
 ghost use Rattle.mlir_work_json.specs.Rows.{diagnostic_members, effect_members, definition_members, reference_members};
 ghost use Rattle.mlir_work_json.specs.Rows.{unresolved_members, mismatch_members, said_members, pattern_members};
 ghost use Rattle.mlir_work_json.specs.Rows.{applied_members, change_members, erased_members, outcome_members, reason_members, rewritten_members};
-ghost use Rattle.mlir_work_json.specs.Rows.{stay_members, stayed_members, unproved_members};
+ghost use Rattle.mlir_work_json.specs.Rows.{checked_members, stay_members, stayed_members, unproved_members};
 
 use crate::cuts::{BLANK, after_cell, cut_cell, without_last};
 use crate::members::{Object, set_number, set_parts, set_text};
@@ -276,6 +276,17 @@ pub(crate) fn set_unproved(
     let (_, rest) = cut_cell(line);
     let (name, said) = cut_cell(rest);
     set_text(object, alloc, "kind", b"unproved")?;
+    set_text(object, alloc, "name", name)?;
+    set_said(object, alloc, said)
+}
+
+/// Sets the members of the line of a checked pattern: `checked mask holds 8`, `checked mask refused 50 BadLimit`.
+pub(crate) fn set_checked(object: &mut Object, alloc: Global, line: &[u8]) -> Result<(), AllocError>
+    ensures { Puts result object.old object.new (checked_members line.now) }
+{
+    let (_, rest) = cut_cell(line);
+    let (name, said) = cut_cell(rest);
+    set_text(object, alloc, "kind", b"checked")?;
     set_text(object, alloc, "name", name)?;
     set_said(object, alloc, said)
 }

@@ -14,7 +14,7 @@ use Rattle.mlir_work_transforms.specs.registry.Registry.{RegistryModel, Kept}
 use Rattle.mlir_work_transforms.specs.registry.Replies.{is_accepted}
 use Rattle.mlir_work_transforms.specs.Unproved.{unproved_of}
 use Rattle.mlir_work_session.specs.Machine.{AsksIn, RunsSessionCommand, OrdersIn, order_bytes, told_if}
-use Rattle.mlir_work_session.specs.RuleLists.{RunsListCommand, ListCommand, list_command_bytes, list_command_of, list_command_trace}
+use Rattle.mlir_work_session.specs.RuleLists.{RunsListCommand, ListCommand, MixesUnless, is_unproved, list_command_bytes, list_command_of, list_command_trace}
 use Rattle.mlir_work_session.specs.Output.{Line, SessionSetting, session_setting, Replied, Replies}
 use Rattle.mlir_work_session.specs.Sittings.{RunsPatternCommand, Sitting, own_of}
 
@@ -57,8 +57,8 @@ module _ (setting : SessionSetting) (bytes : ℕ) (longer : setting.session_opti
   orders_wider : (session_command : SessionCommand) (m : Module) (requested : Requested) → OrdersIn setting session_command m requested → OrdersIn wider session_command m requested
   orders_wider (Attach kind) m requested h = h
   orders_wider PrintIds m requested h = h
-  orders_wider (Rewrite names limit) m requested h = h
-  orders_wider (Trace names limit) m requested h = h
+  orders_wider (Rewrite names proved limit) m requested h = h
+  orders_wider (Trace names proved limit) m requested h = h
   orders_wider (TraceConvert target) m requested h = h
   orders_wider (CanonAt x limit) m requested h = h
   orders_wider (Why x name) m requested h = h
@@ -68,8 +68,8 @@ module _ (setting : SessionSetting) (bytes : ℕ) (longer : setting.session_opti
   bytes_wider (Attach kind) m response shows = refl
   bytes_wider PrintIds m response shows = refl
   bytes_wider (ReportOf kind subject) m response shows = refl
-  bytes_wider (Rewrite names limit) m response shows = refl
-  bytes_wider (Trace names limit) m response shows = refl
+  bytes_wider (Rewrite names proved limit) m response shows = refl
+  bytes_wider (Trace names proved limit) m response shows = refl
   bytes_wider (TraceConvert target) m response shows = refl
   bytes_wider (CanonAt x limit) m response shows = refl
   bytes_wider (Why x name) m response shows = refl
@@ -90,7 +90,11 @@ module _ (setting : SessionSetting) (bytes : ℕ) (longer : setting.session_opti
 
   rule_list_wider : (registry : RegistryModel) (own : Option ListCommand) (s : State) (session_command : SessionCommand) (response : Response) (shows : List ℕ) (t : State) → RunsListCommand setting registry own s session_command response shows t → RunsListCommand wider registry own s session_command response shows t
   rule_list_wider registry None s session_command response shows t h = fulfils_wider s session_command response shows t h
-  rule_list_wider registry (Some x) s session_command response shows t h = record { requested = h.requested; asks = h.asks; follows = h.follows; text = h.text ∙ list_command_bytes_wider registry x s.held response }
+  rule_list_wider registry (Some x) s session_command response shows t h = go (is_unproved registry x s.held) h
+    where
+      go : (b : Bool) → MixesUnless b setting.session_options registry x s response shows t → MixesUnless b wider.session_options registry x s response shows t
+      go true h = h
+      go false h = record { requested = h.requested; asks = h.asks; follows = h.follows; text = h.text ∙ list_command_bytes_wider registry x s.held response }
 
   replies_wider : (s : Sitting) (spoken : Spoken) (notice : Notice) (shows : List ℕ) (t : Sitting) → Replies setting s spoken notice shows t → Replies wider s spoken notice shows t
   replies_wider s Nothing notice shows t h = absurd h
