@@ -110,6 +110,7 @@ in_range registry text place e = go (whole_at text) e
   where
     position_same : (a : Option ℕ) → okay a ≡ okay (Some place) → a ≡ Some place
     position_same a h = cc
+
     go : (o : Outcome parts.Pattern) → (o >>= λ p. Ok (position (is_named p.name) registry)) ≡ Ok (Some place) → place < length registry
     go (Err f) h = absurd cc
     go (Ok p) h = at_place (is_named p.name) registry place (nat_lt (position_or_len (is_named p.name) registry) (length registry)) refl (position_same (position (is_named p.name) registry) h)

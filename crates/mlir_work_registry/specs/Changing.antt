@@ -1,4 +1,4 @@
--- Registry commands change a registry by definitions, removals and recorded checks alone.
+-- Registry commands change a registry by definitions, removals, replacements and recorded checks alone.
 use Rattle.std.specs.Prelude.{ℕ, List, []}
 use Rattle.user_patterns_registry.specs.Changes.{ChangesTo, IsReached}
 use Rattle.user_patterns_registry.specs.Registry.{RegistryModel}

@@ -2,7 +2,7 @@
 //!
 //! - `registry_commands` defines, lists, checks and samples user patterns; `redefine` replaces one, and `check_all`
 //!   checks each.
-//! - `laws` says that these commands change a registry by definitions, removals and recorded checks alone.
+//! - `laws` says that these commands change a registry by definitions, removals, replacements and recorded checks.
 //! - `reply` and `response` are the replies to commands and the results of checks.
 //! - `write_replies` and `write_notes` write them, with the expected refusal and the note on a refusal.
 #![tactic(auto)]

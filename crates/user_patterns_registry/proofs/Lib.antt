@@ -1,5 +1,6 @@
 pub mod Forgetting
 pub mod Registries
+pub mod Replacing
 pub mod Halves
 pub mod Refuting
 pub mod Telling

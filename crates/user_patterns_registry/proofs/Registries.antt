@@ -108,15 +108,15 @@ shape_ready p t h =
     ready_made s.0 t (ready s.0) refl s.2
 
 -- the entry has the name and the text of the parsed pattern, and can be applied
-record KeptOf (p : parts.Pattern) (k : Kept) : Type 0 where
-  name : k.name ≡ p.name
-  text : k.text ≡ pattern_text p
-  ready : IsReady k
+pub record KeptOf (p : parts.Pattern) (k : Kept) : Type 0 where
+  pub name : k.name ≡ p.name
+  pub text : k.text ≡ pattern_text p
+  pub ready : IsReady k
 
 as_kept : (p : parts.Pattern) (vs : List Variable) (t : PatternModel) (k : Kept) → kept_as p vs t ≡ k → (is_well_formed t ≡ true) × (can_build t ≡ true) → KeptOf p k
 as_kept p vs t k e r = subst (KeptOf p) e (record { name = refl; text = refl; ready = record { stands = r.0; buildable = r.1 } })
 
-kept_is : (p : parts.Pattern) (k : Kept) → kept_of p ≡ Ok k → KeptOf p k
+pub kept_is : (p : parts.Pattern) (k : Kept) → kept_of p ≡ Ok k → KeptOf p k
 unfolding kept_of
 kept_is p k h =
     let vs = bound_ok (variables_of p) (λ vs. shape_of p >>= λ t. Ok (kept_as p vs t)) k h in
