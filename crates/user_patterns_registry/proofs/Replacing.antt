@@ -1,5 +1,5 @@
 -- Registries in which a pattern takes the place of the first one of its name.
-use Rattle.std.proofs.Common.{◌≡◌, ◌∙◌, ℕ, ◌+◌, ◌<◌, ◌≤◌, Bool, true, false, not, cond, nat_lt, List, [], ◌∷◌, length, Option, Some, None, Ok, refl, sym, ap, subst, arith}
+use Rattle.std.proofs.Common.{◌≡◌, ◌∙◌, ℕ, suc, ◌+◌, ◌<◌, ◌≤◌, Bool, true, false, not, cond, nat_lt, List, [], ◌∷◌, length, Option, Some, None, Ok, refl, sym, ap, subst, arith}
 use Rattle.std.specs.Prelude.{position, slice_set}
 use Rattle.std.specs.List.{position_or_len}
 use Rattle.std.specs.Str.{bytes_eq}
@@ -23,7 +23,9 @@ module _ (k : Kept) where
   replaces_first j ks e = ap (λ (b : Bool). slice_set (j ∷ ks) (cond (not b) (1 + its_place ks) 0) k) e
 
   replaces_next : (j : Kept) (ks : RegistryModel) → is_named k.name j ≡ false → replaced (j ∷ ks) ≡ j ∷ replaced ks
-  replaces_next j ks e = ap (λ (b : Bool). slice_set (j ∷ ks) (cond (not b) (1 + its_place ks) 0) k) e
+  replaces_next j ks e =
+      let next : 1 + its_place ks ≡ suc (its_place ks) = omega arith in
+      ap (λ (b : Bool). slice_set (j ∷ ks) (cond (not b) (1 + its_place ks) 0) k) e ∙ ap (λ (i : ℕ). slice_set (j ∷ ks) i k) next
 
   -- a name that isn't found before isn't found after
   none_by : (n : List ℕ) (j : Kept) (ks : RegistryModel) (b : Bool) → is_named k.name j ≡ b → (is_named n j ≡ false) × (found n ks ≡ None) → found n (replaced ks) ≡ None
