@@ -1,11 +1,12 @@
 -- Powers of 2 at widths.
-use Rattle.std.proofs.Common.{◌≡◌, ℕ, ◌+◌, ◌-◌, ◌/◌, ◌%◌, ◌^◌, ◌<◌, ◌≤◌, max, List, Bool, true, if◌then◌else◌, ap, arith, refl, sym}
+use Rattle.std.proofs.Common.{◌≡◌, ℕ, ◌+◌, ◌-◌, ◌*◌, ◌/◌, ◌%◌, ◌^◌, ◌<◌, ◌≤◌, max, List, length, get_or, nat_lt, Bool, true, if◌then◌else◌, ap, arith, refl, sym}
 use Rattle.std.proofs.Math.Nat.{div-eq_of_lt, mod-eq_of_lt}
 use Rattle.std.proofs.Math.Pow.{pow_mono}
+use Rattle.std.proofs.lemmas.Bool.Decides.{nat_tests}
 use Rattle.ir_types.specs.Reasons.{is_width}
 use Rattle.ir_types.proofs.Widths.{halves}
 use Rattle.user_patterns_widths.specs.SampledWidths.{level_width}
-use Rattle.user_patterns_widths.specs.SampledValues.{value_at, value_tried}
+use Rattle.user_patterns_widths.specs.SampledValues.{chance, chosen, edge, edge_count, value_at, value_tried}
 
 -- a level with no bit left
 pub far_level : (w level : ℕ) → w < 4294967296 → 32 ≤ level → 1 ≡ level_width w level
@@ -38,3 +39,13 @@ pub tried_at : (near : List ℕ) (w case j : ℕ) → 1 ≤ w → w ≤ 128 → 
 tried_at near w case j low high =
     let some : is_width w ≡ true = grind arith in
     chosen_width (is_width w) (value_at near w case j) some
+
+-- a number near a literal, where there are more of these
+picked : (b : Bool) (x y : ℕ) → b ≡ true → x ≡ (if b then x else y)
+picked b x y e = rw e refl
+
+pub chosen_near : (near : List ℕ) (w case j number : ℕ) → number < length near → get_or near number 0 % 2 ^ w ≡ chosen near w case j number
+chosen_near near w case j number l =
+    let t : nat_lt number (length near) ≡ true = grind (arith, nat_tests) in
+    picked (nat_lt number (length near)) (get_or near number 0 % 2 ^ w)
+    (if nat_lt (number - length near) edge_count then edge w (number - length near) else chance w (16 * case + j)) t

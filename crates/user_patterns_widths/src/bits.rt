@@ -85,14 +85,42 @@ fn new_is_bitwise(new: &NewValue) -> bool
     }
 }
 
+/// Returns whether all extra constants have equal bits.
+fn all_extra(extra: &[ExtraConstant]) -> bool
+    ensures { result ≡ list_all for_all_widths.extra_is_bitwise extra.now }
+{
+    extra.iter().all(extra_is_bitwise)
+}
+
+/// Returns whether all numbers are computed bit by bit.
+fn all_numbers(numbers: &[ConstantExpression]) -> bool
+    ensures { result ≡ list_all for_all_widths.number_is_bitwise numbers.now }
+{
+    numbers.iter().all(number_is_bitwise)
+}
+
+/// Returns whether all matched operations compute bit by bit.
+fn all_old(old: &[PatternOp]) -> bool
+    ensures { result ≡ list_all for_all_widths.pattern_op_is_bitwise old.now }
+{
+    old.iter().all(pattern_op_is_bitwise)
+}
+
+/// Returns whether all new values are computed bit by bit.
+fn all_new(new: &[NewValue]) -> bool
+    ensures { result ≡ list_all for_all_widths.new_is_bitwise new.now }
+{
+    new.iter().all(new_is_bitwise)
+}
+
 /// Returns whether each bit of both results depends only on the same bit of the variables.
 pub(crate) fn is_bit_by_bit(pattern: &Pattern) -> bool
     ensures { result ≡ for_all_widths.is_bit_by_bit (pattern_model pattern.now) }
 {
     has_one_type(pattern)
         && pattern.type_constraints.is_empty()
-        && pattern.extra.iter().all(extra_is_bitwise)
-        && pattern.given.iter().all(number_is_bitwise)
-        && pattern.old.iter().all(pattern_op_is_bitwise)
-        && pattern.new.iter().all(new_is_bitwise)
+        && all_extra(&pattern.extra)
+        && all_numbers(&pattern.given)
+        && all_old(&pattern.old)
+        && all_new(&pattern.new)
 }

@@ -57,9 +57,23 @@ fn new_is_defined(new: &NewValue) -> bool
     }
 }
 
+/// Returns whether a poison operand makes the result of each matched operation poison.
+fn all_pass(old: &[PatternOp]) -> bool
+    ensures { result ≡ list_all passing.pattern_op_passes old.now }
+{
+    old.iter().all(|pattern_op| pattern_op_passes(pattern_op))
+}
+
+/// Returns whether all new values are defined for all operands.
+fn all_defined(new: &[NewValue]) -> bool
+    ensures { result ≡ list_all passing.new_is_defined new.now }
+{
+    new.iter().all(|new| new_is_defined(new))
+}
+
 /// Returns whether the pattern matches no `select` and creates no division or remainder.
 pub fn is_passing(pattern: &Pattern) -> bool
     ensures { result ≡ passing.is_passing (pattern_model pattern.now) }
 {
-    pattern.old.iter().all(pattern_op_passes) && pattern.new.iter().all(new_is_defined)
+    all_pass(&pattern.old) && all_defined(&pattern.new)
 }

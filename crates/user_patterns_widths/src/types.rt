@@ -49,15 +49,50 @@ fn new_has(ty: usize, new: &NewValue) -> bool
     }
 }
 
+/// Returns whether all variables have the type.
+fn all_values(ty: usize, values: &[usize]) -> bool
+    ensures { result ≡ list_all (λ v. v == ty) values.now }
+{
+    values.iter().all(|value| *value == ty)
+}
+
+/// Returns whether all extra constants have the type.
+fn all_extra(ty: usize, extra: &[ExtraConstant]) -> bool
+    ensures { result ≡ list_all (for_all_widths.extra_has ty) extra.now }
+{
+    extra.iter().all(|extra| extra_has(ty, extra))
+}
+
+/// Returns whether all computed numbers have the type.
+fn all_numbers(ty: usize, numbers: &[ConstantExpression]) -> bool
+    ensures { result ≡ list_all (for_all_widths.number_has ty) numbers.now }
+{
+    numbers.iter().all(|number| number_has(ty, number))
+}
+
+/// Returns whether all matched operations have the type.
+fn all_old(ty: usize, old: &[PatternOp]) -> bool
+    ensures { result ≡ list_all (for_all_widths.pattern_op_has ty) old.now }
+{
+    old.iter().all(|pattern_op| pattern_op_has(ty, pattern_op))
+}
+
+/// Returns whether all new values have the type.
+fn all_new(ty: usize, new: &[NewValue]) -> bool
+    ensures { result ≡ list_all (for_all_widths.new_has ty) new.now }
+{
+    new.iter().all(|new| new_has(ty, new))
+}
+
 /// Returns whether all values of the pattern have the type.
 fn has_type(ty: usize, pattern: &Pattern) -> bool
     ensures { result ≡ for_all_widths.has_type ty (pattern_model pattern.now) }
 {
-    pattern.values.iter().all(|value| *value == ty)
-        && pattern.extra.iter().all(|extra| extra_has(ty, extra))
-        && pattern.given.iter().all(|number| number_has(ty, number))
-        && pattern.old.iter().all(|op| pattern_op_has(ty, op))
-        && pattern.new.iter().all(|new| new_has(ty, new))
+    all_values(ty, &pattern.values)
+        && all_extra(ty, &pattern.extra)
+        && all_numbers(ty, &pattern.given)
+        && all_old(ty, &pattern.old)
+        && all_new(ty, &pattern.new)
 }
 
 /// Returns whether the type number is that of a type variable.
