@@ -763,7 +763,7 @@ class Package(unittest.TestCase):
 
     def test_each_command_has_a_method(self):
         for word in forms.forms():
-            self.assertTrue(callable(getattr(mlir_work.Session, word.replace("-", "_"))), word)
+            self.assertTrue(callable(getattr(mlir_work.Session, word.replace("-", "_").rstrip("!"))), word)
         self.assertEqual(list(mlir_work.KINDS), forms.kinds())
 
 
