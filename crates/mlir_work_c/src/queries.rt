@@ -4,15 +4,15 @@ ghost use Rattle.ir_event.specs.store.Using.{is_use};
 ghost use Rattle.ir_event.specs.trees.Uses.{uses_of};
 ghost use Rattle.mlir_work_c.specs.Calls.{IsHeld};
 ghost use Rattle.mlir_work_c.specs.Requested.{requested, first_in, has_in, is_requested, last_in, next_in, operand_in, parent_in, prev_in, root_in, Told, ToldUse, uses_in};
-ghost use Rattle.mlir_work_c.specs.Numbers.{number_of as told, value_of as told_value};
+ghost use Rattle.mlir_work_c_read.specs.Numbers.{number_of as told, value_of as told_value};
 ghost use Rattle.mlir_work_c.specs.Queries.{tree_of};
 
 use crate::handle::Handle;
-use crate::numbers::{ValueNumbers, no_number, number_of, numbers_of, value_of};
+use crate::numbers::number_of;
 use crate::session::Session;
 use ir_event::trees::value::Value;
 use ir_event::types::ids::OpId;
-use mlir_work_c_read::numbers::UseNumbers;
+use mlir_work_c_read::numbers::{UseNumbers, ValueNumbers, no_number, numbers_of, value_of};
 use std::alloc::Global;
 
 /// Returns whether an operation is in the module.

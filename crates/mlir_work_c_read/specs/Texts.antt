@@ -1,7 +1,9 @@
 -- Texts of the interned names, types and attributes of a context.
-use Rattle.std.specs.Prelude.{ℕ, List, length, nat_lt, if◌then◌else◌, slice_get, Option, Some, None}
+use Rattle.std.specs.Prelude.{ℕ, List, length, nat_lt, if◌then◌else◌, slice_get, option_and_then, Option, Some, None}
 use Rattle.std.specs.List.{position_from}
 use Rattle.std.specs.Str.{bytes_eq}
+use Rattle.ir_event.specs.types.declared.node.AttrNode.{AttrNode}
+use Rattle.ir_event.specs.types.declared.node.AttrNode.TheVariants as attr
 use Rattle.ir_event.specs.types.Things.{ContextModel}
 use Rattle.ir_event.specs.types.Terms.{attr_term, type_term}
 use Rattle.ir_text.specs.AttrText.{attr_text}
@@ -18,6 +20,23 @@ type_text n c = if nat_lt n (length c.types) then Some (text_of_type (type_term 
 -- the text of attribute n, as a printed module has it
 abbrev pub attribute_text : ℕ → ContextModel → Option (List ℕ)
 attribute_text n c = if nat_lt n (length c.attrs) then Some (attr_text (attr_term c n)) else None
+
+-- the type and the value of an integer attribute's node
+abbrev pub integer_in : AttrNode → Option (ℕ × ℕ)
+integer_in (attr.Int ty value) = Some (ty, value)
+integer_in (attr.Str name) = None
+integer_in (attr.Ty ty) = None
+integer_in attr.Unit = None
+integer_in (attr.Array items) = None
+integer_in (attr.Dict entries) = None
+integer_in (attr.Sym parts) = None
+integer_in (attr.Dense elem values) = None
+integer_in (attr.Overflow nsw nuw) = None
+integer_in (attr.Opaque text ty) = None
+
+-- the type and the value of attribute n, if it is an integer
+abbrev pub integer_of : ℕ → ContextModel → Option (ℕ × ℕ)
+integer_of n c = option_and_then integer_in (slice_get c.attrs n)
 
 -- the number of the name with this text
 abbrev pub name_number : List ℕ → ContextModel → Option ℕ

@@ -1,10 +1,11 @@
 //! Texts of interned names, types and attributes, and the number of a name.
 ghost use Rattle.std.specs.Prelude.{◌≡◌, IfOk, length, option_map};
 ghost use Rattle.mlir_work_c_read.specs.Filled.{over};
-ghost use Rattle.mlir_work_c_read.specs.Texts.{attribute_text, name_number, name_text, type_text};
+ghost use Rattle.mlir_work_c_read.specs.Texts.{attribute_text, integer_of, name_number, name_text, type_text};
 
 use ir_event::types::context::Context;
 use ir_event::types::ids::{AttrId, NameId, TypeId};
+use ir_event::types::node::AttrNode;
 use ir_event::world::World;
 use ir_text::attributes::print_attr;
 use ir_text::types::print_type;
@@ -54,6 +55,20 @@ pub fn attribute_text(
     match print_attr(ctx, &mut text, attr) {
         Ok(()) => Ok(Some(text)),
         Err(e) => Err(e),
+    }
+}
+
+/// Returns the value of an integer attribute as 128 bits, with the type, or `None` if the context has no such attribute or
+/// it is no integer. The value is the one below 2^w of a type of width w.
+pub fn integer_of(ctx: &Context, attr: AttrId) -> Option<(TypeId, u128)>
+    ensures { result ≡ integer_of attr ctx.now }
+{
+    if !ctx.has_attr(attr) {
+        return None;
+    }
+    match ctx.attr_node(attr) {
+        AttrNode::Int { ty, value } => Some((*ty, *value)),
+        _ => None,
     }
 }
 
