@@ -381,12 +381,13 @@ void mlir_work_name(mlir_work_session *session, const uint8_t *text, size_t text
 void mlir_work_type(mlir_work_session *session, const uint8_t *text, size_t text_length, mlir_work_answer *answer);
 void mlir_work_attribute(mlir_work_session *session, const uint8_t *text, size_t text_length, mlir_work_answer *answer);
 
-/* An integer attribute: its value, a number below 2^w of a type of w bits, in two parts of 64 bits, and the number of
-   its type. */
+/* An integer attribute: its value, a number below 2^w of a type of w bits, in two parts of 64 bits; the number of its
+   type; and the width w, or 0 for index, which has 64 bits. */
 typedef struct mlir_work_integer_value {
   uint64_t low;
   uint64_t high;
   uint32_t type;
+  uint32_t width;
 } mlir_work_integer_value;
 
 /* Returns whether an attribute is an integer, such as `5 : i32` or `true`, and writes it to `integer`. If it is none,

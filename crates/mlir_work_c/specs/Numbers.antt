@@ -17,6 +17,6 @@ point_of_numbers n =
     else if n.kind == 3 then Some (End n.operation n.region)
     else None
 
--- an integer of a type as a C struct
-abbrev pub integer_numbers : ℕ × ℕ → IntegerNumbers
-integer_numbers i = record { low = mod i.1 (2 ^ 64); high = div i.1 (2 ^ 64); ty = i.0 }
+-- an integer of a type of a width as a C struct
+abbrev pub integer_numbers : ℕ → ℕ × ℕ → IntegerNumbers
+integer_numbers width i = record { low = mod i.1 (2 ^ 64); high = div i.1 (2 ^ 64); ty = i.0; width = width }

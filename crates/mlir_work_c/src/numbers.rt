@@ -27,13 +27,14 @@ pub struct NewOperation {
     pub name: u32,
 }
 
-/// An integer: the number of its type, and its value below 2^w of a type of width w.
+/// An integer: its value below 2^w of a type of width w, the number of its type, and the width, which is 0 for index.
 #[repr(C)]
 #[derive(Clone, Copy)]
 pub struct IntegerNumbers {
     pub low: u64,
     pub high: u64,
     pub ty: u32,
+    pub width: u32,
 }
 
 /// Returns the insertion point of a C struct, or `None` if its kind is unknown.

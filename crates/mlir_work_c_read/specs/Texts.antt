@@ -4,6 +4,8 @@ use Rattle.std.specs.List.{position_from}
 use Rattle.std.specs.Str.{bytes_eq}
 use Rattle.ir_event.specs.types.declared.node.AttrNode.{AttrNode}
 use Rattle.ir_event.specs.types.declared.node.AttrNode.TheVariants as attr
+use Rattle.ir_event.specs.types.declared.node.TypeNode.{TypeNode}
+use Rattle.ir_event.specs.types.declared.node.TypeNode.TheVariants as type
 use Rattle.ir_event.specs.types.Things.{ContextModel}
 use Rattle.ir_event.specs.types.Terms.{attr_term, type_term}
 use Rattle.ir_text.specs.AttrText.{attr_text}
@@ -37,6 +39,19 @@ integer_in (attr.Opaque text ty) = None
 -- the type and the value of attribute n, if it is an integer
 abbrev pub integer_of : ℕ → ContextModel → Option (ℕ × ℕ)
 integer_of n c = option_and_then integer_in (slice_get c.attrs n)
+
+-- the width of an integer type's node, and 0 for any other type
+abbrev pub width_in : Option TypeNode → ℕ
+width_in None = 0
+width_in (Some (type.Int sign width)) = width
+width_in (Some type.Index) = 0
+width_in (Some (type.Func inputs outputs)) = 0
+width_in (Some (type.Memref dims elem)) = 0
+width_in (Some (type.Opaque text)) = 0
+
+-- the width of type n
+abbrev pub type_width : ℕ → ContextModel → ℕ
+type_width n c = width_in (slice_get c.types n)
 
 -- the number of the name with this text
 abbrev pub name_number : List ℕ → ContextModel → Option ℕ

@@ -1,11 +1,11 @@
 //! Texts of interned names, types and attributes, and the number of a name.
 ghost use Rattle.std.specs.Prelude.{◌≡◌, IfOk, length, option_map};
 ghost use Rattle.mlir_work_c_read.specs.Filled.{over};
-ghost use Rattle.mlir_work_c_read.specs.Texts.{attribute_text, integer_of, name_number, name_text, type_text};
+ghost use Rattle.mlir_work_c_read.specs.Texts.{attribute_text, integer_of, name_number, name_text, type_text, type_width};
 
 use ir_event::types::context::Context;
 use ir_event::types::ids::{AttrId, NameId, TypeId};
-use ir_event::types::node::AttrNode;
+use ir_event::types::node::{AttrNode, TypeNode};
 use ir_event::world::World;
 use ir_text::attributes::print_attr;
 use ir_text::types::print_type;
@@ -69,6 +69,19 @@ pub fn integer_of(ctx: &Context, attr: AttrId) -> Option<(TypeId, u128)>
     match ctx.attr_node(attr) {
         AttrNode::Int { ty, value } => Some((*ty, *value)),
         _ => None,
+    }
+}
+
+/// Returns the width of an integer type, or 0 if the type is none or the context doesn't have it.
+pub fn width_of(ctx: &Context, ty: TypeId) -> u32
+    ensures { result ≡ type_width ty ctx.now }
+{
+    if !ctx.has_type(ty) {
+        return 0;
+    }
+    match ctx.type_node(ty) {
+        TypeNode::Int { width, .. } => *width,
+        _ => 0,
     }
 }
 
