@@ -1,5 +1,5 @@
-/* Walks a module of N operations once, 100,000 if no number is given, and reads the name, the operands, the types of the
-   results, and all uses of the results of each operation. Prints the seconds of the walk, and what it counted.
+/* Walks a module of N operations once, 100,000 if no number is given, and reads the name, the operands, the types of
+   the results, and all uses of the results of each operation. Prints the seconds of the walk, and what it counted.
 
    usage: walk [N [one|many]]    `one`: by a call for each item; `many`: by calls for 512 operations */
 #include "mlir_work.h"
@@ -27,8 +27,8 @@ static char *module(size_t count) {
     if (k < 2 || k % 6 == 0)
       at += sprintf(at, "%%%zu = \"arith.constant\"() <{value = %zu : i32}> : () -> i32\n", k, k % 100);
     else
-      at += sprintf(at, "%%%zu = \"arith.%s\"(%%%zu, %%%zu) <{overflowFlags = #arith.overflow<none>}> : (i32, i32) -> i32\n",
-                    k, k % 2 ? "addi" : "muli", k - 1, k - 2);
+      at += sprintf(at, "%%%zu = \"arith.%s\"(%%%zu, %%%zu) <{overflowFlags = #arith.overflow<none>}> : %s\n", k,
+                    k % 2 ? "addi" : "muli", k - 1, k - 2, "(i32, i32) -> i32");
   return text;
 }
 

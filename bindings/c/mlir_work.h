@@ -326,8 +326,8 @@ size_t mlir_work_heads(mlir_work_session *session, const uint32_t *operations, s
                        size_t capacity);
 
 /* Writes the operands of operations, one operation after the other. The heads say how many operands each one has. */
-size_t mlir_work_operands(mlir_work_session *session, const uint32_t *operations, size_t count, mlir_work_value *operands,
-                          size_t capacity);
+size_t mlir_work_operands(mlir_work_session *session, const uint32_t *operations, size_t count,
+                          mlir_work_value *operands, size_t capacity);
 
 /* Writes the numbers of the types of values, one for each, and MLIR_WORK_NONE for a value that the module doesn't
    have. */
@@ -469,8 +469,8 @@ typedef struct mlir_work_cell {
   size_t left; /* how many cells of the row follow: a row ends after a cell with 0 */
 } mlir_work_cell;
 
-/* Writes the cells of the rows that `report` shows, one row after the other, as many as there is space for. The answer is
-   MLIR_WORK_OK with the number of all cells, or MLIR_WORK_REFUSED. `kind`: an mlir_work_kind. The output of the last
+/* Writes the cells of the rows that `report` shows, one row after the other, as many as there is space for. The answer
+   is MLIR_WORK_OK with the number of all cells, or MLIR_WORK_REFUSED. `kind`: an mlir_work_kind. The output of the last
    line is unchanged. */
 void mlir_work_report(mlir_work_session *session, uint32_t kind, mlir_work_cell *cells, size_t capacity,
                       mlir_work_answer *answer);

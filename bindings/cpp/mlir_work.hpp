@@ -123,7 +123,9 @@ struct Integer : mlir_work_integer_value {
   bool is_zero() const { return low == 0 && high == 0; }
   bool is_minus_one() const {
     const std::uint32_t bits = width ? width : 64;
-    const auto ones = [](std::uint32_t count) { return count >= 64 ? ~std::uint64_t{0} : (std::uint64_t{1} << count) - 1; };
+    const auto ones = [](std::uint32_t count) {
+      return count >= 64 ? ~std::uint64_t{0} : (std::uint64_t{1} << count) - 1;
+    };
     return low == ones(bits) && high == (bits > 64 ? ones(bits - 64) : 0);
   }
 };
@@ -426,8 +428,8 @@ inline auto Operation::regions() const {
   });
 }
 
-// The operations of a module with their names, operands, types of results and uses, as they are when the table is made. It
-// is read by a few calls, so a walk over it is faster than one over handles.
+// The operations of a module with their names, operands, types of results and uses. It is read by a few calls, so a walk
+// over it is faster than one over handles.
 class Table {
 public:
   // A part of an array.
@@ -453,7 +455,8 @@ public:
     std::uint32_t none;
     const std::uint64_t count = mlir_work_operations(held, &none, 0);
     operations_.resize(count >= MLIR_WORK_NO_MEMORY ? 0 : static_cast<std::size_t>(count));
-    if (!operations_.empty() && mlir_work_operations(held, operations_.data(), operations_.size()) >= MLIR_WORK_NO_MEMORY)
+    if (!operations_.empty() &&
+        mlir_work_operations(held, operations_.data(), operations_.size()) >= MLIR_WORK_NO_MEMORY)
       throw std::bad_alloc();
   }
   std::size_t size() const { return operations_.size(); }
@@ -499,8 +502,12 @@ private:
       mlir_work_value_use *const first = use;
       for (; use != last && use->value < result + counts.results; use++)
         use->value -= result;
-      visit(Row{operations[k], static_cast<std::uint32_t>(heads_[k].name), &counts, {operand, operand + counts.operands},
-                {type, type + counts.results}, {first, use}});
+      visit(Row{operations[k],
+                static_cast<std::uint32_t>(heads_[k].name),
+                &counts,
+                {operand, operand + counts.operands},
+                {type, type + counts.results},
+                {first, use}});
       operand += counts.operands;
       type += counts.results;
       result += counts.results;
@@ -671,8 +678,8 @@ public:
     const mlir_work_new_entry no_entry{};
     mlir_work_answer answer;
     mlir_work_insert(&held_, &made, operands.empty() ? &no_value : operands.data(), operands.size(),
-                     types.empty() ? &no_type : types.data(), types.size(), entries.empty() ? &no_entry : entries.data(),
-                     entries.size(), &answer);
+                     types.empty() ? &no_type : types.data(), types.size(),
+                     entries.empty() ? &no_entry : entries.data(), entries.size(), &answer);
     return operation(static_cast<std::uint32_t>(accepted(answer).number));
   }
   void set_attribute(std::uint32_t operation, const Name &key, const Attribute &attribute) {
@@ -746,7 +753,8 @@ private:
     std::vector<std::pair<std::string, mlir_work_new_entry>> keyed;
     for (const Entry &entry : entries)
       keyed.push_back({entry.key.text(), {entry.key.number(), entry.attribute.number(), are_properties}});
-    std::stable_sort(keyed.begin(), keyed.end(), [](const auto &one, const auto &other) { return one.first < other.first; });
+    std::stable_sort(keyed.begin(), keyed.end(),
+                     [](const auto &one, const auto &other) { return one.first < other.first; });
     std::vector<mlir_work_new_entry> found;
     for (const auto &[text, entry] : keyed)
       found.push_back(entry);

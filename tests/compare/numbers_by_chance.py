@@ -8,8 +8,8 @@ text; everything else is compared exactly.
 
 usage: tests/compare/numbers_by_chance.py PROGRAM LIBRARY [CASES [SEED]] [--first N]
 
-LIBRARY is a libmlir_work.so. CASES is 2000 and SEED 1 if they aren't given. Each difference is printed, and a count; the
-status is 1 if there is one."""
+LIBRARY is a libmlir_work.so. CASES is 2000 and SEED 1 if they aren't given. Each difference is printed, and a count;
+the status is 1 if there is one."""
 import argparse
 import random
 import shlex
@@ -122,7 +122,8 @@ def cell_text(session, cell):
         return f"#{cell.item}"
     if cell.kind == "name":
         name = calls._kept({}, "name", cell.item)
-        bare = name and name[0] not in "0123456789" and all(it.isascii() and (it.isalnum() or it in "_$.") for it in name)
+        is_bare = all(it.isascii() and (it.isalnum() or it in "_$.") for it in name)
+        bare = name and name[0] not in "0123456789" and is_bare
         return f"@{name}" if bare else f"@{mlir_work.quoted(name)}"
     if cell.kind == "attribute":
         return calls._kept({}, "attribute", cell.item)
@@ -152,7 +153,8 @@ def seen(session, is_by_numbers=False):
 def compared(number, given):
     """Runs a case in three ways, and returns the edits and the first difference, or nothing."""
     maker = random.Random(f"{given.seed} {number} numbers")
-    module = chance.module(maker, maker.randrange(2, 30), maker.choice([0, 0, 0.1]), maker.choice(sorted(chance.TASTES)))
+    taste = maker.choice(sorted(chance.TASTES))
+    module = chance.module(maker, maker.randrange(2, 30), maker.choice([0, 0, 0.1]), taste)
     text, log, marks = text_of(module), [], 0
     ways = [mlir_work.Session(text, way=mlir_work.Library(given.library)),
             mlir_work.Session(text, way=mlir_work.Library(given.library)), mlir_work.Session(text, given.program)]

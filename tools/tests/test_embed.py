@@ -108,8 +108,8 @@ class Library(unittest.TestCase):
             self.assertEqual(ran([self.built("tests/golden/embed/reads.c", *more)]), b"")
 
     def test_numbers(self):
-        """Operations are inserted by interned numbers, entries are set, and rows are read as cells; what is refused changes
-        nothing."""
+        """Operations are inserted by interned numbers, entries are set, and rows are read as cells; what is refused
+        changes nothing."""
         for more in ((), SANITIZED):
             self.assertEqual(ran([self.built("tests/golden/embed/numbers.c", *more)]), b"")
 

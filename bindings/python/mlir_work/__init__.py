@@ -20,8 +20,8 @@ from .session import Session
 from .values import Argument, Result, Value, after, before, end, quoted, start
 from .way import Way
 
-__all__ = ["Argument", "BlockHandle", "Canonicalized", "Cell", "Checked", "Constant", "Dead", "Diagnostic", "Effect", "Error",
-           "FormBroken", "KINDS", "Library", "ModuleRefused", "Numbers", "Operation", "OperationHandle", "Pattern", "Process",
-           "ProcessLost", "Reason", "Refused", "RegionHandle", "Reply", "Result", "Rewrite", "Row", "Session",
-           "SessionClosed", "Stays", "Symbol", "Traced", "Unproved", "Unreached", "Use", "UseHandle", "Value",
-           "ValueHandle", "Way", "after", "before", "end", "quoted", "start"]
+__all__ = ["Argument", "BlockHandle", "Canonicalized", "Cell", "Checked", "Constant", "Dead", "Diagnostic", "Effect",
+           "Error", "FormBroken", "KINDS", "Library", "ModuleRefused", "Numbers", "Operation", "OperationHandle",
+           "Pattern", "Process", "ProcessLost", "Reason", "Refused", "RegionHandle", "Reply", "Result", "Rewrite",
+           "Row", "Session", "SessionClosed", "Stays", "Symbol", "Traced", "Unproved", "Unreached", "Use", "UseHandle",
+           "Value", "ValueHandle", "Way", "after", "before", "end", "quoted", "start"]

@@ -76,7 +76,8 @@ pub fn integer_of(ctx: &Context, attr: AttrId) -> Option<(TypeId, u128)>
 pub fn width_of(ctx: &Context, ty: TypeId) -> u32
     ensures { result ≡ type_width ty ctx.now }
 {
-    if !ctx.has_type(ty) {
+    let is_known = ctx.has_type(ty);
+    if !is_known {
         return 0;
     }
     match ctx.type_node(ty) {

@@ -1,5 +1,5 @@
-/* Edits by interned numbers, interning, and report rows as numbers: what is made, what is refused and changes nothing, and
-   closed handles. It says nothing and ends with 0 if all answers are right. */
+/* Edits by interned numbers, interning, and report rows as numbers: what is made, what is refused and changes nothing,
+   and closed handles. It says nothing and ends with 0 if all answers are right. */
 #include "mlir_work.h"
 
 #include <stdio.h>
@@ -62,8 +62,9 @@ static void interning(void) {
   WANT(number(mlir_work_attribute, "") == UINT32_MAX && answer.outcome == MLIR_WORK_REFUSED_AT);
 }
 
-static void insert(uint32_t kind, uint32_t operation, uint32_t name, const mlir_work_value *operands, size_t operand_count,
-                   const uint32_t *results, size_t result_count, const mlir_work_new_entry *entries, size_t entry_count) {
+static void insert(uint32_t kind, uint32_t operation, uint32_t name, const mlir_work_value *operands,
+                   size_t operand_count, const uint32_t *results, size_t result_count,
+                   const mlir_work_new_entry *entries, size_t entry_count) {
   const mlir_work_new made = {{kind, operation, 0}, name};
   mlir_work_insert(&s, &made, operands, operand_count, results, result_count, entries, entry_count, &answer);
 }
