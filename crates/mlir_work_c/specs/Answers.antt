@@ -1,5 +1,5 @@
 -- The answers to calls, as numbers.
-use Rattle.std.specs.Prelude.{ℕ, Option, Some, None, Result, Ok, Err}
+use Rattle.std.specs.Prelude.{ℕ, Option, Some, None}
 use Rattle.ir_event.specs.types.Refusals.{number_of}
 use Rattle.ir_event.specs.types.declared.refusal.Refusal.{Refusal}
 use Rattle.ir_event.specs.types.declared.refusal.Refusal.TheVariants.{Memory, TooMany}
@@ -38,15 +38,6 @@ counted number = of_numbers 1 0 number 0
 
 abbrev pub made : ℕ → Answer
 made op = of_numbers 2 0 op 0
-
--- the answers to an edit and to an insertion
-abbrev pub edited : {A : Type 0} → Result A Refusal → Answer
-edited (Ok a) = opened
-edited (Err refusal) = refused refusal
-
-abbrev pub inserted : Result ℕ Refusal → Answer
-inserted (Ok op) = made op
-inserted (Err refusal) = refused refusal
 
 -- the answer to a text that isn't read
 abbrev pub unread : ReadError → Answer

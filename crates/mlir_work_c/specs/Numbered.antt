@@ -1,5 +1,5 @@
 -- The effects of edits by interned numbers, and of interning.
-use Rattle.std.specs.Prelude.{◌≡◌, ℕ, ◌⊎◌, List, Option, Some, None, Result, Ok, Err, IfErr, IfOk}
+use Rattle.std.specs.Prelude.{◌≡◌, ℕ, ◌⊎◌, List, Option, Some, None}
 use Rattle.ir_event.specs.types.Interning.{with_name}
 use Rattle.ir_event.specs.types.Terms.{TypeOf, attr_term, type_term}
 use Rattle.ir_event.specs.types.Things.{ContextModel, IsAttr, IsType}
@@ -8,12 +8,14 @@ use Rattle.ir_event.specs.types.declared.refusal.Refusal.TheVariants.{BadCommand
 use Rattle.ir_event.specs.trees.Tree.{Op}
 use Rattle.ir_text.specs.declared.error.ReadError.{ReadError}
 use Rattle.ir_text.specs.declared.error.ReadError.TheVariants as error
+use Rattle.rewriter.specs.Commands.{Replied}
+use Rattle.rewriter.specs.Machine.{Reply}
 use Rattle.rewriter.specs.Points.{Point}
 use Rattle.rewriter.specs.Public.{IsNoAttr, IsTextRefusal, SpellsAttr}
 use Rattle.mlir_work_analyses.specs.Listeners.{any_analysis}
 use Rattle.mlir_work_c_edit.specs.Edits.{DropsNumbered, InsertsNumbered, SetsNumbered}
 use Rattle.mlir_work_c_edit.specs.Interned.{Grown}
-use Rattle.mlir_work_c.specs.Answers.{counted, edited, inserted, refused, unread}
+use Rattle.mlir_work_c.specs.Answers.{counted, refused, replied_of, unread}
 use Rattle.mlir_work_c.specs.Calls.{Goes}
 use Rattle.mlir_work_c.specs.Queries.{context_of}
 use Rattle.mlir_work_c.specs.Stepped.{is_opaque}
@@ -32,8 +34,8 @@ pub record KeepsRest (s t : Session) : Type 0 where
 abbrev pub Inserts : Point → Op → Session → Answer → Session → Type 0
 Inserts point header s a t =
     ((a ≡ refused Memory) × (t ≡ s))
-    ⊎ ((result : Result ℕ Refusal) × InsertsNumbered any_analysis point header result s.bench t.bench
-    × (a ≡ inserted result) × KeepsRest s t)
+    ⊎ ((reply : Reply) × InsertsNumbered any_analysis point header reply s.bench t.bench
+    × (a ≡ replied_of (Replied reply) 0) × KeepsRest s t)
 
 -- an unknown insertion point changes nothing
 abbrev pub InsertsOr : Option Point → Op → Session → Answer → Session → Type 0
@@ -46,8 +48,8 @@ InsertGoes point header old a new = Goes (λ s b t. InsertsOr point header s b t
 -- an entry is set
 abbrev pub Sets : ℕ → ℕ → ℕ → Session → Answer → Session → Type 0
 Sets x key attr s a t =
-    (result : Result (Unit {0}) Refusal) × SetsNumbered any_analysis x key attr result s.bench t.bench
-    × (a ≡ edited result) × KeepsRest s t
+    (reply : Reply) × SetsNumbered any_analysis x key attr reply s.bench t.bench
+    × (a ≡ replied_of (Replied reply) 0) × KeepsRest s t
 
 abbrev pub SetGoes : ℕ → ℕ → ℕ → Option Session → Answer → Option Session → Type 0
 SetGoes x key attr old a new = Goes (λ s b t. Sets x key attr s b t) old a new
@@ -55,8 +57,8 @@ SetGoes x key attr old a new = Goes (λ s b t. Sets x key attr s b t) old a new
 -- an entry is removed
 abbrev pub Drops : ℕ → ℕ → Session → Answer → Session → Type 0
 Drops x key s a t =
-    (result : Result (Unit {0}) Refusal) × DropsNumbered any_analysis x key result s.bench t.bench
-    × (a ≡ edited result) × KeepsRest s t
+    (reply : Reply) × DropsNumbered any_analysis x key reply s.bench t.bench
+    × (a ≡ replied_of (Replied reply) 0) × KeepsRest s t
 
 abbrev pub DropGoes : ℕ → ℕ → Option Session → Answer → Option Session → Type 0
 DropGoes x key old a new = Goes (λ s b t. Drops x key s b t) old a new

@@ -1,5 +1,5 @@
 -- Insertion points and integers as C structs.
-use Rattle.std.specs.Prelude.{ℕ, ◌==◌, ◌^◌, div, mod, if◌then◌else◌, Option, Some, None}
+use Rattle.std.specs.Prelude.{ℕ, ◌==◌, ◌^◌, ◌/◌, ◌%◌, if◌then◌else◌, Option, Some, None}
 use Rattle.rewriter.specs.Points.{Point, Before, After, Start, End}
 use Rattle.mlir_work_c.specs.declared.numbers.InsertionPointNumbers.{InsertionPointNumbers}
 use Rattle.mlir_work_c.specs.declared.numbers.IntegerNumbers.{IntegerNumbers}
@@ -19,4 +19,4 @@ point_of_numbers n =
 
 -- an integer of a type of a width as a C struct
 abbrev pub integer_numbers : ℕ → ℕ × ℕ → IntegerNumbers
-integer_numbers width i = record { low = mod i.1 (2 ^ 64); high = div i.1 (2 ^ 64); ty = i.0; width = width }
+integer_numbers width i = record { low = i.1 % 2 ^ 64; high = i.1 / 2 ^ 64; ty = i.0; width = width }

@@ -3,7 +3,9 @@ ghost use Rattle.std.specs.Prelude.{◌≡◌, ℕ};
 ghost use Rattle.mlir_work_script.specs.Outcomes.{outcome_of};
 ghost use Rattle.mlir_work_run.specs.session.Machine.{response_of};
 ghost use Rattle.mlir_work_run.specs.session.Notices.{notice_of};
-ghost use Rattle.mlir_work_c.specs.Answers.{answer_of, came_of, closed as no_session, nothing as no_command, refused as refused_for, opened as a_session, not_opened as not_opened_for, counted, edited, inserted, made, unread};
+ghost use Rattle.mlir_work_c.specs.Answers.{answer_of, came_of, closed as no_session, nothing as no_command, refused as refused_for, opened as a_session, not_opened as not_opened_for, counted, made, unread};
+ghost use Rattle.rewriter.specs.Commands.{Replied};
+ghost use Rattle.rewriter.specs.RewriterCalls.{id_reply_of, reply_of};
 ghost use Rattle.mlir_work_c.specs.Answers.{replied_of, said_as};
 
 use ir_event::types::ids::OpId;
@@ -88,7 +90,7 @@ pub fn made(op: OpId) -> Answer
 
 /// Returns the answer to an edit.
 pub fn edited(told: Result<(), Refusal>) -> Answer
-    ensures { result ≡ edited told }
+    ensures { result ≡ replied_of (Replied (reply_of told)) 0 }
 {
     match told {
         Ok(()) => opened(),
@@ -98,7 +100,7 @@ pub fn edited(told: Result<(), Refusal>) -> Answer
 
 /// Returns the answer to an insertion.
 pub fn inserted(op: Result<OpId, Refusal>) -> Answer
-    ensures { result ≡ inserted op }
+    ensures { result ≡ replied_of (Replied (id_reply_of op)) 0 }
 {
     match op {
         Ok(op) => made(op),

@@ -1,6 +1,6 @@
 //! Sets and removes entries by the numbers of their keys.
 ghost use Rattle.std.specs.Prelude.{◌≡◌};
-ghost use Rattle.rewriter.specs.RewriterCalls.{AgreesOrStale};
+ghost use Rattle.rewriter.specs.RewriterCalls.{AgreesOrStale, reply_of};
 ghost use Rattle.mlir_work_c_edit.specs.Edits.{DropsNumbered, SetsNumbered};
 
 use ir_event::analysis::Analysis;
@@ -20,7 +20,7 @@ pub fn set_attribute<L: Analysis>(
     attr: AttrId,
 ) -> Result<(), Refusal>
     requires { AgreesOrStale L.meaning bench.old }
-    ensures sets { SetsNumbered L.meaning op key attr result bench.old bench.new }
+    ensures sets { SetsNumbered L.meaning op key attr (reply_of result) bench.old bench.new }
     ensures kept { AgreesOrStale L.meaning bench.new }
     ensures mode { bench.new.transaction.ctx.opaque ≡ bench.old.transaction.ctx.opaque }
 {
@@ -43,7 +43,7 @@ pub fn drop_attribute<L: Analysis>(
     key: NameId,
 ) -> Result<(), Refusal>
     requires { AgreesOrStale L.meaning bench.old }
-    ensures drops { DropsNumbered L.meaning op key result bench.old bench.new }
+    ensures drops { DropsNumbered L.meaning op key (reply_of result) bench.old bench.new }
     ensures kept { AgreesOrStale L.meaning bench.new }
     ensures mode { bench.new.transaction.ctx.opaque ≡ bench.old.transaction.ctx.opaque }
 {

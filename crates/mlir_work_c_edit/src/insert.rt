@@ -1,7 +1,7 @@
 //! Inserts an operation whose name, operands, types and entries are numbers.
 ghost use Rattle.std.specs.Prelude.{◌≡◌, Some, true};
 ghost use Rattle.ir_event.specs.tree_laws.Reasons.{holds_none};
-ghost use Rattle.rewriter.specs.RewriterCalls.{AgreesOrStale};
+ghost use Rattle.rewriter.specs.RewriterCalls.{AgreesOrStale, id_reply_of};
 ghost use Rattle.mlir_work_script_base.specs.InsertionPoints.{insertion_point_of};
 ghost use Rattle.mlir_work_c_edit.specs.Edits.{InsertsNumbered};
 
@@ -26,7 +26,7 @@ pub fn insert<L: Analysis>(
 ) -> Result<OpId, Refusal>
     requires kept { AgreesOrStale L.meaning bench.old }
     requires bare { holds_none (Some header.now) ≡ true }
-    ensures inserts { InsertsNumbered L.meaning (insertion_point_of point.now) header.now result bench.old bench.new }
+    ensures inserts { InsertsNumbered L.meaning (insertion_point_of point.now) header.now (id_reply_of result) bench.old bench.new }
     ensures kept { AgreesOrStale L.meaning bench.new }
     ensures mode { bench.new.transaction.ctx.opaque ≡ bench.old.transaction.ctx.opaque }
 {

@@ -2,7 +2,7 @@
 ghost use Rattle.std.specs.Prelude.{◌≡◌, ◌≤◌, ◌+◌, length, min};
 ghost use Rattle.mlir_work_c_read.specs.Bulk.{WritesFirst};
 ghost use Rattle.mlir_work_c_read.specs.Filled.{over, over_from};
-ghost use Rattle.mlir_work_c_read.specs.Rows.{cell, cell_numbers, cells_numbers, no_value, rows_numbers, width_number};
+ghost use Rattle.mlir_work_c_read.specs.Rows.{cell_numbers, cell_with, cells_numbers, no_value, rows_numbers, width_number};
 
 use crate::numbers::{CellNumbers, ValueNumbers, numbers_of};
 use ir_event::row::{Cell, Row};
@@ -75,7 +75,7 @@ fn value_with(operation: u32, place: u32) -> ValueNumbers
 
 /// Returns a cell of a kind.
 fn cell_of(kind: u32, value: ValueNumbers, low: u64, high: u64, left: usize) -> CellNumbers
-    ensures { result ≡ cell kind value low high left }
+    ensures { result ≡ cell_with kind value low high left }
 {
     CellNumbers {
         kind,
