@@ -1,8 +1,7 @@
--- Insertion points and integers as C structs.
-use Rattle.std.specs.Prelude.{ℕ, ◌==◌, ◌^◌, ◌/◌, ◌%◌, if◌then◌else◌, Option, Some, None}
+-- Insertion points as C structs.
+use Rattle.std.specs.Prelude.{ℕ, ◌==◌, if◌then◌else◌, Option, Some, None}
 use Rattle.rewriter.specs.Points.{Point, Before, After, Start, End}
 use Rattle.mlir_work_c.specs.declared.numbers.InsertionPointNumbers.{InsertionPointNumbers}
-use Rattle.mlir_work_c.specs.declared.numbers.IntegerNumbers.{IntegerNumbers}
 
 -- the number for memory that ran out
 abbrev pub no_memory : ℕ
@@ -16,7 +15,3 @@ point_of_numbers n =
     else if n.kind == 2 then Some (Start n.operation n.region)
     else if n.kind == 3 then Some (End n.operation n.region)
     else None
-
--- an integer of a type of a width as a C struct
-abbrev pub integer_numbers : ℕ → ℕ × ℕ → IntegerNumbers
-integer_numbers width i = record { low = i.1 % 2 ^ 64; high = i.1 / 2 ^ 64; ty = i.0; width = width }

@@ -1,12 +1,10 @@
 //! Insertion points as C structs, and the numbers of results.
 ghost use Rattle.std.specs.Prelude.{◌≡◌};
 ghost use Rattle.std.specs.Option.{option_map};
-ghost use Rattle.mlir_work_c_read.specs.Numbers.{number_of as told};
 ghost use Rattle.mlir_work_script_base.specs.InsertionPoints.{insertion_point_of};
 ghost use Rattle.mlir_work_c.specs.Numbers.{no_memory, point_of_numbers};
 
 use ir_event::types::ids::OpId;
-use mlir_work_c_read::numbers::no_number;
 use mlir_work_script_base::insertion_points::InsertionPoint;
 
 /// An insertion point: directly before (0) or after (1) an operation, or at the start (2) or the end (3) of the block
@@ -27,16 +25,6 @@ pub struct NewOperation {
     pub name: u32,
 }
 
-/// An integer: its value below 2^w of a type of width w, the number of its type, and the width, which is 0 for index.
-#[repr(C)]
-#[derive(Clone, Copy)]
-pub struct IntegerNumbers {
-    pub low: u64,
-    pub high: u64,
-    pub ty: u32,
-    pub width: u32,
-}
-
 /// Returns the insertion point of a C struct, or `None` if its kind is unknown.
 pub(crate) fn point_of(numbers: &InsertionPointNumbers) -> Option<InsertionPoint>
     ensures { option_map insertion_point_of result ≡ point_of_numbers numbers.now }
@@ -48,26 +36,6 @@ pub(crate) fn point_of(numbers: &InsertionPointNumbers) -> Option<InsertionPoint
         2 => Some(InsertionPoint::Start(op, numbers.region)),
         3 => Some(InsertionPoint::End(op, numbers.region)),
         _ => None,
-    }
-}
-
-/// Returns the id of an operation as a number, or 2^64 - 1 for `None`.
-pub(crate) fn number_of(op: Option<OpId>) -> u64
-    ensures { result ≡ told op }
-{
-    match op {
-        Some(op) => u64::from(op.number()),
-        None => no_number(),
-    }
-}
-
-/// Returns a count, or 2^64 - 1 for `None`.
-pub(crate) fn count_or_none(count: Option<usize>) -> u64
-    ensures { result ≡ told count }
-{
-    match count {
-        Some(count) => count as u64,
-        None => no_number(),
     }
 }
 

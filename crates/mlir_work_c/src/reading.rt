@@ -7,24 +7,21 @@ ghost use Rattle.mlir_work_c_read.specs.Numbers.{number_of as told, value_of as 
 ghost use Rattle.mlir_work_c.specs.Reading.{MayWrite, Writes, WritesItems, WritesOperations, WritesUsesOf, argument_count_in, attribute_in, attribute_of_key_in, attribute_text_in, counts_in, entry_numbers, integer_in, name_in, name_number_in, name_text_in, property_in, property_of_key_in, region_in, type_in, type_text_in};
 
 use crate::handle::Handle;
-use crate::numbers::{IntegerNumbers, count_or_none, no_memory};
-use crate::session::Session;
+use crate::numbers::no_memory;
 use ir_event::types::ids::{AttrId, NameId, OpId, TypeId};
 use mlir_work_c_read::entries::{attribute_at, attribute_by_key, property_at, property_by_key};
 use mlir_work_c_read::numbers::{
-    Counts, EntryNumbers, UseNumbers, ValueNumbers, no_number, number_or_none, value_of,
+    Counts, EntryNumbers, IntegerNumbers, UseNumbers, ValueNumbers, count_or_none, no_number,
+    number_or_none, value_of,
 };
 use mlir_work_c_read::operations::{
     argument_count, counts_of, name_of, region_of, type_of, write_operations,
 };
 use mlir_work_c_read::texts::{
-    attribute_text, find_name, integer_of, name_text, type_text, width_of, write_text,
+    attribute_text, find_name, name_text, read_integer, type_text, write_text,
 };
 use mlir_work_c_read::uses::write_uses;
 use std::alloc::Global;
-
-/// The number of values of 64 bits.
-const WORD: u128 = 18446744073709551616;
 
 /// Writes the operations of the module in pre-order, as many as there is space for. Returns how many the module has.
 #[unsafe(no_mangle)]
@@ -248,29 +245,13 @@ pub extern "C" fn mlir_work_integer(
     let Some(found) = held.take(alloc) else {
         return false;
     };
-    let told = integer_numbers(&found, AttrId::new(attribute));
+    let told = read_integer(&found.bench.world().ctx, AttrId::new(attribute));
     held.open_with(found);
     let Some(told) = told else {
         return false;
     };
     *integer = told;
     true
-}
-
-/// Returns an integer attribute as a C struct, or `None` if the session has no such integer.
-fn integer_numbers(session: &Session, attribute: AttrId) -> Option<IntegerNumbers>
-    ensures { result ≡ integer_in attribute session.now }
-{
-    let ctx = &session.bench.world().ctx;
-    let Some((ty, value)) = integer_of(ctx, attribute) else {
-        return None;
-    };
-    Some(IntegerNumbers {
-        low: (value % WORD) as u64,
-        high: (value / WORD) as u64,
-        ty: ty.number(),
-        width: width_of(ctx, ty),
-    })
 }
 
 /// Writes the uses of a value, as many as there is space for. Returns how many the value has.

@@ -1,5 +1,5 @@
 -- Texts of the interned names, types and attributes of a context.
-use Rattle.std.specs.Prelude.{ℕ, List, length, nat_lt, if◌then◌else◌, slice_get, option_and_then, Option, Some, None}
+use Rattle.std.specs.Prelude.{ℕ, ◌^◌, ◌/◌, ◌%◌, List, length, nat_lt, if◌then◌else◌, slice_get, option_and_then, option_map, Option, Some, None}
 use Rattle.std.specs.List.{position_from}
 use Rattle.std.specs.Str.{bytes_eq}
 use Rattle.ir_event.specs.types.declared.node.AttrNode.{AttrNode}
@@ -8,6 +8,7 @@ use Rattle.ir_event.specs.types.declared.node.TypeNode.{TypeNode}
 use Rattle.ir_event.specs.types.declared.node.TypeNode.TheVariants as type
 use Rattle.ir_event.specs.types.Things.{ContextModel}
 use Rattle.ir_event.specs.types.Terms.{attr_term, type_term}
+use Rattle.mlir_work_c_read.specs.declared.numbers.IntegerNumbers.{IntegerNumbers}
 use Rattle.ir_text.specs.AttrText.{attr_text}
 use Rattle.ir_text.specs.TypeText.{type_text as text_of_type}
 
@@ -52,6 +53,14 @@ width_in (Some (type.Opaque text)) = 0
 -- the width of type n
 abbrev pub type_width : ℕ → ContextModel → ℕ
 type_width n c = width_in (slice_get c.types n)
+
+-- an integer of a type of a width as a C struct
+abbrev pub integer_numbers : ℕ → ℕ × ℕ → IntegerNumbers
+integer_numbers width i = record { low = i.1 % 2 ^ 64; high = i.1 / 2 ^ 64; ty = i.0; width = width }
+
+-- attribute n as a C struct, if it is an integer
+abbrev pub integer_read : ℕ → ContextModel → Option IntegerNumbers
+integer_read n c = option_map (λ i. integer_numbers (type_width i.0 c) i) (integer_of n c)
 
 -- the number of the name with this text
 abbrev pub name_number : List ℕ → ContextModel → Option ℕ

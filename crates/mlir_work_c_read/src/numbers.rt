@@ -60,6 +60,16 @@ pub struct Head {
     pub counts: Counts,
 }
 
+/// An integer: its value below 2^w of a type of width w, the number of its type, and the width, which is 0 for index.
+#[repr(C)]
+#[derive(Clone, Copy)]
+pub struct IntegerNumbers {
+    pub low: u64,
+    pub high: u64,
+    pub ty: u32,
+    pub width: u32,
+}
+
 /// A cell of a report row. `kind` is 0 for an operation, 1 for a value, 2 for a number, 3 for a name, 4 for a symbol
 /// reference, 5 for a constant, 6 for a rule of the verifier, and 7 for a word. `left` is the number of cells after it
 /// in its row.
@@ -102,6 +112,26 @@ pub fn numbers_of(value: Value) -> ValueNumbers
             region,
             place,
         },
+    }
+}
+
+/// Returns the id of an operation as a number, or 2^64 - 1 for `None`.
+pub fn number_of(op: Option<OpId>) -> u64
+    ensures { result ≡ told op }
+{
+    match op {
+        Some(op) => u64::from(op.number()),
+        None => no_number(),
+    }
+}
+
+/// Returns a count, or 2^64 - 1 for `None`.
+pub fn count_or_none(count: Option<usize>) -> u64
+    ensures { result ≡ told count }
+{
+    match count {
+        Some(count) => count as u64,
+        None => no_number(),
     }
 }
 

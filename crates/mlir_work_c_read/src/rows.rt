@@ -9,7 +9,7 @@ use ir_event::row::{Cell, Row};
 use ir_event::types::bits::BitsKind;
 
 /// The number of values of 64 bits.
-const WORD: u128 = 18446744073709551616;
+pub(crate) const WORD: u128 = 18446744073709551616;
 
 /// Writes the cells of rows, one row after the other, as many as there is space for, and returns how many it wrote.
 pub fn write_rows(rows: &[Row], into: &mut [CellNumbers]) -> usize
