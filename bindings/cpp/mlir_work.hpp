@@ -428,8 +428,8 @@ inline auto Operation::regions() const {
   });
 }
 
-// The operations of a module with their names, operands, types of results and uses. It is read by a few calls, so a walk
-// over it is faster than one over handles.
+// The operations of a module with their names, operands, types of results and uses. A table is read by a few calls, so a
+// walk over it is faster than one over handles.
 class Table {
 public:
   // A part of an array.
