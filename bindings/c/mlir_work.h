@@ -183,6 +183,45 @@ void mlir_work_open_opaque(mlir_work_session *session, const uint8_t *text, size
    expected refusal. */
 void mlir_work_command(mlir_work_session *session, const uint8_t *line, size_t line_length, mlir_work_answer *answer);
 
+/* Defines the user patterns of a text, as `mlir_work --patterns FILE` does: a pattern a line, as `double arith.addi(%a,
+   %a) => arith.shli(%a, 1)`; empty lines and lines that begin with `//` are skipped. The answer is MLIR_WORK_OK with the
+   number of patterns; or the refusal of the first pattern that is refused, whose line begins at byte `*at` of the text,
+   and the patterns before it stay. (This function is part of the header, not of the library, and isn't proved.) */
+static inline void mlir_work_patterns(mlir_work_session *session, const uint8_t *text, size_t text_length, size_t *at,
+                                      mlir_work_answer *answer) {
+  static const char command[] = "pattern ";
+  uint8_t line[4096];
+  uint64_t count = 0;
+  answer->outcome = MLIR_WORK_OK;
+  answer->refusal = 0;
+  answer->number = answer->shown = 0;
+  for (size_t from = 0, end; from < text_length; from = end + 1) {
+    size_t first = from;
+    for (end = from; end < text_length && text[end] != '\n'; end++) {
+    }
+    while (first < end && (text[first] == ' ' || text[first] == '\t' || text[first] == '\r'))
+      first++;
+    if (first == end || (end - first > 1 && text[first] == '/' && text[first + 1] == '/'))
+      continue;
+    *at = from;
+    if (end - first > sizeof line - (sizeof command - 1)) {
+      answer->outcome = MLIR_WORK_REFUSED;
+      answer->refusal = MLIR_WORK_TOO_MANY;
+      return;
+    }
+    for (size_t i = 0; i < sizeof command - 1; i++)
+      line[i] = (uint8_t)command[i];
+    for (size_t i = first; i < end; i++)
+      line[sizeof command - 1 + (i - first)] = text[i];
+    mlir_work_command(session, line, sizeof command - 1 + (end - first), answer);
+    if (answer->outcome != MLIR_WORK_OK)
+      return;
+    count++;
+  }
+  answer->number = count;
+  answer->shown = 0;
+}
+
 /* Copies the output of the last line, from byte `from` on, into `into`, at most `into_length` bytes. Returns how many
    bytes were copied: 0 at the end of the output, and for a closed handle. */
 size_t mlir_work_read(mlir_work_session *session, size_t from, uint8_t *into, size_t into_length);

@@ -428,8 +428,8 @@ inline auto Operation::regions() const {
   });
 }
 
-// The operations of a module with their names, operands, types of results and uses. A table is read by a few calls, so a
-// walk over it is faster than one over handles.
+// The operations of a module with their names, operands, types of results and uses. A table is read by a few calls, so
+// a walk over it is faster than one over handles.
 class Table {
 public:
   // A part of an array.
@@ -580,6 +580,15 @@ public:
     if (answer.outcome == MLIR_WORK_OK)
       count(command_word(line));
     return answer;
+  }
+
+  // Defines the user patterns of a text, a line each, and returns how many they are; throws Refused. `check NAME` as a
+  // command checks one.
+  std::size_t define(std::string_view patterns) {
+    mlir_work_answer answer;
+    std::size_t at = 0;
+    mlir_work_patterns(&held_, bytes(patterns), patterns.size(), &at, &answer);
+    return static_cast<std::size_t>(accepted(answer).number);
   }
 
   // Returns how many marks are open.

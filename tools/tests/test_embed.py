@@ -113,6 +113,11 @@ class Library(unittest.TestCase):
         for more in ((), SANITIZED):
             self.assertEqual(ran([self.built("tests/golden/embed/numbers.c", *more)]), b"")
 
+    def test_threads(self):
+        """Sessions of several threads don't share anything, also under gcc's thread sanitizer."""
+        for more in (("-pthread",), ("-pthread", "-fsanitize=thread")):
+            self.assertEqual(ran([self.built("tests/golden/embed/threads.c", *more)]), b"")
+
     def test_walk(self):
         """A walk by calls for many operations counts what a walk by calls for one operation counts."""
         built = self.built("benchmarks/walk.c")

@@ -181,10 +181,28 @@ static void reports(void) {
   WANT(mlir_work_read(&s, (size_t)length - 1, &byte, 1) == 1);
 }
 
+/* User patterns are defined from a text, as by `--patterns`. */
+static void patterns(void) {
+  static const char text[] = "// a comment\n\n  double arith.addi(%a, %a) => arith.shli(%a, 1)\nsame arith.addi(%a, 0) => %a";
+  static const char wrong[] = "other arith.ori(%a, 0) => %a\nwhat\n";
+  size_t at = 99;
+  mlir_work_patterns(&s, (const uint8_t *)text, sizeof text - 1, &at, &answer);
+  WANT(answer.outcome == MLIR_WORK_OK && answer.number == 2 && answer.shown == 0);
+  WANT(strstr(shown("patterns"), "double") && strstr(shown("patterns"), "same"));
+  mlir_work_patterns(&s, (const uint8_t *)wrong, sizeof wrong - 1, &at, &answer);
+  WANT(answer.outcome >= MLIR_WORK_REFUSED && answer.outcome <= MLIR_WORK_REFUSED_AT && at == 29);
+  WANT(strstr(shown("patterns"), "other"));
+  mlir_work_patterns(&s, (const uint8_t *)"", 0, &at, &answer);
+  WANT(answer.outcome == MLIR_WORK_OK && answer.number == 0);
+  shown("check same");
+  WANT(answer.outcome == MLIR_WORK_HOLDS);
+}
+
 static void closed(void) {
   const mlir_work_value value = {0, 0, 0};
   const uint32_t type = 0;
   const mlir_work_new_entry entry = {0, 0, 0};
+  size_t at;
   mlir_work_cell cell;
   cell.kind = 9;
   insert(MLIR_WORK_END, ROOT, 0, &value, 0, &type, 0, &entry, 0);
@@ -198,6 +216,8 @@ static void closed(void) {
   WANT(answer.outcome == MLIR_WORK_NO_SESSION);
   mlir_work_report(&s, MLIR_WORK_USES, &cell, 1, &answer);
   WANT(answer.outcome == MLIR_WORK_NO_SESSION && cell.kind == 9);
+  mlir_work_patterns(&s, (const uint8_t *)"p", 1, &at, &answer);
+  WANT(answer.outcome == MLIR_WORK_NO_SESSION);
 }
 
 int main(void) {
@@ -208,6 +228,7 @@ int main(void) {
   inserting();
   attributes();
   reports();
+  patterns();
   mlir_work_close(&s);
   closed();
   return faults != 0;

@@ -202,6 +202,17 @@ impl Session {
         Ok(String::from_utf8_lossy(&bytes).into_owned())
     }
 
+    /// Defines the user patterns of a text, a line each, and returns how many they are. Empty lines and lines that begin
+    /// with `//` are skipped. The patterns before one that is refused stay.
+    pub fn define(&mut self, patterns: &str) -> Result<usize, Refused> {
+        let mut count = 0;
+        for line in patterns.lines().map(str::trim).filter(|it| !it.is_empty() && !it.starts_with("//")) {
+            self.command(format!("pattern {line}"))?;
+            count += 1;
+        }
+        Ok(count)
+    }
+
     /// Returns the rows of a report, by the word of its kind.
     pub fn report(&mut self, kind: &str) -> Result<Vec<String>, Refused> {
         Ok(self.text(format!("report {kind}"))?.lines().map(str::to_owned).collect())
@@ -543,6 +554,16 @@ mod tests {
         let mut seen = Vec::new();
         session.each(|it| seen.push((it.operation, it.operands.len(), it.types.len(), it.uses.len())));
         assert_eq!(seen, [(0, 0, 0, 0), (1, 0, 1, 2), (2, 0, 1, 1), (4, 2, 2, 0), (3, 1, 0, 0)]);
+    }
+
+    /// User patterns are defined from a text, and checked.
+    #[test]
+    fn patterns_of_a_text() {
+        let mut session = Session::open(MODULE, 1000).unwrap();
+        let text = "// doubles\n\ndouble arith.addi(%a, %a) => arith.shli(%a, 1)\n";
+        assert_eq!(session.define(text), Ok(1));
+        assert!(matches!(session.command("check double width 4"), Ok(Outcome::Holds(4) | Outcome::Fails(_))));
+        assert!(session.define("what").is_err());
     }
 
     #[test]
