@@ -183,10 +183,11 @@ void mlir_work_open_opaque(mlir_work_session *session, const uint8_t *text, size
    expected refusal. */
 void mlir_work_command(mlir_work_session *session, const uint8_t *line, size_t line_length, mlir_work_answer *answer);
 
-/* Defines the user patterns of a text, as `mlir_work --patterns FILE` does: a pattern a line, as `double arith.addi(%a,
-   %a) => arith.shli(%a, 1)`; empty lines and lines that begin with `//` are skipped. The answer is MLIR_WORK_OK with the
-   number of patterns; or the refusal of the first pattern that is refused, whose line begins at byte `*at` of the text,
-   and the patterns before it stay. (This function is part of the header, not of the library, and isn't proved.) */
+/* Defines the user patterns of a text, as `mlir_work --patterns FILE` does: a pattern a line, as `double
+   arith.addi(%a, %a) => arith.shli(%a, 1)`. Empty lines and lines that begin with `//` are skipped. The answer is
+   MLIR_WORK_OK with the number of patterns; or the refusal of the first pattern that is refused, whose line begins at
+   byte `*at` of the text, and the patterns before it stay. (This function is part of the header, not of the library,
+   and isn't proved.) */
 static inline void mlir_work_patterns(mlir_work_session *session, const uint8_t *text, size_t text_length, size_t *at,
                                       mlir_work_answer *answer) {
   static const char command[] = "pattern ";

@@ -183,7 +183,8 @@ static void reports(void) {
 
 /* User patterns are defined from a text, as by `--patterns`. */
 static void patterns(void) {
-  static const char text[] = "// a comment\n\n  double arith.addi(%a, %a) => arith.shli(%a, 1)\nsame arith.addi(%a, 0) => %a";
+  static const char text[] = "// a comment\n\n  double arith.addi(%a, %a) => arith.shli(%a, 1)\n"
+                             "same arith.addi(%a, 0) => %a";
   static const char wrong[] = "other arith.ori(%a, 0) => %a\nwhat\n";
   size_t at = 99;
   mlir_work_patterns(&s, (const uint8_t *)text, sizeof text - 1, &at, &answer);

@@ -202,8 +202,8 @@ impl Session {
         Ok(String::from_utf8_lossy(&bytes).into_owned())
     }
 
-    /// Defines the user patterns of a text, a line each, and returns how many they are. Empty lines and lines that begin
-    /// with `//` are skipped. The patterns before one that is refused stay.
+    /// Defines the user patterns of a text, a line each, and returns how many they are. Empty lines and lines that
+    /// begin with `//` are skipped. The patterns before one that is refused stay.
     pub fn define(&mut self, patterns: &str) -> Result<usize, Refused> {
         let mut count = 0;
         for line in patterns.lines().map(str::trim).filter(|it| !it.is_empty() && !it.starts_with("//")) {
