@@ -1,6 +1,6 @@
 -- Items that are written to a buffer one part after the other.
-use Rattle.std.proofs.Common.{◌≡◌, ◌∙◌, ap, refl, ℕ, zero, suc, ◌+◌, ◌≤◌, List, [], ◌∷◌, ◌++◌, length, take, drop, arith}
-use Rattle.std.specs.Prelude.{min}
+use Rattle.std.proofs.Common.{◌≡◌, ◌∙◌, ap, sym, refl, ℕ, zero, suc, ◌+◌, ◌-◌, ◌≤◌, ◌<◌, List, [], ◌∷◌, ◌++◌, length, length-append, take, drop, get_or, take_whole, arith}
+use Rattle.std.specs.Prelude.{min, flat_map}
 use Rattle.mlir_work_c_read.specs.Filled.{over, over_from}
 
 module _ {A : Type 0} where
@@ -54,7 +54,7 @@ pub record Continues {A : Type 0} (rest whole : List A) (at : ℕ) (into old : L
 
 module _ {A : Type 0} where
   pub begins : (whole old : List A) → Continues whole whole 0 old old
-  begins whole old = record { written = refl; size = refl; inside = omega arith; count = refl }
+  begins whole old = record { written = refl; size = refl; inside = omega arith; count = omega arith }
 
   -- a part is written
   pub continues : (part rest both whole : List A) (at m : ℕ) (into new old : List A) → both ≡ part ++ rest → length both ≡ length part + length rest → new ≡ over_from at part into → m ≡ min (at + length part) (length into) → Continues both whole at into old → Continues rest whole m new old
@@ -63,7 +63,7 @@ module _ {A : Type 0} where
       let long : length new ≡ length into = ap length is ∙ from_length at part into within in
       let s = h.size in let i = h.inside in let c = h.count in
       record {
-        written = ap (over_from m rest) is ∙ joined_from at m part rest into within count ∙ ap (λ t. over_from at t into) (λ j. parts (~ j)) ∙ h.written;
+        written = ap (over_from m rest) is ∙ joined_from at m part rest into within count ∙ ap (λ t. over_from at t into) (sym parts) ∙ h.written;
         size = long ∙ s;
         inside = omega (arith, count, s);
         count = omega (arith, count, s, i, c, sum);
@@ -74,4 +74,38 @@ module _ {A : Type 0} where
   ends whole at into old h =
       let s = h.size in let i = h.inside in let c = h.count in
       let within : at ≤ length into = omega (arith, s, i) in
-      ((λ j. from_none at into within (~ j)) ∙ h.written, omega (arith, s, i, c))
+      (sym (from_none at into within) ∙ h.written, omega (arith, s, i, c))
+
+-- ---- the first item of a list, and the others
+
+module _ {X : Type 0} where
+  pub rest_at : (xs : List X) (x d : X) → 1 ≤ length xs → x ≡ get_or xs 0 d → xs ≡ x ∷ take (length xs - 1) (drop 1 xs)
+  rest_at [] x d l e = absurd (omega (arith, l))
+  rest_at (y ∷ ys) x d l e =
+      let n : length (y ∷ ys) - 1 ≡ length ys = omega arith in
+      λ i. sym e i ∷ sym (ap (λ k. take k ys) n ∙ take_whole ys) i
+
+  pub rest_length : (xs : List X) → 1 ≤ length xs → length (take (length xs - 1) (drop 1 xs)) + 1 ≡ length xs
+  rest_length [] l = absurd (omega (arith, l))
+  rest_length (y ∷ ys) l =
+      let n : length (y ∷ ys) - 1 ≡ length ys = omega arith in
+      let same : length (take (length (y ∷ ys) - 1) ys) ≡ length ys = ap length (ap (λ k. take k ys) n ∙ take_whole ys) in
+      omega (arith, same)
+
+  module _ {A : Type 0} (f : X → List A) where
+    -- the items of the first element and of the others
+    pub parts_of : (xs : List X) (x d : X) → 1 ≤ length xs → x ≡ get_or xs 0 d → flat_map f xs ≡ f x ++ flat_map f (take (length xs - 1) (drop 1 xs))
+    parts_of xs x d l z = ap (flat_map f) (rest_at xs x d l z)
+
+    pub lengths_of : (xs : List X) (x d : X) → 1 ≤ length xs → x ≡ get_or xs 0 d → length (flat_map f xs) ≡ length (f x) + length (flat_map f (take (length xs - 1) (drop 1 xs)))
+    lengths_of xs x d l z = ap length (parts_of xs x d l z) ∙ length-append (f x) (flat_map f (take (length xs - 1) (drop 1 xs)))
+
+    -- the items of the first element are written
+    pub step_on : (xs : List X) (x d : X) (whole : List A) (at m : ℕ) (into new old : List A) → 1 ≤ length xs → x ≡ get_or xs 0 d → new ≡ over_from at (f x) into → m ≡ min (at + length (f x)) (length into) → Continues (flat_map f xs) whole at into old
+        → Continues (flat_map f (take (length xs - 1) (drop 1 xs))) whole m new old
+    step_on xs x d whole at m into new old l z is count h =
+        continues (f x) (flat_map f (take (length xs - 1) (drop 1 xs))) (flat_map f xs) whole at m into new old (parts_of xs x d l z) (lengths_of xs x d l z) is count h
+
+    pub none_of : (xs : List X) → length xs < 1 → flat_map f xs ≡ []
+    none_of [] l = refl
+    none_of (x ∷ xs) l = absurd (omega (arith, l))

@@ -41,7 +41,7 @@ pub fn count_cells(rows: &[Row]) -> usize
 fn write_cells(cells: &[Cell], into: &mut [CellNumbers], at: usize) -> usize
     requires { at ≤ length into.old }
     ensures written { into.new ≡ over_from at (cells_numbers cells.now) into.old }
-    ensures count { result ≡ min (at + length (cells_numbers cells.now)) (length into.old) }
+    ensures count { result ≡ min (at + length cells.now) (length into.old) }
 {
     let count = cells.len().min(into.len() - at);
     write_each_cell(cells, &mut into[at..]);
