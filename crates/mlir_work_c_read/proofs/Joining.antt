@@ -1,5 +1,5 @@
 -- Items that are written to a buffer one part after the other.
-use Rattle.std.proofs.Common.{◌≡◌, ◌∙◌, ap, sym, refl, ℕ, zero, suc, ◌+◌, ◌-◌, ◌≤◌, ◌<◌, List, [], ◌∷◌, ◌++◌, length, length-append, take, drop, get_or, take_whole, arith}
+use Rattle.std.proofs.Common.{◌≡◌, ◌∙◌, ap, sym, refl, ℕ, zero, suc, ◌+◌, ◌-◌, ◌≤◌, ◌<◌, List, [], ◌∷◌, ◌++◌, length, length-append, take, drop, get_or, arith}
 use Rattle.std.specs.Prelude.{min, flat_map}
 use Rattle.mlir_work_c_read.specs.Filled.{over, over_from}
 
@@ -79,6 +79,10 @@ module _ {A : Type 0} where
 -- ---- the first item of a list, and the others
 
 module _ {X : Type 0} where
+  take_whole : (xs : List X) → take (length xs) xs ≡ xs
+  take_whole [] = refl
+  take_whole (x ∷ xs) = ap (λ ys. x ∷ ys) (take_whole xs)
+
   pub rest_at : (xs : List X) (x d : X) → 1 ≤ length xs → x ≡ get_or xs 0 d → xs ≡ x ∷ take (length xs - 1) (drop 1 xs)
   rest_at [] x d l e = absurd (omega (arith, l))
   rest_at (y ∷ ys) x d l e =
