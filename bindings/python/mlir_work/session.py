@@ -12,6 +12,7 @@ from .command import Program
 from .errors import Error, ModuleRefused, Refused, SessionClosed, Unproved
 from .handles import OperationHandle, ValueHandle
 from .library import Library, is_preferred
+from .numbers import Numbers
 from .operations import Operation, read
 from .patterns import Checked, Pattern, all_checked_of, checked_of, patterns_of
 from .process import Process
@@ -119,6 +120,7 @@ class Session:
         self._thread = threading.get_ident()
         self._listing: Optional[List[Operation]] = None
         self._reader: Optional[Reader] = None
+        self._numbers: Optional[Numbers] = None
         self.marks, self.refused, self.closed = 0, 0, False
         """How many marks are open; how many commands were refused; whether it is closed."""
         self._blocks = blocks
@@ -314,6 +316,19 @@ class Session:
         if self._reader is None:
             raise Error("handles need the library (MLIR_WORK_LIBRARY): `operations()` works without it")
         return self._reader
+
+    @property
+    def numbers(self) -> Numbers:
+        """Edits and reports by interned numbers. Raises Error if the session isn't over the library."""
+        self._must_be_usable()
+        if self._numbers is None:
+            self._numbers = self._way.numbers(self._forget_listing)
+        if self._numbers is None:
+            raise Error("edits by numbers need the library (MLIR_WORK_LIBRARY)")
+        return self._numbers
+
+    def _forget_listing(self) -> None:
+        self._listing = None
 
     # Edits.
 
