@@ -1,6 +1,6 @@
 //! Edits of a transaction. Each edit first reserves capacity in the journal, so that recording an accepted edit can't
 //! fail.
-ghost use Rattle.std.specs.Prelude.{◌≡◌, ◌≢◌, [], Some, true, IfOk, IfSome, OnErr};
+ghost use Rattle.std.specs.Prelude.{◌≡◌, ◌≢◌, [], Some, None, true, IfOk, IfSome, OnErr};
 ghost use Rattle.ir_event.specs.types.Terms.{name_term};
 ghost use Rattle.ir_event.specs.types.Things.{IsName, IsAttr};
 ghost use Rattle.ir_event.specs.types.Words.{is_table};
@@ -129,6 +129,27 @@ impl Transaction {
         };
         self.world.ctx.sound();
         let made = self.world.shift(op, place);
+        note(&mut self.journal, &self.marks, &made);
+        made
+    }
+
+    /// Moves `op`, with everything inside it, to `place` and returns the event, without checks. The move has no reason
+    /// for a refusal.
+    ///
+    /// Refusals: `Memory` if a mark is open.
+    pub fn shift_unchecked(&mut self, op: OpId, place: Place) -> Result<Event, Refusal>
+        requires { shift_reason (isolated_in self.old.ctx)
+            (λ n. is_table (name_term self.old.ctx n)) op place self.old.store.module_of.tree ≡ None }
+        ensures ok { IfOk result (λ e. Edited e (after_shift op place self.old.store) self.old self.new) }
+        ensures err { OnErr result (self.new ≡ self.old) }
+        ensures refused { IsAnswered (self.old.marks ≢ []) None result }
+        ensures tidy { HasNoStaleIds self.old.store → HasNoStaleIds self.new.store }
+    {
+        let Ok(()) = claim(&mut self.journal, &self.marks) else {
+            return Err(Refusal::Memory);
+        };
+        self.world.ctx.sound();
+        let made = self.world.shift_unchecked(op, place);
         note(&mut self.journal, &self.marks, &made);
         made
     }
