@@ -139,6 +139,7 @@ impl World {
         ensures store { OnOk result (self.new.store ≡ after_shift op place self.old.store) }
         ensures ctx { self.new.ctx ≡ self.old.ctx }
         ensures done { IsOk result }
+        ensures err { OnErr result (self.new.store ≡ self.old.store) }
     {
         move_in(&self.ctx, &mut self.store, op, &place)
     }
@@ -266,6 +267,7 @@ fn move_in(ctx: &Context, store: &mut Store, op: OpId, place: &Place) -> Result<
     ensures event { IfOk result (λ e. IsShiftEvent op place.now store.old.module_of.tree e) }
     ensures store { OnOk result (store.new ≡ after_shift op place.now store.old) }
     ensures done { IsOk result }
+    ensures err { OnErr result (store.new ≡ store.old) }
 {
     let Some(old) = store.place(op) else {
         return Err(Refusal::NoSuchOp);

@@ -70,7 +70,6 @@ impl<L: Analysis> Bench<L> {
         ensures ctx { self.new.transaction.ctx ≡ self.old.transaction.ctx }
         ensures journal { JournalAfter L.meaning result self.old self.new }
     {
-        self.is_wellformed();
         match self.take(op) {
             Ok(()) => Ok(()),
             Err(_) => self.erase_inside(op),

@@ -1,6 +1,6 @@
 //! Edits of a transaction. Each edit first reserves capacity in the journal, so that recording an accepted edit can't
 //! fail.
-ghost use Rattle.std.specs.Prelude.{◌≡◌, ◌≢◌, [], Some, None, true, IfOk, IfSome, OnErr};
+ghost use Rattle.std.specs.Prelude.{◌≡◌, ◌≢◌, [], Some, None, true, IfOk, IfErr, IfSome, OnErr};
 ghost use Rattle.ir_event.specs.types.Terms.{name_term};
 ghost use Rattle.ir_event.specs.types.Things.{IsName, IsAttr};
 ghost use Rattle.ir_event.specs.types.Words.{is_table};
@@ -142,7 +142,7 @@ impl Transaction {
             (λ n. is_table (name_term self.old.ctx n)) op place self.old.store.module_of.tree ≡ None }
         ensures ok { IfOk result (λ e. Edited e (after_shift op place self.old.store) self.old self.new) }
         ensures err { OnErr result (self.new ≡ self.old) }
-        ensures refused { IsAnswered (self.old.marks ≢ []) None result }
+        ensures refused { IfErr result (λ e. (e ≡ Refusal.Memory) × (self.old.marks ≢ [])) }
         ensures tidy { HasNoStaleIds self.old.store → HasNoStaleIds self.new.store }
     {
         let Ok(()) = claim(&mut self.journal, &self.marks) else {
