@@ -1,6 +1,6 @@
 -- An IR state in which an operation is moved.
 use Rattle.std.proofs.Common.{◌≡◌, sym, ◌∙◌, subst, ℕ, Option, Some, None}
-use Rattle.std.specs.Prelude.{Result, Ok, Err, IfOk, IsOk, OnOk, OnErr, MatchResult}
+use Rattle.std.specs.Prelude.{Result, Ok, Err, IfOk, OnOk, OnErr, MatchResult}
 use Rattle.op_registry.specs.types.declared.refusal.Refusal.{Refusal}
 use Rattle.op_registry.specs.types.Things.{ContextModel}
 use Rattle.op_registry.specs.types.Terms.{name_term}
@@ -13,8 +13,6 @@ use Rattle.ir_store.specs.tree_laws.Changes.{Shifts}
 use Rattle.ir_store.specs.tree_laws.Reasons.{shift_reason}
 use Rattle.ir_store.proofs.of_tree_laws.Changed.{shift_changes}
 use Rattle.ir_store.proofs.of_tree_laws.WellKept.{shift_keeps}
-use Rattle.ir_store.proofs.of_tree_laws.Reasoned.{no_shift_reason}
-use Rattle.ir_store.specs.Shifting.{CanRelink}
 use Rattle.ir_store.specs.Stored.{Stored}
 use Rattle.ir_store.specs.Calls.{after_shift}
 use Rattle.ir_event.specs.declared.event.Event.{Event}
@@ -58,18 +56,3 @@ module _ (c : ContextModel) (x : ℕ) (place : Place) (s u : Stored) where
       subst (λ (v : Stored). Step c (Shift x event.0 place) (module_meaning c s.module_of) (module_meaning c v.module_of)) (sym is)
       (moved_steps c x event.0 place s.module_of (after_shift x place s).module_of w (shift_keeps (isolated_in c) (λ n. is_table (name_term c n)) x place s.module_of w none) own (shifted_sound c x place s.module_of.tree own) shifts) in
       (event.0, event.1, subst (λ (f : Event). Step c f (module_meaning c s.module_of) (module_meaning c u.module_of)) (sym event.1) one)
-
-  -- ---- a move without a reason for a refusal
-
-  pub may_move : reason ≡ None → CanRelink x place s.module_of.tree
-  may_move e =
-      let r = no_shift_reason (isolated_in c) (λ n. is_table (name_term c n)) x place s.module_of.tree e in
-      record { there = r.there; inner = r.inner; point = r.point; outside = r.outside }
-
-  pub wellformed_after : (r : Result Event Refusal) → OnOk r (u ≡ after_shift x place s) → OnErr r (u ≡ s) → reason ≡ None → IsWellFormed (isolated_in c) s.module_of → IsWellFormed (isolated_in c) u.module_of
-  wellformed_after (Ok e) is err none w = subst (λ (v : Stored). IsWellFormed (isolated_in c) v.module_of) (sym is) (shift_keeps (isolated_in c) (λ n. is_table (name_term c n)) x place s.module_of w none)
-  wellformed_after (Err e) is err none w = subst (λ (v : Stored). IsWellFormed (isolated_in c) v.module_of) (sym err) w
-
-  pub never_refused : (r : Result Event Refusal) → IsOk r → reason ≡ None → MatchResult r (λ _. reason ≡ None) (λ e. reason ≡ Some e)
-  never_refused (Ok e) done none = none
-  never_refused (Err e) done none = absurd done

@@ -1,5 +1,5 @@
 //! The edits of an IR state: each returns its event.
-ghost use Rattle.std.specs.Prelude.{◌≡◌, Some, None, true, IfOk, IsOk, OnOk, OnErr, IfErr, IfSome, MatchResult, Err};
+ghost use Rattle.std.specs.Prelude.{◌≡◌, Some, None, true, IfOk, OnOk, OnErr, IfErr, IfSome, MatchResult, Err};
 ghost use Rattle.std.specs.FinMap as finmap;
 ghost use Rattle.op_registry.specs.types.Reasons.{IsRefusedFor};
 ghost use Rattle.op_registry.specs.types.Terms.{name_term};
@@ -130,19 +130,6 @@ impl World {
     {
         shift_in(&self.ctx, &mut self.store, op, &place)
     }
-
-    /// Moves `op`, with everything inside it, to `place` and returns the event. Nothing is checked, so this call is for
-    /// a move that `shift` accepts. It is never refused, and needs no memory.
-    pub fn shift_unchecked(&mut self, op: OpId, place: Place) -> Result<Event, Refusal>
-        requires { shift_reason (isolated_in self.old.ctx) (λ n. is_table (name_term self.old.ctx n)) op place self.old.store.module_of.tree ≡ None }
-        ensures step { IfOk result (λ e. IsShiftStep op place e (context_model self.old) (module_in self.old) (module_in self.new)) }
-        ensures store { OnOk result (self.new.store ≡ after_shift op place self.old.store) }
-        ensures ctx { self.new.ctx ≡ self.old.ctx }
-        ensures done { IsOk result }
-        ensures err { OnErr result (self.new.store ≡ self.old.store) }
-    {
-        move_in(&self.ctx, &mut self.store, op, &place)
-    }
 }
 
 /// Inserts an operation into a store's module and returns the event.
@@ -253,26 +240,6 @@ fn shift_in(ctx: &Context, store: &mut Store, op: OpId, place: &Place) -> Result
     let Some(old) = old else {
         return Err(Refusal::NoSuchOp);
     };
-    Ok(Event::Shift {
-        op,
-        old,
-        new: *place,
-    })
-}
-
-/// Moves an operation in a store's module without checks and returns the event. The move has no reason for a refusal.
-fn move_in(ctx: &Context, store: &mut Store, op: OpId, place: &Place) -> Result<Event, Refusal>
-    requires wellformed { IsWellFormed (isolated_in ctx.now) store.old.module_of }
-    requires free { shift_reason (isolated_in ctx.now) (λ n. is_table (name_term ctx.now n)) op place.now store.old.module_of.tree ≡ None }
-    ensures event { IfOk result (λ e. IsShiftEvent op place.now store.old.module_of.tree e) }
-    ensures store { OnOk result (store.new ≡ after_shift op place.now store.old) }
-    ensures done { IsOk result }
-    ensures err { OnErr result (store.new ≡ store.old) }
-{
-    let Some(old) = store.place(op) else {
-        return Err(Refusal::NoSuchOp);
-    };
-    store.move_unchecked(op, *place);
     Ok(Event::Shift {
         op,
         old,

@@ -13,6 +13,7 @@ ghost use Rattle.rewriter_machine.specs.Journals.{HasNoStaleIds};
 ghost use Rattle.rewriter.specs.Moves.{Edited, IsAnswered};
 
 use crate::claims::{claim, note};
+use crate::moving::shift_unchecked;
 use crate::transaction::Transaction;
 use ir_event::event::Event;
 use ir_event::trees::place::{Part, Place};
@@ -149,7 +150,7 @@ impl Transaction {
             return Err(Refusal::Memory);
         };
         self.world.ctx.sound();
-        let made = self.world.shift_unchecked(op, place);
+        let made = shift_unchecked(&mut self.world, op, place);
         note(&mut self.journal, &self.marks, &made);
         made
     }
