@@ -1,11 +1,11 @@
 //! Makes one edit.
-ghost use Rattle.std.specs.Prelude.{◌≡◌, true, Some, None};
+ghost use Rattle.std.specs.Prelude.{◌≡◌, true, Some};
 ghost use Rattle.ir_event.specs.types.Things.{IsName, IsAttr};
 ghost use Rattle.ir_event.specs.trees.Meaning.{IsSoundIn};
 ghost use Rattle.ir_event.specs.tree_laws.Reasons.{holds_none};
 ghost use Rattle.rewriter.specs.RewriterCalls.{JournalAfter};
 ghost use Rattle.rewriter.specs.Held.{module_held};
-ghost use Rattle.patterns_base.specs.Contents.{edit_meaning, edit_reason};
+ghost use Rattle.patterns_base.specs.Contents.{edit_meaning};
 ghost use Rattle.patterns_base.specs.Edits as edit;
 ghost use Rattle.patterns_base.specs.Lists.{Fits, Tried, numbered};
 ghost use Rattle.patterns_lowering.specs.Runs.{Along};
@@ -106,51 +106,4 @@ pub(crate) fn carry_one<L: Analysis>(bench: &mut Bench<L>, edit: &Edit) -> Resul
         Edit::Erase { op } => erase_one(bench, *op),
         Edit::SetAttr { op, key, attr } => enter_one(bench, *op, *key, *attr),
     }
-}
-
-/// Makes one edit that has no reason for a refusal. Moves, replacements and erasures aren't checked.
-pub(crate) fn carry_free<L: Analysis>(bench: &mut Bench<L>, edit: &Edit) -> Result<(), Refusal>
-    requires fits { Fits bench.old.transaction.ctx edit.now }
-    requires free { edit_reason (edit_meaning bench.old.transaction.ctx (numbered edit.now)) (module_held bench.old.transaction) ≡ None }
-    ensures tried { Tried (edit_meaning bench.old.transaction.ctx (numbered edit.now)) result (module_held bench.old.transaction)
-        (module_held bench.new.transaction) }
-    ensures along { Along L.meaning bench.old bench.new }
-    ensures journal { JournalAfter L.meaning result bench.old bench.new }
-{
-    match edit {
-        Edit::Replace { old, new } => replace_free(bench, *old, *new),
-        Edit::Move { op, place } => move_free(bench, *op, *place),
-        Edit::Erase { op } => erase_free(bench, *op),
-        _ => carry_one(bench, edit),
-    }
-}
-
-fn replace_free<L: Analysis>(bench: &mut Bench<L>, old: Value, new: Value) -> Result<(), Refusal>
-    requires { edit_reason (edit_meaning bench.old.transaction.ctx (edit.Replace old new)) (module_held bench.old.transaction) ≡ None }
-    ensures tried { Tried (edit_meaning bench.old.transaction.ctx (edit.Replace old new)) result (module_held bench.old.transaction)
-        (module_held bench.new.transaction) }
-    ensures along { Along L.meaning bench.old bench.new }
-    ensures journal { JournalAfter L.meaning result bench.old bench.new }
-{
-    bench.replace_unchecked(old, new)
-}
-
-fn move_free<L: Analysis>(bench: &mut Bench<L>, op: OpId, place: Place) -> Result<(), Refusal>
-    requires { edit_reason (edit_meaning bench.old.transaction.ctx (edit.Move op place)) (module_held bench.old.transaction) ≡ None }
-    ensures tried { Tried (edit_meaning bench.old.transaction.ctx (edit.Move op place)) result (module_held bench.old.transaction)
-        (module_held bench.new.transaction) }
-    ensures along { Along L.meaning bench.old bench.new }
-    ensures journal { JournalAfter L.meaning result bench.old bench.new }
-{
-    bench.move_unchecked(op, place)
-}
-
-fn erase_free<L: Analysis>(bench: &mut Bench<L>, op: OpId) -> Result<(), Refusal>
-    requires { edit_reason (edit_meaning bench.old.transaction.ctx (edit.Erase op)) (module_held bench.old.transaction) ≡ None }
-    ensures tried { Tried (edit_meaning bench.old.transaction.ctx (edit.Erase op)) result (module_held bench.old.transaction)
-        (module_held bench.new.transaction) }
-    ensures along { Along L.meaning bench.old bench.new }
-    ensures journal { JournalAfter L.meaning result bench.old bench.new }
-{
-    bench.erase_unchecked(op)
 }

@@ -1,7 +1,7 @@
 use Rattle.rewriter.proofs.Noted.{keeps_left}
 use Rattle.patterns_lowering.proofs.Carrying.{Begun, Closed, kept_along, noted_whole, recorded_back, undone_along}
 use Rattle.patterns_lowering.proofs.Freely.{begun_free}
-use Rattle.patterns_lowering.proofs.apply_edits.apply_unchecked.Goals as goal
+use Rattle.patterns_lowering.proofs.apply_unchecked.apply_unchecked.Goals as goal
 
 pub returns-in-Ok-clause-along : goal.returns-in-Ok-clause-along
 returns-in-Ok-clause-along g c =
