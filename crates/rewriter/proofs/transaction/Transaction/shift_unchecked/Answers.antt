@@ -12,8 +12,8 @@ invariant_of-self-2 c =
     let h : TransactionModel = record { ctx = w.ctx; store = w.store; journal = c.self.inside.journal.items; marks = c.self.inside.marks.items } in
     let is : IsStoreOf w.ctx w.store = record { context = c.sound.ensures; sound = w.sound; wellformed = w.wellformed; held = w.held } in
     let kept : c.note.new.journal.items ≡ noted_as h.marks h.journal c.shift_unchecked-made.result = search rules in
-    let made : Made h (after_shift c.args.op c.args.place w.store) c.shift_unchecked-made.new.self.store c.shift_unchecked-made.result = shift_made h c.self.invariant is c.shift_unchecked-made.new.self.ctx c.shift_unchecked-made.ensures.ctx c.shift_unchecked-made.new.self.store c.args.op c.args.place c.shift_unchecked-made.result c.shift_unchecked-made.ensures.step c.shift_unchecked-made.ensures.store c.shift_unchecked-made.ensures.err in
-    made_good h c.self.invariant (after_shift c.args.op c.args.place w.store) c.shift_unchecked-made.new.self.store c.shift_unchecked-made.result made c.shift_unchecked-made.new.self.ctx c.note.new.journal.items c.shift_unchecked-made.ensures.ctx kept
+    let made : Made h (after_shift c.args.op c.args.place w.store) c.shift_unchecked-made.new.world.store c.shift_unchecked-made.result = shift_made h c.self.invariant is c.shift_unchecked-made.new.world.ctx c.shift_unchecked-made.ensures.ctx c.shift_unchecked-made.new.world.store c.args.op c.args.place c.shift_unchecked-made.result c.shift_unchecked-made.ensures.step c.shift_unchecked-made.ensures.store c.shift_unchecked-made.ensures.err in
+    made_good h c.self.invariant (after_shift c.args.op c.args.place w.store) c.shift_unchecked-made.new.world.store c.shift_unchecked-made.result made c.shift_unchecked-made.new.world.ctx c.note.new.journal.items c.shift_unchecked-made.ensures.ctx kept
 
 pub returns-clause-ok : goal.returns-clause-ok
 returns-clause-ok c =
@@ -21,8 +21,8 @@ returns-clause-ok c =
     let h : TransactionModel = record { ctx = w.ctx; store = w.store; journal = c.self.inside.journal.items; marks = c.self.inside.marks.items } in
     let is : IsStoreOf w.ctx w.store = record { context = c.sound.ensures; sound = w.sound; wellformed = w.wellformed; held = w.held } in
     let kept : c.note.new.journal.items ≡ noted_as h.marks h.journal c.shift_unchecked-made.result = search rules in
-    let made : Made h (after_shift c.args.op c.args.place w.store) c.shift_unchecked-made.new.self.store c.shift_unchecked-made.result = shift_made h c.self.invariant is c.shift_unchecked-made.new.self.ctx c.shift_unchecked-made.ensures.ctx c.shift_unchecked-made.new.self.store c.args.op c.args.place c.shift_unchecked-made.result c.shift_unchecked-made.ensures.step c.shift_unchecked-made.ensures.store c.shift_unchecked-made.ensures.err in
-    rw (← c.self.view_is) (made_edited h c.self.invariant (after_shift c.args.op c.args.place w.store) c.shift_unchecked-made.new.self.store c.shift_unchecked-made.result made c.shift_unchecked-made.new.self.ctx c.note.new.journal.items c.shift_unchecked-made.ensures.ctx kept)
+    let made : Made h (after_shift c.args.op c.args.place w.store) c.shift_unchecked-made.new.world.store c.shift_unchecked-made.result = shift_made h c.self.invariant is c.shift_unchecked-made.new.world.ctx c.shift_unchecked-made.ensures.ctx c.shift_unchecked-made.new.world.store c.args.op c.args.place c.shift_unchecked-made.result c.shift_unchecked-made.ensures.step c.shift_unchecked-made.ensures.store c.shift_unchecked-made.ensures.err in
+    rw (← c.self.view_is) (made_edited h c.self.invariant (after_shift c.args.op c.args.place w.store) c.shift_unchecked-made.new.world.store c.shift_unchecked-made.result made c.shift_unchecked-made.new.world.ctx c.note.new.journal.items c.shift_unchecked-made.ensures.ctx kept)
 
 pub returns-clause-refused : goal.returns-clause-refused
 returns-clause-refused c = never_refused c.shift_unchecked-made.result c.shift_unchecked-made.ensures.done
@@ -30,4 +30,4 @@ returns-clause-refused c = never_refused c.shift_unchecked-made.result c.shift_u
 pub returns-clause-tidy : goal.returns-clause-tidy
 returns-clause-tidy c =
     let w = c.self.inside.world in
-    rw (← c.self.view_is) (λ t. tidy_if w.store c.shift_unchecked-made.new.self.store (after_shift c.args.op c.args.place w.store) c.shift_unchecked-made.result c.shift_unchecked-made.ensures.store c.shift_unchecked-made.ensures.err t (λ t. t))
+    rw (← c.self.view_is) (λ t. tidy_if w.store c.shift_unchecked-made.new.world.store (after_shift c.args.op c.args.place w.store) c.shift_unchecked-made.result c.shift_unchecked-made.ensures.store c.shift_unchecked-made.ensures.err t (λ t. t))
