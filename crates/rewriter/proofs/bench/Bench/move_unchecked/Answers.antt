@@ -13,7 +13,7 @@ pub returns-in-Err-clause-led : goal.returns-in-Err-clause-led
 returns-in-Err-clause-led g c = rw (← c.self.view_is) (led_left g.L.Analysis.meaning _ _ _ c.in-Err.ensures.err)
 
 pub returns-in-Ok-clause-does : goal.returns-in-Ok-clause-does
-returns-in-Ok-clause-does g c = rw (← c.self.view_is) (edit_goes g.L.Analysis.meaning (edit.Move c.args.op c.args.place) _ _ _ _ refl c.requires refl (made_told g.L.Analysis.meaning _ _ _ _ _ c.world.result.now _ _ c.in-Ok.ensures.ok c.world.ensures.ctx c.world.ensures.store c.tell.ensures c.settle.ensures))
+returns-in-Ok-clause-does g c = rw (← c.self.view_is) (edit_goes g.L.Analysis.meaning (edit.Move c.args.op c.args.place) _ _ _ _ refl (rw (← c.self.view_is) at c.requires) refl (made_told g.L.Analysis.meaning _ _ _ _ _ c.world.result.now _ _ c.in-Ok.ensures.ok c.world.ensures.ctx c.world.ensures.store c.tell.ensures c.settle.ensures))
 
 pub returns-in-Err-clause-does : goal.returns-in-Err-clause-does
 returns-in-Err-clause-does g c = rw (← c.self.view_is) (refused_marked g.L.Analysis.meaning (edit.Move c.args.op c.args.place) _ _ _ _ (inr c.in-Err.ensures.refused) c.in-Err.ensures.err)
@@ -29,3 +29,6 @@ returns-in-Err-clause-ctx g c = rw (← c.self.view_is) (ap (λ (h : Transaction
 
 pub returns-in-Err-clause-journal : goal.returns-in-Err-clause-journal
 returns-in-Err-clause-journal g c = rw (← c.self.view_is) (recorded_left _ _ c.in-Err.ensures.err)
+
+pub shift_unchecked-requires : goal.shift_unchecked-requires
+shift_unchecked-requires g c = rw (← c.self.view_is) at c.requires

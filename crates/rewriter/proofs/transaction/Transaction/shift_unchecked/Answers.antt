@@ -31,3 +31,6 @@ pub returns-clause-tidy : goal.returns-clause-tidy
 returns-clause-tidy c =
     let w = c.self.inside.world in
     rw (← c.self.view_is) (λ t. tidy_if w.store c.shift_unchecked-made.new.world.store (after_shift c.args.op c.args.place w.store) c.shift_unchecked-made.result c.shift_unchecked-made.ensures.store c.shift_unchecked-made.ensures.err t (λ t. t))
+
+pub shift_unchecked-made-requires : goal.shift_unchecked-made-requires
+shift_unchecked-made-requires c = rw (← c.self.view_is) at c.requires
