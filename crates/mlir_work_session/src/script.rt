@@ -21,7 +21,7 @@ use crate::notes::{Note, explained};
 use crate::options::SessionOptions;
 use crate::pattern_commands::answer_command;
 use crate::reply::Reply;
-use crate::rule_lists::run_list_command;
+use crate::why_patterns::run_named_command;
 use ir_event::analysis::Analysis;
 use ir_event::types::refusal::Refusal;
 use mlir_work_script::command::{Command, Line, read_line};
@@ -113,7 +113,7 @@ fn answer_session_command<L: AnalysisSource>(
     ensures kept { AgreesOrStale L.meaning bench.new }
     ensures mode { bench.new.transaction.ctx.opaque ≡ bench.old.transaction.ctx.opaque }
 {
-    let answered = run_list_command(alloc, session_options, bench, registry, session_command);
+    let answered = run_named_command(alloc, session_options, bench, registry, session_command);
     ShownResponse {
         notice: Response::RewriterReply(answered.reply),
         shows: answered.shows,

@@ -182,7 +182,7 @@ fn match_all(
 }
 
 /// Returns the place of the first pattern op on the left.
-pub(crate) fn old_begins(pattern: &Pattern) -> u128
+pub fn old_begins(pattern: &Pattern) -> u128
     ensures place { result ≡ old_place (pattern_model pattern.now) }
     ensures below { result < 2 ^ 100 }
 {
