@@ -18,6 +18,7 @@ use Rattle.user_patterns_data.specs.Matching.{Header, Standing, standing, when, 
 use Rattle.user_patterns_data.specs.Planning.{Plan, all_made, constants_known, extra_known, extra_place, kind_standing, new_place, outcomes, planned_by, planned_from, typed}
 use Rattle.user_patterns_data.specs.Shapes.{PatternModel}
 use Rattle.user_patterns_apply.specs.Built.{AreAllMade, as_operands, made_in, operand_in, operands_in}
+use Rattle.user_patterns_apply.specs.Mismatches.{typed_tests, typed_tests_over}
 use Rattle.user_patterns_apply.specs.Stands.{Stands}
 use Rattle.user_patterns_apply.specs.Types.{AreTypesOf, type_in, typed_over, types_in, written_of}
 use Rattle.user_patterns_apply.specs.declared.rewrite_plan.NewOp.{NewOp}
@@ -69,6 +70,9 @@ written_in c (kind.Variable v ∷ ks) = ap (λ z. written (kind.Variable v) ∷ 
 module _ (t : Operation) (verified : Header → Bool) (n : ℕ) (p : PatternModel) (b : Standing Value) (c : ContextModel) (old new : List (Option BoundType)) (is : old ≡ map written_of p.value_types) (r : Bool) (stands : Stands (typed_over t verified p b (types_in c old)) (types_in c new) r) where
   typed_is : typed_over t verified p b (types_in c old) ≡ typed t verified n p b
   typed_is = ap (typed_over t verified p b) (ap (types_in c) is ∙ written_in c p.value_types)
+
+  pub typed_tests_are : typed_tests_over t verified p b (types_in c old) ≡ typed_tests t verified p b
+  typed_tests_are = ap (typed_tests_over t verified p b) (ap (types_in c) is ∙ written_in c p.value_types)
 
   pub untyped_plan : r ≡ false → None ≡ typed t verified n p b
   untyped_plan e = sym (stands_no (typed_over t verified p b (types_in c old)) (types_in c new) r stands e) ∙ typed_is

@@ -66,29 +66,34 @@ each f m (x ∷ xs) = first_of (unless (f x) (m x)) (each f m xs)
 
 -- ---- operations, the root first
 
+-- the index, if a value can't be bound, or a later index
+abbrev pub or_index : ℕ → Option (Standing Value) → (Standing Value → Option ℕ) → Option ℕ
+or_index i None f = Some i
+or_index i (Some c) f = f c
+
 -- the index of the first operand that can't be bound at its place; the first operand has index i
 abbrev pub first_unbound : ℕ → List ℕ → List Value → Standing Value → Option ℕ
-abbrev pub unbound_after : ℕ → List ℕ → List Value → Option (Standing Value) → Option ℕ
 first_unbound i [] [] b = None
 first_unbound i [] (v ∷ vs) b = Some i
 first_unbound i (k ∷ ks) [] b = Some i
-first_unbound i (k ∷ ks) (v ∷ vs) b = unbound_after i ks vs (bound same_value k v b)
-unbound_after i ks vs None = Some i
-unbound_after i ks vs (Some c) = first_unbound (i + 1) ks vs c
+first_unbound i (k ∷ ks) (v ∷ vs) b = or_index i (bound same_value k v b) (first_unbound (i + 1) ks vs)
 
 abbrev pub operand_test : ℕ → Option ℕ → Test
 operand_test k None = None
 operand_test k (Some i) = Some (fails.Operand k i)
 
 module _ (t : Operation) where
-  -- an operation has the name of the pattern op at place k, its predicate, no flags if it needs none, and its operands
-  abbrev pub header_tests : ℕ → PatternOp → Header → Standing Value → Test
-  header_tests k p h b = first_failing (
-      unless (named (name_of p.form) h.name) (fails.Operation k)
-      ∷ unless (predicate_is t any (predicate_of p.form) (property_of (codes "predicate") h.properties)) (fails.Predicate k)
+  -- an operation has the predicate of the pattern op at place k, no flags if the pattern op needs none, and its operands
+  abbrev pub asked_tests : ℕ → PatternOp → Header → Standing Value → Test
+  asked_tests k p h b = first_failing (
+      unless (predicate_is t any (predicate_of p.form) (property_of (codes "predicate") h.properties)) (fails.Predicate k)
       ∷ unless (not p.bare || are_none (next_to (codes "overflowFlags") h.properties)) (fails.Flags k)
       ∷ operand_test k (first_unbound 0 (operands_of p.form) h.operands b)
       ∷ [])
+
+  -- an operation has the name of the pattern op, and passes the other tests
+  abbrev pub header_tests : ℕ → PatternOp → Header → Standing Value → Test
+  header_tests k p h b = first_of (unless (named (name_of p.form) h.name) (fails.Operation k)) (asked_tests k p h b)
 
   -- an operation defines the value at the place, and passes
   abbrev pub op_tests : ℕ × PatternOp → Standing Value → Test
@@ -179,12 +184,15 @@ module _ (t : Operation) (verified : Header → Bool) (n : ℕ) (p : PatternMode
   abbrev pub plan_tests : ℕ → Test
   plan_tests x = first_of (matched_tests t p x) (on_value (matched t any p x) values_tests)
 
+abbrev pub tests_at : Bool → Option Place → Test
+tests_at single point = first_failing (
+    unless single fails.Results
+    ∷ unless (is_some point) fails.IsRoot
+    ∷ [])
+
 -- the operation has one result and isn't the root
 abbrev pub point_tests : ℕ → Operation → Test
-point_tests x t = with_value (find x t) fails.Results (λ o. first_failing (
-    unless (is_one (head o).results) fails.Results
-    ∷ unless (is_some (insertion_of x t)) fails.IsRoot
-    ∷ []))
+point_tests x t = with_value (find x t) fails.Results (λ o. tests_at (is_one (head o).results) (insertion_of x t))
 
 -- the place just before such an operation
 abbrev pub point_of : ℕ → Operation → Option Place
