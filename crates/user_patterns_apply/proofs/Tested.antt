@@ -13,10 +13,12 @@ use Rattle.ir_event.specs.trees.Meaning.{Operation}
 use Rattle.ir_event.specs.Modules.{Module}
 use Rattle.patterns_base.specs.Looks.{Header, insertion_of, is_verified}
 use Rattle.patterns_matchers.specs.Reads.{head_at}
+use Rattle.user_patterns_check.specs.Checks as check
 use Rattle.user_patterns_check.specs.Contents.{Content}
 use Rattle.user_patterns_check.specs.Outcomes.{Outcome, given, run, step_of}
 use Rattle.user_patterns_check.specs.declared.step.Step.{Step}
 use Rattle.user_patterns_data.specs.declared.pattern.ExtraConstant.{ExtraConstant}
+use Rattle.user_patterns_data.specs.declared.pattern.PatternOp.{PatternOp}
 use Rattle.user_patterns_data.specs.Fitting.{content_with, fits}
 use Rattle.user_patterns_data.specs.Matching.{Standing, placed, standing, when}
 use Rattle.user_patterns_data.specs.Planning.{all_made, are_same, constants_known, extra_known, extra_place, kind_standing, known_at, new_place, old_place, outcomes, typed}
@@ -25,6 +27,7 @@ use Rattle.user_patterns_build.specs.CanBuild.{can_build}
 use Rattle.user_patterns_apply.specs.Built.{AllMade}
 use Rattle.user_patterns_apply.specs.Matched.{all_verified, any, is_constant_value, is_verified_value, matched}
 use Rattle.user_patterns_apply.specs.Mismatches.{Test, constants_tests, each, extra_tests, first_failing, first_of, fitting_tests, fitting_tests_at, known_tests, matched_tests, on_value, plan_tests, planned_tests, point_of, point_tests, steps_tests, typed_tests, unless, values_tests, verified_tests, with_value}
+use Rattle.user_patterns_apply.proofs.Planned.{ran}
 use Rattle.user_patterns_apply.specs.Own.{is_one}
 use Rattle.user_patterns_apply.specs.declared.mismatch.Mismatch.{Mismatch}
 use Rattle.user_patterns_apply.specs.declared.mismatch.Mismatch.TheVariants as fails
@@ -60,6 +63,19 @@ extra_all t verified n p k (f ∷ fs) b env = go (are_same (known_at t verified 
     go true = extra_all t verified n p (k + 1) fs b env
     go false = refl
 
+module _ (t : Operation) (verified : Header → Bool) (n : ℕ) (p : PatternModel) where
+  pub extra_by : (b : Standing Value) (env : List Outcome) (m : Test) → m ≡ extra_tests t verified n p (extra_place p) p.extra b env → is_none m ≡ extra_known t verified n p (extra_place p) p.extra b env
+  extra_by b env m e = ap is_none e ∙ extra_all t verified n p (extra_place p) p.extra b env
+
+  pub known_by : (b : Standing Value) (m : Test) → m ≡ known_tests t verified n p b → is_none m ≡ constants_known t verified n p b
+  known_by b m e = ap is_none e ∙ each_all (λ k. is_some (known_at t verified n p b k)) (λ k. fails.Unknown k) p.constants
+
+  pub constants_by : (ks : List ℕ) (b : Standing Value) (m : Test) → m ≡ constants_tests t ks b → is_none m ≡ list_all (λ (k : ℕ). is_constant_value t (standing k b)) ks
+  constants_by ks b m e = ap is_none e ∙ each_all (λ (k : ℕ). is_constant_value t (standing k b)) (λ k. fails.Constant k) ks
+
+  pub verified_by : (ps : List (ℕ × PatternOp)) (b : Standing Value) (m : Test) → m ≡ verified_tests t verified ps b → is_none m ≡ all_verified t verified b ps
+  verified_by ps b m e = ap is_none e ∙ each_all (λ (p : ℕ × PatternOp). is_verified_value t verified (standing p.0 b)) (λ p. fails.NotVerified p.0) ps
+
 -- ---- steps, one at a time
 
 module _ (s : Step) (ss : List Step) (env new : List Outcome) where
@@ -90,6 +106,10 @@ module _ (s : Step) (ss : List Step) (env new : List Outcome) where
       go : (o : Option Outcome) → given o (λ v. Some (env ++ (v ∷ []))) ≡ None → Some (fails.Condition i) ≡ with_value o (fails.Condition i) (λ v. steps_tests (i + 1) ss (env ++ (v ∷ [])))
       go None e = refl
       go (Some v) e = absurd cc
+
+-- the steps ran from these outcomes
+pub ran_is : (ss : List Step) (env total : List Outcome) → env ≡ total → (after : List Outcome) (done : Bool) → check.Stands (run ss env) after done → done ≡ true → run ss total ≡ Some after
+ran_is ss env total is after done stands e = sym (ap (run ss) is) ∙ ran (run ss env) after done stands e
 
 -- ---- the tests of a plan
 
