@@ -208,7 +208,7 @@ class Tests:
 
 
 def reason(pattern, module, number):
-    """The text of the first test of a pattern that fails at an operation of a module, or none if the pattern applies."""
+    """The text of the first test of a pattern that fails at an operation of a module, or none if it applies."""
     try:
         Tests(pattern, module, number).run()
     except Failed as failed:

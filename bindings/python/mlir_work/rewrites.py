@@ -34,8 +34,8 @@ class Traced(NamedTuple):
 
 class Reason(NamedTuple):
     """Why a rule or a user pattern doesn't apply at an operation: the number and the word of the rule, and the word of
-    the first of its conditions that doesn't hold, or `applies`. For a pattern there is no number, and `word` is its
-    name; `said` is the text of the first test that fails, as `operand 1 expected arith.constant found arith.addi #3`."""
+    the first of its conditions that doesn't hold, or `applies`. For a pattern there is no number, `word` is its name,
+    and `said` is the first test that fails, as `operand 1 expected arith.constant found arith.addi #3`."""
 
     rule: Optional[int]
     word: str
