@@ -1,9 +1,17 @@
 //! Runs session commands on a rewriter with a pattern registry. A `why` that names a registered pattern says why the
 //! pattern doesn't match.
+ghost use Rattle.std.specs.Prelude.{◌≡◌, option_map};
+ghost use Rattle.mlir_work_script.specs.SessionCommands.{order_of};
+ghost use Rattle.mlir_work_transforms.specs.rewriter.RewriterCalls.{AgreesOrStale, state_of};
+ghost use Rattle.mlir_work_transforms.specs.registry.Registry.{kept_view, registry_model};
+ghost use Rattle.mlir_work_session.specs.Machine.{response_of, session_setting};
+ghost use Rattle.mlir_work_session.specs.WhyPatterns.{RunsNamedCommand, TellsPattern, asked_pattern};
+
 use crate::options::SessionOptions;
 use crate::reply::Reply;
 use crate::rule_lists::run_list_command;
 use crate::shows::{ShownReply, reply_only};
+use crate::why::is_in;
 use ir_event::analysis::Analysis;
 use ir_event::types::ids::OpId;
 use ir_event::types::refusal::Refusal;
@@ -20,6 +28,7 @@ fn asked_pattern<'a>(
     registry: &'a PatternRegistry,
     session_command: &SessionCommand<'_>,
 ) -> Option<(&'a RegisteredPattern, OpId)>
+    ensures { option_map (λ p. (kept_view p.0.now, p.1)) result ≡ asked_pattern (order_of session_command.now) (registry_model registry.now) }
 {
     match session_command {
         SessionCommand::Why {
@@ -40,9 +49,10 @@ fn why_pattern<L: Analysis>(
     bench: &Bench<L>,
     found: (&RegisteredPattern, OpId),
 ) -> ShownReply
+    ensures { TellsPattern (kept_view found.entry.0.now) found.entry.1 (state_of L.meaning bench.now) (response_of result.reply) result.shows.items (state_of L.meaning bench.now) }
 {
     let world = bench.world();
-    if !world.store.in_tree(found.1) {
+    if !is_in(world, found.1) {
         return reply_only(alloc, Reply::Refused(Refusal::NoSuchOp));
     }
     match pattern_failure(alloc, world, found.1, found.0) {
@@ -62,6 +72,10 @@ pub fn run_named_command<L: AnalysisSource>(
     registry: &PatternRegistry,
     session_command: &SessionCommand<'_>,
 ) -> ShownReply
+    requires { AgreesOrStale L.meaning bench.old }
+    ensures fulfils { RunsNamedCommand (session_setting L.supply session_options.now) (registry_model registry.now) (asked_pattern (order_of session_command.now) (registry_model registry.now)) (state_of L.meaning bench.old) (order_of session_command.now) (response_of result.reply) result.shows.items (state_of L.meaning bench.new) }
+    ensures kept { AgreesOrStale L.meaning bench.new }
+    ensures mode { bench.new.transaction.ctx.opaque ≡ bench.old.transaction.ctx.opaque }
 {
     match asked_pattern(registry, session_command) {
         Some(found) => why_pattern(alloc, bench, found),
