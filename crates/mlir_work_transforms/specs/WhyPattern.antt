@@ -2,18 +2,15 @@
 -- expects, and what the module has.
 use Rattle.std.specs.Prelude.{ℕ, zero, suc, ◌+◌, ◌-◌, List, [], ◌∷◌, ◌++◌, length, map, Bool, true, false, nat_le, ◌==◌, Option, Some, None, codes, option_map, option_and_then, slice_get, if◌then◌else◌}
 use Rattle.std.specs.Fmt.{decimal}
-use Rattle.ir_event.specs.types.Terms.{TypeTerm}
 use Rattle.ir_event.specs.types.declared.bits.BitsKind.{BitsKind}
-use Rattle.ir_event.specs.types.WordNames.{word_bytes}
 use Rattle.ir_event.specs.trees.declared.value.Value.{Value}
 use Rattle.ir_event.specs.trees.declared.value.Value.TheVariants.{Result, Arg}
 use Rattle.ir_event.specs.trees.Ids.{find}
 use Rattle.ir_event.specs.trees.Meaning.{Operation}
 use Rattle.ir_event.specs.trees.Tree.{head}
-use Rattle.ir_event.specs.tree_laws.Values.{type_of_value}
 use Rattle.ir_event.specs.Modules.{Module}
 use Rattle.user_patterns_data.specs.Names.{name_of, operands_of, predicate_number, predicate_of}
-use Rattle.user_patterns_data.specs.Matching.{Header, placed}
+use Rattle.user_patterns_data.specs.Matching.{placed}
 use Rattle.user_patterns_data.specs.Planning.{extra_place, old_place}
 use Rattle.user_patterns_data.specs.Shapes.{PatternModel}
 use Rattle.user_patterns_data.specs.declared.pattern.ConstantExpression.{ConstantExpression}
@@ -22,7 +19,7 @@ use Rattle.user_patterns_data.specs.declared.pattern.PatternOp.{PatternOp}
 use Rattle.user_patterns_data.specs.declared.pattern.PatternType.{PatternType}
 use Rattle.user_patterns_data.specs.declared.pattern.PatternType.TheVariants as kinds
 use Rattle.greedy.specs.own.Mismatches.{own_mismatch}
-use Rattle.greedy.specs.own.Numbers.{Known, known_number, numbers_at, predicate_at}
+use Rattle.greedy.specs.own.Numbers.{found_number, kind_at, numbers_in, predicate_at}
 use Rattle.greedy.specs.own.declared.mismatch.Mismatch.{Mismatch}
 use Rattle.greedy.specs.own.declared.mismatch.Mismatch.TheVariants as fails
 use Rattle.mlir_work_registry.specs.Rows.{kind_text, value_text as number_text}
@@ -108,8 +105,11 @@ predicate_word (Some 8) = codes "ugt"
 predicate_word (Some 9) = codes "uge"
 predicate_word _ = codes "none"
 
--- a number with its type, or `none`
-abbrev pub known_text : Option Known → List ℕ
+-- a number with its kind, or none
+abbrev pub Number : Type 0
+Number = Option (BitsKind × ℕ)
+
+abbrev pub known_text : Number → List ℕ
 known_text None = codes "none"
 known_text (Some k) = number_text k.0 k.1
 
@@ -157,54 +157,88 @@ module _ (p : PatternModel) (m : Module) (x : ℕ) where
       count (Some o) = length (operands_of o.form)
   operands_text k i (Some j) (Some v) = operand_text i ++ expected_text (value_or (there j)) (value_text v)
 
-  abbrev env : List (Option Known)
-  env = numbers_at p m x
+  -- the numbers of the variables, and the first computed ones
+  abbrev env : ℕ → List Number
+  env most = numbers_in m p x most
 
-  abbrev number_at : ℕ → List ℕ
-  number_at k = known_text (option_and_then (λ z. z) (slice_get (numbers_at p m x) k))
+  abbrev number_at : ℕ → ℕ → List ℕ
+  number_at most k = known_text (option_and_then (λ z. z) (slice_get (env most) k))
+
+  abbrev found_or : Value → Number → List ℕ
+  found_or v None = thing_text m.tree (Some v)
+  found_or v (Some k) = number_text k.0 k.1
 
   abbrev found_text : Option Value → List ℕ
   found_text None = []
-  found_text (Some v) = over (known_number m v)
-    where
-      over : Option Known → List ℕ
-      over None = thing_text m.tree (Some v)
-      over (Some k) = number_text k.0 k.1
+  found_text (Some v) = found_or v (found_number m.tree v)
 
   -- a condition with its numbers
-  abbrev comparison_text : Option ConstantExpression → List ℕ
-  comparison_text (Some (number.Compare o i j)) = predicate_word (Some (predicate_number o)) ++ (codes "(" ++ (number_at i ++ (codes ", " ++ number_at j)))
-  comparison_text _ = []
+  abbrev comparison_text : ℕ → Option ConstantExpression → List ℕ
+  comparison_text most (Some (number.Compare o i j)) = predicate_word (Some (predicate_number o)) ++ (codes "(" ++ (number_at most i ++ (codes ", " ++ number_at most j)))
+  comparison_text most _ = []
 
   abbrev given_at : ℕ → Option ConstantExpression
   given_at k = if nat_le (extra_place p + length p.extra) k then slice_get p.given (k - (extra_place p + length p.extra)) else None
 
-  abbrev condition_text : Option ConstantExpression → List ℕ
-  condition_text None = []
-  condition_text (Some (number.Log2 k)) = codes "where " ++ (codes "power_of_two(" ++ (number_at k ++ codes ")"))
-  condition_text (Some (number.Require k)) = codes "where " ++ (comparison_text (given_at k) ++ codes ")")
-  condition_text (Some _) = codes "where )"
+  abbrev condition_text : ℕ → Option ConstantExpression → List ℕ
+  condition_text most None = []
+  condition_text most (Some (number.Log2 k)) = codes "where " ++ (codes "power_of_two(" ++ (number_at most k ++ codes ")"))
+  condition_text most (Some (number.Require k)) = codes "where " ++ (comparison_text most (given_at k) ++ codes ")")
+  condition_text most (Some _) = codes "where )"
+
+  -- ---- types
+
+  -- the number of the type at a place
+  abbrev type_number : ℕ → Option ℕ
+  type_number k = if nat_le (old_place p) k then option_map PatternOp.ty (pattern_op_at k) else slice_get p.values k
+
+  -- the first place with a type number, among the variables and then among the matched operations
+  abbrev first_in : ℕ → ℕ → List ℕ → Option ℕ
+  first_in k n [] = None
+  first_in k n (ty ∷ tys) = if ty == n then Some k else first_in (k + 1) n tys
+
+  abbrev or_place : Option ℕ → Option ℕ → ℕ
+  or_place (Some k) other = k
+  or_place None (Some k) = k
+  or_place None None = 0
+
+  abbrev first_with : ℕ → ℕ
+  first_with n = or_place (first_in 0 n p.values) (first_in (old_place p) n (map PatternOp.ty p.old))
+
+  abbrev kind_or : Option BitsKind → List ℕ
+  kind_or None = codes "another"
+  kind_or (Some k) = kind_text k
+
+  -- the type of a value
+  abbrev type_text : Option Value → List ℕ
+  type_text None = []
+  type_text (Some v) = kind_or (kind_at m.tree v)
+
+  abbrev bound_type_text : ℕ → Option PatternType → List ℕ
+  bound_type_text n None = []
+  bound_type_text n (Some (kinds.Concrete k)) = kind_text k
+  bound_type_text n (Some (kinds.Variable v)) = type_text (there (first_with n))
+
+  abbrev wanted_type_text : Option ℕ → List ℕ
+  wanted_type_text None = []
+  wanted_type_text (Some n) = bound_type_text n (slice_get p.value_types n)
+
+  -- ---- words
 
   -- the first failing test in words
   abbrev pub mismatch_text : Option Mismatch → List ℕ
   mismatch_text None = codes "applies"
   mismatch_text (Some (fails.Operation k)) = other_text k (name_text (pattern_op_at k))
-  mismatch_text (Some (fails.Predicate k)) = path k ++ expected_text (asked_predicate (pattern_op_at k)) (predicate_word (predicate_at m (there k)))
+  mismatch_text (Some (fails.Predicate k)) = path k ++ expected_text (asked_predicate (pattern_op_at k)) (predicate_word (predicate_at m.tree (there k)))
   mismatch_text (Some (fails.Flags k)) = path k ++ codes "expected none found overflowFlags"
   mismatch_text (Some (fails.Operand k i)) = path k ++ operands_text k i (option_and_then (λ o. slice_get (operands_of o.form) i) (pattern_op_at k)) (slice_get (operands_at m.tree (there k)) i)
   mismatch_text (Some (fails.Constant k)) = other_text k (codes "arith.constant")
   mismatch_text (Some (fails.NotVerified k)) = other_text k (codes "verified")
   mismatch_text (Some (fails.Unknown k)) = other_text k (codes "verified")
-  mismatch_text (Some (fails.Type k)) = path k ++ types_text k
-    where
-      type_number : ℕ → Option ℕ
-      type_number k = if nat_le (old_place p) k then option_map PatternOp.ty (pattern_op_at k) else slice_get p.values k
-
-      types_text : ℕ → List ℕ
-      types_text k = []
+  mismatch_text (Some (fails.Type k)) = path k ++ expected_text (wanted_type_text (type_number k)) (type_text (there k))
   mismatch_text (Some fails.Types) = codes "other-type"
-  mismatch_text (Some (fails.Number k)) = path k ++ expected_text (number_at k) (found_text (there k))
-  mismatch_text (Some (fails.Condition i)) = condition_text (if nat_le (length p.extra) i then slice_get p.given (i - length p.extra) else None)
+  mismatch_text (Some (fails.Number k)) = path k ++ expected_text (number_at (length p.extra) k) (found_text (there k))
+  mismatch_text (Some (fails.Condition i)) = condition_text i (if nat_le (length p.extra) i then slice_get p.given (i - length p.extra) else None)
   mismatch_text (Some fails.Unbuildable) = codes "unbuildable"
   mismatch_text (Some fails.Results) = codes "results"
   mismatch_text (Some fails.IsRoot) = codes "root"

@@ -11,7 +11,7 @@ use greedy::own::match_pattern::find_mismatch;
 use greedy::own::mismatch::Mismatch;
 use greedy::own::names::{predicate_number, word_of};
 use greedy::own::nodes::op_node;
-use greedy::own::numbers::numbers_at;
+use greedy::own::pattern_numbers::numbers_at;
 use greedy::own::predicates::predicate;
 use ir_event::trees::value::Value;
 use ir_event::types::bits::Bits;
@@ -178,7 +178,7 @@ fn write_numbers(
     place: u128,
 ) -> Result<(), AllocError> {
     let value = write_path(at.world, at.pattern, at.op, place, text)?;
-    let env = numbers_at(alloc, at.world, at.pattern, at.op)?;
+    let env = numbers_at(alloc, at.world, at.pattern, at.op, at.pattern.extra.len())?;
     text.extend_from_slice(b"expected ")?;
     write_number_at(text, &env, place)?;
     text.extend_from_slice(b" found ")?;
@@ -246,7 +246,7 @@ fn write_false(
     if index < extra || index - extra >= at.pattern.given.len() {
         return Ok(());
     }
-    let env = numbers_at(alloc, at.world, at.pattern, at.op)?;
+    let env = numbers_at(alloc, at.world, at.pattern, at.op, index)?;
     write_condition(
         text,
         at.pattern,

@@ -4,4 +4,5 @@ pub mod Stands
 pub mod Types
 pub mod Matched
 pub mod Mismatches
+pub mod Numbers
 pub mod Built

@@ -100,7 +100,7 @@ fn run_steps(steps: &[Step], env: &mut Vec<Option<Bits>>) -> Result<Option<Misma
 }
 
 /// Appends the numbers that the pattern computes to those of its variables. Returns the first test that fails.
-pub(crate) fn run_given(
+fn run_given(
     alloc: Global,
     value_types: &[BitsKind],
     pattern: &Pattern,
