@@ -1,4 +1,10 @@
 //! Where a user pattern uses a value: the path from the root of a match to the value, by operand indices.
+ghost use Rattle.std.specs.Prelude.{◌≡◌, ◌++◌, ◌+◌, IfOk, OnOk};
+ghost use Rattle.ir_event.specs.Modules.{module_in};
+ghost use Rattle.user_patterns_data.specs.Names.{operands_of};
+ghost use Rattle.user_patterns_data.specs.Shapes.{pattern_model};
+ghost use Rattle.mlir_work_transforms.specs.WhyPattern.{index_of, operand_text, path_text, value_at};
+
 use greedy::own::match_ops::old_begins;
 use greedy::own::nodes::op_node;
 use ir_event::trees::value::Value;
@@ -12,7 +18,9 @@ use user_patterns_data::pattern::{Expression, Pattern};
 const MOST_LEVELS: u32 = 4;
 
 /// Returns the index of the operand at `place`, or `None` if no operand is there.
-fn operand_index(form: &Expression, place: u128) -> Option<usize> {
+fn operand_index(form: &Expression, place: u128) -> Option<usize>
+    ensures { result ≡ index_of place (operands_of form.now) }
+{
     let (first, second, third) = match form {
         Expression::Binary(_, i, j) => (*i, Some(*j), None),
         Expression::Compare(_, i, j) => (*i, Some(*j), None),
@@ -65,7 +73,9 @@ pub(crate) fn operand_of(world: &World, value: Option<Value>, index: usize) -> O
 }
 
 /// Appends an operand of a path: `operand 1 `.
-pub(crate) fn write_operand(text: &mut Vec<u8>, index: usize) -> Result<(), AllocError> {
+pub(crate) fn write_operand(text: &mut Vec<u8>, index: usize) -> Result<(), AllocError>
+    ensures { OnOk result (text.new.items ≡ text.old.items ++ operand_text index) }
+{
     text.extend_from_slice(b"operand ")?;
     cells::write_number(text, index as u64).map_err(|_| AllocError)?;
     text.extend_from_slice(b" ")
@@ -79,7 +89,10 @@ fn write_path_within(
     place: u128,
     levels: u32,
     text: &mut Vec<u8>,
-) -> Result<Option<Value>, AllocError> {
+) -> Result<Option<Value>, AllocError>
+    ensures path { OnOk result (text.new.items ≡ text.old.items ++ path_text (module_in world.now).tree (pattern_model pattern.now) op (levels + 1) place) }
+    ensures value { IfOk result (λ v. v ≡ value_at (module_in world.now).tree (pattern_model pattern.now) op (levels + 1) place) }
+{
     if place == pattern.root as u128 {
         return Ok(Some(Value::Result(op, 0)));
     }

@@ -1,4 +1,10 @@
 //! Says why a user pattern doesn't match at an operation, in one line: the part of the pattern, and what it expects.
+ghost use Rattle.std.specs.Prelude.{◌≡◌, ◌++◌, IfOk, OnOk};
+ghost use Rattle.ir_event.specs.Modules.{module_in};
+ghost use Rattle.user_patterns_data.specs.Shapes.{pattern_model};
+ghost use Rattle.mlir_work_registry.specs.Registry.{kept_view};
+ghost use Rattle.mlir_work_transforms.specs.WhyPattern.{mismatch_text, why_pattern};
+
 use crate::pattern_sites::{operand_of, write_operand, write_path};
 use crate::trace_lines::write_op;
 use crate::why_values::{
@@ -275,7 +281,9 @@ fn write_mismatch(
     alloc: Global,
     at: &Match<'_>,
     mismatch: Option<Mismatch>,
-) -> Result<(), AllocError> {
+) -> Result<(), AllocError>
+    ensures { OnOk result (text.new.items ≡ text.old.items ++ mismatch_text (pattern_model at.now.pattern.now) (module_in at.now.world.now) at.now.op mismatch) }
+{
     match mismatch {
         None => text.extend_from_slice(b"applies"),
         Some(Mismatch::Operation(place)) => write_operation(text, at, place),
@@ -307,7 +315,9 @@ pub fn pattern_failure(
     world: &World,
     op: OpId,
     held: &RegisteredPattern,
-) -> Result<Vec<u8>, AllocError> {
+) -> Result<Vec<u8>, AllocError>
+    ensures { IfOk result (λ text. text.items ≡ why_pattern (kept_view held.now) (module_in world.now) op) }
+{
     let mut text = Vec::new(alloc);
     text.extend_from_slice(b"why ")?;
     write_op(&mut text, op)?;
