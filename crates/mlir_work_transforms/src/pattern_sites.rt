@@ -34,7 +34,11 @@ fn operand_index(form: &Expression, place: u128) -> Option<usize>
     if is_place(second, place) {
         return Some(1);
     }
-    if is_place(third, place) { Some(2) } else { None }
+    if is_place(third, place) {
+        Some(2)
+    } else {
+        None
+    }
 }
 
 fn is_place(operand: Option<usize>, place: u128) -> bool {

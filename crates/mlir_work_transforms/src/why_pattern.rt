@@ -85,17 +85,20 @@ fn write_expected(
     write_thing(text, at.world, value)
 }
 
+/// Returns the number of the predicate that the pattern op at a place asks for.
+fn asked_predicate(pattern: &Pattern, place: u128) -> Option<u128> {
+    let pattern_op = op_at(pattern, place)?;
+    match &pattern_op.form {
+        Expression::Compare(asked, _, _) => Some(predicate_number(*asked)),
+        _ => None,
+    }
+}
+
 /// Appends that an operation has another predicate.
 fn write_predicates(text: &mut Vec<u8>, at: &Match<'_>, place: u128) -> Result<(), AllocError> {
     let value = write_path(at.world, at.pattern, at.op, place, text)?;
     text.extend_from_slice(b"expected ")?;
-    if let Some(PatternOp {
-        form: Expression::Compare(asked, _, _),
-        ..
-    }) = op_at(at.pattern, place)
-    {
-        text.extend_from_slice(predicate_word(Some(predicate_number(*asked))))?;
-    }
+    text.extend_from_slice(predicate_word(asked_predicate(at.pattern, place)))?;
     text.extend_from_slice(b" found ")?;
     text.extend_from_slice(predicate_word(predicate_of(at.world, value)))
 }

@@ -169,12 +169,7 @@ fn match_all(
     let mut left = old.len();
     'old: while left > 0 {
         left -= 1;
-        if let Some(mismatch) = match_pattern_op(
-            world,
-            begins + left as u128,
-            &old[left],
-            values,
-        ) {
+        if let Some(mismatch) = match_pattern_op(world, begins + left as u128, &old[left], values) {
             return Some(mismatch);
         }
     }

@@ -41,7 +41,11 @@ pub fn numbers_at(
     let mut env = outcomes(alloc, world, pattern, &values)?;
     let steps = constant_steps(alloc, &value_types, pattern)?;
     let steps = steps.as_slice();
-    let first = if most < steps.len() { &steps[..most] } else { steps };
+    let first = if most < steps.len() {
+        &steps[..most]
+    } else {
+        steps
+    };
     if run(first, &mut env)? {
         Ok(env)
     } else {

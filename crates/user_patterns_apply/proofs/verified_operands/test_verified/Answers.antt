@@ -19,5 +19,5 @@ old-preserved c =
     let t = (module_in c.args.world.now).tree in record {
       few = omega (arith, c.old.invariant.few);
       same = each_goes t c.args.begins c.args.old.now c.old.left c.old-test.true c.old.invariant.few (λ (p : ℕ × PatternOp). is_verified_value t (is_verified t) (standing p.0 c.args.values.now)) (λ p. fails.NotVerified p.0) _ some_pattern_op c.old.invariant.same _
-        (c.in_ok-is_verified_value.ensures ∙ ap (is_verified_value t (is_verified t)) c.standing-value.ensures) c.if-not-branch.false;
+          (c.in_ok-is_verified_value.ensures ∙ ap (is_verified_value t (is_verified t)) c.standing-value.ensures) c.if-not-branch.false;
     }
