@@ -188,6 +188,8 @@ def changed(told, rest):
 def row_of_reason(line):
     op, rest = cut(cut(line)[1])
     rule, rest = cut(rest)
+    if not isinstance(number(rule), int):
+        return {"kind": "why", "op": shown(op), "name": shown(rule), "said": shown(rest)}
     word, rest = cut(rest)
     return {"kind": "why", "op": shown(op), "rule": number(rule), "word": shown(word), "said": shown(rest)}
 

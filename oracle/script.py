@@ -2,8 +2,8 @@
 import functools
 import re
 
-from . import (aliases, conversion, edits, everywhere, mixed, pattern_uses, patterns, reasons, rewrites, sampling,
-               unproved)
+from . import (aliases, conversion, edits, everywhere, mixed, pattern_reasons, pattern_uses, patterns, reasons,
+               rewrites, sampling, unproved)
 from .analyses import ANALYSES, KINDS, is_about, rows_of, unreached_ops
 from .culprits import about, about_text
 from .module import ids_text, printing, read, read_attr, read_op, rules, text_of
@@ -231,9 +231,15 @@ class Run:
         return ("converged" if is_done else "limit") + f" {count}", ""
 
     def why(self, text):
-        """Why rules don't apply at an operation: one, or those that there may be at its name."""
+        """Why rules don't apply at an operation: one, or those that there may be at its name; or why a pattern
+        doesn't."""
         words = re.split("[ \t]+", text)
         need(len(words) in (1, 2))
+        if words[1:] and words[1] in self.book:
+            op = op_of(words[0])
+            edits.refuse(20, op not in self.module.ops())
+            told = pattern_reasons.reason(self.book[words[1]], self.module, op) or "applies"
+            return "", f"why #{op} {words[1]} {told}\n"
         op, rule = op_of(words[0]), rule_of(words[1]) if len(words) == 2 else None
         edits.refuse(26, len(words) == 2 and rule is None)
         edits.refuse(20, op not in self.module.ops())

@@ -378,8 +378,8 @@ class Session:
         return canonicalized_of(self.command(f"canon at {op_text(operation)}{_limited(limit)}"))
 
     def why(self, operation: SupportsIndex, rule: Union[int, str, None] = None) -> List[Reason]:
-        """Returns why rules don't apply at an operation, or that they do: one rule, or all rules for the operation's
-        name."""
+        """Returns why rules don't apply at an operation, or that they do: one rule or user pattern, or all rules for
+        the operation's name."""
         asked = "" if rule is None else f" {rule}"
         return reasons_of(self.command(f"why {op_text(operation)}{asked}"))
 

@@ -322,6 +322,8 @@ class Calls(Case):
             self.assertEqual([it.rule for it in told], sorted(it.rule for it in told))
             self.assertEqual(s.why(3, "drop-one"), [(5, "drop-one", "second-not-constant")])
             self.assertEqual(s.why(3, 4), [(4, "drop-zero", "other-operation")])
+            s.pattern("nine arith.addi(%a, 9) => %a")
+            self.assertEqual([(it.rule, it.word) for it in s.why(3, "nine")], [(None, "nine")])
             self.assertEqual((s.canon_at(3, 1), s.canon_at(3)), ((1, False), (1, True)))
             for asked, number in (((3,), 20), ((2, "nope"), 26)):
                 with self.assertRaises(mlir_work.Refused) as caught:

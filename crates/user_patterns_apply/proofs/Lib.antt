@@ -13,3 +13,4 @@ pub mod Backwards
 pub mod TypesAt
 pub mod Planned
 pub mod Rooted
+pub mod Tested

@@ -18,6 +18,7 @@ use Rattle.user_patterns_data.specs.Matching.{Header, Standing, standing, when, 
 use Rattle.user_patterns_data.specs.Planning.{Plan, all_made, constants_known, extra_known, extra_place, kind_standing, new_place, outcomes, planned_by, planned_from, typed}
 use Rattle.user_patterns_data.specs.Shapes.{PatternModel}
 use Rattle.user_patterns_apply.specs.Built.{AreAllMade, as_operands, made_in, operand_in, operands_in}
+use Rattle.user_patterns_apply.specs.Mismatches.{Test, typed_tests, typed_tests_over}
 use Rattle.user_patterns_apply.specs.Stands.{Stands}
 use Rattle.user_patterns_apply.specs.Types.{AreTypesOf, type_in, typed_over, types_in, written_of}
 use Rattle.user_patterns_apply.specs.declared.rewrite_plan.NewOp.{NewOp}
@@ -70,6 +71,9 @@ module _ (t : Operation) (verified : Header → Bool) (n : ℕ) (p : PatternMode
   typed_is : typed_over t verified p b (types_in c old) ≡ typed t verified n p b
   typed_is = ap (typed_over t verified p b) (ap (types_in c) is ∙ written_in c p.value_types)
 
+  pub typed_tests_are : typed_tests_over t verified p b (types_in c old) ≡ typed_tests t verified p b
+  typed_tests_are = ap (typed_tests_over t verified p b) (ap (types_in c) is ∙ written_in c p.value_types)
+
   pub untyped_plan : r ≡ false → None ≡ typed t verified n p b
   untyped_plan e = sym (stands_no (typed_over t verified p b (types_in c old)) (types_in c new) r stands e) ∙ typed_is
 
@@ -81,11 +85,11 @@ module _ (t : Operation) (verified : Header → Bool) (n : ℕ) (p : PatternMode
 
 -- ---- numbers
 
-ran : (r : Option (List Outcome)) (new : List Outcome) (b : Bool) → check.Stands r new b → b ≡ true → r ≡ Some new
+pub ran : (r : Option (List Outcome)) (new : List Outcome) (b : Bool) → check.Stands r new b → b ≡ true → r ≡ Some new
 ran None new b e f = absurd (true≢false (sym f ∙ e))
 ran (Some c) new b e f = ap Some (sym e.1)
 
-not_ran : (r : Option (List Outcome)) (new : List Outcome) (b : Bool) → check.Stands r new b → b ≡ false → r ≡ None
+not_pub ran : (r : Option (List Outcome)) (new : List Outcome) (b : Bool) → check.Stands r new b → b ≡ false → r ≡ None
 not_ran None new b e f = refl
 not_ran (Some c) new b e f = absurd (true≢false (sym e.0 ∙ f))
 
@@ -130,6 +134,10 @@ module _ (t : Operation) (verified : Header → Bool) (n : ℕ) (p : PatternMode
       nothing_then (fits (map kind_standing ts) p && constants_known t verified n p b)
       ∙ ap (λ z. when (fits (map kind_standing ts) p && constants_known t verified n p b) (given z (planned_from t verified n p b ts))) (sym none)
 
+  pub not_extra : (env : List Outcome) (f : Bool) → f ≡ extra_known t verified n p (extra_place p) p.extra b env → f ≡ false → None ≡ planned_from t verified n p b ts env
+  not_extra env f extra failed =
+      ap (λ z. when z (given (all_made ts env n (new_place p) p.new b) (λ (r : List Operation × Standing Value). given (standing p.result r.1) (λ v. Some (r.0, v))))) (sym failed ∙ extra)
+
   -- ---- new operations
 
   module _ (env : List Outcome) (f : Bool) (extra : f ≡ extra_known t verified n p (extra_place p) p.extra b env) (all : f ≡ true) where
@@ -171,3 +179,6 @@ made_some c n all (Some ms) os e made is = e ∙ ap (λ z. Some (map (made_in c 
 -- a result equal to `a` is equal to `b`
 pub answers_same : {X E : Type 0} (r : Result X E) (view : X → Option Plan) (a b : Option Plan) → a ≡ b → IfOk r (λ x. view x ≡ a) → IfOk r (λ x. view x ≡ b)
 answers_same r view a b same h = rw (← same) h
+
+pub tests_same : {X E : Type 0} (r : Result X E) (view : X → Test) (a b : Test) → a ≡ b → IfOk r (λ x. view x ≡ a) → IfOk r (λ x. view x ≡ b)
+tests_same r view a b same h = rw (← same) h
