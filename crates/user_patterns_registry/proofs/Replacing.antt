@@ -1,14 +1,13 @@
 -- Registries in which a pattern takes the place of the first one of its name.
-use Rattle.std.proofs.Common.{◌≡◌, ◌∙◌, ℕ, suc, ◌+◌, ◌<◌, ◌≤◌, Bool, true, false, not, cond, nat_lt, List, [], ◌∷◌, length, Option, Some, None, Ok, refl, sym, ap, subst, arith}
+use Rattle.std.proofs.Common.{◌≡◌, ◌∙◌, ℕ, suc, ◌+◌, Bool, true, false, not, cond, nat_lt, List, [], ◌∷◌, length, Some, None, refl, sym, ap, subst, arith}
 use Rattle.std.specs.Prelude.{position, slice_set}
 use Rattle.std.specs.List.{position_or_len}
 use Rattle.std.specs.Str.{bytes_eq}
 use Rattle.std.proofs.lemmas.List.{length-set}
 use Rattle.std.proofs.lemmas.List.Elements.{All-set}
 use Rattle.ir_types.proofs.Growth.{name_is}
-use Rattle.user_patterns_text.specs.Parts as parts
-use Rattle.user_patterns_registry.specs.Registry.{AreApart, IsReady, IsRegistry, Kept, RegistryModel, ReplacingKeepsARegistry, found, is_named, kept_of}
-use Rattle.user_patterns_registry.proofs.Registries.{KeptOf, extra_on, kept_is, not_first}
+use Rattle.user_patterns_registry.specs.Registry.{AreApart, IsReady, IsRegistry, Kept, RegistryModel, ReplacingKeepsARegistry, found, is_named}
+use Rattle.user_patterns_registry.proofs.Registries.{extra_on, kept_is, not_first}
 
 module _ (k : Kept) where
   -- the index of the first pattern of this name, or the length

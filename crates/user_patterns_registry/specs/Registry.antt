@@ -1,5 +1,5 @@
 -- The pattern registry of a session: patterns by name, in the order of their definitions.
-use Rattle.std.specs.Prelude.{◌≡◌, ℕ, ◌≤◌, Bool, true, false, not, nat_lt, if◌then◌else◌, List, [], ◌∷◌, ◌++◌, codes, filter, length, map, position, slice_set, Option, Some, None, is_some, Ok, Err}
+use Rattle.std.specs.Prelude.{◌≡◌, ℕ, ◌≤◌, Bool, true, false, not, nat_lt, if◌then◌else◌, List, [], ◌∷◌, ◌++◌, codes, filter, length, map, position, slice_set, Option, Some, None, is_some, Ok}
 use Rattle.std.specs.Str.{bytes_eq}
 use Rattle.std.specs.List.{All}
 use Rattle.ir_text_tokens.specs.declared.refusal.TextRefusal.TheVariants.{Redefined, TooMany, TypeMismatch}
