@@ -16,7 +16,7 @@ use Rattle.user_patterns_registry.specs.Registry.{Kept, RegistryModel, defined, 
 use Rattle.mlir_work_script.specs.RegistryCommands.{RegistryCommand, Define, Redefine, Forget, Patterns, Check, CheckAll, Sample}
 use Rattle.mlir_work_registry.specs.Notices.{Notice}
 use Rattle.mlir_work_registry.specs.Redefined.{namesake, redefined, redefined_at}
-use Rattle.mlir_work_registry.specs.Registries.{Checks, ChecksAll, ChecksEach, Forgets, IsChecked, IsDefined, IsNoted, IsSampledAs, IsShelved, Registries, Samples, said_for}
+use Rattle.mlir_work_registry.specs.Registries.{Checks, ChecksAll, ChecksEach, Forgets, IsChecked, IsDefined, IsNoted, IsSampledAs, IsShelved, Samples, said_for}
 use Rattle.mlir_work_registry.specs.Changing.{CommandsChange, CommandsReach, NewIsReached}
 
 -- ---- summaries

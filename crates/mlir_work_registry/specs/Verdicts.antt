@@ -8,7 +8,7 @@ use Rattle.user_patterns_registry.specs.declared.check_result.CheckSummary.{Chec
 use Rattle.user_patterns_registry.specs.declared.check_result.CheckSummary.TheVariants as said
 use Rattle.user_patterns_registry.specs.Registry.{Kept, RegistryModel, found, noted}
 use Rattle.user_patterns_registry.specs.Rows.{said_text}
-use Rattle.mlir_work_registry.specs.CheckedRows.{answer_text, checked_row, first_failure, refused_text}
+use Rattle.mlir_work_registry.specs.CheckedRows.{answer_text, checked_row}
 use Rattle.mlir_work_registry.specs.Notices.{Notice, Plain, Checked}
 use Rattle.mlir_work_registry.specs.Registries.{IsChecked}
 use Rattle.mlir_work_registry.specs.declared.check_all.Verdict.{Verdict as Coded}
@@ -47,8 +47,11 @@ abbrev pub notice_said : Option CheckSummary → Notice
 notice_said (Some said) = Checked said
 notice_said None = Plain (Replied (Refused BadLimit))
 
+abbrev pub result_text : Option CheckSummary → List ℕ
+result_text said = answer_text (notice_said said)
+
 abbrev pub verdict_text : Verdict → List ℕ
-verdict_text v = checked_row v.name (answer_text (notice_said v.said)) ++ v.rows
+verdict_text v = checked_row v.name (result_text v.said) ++ v.rows
 
 abbrev pub verdicts_text : List Verdict → List ℕ
 verdicts_text [] = []
