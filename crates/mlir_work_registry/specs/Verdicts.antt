@@ -47,8 +47,11 @@ abbrev pub notice_said : Option CheckSummary → Notice
 notice_said (Some said) = Checked said
 notice_said None = Plain (Replied (Refused BadLimit))
 
+abbrev pub result_text : Option CheckSummary → List ℕ
+result_text said = answer_text (notice_said said)
+
 abbrev pub verdict_text : Verdict → List ℕ
-verdict_text v = checked_row v.name (answer_text (notice_said v.said)) ++ v.rows
+verdict_text v = checked_row v.name (result_text v.said) ++ v.rows
 
 abbrev pub verdicts_text : List Verdict → List ℕ
 verdicts_text [] = []

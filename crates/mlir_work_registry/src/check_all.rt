@@ -5,7 +5,7 @@ ghost use Rattle.mlir_work_script.specs.RegistryCommands.{CheckAll};
 ghost use Rattle.user_patterns_registry.specs.Registry.{kept_views, registry_model};
 ghost use Rattle.mlir_work_registry.specs.Notices.{IsWithin, notice_of};
 ghost use Rattle.mlir_work_registry.specs.Registries.{ChecksEach, IsRefused, Registries};
-ghost use Rattle.mlir_work_registry.specs.Verdicts.{AreVerdicts, IsVerdict, all_noted, noted_if, result_text, verdict_text, verdict_view, verdict_views, verdicts_notice, verdicts_text};
+ghost use Rattle.mlir_work_registry.specs.Verdicts.{AreVerdicts, IsVerdict, all_noted, failure_of, noted_if, result_text, verdict_text, verdict_view, verdict_views, verdicts_notice, verdicts_text};
 
 use crate::registry_commands::{check, checked};
 use crate::reply::Reply;

@@ -1,9 +1,8 @@
 //! Defines a pattern in place of another one.
 ghost use Rattle.std.specs.Prelude.{◌≡◌, OnErr, position};
-ghost use Rattle.user_patterns_text.specs.Refusing.{Returns, ◌>>=◌};
-ghost use Rattle.user_patterns_text.specs.Rendered.{whole_at};
-ghost use Rattle.user_patterns_registry.specs.Registry.{is_named, kept_of, kept_view, registry_model};
-ghost use Rattle.mlir_work_registry.specs.Redefined.{namesake, redefined};
+ghost use Rattle.user_patterns_text.specs.Refusing.{Returns};
+ghost use Rattle.user_patterns_registry.specs.Registry.{is_named, kept_view, registry_model};
+ghost use Rattle.mlir_work_registry.specs.Redefined.{namesake, pattern_of, redefined};
 
 use std::alloc::Global;
 use user_patterns_registry::define::define;
@@ -38,7 +37,7 @@ fn namesake(
 
 /// Returns the pattern of a text, without a registry.
 fn pattern_of(alloc: Global, text: &[u8]) -> Result<RegisteredPattern, PatternError>
-    ensures { Returns kept_view result (whole_at text.now >>= kept_of) }
+    ensures { Returns kept_view result (pattern_of text.now) }
 {
     let mut registry = PatternRegistry::new(alloc);
     match define(alloc, &mut registry, text) {
