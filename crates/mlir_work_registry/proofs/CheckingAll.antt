@@ -1,5 +1,5 @@
 -- Checks of all patterns, recorded at the end, are checks that are recorded one after the other.
-use Rattle.std.proofs.Common.{◌≡◌, ◌∙◌, ℕ, Bool, true, false, cond, List, [], ◌∷◌, ◌++◌, append-nil, append-assoc, map, Option, Some, None, option_map, is_some, if◌then◌else◌, true≢false, ◌⊎◌, refl, sym, ap, subst, inl, inr}
+use Rattle.std.proofs.Common.{◌≡◌, ◌∙◌, ℕ, ◌<◌, arith, length, Bool, true, false, cond, List, [], ◌∷◌, ◌++◌, append-nil, append-assoc, map, Option, Some, None, option_map, is_some, if◌then◌else◌, true≢false, ◌⊎◌, refl, sym, ap, subst, inl, inr}
 use Rattle.std.specs.Prelude.{codes}
 use Rattle.std.specs.Str.{bytes_eq}
 use Rattle.ir_event.specs.types.declared.refusal.Refusal.{Refusal}
@@ -9,7 +9,8 @@ use Rattle.rewriter_machine.specs.Machine.{Refused}
 use Rattle.mlir_work_script.specs.RegistryCommands.{Check, CheckAll}
 use Rattle.user_patterns_widths.specs.Passing.{is_passing}
 use Rattle.user_patterns_registry.specs.CheckResult.{IsCheckResult}
-use Rattle.user_patterns_registry.specs.Registry.{Kept, RegistryModel, found, is_named, noted, noted_one, with_said}
+use Rattle.user_patterns_registry.specs.Registry.{Kept, RegistryModel, found, is_named, kept_views, noted, noted_one, with_said}
+use Rattle.user_patterns_registry.specs.declared.registry.RegisteredPattern.{RegisteredPattern}
 use Rattle.user_patterns_registry.specs.declared.check_result.CheckResult.{CheckResult}
 use Rattle.user_patterns_registry.specs.declared.check_result.CheckResult.TheVariants as judgement
 use Rattle.user_patterns_registry.specs.declared.check_result.CheckSummary.{CheckSummary}
@@ -165,3 +166,13 @@ each_of (Some k) b c notice bytes e h = absurd (true≢false e)
 pub all_each : (b c : RegistryModel) (notice : Notice) (bytes : List ℕ) → is_some (found (codes "all") b) ≡ false → IsRefused Memory b notice bytes c ⊎ ChecksEach b b notice bytes c → Registries CheckAll b notice bytes c
 all_each b c notice bytes e (inl h) = inl h
 all_each b c notice bytes e (inr h) = inr (each_of (found (codes "all") b) b c notice bytes e h)
+
+-- ---- the answer to all checks
+
+pub checks_as : (b c : RegistryModel) (notice : Notice) (bytes : List ℕ) (vs : List Verdict) → AreVerdicts b b vs → notice ≡ verdicts_notice vs → bytes ≡ verdicts_text vs → c ≡ all_noted vs b → ChecksEach b b notice bytes c
+checks_as b c notice bytes vs h is told noted = rw (is, told, noted) (checks_each b vs h)
+
+-- no pattern is left
+pub checked_none : (b : RegistryModel) (hs : List RegisteredPattern) → length hs < 1 → AreVerdicts b (kept_views hs) []
+checked_none b [] l = tt
+checked_none b (h ∷ hs) l = absurd (omega (arith, l))
