@@ -1,5 +1,5 @@
 -- Checks of all patterns, recorded at the end, are checks that are recorded one after the other.
-use Rattle.std.proofs.Common.{◌≡◌, ◌∙◌, ℕ, ◌<◌, arith, length, Bool, true, false, cond, List, [], ◌∷◌, ◌++◌, append-nil, append-assoc, map, Option, Some, None, option_map, is_some, if◌then◌else◌, true≢false, ◌⊎◌, refl, sym, ap, subst, inl, inr}
+use Rattle.std.proofs.Common.{◌≡◌, ◌∙◌, ℕ, ◌<◌, arith, length, Bool, true, false, cond, List, [], ◌∷◌, ◌++◌, append-nil, map, Option, Some, None, option_map, is_some, if◌then◌else◌, true≢false, ◌⊎◌, refl, sym, ap, subst, inl, inr}
 use Rattle.std.specs.Prelude.{codes}
 use Rattle.std.specs.Str.{bytes_eq}
 use Rattle.ir_event.specs.types.declared.refusal.Refusal.{Refusal}
@@ -118,7 +118,7 @@ module _ (b : RegistryModel) where
         mid = c;
         others = verdicts_notice vs;
         more = verdicts_text vs;
-        first = subst (λ (o : Option Kept). Checks o name None c (Plain (Replied (Refused BadLimit))) rows c) (sym s.1) (inr (h.0, refl, h.1, refl));
+        first = subst (λ (o : Option Kept). Checks o name None c (Plain (Replied (Refused BadLimit))) rows c) (sym s.1) (inr (h.0, (refl, h.1, refl)));
         goes_on = go c from;
         notice_is = refl;
         bytes_are = refl;

@@ -1,21 +1,13 @@
 -- The line of each pattern in the answer to `check all`.
-use Rattle.std.specs.Prelude.{ℕ, List, [], ◌++◌, Bool, false, codes, if◌then◌else◌}
-use Rattle.ir_event.specs.types.Refusals.{text_of}
-use Rattle.ir_event.specs.types.declared.refusal.Refusal.{Refusal}
-use Rattle.rewriter_machine.specs.Commands.{Response, Replied, TextRefusedAt}
-use Rattle.rewriter_machine.specs.Machine.{Done, DoneAs, DoneWith, Refused, RefusedOn}
+use Rattle.std.specs.Prelude.{ℕ, List, ◌++◌, Bool, false, codes, if◌then◌else◌}
 use Rattle.user_patterns_registry.specs.Rows.{said_text}
 use Rattle.mlir_work_registry.specs.Notices.{Notice, Plain, Checked, is_failure}
 
--- `refused 50 BadLimit`
-abbrev pub refused_text : Refusal → List ℕ
-refused_text refusal = codes "refused " ++ text_of refusal
-
--- the answer to a check, without its number: `holds 8`, `fails 2`, `refused 50 BadLimit`
+-- the answer to a check, without its number: `holds 8`, `fails 2`; the check of a registered pattern is refused with
+-- `BadLimit` alone
 abbrev pub answer_text : Notice → List ℕ
 answer_text (Checked said) = said_text said
-answer_text (Plain (Replied (Refused refusal))) = refused_text refusal
-answer_text (Plain _) = []
+answer_text (Plain response) = codes "refused 50 BadLimit"
 
 -- the line of a pattern: `checked mask holds 8`
 abbrev pub checked_row : List ℕ → List ℕ → List ℕ

@@ -8,7 +8,7 @@ use Rattle.user_patterns_registry.specs.declared.check_result.CheckSummary.{Chec
 use Rattle.user_patterns_registry.specs.declared.check_result.CheckSummary.TheVariants as said
 use Rattle.user_patterns_registry.specs.Registry.{Kept, RegistryModel, found, noted}
 use Rattle.user_patterns_registry.specs.Rows.{said_text}
-use Rattle.mlir_work_registry.specs.CheckedRows.{answer_text, checked_row, first_failure, refused_text}
+use Rattle.mlir_work_registry.specs.CheckedRows.{answer_text, checked_row}
 use Rattle.mlir_work_registry.specs.Notices.{Notice, Plain, Checked}
 use Rattle.mlir_work_registry.specs.Registries.{IsChecked}
 use Rattle.mlir_work_registry.specs.declared.check_all.Verdict.{Verdict as Coded}
