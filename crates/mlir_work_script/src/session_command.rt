@@ -235,7 +235,8 @@ fn why(rest: &[u8]) -> Option<SessionCommand<'_>>
     Some(SessionCommand::Why { op, rule })
 }
 
-/// Parses the arguments of `canon only RULES [proved] [trace] [limit N]`, `canon trace [limit N]` and `canon at #N [limit N]`.
+/// Parses the arguments of `canon only RULES [proved] [trace] [limit N]`, `canon trace [limit N]` and
+/// `canon at #N [limit N]`.
 fn canon(rest: &[u8]) -> Option<SessionCommand<'_>>
     ensures { option_map order_of result ≡ canon_order_in rest.now }
 {

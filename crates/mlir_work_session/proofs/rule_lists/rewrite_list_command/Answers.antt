@@ -25,18 +25,18 @@ pub returns-then-list_command-clause-mixes : goal.returns-then-list_command-clau
 returns-then-list_command-clause-mixes g c =
     let m = rw c.in-Ok-Some.field-0-is at c.in-Ok-Some.ensures.rule_list in
     let these = held_bytes c.args.bench.now.transaction c.world.result.now c.world.ensures.ctx c.world.ensures.store (unproved_of (registry_model c.args.registry.now) (list_command_view c.args.list_command.now).names) c.in-Ok.text.items c.in-Ok.ensures in
-    unless_proved c.args.session_options.now (registry_model c.args.registry.now) (list_command_view c.args.list_command.now) _ _ _ _ m.0 c.in-Ok.text.items _ m.1 these c.is_refused.ensures c.if-is_refused.false (mixes_found c.args.session_options.now (registry_model c.args.registry.now) (list_command_view c.args.list_command.now) _ _ _ _ m.0 _ _ m.1 m.2.attempts c.limit_of-limit.ensures (rw c.deref.ensures.value at c.rewrite_telling.ensures.follows)
-    (bytes_told c.args.session_options.now (registry_model c.args.registry.now) (list_command_view c.args.list_command.now) _ _ _ c.in-Ok.text.items m.0 _ _ _ these c.if-list_command.true m.1 m.2.attempts m.2.names c.limit_of-limit.ensures (rw c.deref.ensures.value at c.rewrite_telling.ensures.shows)))
+    unless_proved c.args.session_options.now (registry_model c.args.registry.now) (list_command_view c.args.list_command.now) _ _ _ _ m.0 c.in-Ok.text.items _ m.1 these (rw c.deref.ensures.value at c.is_refused.ensures) c.if-is_refused.false (mixes_found c.args.session_options.now (registry_model c.args.registry.now) (list_command_view c.args.list_command.now) _ _ _ _ m.0 _ _ m.1 m.2.attempts c.limit_of-limit.ensures (rw c.deref-then-list_command.ensures.value at c.rewrite_telling.ensures.follows)
+    (bytes_told c.args.session_options.now (registry_model c.args.registry.now) (list_command_view c.args.list_command.now) _ _ _ c.in-Ok.text.items m.0 _ _ _ these c.if-list_command.true m.1 m.2.attempts m.2.names c.limit_of-limit.ensures (rw c.deref-then-list_command.ensures.value at c.rewrite_telling.ensures.shows)))
 
 pub returns-clause-mixes : goal.returns-clause-mixes
 returns-clause-mixes g c =
     let m = rw c.in-Ok-Some.field-0-is at c.in-Ok-Some.ensures.rule_list in
     let these = held_bytes c.args.bench.now.transaction c.world.result.now c.world.ensures.ctx c.world.ensures.store (unproved_of (registry_model c.args.registry.now) (list_command_view c.args.list_command.now).names) c.in-Ok.text.items c.in-Ok.ensures in
-    unless_proved c.args.session_options.now (registry_model c.args.registry.now) (list_command_view c.args.list_command.now) _ _ _ _ m.0 c.in-Ok.text.items _ m.1 these c.is_refused.ensures c.if-is_refused.false (mixes_found c.args.session_options.now (registry_model c.args.registry.now) (list_command_view c.args.list_command.now) _ _ _ _ m.0 _ _ m.1 m.2.attempts c.limit_of-limit.ensures (rw c.deref-else-list_command.ensures.value at c.rewrite_plainly.ensures.follows)
+    unless_proved c.args.session_options.now (registry_model c.args.registry.now) (list_command_view c.args.list_command.now) _ _ _ _ m.0 c.in-Ok.text.items _ m.1 these (rw c.deref.ensures.value at c.is_refused.ensures) c.if-is_refused.false (mixes_found c.args.session_options.now (registry_model c.args.registry.now) (list_command_view c.args.list_command.now) _ _ _ _ m.0 _ _ m.1 m.2.attempts c.limit_of-limit.ensures (rw c.deref-else-list_command.ensures.value at c.rewrite_plainly.ensures.follows)
     (bytes_untold c.args.session_options.now (registry_model c.args.registry.now) (list_command_view c.args.list_command.now) _ _ _ c.in-Ok.text.items these c.if-list_command.false c.rewrite_plainly.ensures.shows))
 
 pub returns-then-is_refused-clause-mixes : goal.returns-then-is_refused-clause-mixes
 returns-then-is_refused-clause-mixes g c =
     let m = rw c.in-Ok-Some.field-0-is at c.in-Ok-Some.ensures.rule_list in
     let these = held_bytes c.args.bench.now.transaction c.world.result.now c.world.ensures.ctx c.world.ensures.store (unproved_of (registry_model c.args.registry.now) (list_command_view c.args.list_command.now).names) c.in-Ok.text.items c.in-Ok.ensures in
-    unless_unproved c.args.session_options.now (registry_model c.args.registry.now) (list_command_view c.args.list_command.now) _ m.0 c.in-Ok.text.items _ m.1 these c.is_refused.ensures c.if-is_refused.true
+    unless_unproved c.args.session_options.now (registry_model c.args.registry.now) (list_command_view c.args.list_command.now) _ m.0 c.in-Ok.text.items _ m.1 these (rw c.deref.ensures.value at c.is_refused.ensures) c.if-is_refused.true
