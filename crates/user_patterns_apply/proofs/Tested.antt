@@ -49,19 +49,19 @@ breaks b m e = sym (ap (λ z. unless z m) e)
 -- a test of each item passes if the test holds for all
 pub each_all : {X : Type 0} (f : X → Bool) (m : X → Mismatch) (xs : List X) → is_none (each f m xs) ≡ list_all f xs
 each_all f m [] = refl
-each_all f m (x ∷ xs) = go (f x)
+each_all f m (x ∷ xs) = go (f x) (each_all f m xs)
   where
-    go : (b : Bool) → is_none (first_of (unless b (m x)) (each f m xs)) ≡ (b && list_all f xs)
-    go true = each_all f m xs
-    go false = refl
+    go : (b : Bool) → is_none (each f m xs) ≡ list_all f xs → is_none (first_of (unless b (m x)) (each f m xs)) ≡ (b && list_all f xs)
+    go true more = more
+    go false more = refl
 
 pub extra_all : (t : Operation) (verified : Header → Bool) (n : ℕ) (p : PatternModel) (k : ℕ) (fs : List ExtraConstant) (b : Standing Value) (env : List Outcome) → is_none (extra_tests t verified n p k fs b env) ≡ extra_known t verified n p k fs b env
 extra_all t verified n p k [] b env = refl
-extra_all t verified n p k (f ∷ fs) b env = go (are_same (known_at t verified n p b k) (slice_get env k))
+extra_all t verified n p k (f ∷ fs) b env = go (are_same (known_at t verified n p b k) (slice_get env k)) (extra_all t verified n p (k + 1) fs b env)
   where
-    go : (z : Bool) → is_none (first_of (unless z (fails.Number k)) (extra_tests t verified n p (k + 1) fs b env)) ≡ (z && extra_known t verified n p (k + 1) fs b env)
-    go true = extra_all t verified n p (k + 1) fs b env
-    go false = refl
+    go : (z : Bool) → is_none (extra_tests t verified n p (k + 1) fs b env) ≡ extra_known t verified n p (k + 1) fs b env → is_none (first_of (unless z (fails.Number k)) (extra_tests t verified n p (k + 1) fs b env)) ≡ (z && extra_known t verified n p (k + 1) fs b env)
+    go true more = more
+    go false more = refl
 
 module _ (t : Operation) (verified : Header → Bool) (n : ℕ) (p : PatternModel) where
   pub extra_by : (b : Standing Value) (env : List Outcome) (m : Test) → m ≡ extra_tests t verified n p (extra_place p) p.extra b env → is_none m ≡ extra_known t verified n p (extra_place p) p.extra b env

@@ -1,4 +1,4 @@
-use Rattle.std.proofs.Common.{List, ◌∷◌, map, ap, sym, refl, subst, ◌∙◌, ◌≡◌, ◌+◌, length, arith}
+use Rattle.std.proofs.Common.{List, ◌∷◌, false, map, ap, sym, refl, subst, ◌∙◌, ◌≡◌, ◌+◌, length, arith}
 use Rattle.dialects_int.specs.Folds.{known_of}
 use Rattle.user_patterns_check.specs.Checks.{Stands}
 use Rattle.user_patterns_check.specs.Outcomes.{run}
@@ -12,21 +12,21 @@ pub returns-then-not-branch-clause-stands : goal.returns-then-not-branch-clause-
 returns-then-not-branch-clause-stands c =
     let split = from_item c.steps.rest.now c.first-item.result _ c.in-len1-up.len_at_least c.first-item.is in
     let env = map known_of c.steps.env.items in
-    subst (λ z. Stands z (map known_of c.run.new.env.items) false)
-    (not_ran_one c.first-item.result _ env env (not_ran _ _ _ c.in_ok-run.ensures c.if-not-branch.true) ∙ ap (λ z. run z env) (sym split) ∙ c.steps.invariant.ran) refl
+    subst (λ z. Stands z (map known_of c.run_one.new.env.items) false)
+    (not_ran_one c.first-item.result _ env env (not_ran _ _ _ c.in_ok-run_one.ensures c.if-not-branch.true) ∙ ap (λ z. run z env) (sym split) ∙ c.steps.invariant.ran) refl
 
 pub returns-then-not-branch-clause-tests : goal.returns-then-not-branch-clause-tests
 returns-then-not-branch-clause-tests c =
     let split = from_item c.steps.rest.now c.first-item.result _ c.in-len1-up.len_at_least c.first-item.is in
     let env = map known_of c.steps.env.items in
-    undefined_one c.first-item.result _ env env c.steps.index (not_ran _ _ _ c.in_ok-run.ensures c.if-not-branch.true) ∙ ap (λ z. steps_tests c.steps.index z env) (sym split) ∙ c.steps.invariant.tests
+    undefined_one c.first-item.result _ env env c.steps.index (not_ran _ _ _ c.in_ok-run_one.ensures c.if-not-branch.true) ∙ ap (λ z. steps_tests c.steps.index z env) (sym split) ∙ c.steps.invariant.tests
 
 pub steps-preserved : goal.steps-preserved
 steps-preserved c =
     let split = from_item c.steps.rest.now c.first-item.result _ c.in-len1-up.len_at_least c.first-item.is in
     let env = map known_of c.steps.env.items in
-    let new = map known_of c.run.new.env.items in
-    let one = ran _ _ _ c.in_ok-run.ensures c.if-not-branch.false in record {
+    let new = map known_of c.run_one.new.env.items in
+    let one = ran _ _ _ c.in_ok-run_one.ensures c.if-not-branch.false in record {
       ran = ran_one c.first-item.result _ env new one ∙ ap (λ z. run z env) (sym split) ∙ c.steps.invariant.ran;
       tests = tested_one c.first-item.result _ env new c.steps.index one ∙ ap (λ z. steps_tests c.steps.index z env) (sym split) ∙ c.steps.invariant.tests;
       counted = omega (arith, ap length split, c.steps.invariant.counted);
