@@ -1,5 +1,5 @@
 -- The tests of a pattern in their order, and the first that fails.
-use Rattle.std.proofs.Common.{◌≡◌, ℕ, ◌+◌, ◌-◌, refl, ap, sym, ◌∙◌, List, [], ◌∷◌, ◌++◌, map, Bool, true, false, ◌&&◌, Option, Some, None, slice_get}
+use Rattle.std.proofs.Common.{◌≡◌, ℕ, ◌+◌, ◌-◌, ◌≤◌, arith, refl, ap, sym, ◌∙◌, List, [], ◌∷◌, ◌++◌, length, take, drop, take_all, get_or, map, Bool, true, false, ◌&&◌, Option, Some, None, slice_get}
 use Rattle.std.specs.Prelude.{is_none, is_some, option_map}
 use Rattle.std.specs.List.{list_all}
 use Rattle.ir_event.specs.types.Things.{ContextModel}
@@ -27,6 +27,7 @@ use Rattle.user_patterns_build.specs.CanBuild.{can_build}
 use Rattle.user_patterns_apply.specs.Built.{AllMade}
 use Rattle.user_patterns_apply.specs.Matched.{all_verified, any, is_constant_value, is_verified_value, matched}
 use Rattle.user_patterns_apply.specs.Mismatches.{Test, constants_tests, each, extra_tests, first_failing, first_of, fitting_tests, fitting_tests_at, known_tests, matched_tests, on_value, plan_tests, planned_tests, point_of, point_tests, steps_tests, typed_tests, unless, values_tests, verified_tests, with_value}
+use Rattle.user_patterns_apply.proofs.Additions.{from_item}
 use Rattle.user_patterns_apply.proofs.Planned.{ran}
 use Rattle.user_patterns_apply.specs.Own.{is_one}
 use Rattle.user_patterns_apply.specs.declared.mismatch.Mismatch.{Mismatch}
@@ -106,6 +107,27 @@ module _ (s : Step) (ss : List Step) (env new : List Outcome) where
       go : (o : Option Outcome) → given o (λ v. Some (env ++ (v ∷ []))) ≡ None → Some (fails.Condition i) ≡ with_value o (fails.Condition i) (λ v. steps_tests (i + 1) ss (env ++ (v ∷ [])))
       go None e = refl
       go (Some v) e = absurd cc
+
+-- the first step of a list, and then the others
+pub length_next : {X : Type 0} (xs : List X) → 1 ≤ length xs → length (take (length xs - 1) (drop 1 xs)) + 1 ≡ length xs
+length_next [] l = absurd (omega (arith, l))
+length_next (y ∷ ys) l = ap (λ zs. length zs + 1) (take_all (length (y ∷ ys) - 1) ys (omega arith)) ∙ omega arith
+
+module _ (rest : List Step) (d : Step) (some : 1 ≤ length rest) (env new : List Outcome) where
+  split : rest ≡ get_or rest 0 d ∷ take (length rest - 1) (drop 1 rest)
+  split = from_item rest (get_or rest 0 d) d some refl
+
+  pub next_not_ran : run (get_or rest 0 d ∷ []) env ≡ None → None ≡ run rest env
+  next_not_ran e = not_ran_one (get_or rest 0 d) (take (length rest - 1) (drop 1 rest)) env env e ∙ ap (λ z. run z env) (sym split)
+
+  pub next_undefined : (i : ℕ) → run (get_or rest 0 d ∷ []) env ≡ None → Some (fails.Condition i) ≡ steps_tests i rest env
+  next_undefined i e = undefined_one (get_or rest 0 d) (take (length rest - 1) (drop 1 rest)) env env i e ∙ ap (λ z. steps_tests i z env) (sym split)
+
+  pub next_ran : run (get_or rest 0 d ∷ []) env ≡ Some new → run (take (length rest - 1) (drop 1 rest)) new ≡ run rest env
+  next_ran e = ran_one (get_or rest 0 d) (take (length rest - 1) (drop 1 rest)) env new e ∙ ap (λ z. run z env) (sym split)
+
+  pub next_tested : (i : ℕ) → run (get_or rest 0 d ∷ []) env ≡ Some new → steps_tests (i + 1) (take (length rest - 1) (drop 1 rest)) new ≡ steps_tests i rest env
+  next_tested i e = tested_one (get_or rest 0 d) (take (length rest - 1) (drop 1 rest)) env new i e ∙ ap (λ z. steps_tests i z env) (sym split)
 
 -- the steps ran from these outcomes
 pub ran_is : (ss : List Step) (env total : List Outcome) → env ≡ total → (after : List Outcome) (done : Bool) → check.Stands (run ss env) after done → done ≡ true → run ss total ≡ Some after
