@@ -24,7 +24,7 @@ pub returns-in-Ok-clause-tests : goal.returns-in-Ok-clause-tests
 returns-in-Ok-clause-tests c =
     let m = module_in c.args.world.now in
     tests_same c.plan_at.result (λ r. result_err r) _ _
-    (ap (values_tests m.tree (is_verified m.tree) m.next (pattern_model c.args.pattern.now)) c.deref-in-Ok.ensures.value
+    (ap (values_tests m.tree (is_verified m.tree) m.next (pattern_model c.args.pattern.now)) c.deref.ensures.value
     ∙ matched_passes m.tree (is_verified m.tree) m.next (pattern_model c.args.pattern.now) c.args.op c.in-Ok.values.items
     (ap (λ r. result_err r) (sym c.in-Ok.is) ∙ c.in_ok-values.ensures.tests) (ap (λ r. option_map (λ v. v.items) (result_ok r)) (sym c.in-Ok.is) ∙ c.in_ok-values.ensures.values))
     c.plan_at.ensures.tests
