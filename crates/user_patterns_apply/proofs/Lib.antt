@@ -14,3 +14,4 @@ pub mod TypesAt
 pub mod Planned
 pub mod Rooted
 pub mod Tested
+pub mod NumbersAt

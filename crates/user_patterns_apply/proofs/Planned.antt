@@ -89,7 +89,7 @@ pub ran : (r : Option (List Outcome)) (new : List Outcome) (b : Bool) → check.
 ran None new b e f = absurd (true≢false (sym f ∙ e))
 ran (Some c) new b e f = ap Some (sym e.1)
 
-not_pub ran : (r : Option (List Outcome)) (new : List Outcome) (b : Bool) → check.Stands r new b → b ≡ false → r ≡ None
+pub not_ran : (r : Option (List Outcome)) (new : List Outcome) (b : Bool) → check.Stands r new b → b ≡ false → r ≡ None
 not_ran None new b e f = refl
 not_ran (Some c) new b e f = absurd (true≢false (sym e.0 ∙ f))
 

@@ -1,18 +1,12 @@
 -- The tests of a pattern in their order, and the first that fails.
-use Rattle.std.proofs.Common.{◌≡◌, ℕ, ◌+◌, ◌-◌, refl, ap, sym, ◌∙◌, List, [], ◌∷◌, ◌++◌, map, Bool, true, false, ◌&&◌, Option, Some, None, slice_get}
-use Rattle.std.specs.Prelude.{is_none, is_some, option_map}
+use Rattle.std.proofs.Common.{◌≡◌, ℕ, ◌+◌, ◌-◌, ◌≤◌, arith, refl, ap, sym, ◌∙◌, List, [], ◌∷◌, ◌++◌, length, take, drop, take_all, get_or, map, Bool, true, false, ◌&&◌, Option, Some, None, slice_get}
+use Rattle.std.specs.Prelude.{is_none, is_some}
 use Rattle.std.specs.List.{list_all}
-use Rattle.ir_event.specs.types.Things.{ContextModel}
 use Rattle.ir_event.specs.types.Terms.{TypeTerm}
 use Rattle.ir_event.specs.types.declared.bits.BitsKind.{BitsKind}
-use Rattle.ir_event.specs.trees.declared.place.Place.{Place}
 use Rattle.ir_event.specs.trees.declared.value.Value.{Value}
-use Rattle.ir_event.specs.trees.Tree.{head}
-use Rattle.ir_event.specs.trees.Ids.{find}
 use Rattle.ir_event.specs.trees.Meaning.{Operation}
-use Rattle.ir_event.specs.Modules.{Module}
-use Rattle.patterns_base.specs.Looks.{Header, insertion_of, is_verified}
-use Rattle.patterns_matchers.specs.Reads.{head_at}
+use Rattle.patterns_base.specs.Looks.{Header}
 use Rattle.user_patterns_check.specs.Checks as check
 use Rattle.user_patterns_check.specs.Contents.{Content}
 use Rattle.user_patterns_check.specs.Outcomes.{Outcome, given, run, step_of}
@@ -20,15 +14,15 @@ use Rattle.user_patterns_check.specs.declared.step.Step.{Step}
 use Rattle.user_patterns_data.specs.declared.pattern.ExtraConstant.{ExtraConstant}
 use Rattle.user_patterns_data.specs.declared.pattern.PatternOp.{PatternOp}
 use Rattle.user_patterns_data.specs.Fitting.{content_with, fits}
-use Rattle.user_patterns_data.specs.Matching.{Standing, placed, standing, when}
+use Rattle.user_patterns_data.specs.Matching.{Standing, placed, standing}
 use Rattle.user_patterns_data.specs.Planning.{all_made, are_same, constants_known, extra_known, extra_place, kind_standing, known_at, new_place, old_place, outcomes, typed}
 use Rattle.user_patterns_data.specs.Shapes.{PatternModel}
 use Rattle.user_patterns_build.specs.CanBuild.{can_build}
 use Rattle.user_patterns_apply.specs.Built.{AllMade}
 use Rattle.user_patterns_apply.specs.Matched.{all_verified, any, is_constant_value, is_verified_value, matched}
-use Rattle.user_patterns_apply.specs.Mismatches.{Test, constants_tests, each, extra_tests, first_failing, first_of, fitting_tests, fitting_tests_at, known_tests, matched_tests, on_value, plan_tests, planned_tests, point_of, point_tests, steps_tests, typed_tests, unless, values_tests, verified_tests, with_value}
+use Rattle.user_patterns_apply.specs.Mismatches.{Test, constants_tests, each, extra_tests, first_failing, first_of, fitting_tests, fitting_tests_at, known_tests, matched_tests, on_value, plan_tests, planned_tests, steps_tests, typed_tests, unless, values_tests, verified_tests, with_value}
+use Rattle.user_patterns_apply.proofs.Additions.{from_item}
 use Rattle.user_patterns_apply.proofs.Planned.{ran}
-use Rattle.user_patterns_apply.specs.Own.{is_one}
 use Rattle.user_patterns_apply.specs.declared.mismatch.Mismatch.{Mismatch}
 use Rattle.user_patterns_apply.specs.declared.mismatch.Mismatch.TheVariants as fails
 
@@ -49,19 +43,19 @@ breaks b m e = sym (ap (λ z. unless z m) e)
 -- a test of each item passes if the test holds for all
 pub each_all : {X : Type 0} (f : X → Bool) (m : X → Mismatch) (xs : List X) → is_none (each f m xs) ≡ list_all f xs
 each_all f m [] = refl
-each_all f m (x ∷ xs) = go (f x)
+each_all f m (x ∷ xs) = go (f x) (each_all f m xs)
   where
-    go : (b : Bool) → is_none (first_of (unless b (m x)) (each f m xs)) ≡ (b && list_all f xs)
-    go true = each_all f m xs
-    go false = refl
+    go : (b : Bool) → is_none (each f m xs) ≡ list_all f xs → is_none (first_of (unless b (m x)) (each f m xs)) ≡ (b && list_all f xs)
+    go true more = more
+    go false more = refl
 
 pub extra_all : (t : Operation) (verified : Header → Bool) (n : ℕ) (p : PatternModel) (k : ℕ) (fs : List ExtraConstant) (b : Standing Value) (env : List Outcome) → is_none (extra_tests t verified n p k fs b env) ≡ extra_known t verified n p k fs b env
 extra_all t verified n p k [] b env = refl
-extra_all t verified n p k (f ∷ fs) b env = go (are_same (known_at t verified n p b k) (slice_get env k))
+extra_all t verified n p k (f ∷ fs) b env = go (are_same (known_at t verified n p b k) (slice_get env k)) (extra_all t verified n p (k + 1) fs b env)
   where
-    go : (z : Bool) → is_none (first_of (unless z (fails.Number k)) (extra_tests t verified n p (k + 1) fs b env)) ≡ (z && extra_known t verified n p (k + 1) fs b env)
-    go true = extra_all t verified n p (k + 1) fs b env
-    go false = refl
+    go : (z : Bool) → is_none (extra_tests t verified n p (k + 1) fs b env) ≡ extra_known t verified n p (k + 1) fs b env → is_none (first_of (unless z (fails.Number k)) (extra_tests t verified n p (k + 1) fs b env)) ≡ (z && extra_known t verified n p (k + 1) fs b env)
+    go true more = more
+    go false more = refl
 
 module _ (t : Operation) (verified : Header → Bool) (n : ℕ) (p : PatternModel) where
   pub extra_by : (b : Standing Value) (env : List Outcome) (m : Test) → m ≡ extra_tests t verified n p (extra_place p) p.extra b env → is_none m ≡ extra_known t verified n p (extra_place p) p.extra b env
@@ -106,6 +100,27 @@ module _ (s : Step) (ss : List Step) (env new : List Outcome) where
       go : (o : Option Outcome) → given o (λ v. Some (env ++ (v ∷ []))) ≡ None → Some (fails.Condition i) ≡ with_value o (fails.Condition i) (λ v. steps_tests (i + 1) ss (env ++ (v ∷ [])))
       go None e = refl
       go (Some v) e = absurd cc
+
+-- the first step of a list, and then the others
+pub length_next : {X : Type 0} (xs : List X) → 1 ≤ length xs → length (take (length xs - 1) (drop 1 xs)) + 1 ≡ length xs
+length_next [] l = absurd (omega (arith, l))
+length_next (y ∷ ys) l = ap (λ zs. length zs + 1) (take_all (length (y ∷ ys) - 1) ys (omega arith)) ∙ omega arith
+
+module _ (rest : List Step) (d : Step) (some : 1 ≤ length rest) (env new : List Outcome) where
+  split : rest ≡ get_or rest 0 d ∷ take (length rest - 1) (drop 1 rest)
+  split = from_item rest (get_or rest 0 d) d some refl
+
+  pub next_not_ran : run (get_or rest 0 d ∷ []) env ≡ None → None ≡ run rest env
+  next_not_ran e = not_ran_one (get_or rest 0 d) (take (length rest - 1) (drop 1 rest)) env env e ∙ ap (λ z. run z env) (sym split)
+
+  pub next_undefined : (i : ℕ) → run (get_or rest 0 d ∷ []) env ≡ None → Some (fails.Condition i) ≡ steps_tests i rest env
+  next_undefined i e = undefined_one (get_or rest 0 d) (take (length rest - 1) (drop 1 rest)) env env i e ∙ ap (λ z. steps_tests i z env) (sym split)
+
+  pub next_ran : run (get_or rest 0 d ∷ []) env ≡ Some new → run (take (length rest - 1) (drop 1 rest)) new ≡ run rest env
+  next_ran e = ran_one (get_or rest 0 d) (take (length rest - 1) (drop 1 rest)) env new e ∙ ap (λ z. run z env) (sym split)
+
+  pub next_tested : (i : ℕ) → run (get_or rest 0 d ∷ []) env ≡ Some new → steps_tests (i + 1) (take (length rest - 1) (drop 1 rest)) new ≡ steps_tests i rest env
+  next_tested i e = tested_one (get_or rest 0 d) (take (length rest - 1) (drop 1 rest)) env new i e ∙ ap (λ z. steps_tests i z env) (sym split)
 
 -- the steps ran from these outcomes
 pub ran_is : (ss : List Step) (env total : List Outcome) → env ≡ total → (after : List Outcome) (done : Bool) → check.Stands (run ss env) after done → done ≡ true → run ss total ≡ Some after

@@ -1,5 +1,5 @@
 //! The numbers of a pattern at an operation.
-ghost use Rattle.std.specs.Prelude.{◌≡◌, IfOk, map};
+ghost use Rattle.std.specs.Prelude.{◌≡◌, IfOk, map, take};
 ghost use Rattle.ir_event.specs.Modules.{module_in};
 ghost use Rattle.dialects_int.specs.Folds.{known_of};
 ghost use Rattle.patterns_base.specs.Looks.{is_verified};
@@ -13,9 +13,21 @@ use ir_event::types::bits::Bits;
 use ir_event::types::ids::OpId;
 use ir_event::world::World;
 use std::alloc::{AllocError, Global};
+use user_patterns_check::step::Step;
 use user_patterns_check::steps::run;
 use user_patterns_data::pattern::Pattern;
 use user_patterns_data::sides::constant_steps;
+
+/// Returns the first `most` steps.
+fn first_steps<'a>(steps: &'a [Step], most: usize) -> &'a [Step]
+    ensures { result.now ≡ take most steps.now }
+{
+    if most < steps.len() {
+        &steps[..most]
+    } else {
+        steps
+    }
+}
 
 /// Returns the numbers of the pattern's variables at operation `op`, and then the first `most` computed ones. There are
 /// none if the pattern ops don't match, their types don't agree, or one of these numbers isn't defined.
@@ -41,12 +53,7 @@ pub fn numbers_at(
     let mut env = outcomes(alloc, world, pattern, &values)?;
     let steps = constant_steps(alloc, &value_types, pattern)?;
     let steps = steps.as_slice();
-    let first = if most < steps.len() {
-        &steps[..most]
-    } else {
-        steps
-    };
-    if run(first, &mut env)? {
+    if run(first_steps(steps, most), &mut env)? {
         Ok(env)
     } else {
         Ok(Vec::new(alloc))

@@ -20,8 +20,8 @@ returns-in-Err-clause-tests c =
     let m = module_in c.args.world.now in
     matched_stops m.tree (is_verified m.tree) m.next (pattern_model c.args.pattern.now) c.args.op c.in-Err.mismatch (ap (λ r. result_err r) (sym c.in-Err.is) ∙ c.in_ok-values.ensures.tests)
 
-pub returns-clause-tests : goal.returns-clause-tests
-returns-clause-tests c =
+pub returns-in-Ok-clause-tests : goal.returns-in-Ok-clause-tests
+returns-in-Ok-clause-tests c =
     let m = module_in c.args.world.now in
     tests_same c.plan_at.result (λ r. result_err r) _ _
     (ap (values_tests m.tree (is_verified m.tree) m.next (pattern_model c.args.pattern.now)) c.deref.ensures.value

@@ -34,8 +34,8 @@ returns-in-Err-clause-plan c =
     not_typed m.tree (is_verified m.tree) m.next p c.args.op c.args.values.now c.requires.matched
     (ap (λ r. option_map (λ ts. types_in w.ctx ts.items) (result_ok r)) (sym c.in-Err.is) ∙ c.in_ok-types.ensures.types)
 
-pub returns-clause-plan : goal.returns-clause-plan
-returns-clause-plan c =
+pub returns-in-Ok-clause-plan : goal.returns-in-Ok-clause-plan
+returns-in-Ok-clause-plan c =
     let w = c.args.world.now in
     let m = module_in w in
     let p = pattern_model c.args.pattern.now in
@@ -44,7 +44,7 @@ returns-clause-plan c =
     c.can_build.result c.can_build.ensures c.if-not-can_build.false
     (is_none c.in_ok-mismatch.field-0) (verified_by m.tree (is_verified m.tree) m.next (pattern_model c.args.pattern.now) (placed (old_place (pattern_model c.args.pattern.now)) (pattern_model c.args.pattern.now).old) c.args.values.now c.in_ok-mismatch.field-0 (c.in_ok-mismatch.ensures ∙ λ i. verified_tests m.tree (is_verified m.tree) (placed (c.old_begins.ensures.place i) (c.deref-2.ensures.value i)) c.args.values.now)) (ap is_none c.in_default-2.is)
     (types_in w.ctx c.in-Ok.types.items) (ap (λ r. option_map (λ ts. types_in w.ctx ts.items) (result_ok r)) (sym c.in-Ok.is) ∙ c.in_ok-types.ensures.types)
-    _ (ap (λ ts. planned_by m.tree (is_verified m.tree) m.next p c.args.values.now (types_in w.ctx ts)) c.deref-3.ensures.value))
+    _ (ap (λ ts. planned_by m.tree (is_verified m.tree) m.next p c.args.values.now (types_in w.ctx ts)) c.deref-in-Ok.ensures.value))
     c.plan_by.ensures.plan
 
 pub returns-in-Some-clause-tests : goal.returns-in-Some-clause-tests
@@ -82,15 +82,15 @@ returns-in-Err-clause-tests c =
     typed_stop m.tree (is_verified m.tree) m.next p c.args.values.now (sym c.in_default.is ∙ constants) c.can_build.result c.can_build.ensures c.if-not-can_build.false (sym c.in_default-2.is ∙ verified) c.in-Err.mismatch
     (ap (λ r. result_err r) (sym c.in-Err.is) ∙ c.in_ok-types.ensures.tests)
 
-pub returns-clause-tests : goal.returns-clause-tests
-returns-clause-tests c =
+pub returns-in-Ok-clause-tests : goal.returns-in-Ok-clause-tests
+returns-in-Ok-clause-tests c =
     let w = c.args.world.now in
     let m = module_in w in
     let p = pattern_model c.args.pattern.now in
     let constants = c.test_constants.ensures ∙ λ i. constants_tests m.tree (c.deref.ensures.value i) c.args.values.now in
     let verified = c.in_ok-mismatch.ensures ∙ λ i. verified_tests m.tree (is_verified m.tree) (placed (c.old_begins.ensures.place i) (c.deref-2.ensures.value i)) c.args.values.now in
     tests_same c.plan_by.result (λ r. result_err r) _ _
-    (ap (λ ts. fitting_tests m.tree (is_verified m.tree) m.next p c.args.values.now (types_in w.ctx ts)) c.deref-3.ensures.value
+    (ap (λ ts. fitting_tests m.tree (is_verified m.tree) m.next p c.args.values.now (types_in w.ctx ts)) c.deref-in-Ok.ensures.value
     ∙ typed_pass m.tree (is_verified m.tree) m.next p c.args.values.now (sym c.in_default.is ∙ constants) c.can_build.result c.can_build.ensures c.if-not-can_build.false (sym c.in_default-2.is ∙ verified)
     (ap (λ r. result_err r) (sym c.in-Ok.is) ∙ c.in_ok-types.ensures.tests) (types_in w.ctx c.in-Ok.types.items) (ap (λ r. option_map (λ ts. types_in w.ctx ts.items) (result_ok r)) (sym c.in-Ok.is) ∙ c.in_ok-types.ensures.types))
     c.plan_by.ensures.tests

@@ -19,8 +19,8 @@ returns-in-Some-clause-types c =
     untyped_plan m.tree (is_verified m.tree) m.next (pattern_model c.args.pattern.now) c.args.values.now w.ctx c.deref_mut.result.now c.bind_all_types.new.types (c.deref_mut.ensures.value ∙ c.in_ok-types.ensures ∙ ap (map written_of) c.deref.ensures.value)
     (is_none c.bind_all_types.result) c.bind_all_types.ensures.stands (ap is_none c.in-Some.is)
 
-pub returns-clause-types : goal.returns-clause-types
-returns-clause-types c =
+pub returns-in-None-clause-types : goal.returns-in-None-clause-types
+returns-in-None-clause-types c =
     let w = c.args.world.now in
     let m = module_in w in
     typed_shown m.tree (is_verified m.tree) m.next (pattern_model c.args.pattern.now) c.args.values.now w.ctx c.deref_mut.result.now c.bind_all_types.new.types (c.deref_mut.ensures.value ∙ c.in_ok-types.ensures ∙ ap (map written_of) c.deref.ensures.value)
@@ -33,8 +33,8 @@ returns-in-Some-clause-tests c =
     sym c.in-Some.is ∙ c.bind_all_types.ensures.tests ∙ typed_tests_are m.tree (is_verified m.tree) m.next (pattern_model c.args.pattern.now) c.args.values.now w.ctx c.deref_mut.result.now c.bind_all_types.new.types (c.deref_mut.ensures.value ∙ c.in_ok-types.ensures ∙ ap (map written_of) c.deref.ensures.value)
     (is_none c.bind_all_types.result) c.bind_all_types.ensures.stands
 
-pub returns-clause-tests : goal.returns-clause-tests
-returns-clause-tests c =
+pub returns-in-None-clause-tests : goal.returns-in-None-clause-tests
+returns-in-None-clause-tests c =
     let w = c.args.world.now in
     let m = module_in w in
     sym c.in-None.is ∙ c.bind_all_types.ensures.tests ∙ typed_tests_are m.tree (is_verified m.tree) m.next (pattern_model c.args.pattern.now) c.args.values.now w.ctx c.deref_mut.result.now c.bind_all_types.new.types (c.deref_mut.ensures.value ∙ c.in_ok-types.ensures ∙ ap (map written_of) c.deref.ensures.value)
