@@ -1,8 +1,8 @@
 -- Edits that aren't refused, carried out one after another.
-use Rattle.std.proofs.Common.{◌≡◌, ap, sym, ◌∙◌, subst, List, ◌∷◌, None, Ok}
+use Rattle.std.proofs.Common.{◌≡◌, sym, ◌∙◌, subst, List, ◌∷◌, None, Ok}
 use Rattle.ir_event.specs.Listener.{Listener}
 use Rattle.ir_event.specs.Modules.{Module}
-use Rattle.patterns_base.specs.Contents.{Edit, NumberedEdit, edit_meaning, edit_reason, edited}
+use Rattle.patterns_base.specs.Contents.{Edit, NumberedEdit, edit_meaning, edit_reason}
 use Rattle.rewriter.specs.Contents.{tests_in}
 use Rattle.rewriter.specs.Edits.{reason_by}
 use Rattle.rewriter.specs.RewriterCalls.{Benched, state_of}

@@ -21,5 +21,5 @@ pub mod MarkLaws
 pub mod Outcomes
 pub mod Released
 pub mod NextTo
-mod Moving
+mod Unchecked
 pub use Rattle.rewriter_machine.proofs.Numbers

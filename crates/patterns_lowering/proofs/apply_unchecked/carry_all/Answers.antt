@@ -36,11 +36,11 @@ edits-preserved g c =
     let u = uncons c.edits.rest.now c.edit-item.result _ c.in-len1-up.len_at_least c.edit-item.is in
     record {
       carrying =
-      carrying_more g.L.Analysis.meaning c.led_benches_are_kept.ensures.more c.args.edits.now _ c.edit-item.result c.args.bench.now c.edits.bench c.carry_unchecked.new.bench c.is_wellformed.ensures.context.holds
-      (subst (λ (z : List Coded). Carrying g.L.Analysis.meaning c.args.edits.now z c.args.bench.now c.edits.bench) u c.edits.invariant.carrying) c.in_default-carry_unchecked.ensures.tried c.in_default-carry_unchecked.ensures.along c.in_default-carry_unchecked.ensures.journal;
+          carrying_more g.L.Analysis.meaning c.led_benches_are_kept.ensures.more c.args.edits.now _ c.edit-item.result c.args.bench.now c.edits.bench c.carry_unchecked.new.bench c.is_wellformed.ensures.context.holds
+          (subst (λ (z : List Coded). Carrying g.L.Analysis.meaning c.args.edits.now z c.args.bench.now c.edits.bench) u c.edits.invariant.carrying) c.in_default-carry_unchecked.ensures.tried c.in_default-carry_unchecked.ensures.along c.in_default-carry_unchecked.ensures.journal;
       free =
-      free_more g.L.Analysis.meaning _ c.edit-item.result c.edits.bench c.carry_unchecked.new.bench
-      (subst (λ (z : List Coded). Free (edits_meaning c.edits.bench.transaction.ctx z) (module_held c.edits.bench.transaction)) u c.edits.invariant.free) c.in_default-carry_unchecked.ensures.tried c.in_default-carry_unchecked.ensures.along;
+          free_more g.L.Analysis.meaning _ c.edit-item.result c.edits.bench c.carry_unchecked.new.bench
+          (subst (λ (z : List Coded). Free (edits_meaning c.edits.bench.transaction.ctx z) (module_held c.edits.bench.transaction)) u c.edits.invariant.free) c.in_default-carry_unchecked.ensures.tried c.in_default-carry_unchecked.ensures.along;
     }
 
 pub returns-clause-ok : goal.returns-clause-ok

@@ -1,6 +1,6 @@
 -- An IR state in which an operation is moved without checks.
-use Rattle.std.proofs.Common.{◌≡◌, refl, sym, ◌∙◌, subst, ℕ, Option, Some, None}
-use Rattle.std.specs.Prelude.{Result, Ok, Err, MatchResult, IsOk}
+use Rattle.std.proofs.Common.{◌≡◌, sym, subst, ℕ, Option, Some, None}
+use Rattle.std.specs.Prelude.{Result, Ok, Err, IsOk, OnOk, OnErr, MatchResult}
 use Rattle.ir_event.specs.types.declared.refusal.Refusal.{Refusal}
 use Rattle.ir_event.specs.types.Things.{ContextModel}
 use Rattle.ir_event.specs.types.Terms.{name_term}
@@ -25,5 +25,10 @@ module _ (c : ContextModel) (x : ℕ) (place : Place) (s : Stored) where
       let r = no_shift_reason (isolated_in c) (λ n. is_table (name_term c n)) x place s.module_of.tree free in
       record { there = r.there; inner = r.inner; point = r.point; outside = r.outside }
 
-  pub wellformed_moved : (u : Stored) → u ≡ after_shift x place s → reason ≡ None → IsWellFormed (isolated_in c) s.module_of → IsWellFormed (isolated_in c) u.module_of
-  wellformed_moved u is free w = subst (λ (v : Stored). IsWellFormed (isolated_in c) v.module_of) (sym is) (shift_keeps (isolated_in c) (λ n. is_table (name_term c n)) x place s.module_of w free)
+  pub wellformed_moved : (u : Stored) (r : Result Event Refusal) → OnOk r (u ≡ after_shift x place s) → OnErr r (u ≡ s) → reason ≡ None → IsWellFormed (isolated_in c) s.module_of → IsWellFormed (isolated_in c) u.module_of
+  wellformed_moved u (Ok e) is err free w = subst (λ (v : Stored). IsWellFormed (isolated_in c) v.module_of) (sym is) (shift_keeps (isolated_in c) (λ n. is_table (name_term c n)) x place s.module_of w free)
+  wellformed_moved u (Err e) is err free w = subst (λ (v : Stored). IsWellFormed (isolated_in c) v.module_of) (sym err) w
+
+  pub never_refused : (r : Result Event Refusal) → IsOk r → reason ≡ None → MatchResult r (λ _. reason ≡ None) (λ e. reason ≡ Some e)
+  never_refused (Ok e) done free = free
+  never_refused (Err e) done free = absurd done
