@@ -13,6 +13,7 @@ use Rattle.effects.specs.Effects.{effects}
 use Rattle.user_patterns_data.specs.Matching.{Header}
 use Rattle.patterns_refinement.specs.Meaning.{Assignment, EachInRegions, is_arithmetic, owner}
 use Rattle.patterns_refinement.specs.Better.{AllBetter, gives}
+use Rattle.patterns_refinement.specs.Choices.{AllChoose, Origins, is_choice, is_chosen}
 
 -- ---- observable operations
 -- Returns the tree without the arithmetic operations inside its root. An arithmetic operation is removed with its
@@ -70,10 +71,19 @@ abbrev mutual
 abbrev pub is_computed : Operation → Value → Bool
 is_computed t v = gives (λ x. true) t v
 
--- The new operand is the same value, or the old operand was the result of an arithmetic operation. An outcome says
--- nothing about a value that isn't a number, such as a memref, so such an operand must be the same value.
+-- The new operand is the same value, or the old operand was the result of an arithmetic operation or of a choice. An
+-- outcome says nothing about a value that isn't a number, such as a memref, so such an operand must be the same value,
+-- or stand for the same value.
 abbrev pub IsSameValue : Operation → Value → Value → Type 0
-IsSameValue t v w = (w ≡ v) ⊎ (is_computed t v ≡ true)
+IsSameValue t v w = (w ≡ v) ⊎ ((is_computed t v ≡ true) ⊎ (is_chosen t v ≡ true))
+
+-- The new operand stands for what the old operand stood for, or the old operand was the result of an arithmetic
+-- operation.
+abbrev pub StandFor : Operation → Origins → List Value → List Value → Type 0
+StandFor t o [] [] = Unit {0}
+StandFor t o [] (w ∷ ws) = ⊥
+StandFor t o (v ∷ vs) [] = ⊥
+StandFor t o (v ∷ vs) (w ∷ ws) = ((o w ≡ o v) ⊎ (is_computed t v ≡ true)) × StandFor t o vs ws
 
 abbrev pub AreSameValues : Operation → List Value → List Value → Type 0
 AreSameValues t [] [] = Unit {0}
@@ -86,20 +96,24 @@ abbrev pub without_operands : Header → Header
 without_operands h = record h { operands = [] }
 
 -- An operation of a tree is kept: its id, name, result types, properties and attributes are the same. If the
--- operation is executed, the outcome of each new operand refines the outcome of the old one.
+-- operation is executed, the outcome of each new operand refines the outcome of the old one, and each new operand stands
+-- for what the old operand stood for. The operands of a choice may be others: what its result stands for is kept.
 pub record Stays (t : Operation) (a now : Assignment) (later : ℕ → Bool) (h k : Header) : Type 0 where
   pub same : without_operands h ≡ without_operands k
-  pub values : AreSameValues t h.operands k.operands
-  pub better : later k.id ≡ true → AllBetter (map a h.operands) (map now k.operands)
+  pub values : is_choice t h ≡ false → AreSameValues t h.operands k.operands
+  pub better : is_choice t h ≡ false → later k.id ≡ true → AllBetter (map a h.operands) (map now k.operands)
+  pub origins : is_choice t h ≡ false → later k.id ≡ true → (o : Origins) → AllChoose a o later t → StandFor t o h.operands k.operands
 
 -- ---- a rewritten module
 -- A tree with outcomes `now` shows what a module with outcomes `a` showed: its observable operations are those of the
--- module, except some that may be erased. No old value becomes the result of an arithmetic operation. (A root that is
--- arithmetic, which no module has, isn't compared.)
+-- module, except some that may be erased. No old value becomes the result of an arithmetic operation or of a choice,
+-- and what values stand for is kept. (A root that is arithmetic, which no module has, isn't compared.)
 pub record Shows (a now : Assignment) (m : Module) (later : ℕ → Bool) (t : Operation) : Type 0 where
   pub root : is_arithmetic (head m.tree) ≡ false → Stays m.tree a now later (head m.tree) (head t)
   pub follows : RegionsFollow (Stays m.tree a now later) (shown_regions (regions m.tree)) (shown_regions (regions t))
   pub plain : (v : Value) → owner v < m.next → is_computed m.tree v ≡ false → is_computed t v ≡ false
+  pub unchosen : (v : Value) → owner v < m.next → is_chosen m.tree v ≡ false → is_chosen t v ≡ false
+  pub chosen : (o : Origins) → AllChoose a o later m.tree → AllChoose now o later t
 
 -- ---- a corollary
 -- P is true of the head of some operation.

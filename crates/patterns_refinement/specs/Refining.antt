@@ -1,5 +1,5 @@
--- Refinement of modules. An observer sees the operations that can't be erased, in order, and the outcomes of their
--- operands. A module refines another if the observer sees the same operations with the same or refined operands, for
+-- Refinement of modules. An observer sees the operations that can't be erased, in order, the outcomes of their operands,
+-- and what operands of other types stand for. A module refines another if the observer sees the same operations with the same or refined operands, for
 -- all outcomes of the values that the module doesn't compute: arguments, loads and results of calls.
 use Rattle.std.specs.Prelude.{◌≡◌, ◌<◌, ℕ, List, [], ◌∷◌, ◌++◌, map, Bool, true, false, if◌then◌else◌, Option, Some, None}
 use Rattle.std.specs.List.{filter}
@@ -18,6 +18,7 @@ use Rattle.greedy.specs.Rewriting.{rewriting_of}
 use Rattle.greedy.specs.PatternSet.{RuleOrPatternModel, attempted, by_attempts}
 use Rattle.patterns_refinement.specs.Meaning.{Assignment, owner}
 use Rattle.patterns_refinement.specs.Better.{gives}
+use Rattle.patterns_refinement.specs.Choices.{AllChoose, Origins}
 use Rattle.patterns_refinement.specs.Observing.{is_computed, is_unmissed, shown_regions, without_operands}
 use Rattle.patterns_refinement.specs.Keeping.{Computing, IsReady}
 use Rattle.patterns_refinement.specs.Canonical.{IsPlain}
@@ -42,26 +43,27 @@ abbrev mutual
   pub lasting_op : Operation → List Header
   lasting_op (op h rs) = if is_unmissed (op h rs) then [] else h ∷ lasting rs
 
--- An operand: the value itself, if no arithmetic operation computes it, and its outcome.
+-- An operand: what it stands for, if no arithmetic operation computes it, and its outcome. It stands for itself, unless
+-- it is the result of a `select` of memrefs, tensors or the like.
 pub record Operand : Type 0 where
   pub value : Option Value
   pub outcome : Outcome
 
-abbrev pub operand : Assignment → Operation → Value → Operand
-operand a t v = record { value = if is_computed t v then None else Some v; outcome = a v }
+abbrev pub operand : Assignment → Origins → Operation → Value → Operand
+operand a o t v = record { value = if is_computed t v then None else Some (o v); outcome = a v }
 
 -- An observed operation, and its operands.
 pub record Observation : Type 0 where
   pub operation : Header
   pub operands : List Operand
 
-abbrev pub observation : Assignment → Operation → Header → Observation
-observation a t h = record { operation = without_operands h; operands = map (operand a t) h.operands }
+abbrev pub observation : Assignment → Origins → Operation → Header → Observation
+observation a o t h = record { operation = without_operands h; operands = map (operand a o t) h.operands }
 
 -- Returns what an observer sees of a tree with outcomes: the executed operations inside it, in order. Arithmetic
 -- operations, and operations that may be erased, aren't seen.
-abbrev pub observed : Assignment → (ℕ → Bool) → Operation → List Observation
-observed a done t = map (observation a t) (filter (λ (h : Header). done h.id) (lasting (shown_regions (regions t))))
+abbrev pub observed : Assignment → Origins → (ℕ → Bool) → Operation → List Observation
+observed a o done t = map (observation a o t) (filter (λ (h : Header). done h.id) (lasting (shown_regions (regions t))))
 
 -- ---- refinement
 -- The new value is the old value, or the old value was computed.
@@ -84,17 +86,18 @@ ObservationsRefine (p ∷ ps) (q ∷ qs) = (p.operation ≡ q.operation) × Oper
 
 -- Module n with outcomes `now` refines module m with outcomes a: the outcomes that m doesn't compute are the same,
 -- the executed operations of m are executed and defined in n, and what is observed refines what was observed.
-pub record Refined (a : Assignment) (done : ℕ → Bool) (m n : Module) : Type 0 where
+pub record Refined (a : Assignment) (o : Origins) (done : ℕ → Bool) (m n : Module) : Type 0 where
   pub now : Assignment
   pub later : ℕ → Bool
   pub same : (y : ℕ) → y < m.next → later y ≡ done y
   pub inputs : (v : Value) → owner v < m.next → gives done m.tree v ≡ false → now v ≡ a v
   pub computing : Computing now later n.tree
-  pub refined : ObservationsRefine (observed a done m.tree) (observed now later n.tree)
+  pub chosen : AllChoose now o later n.tree
+  pub refined : ObservationsRefine (observed a o done m.tree) (observed now o later n.tree)
 
--- Module n refines m for all outcomes with which m computes.
+-- Module n refines m for all outcomes with which m computes, and whatever the values of m stand for.
 abbrev pub IsRefinedBy : Module → Module → Type 0
-IsRefinedBy m n = (a : Assignment) (done : ℕ → Bool) → Computing a done m.tree → Refined a done m n
+IsRefinedBy m n = (a : Assignment) (o : Origins) (done : ℕ → Bool) → Computing a done m.tree → AllChoose a o done m.tree → Refined a o done m n
 
 -- ---- the laws
 -- `apply` of a listed rule, or of a pattern that `check` called `holds` without a width.
