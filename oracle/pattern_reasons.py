@@ -69,6 +69,7 @@ class Tests:
         for term in self.olds:
             self.bind_type(term, self.pattern.typed(term))
         self.instance = Instance(self.pattern, self.types)
+        test(all(map(is_T, self.types.values())), "expected integer or index")
         test(self.fits(), "other-type")
         for name in self.constants:
             test(self.known(self.values[name]) is not None, lambda: self.expected(name, "verified"))

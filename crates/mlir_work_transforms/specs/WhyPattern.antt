@@ -236,6 +236,7 @@ module _ (p : PatternModel) (m : Module) (x : ℕ) where
   mismatch_text (Some (fails.NotVerified k)) = other_text k (codes "verified")
   mismatch_text (Some (fails.Unknown k)) = other_text k (codes "verified")
   mismatch_text (Some (fails.Type k)) = path k ++ expected_text (wanted_type_text (type_number k)) (type_text (there k))
+  mismatch_text (Some fails.NotNumeric) = codes "expected integer or index"
   mismatch_text (Some fails.Types) = codes "other-type"
   mismatch_text (Some (fails.Number k)) = path k ++ expected_text (number_at (length p.extra) k) (found_text (there k))
   mismatch_text (Some (fails.Condition i)) = condition_text i (if nat_le (length p.extra) i then slice_get p.given (i - length p.extra) else None)

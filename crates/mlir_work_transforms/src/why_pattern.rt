@@ -301,6 +301,7 @@ fn write_mismatch(
         Some(Mismatch::NotVerified(place)) => write_expected(text, at, place, b"verified"),
         Some(Mismatch::Unknown(place)) => write_expected(text, at, place as u128, b"verified"),
         Some(Mismatch::Type(place)) => write_types(text, alloc, at, place),
+        Some(Mismatch::NotNumeric) => text.extend_from_slice(b"expected integer or index"),
         Some(Mismatch::Types) => text.extend_from_slice(b"other-type"),
         Some(Mismatch::Number(place)) => write_numbers(text, alloc, at, place),
         Some(Mismatch::Condition(index)) => write_false(text, alloc, at, index),

@@ -21,7 +21,7 @@ use Rattle.user_patterns_data.specs.declared.pattern.ExtraConstant.{ExtraConstan
 use Rattle.user_patterns_data.specs.declared.pattern.PatternOp.{PatternOp}
 use Rattle.user_patterns_data.specs.Fitting.{content_with, fits}
 use Rattle.user_patterns_data.specs.Matching.{Standing, placed, standing, when}
-use Rattle.user_patterns_data.specs.Planning.{all_made, are_same, constants_known, extra_known, extra_place, kind_standing, known_at, new_place, old_place, outcomes, typed}
+use Rattle.user_patterns_data.specs.Planning.{all_made, are_same, constants_known, extra_known, extra_place, is_numeric, kind_standing, known_at, new_place, old_place, outcomes, typed}
 use Rattle.user_patterns_data.specs.Shapes.{PatternModel}
 use Rattle.user_patterns_build.specs.CanBuild.{can_build}
 use Rattle.user_patterns_apply.specs.Built.{AllMade}
@@ -183,13 +183,24 @@ module _ (t : Operation) (verified : Header → Bool) (n : ℕ) (p : PatternMode
     at : fitting_tests_at t verified n p ks b ts ≡ fitting_tests t verified n p b ts
     at = ap (λ z. fitting_tests_at t verified n p z b ts) value_types
 
-    pub fits_stops : (f : Bool) → f ≡ fits ks p → f ≡ false → Some fails.Types ≡ fitting_tests t verified n p b ts
-    fits_stops f fit failed =
-        stops (unless (fits ks p) fails.Types) (known_tests t verified n p b ∷ after_known) fails.Types (breaks (fits ks p) fails.Types (sym fit ∙ failed)) ∙ at
+    abbrev after_numeric : List Test
+    after_numeric = unless (fits ks p) fails.Types ∷ known_tests t verified n p b ∷ after_known
 
-    module _ (f : Bool) (fit : f ≡ fits ks p) (fine : f ≡ true) where
+    pub numeric_stops : (f : Bool) → f ≡ list_all is_numeric ts → f ≡ false → Some fails.NotNumeric ≡ fitting_tests t verified n p b ts
+    numeric_stops f is failed =
+        stops (unless (list_all is_numeric ts) fails.NotNumeric) after_numeric fails.NotNumeric (breaks (list_all is_numeric ts) fails.NotNumeric (sym is ∙ failed)) ∙ at
+
+    module _ (a : Bool) (numeric : a ≡ list_all is_numeric ts) (whole : a ≡ true) where
+     numbers_first : first_failing after_numeric ≡ fitting_tests t verified n p b ts
+     numbers_first = passes (unless (list_all is_numeric ts) fails.NotNumeric) after_numeric (holds (list_all is_numeric ts) fails.NotNumeric (sym numeric ∙ whole)) ∙ at
+
+     pub fits_stops : (f : Bool) → f ≡ fits ks p → f ≡ false → Some fails.Types ≡ fitting_tests t verified n p b ts
+     fits_stops f fit failed =
+        stops (unless (fits ks p) fails.Types) (known_tests t verified n p b ∷ after_known) fails.Types (breaks (fits ks p) fails.Types (sym fit ∙ failed)) ∙ numbers_first
+
+     module _ (f : Bool) (fit : f ≡ fits ks p) (fine : f ≡ true) where
       first : first_failing (known_tests t verified n p b ∷ after_known) ≡ fitting_tests t verified n p b ts
-      first = passes (unless (fits ks p) fails.Types) (known_tests t verified n p b ∷ after_known) (holds (fits ks p) fails.Types (sym fit ∙ fine)) ∙ at
+      first = passes (unless (fits ks p) fails.Types) (known_tests t verified n p b ∷ after_known) (holds (fits ks p) fails.Types (sym fit ∙ fine)) ∙ numbers_first
 
       pub known_stops : (m : Mismatch) → Some m ≡ known_tests t verified n p b → Some m ≡ fitting_tests t verified n p b ts
       known_stops m e = stops (known_tests t verified n p b) after_known m e ∙ first

@@ -1,5 +1,6 @@
 -- Why a pattern doesn't apply at an operation: its tests in their order, and the first that fails.
 use Rattle.std.specs.Prelude.{◌≡◌, ℕ, ◌+◌, List, [], ◌∷◌, ◌++◌, map, Bool, true, false, not, ◌||◌, Option, Some, None, codes, is_none, is_some, slice_get}
+use Rattle.std.specs.List.{list_all}
 use Rattle.ir_event.specs.types.Terms.{TypeTerm}
 use Rattle.ir_event.specs.types.declared.bits.BitsKind.{BitsKind}
 use Rattle.ir_event.specs.trees.declared.place.Place.{Place}
@@ -22,7 +23,7 @@ use Rattle.user_patterns_data.specs.declared.pattern.PatternOp.{PatternOp}
 use Rattle.user_patterns_data.specs.Fitting.{content_with, fits}
 use Rattle.user_patterns_data.specs.Matching.{Header, Standing, bound, defining_op_head, nothing, op_matches, placed, predicate_is, standing, type_at, types_at, when, written}
 use Rattle.user_patterns_data.specs.Names.{are_none, name_of, operands_of, predicate_of}
-use Rattle.user_patterns_data.specs.Planning.{all_made, are_same, extra_place, kind_standing, known_at, new_place, old_place, outcomes, places, typed}
+use Rattle.user_patterns_data.specs.Planning.{all_made, are_same, extra_place, is_numeric, kind_standing, known_at, new_place, old_place, outcomes, places, typed}
 use Rattle.user_patterns_data.specs.Shapes.{PatternModel}
 use Rattle.user_patterns_build.specs.CanBuild.{can_build}
 use Rattle.user_patterns_apply.specs.Built.{AllMade}
@@ -157,10 +158,11 @@ module _ (t : Operation) (verified : Header → Bool) (n : ℕ) (p : PatternMode
       ∷ unless (is_some (given (all_made ts env n (new_place p) p.new b) (λ (r : AllMade). standing p.result r.1))) fails.Unbuildable
       ∷ [])
 
-  -- the types fit, the constants have numbers, and the numbers that the pattern computes are defined
+  -- the types are numeric and fit, the constants have numbers, and the numbers that the pattern computes are defined
   abbrev pub fitting_tests_at : List BitsKind → Standing Value → Standing TypeTerm → Test
   fitting_tests_at ks b ts = first_failing (
-      unless (fits ks p) fails.Types
+      unless (list_all is_numeric ts) fails.NotNumeric
+      ∷ unless (fits ks p) fails.Types
       ∷ known_tests b
       ∷ steps_tests 0 (Content.given (content_with ks p)) (outcomes t verified n p 0 p.values b)
       ∷ on_value (run (Content.given (content_with ks p)) (outcomes t verified n p 0 p.values b)) (planned_tests b ts)

@@ -20,6 +20,8 @@ pub enum Mismatch {
     NotVerified(u128),
     /// The value's type isn't the type that is bound to the pattern's type.
     Type(u128),
+    /// A type is neither a signless integer type nor `index`.
+    NotNumeric,
     /// The types don't satisfy a type constraint, or a literal doesn't fit its type.
     Types,
     /// The number of the constant isn't known, since the constant isn't verified.

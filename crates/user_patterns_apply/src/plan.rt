@@ -23,7 +23,7 @@ use crate::match_ops::{match_pattern, old_begins};
 use crate::mismatch::Mismatch;
 use crate::rewrite_plan::BuildPlan;
 use crate::types::BoundType;
-use crate::typing::{bound_types, kinds_of};
+use crate::typing::{all_numeric, bound_types, kinds_of};
 use crate::verified_operands::{test_constants, test_verified};
 use ir_event::trees::value::Value;
 use ir_event::types::bits::{Bits, BitsKind};
@@ -142,6 +142,9 @@ fn plan_with(
         (module_in world.now).next (pattern_model pattern.now) values.now (types_in world.now.ctx types.now)) }
     ensures of { IfOk result (λ p. IfOk p (BuiltIsOf world.now.ctx)) }
 {
+    if !all_numeric(&world.ctx, types) {
+        return Ok(Err(Mismatch::NotNumeric));
+    }
     if !is_applicable(value_types, pattern) {
         return Ok(Err(Mismatch::Types));
     }

@@ -1,5 +1,6 @@
 //! Binds the types of the matched values.
 ghost use Rattle.std.specs.Prelude.{◌≡◌, ◌≤◌, ◌<◌, ◌^◌, IfOk, IfSome, map, option_map, is_none};
+ghost use Rattle.std.specs.List.{list_all};
 ghost use Rattle.std.specs.Result.{result_err, result_ok};
 ghost use Rattle.ir_event.specs.types.Things.{IsType};
 ghost use Rattle.ir_event.specs.types.Terms.{type_term};
@@ -7,7 +8,7 @@ ghost use Rattle.ir_event.specs.types.SameTypes.{same_type};
 ghost use Rattle.ir_event.specs.Modules.{module_in};
 ghost use Rattle.patterns_base.specs.Looks.{is_verified};
 ghost use Rattle.user_patterns_data.specs.Matching.{bound, type_at, types_at};
-ghost use Rattle.user_patterns_data.specs.Planning.{kind_standing, typed};
+ghost use Rattle.user_patterns_data.specs.Planning.{is_numeric, kind_standing, typed};
 ghost use Rattle.user_patterns_data.specs.Shapes.{pattern_model};
 ghost use Rattle.user_patterns_data.specs.declared.pattern.PatternOp.{PatternOp};
 ghost use Rattle.user_patterns_apply.specs.Mismatches.{typed_tests, typed_tests_over, types_tests};
@@ -204,6 +205,33 @@ fn kind_standing(ctx: &Context, bound: &Option<BoundType>) -> BitsKind
         Some(BoundType::Concrete(kind)) => *kind,
         None => BitsKind::Int(0),
     }
+}
+
+/// Returns whether a bound type is a signless integer type or `index`. A type that isn't bound is one.
+fn is_numeric(ctx: &Context, bound: &Option<BoundType>) -> bool
+    requires { IfSome bound.now (λ t. TypeIsOf ctx.now t) }
+    ensures { result ≡ is_numeric (option_map (type_in ctx.now) bound.now) }
+{
+    match bound {
+        Some(BoundType::Matched(ty)) => kind_of(ctx, *ty).is_some(),
+        Some(BoundType::Concrete(_)) => true,
+        None => true,
+    }
+}
+
+/// Returns whether the bound types are signless integer types or `index`. A type that isn't bound passes.
+pub(crate) fn all_numeric(ctx: &Context, types: &[Option<BoundType>]) -> bool
+    requires { AreTypesOf ctx.now types.now }
+    ensures { result ≡ list_all is_numeric (types_in ctx.now types.now) }
+{
+    let mut rest = types;
+    'types: while let [first, tail @ ..] = rest {
+        if !is_numeric(ctx, first) {
+            return false;
+        }
+        rest = tail;
+    }
+    true
 }
 
 /// Returns the kinds of the bound types.
