@@ -4,7 +4,7 @@ use Rattle.std.specs.Prelude.{is_none}
 use Rattle.ir_event.specs.trees.declared.value.Value.{Value}
 use Rattle.ir_event.specs.trees.Meaning.{Operation}
 use Rattle.user_patterns_check.specs.Outcomes.{given}
-use Rattle.user_patterns_data.specs.Matching.{Header, Standing, op_matches, ops_match, placed, standing}
+use Rattle.user_patterns_data.specs.Matching.{Standing, op_matches, ops_match, placed}
 use Rattle.dialects_int.specs.declared.operations.Cast.TheVariants.{Truncate}
 use Rattle.user_patterns_data.specs.declared.pattern.Expression.TheVariants as form
 use Rattle.user_patterns_data.specs.declared.pattern.PatternOp.{PatternOp}

@@ -1,5 +1,5 @@
 -- The numbers of a pattern, from the bindings of a match.
-use Rattle.std.proofs.Common.{◌≡◌, ℕ, ap, sym, ◌∙◌, List, [], map, take, Bool, true, false, Option, Some}
+use Rattle.std.proofs.Common.{◌≡◌, ℕ, ap, sym, ◌∙◌, List, [], map, take, Bool, true, false, Some}
 use Rattle.ir_event.specs.types.Terms.{TypeTerm}
 use Rattle.ir_event.specs.trees.declared.value.Value.{Value}
 use Rattle.ir_event.specs.trees.Meaning.{Operation}

@@ -1,18 +1,12 @@
 -- The tests of a pattern in their order, and the first that fails.
 use Rattle.std.proofs.Common.{◌≡◌, ℕ, ◌+◌, ◌-◌, ◌≤◌, arith, refl, ap, sym, ◌∙◌, List, [], ◌∷◌, ◌++◌, length, take, drop, take_all, get_or, map, Bool, true, false, ◌&&◌, Option, Some, None, slice_get}
-use Rattle.std.specs.Prelude.{is_none, is_some, option_map}
+use Rattle.std.specs.Prelude.{is_none, is_some}
 use Rattle.std.specs.List.{list_all}
-use Rattle.ir_event.specs.types.Things.{ContextModel}
 use Rattle.ir_event.specs.types.Terms.{TypeTerm}
 use Rattle.ir_event.specs.types.declared.bits.BitsKind.{BitsKind}
-use Rattle.ir_event.specs.trees.declared.place.Place.{Place}
 use Rattle.ir_event.specs.trees.declared.value.Value.{Value}
-use Rattle.ir_event.specs.trees.Tree.{head}
-use Rattle.ir_event.specs.trees.Ids.{find}
 use Rattle.ir_event.specs.trees.Meaning.{Operation}
-use Rattle.ir_event.specs.Modules.{Module}
-use Rattle.patterns_base.specs.Looks.{Header, insertion_of, is_verified}
-use Rattle.patterns_matchers.specs.Reads.{head_at}
+use Rattle.patterns_base.specs.Looks.{Header}
 use Rattle.user_patterns_check.specs.Checks as check
 use Rattle.user_patterns_check.specs.Contents.{Content}
 use Rattle.user_patterns_check.specs.Outcomes.{Outcome, given, run, step_of}
@@ -20,16 +14,15 @@ use Rattle.user_patterns_check.specs.declared.step.Step.{Step}
 use Rattle.user_patterns_data.specs.declared.pattern.ExtraConstant.{ExtraConstant}
 use Rattle.user_patterns_data.specs.declared.pattern.PatternOp.{PatternOp}
 use Rattle.user_patterns_data.specs.Fitting.{content_with, fits}
-use Rattle.user_patterns_data.specs.Matching.{Standing, placed, standing, when}
+use Rattle.user_patterns_data.specs.Matching.{Standing, placed, standing}
 use Rattle.user_patterns_data.specs.Planning.{all_made, are_same, constants_known, extra_known, extra_place, is_numeric, kind_standing, known_at, new_place, old_place, outcomes, typed}
 use Rattle.user_patterns_data.specs.Shapes.{PatternModel}
 use Rattle.user_patterns_build.specs.CanBuild.{can_build}
 use Rattle.user_patterns_apply.specs.Built.{AllMade}
 use Rattle.user_patterns_apply.specs.Matched.{all_verified, any, is_constant_value, is_verified_value, matched}
-use Rattle.user_patterns_apply.specs.Mismatches.{Test, constants_tests, each, extra_tests, first_failing, first_of, fitting_tests, fitting_tests_at, known_tests, matched_tests, on_value, plan_tests, planned_tests, point_of, point_tests, steps_tests, typed_tests, unless, values_tests, verified_tests, with_value}
+use Rattle.user_patterns_apply.specs.Mismatches.{Test, constants_tests, each, extra_tests, first_failing, first_of, fitting_tests, fitting_tests_at, known_tests, matched_tests, on_value, plan_tests, planned_tests, steps_tests, typed_tests, unless, values_tests, verified_tests, with_value}
 use Rattle.user_patterns_apply.proofs.Additions.{from_item}
 use Rattle.user_patterns_apply.proofs.Planned.{ran}
-use Rattle.user_patterns_apply.specs.Own.{is_one}
 use Rattle.user_patterns_apply.specs.declared.mismatch.Mismatch.{Mismatch}
 use Rattle.user_patterns_apply.specs.declared.mismatch.Mismatch.TheVariants as fails
 

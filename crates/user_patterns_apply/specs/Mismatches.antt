@@ -1,5 +1,5 @@
 -- Why a pattern doesn't apply at an operation: its tests in their order, and the first that fails.
-use Rattle.std.specs.Prelude.{◌≡◌, ℕ, ◌+◌, List, [], ◌∷◌, ◌++◌, map, Bool, true, false, not, ◌||◌, Option, Some, None, codes, is_none, is_some, slice_get}
+use Rattle.std.specs.Prelude.{ℕ, ◌+◌, List, [], ◌∷◌, ◌++◌, map, Bool, true, false, not, ◌||◌, Option, Some, None, codes, is_some, slice_get}
 use Rattle.std.specs.List.{list_all}
 use Rattle.ir_event.specs.types.Terms.{TypeTerm}
 use Rattle.ir_event.specs.types.declared.bits.BitsKind.{BitsKind}
@@ -28,7 +28,7 @@ use Rattle.user_patterns_data.specs.Shapes.{PatternModel}
 use Rattle.user_patterns_build.specs.CanBuild.{can_build}
 use Rattle.user_patterns_apply.specs.Built.{AllMade}
 use Rattle.user_patterns_apply.specs.Matched.{any, is_constant_value, is_verified_value, matched}
-use Rattle.user_patterns_apply.specs.Own.{is_one, own_edits}
+use Rattle.user_patterns_apply.specs.Own.{is_one}
 use Rattle.user_patterns_apply.specs.declared.mismatch.Mismatch.{Mismatch}
 use Rattle.user_patterns_apply.specs.declared.mismatch.Mismatch.TheVariants as fails
 

@@ -1,5 +1,5 @@
 //! The rewrite plan of a pattern at an operation.
-ghost use Rattle.std.specs.Prelude.{◌≡◌, [], ◌∷◌, IfOk, Some, is_none, map, option_map, true};
+ghost use Rattle.std.specs.Prelude.{◌≡◌, IfOk, Some, is_none, map, option_map, true};
 ghost use Rattle.std.specs.List.{list_all};
 ghost use Rattle.std.specs.Result.{result_err, result_ok};
 ghost use Rattle.ir_event.specs.Modules.{module_in};
@@ -82,13 +82,6 @@ fn build(
     }
 }
 
-/// Appends the result of a step to `env`. Returns whether the step is defined.
-fn run_one(step: &Step, env: &mut Vec<Option<Bits>>) -> Result<bool, AllocError>
-    ensures { IfOk result (Stands (run (step.now ∷ []) (map known_of env.old.items)) (map known_of env.new.items)) }
-{
-    run(&[*step], env)
-}
-
 /// Appends the results of the steps to `env`. Returns the first test that fails: a step isn't defined.
 fn run_steps(steps: &[Step], env: &mut Vec<Option<Bits>>) -> Result<Option<Mismatch>, AllocError>
     ensures stands { IfOk result (λ m. Stands (run steps.now (map known_of env.old.items)) (map known_of env.new.items) (is_none m)) }
@@ -97,7 +90,7 @@ fn run_steps(steps: &[Step], env: &mut Vec<Option<Bits>>) -> Result<Option<Misma
     let mut index: usize = 0;
     let mut rest = steps;
     'steps: while let [first, tail @ ..] = rest {
-        if !run_one(first, env)? {
+        if !run(&[*first], env)? {
             return Ok(Some(Mismatch::Condition(index)));
         }
         index += 1;

@@ -1,7 +1,5 @@
 use Rattle.ir_event.specs.Modules.{module_in}
 use Rattle.patterns_matchers.specs.Reads.{header_of_node}
-use Rattle.std.proofs.Common.{sym, ap, ◌∙◌}
-use Rattle.std.specs.Prelude.{is_some}
 use Rattle.user_patterns_apply.proofs.Found.{nowhere, nowhere_fails, not_single, not_single_fails, single_point, single_tests}
 use Rattle.user_patterns_apply.proofs.match_pattern.find_point.Goals as goal
 
